@@ -1,0 +1,40 @@
+//! Numbers modulo 256 and the block check of DDCMP.
+#![tactic(auto)]
+
+ghost use Rattle.std.specs.Prelude.{◌≡◌, ◌≢◌, ◌<◌, List, ℕ, ◌∷◌, ◌++◌};
+ghost use Rattle.ddcmp_num.specs.Check.{check_of, check_pair};
+
+mod running;
+mod sequence;
+
+use byteorder::{ByteOrder, LittleEndian};
+pub use running::Check;
+pub use sequence::Seq;
+
+/// The block check of a text: CRC-16 of the polynomial x^16 + x^15 + x^2 + 1, begun at 0,
+/// low bit of each byte first, not inverted (DDCMP 4.1, block check).
+pub fn check(text: &[u8]) -> u16
+    ensures value { result ≡ check_of text.now }
+
+    // A text of the same length that differs in one byte has another check.
+    ensures one_byte { (front back : List ℕ) (old new : ℕ) → text.now ≡ front ++ old ∷ back → new < 256 → new ≢ old
+        → result ≢ check_of (front ++ new ∷ back) }
+{
+    let mut check = Check::new();
+    for byte in text {
+        check.push(*byte);
+    }
+    check.value()
+}
+
+/// A check as it goes on the line: the low byte, then the high byte.
+pub fn check_bytes(check: u16) -> [u8; 2]
+    ensures { result ≡ check_pair check }
+{
+    let mut bytes = [0; 2];
+    LittleEndian::write_u16(&mut bytes, check);
+    bytes
+}
+
+#[cfg(test)]
+mod tests;

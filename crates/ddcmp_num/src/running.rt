@@ -1,0 +1,50 @@
+// A check that is computed byte by byte.
+ghost use Rattle.std.specs.Prelude.{◌≡◌, ◌<◌, ◌^◌, List, ℕ, [], ◌∷◌, ◌++◌};
+ghost use Rattle.ddcmp_num.specs.Check.{check_of};
+
+use std::marker::Model;
+
+/// A block check that is computed byte by byte. Contracts see it as the number of the check.
+#[derive(Clone, Copy, Debug, PartialEq, Eq)]
+pub struct Check {
+    register: u16,
+}
+
+impl Model for Check {
+    ghost Value = { ℕ };
+
+    ghost view = { λ c. c.register };
+
+    ghost inverse = { λ n. record { register = n } };
+}
+
+impl Check {
+    /// The check of no bytes.
+    pub fn new() -> Self
+        ensures { result ≡ check_of [] }
+    {
+        Check { register: 0 }
+    }
+
+    /// Takes one more byte.
+    pub fn push(&mut self, byte: u8)
+        ensures { (text : List ℕ) → self.old ≡ check_of text → self.new ≡ check_of (text ++ byte ∷ []) }
+    {
+        let mut register = self.register ^ byte as u16;
+        for _turn in 0..8u8 {
+            register = if register & 1 == 1 {
+                (register >> 1) ^ 0xA001
+            } else {
+                register >> 1
+            };
+        }
+        self.register = register;
+    }
+
+    /// The check of all bytes taken.
+    pub fn value(&self) -> u16
+        ensures { result ≡ self.now }
+    {
+        self.register
+    }
+}
