@@ -1,0 +1,6 @@
+pub mod WrittenLaws
+pub mod DigitLaws
+pub mod ProgressLaws
+pub mod EndLaws
+pub mod ExplainLaws
+pub mod CommandLaws

@@ -1,0 +1,153 @@
+-- What a byte of the input, and a piece of it, add to what has been explained.
+use Rattle.std.proofs.Common.{◌≡◌, ℕ, ◌+◌, ◌*◌, ◌<◌, true, false, List, [], ◌∷◌, ◌++◌, length, take, drop, get_or, sym, ◌∙◌, ap, subst, Option, Some, None, Ok, Err, length-append, append_assoc}
+use Rattle.std.specs.Prelude.{option_to_list}
+use Rattle.std.specs.List.{flat_map}
+use Rattle.std.proofs.lemmas.List.{append-nil, take_more, take-append-drop}
+use Rattle.std.proofs.lemmas.Grind.{flat_map-append}
+use Rattle.ddcmp_frame.specs.Reading.{Given, items, read, ending, more}
+use Rattle.ddcmp_frame.specs.Held.{Stands}
+use Rattle.ddcmp_frame.proofs.ReadingLaws.{items-more}
+use Rattle.ddcmp_cli.specs.declared.explaining.Explained.{Explained}
+use Rattle.ddcmp_cli.specs.declared.explaining.Stop.{Stop}
+use Rattle.ddcmp_cli.specs.declared.explaining.Stop.TheVariants.{Stranger, Broken}
+use Rattle.ddcmp_cli.specs.declared.page.WriteFailed.{WriteFailed}
+use Rattle.ddcmp_cli.specs.Digits.{hex_value, is_readable, first_stranger, digits, pairs, left_over, spelled}
+use Rattle.ddcmp_cli.specs.Text.{lines, line_of}
+use Rattle.ddcmp_cli.specs.Written.{AppendsPart}
+use Rattle.ddcmp_cli.specs.Progress.{ByteTaken, PieceTaken, Progress}
+use Rattle.ddcmp_cli.proofs.WrittenLaws.{appends-append, append-part, part-append}
+use Rattle.ddcmp_cli.proofs.DigitLaws.{readable-more, stranger-here, stranger-more, digits-more, digits-found, digits-blank, digits-strange, digits-digit, pairs-held, pairs-whole, spelled-prefix}
+
+-- the lines of bytes that go on begin with the lines of the bytes
+pub lines-more : (max : ℕ) (bytes u : List ℕ) → lines max (bytes ++ u) ≡ lines max bytes ++ flat_map line_of (read max (more (ending max bytes) u)).items
+unfolding lines
+lines-more max bytes u =
+    ap (flat_map line_of) (items-more max bytes u) ∙ flat_map-append line_of (items max bytes) (read max (more (ending max bytes) u)).items
+
+pub lines-given : (max : ℕ) (bytes u : List ℕ) (given : List Given) → items max (bytes ++ u) ≡ items max bytes ++ given → lines max (bytes ++ u) ≡ lines max bytes ++ flat_map line_of given
+unfolding lines
+lines-given max bytes u given e = ap (flat_map line_of) e ∙ flat_map-append line_of (items max bytes) given
+
+pub part-longer : (max : ℕ) (a b : Option (List ℕ)) (s t : List ℕ) → AppendsPart a b (lines max (spelled s)) → AppendsPart a b (lines max (spelled (s ++ t)))
+part-longer max a b s t p =
+    let r = spelled-prefix s t in
+    subst (AppendsPart a b) (sym (ap (lines max) r.1 ∙ lines-more max (spelled s) r.0)) (part-append a b (lines max (spelled s)) _ p)
+
+-- ---- one byte of the input
+
+-- a byte that completes none
+pub progress-same : (max : ℕ) (old sink : Option (List ℕ)) (page seen : List ℕ) (digit : ℕ) (at after : Explained) → Progress max old seen at sink page
+    → is_readable digit ≡ true → spelled (seen ++ digit ∷ []) ≡ spelled seen → left_over (digits (seen ++ digit ∷ [])) ≡ option_to_list after.high
+    → after.frames ≡ at.frames → after.items ≡ at.items → Progress max old (seen ++ digit ∷ []) after sink page
+progress-same max old sink page seen digit at after p readable same left frames count =
+    record {
+      readable = readable-more seen digit p.readable readable;
+      stands = subst (λ b. Stands after.frames b) (sym same) (subst (λ f. Stands f (spelled seen)) (sym frames) p.stands);
+      max_is = ap (λ f. f.max) frames ∙ p.max_is;
+      counted = count ∙ p.counted ∙ ap (λ b. length (items max b)) (sym same);
+      high = left;
+      out = p.out;
+      written = p.written;
+      lines_are = ap (lines max) same ∙ p.lines_are;
+    }
+
+pub blank-same : (seen : List ℕ) (digit : ℕ) → first_stranger seen ≡ None → is_readable digit ≡ true → hex_value digit ≡ None → digits (seen ++ digit ∷ []) ≡ digits seen
+blank-same seen digit f r e = digits-more seen (digit ∷ []) f ∙ ap (λ t. digits seen ++ t) (digits-blank digit r e) ∙ append-nil (digits seen)
+
+pub digit-more : (seen : List ℕ) (digit v : ℕ) → first_stranger seen ≡ None → is_readable digit ≡ true → hex_value digit ≡ Some v → digits (seen ++ digit ∷ []) ≡ digits seen ++ v ∷ []
+digit-more seen digit v f r e = digits-more seen (digit ∷ []) f ∙ ap (λ t. digits seen ++ t) (digits-digit digit v r e)
+
+pub strange-same : (seen : List ℕ) (digit : ℕ) → first_stranger seen ≡ None → is_readable digit ≡ false → digits (seen ++ digit ∷ []) ≡ digits seen
+strange-same seen digit f r = digits-more seen (digit ∷ []) f ∙ ap (λ t. digits seen ++ t) (digits-strange digit r) ∙ append-nil (digits seen)
+
+-- a blank
+pub progress-blank : (max : ℕ) (old sink : Option (List ℕ)) (page seen : List ℕ) (digit : ℕ) (at after : Explained) → Progress max old seen at sink page
+    → is_readable digit ≡ true → hex_value digit ≡ None → after.frames ≡ at.frames → after.items ≡ at.items → after.high ≡ at.high → Progress max old (seen ++ digit ∷ []) after sink page
+progress-blank max old sink page seen digit at after p r e frames count high =
+    let d = blank-same seen digit p.readable r e in
+    progress-same max old sink page seen digit at after p r (ap pairs d) (ap left_over d ∙ p.high ∙ ap option_to_list (sym high)) frames count
+
+-- a high digit
+pub progress-high : (max : ℕ) (old sink : Option (List ℕ)) (page seen : List ℕ) (digit v : ℕ) (at after : Explained) → Progress max old seen at sink page
+    → is_readable digit ≡ true → hex_value digit ≡ Some v → at.high ≡ None → after.frames ≡ at.frames → after.items ≡ at.items → after.high ≡ Some v → Progress max old (seen ++ digit ∷ []) after sink page
+progress-high max old sink page seen digit v at after p r e none frames count high =
+    let d = digit-more seen digit v p.readable r e in
+    let h = pairs-held (digits seen) v (p.high ∙ ap option_to_list none) in
+    progress-same max old sink page seen digit at after p r (ap pairs d ∙ h.0) (ap left_over d ∙ h.1 ∙ ap option_to_list (sym high)) frames count
+
+-- a low digit
+pub progress-low : (max : ℕ) (old sink sink_after : Option (List ℕ)) (page page_after seen : List ℕ) (digit high v : ℕ) (at mid after : Explained) (u : Unit {0}) → Progress max old seen at sink page
+    → is_readable digit ≡ true → hex_value digit ≡ Some v → at.high ≡ Some high → mid.frames ≡ at.frames → mid.items ≡ at.items → mid.high ≡ None
+    → ByteTaken mid after (high * 16 + v) sink page sink_after page_after (Ok u) → Progress max old (seen ++ digit ∷ []) after sink_after page_after
+progress-low max old sink sink_after page page_after seen digit high v at mid after u p r e some frames count none t =
+    let d = digit-more seen digit v p.readable r e in
+    let h = pairs-whole (digits seen) high v (p.high ∙ ap option_to_list some) in
+    let byte = high * 16 + v in
+    let now : spelled (seen ++ digit ∷ []) ≡ spelled seen ++ byte ∷ [] = ap pairs d ∙ h.0 in
+    let s : Stands mid.frames (spelled seen) = subst (λ f. Stands f (spelled seen)) (sym frames) p.stands in
+    let m : mid.frames.max ≡ max = ap (λ f. f.max) frames ∙ p.max_is in
+    let given : items max (spelled seen ++ byte ∷ []) ≡ items max (spelled seen) ++ t.given = subst (λ n. items n (spelled seen ++ byte ∷ []) ≡ items n (spelled seen) ++ t.given) m (t.items (spelled seen) s) in
+    let passed = t.passes in
+    record {
+      readable = readable-more seen digit p.readable r;
+      stands = subst (λ b. Stands after.frames b) (sym now) (t.stands (spelled seen) s);
+      max_is = t.max_is ∙ m;
+      counted = t.counted ∙ ap (λ n. n + length t.given) (count ∙ p.counted) ∙ sym (length-append (items max (spelled seen)) t.given) ∙ ap length (sym given) ∙ ap (λ b. length (items max b)) (sym now);
+      high = ap left_over d ∙ h.1 ∙ ap option_to_list (sym (t.high ∙ none));
+      out = p.out ++ passed.0;
+      written = appends-append old sink sink_after p.out passed.0 p.written passed.1;
+      lines_are =
+          ap (lines max) now
+          ∙ lines-given max (spelled seen) (byte ∷ []) t.given given
+          ∙ ap (λ x. x ++ flat_map line_of t.given) p.lines_are
+          ∙ append_assoc p.out page (flat_map line_of t.given)
+          ∙ ap (λ x. p.out ++ x) passed.2
+          ∙ sym (append_assoc p.out passed.0 page_after);
+    }
+
+pub low-breaks : (max : ℕ) (old sink sink_after : Option (List ℕ)) (page page_after seen : List ℕ) (digit high v : ℕ) (at mid after : Explained) (f : WriteFailed) → Progress max old seen at sink page
+    → is_readable digit ≡ true → hex_value digit ≡ Some v → at.high ≡ Some high → mid.frames ≡ at.frames
+    → ByteTaken mid after (high * 16 + v) sink page sink_after page_after (Err f) → AppendsPart old sink_after (lines max (spelled (seen ++ digit ∷ [])))
+low-breaks max old sink sink_after page page_after seen digit high v at mid after f p r e some frames t =
+    let d = digit-more seen digit v p.readable r e in
+    let h = pairs-whole (digits seen) high v (p.high ∙ ap option_to_list some) in
+    let byte = high * 16 + v in
+    let now : spelled (seen ++ digit ∷ []) ≡ spelled seen ++ byte ∷ [] = ap pairs d ∙ h.0 in
+    let s : Stands mid.frames (spelled seen) = subst (λ f. Stands f (spelled seen)) (sym frames) p.stands in
+    let m : mid.frames.max ≡ max = ap (λ f. f.max) frames ∙ p.max_is in
+    let given : items max (spelled seen ++ byte ∷ []) ≡ items max (spelled seen) ++ t.given = subst (λ n. items n (spelled seen ++ byte ∷ []) ≡ items n (spelled seen) ++ t.given) m (t.items (spelled seen) s) in
+    subst (AppendsPart old sink_after)
+    (sym (append_assoc p.out page (flat_map line_of t.given)) ∙ ap (λ x. x ++ flat_map line_of t.given) (sym p.lines_are) ∙ sym (lines-given max (spelled seen) (byte ∷ []) t.given given) ∙ ap (lines max) (sym now))
+    (append-part old sink sink_after p.out (page ++ flat_map line_of t.given) p.written t.passes)
+
+-- a byte that is no digit
+pub strange-found : (max : ℕ) (old sink : Option (List ℕ)) (page seen : List ℕ) (digit index : ℕ) (at after : Explained) → Progress max old seen at sink page
+    → is_readable digit ≡ false → index ≡ length seen → PieceTaken max old seen (digit ∷ []) after sink page (Err (Stranger index))
+strange-found max old sink page seen digit index at after p r i =
+    (stranger-here seen digit p.readable r ∙ ap Some (sym i), p.out, p.written, ap (λ d. lines max (pairs d)) (strange-same seen digit p.readable r) ∙ p.lines_are)
+
+-- ---- a piece of the input
+
+next_byte : (text piece : List ℕ) (i : ℕ) → i < length piece → (text ++ take i piece) ++ get_or piece i 0 ∷ [] ≡ text ++ take (i + 1) piece
+next_byte text piece i h = append_assoc text (take i piece) (get_or piece i 0 ∷ []) ∙ ap (λ t. text ++ t) (sym (take_more piece i 0 h))
+
+whole_piece : (text piece : List ℕ) (i : ℕ) → (text ++ take i piece) ++ drop i piece ≡ text ++ piece
+whole_piece text piece i = append_assoc text (take i piece) (drop i piece) ∙ ap (λ t. text ++ t) (take-append-drop i piece)
+
+pub piece-goes : (max : ℕ) (old sink : Option (List ℕ)) (page seen piece : List ℕ) (i : ℕ) (after : Explained) (u : Unit {0}) → i < length piece
+    → PieceTaken max old (seen ++ take i piece) (get_or piece i 0 ∷ []) after sink page (Ok u) → Progress max old (seen ++ take (i + 1) piece) after sink page
+piece-goes max old sink page seen piece i after u h t = subst (λ s. Progress max old s after sink page) (next_byte seen piece i h) t
+
+pub piece-stops : (max : ℕ) (old sink : Option (List ℕ)) (page seen piece : List ℕ) (i : ℕ) (after : Explained) (stop : Stop) → i < length piece
+    → PieceTaken max old (seen ++ take i piece) (get_or piece i 0 ∷ []) after sink page (Err stop) → PieceTaken max old seen piece after sink page (Err stop)
+piece-stops max old sink page seen piece i after (Stranger index) h t =
+    let n = next_byte seen piece i h in
+    let w = whole_piece seen piece (i + 1) in
+    let found : first_stranger (seen ++ take (i + 1) piece) ≡ Some index = ap first_stranger (sym n) ∙ t.0 in (
+      ap first_stranger (sym w) ∙ stranger-more (seen ++ take (i + 1) piece) (drop (i + 1) piece) index found,
+      t.1,
+      t.2,
+      ap (λ s. lines max (spelled s)) (sym w) ∙ ap (λ d. lines max (pairs d)) (digits-found (seen ++ take (i + 1) piece) (drop (i + 1) piece) index found) ∙ ap (λ s. lines max (spelled s)) (sym n) ∙ t.3,
+    )
+piece-stops max old sink page seen piece i after Broken h t =
+    subst (λ s. AppendsPart old sink (lines max (spelled s))) (ap (λ s. s ++ drop (i + 1) piece) (next_byte seen piece i h) ∙ whole_piece seen piece (i + 1)) (part-longer max old sink ((seen ++ take i piece) ++ get_or piece i 0 ∷ []) (drop (i + 1) piece) t)

@@ -1,0 +1,9 @@
+pub mod Fields
+pub mod Naks
+pub mod Spelling
+pub mod Rows
+pub mod Reading
+pub mod Held
+pub mod Resume
+pub mod Device
+pub use Rattle.ddcmp_num.specs.Check

@@ -1,0 +1,170 @@
+// Where bytes come from and where they go.
+ghost use Rattle.std.specs.Prelude.{◌≡◌, ◌≢◌, false, true, is_none, List, ℕ, Option, Bool};
+
+use std::io::{ErrorKind, Read, Write};
+
+/// What one read gave.
+#[derive(Clone, Copy, Debug, PartialEq, Eq)]
+pub enum Got {
+    /// This many bytes at the front of the buffer; 0 is the end.
+    Bytes(usize),
+    /// Nothing came yet.
+    Idle,
+    /// The read failed.
+    Failed,
+}
+
+/// The worst answer that a source has given since its making.
+#[derive(Clone, Copy, Debug, PartialEq, Eq)]
+pub enum Worst {
+    Fine,
+    Idle,
+    Failed,
+}
+
+/// A device that bytes come from. It tells them to contracts where it knows them.
+pub trait Source {
+    ghost use Rattle.ddcmp_frame.specs.declared.device.Worst.{Worst as WorstValue};
+    ghost use Rattle.ddcmp_frame.specs.declared.device.Worst.TheVariants.{Failed};
+    ghost use Rattle.ddcmp_frame.specs.Device.{ReadGives, worse};
+
+    // The bytes that reads will give, where they are known.
+    ghost left: { Self → Option (List ℕ) };
+
+    // The worst answer so far.
+    ghost state: { Self → WorstValue };
+
+    /// Reads into the front of `buf`.
+    fn read(&mut self, buf: &mut [u8]) -> Got
+        requires { state self.old ≢ Failed }
+        ensures bytes { ReadGives (left self.old) (left self.new) result buf.new }
+        ensures worst { state self.new ≡ worse (state self.old) result };
+
+    /// The worst answer so far.
+    fn worst(&self) -> Worst
+        ensures { result ≡ state self.now };
+}
+
+/// A device that bytes go to. It tells what it holds to contracts where it knows it.
+pub trait Sink {
+    ghost use Rattle.ddcmp_frame.specs.Device.{WriteTakes};
+
+    // The bytes that the sink holds, where they are known.
+    ghost contents: { Self → Option (List ℕ) };
+
+    // Whether a write has failed.
+    ghost broken: { Self → Bool };
+
+    /// Takes bytes from the front of `bytes`, at least one where there is one, and says how
+    /// many; None is a write that failed.
+    fn write(&mut self, bytes: &[u8]) -> Option<usize>
+        requires { broken self.old ≡ false }
+        ensures bytes { WriteTakes (contents self.old) (contents self.new) result bytes.now }
+        ensures broken { broken self.new ≡ is_none result };
+
+    /// Whether a write has failed.
+    fn failed(&self) -> bool
+        ensures { result ≡ broken self.now };
+}
+
+/// Any `Read` as a source. A read that would block, times out or is interrupted is idle; every
+/// other error is a failure.
+#[derive(Drop)]
+pub struct FromRead<R> {
+    inner: R,
+    worst: Worst,
+}
+
+impl<R> FromRead<R> {
+    ghost use Rattle.ddcmp_frame.specs.Device.{reader_of, worst_of};
+
+    pub fn new(inner: R) -> Self
+        ensures reader { reader_of result ≡ inner }
+        ensures worst { worst_of result ≡ Worst.Fine }
+    {
+        FromRead {
+            inner,
+            worst: Worst::Fine,
+        }
+    }
+}
+
+impl<R: Read> Source for FromRead<R> {
+    ghost left = { λ s. R.remaining s.inner };
+
+    ghost state = { λ s. s.worst };
+
+    fn read(&mut self, buf: &mut [u8]) -> Got {
+        match self.inner.read(buf) {
+            Ok(n) => Got::Bytes(n),
+            Err(e) => match e.kind() {
+                ErrorKind::WouldBlock | ErrorKind::TimedOut | ErrorKind::Interrupted => {
+                    if self.worst == Worst::Fine {
+                        self.worst = Worst::Idle;
+                    }
+                    Got::Idle
+                }
+                _ => {
+                    self.worst = Worst::Failed;
+                    Got::Failed
+                }
+            },
+        }
+    }
+
+    fn worst(&self) -> Worst {
+        self.worst
+    }
+}
+
+/// Any `Write` as a sink. An error, or a write that takes no byte of some, is a failure.
+#[derive(Drop)]
+pub struct ToWrite<W> {
+    inner: W,
+    failed: bool,
+}
+
+impl<W> ToWrite<W> {
+    ghost use Rattle.ddcmp_frame.specs.Device.{writer_of, has_failed};
+
+    pub fn new(inner: W) -> Self
+        ensures writer { writer_of result ≡ inner }
+        ensures failed { has_failed result ≡ false }
+    {
+        ToWrite {
+            inner,
+            failed: false,
+        }
+    }
+
+    /// The writer, with all that was written.
+    pub fn into_inner(self) -> W
+        ensures { result ≡ writer_of self }
+    {
+        self.inner
+    }
+}
+
+impl<W: Write> Sink for ToWrite<W> {
+    ghost contents = { λ s. W.contents s.inner };
+
+    ghost broken = { λ s. s.failed };
+
+    fn write(&mut self, bytes: &[u8]) -> Option<usize> {
+        match self.inner.write(bytes) {
+            Ok(0) if !bytes.is_empty() => {
+                self.failed = true;
+                None
+            }
+            Ok(n) => Some(n),
+            Err(_) => {
+                self.failed = true;
+                None
+            }
+        }
+    }
+
+    fn failed(&self) -> bool {
+        self.failed
+    }
+}

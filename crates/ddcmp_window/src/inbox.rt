@@ -1,0 +1,150 @@
+// The receiving half: messages that came in sequence.
+ghost use Rattle.std.specs.Prelude.{◌≡◌, ◌≢◌, ◌↔◌, ◌+◌, ◌<◌, ◌≤◌, [], ◌∷◌, ◌++◌, length, slice_index_or, sum_by, IsTrue, Option, Some, None, option_map};
+
+use crate::store::{Store, take_first};
+use ddcmp_num::Seq;
+use std::marker::Model;
+
+/// What became of a message that was offered.
+#[derive(Clone, Copy, Debug, PartialEq, Eq)]
+pub enum Offer {
+    /// It is in the inbox.
+    Accepted,
+    /// Its number isn't the one that follows the last.
+    OutOfSequence,
+    /// Its number is the one that follows, and the inbox is full.
+    NoRoom,
+}
+
+/// Messages that came in sequence and weren't taken yet.
+#[derive(Drop)]
+pub struct Inbox<S: Store> {
+    store: S,
+    /// The highest number received in sequence.
+    last: Seq,
+}
+
+impl<S: Store> Model for Inbox<S> {
+    ghost use Rattle.std.specs.Prelude.{◌<◌};
+    ghost use Rattle.ddcmp_window.specs.Kept.{Receiving};
+
+    ghost Value = { Receiving };
+
+    ghost view = { λ s. record {
+      limit = S.limit s.store;
+      longest = S.longest s.store;
+      incoming = record { r = s.last.0; inbox = S.messages s.store };
+    } };
+
+    ghost invariant = { λ s. s.last.0 < 256 };
+}
+
+impl<S: Store> Inbox<S> {
+    ghost use Rattle.ddcmp_window.specs.Window.{IsStored, next_number, nothing_received, answer_to_offer, offered, put, taken, first, written};
+
+    /// An inbox that has received nothing.
+    pub fn new(store: S) -> Self
+        requires { S.messages store ≡ [] }
+        ensures { result ≡ record { limit = S.limit store; longest = S.longest store; incoming = nothing_received } }
+    {
+        Inbox {
+            store,
+            last: Seq(0),
+        }
+    }
+
+    /// Begins anew: all messages are dropped.
+    pub fn reset(&mut self)
+        ensures { self.new ≡ record self.old { incoming = nothing_received } }
+    {
+        self.store.clear();
+        self.last = Seq(0);
+    }
+
+    /// Takes a message where its number follows the last one and there is room.
+    pub fn offer(&mut self, number: Seq, message: &[u8]) -> Offer
+        requires not_empty { 1 ≤ length message.now }
+        requires not_too_long { length message.now ≤ self.old.longest }
+        ensures state { self.new ≡ record self.old { incoming = offered self.old.limit self.old.incoming number.0 message.now } }
+        ensures answer { result ≡ answer_to_offer self.old.limit self.old.incoming number.0 }
+
+        // When each refusal comes.
+        ensures out_of_sequence { (result ≡ Offer.OutOfSequence) ↔ (number.0 ≢ next_number self.old.incoming.r) }
+        ensures no_room { (result ≡ Offer.NoRoom) ↔ ((number.0 ≡ next_number self.old.incoming.r)
+            × (self.old.limit ≤ length self.old.incoming.inbox)) }
+    {
+        if number != self.last.next() {
+            return Offer::OutOfSequence;
+        }
+        if !self.store.room() {
+            return Offer::NoRoom;
+        }
+        self.store.push(message);
+        self.last = number;
+        Offer::Accepted
+    }
+
+    /// Takes a message that has no number, where there is room.
+    pub fn put(&mut self, message: &[u8]) -> bool
+        requires not_empty { 1 ≤ length message.now }
+        requires not_too_long { length message.now ≤ self.old.longest }
+        ensures state { self.new ≡ record self.old { incoming = put self.old.limit self.old.incoming message.now } }
+        ensures room { IsTrue result ↔ (length self.old.incoming.inbox < self.old.limit) }
+    {
+        if !self.store.room() {
+            return false;
+        }
+        self.store.push(message);
+        true
+    }
+
+    /// Moves the first message to the front of `out`, and answers its length.
+    pub fn take(&mut self, out: &mut [u8]) -> Option<usize>
+        requires { self.old.longest ≤ length out.old }
+        ensures state { self.new ≡ record self.old { incoming = taken self.old.incoming } }
+        ensures length { result ≡ option_map length (first self.old.incoming.inbox) }
+        ensures out { out.new ≡ written (first self.old.incoming.inbox) out.old }
+    {
+        take_first(&mut self.store, out)
+    }
+
+    /// The highest number received in sequence.
+    pub fn last(&self) -> Seq
+        ensures { result.0 ≡ self.now.incoming.r }
+    {
+        self.last
+    }
+
+    /// The number of messages.
+    pub fn len(&self) -> u8
+        ensures { result ≡ length self.now.incoming.inbox }
+    {
+        self.store.len()
+    }
+
+    /// Copies message `i`, counted from 0, to the front of `out`, and answers its length.
+    pub fn copy(&self, i: u8, out: &mut [u8]) -> usize
+        requires there { i < length self.now.incoming.inbox }
+        requires fits { length (slice_index_or self.now.incoming.inbox i []) ≤ length out.old }
+        ensures length { result ≡ length (slice_index_or self.now.incoming.inbox i []) }
+        ensures out { out.new ≡ written (Some (slice_index_or self.now.incoming.inbox i [])) out.old }
+    {
+        self.store.copy(i, out)
+    }
+
+    /// The length of all messages.
+    pub fn bytes(&self) -> usize
+        ensures { result ≡ sum_by length self.now.incoming.inbox }
+    {
+        self.store.bytes()
+    }
+
+    /// What holds of every inbox, for proofs. It does nothing.
+    pub fn holds(&self)
+        ensures number { self.now.incoming.r < 256 }
+        ensures stored { IsStored self.now.limit self.now.longest self.now.incoming.inbox }
+    {
+        // Where a field is looked at, the proof knows what holds of all of them.
+        let _ = &self.store;
+    }
+}

@@ -1,0 +1,224 @@
+// The sending half: messages are kept until they are acknowledged.
+ghost use Rattle.std.specs.Prelude.{◌≡◌, ◌≢◌, ◌↔◌, ◌+◌, ◌<◌, ◌≤◌, ◌%◌, ℕ, [], length, sum_by, IsTrue, Option, Some, None, option_map, if◌then◌else◌, Err, IsOk};
+
+use crate::refusals::SendRefusal;
+use crate::store::{Store, take_first};
+use ddcmp_num::Seq;
+use std::marker::Model;
+
+/// Keeps messages until they are acknowledged, and gives them in order, each with its number, to
+/// be sent. A message that is refused is given again, with all that follow it.
+#[derive(Drop)]
+pub struct Sender<S: Store> {
+    store: S,
+    /// The highest number acknowledged.
+    acknowledged: Seq,
+    /// The highest number sent.
+    sent: Seq,
+    /// The next number to send.
+    next: Seq,
+}
+
+impl<S: Store> Model for Sender<S> {
+    ghost use Rattle.ddcmp_window.specs.Kept.{Sending};
+    ghost use Rattle.ddcmp_window.specs.Window.{IsInWindow};
+
+    ghost Value = { Sending };
+
+    ghost view = { λ s. record {
+      limit = S.limit s.store;
+      longest = S.longest s.store;
+      outgoing = record { a = s.acknowledged.0; n = s.sent.0; t = s.next.0; out = S.messages s.store };
+    } };
+
+    ghost invariant = { λ s. IsInWindow (record { a = s.acknowledged.0; n = s.sent.0; t = s.next.0; out = S.messages s.store }) };
+}
+
+impl<S: Store> Sender<S> {
+    ghost use Rattle.ddcmp_window.specs.Window.{IsStored, IsInWindow, nothing_sent, before_next, accepted, answer_to_accept, keeps, newly, acknowledging, refused, is_within, next_number, next_message, after_next, first, written, popped};
+    ghost use Rattle.ddcmp_num.specs.Sequence.{distance};
+
+    /// A sender that has sent nothing.
+    pub fn new(store: S) -> Self
+        requires { S.messages store ≡ [] }
+        ensures { result ≡ record { limit = S.limit store; longest = S.longest store; outgoing = nothing_sent } }
+    {
+        Sender {
+            store,
+            acknowledged: Seq(0),
+            sent: Seq(0),
+            next: Seq(1),
+        }
+    }
+
+    /// Begins anew: how many messages were dropped.
+    pub fn reset(&mut self) -> u8
+        ensures state { self.new ≡ record self.old { outgoing = nothing_sent } }
+        ensures dropped { result ≡ length self.old.outgoing.out }
+    {
+        let dropped = self.store.len();
+        self.store.clear();
+        self.acknowledged = Seq(0);
+        self.sent = Seq(0);
+        self.next = Seq(1);
+        dropped
+    }
+
+    /// Keeps a message to be sent, and answers its number.
+    pub fn accept(&mut self, message: &[u8]) -> Result<Seq, SendRefusal>
+        ensures state { self.new ≡ record self.old {
+          outgoing = accepted self.old.limit self.old.longest self.old.outgoing message.now;
+        } }
+        ensures answer { result ≡ answer_to_accept self.old.limit self.old.longest self.old.outgoing message.now }
+        ensures kept { IsOk result ↔ IsTrue (keeps self.old.limit self.old.longest self.old.outgoing message.now) }
+
+        // When each refusal comes.
+        ensures wrong_state { result ≢ Err SendRefusal.WrongState }
+        ensures empty { (result ≡ Err SendRefusal.Empty) ↔ (length message.now ≡ 0) }
+        ensures too_long { (result ≡ Err SendRefusal.TooLong) ↔ (self.old.longest < length message.now) }
+        ensures window_full { (result ≡ Err SendRefusal.WindowFull) ↔ ((1 ≤ length message.now)
+            × (length message.now ≤ self.old.longest) × (self.old.limit ≤ length self.old.outgoing.out)) }
+    {
+        if message.is_empty() {
+            return Err(SendRefusal::Empty);
+        }
+        if message.len() > self.store.longest() as usize {
+            return Err(SendRefusal::TooLong);
+        }
+        if !self.store.room() {
+            return Err(SendRefusal::WindowFull);
+        }
+        self.store.push(message);
+        Ok(Seq(self.acknowledged.0.wrapping_add(self.store.len())))
+    }
+
+    /// The peer has all messages up to `number`: how many of them it hadn't acknowledged before.
+    pub fn acknowledged(&mut self, number: Seq) -> u8
+        ensures state { self.new ≡ record self.old { outgoing = acknowledging self.old.outgoing number.0 } }
+        ensures newly { result ≡ newly self.old.outgoing number.0 }
+    {
+        if !Seq::within(self.acknowledged, number, self.sent) {
+            return 0;
+        }
+        let newly = Seq::distance(self.acknowledged, number);
+        if self.before_next() < newly {
+            self.next = number.next();
+        }
+        self.store.drop_front(newly);
+        self.acknowledged = number;
+        newly
+    }
+
+    /// The peer has all messages up to `number` and wants those behind it again: how many it
+    /// hadn't acknowledged before, or None where `number` isn't one that it can have.
+    pub fn refused(&mut self, number: Seq) -> Option<u8>
+        ensures state { self.new ≡ record self.old { outgoing = refused self.old.outgoing number.0 } }
+        ensures newly { result ≡ (if is_within self.old.outgoing.a number.0 self.old.outgoing.n
+            then Some (newly self.old.outgoing number.0) else None) }
+    {
+        let in_window = Seq::within(self.acknowledged, number, self.sent);
+        if !in_window {
+            return None;
+        }
+        let newly = self.acknowledged(number);
+        self.next = self.acknowledged.next();
+        Some(newly)
+    }
+
+    /// Writes the next message to send at the front of `out`: its number and its length.
+    pub fn next(&mut self, out: &mut [u8]) -> Option<(Seq, usize)>
+        requires { self.old.longest ≤ length out.old }
+        ensures state { self.new ≡ record self.old { outgoing = after_next self.old.outgoing } }
+        ensures sent { result ≡ option_map (λ message. (record { 0 = self.old.outgoing.t }, length message)) (next_message self.old.outgoing) }
+        ensures out { out.new ≡ written (next_message self.old.outgoing) out.old }
+    {
+        let before = self.before_next();
+        if before >= self.store.len() {
+            return None;
+        }
+        let length = self.store.copy(before, out);
+        let number = self.next;
+        if number == self.sent.next() {
+            self.sent = number;
+        }
+        self.next = number.next();
+        Some((number, length))
+    }
+
+    /// Moves the first message, which gets no number, to the front of `out`, and answers its
+    /// length.
+    pub fn pop(&mut self, out: &mut [u8]) -> Option<usize>
+        requires longest { self.old.longest ≤ length out.old }
+        requires all_acknowledged { self.old.outgoing.a ≡ self.old.outgoing.n }
+        requires none_sent { self.old.outgoing.t ≡ next_number self.old.outgoing.a }
+        ensures state { self.new ≡ record self.old { outgoing = popped self.old.outgoing } }
+        ensures length { result ≡ option_map length (first self.old.outgoing.out) }
+        ensures out { out.new ≡ written (first self.old.outgoing.out) out.old }
+    {
+        take_first(&mut self.store, out)
+    }
+
+    /// How many messages were sent and aren't acknowledged.
+    pub fn outstanding(&self) -> u8
+        ensures { result ≡ distance self.now.outgoing.a self.now.outgoing.n }
+    {
+        Seq::distance(self.acknowledged, self.sent)
+    }
+
+    /// The highest number sent.
+    pub fn last_sent(&self) -> Seq
+        ensures { result.0 ≡ self.now.outgoing.n }
+    {
+        self.sent
+    }
+
+    /// The highest number acknowledged.
+    pub fn last_acknowledged(&self) -> Seq
+        ensures { result.0 ≡ self.now.outgoing.a }
+    {
+        self.acknowledged
+    }
+
+    /// The next number to send.
+    pub fn next_number(&self) -> Seq
+        ensures { result.0 ≡ self.now.outgoing.t }
+    {
+        self.next
+    }
+
+    /// The number of messages kept.
+    pub fn len(&self) -> u8
+        ensures { result ≡ length self.now.outgoing.out }
+    {
+        self.store.len()
+    }
+
+    /// Whether one more message may be kept.
+    pub fn room(&self) -> bool
+        ensures { IsTrue result ↔ (length self.now.outgoing.out < self.now.limit) }
+    {
+        self.store.room()
+    }
+
+    /// The length of all messages kept.
+    pub fn bytes(&self) -> usize
+        ensures { result ≡ sum_by length self.now.outgoing.out }
+    {
+        self.store.bytes()
+    }
+
+    /// What holds of every sender, for proofs. It does nothing.
+    pub fn holds(&self)
+        ensures numbers { IsInWindow self.now.outgoing }
+        ensures stored { IsStored self.now.limit self.now.longest self.now.outgoing.out }
+    {
+        // Where a field is looked at, the proof knows what holds of all of them.
+        let _ = &self.store;
+    }
+
+    fn before_next(&self) -> u8
+        ensures { result ≡ before_next self.now.outgoing }
+    {
+        Seq::distance(self.acknowledged, Seq(self.next.0.wrapping_sub(1)))
+    }
+}
