@@ -1,11 +1,13 @@
 -- What one more byte of input adds to the digits and to the bytes that they spell.
-use Rattle.std.proofs.Common.{◌≡◌, ℕ, ◌+◌, ◌*◌, ◌%◌, Bool, true, false, cond, List, [], ◌∷◌, ◌++◌, length, refl, sym, ◌∙◌, ap, arith, Option, Some, None}
+use Rattle.std.proofs.Common.{◌≡◌, ℕ, ◌+◌, ◌*◌, Bool, true, false, cond, List, [], ◌∷◌, ◌++◌, length, refl, sym, ◌∙◌, ap, arith, Option, Some, None}
 use Rattle.std.specs.Prelude.{not, is_some, ◌||◌}
 use Rattle.std.specs.List.{filter_map, take_while, position_from, cons_option}
 use Rattle.std.proofs.lemmas.List.Sums.{take_while-cons}
 use Rattle.std.proofs.lemmas.List.{append-nil}
 use Rattle.std.proofs.lemmas.List.Elements.{filter_map-append}
-use Rattle.ddcmp_cli.specs.Digits.{hex_value, is_blank, is_readable, first_stranger, digits, pairs, left_over, spelled}
+use Rattle.ddcmp_cli.specs.declared.explaining.Form.{Form}
+use Rattle.ddcmp_cli.specs.declared.explaining.Form.TheVariants.{Hex, Raw}
+use Rattle.ddcmp_cli.specs.Digits.{hex_value, is_blank, is_readable, first_stranger, digits, pairs, left_over, spelled, bytes_of, stranger_in, left_in}
 
 none-some : {n : ℕ} → ◌≡◌ {A = Option ℕ} None (Some n) → ⊥
 none-some h = cc
@@ -121,11 +123,6 @@ pairs-whole [] high v e = let e' : ◌≡◌ {A = List ℕ} [] (high ∷ []) = e
 pairs-whole (h ∷ []) high v e = let s : h ≡ high = cc in (ap (λ x. (x * 16 + v) ∷ []) s, refl)
 pairs-whole (h ∷ l ∷ d) high v e = let r = pairs-whole d high v e in (ap (λ t. (h * 16 + l) ∷ t) r.0, r.1)
 
-pub odd-left : (d : List ℕ) → length d % 2 ≡ length (left_over d)
-odd-left [] = refl
-odd-left (h ∷ []) = refl
-odd-left (h ∷ l ∷ d) = let r = odd-left d in omega arith
-
 -- bytes that were whole stay the first ones
 pub pairs-prefix : (d t : List ℕ) → (more : List ℕ) × (pairs (d ++ t) ≡ pairs d ++ more)
 pairs-prefix [] t = (pairs t, refl)
@@ -151,3 +148,29 @@ readable-blank b e = ap (λ x. x || is_some (hex_value b)) e
 
 pub readable-neither : (b : ℕ) → is_blank b ≡ false → hex_value b ≡ None → is_readable b ≡ false
 readable-neither b e h = ap (λ x. x || is_some (hex_value b)) e ∙ ap is_some h
+
+-- ---- in either form
+
+pub bytes-prefix : (form : Form) (s t : List ℕ) → (more : List ℕ) × (bytes_of form (s ++ t) ≡ bytes_of form s ++ more)
+bytes-prefix Hex s t = spelled-prefix s t
+bytes-prefix Raw s t = (t, refl)
+
+pub stranger-stays : (form : Form) (s t : List ℕ) (n : ℕ) → stranger_in form s ≡ Some n → stranger_in form (s ++ t) ≡ Some n
+stranger-stays Hex s t n e = stranger-more s t n e
+stranger-stays Raw s t n e = absurd (none-some e)
+
+pub bytes-found : (form : Form) (s t : List ℕ) (n : ℕ) → stranger_in form s ≡ Some n → bytes_of form (s ++ t) ≡ bytes_of form s
+bytes-found Hex s t n e = ap pairs (digits-found s t n e)
+bytes-found Raw s t n e = absurd (none-some e)
+
+pub nothing-strange : (form : Form) → stranger_in form [] ≡ None
+nothing-strange Hex = stranger-none
+nothing-strange Raw = refl
+
+pub nothing-spelled : (form : Form) → bytes_of form [] ≡ []
+nothing-spelled Hex = ap pairs digits-none
+nothing-spelled Raw = refl
+
+pub nothing-left : (form : Form) → left_in form [] ≡ []
+nothing-left Hex = ap left_over digits-none
+nothing-left Raw = refl

@@ -1,7 +1,9 @@
--- Bytes spelled in hexadecimal digits.
+-- How an input spells bytes: in hexadecimal digits, or as they are.
 use Rattle.std.specs.Prelude.{ℕ, ◌+◌, ◌*◌, ◌==◌, ◌||◌, nat_lt, Bool, not, is_some, List, [], ◌∷◌, if◌then◌else◌, Option, Some, None}
 use Rattle.std.specs.Char.{digit_value}
 use Rattle.std.specs.List.{filter_map, take_while, position_from}
+use Rattle.ddcmp_cli.specs.declared.explaining.Form.{Form}
+use Rattle.ddcmp_cli.specs.declared.explaining.Form.TheVariants.{Hex, Raw}
 
 -- the value of a hexadecimal digit, in either case
 abbrev pub hex_value : ℕ → Option ℕ
@@ -37,3 +39,18 @@ left_over (high ∷ low ∷ rest) = left_over rest
 -- the whole bytes that an input spells
 abbrev pub spelled : List ℕ → List ℕ
 spelled input = pairs (digits input)
+
+-- the whole bytes of an input, in either form
+abbrev pub bytes_of : Form → List ℕ → List ℕ
+bytes_of Hex input = spelled input
+bytes_of Raw input = input
+
+-- where an input can't be read on
+abbrev pub stranger_in : Form → List ℕ → Option ℕ
+stranger_in Hex input = first_stranger input
+stranger_in Raw input = None
+
+-- the digit that makes no byte
+abbrev pub left_in : Form → List ℕ → List ℕ
+left_in Hex input = left_over (digits input)
+left_in Raw input = []

@@ -4,6 +4,8 @@ use Rattle.ddcmp_cli.specs.declared.explaining.ExplainFault.{ExplainFault}
 use Rattle.ddcmp_cli.specs.declared.explaining.ExplainFault.TheVariants.{Odd, NotHex, Read, Write, Memory}
 use Rattle.ddcmp_cli.specs.declared.program.Ending.{Ending}
 use Rattle.ddcmp_cli.specs.declared.program.Ending.TheVariants.{Done, Usage, NotText, Fault}
+use Rattle.ddcmp_cli.specs.declared.explaining.Form.{Form}
+use Rattle.ddcmp_cli.specs.Words.{IsMaximum}
 use Rattle.ddcmp_cli.specs.Explains.{Explains}
 
 -- 1 where the input was refused, 3 where a device failed or memory was refused
@@ -24,7 +26,10 @@ abbrev pub ending_of : Result (Unit {0}) ExplainFault → Ending
 ending_of (Ok u) = Done
 ending_of (Err fault) = Fault fault
 
--- the input was explained and the ending tells its answer, or there was no memory for the words
+-- the input was explained in the form and for the maximum of the words, and the ending tells the
+-- answer; or there was no memory for the words
 abbrev pub ExplainsOrNoMemory : List ℕ → Option (List ℕ) → Option (List ℕ) → Option (List ℕ) → Ending → Type 0
 ExplainsOrNoMemory input left old new ending =
-    (ending ≡ Fault Memory) ⊎ ((result : Result (Unit {0}) ExplainFault) × (ending ≡ ending_of result) × Explains 16383 input left old new result)
+    (ending ≡ Fault Memory)
+    ⊎ ((form : Form) × (max : ℕ) × (result : Result (Unit {0}) ExplainFault)
+    × IsMaximum max × (ending ≡ ending_of result) × Explains form max input left old new result)

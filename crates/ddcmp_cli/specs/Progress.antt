@@ -5,7 +5,8 @@ use Rattle.std.specs.Io.KnownBytes.{Appends}
 use Rattle.ddcmp_frame.specs.Held.{Stands}
 use Rattle.ddcmp_frame.specs.Reading.{Given, items}
 use Rattle.ddcmp_cli.specs.declared.explaining.Explained.{Explained}
-use Rattle.ddcmp_cli.specs.Digits.{first_stranger, digits, left_over, spelled}
+use Rattle.ddcmp_cli.specs.declared.explaining.Form.{Form}
+use Rattle.ddcmp_cli.specs.Digits.{bytes_of, stranger_in, left_in}
 use Rattle.ddcmp_cli.specs.Text.{lines, line_of}
 use Rattle.ddcmp_cli.specs.declared.page.WriteFailed.{WriteFailed}
 use Rattle.ddcmp_cli.specs.declared.explaining.ExplainFault.{ExplainFault}
@@ -27,23 +28,23 @@ pub record ByteTaken (old new : Explained) (byte : ℕ) (sink : Option (List ℕ
   pub passes : Passes sink page sink_after page_after result (flat_map line_of given)
 
 -- What was seen of the input has been taken in: its lines are in the sink, but for the page.
-pub record Progress (max : ℕ) (old : Option (List ℕ)) (seen : List ℕ) (at : Explained) (sink : Option (List ℕ)) (page : List ℕ) : Type 0 where
-  pub readable : first_stranger seen ≡ None
-  pub stands : Stands at.frames (spelled seen)
+pub record Progress (form : Form) (max : ℕ) (old : Option (List ℕ)) (seen : List ℕ) (at : Explained) (sink : Option (List ℕ)) (page : List ℕ) : Type 0 where
+  pub readable : stranger_in form seen ≡ None
+  pub stands : Stands at.frames (bytes_of form seen)
   pub max_is : at.frames.max ≡ max
-  pub counted : at.items ≡ length (items max (spelled seen))
-  pub high : left_over (digits seen) ≡ option_to_list at.high
+  pub counted : at.items ≡ length (items max (bytes_of form seen))
+  pub high : left_in form seen ≡ option_to_list at.high
   pub out : List ℕ
   pub written : Appends old sink out
-  pub lines_are : lines max (spelled seen) ≡ out ++ page
+  pub lines_are : lines max (bytes_of form seen) ≡ out ++ page
 
 -- A piece of the input was taken: to its end, or up to a byte that is no digit, or a write failed.
-abbrev pub PieceTaken : ℕ → Option (List ℕ) → List ℕ → List ℕ → Explained → Option (List ℕ) → List ℕ → Result (Unit {0}) Stop → Type 0
-PieceTaken max old seen piece new sink page (Ok u) = Progress max old (seen ++ piece) new sink page
-PieceTaken max old seen piece new sink page (Err (Stranger index)) =
-    (first_stranger (seen ++ piece) ≡ Some index)
-    × (out : List ℕ) × Appends old sink out × (lines max (spelled (seen ++ piece)) ≡ out ++ page)
-PieceTaken max old seen piece new sink page (Err Broken) = AppendsPart old sink (lines max (spelled (seen ++ piece)))
+abbrev pub PieceTaken : Form → ℕ → Option (List ℕ) → List ℕ → List ℕ → Explained → Option (List ℕ) → List ℕ → Result (Unit {0}) Stop → Type 0
+PieceTaken form max old seen piece new sink page (Ok u) = Progress form max old (seen ++ piece) new sink page
+PieceTaken form max old seen piece new sink page (Err (Stranger index)) =
+    (stranger_in form (seen ++ piece) ≡ Some index)
+    × (out : List ℕ) × Appends old sink out × (lines max (bytes_of form (seen ++ piece)) ≡ out ++ page)
+PieceTaken form max old seen piece new sink page (Err Broken) = AppendsPart old sink (lines max (bytes_of form (seen ++ piece)))
 
 -- whether a piece wasn't taken because a write failed
 abbrev pub is_broken : Result (Unit {0}) Stop → Bool
@@ -52,11 +53,11 @@ is_broken (Err (Stranger index)) = false
 is_broken (Err Broken) = true
 
 -- The same with the page empty before and after.
-abbrev pub PieceWritten : ℕ → Option (List ℕ) → List ℕ → List ℕ → Explained → Option (List ℕ) → Result (Unit {0}) Stop → Type 0
-PieceWritten max old seen piece new sink (Ok u) = Progress max old (seen ++ piece) new sink []
-PieceWritten max old seen piece new sink (Err (Stranger index)) =
-    (first_stranger (seen ++ piece) ≡ Some index) × Appends old sink (lines max (spelled (seen ++ piece)))
-PieceWritten max old seen piece new sink (Err Broken) = AppendsPart old sink (lines max (spelled (seen ++ piece)))
+abbrev pub PieceWritten : Form → ℕ → Option (List ℕ) → List ℕ → List ℕ → Explained → Option (List ℕ) → Result (Unit {0}) Stop → Type 0
+PieceWritten form max old seen piece new sink (Ok u) = Progress form max old (seen ++ piece) new sink []
+PieceWritten form max old seen piece new sink (Err (Stranger index)) =
+    (stranger_in form (seen ++ piece) ≡ Some index) × Appends old sink (lines max (bytes_of form (seen ++ piece)))
+PieceWritten form max old seen piece new sink (Err Broken) = AppendsPart old sink (lines max (bytes_of form (seen ++ piece)))
 
 -- whether a write failed
 abbrev pub is_write : Result (Unit {0}) ExplainFault → Bool
@@ -68,10 +69,10 @@ is_write (Err Read) = false
 is_write (Err Memory) = false
 
 -- The input ended: what was told, never that it failed to be read.
-abbrev pub EndTold : ℕ → List ℕ → Option (List ℕ) → Option (List ℕ) → Result (Unit {0}) ExplainFault → Type 0
-EndTold max seen old new (Ok u) = (refusal seen ≡ None) × Appends old new (explained max seen)
-EndTold max seen old new (Err Odd) = (refusal seen ≡ Some Odd) × Appends old new (explained max seen)
-EndTold max seen old new (Err Write) = AppendsPart old new (explained max seen)
-EndTold max seen old new (Err (NotHex index)) = ⊥
-EndTold max seen old new (Err Read) = ⊥
-EndTold max seen old new (Err Memory) = ⊥
+abbrev pub EndTold : Form → ℕ → List ℕ → Option (List ℕ) → Option (List ℕ) → Result (Unit {0}) ExplainFault → Type 0
+EndTold form max seen old new (Ok u) = (refusal form seen ≡ None) × Appends old new (explained form max seen)
+EndTold form max seen old new (Err Odd) = (refusal form seen ≡ Some Odd) × Appends old new (explained form max seen)
+EndTold form max seen old new (Err Write) = AppendsPart old new (explained form max seen)
+EndTold form max seen old new (Err (NotHex index)) = ⊥
+EndTold form max seen old new (Err Read) = ⊥
+EndTold form max seen old new (Err Memory) = ⊥

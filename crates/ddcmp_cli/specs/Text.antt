@@ -1,14 +1,17 @@
 -- The text that says what bytes of a line are, line by line.
-use Rattle.std.specs.Prelude.{ℕ, ◌++◌, Bool, List, length, codes, decimal, if◌then◌else◌}
+use Rattle.std.specs.Prelude.{[], ℕ, ◌++◌, Bool, List, length, codes, decimal, if◌then◌else◌}
 use Rattle.std.specs.List.{flat_map}
 use Rattle.ddcmp_frame.specs.declared.header.Flags.{Flags}
 use Rattle.ddcmp_frame.specs.declared.header.ControlType.{ControlType}
 use Rattle.ddcmp_frame.specs.declared.header.ControlType.TheVariants.{Ack, Nak, Rep, Strt, Stack}
+use Rattle.ddcmp_frame.specs.Fields.{CountedFields}
 use Rattle.ddcmp_frame.specs.declared.header.Header.{Header}
-use Rattle.ddcmp_frame.specs.declared.header.Header.TheVariants.{Control}
+use Rattle.ddcmp_frame.specs.declared.header.Header.TheVariants.{Data, Maint, Control}
 use Rattle.ddcmp_frame.specs.declared.header.HeaderFault.{HeaderFault}
-use Rattle.ddcmp_frame.specs.declared.header.HeaderFault.TheVariants.{NotAStart, Check, BadType}
-use Rattle.ddcmp_frame.specs.declared.item.Item.TheVariants.{Good, HeaderCheck, Format}
+use Rattle.ddcmp_frame.specs.declared.header.HeaderFault.TheVariants.{NotAStart, Check, BadType, CountZero}
+use Rattle.ddcmp_frame.specs.declared.item.Item.{Item}
+use Rattle.ddcmp_frame.specs.declared.item.Item.TheVariants.{Good, HeaderCheck, DataCheck, TooLong, Format}
+use Rattle.hex.specs.Hex.{encode_lower}
 use Rattle.ddcmp_frame.specs.Reading.{Given, items, open_at_end}
 
 abbrev pub kind_text : ControlType → List ℕ
@@ -29,20 +32,45 @@ abbrev pub fields_text : Flags → ℕ → ℕ → ℕ → List ℕ
 fields_text flags resp num addr =
     flags_text flags ++ decimal resp ++ codes " num=" ++ decimal num ++ codes " addr=" ++ decimal addr
 
+abbrev pub counted_text : CountedFields → List ℕ
+counted_text h = codes " count=" ++ decimal h.count ++ fields_text h.flags h.resp h.num h.addr
+
 abbrev pub header_text : Header → List ℕ
+header_text (Data h) = codes "DATA" ++ counted_text h
+header_text (Maint h) = codes "MAINT" ++ counted_text h
 header_text (Control h) = kind_text h.kind ++ codes " sub=" ++ decimal h.sub ++ fields_text h.flags h.resp h.num h.addr
 
 -- no reader gives the last two
 abbrev pub fault_text : HeaderFault → List ℕ
 fault_text (BadType code) = codes "type=" ++ decimal code
+fault_text CountZero = codes "count=0"
 fault_text NotAStart = codes "start"
 fault_text Check = codes "check"
 
--- the line of an item, which begins with the offset of its start byte
+-- what an item is, behind the offset of its start byte
+unfoldable pub item_text : Item → List ℕ
+item_text (Good offset h) = decimal offset ++ codes " " ++ header_text h
+item_text (HeaderCheck offset) = decimal offset ++ codes " header check"
+item_text (DataCheck offset h) = decimal offset ++ codes " data check " ++ header_text h
+item_text (TooLong offset h) = decimal offset ++ codes " too long " ++ header_text h
+item_text (Format offset fault) = decimal offset ++ codes " format " ++ fault_text fault
+
+-- the data of a good frame, in hexadecimal
+abbrev pub data_behind : Header → List ℕ → List ℕ
+data_behind (Data h) lent = codes " " ++ encode_lower lent
+data_behind (Maint h) lent = codes " " ++ encode_lower lent
+data_behind (Control h) lent = []
+
+abbrev pub data_text : Item → List ℕ → List ℕ
+data_text (Good offset h) lent = data_behind h lent
+data_text (HeaderCheck offset) lent = []
+data_text (DataCheck offset h) lent = []
+data_text (TooLong offset h) lent = []
+data_text (Format offset fault) lent = []
+
+-- the line of an item with the data that it lends
 unfoldable pub line_of : Given → List ℕ
-line_of (Good offset h, lent) = decimal offset ++ codes " " ++ header_text h ++ codes "\n"
-line_of (HeaderCheck offset, lent) = decimal offset ++ codes " header check\n"
-line_of (Format offset fault, lent) = decimal offset ++ codes " format " ++ fault_text fault ++ codes "\n"
+line_of given = item_text given.0 ++ (data_text given.0 given.1 ++ codes "\n")
 
 -- the lines of the items of some bytes
 unfoldable pub lines : ℕ → List ℕ → List ℕ

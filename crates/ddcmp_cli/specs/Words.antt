@@ -1,11 +1,23 @@
 -- The command line, as `clap` reads it.
-use Rattle.std.specs.Prelude.{◌≡◌, true, List, codes, Option, Some}
+use Rattle.std.specs.Prelude.{ℕ, pos, ◌≡◌, ◌<◌, ◌≤◌, true, List, codes, Option, Some}
 use Rattle.std.specs.Option.{option_map}
-use Rattle.clap.specs.Words.{App, Text, new_app, subcommand_of, takes, with_subcommand}
+use Rattle.ddcmp_cli.specs.declared.command.Command.{Command}
+use Rattle.ddcmp_cli.specs.declared.command.Command.TheVariants.{Explain}
+use Rattle.clap.specs.Words.{App, Rule, Text, new_app, new_rule, subcommand_of, takes, with_rule, with_subcommand}
+use Rattle.clap.specs.declared.builder.ArgAction.TheVariants.{SetTrue}
+use Rattle.clap.specs.declared.builder.value_parser.ValueParser.TheVariants.{Signed}
+
+-- `--raw`, a flag
+abbrev pub raw_rule : Rule
+raw_rule = record (new_rule (codes "raw")) { long = Some (codes "raw"); action = Some SetTrue }
+
+-- `--max N`, N being 1 to 16383
+abbrev pub max_rule : Rule
+max_rule = record (new_rule (codes "max")) { long = Some (codes "max"); value_names = 1; parser = Some (Signed (pos 1) (pos 16383)) }
 
 -- `ddcmp explain`
 abbrev pub explain_app : App
-explain_app = new_app (codes "explain")
+explain_app = with_rule (with_rule (new_app (codes "explain")) raw_rule) max_rule
 
 -- `ddcmp`, which wants a command
 abbrev pub bare_app : App
@@ -22,3 +34,11 @@ named_by words = option_map (λ named. named.0) (subcommand_of program words)
 pub record IsAsked (words : List Text) (name : Text) : Type 0 where
   pub in_order : takes program words ≡ true
   pub names : named_by words ≡ Some name
+
+-- a COUNT that a reader may be made for
+abbrev pub IsMaximum : ℕ → Type 0
+IsMaximum max = (0 < max) × (max ≤ 16383)
+
+-- what a command needs
+abbrev pub IsInRange : Command → Type 0
+IsInRange (Explain form max) = IsMaximum max

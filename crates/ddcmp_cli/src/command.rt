@@ -1,19 +1,24 @@
 // The words of the command line.
-ghost use Rattle.std.specs.Prelude.{◌≡◌, ◌⊎◌, IfOk, Some, codes, map};
-ghost use Rattle.ddcmp_cli.specs.Words.{IsAsked, named_by};
-ghost use Rattle.ddcmp_cli.specs.Words.{program};
-ghost use Rattle.clap.specs.Words.{kind_of, app_of};
+ghost use Rattle.std.specs.Prelude.{◌≡◌, ◌⊎◌, IfOk, IsOk, Some, codes, map, false};
+ghost use Rattle.ddcmp_cli.specs.Words.{IsAsked, IsInRange, named_by};
+ghost use Rattle.ddcmp_cli.specs.Words.{program, explain_app, raw_rule, max_rule};
+ghost use Rattle.clap.specs.Words.{kind_of, app_of, rule_of};
+ghost use Rattle.clap.specs.declared.builder.command.Command.TheViews.{out-Command as fields_of};
 
-use clap::Error;
+use crate::explaining::Form;
 use clap::error::ErrorKind;
+use clap::{Arg, ArgAction, ArgMatches, Error};
 use std::alloc::{AllocError, Global};
 
 /// What the words ask for.
 #[derive(Clone, Copy, Debug, PartialEq, Eq)]
 pub enum Command {
-    /// Explain hexadecimal input.
-    Explain,
+    /// Explain the input in this form, for a reader of at most `max` bytes of data.
+    Explain { form: Form, max: u16 },
 }
+
+/// The most that COUNT can be.
+const MAX: u16 = 16383;
 
 /// Why no command is run.
 #[derive(Debug, Drop)]
@@ -26,16 +31,44 @@ pub enum Declined {
     Memory,
 }
 
+fn raw_arg<'a>(alloc: Global) -> Arg<'a>
+    ensures rule { rule_of result ≡ raw_rule }
+    ensures local { result.global ≡ false }
+{
+    Arg::new(alloc, "raw")
+        .long("raw")
+        .action(ArgAction::SetTrue)
+        .help("Read bytes as they are, not hexadecimal digits")
+}
+
+fn max_arg<'a>(alloc: Global) -> Arg<'a>
+    ensures rule { rule_of result ≡ max_rule }
+    ensures local { result.global ≡ false }
+{
+    Arg::new(alloc, "max")
+        .long("max")
+        .value_name("N")
+        .value_parser(clap::value_parser!(u16).range(1..=16383))
+        .help("The most bytes of data that a frame may have, 1 to 16383; 16383 by default")
+}
+
+fn explain_parser<'a>(alloc: Global) -> Result<clap::Command<'a>, AllocError>
+    ensures app { IfOk result (λ made. app_of made ≡ explain_app) }
+    ensures local { IfOk result (λ made. (fields_of made).has_globals ≡ false) }
+{
+    clap::Command::new(alloc, "explain")
+        .about("Says what the bytes of a line are, read from standard input")
+        .arg(raw_arg(alloc))?
+        .arg(max_arg(alloc))
+}
+
 fn parser<'a>(alloc: Global) -> Result<clap::Command<'a>, AllocError>
     ensures { IfOk result (λ made. app_of made ≡ program) }
 {
-    let explain = clap::Command::new(alloc, "explain").about(
-        "Says what the bytes of a line are; reads hexadecimal digits from standard input",
-    );
     clap::Command::new(alloc, "ddcmp")
         .about("DDCMP, the data link protocol of DECnet")
         .subcommand_required(true)
-        .subcommand(explain)
+        .subcommand(explain_parser(alloc)?)
 }
 
 /// A fault of the words as this crate tells it.
@@ -57,10 +90,28 @@ fn decline(alloc: Global, error: &Error) -> Declined
     }
 }
 
+/// The options of `explain`, as they were given or as they are without.
+fn explain_with(options: &ArgMatches<'_>) -> Command
+    ensures { IsInRange result }
+{
+    let form = if options.get_flag("raw") {
+        Form::Raw
+    } else {
+        Form::Hex
+    };
+    // The parser of the words has tested the range.
+    let max = match options.get_one::<u16>("max") {
+        Some(max) if 0 < max && max <= MAX => max,
+        _ => MAX,
+    };
+    Command::Explain { form, max }
+}
+
 /// Reads the words of a command line, of which the first is the program's name.
 pub fn read_words<'a>(alloc: Global, words: &'a [&'a str]) -> Result<Command, Declined>
     ensures asked { IsAsked (map (λ word. word.now) words.entry.now) (codes "explain")
-        → (result ≡ Ok Command.Explain) ⊎ (result ≡ Err Declined.Memory) }
+        → IsOk result ⊎ (result ≡ Err Declined.Memory) }
+    ensures in_range { IfOk result IsInRange }
     ensures only { IfOk result (λ _. named_by (map (λ word. word.now) words.entry.now) ≡ Some (codes "explain")) }
 {
     let command = match parser(alloc) {
@@ -69,7 +120,7 @@ pub fn read_words<'a>(alloc: Global, words: &'a [&'a str]) -> Result<Command, De
     };
     match command.try_get_matches_from(words) {
         Ok(matches) => match matches.subcommand_matches("explain") {
-            Some(_options) => Ok(Command::Explain),
+            Some(options) => Ok(explain_with(options)),
             None => Err(Declined::Usage(String::new(alloc))),
         },
         Err(error) => Err(decline(alloc, &error)),

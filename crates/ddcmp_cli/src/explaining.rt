@@ -2,12 +2,14 @@
 ghost use Rattle.std.specs.Prelude.{◌≡◌, ◌≢◌, ◌⊎◌, ◌↔◌, ◌+◌, ◌-◌, ◌<◌, ◌≤◌, ◌^◌, ◌++◌, ◌∷◌, [], false, is_err, List, ℕ, length, IsTrue, OnOk, IfErr, Option, Some};
 ghost use Rattle.std.specs.Option.{ForSome};
 ghost use Rattle.ddcmp_frame.specs.Device.{ReadGives, worse};
+ghost use Rattle.ddcmp_cli.specs.declared.explaining.Form.{Form as FormValue};
 ghost use Rattle.ddcmp_cli.specs.Explains.{Explains, GaveMost, GivesWithin};
 
 use crate::digits::{hex_value, is_blank};
 use crate::page::{Page, WriteFailed};
 use crate::text::{put_line, put_totals};
 use ddcmp_frame::{Got, Reader, Sink, Source, Worst};
+use std::alloc::Global;
 use thiserror::Error;
 
 /// How the input spells bytes.
@@ -15,6 +17,8 @@ use thiserror::Error;
 pub enum Form {
     /// Two hexadecimal digits of either case a byte; space, tab, CR and LF are left out.
     Hex,
+    /// The bytes as they are.
+    Raw,
 }
 
 /// Why an input wasn't explained to its end.
@@ -70,13 +74,13 @@ impl Explained {
         match self.frames.push(byte) {
             Some(item) => {
                 self.items += 1;
-                put_line(page, writer, &item)
+                put_line(page, writer, &item, self.frames.data())
             }
             None => Ok(()),
         }
     }
 
-    /// Takes one byte of the input.
+    /// Takes one byte of an input in digits.
     fn take_digit<W: Sink>(
         &mut self,
         page: &mut Page,
@@ -88,8 +92,8 @@ impl Explained {
         ensures seen { self.new.seen ≡ self.old.seen + 1 }
         ensures broken { W.broken writer.new ≡ is_broken result }
         ensures taken { (max : ℕ) (sink : Option (List ℕ)) (seen : List ℕ) → length seen ≡ self.old.seen
-            → Progress max sink seen self.old (W.contents writer.old) page.old
-            → PieceTaken max sink seen (digit ∷ []) self.new (W.contents writer.new) page.new result }
+            → Progress Form.Hex max sink seen self.old (W.contents writer.old) page.old
+            → PieceTaken Form.Hex max sink seen (digit ∷ []) self.new (W.contents writer.new) page.new result }
     {
         let index = self.seen;
         self.seen += 1;
@@ -117,8 +121,25 @@ impl Explained {
         }
     }
 
-    /// Takes a piece of the input.
-    fn take_piece<W: Sink>(
+    /// Takes one byte of an input in bytes.
+    fn take_raw<W: Sink>(&mut self, page: &mut Page, writer: &mut W, byte: u8) -> Result<(), Stop>
+        requires whole { W.broken writer.old ≡ false }
+        requires room { self.old.seen + 1 < 2 ^ 64 }
+        ensures seen { self.new.seen ≡ self.old.seen + 1 }
+        ensures broken { W.broken writer.new ≡ is_broken result }
+        ensures taken { (max : ℕ) (sink : Option (List ℕ)) (seen : List ℕ) → length seen ≡ self.old.seen
+            → Progress Form.Raw max sink seen self.old (W.contents writer.old) page.old
+            → PieceTaken Form.Raw max sink seen (byte ∷ []) self.new (W.contents writer.new) page.new result }
+    {
+        self.seen += 1;
+        match self.take_byte(page, writer, byte) {
+            Ok(()) => Ok(()),
+            Err(_failed) => Err(Stop::Broken),
+        }
+    }
+
+    /// Takes a piece of an input in digits.
+    fn take_digits<W: Sink>(
         &mut self,
         page: &mut Page,
         writer: &mut W,
@@ -129,8 +150,8 @@ impl Explained {
         ensures seen { OnOk result (self.new.seen ≡ self.old.seen + length piece.now) }
         ensures broken { W.broken writer.new ≡ is_broken result }
         ensures taken { (max : ℕ) (sink : Option (List ℕ)) (seen : List ℕ) → length seen ≡ self.old.seen
-            → Progress max sink seen self.old (W.contents writer.old) page.old
-            → PieceTaken max sink seen piece.now self.new (W.contents writer.new) page.new result }
+            → Progress Form.Hex max sink seen self.old (W.contents writer.old) page.old
+            → PieceTaken Form.Hex max sink seen piece.now self.new (W.contents writer.new) page.new result }
     {
         for digit in piece {
             match self.take_digit(page, writer, *digit) {
@@ -141,11 +162,58 @@ impl Explained {
         Ok(())
     }
 
+    /// Takes a piece of an input in bytes.
+    fn take_bytes<W: Sink>(
+        &mut self,
+        page: &mut Page,
+        writer: &mut W,
+        piece: &[u8],
+    ) -> Result<(), Stop>
+        requires whole { W.broken writer.old ≡ false }
+        requires room { self.old.seen + length piece.now < 2 ^ 64 }
+        ensures seen { OnOk result (self.new.seen ≡ self.old.seen + length piece.now) }
+        ensures broken { W.broken writer.new ≡ is_broken result }
+        ensures taken { (max : ℕ) (sink : Option (List ℕ)) (seen : List ℕ) → length seen ≡ self.old.seen
+            → Progress Form.Raw max sink seen self.old (W.contents writer.old) page.old
+            → PieceTaken Form.Raw max sink seen piece.now self.new (W.contents writer.new) page.new result }
+    {
+        for byte in piece {
+            match self.take_raw(page, writer, *byte) {
+                Ok(()) => {}
+                Err(stop) => return Err(stop),
+            }
+        }
+        Ok(())
+    }
+
+    /// Takes a piece of the input.
+    fn take_piece<W: Sink>(
+        &mut self,
+        page: &mut Page,
+        writer: &mut W,
+        form: Form,
+        piece: &[u8],
+    ) -> Result<(), Stop>
+        requires whole { W.broken writer.old ≡ false }
+        requires room { self.old.seen + length piece.now < 2 ^ 64 }
+        ensures seen { OnOk result (self.new.seen ≡ self.old.seen + length piece.now) }
+        ensures broken { W.broken writer.new ≡ is_broken result }
+        ensures taken { (max : ℕ) (sink : Option (List ℕ)) (seen : List ℕ) → length seen ≡ self.old.seen
+            → Progress form max sink seen self.old (W.contents writer.old) page.old
+            → PieceTaken form max sink seen piece.now self.new (W.contents writer.new) page.new result }
+    {
+        match form {
+            Form::Hex => self.take_digits(page, writer, piece),
+            Form::Raw => self.take_bytes(page, writer, piece),
+        }
+    }
+
     /// Takes a piece of the input, and writes all its lines.
     fn take_and_write<W: Sink>(
         &mut self,
         page: &mut Page,
         writer: &mut W,
+        form: Form,
         piece: &[u8],
     ) -> Result<(), Stop>
         requires whole { W.broken writer.old ≡ false }
@@ -155,10 +223,10 @@ impl Explained {
         ensures empty { OnOk result (page.new ≡ []) }
         ensures broken { W.broken writer.new ≡ is_broken result }
         ensures taken { (max : ℕ) (sink : Option (List ℕ)) (seen : List ℕ) → length seen ≡ self.old.seen
-            → Progress max sink seen self.old (W.contents writer.old) []
-            → PieceWritten max sink seen piece.now self.new (W.contents writer.new) result }
+            → Progress form max sink seen self.old (W.contents writer.old) []
+            → PieceWritten form max sink seen piece.now self.new (W.contents writer.new) result }
     {
-        match self.take_piece(page, writer, piece) {
+        match self.take_piece(page, writer, form, piece) {
             Ok(()) => match page.empty(writer) {
                 Ok(()) => Ok(()),
                 Err(_failed) => Err(Stop::Broken),
@@ -177,9 +245,9 @@ impl Explained {
         requires empty { page.old ≡ [] }
         ensures broken { W.broken writer.new ≡ is_write result }
         ensures never_read { result ≢ Err ExplainFault.Read }
-        ensures told { (max : ℕ) (sink : Option (List ℕ)) (seen : List ℕ)
-            → Progress max sink seen self.now (W.contents writer.old) []
-            → EndTold max seen sink (W.contents writer.new) result }
+        ensures told { (form : FormValue) (max : ℕ) (sink : Option (List ℕ)) (seen : List ℕ)
+            → Progress form max sink seen self.now (W.contents writer.old) []
+            → EndTold form max seen sink (W.contents writer.new) result }
     {
         if self.high.is_some() {
             return Err(ExplainFault::Odd);
@@ -217,6 +285,7 @@ const PIECE: usize = 4096;
 
 /// Writes the line of each item of what the input spells, and a last line of totals.
 pub fn explain<R: Source, W: Sink>(
+    alloc: Global,
     reader: &mut R,
     writer: &mut W,
     form: Form,
@@ -229,7 +298,7 @@ pub fn explain<R: Source, W: Sink>(
 
     // Where the input is known: what was written, and when each answer comes.
     ensures told { (input : List ℕ) → R.left reader.old ≡ Some input
-        → Explains max input (R.left reader.new) (W.contents writer.old) (W.contents writer.new) result }
+        → Explains form max input (R.left reader.new) (W.contents writer.old) (W.contents writer.new) result }
 
     // Read exactly where the reader isn't fine, or has given 2^64 - 1 bytes with no write failing.
     ensures read { R.state reader.new ≢ Worst.Fine → result ≡ Err ExplainFault.Read }
@@ -238,10 +307,9 @@ pub fn explain<R: Source, W: Sink>(
         → length input ≡ length rest + (2 ^ 64 - 1) → (result ≡ Err ExplainFault.Read) ⊎ (result ≡ Err ExplainFault.Write) }
     ensures write { (result ≡ Err ExplainFault.Write) ↔ IsTrue (W.broken writer.new) }
 {
-    let Form::Hex = form;
-    let frames = match Reader::new(max) {
+    let frames = match Reader::new(alloc, max) {
         Ok(made) => made,
-        Err(_refusal) => unreachable!(),
+        Err(_refused) => return Err(ExplainFault::Memory),
     };
     let mut state = Explained {
         frames,
@@ -257,7 +325,7 @@ pub fn explain<R: Source, W: Sink>(
             Got::Bytes(0) => return state.finish(&mut page, writer),
             Got::Bytes(n) => {
                 room -= n as u64;
-                match state.take_and_write(&mut page, writer, &buf[..n]) {
+                match state.take_and_write(&mut page, writer, form, &buf[..n]) {
                     Ok(()) => {}
                     Err(Stop::Stranger(index)) => {
                         // A reader that has given the most bytes counts as failed.

@@ -1,6 +1,7 @@
 // Output on its way to a sink, so that several lines share one write.
-ghost use Rattle.std.specs.Prelude.{◌≡◌, ◌+◌, ◌≤◌, ◌<◌, ◌++◌, [], length, decimal, is_err, false, OnOk};
+ghost use Rattle.std.specs.Prelude.{◌≡◌, ◌+◌, ◌*◌, ◌≤◌, ◌<◌, ◌++◌, [], length, decimal, is_err, false, OnOk};
 ghost use Rattle.ddcmp_cli.specs.Written.{Writes, Passes};
+ghost use Rattle.hex.specs.Hex.{encode_lower};
 
 use ddcmp_frame::Sink;
 use itoa::{Buffer, Integer};
@@ -83,6 +84,19 @@ impl Page {
     {
         let mut buffer = Buffer::new();
         self.text(buffer.format(number).as_bytes());
+    }
+
+    /// Appends bytes in hexadecimal digits.
+    pub(crate) fn hex(&mut self, bytes: &[u8])
+        requires { length self.old + 2 * length bytes.now ≤ PAGE }
+        ensures appended { self.new ≡ self.old ++ encode_lower bytes.now }
+    {
+        let end = self.len + 2 * bytes.len();
+        match hex::encode_to_slice(bytes, &mut self.bytes[self.len..end]) {
+            Ok(()) => {}
+            Err(_other_length) => unreachable!(),
+        }
+        self.len = end;
     }
 
     /// Writes all to the sink.

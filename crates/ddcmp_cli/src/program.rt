@@ -72,7 +72,7 @@ pub fn run<R: Source, W: Sink>(
     ensures write { (result ≡ Ending.Fault ExplainFault.Write) ↔ IsTrue (W.broken writer.new) }
 {
     match read_words(alloc, words) {
-        Ok(Command::Explain) => match explain(reader, writer, Form::Hex, 16383) {
+        Ok(Command::Explain { form, max }) => match explain(alloc, reader, writer, form, max) {
             Ok(()) => Ending::Done,
             Err(fault) => Ending::Fault(fault),
         },

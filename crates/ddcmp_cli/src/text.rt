@@ -1,10 +1,11 @@
 // The lines of items, written to a page.
-ghost use Rattle.std.specs.Prelude.{◌≡◌, ◌+◌, ◌≤◌, ◌++◌, [], length, is_err, false, OnOk};
-ghost use Rattle.ddcmp_cli.specs.Text.{kind_text, flags_text, fields_text, header_text, fault_text, line_of, totals};
+ghost use Rattle.std.specs.Prelude.{◌≡◌, ◌+◌, ◌≤◌, ◌++◌, [], length, codes, decimal, is_err, false, OnOk};
+ghost use Rattle.ddcmp_cli.specs.Text.{kind_text, flags_text, fields_text, counted_text, header_text, fault_text, item_text, data_behind, data_text, line_of, totals};
 ghost use Rattle.ddcmp_cli.specs.Written.{Passes};
+ghost use Rattle.hex.specs.Hex.{encode_lower};
 
 use crate::page::{PAGE, Page, WriteFailed};
-use ddcmp_frame::{ControlType, Flags, Header, HeaderFault, Item, Sink};
+use ddcmp_frame::{ControlType, Counted, Flags, Header, HeaderFault, Item, Sink};
 
 /// The most bytes of a line but for its data.
 const LINE: usize = 96;
@@ -49,12 +50,30 @@ fn put_fields(page: &mut Page, flags: Flags, resp: u8, num: u8, addr: u8)
     page.number(addr);
 }
 
+fn put_counted(page: &mut Page, header: &Counted)
+    requires { length page.old + 46 ≤ PAGE }
+    ensures appended { page.new ≡ page.old ++ counted_text header.now }
+    ensures len { length page.new ≤ length page.old + 46 }
+{
+    page.text(b" count=");
+    page.number(header.count);
+    put_fields(page, header.flags, header.resp, header.num, header.addr);
+}
+
 fn put_header(page: &mut Page, header: &Header)
-    requires { length page.old + 47 ≤ PAGE }
+    requires { length page.old + 51 ≤ PAGE }
     ensures appended { page.new ≡ page.old ++ header_text header.now }
-    ensures len { length page.new ≤ length page.old + 47 }
+    ensures len { length page.new ≤ length page.old + 51 }
 {
     match header {
+        Header::Data(h) => {
+            page.text(b"DATA");
+            put_counted(page, h);
+        }
+        Header::Maint(h) => {
+            page.text(b"MAINT");
+            put_counted(page, h);
+        }
         Header::Control(h) => {
             page.text(kind_name(h.kind));
             page.text(b" sub=");
@@ -62,6 +81,16 @@ fn put_header(page: &mut Page, header: &Header)
             put_fields(page, h.flags, h.resp, h.num, h.addr);
         }
     }
+}
+
+/// An offset, what is said there, and the header.
+fn put_labelled(page: &mut Page, offset: u64, label: &[u8], header: &Header)
+    requires { length page.old + length label.now + 71 ≤ PAGE }
+    ensures { page.new ≡ page.old ++ (decimal offset ++ label.now ++ header_text header.now) }
+{
+    page.number(offset);
+    page.text(label);
+    put_header(page, header);
 }
 
 fn put_fault(page: &mut Page, fault: &HeaderFault)
@@ -74,33 +103,30 @@ fn put_fault(page: &mut Page, fault: &HeaderFault)
             page.text(b"type=");
             page.number(*code);
         }
+        HeaderFault::CountZero => page.text(b"count=0"),
         HeaderFault::NotAStart => page.text(b"start"),
         HeaderFault::Check => page.text(b"check"),
     }
 }
 
-/// The line of one item.
-#[tactic(auto, unfolding(crate::specs::Text::line_of))]
+/// What an item is, without the data that it lends.
+#[tactic(auto, unfolding(crate::specs::Text::item_text))]
 fn put_item(page: &mut Page, item: &Item)
     requires { length page.old + LINE ≤ PAGE }
-    ensures { page.new ≡ page.old ++ line_of (item.now, []) }
+    ensures { page.new ≡ page.old ++ item_text item.now }
 {
     match item {
-        Item::Good(offset, header) => {
-            page.number(*offset);
-            page.text(b" ");
-            put_header(page, header);
-            page.text(b"\n");
-        }
+        Item::Good(offset, header) => put_labelled(page, *offset, b" ", header),
         Item::HeaderCheck(offset) => {
             page.number(*offset);
-            page.text(b" header check\n");
+            page.text(b" header check");
         }
+        Item::DataCheck(offset, header) => put_labelled(page, *offset, b" data check ", header),
+        Item::TooLong(offset, header) => put_labelled(page, *offset, b" too long ", header),
         Item::Format(offset, fault) => {
             page.number(*offset);
             page.text(b" format ");
             put_fault(page, fault);
-            page.text(b"\n");
         }
     }
 }
@@ -120,14 +146,92 @@ fn make_room<W: Sink>(page: &mut Page, writer: &mut W, room: usize) -> Result<()
     }
 }
 
-/// The line of one item behind what a page holds.
-pub(crate) fn put_line<W: Sink>(
+/// A short text behind what a page holds.
+fn pass_text<W: Sink>(page: &mut Page, writer: &mut W, text: &[u8]) -> Result<(), WriteFailed>
+    requires whole { W.broken writer.old ≡ false }
+    requires fits { length text.now ≤ PAGE }
+    ensures passes { Passes (W.contents writer.old) page.old (W.contents writer.new) page.new result text.now }
+    ensures broken { W.broken writer.new ≡ is_err result }
+{
+    match make_room(page, writer, text.len()) {
+        Ok(()) => {
+            page.text(text);
+            Ok(())
+        }
+        Err(failed) => Err(failed),
+    }
+}
+
+/// How many bytes of data are written at once.
+const CHUNK: usize = 1024;
+
+/// A part of the data in hexadecimal behind what a page holds.
+fn pass_chunk<W: Sink>(page: &mut Page, writer: &mut W, data: &[u8]) -> Result<(), WriteFailed>
+    requires whole { W.broken writer.old ≡ false }
+    requires fits { length «data».now ≤ CHUNK }
+    ensures passes { Passes (W.contents writer.old) page.old (W.contents writer.new) page.new result (encode_lower «data».now) }
+    ensures broken { W.broken writer.new ≡ is_err result }
+{
+    match make_room(page, writer, 2 * data.len()) {
+        Ok(()) => {
+            page.hex(data);
+            Ok(())
+        }
+        Err(failed) => Err(failed),
+    }
+}
+
+/// All the data in hexadecimal behind what a page holds.
+fn pass_hex<W: Sink>(page: &mut Page, writer: &mut W, data: &[u8]) -> Result<(), WriteFailed>
+    requires { W.broken writer.old ≡ false }
+    ensures passes { Passes (W.contents writer.old) page.old (W.contents writer.new) page.new result (encode_lower «data».now) }
+    ensures broken { W.broken writer.new ≡ is_err result }
+{
+    let mut at = 0;
+    while at < data.len() {
+        let end = at + CHUNK.min(data.len() - at);
+        match pass_chunk(page, writer, &data[at..end]) {
+            Ok(()) => at = end,
+            Err(failed) => return Err(failed),
+        }
+    }
+    Ok(())
+}
+
+/// A space and all the data in hexadecimal behind what a page holds.
+fn pass_lent<W: Sink>(page: &mut Page, writer: &mut W, data: &[u8]) -> Result<(), WriteFailed>
+    requires { W.broken writer.old ≡ false }
+    ensures passes { Passes (W.contents writer.old) page.old (W.contents writer.new) page.new result (codes " " ++ encode_lower «data».now) }
+    ensures broken { W.broken writer.new ≡ is_err result }
+{
+    match pass_text(page, writer, b" ") {
+        Ok(()) => pass_hex(page, writer, data),
+        Err(failed) => Err(failed),
+    }
+}
+
+/// The data of a good frame behind what a page holds; a control frame has none.
+fn pass_data<W: Sink>(
     page: &mut Page,
     writer: &mut W,
-    item: &Item,
+    header: &Header,
+    data: &[u8],
 ) -> Result<(), WriteFailed>
     requires { W.broken writer.old ≡ false }
-    ensures passes { Passes (W.contents writer.old) page.old (W.contents writer.new) page.new result (line_of (item.now, [])) }
+    ensures passes { Passes (W.contents writer.old) page.old (W.contents writer.new) page.new result (data_behind header.now «data».now) }
+    ensures broken { W.broken writer.new ≡ is_err result }
+{
+    match header {
+        Header::Control(_) => pass_text(page, writer, b""),
+        Header::Data(_) => pass_lent(page, writer, data),
+        Header::Maint(_) => pass_lent(page, writer, data),
+    }
+}
+
+/// What an item is, behind what a page holds.
+fn pass_item<W: Sink>(page: &mut Page, writer: &mut W, item: &Item) -> Result<(), WriteFailed>
+    requires { W.broken writer.old ≡ false }
+    ensures passes { Passes (W.contents writer.old) page.old (W.contents writer.new) page.new result (item_text item.now) }
     ensures broken { W.broken writer.new ≡ is_err result }
 {
     match make_room(page, writer, LINE) {
@@ -135,6 +239,46 @@ pub(crate) fn put_line<W: Sink>(
             put_item(page, item);
             Ok(())
         }
+        Err(failed) => Err(failed),
+    }
+}
+
+/// The data that an item lends and the end of its line, behind what a page holds.
+fn pass_end<W: Sink>(
+    page: &mut Page,
+    writer: &mut W,
+    item: &Item,
+    data: &[u8],
+) -> Result<(), WriteFailed>
+    requires { W.broken writer.old ≡ false }
+    ensures passes { Passes (W.contents writer.old) page.old (W.contents writer.new) page.new result (data_text item.now «data».now ++ codes "\n") }
+    ensures broken { W.broken writer.new ≡ is_err result }
+{
+    match item {
+        Item::Good(_, header) => match pass_data(page, writer, header, data) {
+            Ok(()) => pass_text(page, writer, b"\n"),
+            Err(failed) => Err(failed),
+        },
+        Item::HeaderCheck(_) | Item::DataCheck(_, _) | Item::TooLong(_, _) | Item::Format(_, _) => {
+            pass_text(page, writer, b"\n")
+        }
+    }
+}
+
+/// The line of one item behind what a page holds.
+#[tactic(auto, unfolding(crate::specs::Text::line_of))]
+pub(crate) fn put_line<W: Sink>(
+    page: &mut Page,
+    writer: &mut W,
+    item: &Item,
+    data: &[u8],
+) -> Result<(), WriteFailed>
+    requires { W.broken writer.old ≡ false }
+    ensures passes { Passes (W.contents writer.old) page.old (W.contents writer.new) page.new result (line_of (item.now, «data».now)) }
+    ensures broken { W.broken writer.new ≡ is_err result }
+{
+    match pass_item(page, writer, item) {
+        Ok(()) => pass_end(page, writer, item, data),
         Err(failed) => Err(failed),
     }
 }

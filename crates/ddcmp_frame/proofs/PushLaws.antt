@@ -1,250 +1,429 @@
 -- What one more byte does to what a reader holds.
-use Rattle.std.proofs.Common.{◌≡◌, ◌≢◌, ℕ, ◌+◌, ◌-◌, ◌<◌, ◌≤◌, Bool, true, false, List, [], ◌∷◌, ◌++◌, length, take, drop, slice_index, refl, sym, ◌∙◌, ap, subst, arith, Ok, Err, Some, None, ◌⊎◌, inl, inr, length-append, length-drop, length-set, length-take-le}
-use Rattle.std.specs.Prelude.{◌==◌, if◌then◌else◌}
-use Rattle.std.proofs.lemmas.Bool.Decides.{nat_tests}
-use Rattle.std.proofs.lemmas.List.{append-nil, take_all, drop_all, take_more_set}
-use Rattle.std.proofs.Math.ListN.{set}
-use Rattle.std.proofs.lemmas.Bool.{eqb-true}
+use Rattle.std.proofs.Common.{◌≡◌, ℕ, zero, suc, ◌+◌, ◌-◌, ◌<◌, ◌≤◌, Bool, true, false, List, [], ◌∷◌, ◌++◌, length, take, drop, slice_index, refl, sym, ◌∙◌, ap, subst, arith, Ok, Err, Some, None, Option, Result, ◌⊎◌, inl, inr, length-append, length-drop}
+use Rattle.std.specs.Prelude.{nat_lt, if◌then◌else◌}
+use Rattle.std.proofs.lemmas.List.{take-append-le, drop-append-le, append-nil, take_all, drop_all}
 use Rattle.ddcmp_frame.specs.declared.header.Header.{Header}
-use Rattle.ddcmp_frame.specs.declared.header.HeaderFault.TheVariants.{NotAStart, Check, BadType}
-use Rattle.ddcmp_frame.specs.declared.item.Item.TheVariants.{Good, HeaderCheck, Format}
+use Rattle.ddcmp_frame.specs.declared.header.HeaderFault.{HeaderFault}
+use Rattle.ddcmp_frame.specs.declared.header.HeaderFault.TheVariants.{Check}
+use Rattle.ddcmp_frame.specs.declared.item.Item.{Item}
+use Rattle.ddcmp_frame.specs.declared.item.Item.TheVariants.{Good, HeaderCheck, DataCheck, TooLong, Format}
 use Rattle.ddcmp_frame.specs.Spelling.{parsed}
-use Rattle.ddcmp_frame.specs.Reading.{Given, Place, past, by_verdict, row, read, items, ending, more}
-use Rattle.ddcmp_frame.specs.Held.{Held, Stands, place_with, Follows}
+use Rattle.ddcmp_frame.specs.Reading.{Place, past, is_start, count_of, data_of, by_length, by_count, by_verdict, row, read, items, ending, more}
 use Rattle.ddcmp_frame.specs.Resume.{from_start}
-use Rattle.ddcmp_frame.proofs.SpellingLaws.{parsed-not_a_start}
-use Rattle.ddcmp_frame.proofs.ReadingLaws.{read-none, read-some, items-more, ending-more, ending-stuck, ending-offset, ending-nothing, row-empty, row-passes, row-waits, row-full, row-none}
+use Rattle.ddcmp_frame.specs.Held.{Held, Summarises, Stands, Grows, EndsWith, given_by, frame_length, length_by, to_come}
+use Rattle.ddcmp_frame.specs.declared.plain.Step.TheVariants.{Gives}
+use Rattle.ddcmp_frame.specs.Step.{taken, as_row, Found}
+use Rattle.ddcmp_frame.proofs.WireLaws.{frame_length-counted}
+use Rattle.ddcmp_frame.proofs.Tests.{some-inj, ltb-is, ltb-isnt, false-true}
+use Rattle.ddcmp_frame.proofs.ReadingLaws.{read-none, read-some, read-nothing, items-more, ending-more, ending-stuck, ending-offset, ending-suffix, ending-told, ending-nothing, row-passes, row-waits, row-full, Counts, Waits, Stuck, row-stuck}
 
-same_place : (v : Held) (text : List ℕ) (b : ℕ) → Stands v text → more (ending v.max text) (b ∷ []) ≡ place_with v b
-same_place v text b s =
-    let o = ending-offset v.max text in
-    let l = ap length s.bytes in
-    let e : (ending v.max text).offset ≡ v.offset - length v.bytes = omega (arith, s.offset) in
-    λ i. record { offset = e i; lost = (sym s.lost) i; told = s.told i; rest = (sym s.bytes) i ++ b ∷ [] }
+-- the view of a reader's fields
+abbrev pub held : ℕ → ℕ → Bool → Bool → List ℕ → ℕ → ℕ → ℕ → Held
+held max o lost finished buffer skipped left lent = record { max = max; offset = o; lost = lost; bytes = (if finished then [] else buffer); skipped = skipped; left = left; lent = take lent (drop 8 buffer) }
 
-stands_at : (v w : Held) (max : ℕ) (text : List ℕ) → w.max ≡ max → w.offset ≡ length text → (ending max text).lost ≡ w.lost → (ending max text).told ≡ false → (ending max text).rest ≡ w.bytes → Stands w text
-stands_at v w max text m o l t r = record {
-  offset = o;
-  lost = sym l ∙ ap (λ n. (ending n text).lost) (sym m);
-  told = ap (λ n. (ending n text).told) m ∙ t;
-  bytes = sym r ∙ ap (λ n. (ending n text).rest) (sym m);
+-- a reader that holds nothing stands for the empty text
+pub stands_anew : (max : ℕ) (buffer : List ℕ) (lent : ℕ) → lent ≡ 0 → Stands (held max 0 false true buffer 0 0 lent) []
+stands_anew max buffer lent none =
+    subst (λ p. (Stands (held max 0 false true buffer 0 0 lent) [])) none
+    (record {
+      offset = refl;
+      place = subst (Summarises (held max 0 false true buffer 0 0 lent)) (sym (ending-nothing max)) (record { lost = refl; bytes = refl; skipped = refl; left = refl });
+    })
+
+-- ---- a reading that goes on by one byte
+
+-- the place from which the next byte is read
+grown : (v w : Held) (text : List ℕ) (b : ℕ) (given : Option Item) (q : Place) → Stands v text → more (ending v.max text) (b ∷ []) ≡ q → w.max ≡ v.max → w.offset ≡ v.offset + 1 → (read v.max q).items ≡ given_by given w.lent → Summarises w (read v.max q).place → EndsWith given w.lent (text ++ b ∷ []) → Grows v b given w text
+grown v w text b given q s is same_max counted its place wired =
+    let e : (read v.max q).place ≡ ending w.max (text ++ b ∷ []) = ap (λ x. (read v.max x).place) (sym is) ∙ sym (ending-more v.max text (b ∷ [])) ∙ ap (λ m. ending m (text ++ b ∷ [])) (sym same_max) in
+    record {
+      stands = record {
+        offset = omega (arith, length-append text (b ∷ []), s.offset);
+        place = subst (Summarises w) e place;
+      };
+      items = items-more v.max text (b ∷ []) ∙ ap (λ x. items v.max text ++ (read v.max x).items) is ∙ ap (λ x. items v.max text ++ x) its;
+      wire = wired;
+    }
+
+pub when : {A : Type 0} (b : Bool) (x y : A) → b ≡ true → (if b then x else y) ≡ x
+when b x y e = rw e refl
+
+pub unless : {A : Type 0} (b : Bool) (x y : A) → b ≡ false → (if b then x else y) ≡ y
+unless b x y e = rw e refl
+
+-- ---- a too long frame goes on
+
+-- a header that is there stays when the text goes on
+counts-more : (t u : List ℕ) → Counts t → Counts (t ++ u)
+counts-more t u k = record {
+  full = omega (arith, length-append t u, k.full);
+  start = ap is_start (first t k.full) ∙ k.start;
+  header = k.header;
+  count = k.count;
+  is = ap parsed (take-append-le 8 t u k.full) ∙ k.is;
+  counted = k.counted;
 }
+  where
+    first : (t : List ℕ) → 8 ≤ length t → slice_index (t ++ u) 0 ≡ slice_index t 0
+    first [] l = absurd (omega arith)
+    first (b ∷ t) l = refl
 
-pub follows-stands : (v w : Held) (text : List ℕ) (b : ℕ) (given : List Given) → Stands v text → Follows v b given w → Stands w (text ++ b ∷ [])
-follows-stands v w text b given s f =
-    let p = same_place v text b s in
-    stands_at v w v.max (text ++ b ∷ []) f.max (omega (arith, length-append text (b ∷ []), s.offset, f.offset))
-    (ap (λ x. x.lost) (ending-more v.max text (b ∷ [])) ∙ ap (λ x. (read v.max x).place.lost) p ∙ f.lost)
-    (ap (λ x. x.told) (ending-more v.max text (b ∷ [])) ∙ ap (λ x. (read v.max x).place.told) p ∙ f.told)
-    (ap (λ x. x.rest) (ending-more v.max text (b ∷ [])) ∙ ap (λ x. (read v.max x).place.rest) p ∙ f.bytes)
+row-counts : (max : ℕ) (q : Place) (k : Counts q.rest) → row max q ≡ by_length q k.header k.count (nat_lt max k.count) q.told
+row-counts max q k =
+    row-full max q k.start k.full ∙ ap (by_verdict max q) k.is ∙ ap (by_count max q k.header) k.counted
 
-pub follows-items : (v w : Held) (text : List ℕ) (b : ℕ) (given : List Given) → Stands v text → Follows v b given w → items v.max (text ++ b ∷ []) ≡ items v.max text ++ given
-follows-items v w text b given s f =
-    let p = same_place v text b s in
-    items-more v.max text (b ∷ []) ∙ ap (λ x. items v.max text ++ (read v.max x).items) p ∙ ap (λ x. items v.max text ++ x) f.items
+row-told : (max : ℕ) (q : Place) (k : Counts q.rest) → max < k.count → q.told ≡ true → row max q ≡ (if nat_lt (length q.rest) (k.count + 10) then None else Some ([], past (k.count + 10) false q))
+row-told max q k above told =
+    row-counts max q k
+    ∙ ap (λ x. by_length q k.header k.count x q.told) (ltb-is max k.count above)
+    ∙ ap (λ x. by_length q k.header k.count true x) told
 
-eqb-false : (a b : ℕ) → (a == b) ≡ false → a ≢ b
-eqb-false a b h = grind (arith, nat_tests)
+length_by-counts : (t : List ℕ) (k : Counts t) → length_by (parsed (take 8 t)) ≡ k.count + 10
+length_by-counts t k = ap length_by k.is ∙ frame_length-counted k.header k.count k.counted
 
--- ---- what reading does with the held bytes and one more
+-- a reader to which bytes of a too long frame are still to come
+record Passing (v : Held) (text : List ℕ) : Type 0 where
+  counts : Counts (ending v.max text).rest
+  above : v.max < counts.count
+  told : (ending v.max text).told ≡ true
+  left : v.left + length (ending v.max text).rest ≡ counts.count + 10
+  skipped : v.skipped ≡ length (ending v.max text).rest
+  bytes : v.bytes ≡ []
 
--- a reader that stands for a text holds nothing, or less than a header from a start byte on
-pub held-front : (v : Held) (text : List ℕ) → Stands v text → (v.bytes ≡ []) ⊎ ((slice_index v.bytes 0 ≡ 5) × (0 < length v.bytes) × (length v.bytes < 8))
-held-front v text s =
-    elim (row-none v.max (ending v.max text) (ending-stuck v.max text)) [
-      | inl none ↦ inl (s.bytes ∙ none)
-      | inr some ↦ inr (ap (λ x. slice_index x 0) s.bytes ∙ some.0, omega (arith, ap length s.bytes), omega (arith, ap length s.bytes))
+is_true : (b : Bool) → (b ≡ false → ⊥) → b ≡ true
+is_true true h = refl
+is_true false h = absurd (h refl)
+
+passing : (v : Held) (text : List ℕ) → Stands v text → 0 < v.left → Passing v text
+passing v text s some =
+    let p = ending v.max text in
+    let l = s.place.left in
+    let told : p.told ≡ true = is_true p.told (λ f. absurd (omega (arith, l, unless p.told (to_come p.rest) 0 f))) in
+    let long = ending-told v.max text told in
+    let k = long.counts in
+    record {
+      counts = k;
+      above = long.above;
+      told = told;
+      left = omega (arith, l, when p.told (to_come p.rest) 0 told, length_by-counts p.rest k);
+      skipped = s.place.skipped ∙ when p.told (length p.rest) 0 told;
+      bytes = s.place.bytes ∙ when p.told [] p.rest told;
+    }
+
+-- one byte more, and not the last
+pub exit_passes : (max o : ℕ) (lost finished : Bool) (buffer : List ℕ) (skipped left lent b : ℕ) (text : List ℕ) → 1 < left → Stands (held max o lost finished buffer skipped left lent) text → Grows (held max o lost finished buffer skipped left lent) b None (held max (o + 1) lost finished buffer (skipped + 1) (left - 1) 0) text
+unfolding counts-more passing
+exit_passes max o lost finished buffer skipped left lent b text two s =
+    let v = held max o lost finished buffer skipped left lent in
+    let k = passing v text s (omega arith) in
+    let p = ending max text in
+    let q = more p (b ∷ []) in
+    let kq = counts-more p.rest (b ∷ []) k.counts in
+    let longer = length-append p.rest (b ∷ []) in
+    let kl = k.left in
+    let none : row max q ≡ None = row-told max q kq k.above k.told ∙ when (nat_lt (length q.rest) (k.counts.count + 10)) _ _ (ltb-is _ _ (omega arith)) in
+    let e = read-none max q none in
+    grown v (held max (o + 1) lost finished buffer (skipped + 1) (left - 1) 0) text b None q s refl refl refl (ap (λ x. x.items) e) (subst (Summarises (held max (o + 1) lost finished buffer (skipped + 1) (left - 1) 0)) (sym (ap (λ x. x.place) e)) (record {
+      lost = s.place.lost;
+      bytes = k.bytes ∙ sym (when q.told [] q.rest k.told);
+      skipped = omega (arith, k.skipped, when q.told (length q.rest) 0 k.told);
+      left = omega (arith, length_by-counts q.rest kq, when q.told (to_come q.rest) 0 k.told);
+    })) tt
+
+-- the last one
+pub exit_passed : (max o : ℕ) (lost finished : Bool) (buffer : List ℕ) (skipped left lent b : ℕ) (text : List ℕ) → left ≡ 1 → Stands (held max o lost finished buffer skipped left lent) text → Grows (held max o lost finished buffer skipped left lent) b None (held max (o + 1) false finished buffer 0 0 0) text
+unfolding counts-more passing
+exit_passed max o lost finished buffer skipped left lent b text one s =
+    let v = held max o lost finished buffer skipped left lent in
+    let k = passing v text s (omega arith) in
+    let p = ending max text in
+    let q = more p (b ∷ []) in
+    let kq = counts-more p.rest (b ∷ []) k.counts in
+    let longer = length-append p.rest (b ∷ []) in
+    let kl = k.left in
+    let all : row max q ≡ Some ([], past (k.counts.count + 10) false q) = row-told max q kq k.above k.told ∙ unless (nat_lt (length q.rest) (k.counts.count + 10)) _ _ (ltb-isnt _ _ (omega arith)) in
+    let z : drop (k.counts.count + 10) q.rest ≡ [] = drop_all (k.counts.count + 10) q.rest (omega arith) in
+    let e = read-some max q _ all in
+    let n = read-nothing max (past (k.counts.count + 10) false q) z in
+    grown v (held max (o + 1) false finished buffer 0 0 0) text b None q s refl refl refl (ap (λ x. x.items) e ∙ ap (λ x. x.items) n) (subst (Summarises (held max (o + 1) false finished buffer 0 0 0)) (sym (ap (λ x. x.place) e ∙ ap (λ x. x.place) n)) (record {
+      lost = refl;
+      bytes = k.bytes ∙ sym z;
+      skipped = refl;
+      left = refl;
+    })) tt
+
+-- ---- the bytes held and one more
+
+-- a reader to which no bytes of a too long frame are to come
+record Holding (v : Held) (text : List ℕ) (p : Place) : Type 0 where
+  place : ending v.max text ≡ p
+  stuck : Stuck v.max p
+  skipped : v.skipped ≡ 0
+
+abbrev place_of : Held → Place
+place_of v = record { offset = v.offset - length v.bytes; lost = v.lost; told = false; rest = v.bytes }
+
+same_count : (t : List ℕ) (x y : Counts t) → x.count ≡ y.count
+same_count t x y = let a = length_by-counts t x in let b = length_by-counts t y in omega arith
+
+holding : (v : Held) (text : List ℕ) → Stands v text → v.left ≡ 0 → Holding v text (place_of v)
+holding v text s none =
+    let p = ending v.max text in
+    let told : p.told ≡ false = not_told p.told refl in
+    let bytes : v.bytes ≡ p.rest = s.place.bytes ∙ unless p.told [] p.rest told in
+    let o = ending-offset v.max text in
+    let so = s.offset in
+    let l = ap length bytes in
+    let at : p.offset ≡ v.offset - length v.bytes = omega arith in
+    let lost = s.place.lost in
+    let is : p ≡ place_of v = λ i. record { offset = at i; lost = (sym lost) i; told = told i; rest = (sym bytes) i } in
+    record {
+      place = is;
+      stuck = subst (Stuck v.max) is (row-stuck v.max p (ending-stuck v.max text));
+      skipped = s.place.skipped ∙ unless p.told (length p.rest) 0 told;
+    }
+  where
+    not_told : (x : Bool) → (ending v.max text).told ≡ x → (ending v.max text).told ≡ false
+    not_told false e = e
+    not_told true e =
+        let p = ending v.max text in
+        let k = (ending-told v.max text e).counts in
+        let stuck = row-stuck v.max p (ending-stuck v.max text) in
+        elim stuck [
+          | inl nothing ↦ absurd (omega (arith, k.full, ap length nothing))
+          | inr some ↦ elim some [
+            | inl few ↦ absurd (omega (arith, k.full))
+            | inr waits ↦
+                let w = waits.1 in
+                let same : k.count ≡ waits.0.count = same_count p.rest k waits.0 in
+                absurd (omega (arith, s.place.left, when p.told (to_come p.rest) 0 e, length_by-counts p.rest k, w.short))
+          ]
+        ]
+
+-- the byte was put behind the bytes held
+pub record Stored (v : Held) (b : ℕ) (text u : List ℕ) (at : ℕ) : Type 0 where
+  pub stands : Stands v text
+  pub none : v.left ≡ 0
+  pub bytes : u ≡ v.bytes ++ b ∷ []
+  pub at_front : at ≡ v.offset + 1 - length u
+
+abbrev pub next_place : ℕ → Bool → List ℕ → Place
+next_place at lost u = record { offset = at; lost = lost; told = false; rest = u }
+
+next-is : (v : Held) (b : ℕ) (text u : List ℕ) (at : ℕ) → Stored v b text u at → more (ending v.max text) (b ∷ []) ≡ next_place at v.lost u
+next-is v b text u at s =
+    let h = holding v text s.stands s.none in
+    let l = length-append v.bytes (b ∷ []) in
+    let lu = ap length s.bytes in
+    let e : v.offset - length v.bytes ≡ at = omega (arith, s.at_front) in
+    ap (λ p. more p (b ∷ [])) h.place ∙ (λ i. record { offset = e i; lost = v.lost; told = false; rest = (sym s.bytes) i })
+
+pub exit_unfinished : (max o : ℕ) (lost finished : Bool) (buffer : List ℕ) (skipped left lent b : ℕ) (text u : List ℕ) (at : ℕ) → Stored (held max o lost finished buffer skipped left lent) b text u at → row max (next_place at lost u) ≡ None → Grows (held max o lost finished buffer skipped left lent) b None (held max (o + 1) lost false u skipped left 0) text
+exit_unfinished max o lost finished buffer skipped left lent b text u at s none =
+    let v = held max o lost finished buffer skipped left lent in
+    let w = held max (o + 1) lost false u skipped left 0 in
+    let h = holding v text s.stands s.none in
+    let e = read-none max (next_place at lost u) none in
+    grown v w text b None (next_place at lost u) s.stands (next-is v b text u at s) refl refl (ap (λ x. x.items) e) (subst (Summarises w) (sym (ap (λ x. x.place) e)) (record {
+      lost = refl;
+      bytes = refl;
+      skipped = h.skipped;
+      left = s.none;
+    })) tt
+
+pub first-of : (t : List ℕ) (b : ℕ) → 0 < length t → slice_index (t ++ b ∷ []) 0 ≡ slice_index t 0
+first-of [] b l = absurd (omega arith)
+first-of (x ∷ t) b l = refl
+
+-- what is held begins with a start byte
+held-start : (v : Held) → Stuck v.max (place_of v) → 0 < length v.bytes → is_start (slice_index v.bytes 0) ≡ true
+held-start v stuck some =
+    elim stuck [
+      | inl nothing ↦ absurd (omega (arith, ap length nothing))
+      | inr more ↦ elim more [ inl few ↦ few.0 | inr waits ↦ let k = waits.0 in k.start ]
     ]
 
-pub waits : (v : Held) (b : ℕ) → slice_index (v.bytes ++ b ∷ []) 0 ≡ 5 → length v.bytes < 7 → Follows v b [] (record { max = v.max; offset = v.offset + 1; lost = v.lost; bytes = v.bytes ++ b ∷ [] })
-waits v b start short =
-    let e = read-none v.max (place_with v b) (row-waits v.max (place_with v b) start (omega (arith, length-append v.bytes (b ∷ [])))) in
-    record { max = refl; offset = refl; items = ap (λ o. o.items) e; lost = ap (λ o. o.place.lost) e; told = ap (λ o. o.place.told) e; bytes = ap (λ o. o.place.rest) e }
-
-pub passes : (v : Held) (b : ℕ) → v.bytes ≡ [] → b ≢ 5 → Follows v b [] (record { max = v.max; offset = v.offset + 1; lost = v.lost; bytes = [] })
-passes v b none other =
-    let p = place_with v b in
-    let front : p.rest ≡ b ∷ [] = ap (λ x. x ++ b ∷ []) none in
-    let after_it : (past 1 p.lost p).rest ≡ [] = ap (drop 1) front in
-    let e = read-some v.max p ([], past 1 p.lost p) (row-passes v.max p b [] front other) in
-    let n = read-none v.max (past 1 p.lost p) (row-empty v.max (past 1 p.lost p) after_it) in
-    record {
-      max = refl;
-      offset = refl;
-      items = ap (λ o. o.items) e ∙ ap (λ o. o.items) n;
-      lost = ap (λ o. o.place.lost) e ∙ ap (λ o. o.place.lost) n;
-      told = ap (λ o. o.place.told) e ∙ ap (λ o. o.place.told) n;
-      bytes = ap (λ o. o.place.rest) e ∙ ap (λ o. o.place.rest) n ∙ after_it;
-    }
-
-start_stays : (v : Held) (b : ℕ) → length v.bytes ≡ 7 → slice_index v.bytes 0 ≡ 5 → slice_index (v.bytes ++ b ∷ []) 0 ≡ 5
-start_stays v b len start = first v.bytes len start
+pub exit_skips : (max o : ℕ) (lost finished : Bool) (buffer : List ℕ) (skipped left lent b : ℕ) (text u : List ℕ) (at : ℕ) → Stored (held max o lost finished buffer skipped left lent) b text u at → is_start (slice_index u 0) ≡ false → row max (next_place at lost u) ≡ Some ([], past 1 lost (next_place at lost u)) → Grows (held max o lost finished buffer skipped left lent) b None (held max (o + 1) lost true u skipped left 0) text
+exit_skips max o lost finished buffer skipped left lent b text u at s other skips =
+    let v = held max o lost finished buffer skipped left lent in
+    let w = held max (o + 1) lost true u skipped left 0 in
+    let h = holding v text s.stands s.none in
+    let q = next_place at lost u in
+    let alone : length v.bytes ≡ 0 = none_held v h.stuck other s.bytes in
+    let lu = ap length s.bytes in
+    let z : drop 1 u ≡ [] = drop_all 1 u (omega (arith, length-append v.bytes (b ∷ []))) in
+    let e = read-some max q _ skips in
+    let n = read-nothing max (past 1 lost q) z in
+    grown v w text b None q s.stands (next-is v b text u at s) refl refl (ap (λ x. x.items) e ∙ ap (λ x. x.items) n) (subst (Summarises w) (sym (ap (λ x. x.place) e ∙ ap (λ x. x.place) n)) (record {
+      lost = refl;
+      bytes = sym z;
+      skipped = h.skipped;
+      left = s.none;
+    })) tt
   where
-    first : (t : List ℕ) → length t ≡ 7 → slice_index t 0 ≡ 5 → slice_index (t ++ b ∷ []) 0 ≡ 5
-    first [] l s = absurd (omega arith)
-    first (x ∷ t) l s = s
+    none_held : (v : Held) → Stuck v.max (place_of v) → is_start (slice_index u 0) ≡ false → u ≡ v.bytes ++ b ∷ [] → length v.bytes ≡ 0
+    none_held v stuck other is = by_length (length v.bytes) refl
+      where
+        by_length : (n : ℕ) → length v.bytes ≡ n → length v.bytes ≡ 0
+        by_length zero e = e
+        by_length (suc n) e =
+            let some : 0 < length v.bytes = omega arith in
+            absurd (false-true (sym other ∙ ap (λ x. is_start (slice_index x 0)) is ∙ ap is_start (first-of v.bytes b some) ∙ held-start v stuck some))
 
-whole : (v : Held) (b : ℕ) (given : List Given) → length v.bytes ≡ 7 → slice_index v.bytes 0 ≡ 5 → by_verdict v.max (place_with v b) (parsed (v.bytes ++ b ∷ [])) ≡ Some (given, past 8 false (place_with v b)) → Follows v b given (record { max = v.max; offset = v.offset + 1; lost = false; bytes = [] })
-whole v b given len start e =
-    let p = place_with v b in
-    let l : length p.rest ≡ 8 = omega (arith, length-append v.bytes (b ∷ [])) in
-    let front : row v.max p ≡ Some (given, past 8 false p) =
-    row-full v.max p (start_stays v b len start) (omega arith)
-    ∙ ap (λ x. by_verdict v.max p (parsed x)) (take_all 8 p.rest (omega arith))
-    ∙ e in
-    let none : drop 8 p.rest ≡ [] = drop_all 8 p.rest (omega arith) in
-    let s = read-some v.max p _ front in
-    let n = read-none v.max (past 8 false p) (row-empty v.max (past 8 false p) none) in
-    record {
-      max = refl;
-      offset = refl;
-      items = ap (λ o. o.items) s ∙ ap (λ o. given ++ o.items) n ∙ append-nil given;
-      lost = ap (λ o. o.place.lost) s ∙ ap (λ o. o.place.lost) n;
-      told = ap (λ o. o.place.told) s ∙ ap (λ o. o.place.told) n;
-      bytes = ap (λ o. o.place.rest) s ∙ ap (λ o. o.place.rest) n ∙ none;
-    }
+-- Eight bytes that are the first candidate to be read: it begins with the start byte held.
+record First (v : Held) (u : List ℕ) : Type 0 where
+  start : is_start (slice_index u 0) ≡ true
+  eight : length u ≡ 8
 
--- behind a failed candidate there is no room for a whole one: reading passes on to the next start byte
-abbrev at : ℕ → Bool → List ℕ → Place
-at o lost t = record { offset = o; lost = lost; told = false; rest = t }
-
-record Skips (max o : ℕ) (kept : Bool) (t u : List ℕ) : Type 0 where
-  items : (read max (at o kept t)).items ≡ []
-  lost : (read max (at o kept t)).place.lost ≡ kept
-  told : (read max (at o kept t)).place.told ≡ false
-  rest : (read max (at o kept t)).place.rest ≡ u
-
-skips-none : (max o : ℕ) (lost : Bool) (t : List ℕ) → row max (at o lost t) ≡ None → Skips max o lost t t
-skips-none max o lost t e =
-    let n = read-none max (at o lost t) e in
-    record { items = ap (λ r. r.items) n; lost = ap (λ r. r.place.lost) n; told = ap (λ r. r.place.told) n; rest = ap (λ r. r.place.rest) n }
-
-skips-at : (max o : ℕ) (lost : Bool) (b : ℕ) (t : List ℕ) (x : Bool) → (b == 5) ≡ x → length (b ∷ t) < 8 → Skips max (o + 1) lost t (from_start t) → Skips max o lost (b ∷ t) (if x then b ∷ t else from_start t)
-skips-at max o lost b t true e l ih = skips-none max o lost (b ∷ t) (row-waits max _ (eqb-true b 5 e) l)
-skips-at max o lost b t false e l ih =
-    let s = read-some max (at o lost (b ∷ t)) ([], at (o + 1) lost t) (row-passes max _ b t refl (eqb-false b 5 e)) in
-    record { items = ap (λ r. r.items) s ∙ ih.items; lost = ap (λ r. r.place.lost) s ∙ ih.lost; told = ap (λ r. r.place.told) s ∙ ih.told; rest = ap (λ r. r.place.rest) s ∙ ih.rest }
-
-skips : (max o : ℕ) (lost : Bool) (t : List ℕ) → length t < 8 → Skips max o lost t (from_start t)
-skips max o lost [] l = skips-none max o lost [] (row-empty max _ refl)
-skips max o lost (b ∷ t) l =
-    let e : (b == 5) ≡ (b == 5) = refl in
-    skips-at max o lost b t (b == 5) e l (skips max (o + 1) lost t (omega arith))
-
-pub full_good : (v : Held) (b : ℕ) (h : Header) → length v.bytes ≡ 7 → slice_index v.bytes 0 ≡ 5 → parsed (v.bytes ++ b ∷ []) ≡ Ok h → Follows v b ((Good (v.offset - 7) h, []) ∷ []) (record { max = v.max; offset = v.offset + 1; lost = false; bytes = [] })
-full_good v b h len start e = whole v b _ len start (ap (by_verdict v.max (place_with v b)) e ∙ ap (λ o. Some ((Good o h, []) ∷ [], past 8 false (place_with v b))) (ap (λ n. v.offset - n) len))
-
-pub full_format : (v : Held) (b : ℕ) (c : ℕ) → length v.bytes ≡ 7 → slice_index v.bytes 0 ≡ 5 → parsed (v.bytes ++ b ∷ []) ≡ Err (BadType c) → Follows v b ((Format (v.offset - 7) (BadType c), []) ∷ []) (record { max = v.max; offset = v.offset + 1; lost = false; bytes = [] })
-full_format v b c len start e = whole v b _ len start (ap (by_verdict v.max (place_with v b)) e ∙ ap (λ o. Some ((Format o (BadType c), []) ∷ [], past 8 false (place_with v b))) (ap (λ n. v.offset - n) len))
-
-pub full_check : (v : Held) (b : ℕ) → length v.bytes ≡ 7 → slice_index v.bytes 0 ≡ 5 → parsed (v.bytes ++ b ∷ []) ≡ Err Check → Follows v b (if v.lost then [] else (HeaderCheck (v.offset - 7), []) ∷ []) (record { max = v.max; offset = v.offset + 1; lost = true; bytes = from_start (drop 1 (v.bytes ++ b ∷ [])) })
-full_check v b len start e =
-    let p = place_with v b in
-    let l : length p.rest ≡ 8 = omega (arith, length-append v.bytes (b ∷ [])) in
-    let front : row v.max p ≡ Some ((if v.lost then [] else (HeaderCheck (v.offset - 7), []) ∷ []), past 1 true p) =
-    row-full v.max p (start_stays v b len start) (omega arith)
-    ∙ ap (λ x. by_verdict v.max p (parsed x)) (take_all 8 p.rest (omega arith))
-    ∙ ap (by_verdict v.max p) e
-    ∙ ap (λ o. Some ((if v.lost then [] else (HeaderCheck o, []) ∷ []), past 1 true p)) (ap (λ n. v.offset - n) len) in
-    let s = read-some v.max p _ front in
-    let t = skips v.max (p.offset + 1) true (drop 1 p.rest) (omega (arith, length-drop 1 p.rest)) in
-    record {
-      max = refl;
-      offset = refl;
-      items = ap (λ o. o.items) s ∙ ap (λ x. (if v.lost then [] else (HeaderCheck (v.offset - 7), []) ∷ []) ++ x) t.items ∙ append-nil _;
-      lost = ap (λ o. o.place.lost) s ∙ t.lost;
-      told = ap (λ o. o.place.told) s ∙ t.told;
-      bytes = ap (λ o. o.place.rest) s ∙ t.rest;
-    }
-
--- ---- the same over the fields of a reader
-
-abbrev pub held : ℕ → ℕ → Bool → List ℕ → ℕ → Held
-held max o lost bytes len = record { max = max; offset = o; lost = lost; bytes = take len bytes }
-
-pub exit_passes : (max o : ℕ) (lost : Bool) (bytes : List ℕ) (len b : ℕ) → len ≡ 0 → b ≢ 5 → Follows (held max o lost bytes len) b [] (held max (o + 1) lost bytes len)
-exit_passes max o lost bytes len b z other =
-    let none : take len bytes ≡ [] = ap (λ n. take n bytes) z in
-    let f = passes (held max o lost bytes len) b none other in
-    record { max = refl; offset = refl; items = f.items; lost = f.lost; told = f.told; bytes = f.bytes ∙ sym none }
-
-first_of : (t : List ℕ) (b : ℕ) → 0 < length t → slice_index (t ++ b ∷ []) 0 ≡ slice_index t 0
-first_of [] b l = absurd (omega arith)
-first_of (x ∷ t) b l = refl
-
-exit_start : (v : Held) (text : List ℕ) (b : ℕ) → Stands v text → ((length v.bytes ≡ 0) × (b ≡ 5)) ⊎ (length v.bytes ≡ 0 → ⊥) → slice_index (v.bytes ++ b ∷ []) 0 ≡ 5
-exit_start v text b s either =
-    elim (held-front v text s) [
-      | inr some ↦ first_of v.bytes b some.1 ∙ some.0
-      | inl none ↦ elim either [
-        | inl here ↦ ap (λ t. slice_index (t ++ b ∷ []) 0) none ∙ here.1
-        | inr filled_some ↦ absurd (filled_some (ap length none))
+candidate : (v : Held) (b : ℕ) (u : List ℕ) → u ≡ v.bytes ++ b ∷ [] → Stuck v.max (place_of v) → 8 ≤ length u → ((k : Counts v.bytes) → Waits v.max (place_of v) k → parsed (take 8 u) ≡ Ok k.header → ⊥) → First v u
+candidate v b u is stuck full other =
+    let lu = ap length is in
+    let la = length-append v.bytes (b ∷ []) in
+    elim stuck [
+      | inl nothing ↦ absurd (omega (arith, ap length nothing))
+      | inr some ↦ elim some [
+        | inl few ↦
+            let small = few.2 in
+            record {
+              start = ap (λ x. is_start (slice_index x 0)) is ∙ ap is_start (first-of v.bytes b few.1) ∙ few.0;
+              eight = omega arith;
+            }
+        | inr waits ↦
+            let k = waits.0 in
+            absurd (other k waits.1 (ap (λ x. parsed (take 8 x)) is ∙ ap parsed (take-append-le 8 v.bytes (b ∷ []) k.full) ∙ k.is))
       ]
     ]
 
-pub exit_waits : (max o : ℕ) (lost : Bool) (bytes : List ℕ) (len b : ℕ) (text : List ℕ) → length bytes ≡ 8 → ((len ≡ 0) × (b ≡ 5)) ⊎ (len ≡ 0 → ⊥) → len + 1 < 8 → Stands (held max o lost bytes len) text → Follows (held max o lost bytes len) b [] (held max (o + 1) lost (set bytes len b) (len + 1))
-exit_waits max o lost bytes len b text full either short s =
-    let v = held max o lost bytes len in
-    let l : length (take len bytes) ≡ len = length-take-le len bytes (omega arith) in
-    let start = exit_start v text b s (subst (λ n. ((n ≡ 0) × (b ≡ 5)) ⊎ (n ≡ 0 → ⊥)) (sym l) either) in
-    let f = waits v b start (omega arith) in
-    record { max = refl; offset = refl; items = f.items; lost = f.lost; told = f.told; bytes = f.bytes ∙ sym (take_more_set bytes len b (omega arith)) }
+ok-inj : {g h : Header} → ◌≡◌ {A = Result Header HeaderFault} (Ok g) (Ok h) → g ≡ h
+ok-inj e = cc
 
--- the eight bytes of a candidate
-record Filled (bytes : List ℕ) (len b : ℕ) : Type 0 where
-  seven : length (take len bytes) ≡ 7
-  eight : take len bytes ++ b ∷ [] ≡ set bytes len b
+ok-err : {h : Header} {f : HeaderFault} → ◌≡◌ {A = Result Header HeaderFault} (Ok h) (Err f) → ⊥
+ok-err e = cc
 
-filled : (bytes : List ℕ) (len b : ℕ) → length bytes ≡ 8 → len < 8 → 8 ≤ len + 1 → Filled bytes len b
-filled bytes len b full small large =
-    let l : length (take len bytes) ≡ len = length-take-le len bytes (omega arith) in
-    record {
-      seven = omega arith;
-      eight = sym (take_more_set bytes len b (omega arith)) ∙ take_all (len + 1) (set bytes len b) (omega (arith, length-set bytes len b));
-    }
+-- behind a failed candidate there is no room for a whole one: reading passes on to the next start byte
+record Passed (max o : ℕ) (before : Bool) (t u : List ℕ) : Type 0 where
+  items : (read max (next_place o before t)).items ≡ []
+  lost : (read max (next_place o before t)).place.lost ≡ before
+  told : (read max (next_place o before t)).place.told ≡ false
+  rest : (read max (next_place o before t)).place.rest ≡ u
 
-seven_start : (v : Held) (text : List ℕ) → Stands v text → length v.bytes ≡ 7 → slice_index v.bytes 0 ≡ 5
-seven_start v text s l =
-    elim (held-front v text s) [
-      | inl none ↦ absurd (omega (arith, ap length none))
-      | inr some ↦ some.0
-    ]
+passed-at : (max o : ℕ) (lost : Bool) (b : ℕ) (t : List ℕ) (x : Bool) → is_start b ≡ x → length (b ∷ t) < 8 → Passed max (o + 1) lost t (from_start t) → Passed max o lost (b ∷ t) (if x then b ∷ t else from_start t)
+passed-at max o lost b t true e l ih =
+    let n = read-none max (next_place o lost (b ∷ t)) (row-waits max _ e l) in
+    record { items = ap (λ r. r.items) n; lost = ap (λ r. r.place.lost) n; told = ap (λ r. r.place.told) n; rest = ap (λ r. r.place.rest) n }
+passed-at max o lost b t false e l ih =
+    let s = read-some max (next_place o lost (b ∷ t)) ([], next_place (o + 1) lost t) (row-passes max _ b t refl e) in
+    record { items = ap (λ r. r.items) s ∙ ih.items; lost = ap (λ r. r.place.lost) s ∙ ih.lost; told = ap (λ r. r.place.told) s ∙ ih.told; rest = ap (λ r. r.place.rest) s ∙ ih.rest }
 
-pub exit_good : (max o : ℕ) (lost : Bool) (bytes : List ℕ) (len b : ℕ) (text : List ℕ) (h : Header) → length bytes ≡ 8 → len < 8 → 8 ≤ len + 1 → parsed (set bytes len b) ≡ Ok h → Stands (held max o lost bytes len) text → Follows (held max o lost bytes len) b ((Good (o + 1 - 8) h, []) ∷ []) (held max (o + 1) false (set bytes len b) 0)
-exit_good max o lost bytes len b text h full small large e s =
-    let v = held max o lost bytes len in
-    let k = filled bytes len b full small large in
-    let f = full_good v b h k.seven (seven_start v text s k.seven) (ap parsed k.eight ∙ e) in
-    record { max = refl; offset = refl; items = f.items ∙ ap (λ n. (Good n h, []) ∷ []) (omega arith); lost = f.lost; told = f.told; bytes = f.bytes }
+passed : (max o : ℕ) (lost : Bool) (t : List ℕ) → length t < 8 → Passed max o lost t (from_start t)
+passed max o lost [] l =
+    let n = read-nothing max (next_place o lost []) refl in
+    record { items = ap (λ r. r.items) n; lost = ap (λ r. r.place.lost) n; told = ap (λ r. r.place.told) n; rest = ap (λ r. r.place.rest) n }
+passed max o lost (b ∷ t) l =
+    passed-at max o lost b t (is_start b) refl l (passed max (o + 1) lost t (omega arith))
 
-pub exit_format : (max o : ℕ) (lost : Bool) (bytes : List ℕ) (len b : ℕ) (text : List ℕ) (c : ℕ) → length bytes ≡ 8 → len < 8 → 8 ≤ len + 1 → parsed (set bytes len b) ≡ Err (BadType c) → Stands (held max o lost bytes len) text → Follows (held max o lost bytes len) b ((Format (o + 1 - 8) (BadType c), []) ∷ []) (held max (o + 1) false (set bytes len b) 0)
-exit_format max o lost bytes len b text c full small large e s =
-    let v = held max o lost bytes len in
-    let k = filled bytes len b full small large in
-    let f = full_format v b c k.seven (seven_start v text s k.seven) (ap parsed k.eight ∙ e) in
-    record { max = refl; offset = refl; items = f.items ∙ ap (λ n. (Format n (BadType c), []) ∷ []) (omega arith); lost = f.lost; told = f.told; bytes = f.bytes }
+-- the item of a failed candidate
+abbrev pub LossTold : ℕ → Bool → Option Item → Type 0
+LossTold at lost given = ((lost ≡ true) × (given ≡ None)) ⊎ ((lost ≡ false) × (given ≡ Some (HeaderCheck at)))
 
-pub exit_never : (max o : ℕ) (lost : Bool) (bytes : List ℕ) (len b : ℕ) (text : List ℕ) → length bytes ≡ 8 → len < 8 → 8 ≤ len + 1 → parsed (set bytes len b) ≡ Err NotAStart → Stands (held max o lost bytes len) text → ⊥
-exit_never max o lost bytes len b text full small large e s =
-    let v = held max o lost bytes len in
-    let k = filled bytes len b full small large in
-    parsed-not_a_start (set bytes len b) e (ap (λ t. slice_index t 0) (sym k.eight) ∙ start_stays v b k.seven (seven_start v text s k.seven))
+pub loss_told : (at : ℕ) (lost : Bool) (given : Option Item) → given ≡ (if lost then None else Some (HeaderCheck at)) → LossTold at lost given
+loss_told at true given e = inl (refl, e)
+loss_told at false given e = inr (refl, e)
 
-pub exit_check : (max o : ℕ) (lost : Bool) (bytes : List ℕ) (len b : ℕ) (text : List ℕ) (given : List Given) (moved : List ℕ) (n : ℕ) → length bytes ≡ 8 → len < 8 → 8 ≤ len + 1 → parsed (set bytes len b) ≡ Err Check → given ≡ (if lost then [] else (HeaderCheck (o + 1 - 8), []) ∷ []) → take n moved ≡ from_start (drop 1 (set bytes len b)) → Stands (held max o lost bytes len) text → Follows (held max o lost bytes len) b given (held max (o + 1) true moved n)
-exit_check max o lost bytes len b text given moved n full small large e g m s =
-    let v = held max o lost bytes len in
-    let k = filled bytes len b full small large in
-    let f = full_check v b k.seven (seven_start v text s k.seven) (ap parsed k.eight ∙ e) in
-    record {
-      max = refl;
-      offset = refl;
-      items = f.items ∙ ap (λ x. if lost then [] else (HeaderCheck x, []) ∷ []) (omega arith) ∙ sym g;
-      lost = f.lost;
-      told = f.told;
-      bytes = f.bytes ∙ ap (λ t. from_start (drop 1 t)) k.eight ∙ sym m;
-    }
+pub exit_fails : (max o : ℕ) (lost finished : Bool) (buffer : List ℕ) (skipped left lent b : ℕ) (text u : List ℕ) (at : ℕ) (given : Option Item) (moved : List ℕ) → Stored (held max o lost finished buffer skipped left lent) b text u at → 8 ≤ length u → parsed (take 8 u) ≡ Err Check → row max (next_place at lost u) ≡ Some ((if lost then [] else (HeaderCheck at, []) ∷ []), past 1 true (next_place at lost u)) → LossTold at lost given → moved ≡ from_start (drop 1 u) → Grows (held max o lost finished buffer skipped left lent) b given (held max (o + 1) true false moved skipped left 0) text
+exit_fails max o lost finished buffer skipped left lent b text u at given moved s full wrong fails told is =
+    let v = held max o lost finished buffer skipped left lent in
+    let w = held max (o + 1) true false moved skipped left 0 in
+    let h = holding v text s.stands s.none in
+    let q = next_place at lost u in
+    let f = candidate v b u s.bytes h.stuck full (λ k waits ok. ok-err (sym ok ∙ wrong)) in
+    let e = read-some max q _ fails in
+    let p = passed max (at + 1) true (drop 1 u) (omega (arith, f.eight, length-drop 1 u)) in
+    grown v w text b given q s.stands (next-is v b text u at s) refl refl (ap (λ x. x.items) e ∙ ap (λ x. (if lost then [] else (HeaderCheck at, []) ∷ []) ++ x) p.items ∙ append-nil _ ∙ sym (its lost told)) (record {
+      lost = sym (ap (λ x. x.place.lost) e ∙ p.lost);
+      bytes = is ∙ sym (unless (read max q).place.told [] (read max q).place.rest (ap (λ x. x.place.told) e ∙ p.told) ∙ ap (λ x. x.place.rest) e ∙ p.rest);
+      skipped = h.skipped ∙ sym (unless (read max q).place.told (length (read max q).place.rest) 0 (ap (λ x. x.place.told) e ∙ p.told));
+      left = s.none ∙ sym (unless (read max q).place.told (to_come (read max q).place.rest) 0 (ap (λ x. x.place.told) e ∙ p.told));
+    }) (wired told)
+  where
+    its : (x : Bool) → LossTold at x given → given_by given [] ≡ (if x then [] else (HeaderCheck at, []) ∷ [])
+    its true told = elim told [ inl yes_lost ↦ ap (λ g. given_by g []) yes_lost.1 | inr not_lost ↦ absurd (false-true (sym not_lost.0)) ]
+    its false told = elim told [ inl yes_lost ↦ absurd (false-true yes_lost.0) | inr not_lost ↦ ap (λ g. given_by g []) not_lost.1 ]
 
-pub stands_empty : (max : ℕ) (bytes : List ℕ) → Stands (held max 0 false bytes 0) []
-stands_empty max bytes =
-    let e = ending-nothing max in
-    record { offset = refl; lost = ap (λ p. p.lost) (sym e); told = ap (λ p. p.told) e; bytes = ap (λ p. p.rest) (sym e) }
+    wired : LossTold at lost given → EndsWith given [] (text ++ b ∷ [])
+    wired told = elim told [ inl yes_lost ↦ subst (λ g. EndsWith g [] (text ++ b ∷ [])) (sym yes_lost.1) tt | inr not_lost ↦ subst (λ g. EndsWith g [] (text ++ b ∷ [])) (sym not_lost.1) tt ]
+
+pub exit_announces : (max o : ℕ) (lost finished : Bool) (buffer : List ℕ) (skipped left lent b : ℕ) (text u : List ℕ) (at : ℕ) (h : Header) (n : ℕ) → Stored (held max o lost finished buffer skipped left lent) b text u at → 8 ≤ length u → parsed (take 8 u) ≡ Ok h → count_of h ≡ Some n → max < n → row max (next_place at lost u) ≡ Some ((TooLong at h, []) ∷ [], record (next_place at lost u) { told = true }) → Grows (held max o lost finished buffer skipped left lent) b (Some (TooLong at h)) (held max (o + 1) lost true u 8 (n + 2) 0) text
+exit_announces max o lost finished buffer skipped left lent b text u at h n s full ok cs above announces =
+    let v = held max o lost finished buffer skipped left lent in
+    let w = held max (o + 1) lost true u 8 (n + 2) 0 in
+    let g = holding v text s.stands s.none in
+    let q = next_place at lost u in
+    let f = candidate v b u s.bytes g.stuck full (λ k waits ok2.
+    let kn : k.count ≡ n = some-inj (sym k.counted ∙ ap count_of (ok-inj (sym ok2 ∙ ok)) ∙ cs) in
+    absurd (omega (arith, waits.within refl))) in
+    let p : Place = record q { told = true } in
+    let k : Counts u = record { full = full; start = f.start; header = h; count = n; is = ok; counted = cs } in
+    let none : row max p ≡ None = row-told max p k above refl ∙ when (nat_lt (length u) (n + 10)) _ _ (ltb-is _ _ (omega (arith, f.eight))) in
+    let e = read-some max q _ announces in
+    let m = read-none max p none in
+    let come = ap length_by ok ∙ frame_length-counted h n cs in
+    grown v w text b (Some (TooLong at h)) q s.stands (next-is v b text u at s) refl refl (ap (λ x. x.items) e ∙ ap (λ x. (TooLong at h, []) ∷ x.items) m) (subst (Summarises w) (sym (ap (λ x. x.place) e ∙ ap (λ x. x.place) m)) (record {
+      lost = refl;
+      bytes = refl;
+      skipped = sym f.eight;
+      left = omega (arith, f.eight, come);
+    })) tt
+
+-- from the offset of the unfinished frame on the text is what is held
+ends-so : (v : Held) (b : ℕ) (text u : List ℕ) (at : ℕ) → Stored v b text u at → drop at (text ++ b ∷ []) ≡ u
+ends-so v b text u at s =
+    let is = next-is v b text u at s in
+    let o : (ending v.max text).offset ≡ at = ap (λ x. x.offset) is in
+    let within = ending-offset v.max text in
+    drop-append-le at text (b ∷ []) (omega arith)
+    ∙ ap (λ k. drop k text ++ b ∷ []) (sym o)
+    ∙ ap (λ x. x ++ b ∷ []) (sym (ending-suffix v.max text))
+    ∙ ap (λ x. x.rest) is
+
+pub exit_gives : (max o : ℕ) (lost finished : Bool) (buffer : List ℕ) (skipped left lent b : ℕ) (text u : List ℕ) (at : ℕ) (item : Item) (n : ℕ) → Stored (held max o lost finished buffer skipped left lent) b text u at → Found max at u (Gives item n) → row max (next_place at lost u) ≡ as_row (Gives item n) (next_place at lost u) → Grows (held max o lost finished buffer skipped left lent) b (Some item) (held max (o + 1) false true u skipped left n) text
+exit_gives max o lost finished buffer skipped left lent b text u at item n s found gives =
+    let v = held max o lost finished buffer skipped left lent in
+    let w = held max (o + 1) false true u skipped left n in
+    let h = holding v text s.stands s.none in
+    let q = next_place at lost u in
+    let all : taken item ≡ length u = whole h.stuck found s.bytes in
+    let z : drop (taken item) u ≡ [] = drop_all (taken item) u (omega arith) in
+    let e = read-some max q _ gives in
+    let m = read-nothing max (past (taken item) false q) z in
+    grown v w text b (Some item) q s.stands (next-is v b text u at s) refl refl (ap (λ x. x.items) e ∙ ap (λ x. (item, data_of n u) ∷ x.items) m) (subst (Summarises w) (sym (ap (λ x. x.place) e ∙ ap (λ x. x.place) m)) (record {
+      lost = refl;
+      bytes = sym z;
+      skipped = h.skipped;
+      left = s.none;
+    })) (wired item all found (ends-so v b text u at s))
+  where
+    whole : Stuck max (place_of (held max o lost finished buffer skipped left lent)) → Found max at u (Gives item n) → u ≡ (if finished then [] else buffer) ++ b ∷ [] → taken item ≡ length u
+    whole stuck found is =
+        let lu = ap length is in
+        let la = length-append (if finished then [] else buffer) (b ∷ []) in
+        let low = found.0 in
+        let high = found.1 in
+        elim stuck [
+          | inl nothing ↦ absurd (omega (arith, ap length nothing))
+          | inr some ↦ elim some [
+            | inl few ↦ let small = few.2 in omega arith
+            | inr waits ↦
+                let k = waits.0 in
+                let short = (waits.1).short in
+                let same : taken item ≡ k.count + 10 = found.2 ∙ ap (λ x. length_by (parsed (take 8 x))) is ∙ ap (λ x. length_by (parsed x)) (take-append-le 8 (if finished then [] else buffer) (b ∷ []) k.full) ∙ length_by-counts (if finished then [] else buffer) k in
+                omega arith
+          ]
+        ]
+
+    wired : (i : Item) → taken i ≡ length u → Found max at u (Gives i n) → drop at (text ++ b ∷ []) ≡ u → EndsWith (Some i) (data_of n u) (text ++ b ∷ [])
+    wired (Good p g) all found ends = ap (λ k. drop k (text ++ b ∷ [])) found.4 ∙ ends ∙ sym (take_all (frame_length g) u (omega arith)) ∙ (found.3).1
+    wired (DataCheck p g) all found ends = tt
+    wired (TooLong p g) all found ends = tt
+    wired (HeaderCheck p) all found ends = tt
+    wired (Format p g) all found ends = tt

@@ -1,41 +1,86 @@
 -- What contracts see of a reader, and the texts that it stands for.
-use Rattle.std.specs.Prelude.{◌≡◌, ℕ, ◌+◌, ◌-◌, Bool, false, List, [], ◌∷◌, ◌++◌, length, Option, Some, None}
+use Rattle.std.specs.Prelude.{◌≡◌, ℕ, ◌+◌, ◌-◌, Bool, List, [], ◌∷◌, ◌++◌, length, take, drop, if◌then◌else◌, Option, Some, None, Result, Ok, Err}
+use Rattle.ddcmp_frame.specs.declared.header.Header.{Header}
+use Rattle.ddcmp_frame.specs.declared.header.Header.TheVariants.{Data, Maint, Control}
+use Rattle.ddcmp_frame.specs.declared.header.HeaderFault.{HeaderFault}
 use Rattle.ddcmp_frame.specs.declared.item.Item.{Item}
-use Rattle.ddcmp_frame.specs.Reading.{Given, Place, read, ending}
+use Rattle.ddcmp_frame.specs.declared.item.Item.TheVariants.{Good, HeaderCheck, DataCheck, TooLong, Format}
+use Rattle.ddcmp_frame.specs.Spelling.{parsed}
+use Rattle.ddcmp_frame.specs.Wire.{wire, IsFrame}
+use Rattle.ddcmp_frame.specs.Reading.{Given, Place, items, ending}
 
--- A reader: the most data that it takes, the bytes so far, whether synchronism is lost, and the
--- bytes of the unfinished frame.
+-- A reader: the most data that it takes, the number of bytes so far, whether synchronism is lost,
+-- and of the unfinished frame its bytes, or where it was told to be too long how many have come
+-- and how many are still to come; last the data that it lends.
 pub record Held : Type 0 where
   pub max : ℕ
   pub offset : ℕ
   pub lost : Bool
   pub bytes : List ℕ
+  pub skipped : ℕ
+  pub left : ℕ
+  pub lent : List ℕ
 
 -- the number of bytes from the start byte of the unfinished frame on
 abbrev pub open_of : Held → ℕ
-open_of v = length v.bytes
+open_of v = length v.bytes + v.skipped
+
+-- those of them that it keeps
+abbrev pub kept_of : Held → ℕ
+kept_of v = length v.bytes
+
+-- the length of a frame with this header
+abbrev pub frame_length : Header → ℕ
+frame_length (Data h) = h.count + 10
+frame_length (Maint h) = h.count + 10
+frame_length (Control h) = 8
+
+-- how many bytes are taken for what eight bytes are
+abbrev pub length_by : Result Header HeaderFault → ℕ
+length_by (Ok h) = frame_length h
+length_by (Err f) = 8
+
+-- how many bytes of the frame at the front of a text are still to come
+abbrev pub to_come : List ℕ → ℕ
+to_come t = length_by (parsed (take 8 t)) - length t
+
+-- what a reader keeps of a place: the bytes, but of a too long frame only their number
+pub record Summarises (v : Held) (p : Place) : Type 0 where
+  pub lost : v.lost ≡ p.lost
+  pub bytes : v.bytes ≡ (if p.told then [] else p.rest)
+  pub skipped : v.skipped ≡ (if p.told then length p.rest else 0)
+  pub left : v.left ≡ (if p.told then to_come p.rest else 0)
 
 -- A reader stands for a text: it is the summary of the place where the reading of the text ends.
 pub record Stands (reader : Held) (text : List ℕ) : Type 0 where
   pub offset : reader.offset ≡ length text
-  pub lost : reader.lost ≡ (ending reader.max text).lost
-  pub told : (ending reader.max text).told ≡ false
-  pub bytes : reader.bytes ≡ (ending reader.max text).rest
+  pub place : Summarises reader (ending reader.max text)
 
--- what a push gave: at most one item
-abbrev pub given_by : Option Item → List Given
-given_by None = []
-given_by (Some item) = (item, []) ∷ []
+-- what a push gave: at most one item, with the data that are lent beside it
+abbrev pub given_by : Option Item → List ℕ → List Given
+given_by None lent = []
+given_by (Some item) lent = (item, lent) ∷ []
 
--- the place from which a reader reads its next byte
-abbrev pub place_with : Held → ℕ → Place
-place_with v b = record { offset = v.offset - length v.bytes; lost = v.lost; told = false; rest = v.bytes ++ b ∷ [] }
+-- Beside a good item its data are lent, and else none.
+abbrev pub LentBeside : Option Item → List ℕ → Type 0
+LentBeside (Some (Good o h)) lent = IsFrame h lent
+LentBeside (Some (HeaderCheck o)) lent = lent ≡ []
+LentBeside (Some (DataCheck o h)) lent = lent ≡ []
+LentBeside (Some (TooLong o h)) lent = lent ≡ []
+LentBeside (Some (Format o f)) lent = lent ≡ []
+LentBeside None lent = lent ≡ []
 
--- A reader that does with its bytes what reading does stands for the longer text.
-pub record Follows (v : Held) (b : ℕ) (given : List Given) (w : Held) : Type 0 where
-  pub max : w.max ≡ v.max
-  pub offset : w.offset ≡ v.offset + 1
-  pub items : (read v.max (place_with v b)).items ≡ given
-  pub lost : (read v.max (place_with v b)).place.lost ≡ w.lost
-  pub told : (read v.max (place_with v b)).place.told ≡ false
-  pub bytes : (read v.max (place_with v b)).place.rest ≡ w.bytes
+-- The bytes of a text from the offset of a good item on are that frame as it goes on the line.
+abbrev pub EndsWith : Option Item → List ℕ → List ℕ → Type 0
+EndsWith (Some (Good o h)) lent text = drop o text ≡ wire h lent
+EndsWith (Some (HeaderCheck o)) lent text = Unit {0}
+EndsWith (Some (DataCheck o h)) lent text = Unit {0}
+EndsWith (Some (TooLong o h)) lent text = Unit {0}
+EndsWith (Some (Format o f)) lent text = Unit {0}
+EndsWith None lent text = Unit {0}
+
+-- what one byte does to a reader that stands for a text
+pub record Grows (old : Held) (b : ℕ) (given : Option Item) (new : Held) (text : List ℕ) : Type 0 where
+  pub stands : Stands new (text ++ b ∷ [])
+  pub items : items old.max (text ++ b ∷ []) ≡ items old.max text ++ given_by given new.lent
+  pub wire : EndsWith given new.lent (text ++ b ∷ [])

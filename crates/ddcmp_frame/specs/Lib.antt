@@ -1,9 +1,12 @@
 pub mod Fields
 pub mod Naks
 pub mod Spelling
+pub mod Wire
 pub mod Rows
 pub mod Reading
-pub mod Held
 pub mod Resume
+pub mod Held
+pub mod Step
+pub mod Room
 pub mod Device
 pub use Rattle.ddcmp_num.specs.Check

@@ -1,10 +1,13 @@
 -- How a text of bytes is read into items.
-use Rattle.std.specs.Prelude.{ℕ, ◌+◌, ◌*◌, ◌==◌, nat_lt, Bool, true, false, List, [], ◌∷◌, ◌++◌, length, take, drop, if◌then◌else◌, Option, Some, None, Result, Ok, Err}
+use Rattle.std.specs.Prelude.{ℕ, ◌+◌, ◌*◌, ◌/◌, ◌%◌, ◌==◌, ◌&&◌, nat_lt, Bool, true, false, List, [], ◌∷◌, ◌++◌, length, take, drop, slice_index, if◌then◌else◌, Option, Some, None, Result, Ok, Err}
+use Rattle.ddcmp_num.specs.Check.{check_of}
 use Rattle.ddcmp_frame.specs.declared.header.Header.{Header}
+use Rattle.ddcmp_frame.specs.declared.header.Header.TheVariants.{Data, Maint, Control}
 use Rattle.ddcmp_frame.specs.declared.header.HeaderFault.{HeaderFault}
-use Rattle.ddcmp_frame.specs.declared.header.HeaderFault.TheVariants.{NotAStart, Check, BadType}
+use Rattle.ddcmp_frame.specs.declared.header.HeaderFault.TheVariants.{NotAStart, Check, BadType, CountZero}
 use Rattle.ddcmp_frame.specs.declared.item.Item.{Item}
-use Rattle.ddcmp_frame.specs.declared.item.Item.TheVariants.{Good, HeaderCheck, Format}
+use Rattle.ddcmp_frame.specs.declared.item.Item.TheVariants.{Good, HeaderCheck, DataCheck, TooLong, Format}
+pub use Rattle.ddcmp_frame.specs.Spelling.{is_start}
 use Rattle.ddcmp_frame.specs.Spelling.{parsed}
 use Rattle.ddcmp_frame.specs.Rows.{Outcome, read_rows}
 
@@ -24,17 +27,44 @@ pub record Place : Type 0 where
 abbrev pub past : ℕ → Bool → Place → Place
 past n lost p = record { offset = p.offset + n; lost = lost; told = false; rest = drop n p.rest }
 
--- the bytes at which a header may begin
-abbrev pub is_start : ℕ → Bool
-is_start b = b == 5
+abbrev pub count_of : Header → Option ℕ
+count_of (Data h) = Some h.count
+count_of (Maint h) = Some h.count
+count_of (Control h) = None
 
--- What the first eight bytes are gives the items and the place after.
+-- the n bytes of data behind a header
+abbrev pub data_of : ℕ → List ℕ → List ℕ
+data_of n t = take n (drop 8 t)
+
+-- the check of the data alone stands behind them
+unfoldable pub data_right : ℕ → List ℕ → Bool
+data_right n t = (slice_index t (n + 8) == check_of (data_of n t) % 256) && (slice_index t (n + 9) == check_of (data_of n t) / 256)
+
+-- A header whose COUNT is above max is told once and passed over with its data, unchecked;
+-- another takes its data and their check. Until the last byte the frame is unfinished.
+abbrev pub by_length : Place → Header → ℕ → Bool → Bool → Option (List Given × Place)
+by_length p h n true false = Some ((TooLong p.offset h, []) ∷ [], record p { told = true })
+by_length p h n true true = if nat_lt (length p.rest) (n + 10) then None else Some ([], past (n + 10) false p)
+by_length p h n false told =
+    if nat_lt (length p.rest) (n + 10)
+    then None
+    else Some ((if data_right n p.rest then (Good p.offset h, data_of n p.rest) else (DataCheck p.offset h, [])) ∷ [], past (n + 10) false p)
+
+-- a control header is a whole frame
+abbrev pub by_count : ℕ → Place → Header → Option ℕ → Option (List Given × Place)
+by_count max p h None = Some ((Good p.offset h, []) ∷ [], past 8 false p)
+by_count max p h (Some n) = by_length p h n (nat_lt max n) p.told
+
+-- What the first eight bytes are decides. Where their check is wrong the start byte alone is
+-- given up, and the loss of synchronism is told once.
 abbrev pub by_verdict : ℕ → Place → Result Header HeaderFault → Option (List Given × Place)
 by_verdict max p (Err NotAStart) = Some ([], past 1 p.lost p)
 by_verdict max p (Err Check) = Some ((if p.lost then [] else (HeaderCheck p.offset, []) ∷ []), past 1 true p)
 by_verdict max p (Err (BadType c)) = Some ((Format p.offset (BadType c), []) ∷ [], past 8 false p)
-by_verdict max p (Ok h) = Some ((Good p.offset h, []) ∷ [], past 8 false p)
+by_verdict max p (Err CountZero) = Some ((Format p.offset CountZero, []) ∷ [], past 8 false p)
+by_verdict max p (Ok h) = by_count max p h (count_of h)
 
+-- from a start byte eight bytes are a candidate; any other byte is skipped
 abbrev pub by_front : ℕ → Place → List ℕ → Option (List Given × Place)
 by_front max p [] = None
 by_front max p (b ∷ t) =
@@ -70,6 +100,27 @@ ending max text = (read max (beginning text)).place
 abbrev pub open_at_end : ℕ → List ℕ → ℕ
 open_at_end max text = length (ending max text).rest
 
+-- those of them that a reader has to keep: none of a frame that was told to be too long
+abbrev pub kept_at_end : ℕ → List ℕ → ℕ
+kept_at_end max text = if (ending max text).told then 0 else open_at_end max text
+
 -- a place with more text behind it
 abbrev pub more : Place → List ℕ → Place
 more p u = record { offset = p.offset; lost = p.lost; told = p.told; rest = p.rest ++ u }
+
+-- the header and the data of the good item, if it is one
+abbrev pub good_of : Given → List (Header × List ℕ)
+good_of (Good o h, lent) = (h, lent) ∷ []
+good_of (HeaderCheck o, lent) = []
+good_of (DataCheck o h, lent) = []
+good_of (TooLong o h, lent) = []
+good_of (Format o f, lent) = []
+
+-- the frames of the good items
+unfoldable pub good_in : List Given → List (Header × List ℕ)
+good_in [] = []
+good_in (given ∷ rest) = good_of given ++ good_in rest
+
+-- the good frames of a text
+abbrev pub good_frames : ℕ → List ℕ → List (Header × List ℕ)
+good_frames max text = good_in (items max text)

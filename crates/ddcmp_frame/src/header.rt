@@ -1,19 +1,20 @@
 // Headers and their spelling.
-ghost use Rattle.std.specs.Prelude.{◌≡◌, ◌≢◌, ℕ, ◌<◌, ◌≤◌, ◌↔◌, IfOk, IfSome, IsSome, List, take, length, slice_index};
-ghost use Rattle.ddcmp_frame.specs.Spelling.{Spells, HasCheck, parsed, kind_of as kind_of_code, check_holds as check_holds_in, fields_of, type_code as type_code_of, IsBytes};
+ghost use Rattle.std.specs.Prelude.{◌≡◌, ◌≢◌, ◌/◌, ◌%◌, ℕ, ◌<◌, ◌≤◌, ◌↔◌, IfOk, IfSome, IsSome, List, take, length, slice_index, true, false};
+ghost use Rattle.ddcmp_frame.specs.Spelling.{Spells, SpellsCounted, HasCheck, IsNoType, IsBytes, parsed, count_in, is_start as is_start_byte, kind_of as kind_of_code, check_holds as check_holds_in, flags_of, short_of, counted_or_none, type_code as type_code_of};
+ghost use Rattle.ddcmp_frame.specs.Wire.{six_bytes, counted_bytes, eight_bytes, flag_bits as flag_bits_of};
 ghost use Rattle.ddcmp_frame.specs.declared.header.Header.{Header as HeaderValue};
 
 use ddcmp_num::{check, check_bytes};
 use std::marker::Model;
 
-/// The flags of a header: Q, quick synchronisation, and S, select.
+/// The two flags of a header, Q (quick sync) and S (select).
 #[derive(Clone, Copy, Debug, PartialEq, Eq)]
 pub struct Flags {
     pub q: bool,
     pub s: bool,
 }
 
-/// The kinds of control messages.
+/// The TYPE of a control message.
 #[derive(Clone, Copy, Debug, PartialEq, Eq)]
 pub enum ControlType {
     Ack,
@@ -23,7 +24,7 @@ pub enum ControlType {
     Stack,
 }
 
-/// The fields of a control header. `sub` is 0 to 63; `resp` and `num` are numbers modulo 256.
+/// The fields of a control header. `sub` is below 64.
 #[derive(Clone, Copy, Debug, PartialEq, Eq)]
 pub struct Short {
     pub kind: ControlType,
@@ -75,18 +76,78 @@ impl Short {
     }
 }
 
-/// The header of a message.
+/// The fields of a data or maintenance header. `count` is 1 to 16383. In a maintenance header
+/// `resp` and `num` are fill.
+#[derive(Clone, Copy, Debug, PartialEq, Eq)]
+pub struct Counted {
+    pub count: u16,
+    pub flags: Flags,
+    pub resp: u8,
+    pub num: u8,
+    pub addr: u8,
+}
+
+impl Model for Counted {
+    ghost use Rattle.std.specs.Prelude.{◌<◌, ◌≤◌};
+    ghost use Rattle.ddcmp_frame.specs.Fields.{CountedFields};
+
+    ghost Value = { CountedFields };
+
+    ghost view = { λ h. record { count = h.count; flags = h.flags; resp = h.resp; num = h.num; addr = h.addr } };
+
+    ghost invariant = { λ h. (0 < h.count) × (h.count ≤ 16383) };
+
+    ghost inverse = { λ h. record { count = h.count; flags = h.flags; resp = h.resp; num = h.num; addr = h.addr } };
+}
+
+impl Counted {
+    /// The fields in this order; None where `count` is 0 or above 16383.
+    pub fn new(count: u16, flags: Flags, resp: u8, num: u8, addr: u8) -> Option<Self>
+        ensures valid { IsSome result ↔ ((0 < count) × (count ≤ 16383)) }
+        ensures value { IfSome result (λ h. h ≡ record { count = count; flags = flags; resp = resp; num = num; addr = addr }) }
+    {
+        if 0 < count && count <= 16383 {
+            Some(Counted {
+                count,
+                flags,
+                resp,
+                num,
+                addr,
+            })
+        } else {
+            None
+        }
+    }
+}
+
+/// A header, by its start byte.
 #[derive(Clone, Copy, Debug, PartialEq, Eq)]
 pub enum Header {
+    /// 0x81, a numbered data message.
+    Data(Counted),
+    /// 0x90, a maintenance message.
+    Maint(Counted),
+    /// 0x05, a control message.
     Control(Short),
 }
 
-/// Why eight bytes are no header; the first of these that fits.
+/// Why eight bytes are no header.
 #[derive(Clone, Copy, Debug, PartialEq, Eq)]
 pub enum HeaderFault {
+    /// The first byte is none of the three start bytes.
     NotAStart,
+    /// The last two bytes aren't the check of the first six.
     Check,
+    /// A control header of this TYPE, which no control message has.
     BadType(u8),
+    /// A data or maintenance header of COUNT 0.
+    CountZero,
+}
+
+pub(crate) fn is_start(byte: u8) -> bool
+    ensures { result ≡ is_start_byte byte }
+{
+    byte == 0x05 || byte == 0x81 || byte == 0x90
 }
 
 fn kind_of(code: u8) -> Option<ControlType>
@@ -102,7 +163,7 @@ fn kind_of(code: u8) -> Option<ControlType>
     }
 }
 
-/// The last two of eight bytes are the check of the first six.
+/// Whether the last two of eight bytes are the check of the first six.
 #[tactic(auto, unfolding(crate::specs::Spelling::check_holds))]
 fn check_holds(bytes: &[u8; 8]) -> bool
     ensures { result ≡ check_holds_in bytes.now }
@@ -111,20 +172,42 @@ fn check_holds(bytes: &[u8; 8]) -> bool
     bytes[6] == right[0] && bytes[7] == right[1]
 }
 
-fn fields(kind: ControlType, bytes: &[u8; 8]) -> Short
-    ensures { result ≡ fields_of kind bytes.now }
+fn flags_in(bytes: &[u8; 8]) -> Flags
+    ensures { result ≡ flags_of bytes.now }
+{
+    Flags {
+        q: bytes[2] / 64 % 2 == 1,
+        s: bytes[2] / 128 % 2 == 1,
+    }
+}
+
+fn short_in(kind: ControlType, bytes: &[u8; 8]) -> Short
+    ensures { result ≡ short_of kind bytes.now }
 {
     Short {
         kind,
         sub: bytes[2] % 64,
-        flags: Flags {
-            q: bytes[2] / 64 % 2 == 1,
-            s: bytes[2] / 128 % 2 == 1,
-        },
+        flags: flags_in(bytes),
         resp: bytes[3],
         num: bytes[4],
         addr: bytes[5],
     }
+}
+
+fn counted_in(bytes: &[u8; 8]) -> Option<Counted>
+    ensures { result ≡ counted_or_none bytes.now }
+{
+    let count = bytes[1] as u16 + 256 * (bytes[2] % 64) as u16;
+    if count == 0 {
+        return None;
+    }
+    Some(Counted {
+        count,
+        flags: flags_in(bytes),
+        resp: bytes[3],
+        num: bytes[4],
+        addr: bytes[5],
+    })
 }
 
 impl Header {
@@ -134,10 +217,12 @@ impl Header {
         ensures found { IfOk result (λ h. Spells h (take 6 bytes.now) × HasCheck bytes.now) }
         ensures only { (h : HeaderValue) → Spells h (take 6 bytes.now) → HasCheck bytes.now → result ≡ Ok h }
         // Which fault it is.
-        ensures not_a_start { (result ≡ Err HeaderFault.NotAStart) ↔ (slice_index bytes.now 0 ≢ 5) }
-        ensures check { (result ≡ Err HeaderFault.Check) ↔ ((slice_index bytes.now 0 ≡ 5) × (¬ HasCheck bytes.now)) }
-        ensures bad_type { (code : ℕ) → (result ≡ Err (HeaderFault.BadType code))
-            ↔ ((slice_index bytes.now 0 ≡ 5) × HasCheck bytes.now × (slice_index bytes.now 1 ≡ code) × (kind_of_code code ≡ None)) }
+        ensures not_a_start { (result ≡ Err HeaderFault.NotAStart) ↔ (is_start_byte (slice_index bytes.now 0) ≡ false) }
+        ensures check { (result ≡ Err HeaderFault.Check) ↔ ((is_start_byte (slice_index bytes.now 0) ≡ true) × (¬ HasCheck bytes.now)) }
+        ensures bad_type { (c : ℕ) → (result ≡ Err (HeaderFault.BadType c))
+            ↔ ((slice_index bytes.now 0 ≡ 5) × HasCheck bytes.now × (slice_index bytes.now 1 ≡ c) × IsNoType c) }
+        ensures count_zero { (result ≡ Err HeaderFault.CountZero)
+            ↔ ((is_start_byte (slice_index bytes.now 0) ≡ true) × (slice_index bytes.now 0 ≢ 5) × HasCheck bytes.now × (count_in bytes.now ≡ 0)) }
         ensures exact { result ≡ parsed bytes.now }
     {
         Header::parse_exactly(bytes)
@@ -147,15 +232,22 @@ impl Header {
     fn parse_exactly(bytes: &[u8; 8]) -> Result<Header, HeaderFault>
         ensures { result ≡ parsed bytes.now }
     {
-        if bytes[0] != 5 {
+        if !is_start(bytes[0]) {
             return Err(HeaderFault::NotAStart);
         }
         if !check_holds(bytes) {
             return Err(HeaderFault::Check);
         }
-        match kind_of(bytes[1]) {
-            Some(kind) => Ok(Header::Control(fields(kind, bytes))),
-            None => Err(HeaderFault::BadType(bytes[1])),
+        if bytes[0] == 0x05 {
+            return match kind_of(bytes[1]) {
+                Some(kind) => Ok(Header::Control(short_in(kind, bytes))),
+                None => Err(HeaderFault::BadType(bytes[1])),
+            };
+        }
+        match counted_in(bytes) {
+            None => Err(HeaderFault::CountZero),
+            Some(fields) if bytes[0] == 0x81 => Ok(Header::Data(fields)),
+            Some(fields) => Ok(Header::Maint(fields)),
         }
     }
 
@@ -165,23 +257,67 @@ impl Header {
         ensures check { HasCheck result }
         ensures read { parsed result ≡ Ok self.now }
         ensures only { (bytes : List ℕ) → length bytes ≡ 8 → IsBytes bytes → parsed bytes ≡ Ok self.now → result ≡ bytes }
+        ensures exact { result ≡ eight_bytes self.now }
     {
-        self.write_spelling()
+        self.write_exactly()
     }
 
-    fn write_spelling(&self) -> [u8; 8]
+    fn write_exactly(&self) -> [u8; 8]
         ensures spelled { Spells self.now (take 6 result) }
         ensures check { HasCheck result }
+        ensures exact { result ≡ eight_bytes self.now }
     {
-        let Header::Control(h) = self;
-        let q = if h.flags.q { 64 } else { 0 };
-        let s = if h.flags.s { 128 } else { 0 };
-        let six = [5, type_code(h.kind), h.sub + q + s, h.resp, h.num, h.addr];
-        let right = check_bytes(check(&six));
+        let six = self.write_six();
+        let [low, high] = check_bytes(check(&six));
+        [six[0], six[1], six[2], six[3], six[4], six[5], low, high]
+    }
+
+    #[tactic(auto, unfolding(crate::specs::Wire::six_bytes))]
+    fn write_six(&self) -> [u8; 6]
+        ensures spelled { Spells self.now result }
+        ensures exact { result ≡ six_bytes self.now }
+    {
+        match self {
+            Header::Data(h) => h.write_from(0x81),
+            Header::Maint(h) => h.write_from(0x90),
+            Header::Control(h) => [
+                0x05,
+                type_code(h.kind),
+                h.sub + flag_bits(h.flags),
+                h.resp,
+                h.num,
+                h.addr,
+            ],
+        }
+    }
+}
+
+impl Counted {
+    /// The six bytes of a header that begins with `first`.
+    fn write_from(&self, first: u8) -> [u8; 6]
+        ensures spelled { SpellsCounted first self.now result }
+        ensures exact { result ≡ counted_bytes first self.now }
+    {
         [
-            six[0], six[1], six[2], six[3], six[4], six[5], right[0], right[1],
+            first,
+            (self.count % 256) as u8,
+            (self.count / 256) as u8 + flag_bits(self.flags),
+            self.resp,
+            self.num,
+            self.addr,
         ]
     }
+}
+
+/// The flags as bits 6 and 7 of the third byte.
+fn flag_bits(flags: Flags) -> u8
+    ensures value { result ≡ flag_bits_of flags }
+    ensures high { result % 64 ≡ 0 }
+    ensures small { result ≤ 192 }
+{
+    let q = if flags.q { 64 } else { 0 };
+    let s = if flags.s { 128 } else { 0 };
+    q + s
 }
 
 fn type_code(kind: ControlType) -> u8

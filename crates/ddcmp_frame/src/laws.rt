@@ -1,7 +1,12 @@
-//! What holds of the reading of texts, for the crates above: functions that do nothing, whose
-//! contracts are the laws.
-ghost use Rattle.std.specs.Prelude.{◌≡◌, ℕ, ◌+◌, List, [], ◌++◌, length};
-ghost use Rattle.ddcmp_frame.specs.Reading.{items, ending, beginning, read, more};
+// What holds of frames and of the reading of texts, for the crates above: functions that do
+// nothing, whose contracts are the laws.
+ghost use Rattle.std.specs.Prelude.{◌≡◌, ◌+◌, ◌≤◌, ℕ, List, [], ◌∷◌, ◌++◌, length, replicate};
+ghost use Rattle.ddcmp_frame.specs.Spelling.{InRange, IsBytes, Spells};
+ghost use Rattle.ddcmp_frame.specs.Wire.{six_bytes, wire, IsFrame};
+ghost use Rattle.ddcmp_frame.specs.Reading.{items, ending, beginning, read, more, good_in, good_frames, open_at_end};
+ghost use Rattle.ddcmp_frame.specs.Held.{frame_length};
+ghost use Rattle.ddcmp_frame.specs.declared.header.Header.{Header as HeaderValue};
+ghost use Rattle.ddcmp_frame.specs.declared.item.Item.TheVariants.{Good};
 
 /// The empty text has no items, and its reading ends where it begins.
 pub fn items_of_nothing()
@@ -17,7 +22,36 @@ pub fn items_of_longer()
         → ending max (text ++ more_text) ≡ (read max (more (ending max text) more_text)).place }
 {}
 
+/// The good frames of a text that goes on only grow at their end.
+pub fn good_frames_of_longer()
+    ensures { (max : ℕ) (text more_text : List ℕ)
+        → good_frames max (text ++ more_text) ≡ good_frames max text ++ good_in (read max (more (ending max text) more_text)).items }
+{}
+
 /// The place where reading ends counts the bytes that were read.
 pub fn ending_counts()
     ensures { (max : ℕ) (text : List ℕ) → (ending max text).offset + length (ending max text).rest ≡ length text }
+{}
+
+/// Where nothing is open, fill and a whole frame are one good item and leave nothing open, whether
+/// synchronism was lost or not.
+pub fn whole_frame()
+    ensures item { (max fill : ℕ) (text message : List ℕ) (h : HeaderValue)
+        → open_at_end max text ≡ 0 → InRange h → IsFrame h message → length message ≤ max
+        → items max (text ++ (replicate fill 150 ++ wire h message)) ≡ items max text ++ (Good (length text + fill) h, message) ∷ [] }
+    ensures closed { (max fill : ℕ) (text message : List ℕ) (h : HeaderValue)
+        → open_at_end max text ≡ 0 → InRange h → IsFrame h message → length message ≤ max
+        → open_at_end max (text ++ (replicate fill 150 ++ wire h message)) ≡ 0 }
+{}
+
+/// A header has one spelling, its six bytes, and no six bytes spell two headers.
+pub fn spellings()
+    ensures spelled { (h : HeaderValue) → InRange h → Spells h (six_bytes h) }
+    ensures one { (h : HeaderValue) (bytes : List ℕ) → IsBytes bytes → Spells h bytes → bytes ≡ six_bytes h }
+    ensures same { (g h : HeaderValue) (bytes : List ℕ) → Spells g bytes → Spells h bytes → g ≡ h }
+{}
+
+/// The number of bytes of a frame on the line.
+pub fn wire_length()
+    ensures { (h : HeaderValue) (message : List ℕ) → IsFrame h message → length (wire h message) ≡ frame_length h }
 {}

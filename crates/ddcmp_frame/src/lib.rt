@@ -1,4 +1,4 @@
-//! come from and go to.
+//! Frames of DDCMP: headers and their spelling, frames on the line, and the reader of a line.
 #![tactic(auto)]
 
 pub mod device;
@@ -6,10 +6,12 @@ pub mod header;
 pub mod item;
 pub mod laws;
 pub mod nak;
-pub mod reader;
+pub mod plain;
+pub mod writer;
 
 pub use device::{FromRead, Got, Sink, Source, ToWrite, Worst};
-pub use header::{ControlType, Flags, Header, HeaderFault, Short};
+pub use header::{ControlType, Counted, Flags, Header, HeaderFault, Short};
 pub use item::Item;
 pub use nak::Nak;
-pub use reader::{Reader, ReaderRefusal};
+pub use plain::{Reader, ReaderRefusal};
+pub use writer::write_frame;

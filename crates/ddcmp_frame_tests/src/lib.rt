@@ -1,4 +1,4 @@
-//! Tests of `ddcmp_frame` from outside, over its public surface.
+//! Tests of `ddcmp_frame` on frames and texts from outside.
 #![tactic(auto)]
 
 #[cfg(test)]

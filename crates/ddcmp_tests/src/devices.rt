@@ -1,4 +1,6 @@
 // Devices over memory: slow ones, and ones that fail.
+ghost use Rattle.std.specs.Prelude.{◌≤◌};
+
 use std::alloc::Global;
 use std::io::{self, ErrorKind, Read, Write};
 
@@ -77,6 +79,41 @@ impl Write for Held {
         }
         let n = self.piece.min(buf.len());
         self.text.extend_from_slice(&buf[..n])?;
+        Ok(n)
+    }
+
+    fn flush(&mut self) -> io::Result<()> {
+        Ok(())
+    }
+}
+
+/// Holds what was written in a place of its own, and takes no memory.
+#[derive(Drop)]
+pub struct Fixed {
+    text: [u8; 256],
+    len: usize,
+    ghost within: { len ≤ 256 },
+}
+
+impl Fixed {
+    pub fn new() -> Self {
+        Fixed {
+            text: [0; 256],
+            len: 0,
+        }
+    }
+
+    pub fn text(&self) -> &[u8] {
+        &self.text[..self.len]
+    }
+}
+
+impl Write for Fixed {
+    fn write(&mut self, buf: &[u8]) -> io::Result<usize> {
+        let n = buf.len().min(256 - self.len);
+        let end = self.len + n;
+        self.text[self.len..end].copy_from_slice(&buf[..n]);
+        self.len = end;
         Ok(n)
     }
 

@@ -1,5 +1,5 @@
 // The text of explain, against worked rows.
-use crate::devices::{Held, Pieces};
+use crate::devices::{Fixed, Held, Pieces};
 use ddcmp_cli::{ExplainFault, Form, explain};
 use ddcmp_frame::{FromRead, ToWrite};
 use std::io::ErrorKind;
@@ -8,10 +8,18 @@ use std::process::Abort;
 type Told = (Result<(), ExplainFault>, Vec<u8>);
 
 /// What explain answers and writes, with pieces of these sizes.
-fn told(rt: &(impl Abort + AllocGlobal), input: &[u8], read: usize, write: usize) -> Told {
+fn told(
+    rt: &(impl Abort + AllocGlobal),
+    input: &[u8],
+    form: Form,
+    max: u16,
+    read: usize,
+    write: usize,
+) -> Told {
+    assert!(rt; 0 < max && max <= 16383);
     let mut reader = FromRead::new(Pieces::of(input, read));
     let mut writer = ToWrite::new(Held::new(rt.alloc(), write, usize::MAX));
-    let answer = explain(&mut reader, &mut writer, Form::Hex, 16383);
+    let answer = explain(rt.alloc(), &mut reader, &mut writer, form, max);
     (answer, writer.into_inner().text)
 }
 
@@ -43,9 +51,9 @@ fn worked_rows(rt: HostRuntime) {
             b"0 ACK sub=0 q=0 s=0 resp=0 num=0 addr=1\n",
         ),
         (
-            b"81050100000001fc55",
+            b"81 050100000001fc55",
             Ok(()),
-            b"1 ACK sub=0 q=0 s=0 resp=0 num=0 addr=1\nitems=1 bytes=9 open=0\n",
+            b"0 header check\n1 ACK sub=0 q=0 s=0 resp=0 num=0 addr=1\nitems=2 bytes=9 open=0\n",
         ),
         (
             b"0504000000013055",
@@ -63,7 +71,7 @@ fn worked_rows(rt: HostRuntime) {
     ];
     for (input, answer, text) in rows {
         for (read, write) in [(4096, 8192), (1, 1), (3, 7)] {
-            let (answered, written) = told(&rt, input, read, write);
+            let (answered, written) = told(&rt, input, Form::Hex, 16383, read, write);
             assert_eq!(rt; answered, answer);
             assert_eq!(rt; written.as_slice(), text);
         }
@@ -79,7 +87,7 @@ fn start_bytes_alone(rt: HostRuntime) {
             *digit = b'5';
         }
     }
-    let (answer, text) = told(&rt, &input, 4096, 8192);
+    let (answer, text) = told(&rt, &input, Form::Hex, 16383, 4096, 8192);
     assert_eq!(rt; answer, Ok(()));
     assert_eq!(rt;
         text.as_slice(),
@@ -98,7 +106,7 @@ fn one_device_fails(rt: HostRuntime) {
         for fails_at in 1..50 {
             let mut reader = FromRead::new(Pieces::failing(STARTUP, 1, fails_at, kind));
             let mut writer = ToWrite::new(Held::new(rt.alloc(), 9, usize::MAX));
-            let answer = explain(&mut reader, &mut writer, Form::Hex, 16383);
+            let answer = explain(rt.alloc(), &mut reader, &mut writer, Form::Hex, 16383);
             let text = writer.into_inner().text;
             assert!(rt; STARTUP_TEXT.starts_with(text.as_slice()));
             // Forty bytes and the end are forty-one calls.
@@ -113,7 +121,7 @@ fn one_device_fails(rt: HostRuntime) {
     for fails_at in 1..30 {
         let mut reader = FromRead::new(Pieces::of(STARTUP, 4096));
         let mut writer = ToWrite::new(Held::new(rt.alloc(), 9, fails_at));
-        let answer = explain(&mut reader, &mut writer, Form::Hex, 16383);
+        let answer = explain(rt.alloc(), &mut reader, &mut writer, Form::Hex, 16383);
         let text = writer.into_inner().text;
         assert!(rt; STARTUP_TEXT.starts_with(text.as_slice()));
         if text.len() < STARTUP_TEXT.len() {
@@ -121,5 +129,100 @@ fn one_device_fails(rt: HostRuntime) {
         } else {
             assert_eq!(rt; answer, Ok(()));
         }
+    }
+}
+
+const FORMATS_TEXT: &[u8] =
+    b"0 format count=0\n8 format type=4\n16 ACK sub=0 q=0 s=0 resp=0 num=0 addr=1\nitems=3 bytes=24 open=0\n";
+
+/// Frames with data, and headers that can't stand.
+#[test]
+fn worked_rows_with_data(rt: HostRuntime) {
+    let rows: [Row; 6] = [
+        (
+            b"8103000001019a4161626338",
+            Ok(()),
+            b"items=0 bytes=12 open=12\n",
+        ),
+        (
+            b"8103000001019a416162633897",
+            Ok(()),
+            b"0 DATA count=3 q=0 s=0 resp=0 num=1 addr=1 616263\nitems=1 bytes=13 open=0\n",
+        ),
+        (
+            b"8103000001019a416162633896",
+            Ok(()),
+            b"0 data check DATA count=3 q=0 s=0 resp=0 num=1 addr=1\nitems=1 bytes=13 open=0\n",
+        ),
+        (
+            b"810000000101de41 0504000000013055 050100000001fc55",
+            Ok(()),
+            FORMATS_TEXT,
+        ),
+        (
+            b"9003c0000001a4906162633897",
+            Ok(()),
+            b"0 MAINT count=3 q=1 s=1 resp=0 num=0 addr=1 616263\nitems=1 bytes=13 open=0\n",
+        ),
+        (
+            b"81dd05000101329e",
+            Ok(()),
+            b"0 too long DATA count=1501 q=0 s=0 resp=0 num=1 addr=1\nitems=1 bytes=8 open=8\n",
+        ),
+    ];
+    for (input, answer, text) in rows {
+        for (read, write) in [(4096, 8192), (1, 1), (3, 7)] {
+            let (answered, written) = told(&rt, input, Form::Hex, 1500, read, write);
+            assert_eq!(rt; answered, answer);
+            assert_eq!(rt; written.as_slice(), text);
+        }
+    }
+}
+
+/// A too long frame is passed over unchecked, and what follows is read.
+#[test]
+fn behind_a_too_long_frame(rt: HostRuntime) {
+    let header = [0x81, 0xDD, 5, 0, 1, 1, 0x32, 0x9E];
+    let ack = [5, 1, 0, 0, 0, 1, 0xFC, 0x55];
+    let mut input = [5; 1519];
+    input[..8].copy_from_slice(&header);
+    input[1511..].copy_from_slice(&ack);
+    let (answer, text) = told(&rt, &input, Form::Raw, 1500, 4096, 8192);
+    assert_eq!(rt; answer, Ok(()));
+    let want =
+        b"0 too long DATA count=1501 q=0 s=0 resp=0 num=1 addr=1\n1511 ACK sub=0 q=0 s=0 resp=0 num=0 addr=1\nitems=2 bytes=1519 open=0\n";
+    assert_eq!(rt; text.as_slice(), want.as_slice());
+}
+
+/// Bytes as they are say the same as their digits.
+#[test]
+fn raw_input(rt: HostRuntime) {
+    let ack = [5, 1, 0, 0, 0, 1, 0xFC, 0x55];
+    let formats = [
+        0x81, 0, 0, 0, 1, 1, 0xDE, 0x41, 5, 4, 0, 0, 0, 1, 0x30, 0x55, 5, 1, 0, 0, 0, 1, 0xFC, 0x55,
+    ];
+    let rows: [(&[u8], &[u8]); 2] = [(&ack, ACK_TEXT), (&formats, FORMATS_TEXT)];
+    for (input, text) in rows {
+        for (read, write) in [(4096, 8192), (1, 1)] {
+            let (answered, written) = told(&rt, input, Form::Raw, 16383, read, write);
+            assert_eq!(rt; answered, Ok(()));
+            assert_eq!(rt; written.as_slice(), text);
+        }
+    }
+}
+
+/// Where the memory of the reader is refused nothing is written; else all is. Run outside the
+/// gate with each allocation refused in turn.
+#[test]
+fn refused_memory_is_told(rt: HostRuntime) {
+    let mut reader = FromRead::new(Pieces::of(STARTUP, 4096));
+    let mut writer = ToWrite::new(Fixed::new());
+    let answer = explain(rt.alloc(), &mut reader, &mut writer, Form::Hex, 16383);
+    let held = writer.into_inner();
+    if answer == Err(ExplainFault::Memory) {
+        assert!(rt; held.text().is_empty());
+    } else {
+        assert_eq!(rt; answer, Ok(()));
+        assert_eq!(rt; held.text(), STARTUP_TEXT);
     }
 }

@@ -1,7 +1,7 @@
 // Words, endings, and the program as a whole but for the system's streams.
 use crate::devices::{Held, Pieces};
 use ddcmp_cli::command::read_words;
-use ddcmp_cli::{Command, Declined, Ending, ExplainFault, run};
+use ddcmp_cli::{Command, Declined, Ending, ExplainFault, Form, run};
 use ddcmp_frame::{FromRead, ToWrite};
 use std::process::Abort;
 use std::test::Fail;
@@ -9,17 +9,33 @@ use std::test::Fail;
 #[test]
 fn words_name_a_command(rt: HostRuntime) {
     let alloc = rt.alloc();
-    assert!(rt;
-        matches!(
-            read_words(alloc, &["ddcmp", "explain"]),
-            Ok(Command::Explain)
-        )
-    );
-    let refused: [&[&str]; 4] = [
+    let taken: [(&[&str], Form, u16); 6] = [
+        (&["ddcmp", "explain"], Form::Hex, 16383),
+        (&["ddcmp", "explain", "--raw"], Form::Raw, 16383),
+        (&["ddcmp", "explain", "--max", "1500"], Form::Hex, 1500),
+        (&["ddcmp", "explain", "--max=1", "--raw"], Form::Raw, 1),
+        (&["ddcmp", "explain", "--max", "1"], Form::Hex, 1),
+        (&["ddcmp", "explain", "--max", "16383"], Form::Hex, 16383),
+    ];
+    for (words, want, most) in taken {
+        match read_words(alloc, words) {
+            Ok(Command::Explain { form, max }) => {
+                assert_eq!(rt; (form, max), (want, most));
+            }
+            Err(_) => assert!(rt; false),
+        }
+    }
+    let refused: [&[&str]; 10] = [
         &["ddcmp"],
         &["ddcmp", "explode"],
         &["ddcmp", "explain", "more"],
         &["ddcmp", "explain", "--wrong"],
+        &["ddcmp", "explain", "--max", "0"],
+        &["ddcmp", "explain", "--max", "16384"],
+        &["ddcmp", "explain", "--max", "many"],
+        &["ddcmp", "explain", "--max"],
+        &["ddcmp", "explain", "--max", "1", "--max", "2"],
+        &["ddcmp", "explain", "--raw", "--raw"],
     ];
     for words in refused {
         assert!(rt; matches!(read_words(alloc, words), Err(Declined::Usage(_))));

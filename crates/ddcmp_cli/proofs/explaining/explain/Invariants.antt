@@ -11,7 +11,7 @@ invariant-loop-room g l = record {
   empty : l.page ≡ [];
   buffer : length l.buf ≡ 4096;
   taken : (input : List ℕ) → g.R.Source.left l.initial.reader ≡ Some input
-      → SoFar l.max input (g.R.Source.left l.reader) (g.W.Sink.contents l.initial.writer) (g.W.Sink.contents l.writer) l.state;
+      → SoFar l.form l.max input (g.R.Source.left l.reader) (g.W.Sink.contents l.initial.writer) (g.W.Sink.contents l.writer) l.state;
 }
 
 abbrev pub decreases-loop-room : goal.decreases-loop-room

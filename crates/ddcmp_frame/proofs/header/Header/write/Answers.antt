@@ -1,12 +1,12 @@
-use Rattle.std.proofs.Common.{rules}
-use Rattle.ddcmp_frame.proofs.SpellingLaws.{parsed-found, parsed-only, one_spelling}
+use Rattle.std.proofs.Common.{rules, subst, Ok}
+use Rattle.ddcmp_frame.proofs.SpellingLaws.{Says, parsed-says, says-parsed, one_writing}
 use Rattle.ddcmp_frame.proofs.header.Header.write.Goals as goal
 
 pub returns-clause-read : goal.returns-clause-read
 returns-clause-read c =
-    parsed-only c.write_spelling.result (search rules) c.args.self.now c.write_spelling.ensures.spelled c.write_spelling.ensures.check
+    says-parsed (Ok c.args.self.now) c.write_exactly.result (search rules) (c.write_exactly.ensures.spelled, c.write_exactly.ensures.check)
 
 pub returns-clause-only : goal.returns-clause-only
 returns-clause-only c = λ bytes len all read.
-    let found = parsed-found bytes len c.args.self.now read in
-    one_spelling c.args.self.now c.write_spelling.result bytes (search rules) all c.write_spelling.ensures.spelled found.0 c.write_spelling.ensures.check found.1
+    let found = subst (λ x. Says x bytes) read (parsed-says bytes len) in
+    one_writing c.args.self.now c.write_exactly.result bytes (search rules) all c.write_exactly.ensures.spelled found.0 c.write_exactly.ensures.check found.1

@@ -1,0 +1,34 @@
+// Frames as they go on the line.
+ghost use Rattle.std.specs.Prelude.{◌≡◌, ◌+◌, ◌≤◌, ◌++◌, length, take, drop};
+ghost use Rattle.ddcmp_frame.specs.Wire.{wire, IsFrame};
+
+use crate::header::Header;
+use ddcmp_num::{check, check_bytes};
+
+/// Writes a frame at the front of `out`, and says how many bytes it has.
+pub fn write_frame(header: &Header, data: &[u8], out: &mut [u8]) -> usize
+    requires frame { IsFrame header.now «data».now }
+    requires room { length (wire header.now «data».now) ≤ length out.old }
+    ensures length { result ≡ length (wire header.now «data».now) }
+    ensures written { out.new ≡ wire header.now «data».now ++ drop result out.old }
+{
+    let end = put(out, 0, &header.write());
+    match header {
+        Header::Control(_) => end,
+        Header::Data(_) | Header::Maint(_) => {
+            let end = put(out, end, data);
+            put(out, end, &check_bytes(check(data)))
+        }
+    }
+}
+
+/// Writes `bytes` into `out` from `from` on, and says where they end.
+fn put(out: &mut [u8], from: usize, bytes: &[u8]) -> usize
+    requires { from + length bytes.now ≤ length out.old }
+    ensures end { result ≡ from + length bytes.now }
+    ensures put { out.new ≡ (take from out.old ++ bytes.now) ++ drop result out.old }
+{
+    let end = from + bytes.len();
+    out[from..end].copy_from_slice(bytes);
+    end
+}
