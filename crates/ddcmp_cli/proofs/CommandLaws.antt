@@ -1,11 +1,16 @@
 -- What a parse says of the command that the words name.
-use Rattle.std.proofs.Common.{codes, [], ◌∷◌, ◌≡◌, ◌∙◌, ap, sym, refl, true, List, Option, Some, None}
-use Rattle.std.specs.Option.{option_map}
-use Rattle.clap.specs.Words.{App, Text, HasMatchesOf, is_simple, subcommand_of, subcommand_name_of, takes}
+use Rattle.std.proofs.Common.{codes, [], ◌∷◌, ◌≡◌, ◌∙◌, ap, sym, subst, refl, true, List, Option, Some, None}
+use Rattle.std.specs.Option.{option_map, option_and_then}
+use Rattle.clap.specs.Words.{App, Text, HasMatchesOf, is_simple, subcommand_of, subcommand_name_of, subcommand_rows_of, one_text, one_of, takes, Row}
+use Rattle.clap.specs.Walk.{rows_of}
+use Rattle.clap.specs.declared.parser.matches.Found.{Found}
+use Rattle.clap.proofs.WalkLemmas.{one_text-rows}
 use Rattle.clap.specs.declared.parser.matches.ArgMatches.{ArgMatches}
 use Rattle.clap.specs.declared.parser.matches.ArgMatches.TheViews.{out-ArgMatches}
 use Rattle.clap.proofs.OnLiterals.{clap_on_literals}
-use Rattle.ddcmp_cli.specs.Words.{program, named_by, IsAsked}
+use Rattle.ddcmp_cli.specs.Words.{program, named_by, option_in, HasForm, HasMaximum, HasOptions, IsAsked}
+use Rattle.ddcmp_cli.specs.declared.command.Command.{Command}
+use Rattle.ddcmp_cli.specs.declared.command.Command.TheVariants.{Explain}
 
 pub program-simple : is_simple program ≡ true
 unfolding clap_on_literals
@@ -31,3 +36,41 @@ in_order app words name e asked = ap (λ (a : App). takes a words) e ∙ asked.i
 pub explain-asked : IsAsked (codes "ddcmp" ∷ codes "explain" ∷ []) (codes "explain")
 unfolding clap_on_literals named_by
 explain-asked = record { in_order = refl; names = refl }
+
+and_then-map : {A B C : Type 0} (g : A → Option C) (f : A → B) (h : B → Option C) (o : Option A) (b : B) → ((x : A) → g x ≡ h (f x)) → option_map f o ≡ Some b → option_and_then g o ≡ h b
+and_then-map g f h None b k e = let e' : ◌≡◌ None (Some b) = e in cc
+and_then-map g f h (Some x) b k e = let i : f x ≡ b = cc in k x ∙ ap h i
+
+-- an option of the command that a parse met is the one that the words give
+pub option_met : (app : App) (words : List Text) (m : ArgMatches) (f : Found) (id : Text) → app ≡ program → HasMatchesOf app words m
+    → option_map (λ p. p.1) (subcommand_rows_of m) ≡ Some (rows_of f) → one_text f id ≡ option_in words id
+unfolding option_in
+option_met app words m f id e h rows =
+    let found = h (ap is_simple e ∙ program-simple) in
+    let named_rows : subcommand_rows_of m ≡ subcommand_of program words = found.1 ∙ ap (λ (a : App). subcommand_of a words) e in
+    one_text-rows f id
+    ∙ sym (and_then-map (λ (p : Text × List Row). one_of id p.1) (λ p. p.1) (λ r. one_of id r) (subcommand_of program words) (rows_of f) (λ _. refl) (ap (option_map (λ p. p.1)) (sym named_rows) ∙ rows))
+
+-- a command has the options that the words give
+pub has_options : (app : App) (words : List Text) (m : ArgMatches) (f : Found) (made : Command) → app ≡ program → HasMatchesOf app words m
+    → option_map (λ p. p.1) (subcommand_rows_of m) ≡ Some (rows_of f) → HasOptions (one_text f) made → HasOptions (option_in words) made
+has_options app words m f (Explain form max) e h rows o = (
+  subst (λ t. HasForm t form) (option_met app words m f (codes "raw") e h rows) o.0,
+  subst (λ t. HasMaximum t max) (option_met app words m f (codes "max") e h rows) o.1,
+)
+
+pub plain-raw : option_in (codes "ddcmp" ∷ codes "explain" ∷ []) (codes "raw") ≡ Some (codes "false")
+unfolding clap_on_literals option_in
+plain-raw = refl
+
+pub plain-max : option_in (codes "ddcmp" ∷ codes "explain" ∷ []) (codes "max") ≡ None
+unfolding clap_on_literals option_in
+plain-max = refl
+
+pub given-raw : option_in (codes "ddcmp" ∷ codes "explain" ∷ codes "--raw" ∷ []) (codes "raw") ≡ Some (codes "true")
+unfolding clap_on_literals option_in
+given-raw = refl
+
+pub given-max : option_in (codes "ddcmp" ∷ codes "explain" ∷ codes "--max" ∷ codes "1500" ∷ []) (codes "max") ≡ Some (codes "1500")
+unfolding clap_on_literals option_in
+given-max = refl

@@ -4,3 +4,4 @@ pub mod ProgressLaws
 pub mod EndLaws
 pub mod ExplainLaws
 pub mod CommandLaws
+pub mod MaximumLaws

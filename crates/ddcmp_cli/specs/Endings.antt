@@ -5,7 +5,9 @@ use Rattle.ddcmp_cli.specs.declared.explaining.ExplainFault.TheVariants.{Odd, No
 use Rattle.ddcmp_cli.specs.declared.program.Ending.{Ending}
 use Rattle.ddcmp_cli.specs.declared.program.Ending.TheVariants.{Done, Usage, NotText, Fault}
 use Rattle.ddcmp_cli.specs.declared.explaining.Form.{Form}
-use Rattle.ddcmp_cli.specs.Words.{IsMaximum}
+use Rattle.clap.specs.Words.{Text}
+use Rattle.ddcmp_cli.specs.declared.command.Command.TheVariants.{Explain}
+use Rattle.ddcmp_cli.specs.Words.{HasOptions, option_in}
 use Rattle.ddcmp_cli.specs.Explains.{Explains}
 
 -- 1 where the input was refused, 3 where a device failed or memory was refused
@@ -26,10 +28,10 @@ abbrev pub ending_of : Result (Unit {0}) ExplainFault → Ending
 ending_of (Ok u) = Done
 ending_of (Err fault) = Fault fault
 
--- the input was explained in the form and for the maximum of the words, and the ending tells the
--- answer; or there was no memory for the words
-abbrev pub ExplainsOrNoMemory : List ℕ → Option (List ℕ) → Option (List ℕ) → Option (List ℕ) → Ending → Type 0
-ExplainsOrNoMemory input left old new ending =
+-- the input was explained with the options that the words give, and the ending tells the answer;
+-- or there was no memory for the words
+abbrev pub ExplainsOrNoMemory : List Text → List ℕ → Option (List ℕ) → Option (List ℕ) → Option (List ℕ) → Ending → Type 0
+ExplainsOrNoMemory words input left old new ending =
     (ending ≡ Fault Memory)
     ⊎ ((form : Form) × (max : ℕ) × (result : Result (Unit {0}) ExplainFault)
-    × IsMaximum max × (ending ≡ ending_of result) × Explains form max input left old new result)
+    × HasOptions (option_in words) (Explain form max) × (ending ≡ ending_of result) × Explains form max input left old new result)

@@ -1,9 +1,11 @@
 -- The command line, as `clap` reads it.
-use Rattle.std.specs.Prelude.{ℕ, pos, ◌≡◌, ◌<◌, ◌≤◌, true, List, codes, Option, Some}
-use Rattle.std.specs.Option.{option_map}
+use Rattle.std.specs.Prelude.{ℕ, pos, ◌≡◌, ◌<◌, ◌≤◌, true, List, codes, decimal, Option, Some, None}
+use Rattle.std.specs.Option.{option_map, option_and_then}
+use Rattle.ddcmp_cli.specs.declared.explaining.Form.{Form}
+use Rattle.ddcmp_cli.specs.declared.explaining.Form.TheVariants.{Hex, Raw}
 use Rattle.ddcmp_cli.specs.declared.command.Command.{Command}
 use Rattle.ddcmp_cli.specs.declared.command.Command.TheVariants.{Explain}
-use Rattle.clap.specs.Words.{App, Rule, Text, new_app, new_rule, subcommand_of, takes, with_rule, with_subcommand}
+use Rattle.clap.specs.Words.{App, Rule, Text, new_app, new_rule, one_of, subcommand_of, takes, with_rule, with_subcommand}
 use Rattle.clap.specs.declared.builder.ArgAction.TheVariants.{SetTrue}
 use Rattle.clap.specs.declared.builder.value_parser.ValueParser.TheVariants.{Signed}
 
@@ -39,6 +41,22 @@ pub record IsAsked (words : List Text) (name : Text) : Type 0 where
 abbrev pub IsMaximum : ℕ → Type 0
 IsMaximum max = (0 < max) × (max ≤ 16383)
 
--- what a command needs
-abbrev pub IsInRange : Command → Type 0
-IsInRange (Explain form max) = IsMaximum max
+-- the text of an option, as the words give it to the command that they name
+unfoldable pub option_in : List Text → Text → Option Text
+option_in words id = option_and_then (λ named. one_of id named.1) (subcommand_of program words)
+
+-- bytes as they are where `--raw` was given, else digits
+pub record HasForm (raw : Option Text) (form : Form) : Type 0 where
+  pub given : raw ≡ Some (codes "true") → form ≡ Raw
+  pub left_out : raw ≡ Some (codes "false") → form ≡ Hex
+  pub absent : raw ≡ None → form ≡ Hex
+
+-- the number behind `--max`, else the largest
+pub record HasMaximum (most : Option Text) (max : ℕ) : Type 0 where
+  pub in_range : IsMaximum max
+  pub given : (n : ℕ) → most ≡ Some (decimal n) → IsMaximum n → max ≡ n
+  pub absent : most ≡ None → max ≡ 16383
+
+-- a command with the options that were given
+abbrev pub HasOptions : (Text → Option Text) → Command → Type 0
+HasOptions option (Explain form max) = HasForm (option (codes "raw")) form × HasMaximum (option (codes "max")) max

@@ -1,8 +1,8 @@
 // The words of the command line.
-ghost use Rattle.std.specs.Prelude.{◌≡◌, ◌⊎◌, IfOk, IsOk, Some, codes, map, false};
-ghost use Rattle.ddcmp_cli.specs.Words.{IsAsked, IsInRange, named_by};
+ghost use Rattle.std.specs.Prelude.{◌≡◌, ◌⊎◌, ◌↔◌, IsTrue, IfOk, IsOk, Some, codes, map, false};
+ghost use Rattle.ddcmp_cli.specs.Words.{IsAsked, HasForm, HasMaximum, HasOptions, IsMaximum, named_by, option_in};
 ghost use Rattle.ddcmp_cli.specs.Words.{program, explain_app, raw_rule, max_rule};
-ghost use Rattle.clap.specs.Words.{kind_of, app_of, rule_of};
+ghost use Rattle.clap.specs.Words.{kind_of, app_of, rule_of, found_of, one_text};
 ghost use Rattle.clap.specs.declared.builder.command.Command.TheViews.{out-Command as fields_of};
 
 use crate::explaining::Form;
@@ -90,28 +90,49 @@ fn decline(alloc: Global, error: &Error) -> Declined
     }
 }
 
-/// The options of `explain`, as they were given or as they are without.
-fn explain_with(options: &ArgMatches<'_>) -> Command
-    ensures { IsInRange result }
+/// Bytes as they are, or digits.
+fn form_given(options: &ArgMatches<'_>) -> Form
+    ensures { HasForm (one_text (found_of options.now) (codes "raw")) result }
 {
-    let form = if options.get_flag("raw") {
+    if options.get_flag("raw") {
         Form::Raw
     } else {
         Form::Hex
-    };
-    // The parser of the words has tested the range.
-    let max = match options.get_one::<u16>("max") {
-        Some(max) if 0 < max && max <= MAX => max,
-        _ => MAX,
-    };
-    Command::Explain { form, max }
+    }
+}
+
+/// The most data that a frame may have. The parser of the words has tested the range.
+fn max_given(options: &ArgMatches<'_>) -> u16
+    ensures { HasMaximum (one_text (found_of options.now) (codes "max")) result }
+{
+    match options.get_one::<u16>("max") {
+        Some(max) => { if is_maximum(max) { max } else { MAX } }
+        None => MAX,
+    }
+}
+
+/// A COUNT that a reader may be made for.
+fn is_maximum(max: u16) -> bool
+    ensures { IsTrue result ↔ IsMaximum max }
+{
+    0 < max && max <= MAX
+}
+
+/// The options of `explain`, as they were given or as they are without.
+fn explain_with(options: &ArgMatches<'_>) -> Command
+    ensures { HasOptions (one_text (found_of options.now)) result }
+{
+    Command::Explain {
+        form: form_given(options),
+        max: max_given(options),
+    }
 }
 
 /// Reads the words of a command line, of which the first is the program's name.
 pub fn read_words<'a>(alloc: Global, words: &'a [&'a str]) -> Result<Command, Declined>
     ensures asked { IsAsked (map (λ word. word.now) words.entry.now) (codes "explain")
         → IsOk result ⊎ (result ≡ Err Declined.Memory) }
-    ensures in_range { IfOk result IsInRange }
+    ensures options { IfOk result (HasOptions (option_in (map (λ word. word.now) words.entry.now))) }
     ensures only { IfOk result (λ _. named_by (map (λ word. word.now) words.entry.now) ≡ Some (codes "explain")) }
 {
     let command = match parser(alloc) {

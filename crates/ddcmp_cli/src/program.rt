@@ -1,6 +1,6 @@
 // The program: words in, a command run, and how it ended.
-ghost use Rattle.std.specs.Prelude.{◌≡◌, ◌≢◌, ◌↔◌, ◌∷◌, [], false, IsTrue, IfOk, List, ℕ, Some, codes, map, string_bytes};
-ghost use Rattle.ddcmp_cli.specs.Words.{IsAsked};
+ghost use Rattle.std.specs.Prelude.{◌≡◌, ◌≢◌, ◌↔◌, ◌∷◌, [], false, IsTrue, IfOk, List, ℕ, Some, None, codes, map, string_bytes};
+ghost use Rattle.ddcmp_cli.specs.Words.{IsAsked, option_in};
 ghost use Rattle.ddcmp_cli.specs.Endings.{status_of, ExplainsOrNoMemory};
 
 use crate::command::{Command, Declined, read_words};
@@ -67,7 +67,7 @@ pub fn run<R: Source, W: Sink>(
     requires whole { W.broken writer.old ≡ false }
     ensures explains { (input : List ℕ) → R.left reader.old ≡ Some input
         → IsAsked (map (λ word. word.now) words.now) (codes "explain")
-        → ExplainsOrNoMemory input (R.left reader.new) (W.contents writer.old) (W.contents writer.new) result }
+        → ExplainsOrNoMemory (map (λ word. word.now) words.now) input (R.left reader.new) (W.contents writer.old) (W.contents writer.new) result }
     ensures read { R.state reader.new ≢ Worst.Fine → result ≡ Ending.Fault ExplainFault.Read }
     ensures write { (result ≡ Ending.Fault ExplainFault.Write) ↔ IsTrue (W.broken writer.new) }
 {
@@ -85,9 +85,14 @@ pub fn run<R: Source, W: Sink>(
     }
 }
 
-/// The words `ddcmp explain` ask for the command that explains.
+/// The words `ddcmp explain` ask for the command that explains, without its options; `--raw` and
+/// `--max 1500` are read.
 pub fn explain_is_asked()
-    ensures { IsAsked (codes "ddcmp" ∷ codes "explain" ∷ []) (codes "explain") }
+    ensures plain { IsAsked (codes "ddcmp" ∷ codes "explain" ∷ []) (codes "explain") }
+    ensures not_raw { option_in (codes "ddcmp" ∷ codes "explain" ∷ []) (codes "raw") ≡ Some (codes "false") }
+    ensures no_maximum { option_in (codes "ddcmp" ∷ codes "explain" ∷ []) (codes "max") ≡ None }
+    ensures raw { option_in (codes "ddcmp" ∷ codes "explain" ∷ codes "--raw" ∷ []) (codes "raw") ≡ Some (codes "true") }
+    ensures maximum { option_in (codes "ddcmp" ∷ codes "explain" ∷ codes "--max" ∷ codes "1500" ∷ []) (codes "max") ≡ Some (codes "1500") }
 {}
 
 fn texts(alloc: Global, args: &[String]) -> Result<Vec<&str>, AllocError>
@@ -111,7 +116,7 @@ pub fn run_args<R: Source, W: Sink>(
     requires whole { W.broken writer.old ≡ false }
     ensures explains { (input : List ℕ) → R.left reader.old ≡ Some input
         → IfOk args (λ words. IsAsked (map string_bytes words.items) (codes "explain")
-        → ExplainsOrNoMemory input (R.left reader.new) (W.contents writer.old) (W.contents writer.new) result) }
+        → ExplainsOrNoMemory (map string_bytes words.items) input (R.left reader.new) (W.contents writer.old) (W.contents writer.new) result) }
     ensures read { R.state reader.new ≢ Worst.Fine → result ≡ Ending.Fault ExplainFault.Read }
     ensures write { (result ≡ Ending.Fault ExplainFault.Write) ↔ IsTrue (W.broken writer.new) }
 {

@@ -1,5 +1,6 @@
 use Rattle.std.proofs.Common.{◌≡◌, ◌∙◌, sym, ap, inr, Err, Bool, true, false, refl}
-use Rattle.ddcmp_cli.proofs.CommandLaws.{named, in_order}
+use Rattle.clap.specs.Words.{found_of}
+use Rattle.ddcmp_cli.proofs.CommandLaws.{named, in_order, has_options}
 use Rattle.ddcmp_cli.proofs.command.read_words.Goals as goal
 
 false-true : ◌≡◌ {A = Bool} false true → ⊥
@@ -17,3 +18,7 @@ returns-in-Ok-try_get_matches_from-clause-asked c = λ asked.
 pub returns-clause-asked : goal.returns-clause-asked
 returns-clause-asked c = λ asked.
     inr (ap Err (c.decline.ensures.memory (c.in-Err-try_get_matches_from.ensures.passes (in_order _ _ _ c.in-Ok.ensures asked))))
+
+pub returns-in-Some-clause-options : goal.returns-in-Some-clause-options
+returns-in-Some-clause-options c =
+    has_options _ _ c.in-Ok-try_get_matches_from.matches (found_of c.in-Some.options.now) c.explain_with.result c.in-Ok.ensures c.in-Ok-try_get_matches_from.ensures.matches c.in-Some.ensures.rows c.explain_with.ensures

@@ -1,0 +1,12 @@
+pub mod Table
+pub mod Frames
+pub mod Counting
+pub mod Kept
+pub mod Sending
+pub mod Laws
+pub use Rattle.ddcmp_num.specs.Sequence
+pub use Rattle.ddcmp_frame.specs.Fields
+pub use Rattle.ddcmp_frame.specs.Naks
+pub use Rattle.ddcmp_frame.specs.Spelling
+pub use Rattle.ddcmp_frame.specs.Wire
+pub use Rattle.ddcmp_window.specs.Window

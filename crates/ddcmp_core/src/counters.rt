@@ -1,0 +1,182 @@
+// Counters of what a station did and saw.
+ghost use Rattle.std.specs.Prelude.{◌≡◌, ◌≤◌, length};
+ghost use Rattle.ddcmp_core.specs.Counting.{counted, nak_counted, sent_counted, again_counted, up_counted, fault_counted, no_naks, no_counts};
+ghost use Rattle.ddcmp_core.specs.Frames.{heard};
+
+use crate::kinds::Input;
+use ddcmp_frame::Nak;
+
+/// NAKs by their reasons.
+#[derive(Clone, Copy, Debug, PartialEq, Eq)]
+pub struct NakCounts {
+    pub header_check: u32,
+    pub data_check: u32,
+    pub reply_to_rep: u32,
+    pub no_buffer: u32,
+    pub overrun: u32,
+    pub too_long: u32,
+    pub format: u32,
+    pub other: u32,
+}
+
+/// What was counted since the station was made. A counter that has come to 4294967295 stays there.
+#[derive(Clone, Copy, Debug, PartialEq, Eq)]
+pub struct Counters {
+    pub nak_sent: NakCounts,
+    /// Those that came while running.
+    pub nak_received: NakCounts,
+    pub rep_sent: u32,
+    /// Those that came while running.
+    pub rep_received: u32,
+    /// Data messages sent for the first time, and maintenance messages sent.
+    pub messages_sent: u32,
+    /// Their data.
+    pub bytes_sent: u32,
+    /// Data messages sent again.
+    pub messages_again: u32,
+    /// Their data.
+    pub bytes_again: u32,
+    /// Messages put into the inbox.
+    pub messages_up: u32,
+    /// Their data.
+    pub bytes_up: u32,
+    /// Expiries of a timer that wasn't off.
+    pub expiries: u32,
+    pub header_checks: u32,
+    pub data_checks: u32,
+    pub too_longs: u32,
+    pub formats: u32,
+}
+
+/// Adds to a counter, which goes no further than its largest value.
+fn add(count: &mut u32, more: u32)
+    ensures { count.new ≡ counted count.old more }
+{
+    *count = count.saturating_add(more);
+}
+
+impl NakCounts {
+    fn none() -> NakCounts
+        ensures { result ≡ no_naks }
+    {
+        NakCounts {
+            header_check: 0,
+            data_check: 0,
+            reply_to_rep: 0,
+            no_buffer: 0,
+            overrun: 0,
+            too_long: 0,
+            format: 0,
+            other: 0,
+        }
+    }
+
+    fn count(&mut self, reason: Nak)
+        ensures { self.new ≡ nak_counted reason self.old }
+    {
+        match reason {
+            Nak::HeaderCheck => add(&mut self.header_check, 1),
+            Nak::DataCheck => add(&mut self.data_check, 1),
+            Nak::ReplyToRep => add(&mut self.reply_to_rep, 1),
+            Nak::NoBuffer => add(&mut self.no_buffer, 1),
+            Nak::Overrun => add(&mut self.overrun, 1),
+            Nak::TooLong => add(&mut self.too_long, 1),
+            Nak::Format => add(&mut self.format, 1),
+            Nak::Other(_) => add(&mut self.other, 1),
+        }
+    }
+}
+
+impl Counters {
+    pub(crate) fn none() -> Counters
+        ensures { result ≡ no_counts }
+    {
+        Counters {
+            nak_sent: NakCounts::none(),
+            nak_received: NakCounts::none(),
+            rep_sent: 0,
+            rep_received: 0,
+            messages_sent: 0,
+            bytes_sent: 0,
+            messages_again: 0,
+            bytes_again: 0,
+            messages_up: 0,
+            bytes_up: 0,
+            expiries: 0,
+            header_checks: 0,
+            data_checks: 0,
+            too_longs: 0,
+            formats: 0,
+        }
+    }
+
+    pub(crate) fn nak_sent(&mut self, reason: Nak)
+        ensures { self.new ≡ record self.old { nak_sent = nak_counted reason self.old.nak_sent } }
+    {
+        self.nak_sent.count(reason);
+    }
+
+    pub(crate) fn nak_received(&mut self, reason: Nak)
+        ensures { self.new ≡ record self.old { nak_received = nak_counted reason self.old.nak_received } }
+    {
+        self.nak_received.count(reason);
+    }
+
+    pub(crate) fn rep_sent(&mut self)
+        ensures { self.new ≡ record self.old { rep_sent = counted self.old.rep_sent 1 } }
+    {
+        add(&mut self.rep_sent, 1);
+    }
+
+    pub(crate) fn rep_received(&mut self)
+        ensures { self.new ≡ record self.old { rep_received = counted self.old.rep_received 1 } }
+    {
+        add(&mut self.rep_received, 1);
+    }
+
+    /// A message of this many bytes was sent for the first time.
+    pub(crate) fn sent(&mut self, bytes: usize)
+        requires { bytes ≤ 16383 }
+        ensures { self.new ≡ sent_counted bytes self.old }
+    {
+        add(&mut self.messages_sent, 1);
+        add(&mut self.bytes_sent, bytes as u32);
+    }
+
+    /// A message of this many bytes was sent again.
+    pub(crate) fn again(&mut self, bytes: usize)
+        requires { bytes ≤ 16383 }
+        ensures { self.new ≡ again_counted bytes self.old }
+    {
+        add(&mut self.messages_again, 1);
+        add(&mut self.bytes_again, bytes as u32);
+    }
+
+    /// A message of this many bytes is in the inbox.
+    pub(crate) fn up(&mut self, bytes: usize)
+        requires { bytes ≤ 16383 }
+        ensures { self.new ≡ up_counted bytes self.old }
+    {
+        add(&mut self.messages_up, 1);
+        add(&mut self.bytes_up, bytes as u32);
+    }
+
+    pub(crate) fn expired(&mut self)
+        ensures { self.new ≡ record self.old { expiries = counted self.old.expiries 1 } }
+    {
+        add(&mut self.expiries, 1);
+    }
+
+    /// What came, where it is a fault.
+    pub(crate) fn fault(&mut self, input: &Input<'_>)
+        ensures { self.new ≡ fault_counted (heard input.now) self.old }
+    {
+        match input {
+            Input::Good(_, _) => {}
+            Input::HeaderCheck => add(&mut self.header_checks, 1),
+            Input::DataCheck(_) => add(&mut self.data_checks, 1),
+            Input::TooLong(_) => add(&mut self.too_longs, 1),
+            Input::Format => add(&mut self.formats, 1),
+        }
+    }
+}

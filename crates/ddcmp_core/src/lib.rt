@@ -1,0 +1,18 @@
+//! The station of DDCMP: its states, flags, numbers, notices and counters.
+#![tactic(auto)]
+
+mod counters;
+mod kinds;
+mod laws;
+mod station;
+
+pub use counters::{Counters, NakCounts};
+pub use ddcmp_frame::{ControlType, Counted, Flags, Header, Nak, Short};
+pub use ddcmp_window::{SendRefusal, Seq, Store};
+pub use kinds::{Input, Notice, Numbers, Reply, StartRefusal, State, Timer};
+pub use laws::{
+    acknowledges_what_was_sent, begins_with_nothing, leaves_istart_for_good, runs_after_startup,
+    sends_for_a_reason, sends_in_window, sends_what_is_read, starts_in_state, stays_sound,
+    stays_timed, tells_what_leaves,
+};
+pub use station::Core;

@@ -1,0 +1,374 @@
+// A station over two stores.
+mod hearing;
+mod sending;
+
+use crate::counters::Counters;
+use crate::kinds::{Numbers, Reply, StartRefusal, State, Timer};
+use ddcmp_window::{Inbox, SendRefusal, Sender, Seq, Store};
+use std::marker::Model;
+
+/// One end of a link: its state, flags and numbers, the messages that it sends, an inbox of those
+/// that came, and counters.
+#[derive(Drop)]
+pub struct Core<S: Store> {
+    state: State,
+    /// A STRT or a STACK is to be sent.
+    due: bool,
+    reply: Reply,
+    /// A REP is to be sent.
+    rep: bool,
+    timer: Timer,
+    sender: Sender<S>,
+    inbox: Inbox<S>,
+    /// A running end whose inbox is empty answers a STRT by beginning anew.
+    restart: bool,
+    counters: Counters,
+}
+
+impl<S: Store> Model for Core<S> {
+    ghost use Rattle.std.specs.Prelude.{◌≡◌, ℕ};
+    ghost use Rattle.ddcmp_core.specs.Kept.{Kept, FitsState};
+
+    ghost Value = { Kept };
+
+    ghost view = { λ c. record {
+      limits = record {
+        window = c.sender.limit;
+        room = c.inbox.limit;
+        longest = c.sender.longest;
+        restart = c.restart;
+      };
+      station = record {
+        state = c.state;
+        due = c.due;
+        r = c.inbox.incoming.r;
+        n = c.sender.outgoing.n;
+        a = c.sender.outgoing.a;
+        t = c.sender.outgoing.t;
+        reply = c.reply;
+        rep = c.rep;
+        timer = c.timer;
+        out = c.sender.outgoing.out;
+        inbox = c.inbox.incoming.inbox;
+      };
+      counters = c.counters;
+    } };
+
+    ghost invariant = { λ c. (c.sender.longest ≡ c.inbox.longest) × FitsState (record {
+      state = c.state;
+      due = c.due;
+      r = c.inbox.incoming.r;
+      n = c.sender.outgoing.n;
+      a = c.sender.outgoing.a;
+      t = c.sender.outgoing.t;
+      reply = c.reply;
+      rep = c.rep;
+      timer = c.timer;
+      out = c.sender.outgoing.out;
+      inbox = c.inbox.incoming.inbox;
+    }) };
+}
+
+impl<S: Store> Core<S> {
+    ghost use Rattle.std.specs.Prelude.{◌≡◌, ◌≢◌, ◌↔◌, ◌+◌, ◌<◌, ◌≤◌, [], length, sum_by, slice_index_or, IsTrue, Some, Ok, Err, OnErr, option_map, if◌then◌else◌};
+    ghost use Rattle.ddcmp_window.specs.Window.{first, written};
+    ghost use Rattle.ddcmp_core.specs.Table.{new_station, may_start, answer_to_start, started, in_maintenance, begun, halted, answer_to_send, may_send, accepted, answer_to_send_maintenance, may_send_maintenance, taken, expired, is_on, is_fresh, armed};
+    ghost use Rattle.ddcmp_core.specs.Counting.{no_counts, expired_counted};
+    ghost use Rattle.ddcmp_core.specs.Kept.{IsSound};
+
+    /// A halted station that keeps the messages to send in `out` and those that came in `inbox`.
+    pub fn new(out: S, inbox: S, restart: bool) -> Self
+        requires out_empty { S.messages out ≡ [] }
+        requires inbox_empty { S.messages inbox ≡ [] }
+        requires one_longest { S.longest out ≡ S.longest inbox }
+        ensures { result ≡ record {
+          limits = record {
+            window = S.limit out;
+            room = S.limit inbox;
+            longest = S.longest out;
+            restart = restart;
+          };
+          station = new_station;
+          counters = no_counts;
+        } }
+    {
+        Core {
+            state: State::Halted,
+            due: false,
+            reply: Reply::Quiet,
+            rep: false,
+            timer: Timer::Off,
+            sender: Sender::new(out),
+            inbox: Inbox::new(inbox),
+            restart,
+            counters: Counters::none(),
+        }
+    }
+
+    /// Asks the peer to start: how many messages that waited to be sent were dropped.
+    pub fn start(&mut self) -> Result<u8, StartRefusal>
+        ensures state { self.new ≡ record self.old {
+          station = if may_start self.old.station then started self.old.station else self.old.station;
+        } }
+        ensures answer { result ≡ answer_to_start self.old.station }
+        ensures refused { OnErr result (self.new ≡ self.old) }
+
+        // When each refusal comes.
+        ensures not_halted { (result ≡ Err StartRefusal.NotHalted)
+            ↔ (self.old.station.state ≢ State.Halted) }
+        ensures untaken { (result ≡ Err StartRefusal.Untaken)
+            ↔ ((self.old.station.state ≡ State.Halted) × (1 ≤ length self.old.station.inbox)) }
+    {
+        self.begin_halted(State::IStart, true)
+    }
+
+    /// Enters the state of maintenance: how many messages that waited to be sent were dropped.
+    pub fn enter_maintenance(&mut self) -> Result<u8, StartRefusal>
+        ensures state { self.new ≡ record self.old {
+          station = if may_start self.old.station then in_maintenance self.old.station else self.old.station;
+        } }
+        ensures answer { result ≡ answer_to_start self.old.station }
+        ensures refused { OnErr result (self.new ≡ self.old) }
+
+        // When each refusal comes.
+        ensures not_halted { (result ≡ Err StartRefusal.NotHalted)
+            ↔ (self.old.station.state ≢ State.Halted) }
+        ensures untaken { (result ≡ Err StartRefusal.Untaken)
+            ↔ ((self.old.station.state ≡ State.Halted) × (1 ≤ length self.old.station.inbox)) }
+    {
+        self.begin_halted(State::Maintenance, false)
+    }
+
+    /// Begins in a state where it is halted and its inbox empty: how many messages were dropped.
+    fn begin_halted(&mut self, state: State, due: bool) -> Result<u8, StartRefusal>
+        ensures state { self.new ≡ record self.old {
+          station = if may_start self.old.station then begun state due self.old.station.inbox else self.old.station;
+        } }
+        ensures answer { result ≡ answer_to_start self.old.station }
+    {
+        if self.state != State::Halted {
+            return Err(StartRefusal::NotHalted);
+        }
+        if self.inbox.len() != 0 {
+            return Err(StartRefusal::Untaken);
+        }
+        Ok(self.begin(state, due))
+    }
+
+    /// Begins with an empty inbox in a state: how many messages were dropped.
+    fn begin(&mut self, state: State, due: bool) -> u8
+        requires { length self.old.station.inbox ≡ 0 }
+        ensures state { self.new ≡ record self.old { station = begun state due self.old.station.inbox } }
+        ensures dropped { result ≡ length self.old.station.out }
+    {
+        let dropped = self.sender.reset();
+        self.inbox.reset();
+        self.reply = Reply::Quiet;
+        self.rep = false;
+        self.timer = Timer::Off;
+        self.state = state;
+        self.due = due;
+        dropped
+    }
+
+    /// Sends and takes nothing more. Numbers and messages stay.
+    pub fn halt(&mut self)
+        ensures { self.new ≡ record self.old { station = halted self.old.station } }
+    {
+        self.state = State::Halted;
+        self.due = false;
+        self.reply = Reply::Quiet;
+        self.rep = false;
+        self.timer = Timer::Off;
+    }
+
+    /// Keeps a message to be sent, and answers its number.
+    pub fn send(&mut self, message: &[u8]) -> Result<Seq, SendRefusal>
+        ensures state { self.new ≡ record self.old {
+          station = if may_send self.old.limits self.old.station message.now
+              then accepted self.old.station message.now else self.old.station;
+        } }
+        ensures answer { result ≡ answer_to_send self.old.limits self.old.station message.now }
+        ensures refused { OnErr result (self.new ≡ self.old) }
+
+        // When each refusal comes.
+        ensures wrong_state { (result ≡ Err SendRefusal.WrongState)
+            ↔ (self.old.station.state ≢ State.Running) }
+        ensures empty { (result ≡ Err SendRefusal.Empty)
+            ↔ ((self.old.station.state ≡ State.Running) × (length message.now ≡ 0)) }
+        ensures too_long { (result ≡ Err SendRefusal.TooLong)
+            ↔ ((self.old.station.state ≡ State.Running) × (self.old.limits.longest < length message.now)) }
+        ensures window_full { (result ≡ Err SendRefusal.WindowFull)
+            ↔ ((self.old.station.state ≡ State.Running) × (1 ≤ length message.now)
+            × (length message.now ≤ self.old.limits.longest) × (self.old.limits.window ≤ length self.old.station.out)) }
+    {
+        if self.state != State::Running {
+            return Err(SendRefusal::WrongState);
+        }
+        self.sender.accept(message)
+    }
+
+    /// Keeps a maintenance message to be sent.
+    pub fn send_maintenance(&mut self, message: &[u8]) -> Result<(), SendRefusal>
+        ensures state { self.new ≡ record self.old {
+          station = if may_send_maintenance self.old.limits self.old.station message.now
+              then accepted self.old.station message.now else self.old.station;
+        } }
+        ensures answer { result ≡ answer_to_send_maintenance self.old.limits self.old.station message.now }
+        ensures refused { OnErr result (self.new ≡ self.old) }
+
+        // When each refusal comes.
+        ensures wrong_state { (result ≡ Err SendRefusal.WrongState)
+            ↔ (self.old.station.state ≢ State.Maintenance) }
+        ensures empty { (result ≡ Err SendRefusal.Empty)
+            ↔ ((self.old.station.state ≡ State.Maintenance) × (length message.now ≡ 0)) }
+        ensures too_long { (result ≡ Err SendRefusal.TooLong)
+            ↔ ((self.old.station.state ≡ State.Maintenance) × (self.old.limits.longest < length message.now)) }
+        ensures window_full { (result ≡ Err SendRefusal.WindowFull)
+            ↔ ((self.old.station.state ≡ State.Maintenance) × (1 ≤ length message.now)
+            × (length message.now ≤ self.old.limits.longest) × (self.old.limits.window ≤ length self.old.station.out)) }
+    {
+        if self.state != State::Maintenance {
+            return Err(SendRefusal::WrongState);
+        }
+        match self.sender.accept(message) {
+            Ok(_number) => Ok(()),
+            Err(refusal) => Err(refusal),
+        }
+    }
+
+    /// Moves the first message of the inbox to the front of `out`, and answers its length.
+    pub fn take(&mut self, out: &mut [u8]) -> Option<usize>
+        requires { self.old.limits.longest ≤ length out.old }
+        ensures state { self.new ≡ record self.old { station = taken self.old.station } }
+        ensures length { result ≡ option_map length (first self.old.station.inbox) }
+        ensures out { out.new ≡ written (first self.old.station.inbox) out.old }
+    {
+        self.inbox.take(out)
+    }
+
+    /// The timer has run out: whether it was on.
+    pub fn expire(&mut self) -> bool
+        ensures state { self.new ≡ record self.old {
+          station = expired self.old.station;
+          counters = expired_counted self.old.station self.old.counters;
+        } }
+        ensures answer { result ≡ is_on self.old.station.timer }
+    {
+        if self.timer == Timer::Off {
+            return false;
+        }
+        self.timer = Timer::Off;
+        self.counters.expired();
+        match self.state {
+            State::Halted | State::Maintenance => {}
+            State::IStart | State::AStart => self.due = true,
+            State::Running => {
+                if self.sender.last_acknowledged() != self.sender.last_sent() {
+                    self.rep = true;
+                }
+            }
+        }
+        true
+    }
+
+    /// Whether the timer was started since this was last asked: the caller sets its deadline.
+    pub fn take_arm(&mut self) -> bool
+        ensures state { self.new ≡ record self.old { station = armed self.old.station } }
+        ensures answer { result ≡ is_fresh self.old.station.timer }
+    {
+        if self.timer != Timer::Fresh {
+            return false;
+        }
+        self.timer = Timer::On;
+        true
+    }
+
+    /// The state.
+    pub fn state(&self) -> State
+        ensures { result ≡ self.now.station.state }
+    {
+        self.state
+    }
+
+    /// The numbers.
+    pub fn numbers(&self) -> Numbers
+        ensures { result ≡ record {
+          r = record { 0 = self.now.station.r };
+          n = record { 0 = self.now.station.n };
+          a = record { 0 = self.now.station.a };
+          t = record { 0 = self.now.station.t };
+        } }
+    {
+        Numbers {
+            r: self.inbox.last(),
+            n: self.sender.last_sent(),
+            a: self.sender.last_acknowledged(),
+            t: self.sender.next_number(),
+        }
+    }
+
+    /// The number of messages kept.
+    pub fn outgoing(&self) -> u8
+        ensures { result ≡ length self.now.station.out }
+    {
+        self.sender.len()
+    }
+
+    /// Whether fewer messages are kept than the window allows.
+    pub fn room(&self) -> bool
+        ensures { IsTrue result ↔ (length self.now.station.out < self.now.limits.window) }
+    {
+        self.sender.room()
+    }
+
+    /// The number of messages in the inbox.
+    pub fn waiting(&self) -> u8
+        ensures { result ≡ length self.now.station.inbox }
+    {
+        self.inbox.len()
+    }
+
+    /// Copies message `i` of the inbox, counted from 0, to the front of `out`, and answers its
+    /// length.
+    pub fn waiting_at(&self, i: u8, out: &mut [u8]) -> usize
+        requires there { i < length self.now.station.inbox }
+        requires longest { self.now.limits.longest ≤ length out.old }
+        ensures length { result ≡ length (slice_index_or self.now.station.inbox i []) }
+        ensures out { out.new ≡ written (Some (slice_index_or self.now.station.inbox i [])) out.old }
+    {
+        self.inbox.holds();
+        self.inbox.copy(i, out)
+    }
+
+    /// Whether the timer isn't off.
+    pub fn timer_on(&self) -> bool
+        ensures { result ≡ is_on self.now.station.timer }
+    {
+        self.timer != Timer::Off
+    }
+
+    /// What was counted.
+    pub fn counters(&self) -> &Counters
+        ensures { result.now ≡ self.now.counters }
+    {
+        &self.counters
+    }
+
+    /// The length of all messages kept and in the inbox.
+    pub fn bytes(&self) -> usize
+        ensures { result ≡ sum_by length self.now.station.out + sum_by length self.now.station.inbox }
+    {
+        self.sender.holds();
+        self.inbox.holds();
+        self.sender.bytes() + self.inbox.bytes()
+    }
+
+    /// What holds of every station, for proofs. It does nothing.
+    pub fn holds(&self)
+        ensures { IsSound self.now.limits self.now.station }
+    {
+        self.sender.holds();
+        self.inbox.holds();
+    }
+}

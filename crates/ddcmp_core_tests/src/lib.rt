@@ -1,0 +1,5 @@
+//! Tests of `ddcmp_core` on lists of calls from outside.
+#![tactic(auto)]
+
+#[cfg(test)]
+mod calls;
