@@ -14,7 +14,8 @@ use Rattle.ddcmp_cli.specs.Text.{lines, totals, last_line}
 use Rattle.ddcmp_cli.specs.Written.{AppendsPart, Passes}
 use Rattle.ddcmp_cli.specs.Explains.{refusal, refusal_by, explained}
 use Rattle.ddcmp_cli.specs.Progress.{Progress}
-use Rattle.ddcmp_cli.proofs.WrittenLaws.{appends-append, append-part, part-append}
+use Rattle.std.proofs.KnownBytes.{Appends-trans}
+use Rattle.ddcmp_cli.proofs.WrittenLaws.{append-part, part-append}
 
 -- ---- the page goes out
 
@@ -27,7 +28,7 @@ page-out form max old sink new page seen at p w =
       counted = p.counted;
       high = p.high;
       out = p.out ++ page;
-      written = appends-append old sink new p.out page p.written w;
+      written = Appends-trans old sink new p.out page p.written w;
       lines_are = p.lines_are ∙ sym (append-nil (p.out ++ page));
     }
 
@@ -35,7 +36,7 @@ pub page-part : (form : Form) (max : ℕ) (old sink new : Option (List ℕ)) (pa
 page-part form max old sink new page seen at p w = subst (AppendsPart old new) (sym p.lines_are) (append-part old sink new p.out page p.written w)
 
 pub found-out : (old sink new : Option (List ℕ)) (out page text : List ℕ) → Appends old sink out → text ≡ out ++ page → Appends sink new page → Appends old new text
-found-out old sink new out page text w e p = subst (Appends old new) (sym e) (appends-append old sink new out page w p)
+found-out old sink new out page text w e p = subst (Appends old new) (sym e) (Appends-trans old sink new out page w p)
 
 pub found-part : (old sink new : Option (List ℕ)) (out page text : List ℕ) → Appends old sink out → text ≡ out ++ page → AppendsPart sink new page → AppendsPart old new text
 found-part old sink new out page text w e p = subst (AppendsPart old new) (sym e) (append-part old sink new out page w p)
@@ -45,7 +46,7 @@ lines-out form max old sink seen at p = subst (Appends old sink) (sym (p.lines_a
 
 pub passes-whole : (sink mid new : Option (List ℕ)) (page page_after text : List ℕ) (u : Unit {0}) → page ≡ [] → Passes sink page mid page_after (Ok u) text → Appends mid new page_after → Appends sink new text
 passes-whole sink mid new page page_after text u e p w =
-    subst (Appends sink new) (sym p.2 ∙ ap (λ x. x ++ text) e) (appends-append sink mid new p.0 page_after p.1 w)
+    subst (Appends sink new) (sym p.2 ∙ ap (λ x. x ++ text) e) (Appends-trans sink mid new p.0 page_after p.1 w)
 
 pub passes-part : (sink mid new : Option (List ℕ)) (page page_after text : List ℕ) (u : Unit {0}) → page ≡ [] → Passes sink page mid page_after (Ok u) text → AppendsPart mid new page_after → AppendsPart sink new text
 passes-part sink mid new page page_after text u e p w =
@@ -101,7 +102,7 @@ pub end-whole : (form : Form) (max b o : ℕ) (old sink new : Option (List ℕ))
 end-whole form max b o old sink new seen at p h bi oi w =
     let r = refusal-none form seen at.high p.readable p.high h in
     let l = last_is form max at.items b o seen at old sink p refl bi (oi ∙ ap (λ m. open_at_end m (bytes_of form seen)) p.max_is) in
-    (r, subst (Appends old new) (sym (explained-whole form max seen r)) (appends-append old sink new (lines max (bytes_of form seen)) (last_line max (bytes_of form seen)) (lines-out form max old sink seen at p) (subst (Appends sink new) l w)))
+    (r, subst (Appends old new) (sym (explained-whole form max seen r)) (Appends-trans old sink new (lines max (bytes_of form seen)) (last_line max (bytes_of form seen)) (lines-out form max old sink seen at p) (subst (Appends sink new) l w)))
 
 pub end-part : (form : Form) (max b o : ℕ) (old sink new : Option (List ℕ)) (seen : List ℕ) (at : Explained) → Progress form max old seen at sink [] → is_some at.high ≡ false → b ≡ length (bytes_of form seen) → o ≡ open_at_end at.frames.max (bytes_of form seen) → AppendsPart sink new (totals at.items b o) → AppendsPart old new (explained form max seen)
 end-part form max b o old sink new seen at p h bi oi w =

@@ -16,7 +16,7 @@ use Rattle.ddcmp_cli.specs.Text.{lines}
 use Rattle.ddcmp_cli.specs.Written.{AppendsPart}
 use Rattle.ddcmp_cli.specs.Explains.{Tells, Explains, GaveMost}
 use Rattle.ddcmp_cli.specs.Progress.{Progress, PieceWritten, EndTold}
-use Rattle.ddcmp_cli.proofs.WrittenLaws.{appends-nothing}
+use Rattle.std.proofs.KnownBytes.{Appends-nil}
 use Rattle.ddcmp_cli.proofs.DigitLaws.{nothing-strange, nothing-spelled, nothing-left}
 use Rattle.ddcmp_cli.proofs.EndLaws.{lines-out, refusal-strange, explained-refused, part-explained}
 
@@ -43,7 +43,7 @@ begun form max sink at s m n h =
       counted = n ∙ sym (ap length (ap (items max) none ∙ items-nothing max));
       high = nothing-left form ∙ ap option_to_list (sym h);
       out = [];
-      written = appends-nothing sink;
+      written = Appends-nil sink;
       lines_are = ap (lines max) none ∙ lines-nothing max;
     }
 

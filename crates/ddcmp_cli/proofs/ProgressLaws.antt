@@ -17,7 +17,8 @@ use Rattle.ddcmp_cli.specs.Digits.{hex_value, is_readable, first_stranger, digit
 use Rattle.ddcmp_cli.specs.Text.{lines, line_of}
 use Rattle.ddcmp_cli.specs.Written.{AppendsPart}
 use Rattle.ddcmp_cli.specs.Progress.{ByteTaken, PieceTaken, Progress}
-use Rattle.ddcmp_cli.proofs.WrittenLaws.{appends-append, append-part, part-append}
+use Rattle.std.proofs.KnownBytes.{Appends-trans}
+use Rattle.ddcmp_cli.proofs.WrittenLaws.{append-part, part-append}
 use Rattle.ddcmp_cli.proofs.DigitLaws.{readable-more, stranger-here, digits-more, digits-blank, digits-strange, digits-digit, pairs-held, pairs-whole, bytes-prefix, stranger-stays, bytes-found}
 
 -- the lines of bytes that go on begin with the lines of the bytes
@@ -94,7 +95,7 @@ progress-byte form max old sink sink_after page page_after seen digit byte at mi
       counted = t.counted ∙ ap (λ n. n + length t.given) (count ∙ p.counted) ∙ sym (length-append (items max (bytes_of form seen)) t.given) ∙ ap length (sym given) ∙ ap (λ b. length (items max b)) (sym now);
       high = left ∙ ap option_to_list (sym t.high);
       out = p.out ++ passed.0;
-      written = appends-append old sink sink_after p.out passed.0 p.written passed.1;
+      written = Appends-trans old sink sink_after p.out passed.0 p.written passed.1;
       lines_are =
           ap (lines max) now
           ∙ lines-given max (bytes_of form seen) (byte ∷ []) t.given given

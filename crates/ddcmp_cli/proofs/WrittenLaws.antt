@@ -5,19 +5,10 @@ use Rattle.std.specs.Prelude.{slice_index, ◌/◌, ◌%◌}
 use Rattle.hex.specs.Hex.{encode_lower, encode_with, lower_digits}
 use Rattle.ddcmp_cli.specs.declared.page.WriteFailed.{WriteFailed}
 use Rattle.std.specs.Io.KnownBytes.{Appends}
+use Rattle.std.proofs.KnownBytes.{Appends-nil, Appends-trans}
 use Rattle.std.proofs.lemmas.List.{append-nil, take-append-drop}
 use Rattle.std.proofs.Math.Seq.{take-append-add, take-add}
 use Rattle.ddcmp_cli.specs.Written.{AppendsPart, Passes}
-
-pub appends-nothing : (a : Option (List ℕ)) → Appends a a []
-appends-nothing None = tt
-appends-nothing (Some a) = sym (append-nil a)
-
-pub appends-append : (a b c : Option (List ℕ)) (x y : List ℕ) → Appends a b x → Appends b c y → Appends a c (x ++ y)
-appends-append None b c x y p q = tt
-appends-append (Some a) None c x y p q = absurd p
-appends-append (Some a) (Some b) None x y p q = absurd q
-appends-append (Some a) (Some b) (Some c) x y p q = q ∙ ap (λ t. t ++ y) p ∙ append_assoc a x y
 
 pub take_then : (xs : List ℕ) (i n : ℕ) → take i xs ++ take n (drop i xs) ≡ take (i + n) xs
 take_then xs i n = sym (take-add i n xs)
@@ -34,7 +25,7 @@ part-append a b x y p = let r = take_part p.0 x y in (r.0, subst (Appends a b) r
 
 pub append-part : (a b c : Option (List ℕ)) (x y : List ℕ) → Appends a b x → AppendsPart b c y → AppendsPart a c (x ++ y)
 append-part a b c x y p q =
-    (length x + q.0, subst (Appends a c) (sym (take-append-add x y q.0)) (appends-append a b c x (take q.0 y) p q.1))
+    (length x + q.0, subst (Appends a c) (sym (take-append-add x y q.0)) (Appends-trans a b c x (take q.0 y) p q.1))
 
 -- a beginning of a page begins the page and a text
 pub part-page : (a b : Option (List ℕ)) (page text : List ℕ) → AppendsPart a b (page ++ []) → AppendsPart a b (page ++ text)
@@ -44,7 +35,7 @@ part-page a b page text p = part-append a b page text (subst (AppendsPart a b) (
 pub passes-then : (a b c : Option (List ℕ)) (p q r : List ℕ) (u : Unit {0}) (result : Result (Unit {0}) WriteFailed) (x y : List ℕ) → Passes a p b q (Ok u) x → Passes b q c r result y → Passes a p c r result (x ++ y)
 passes-then a b c p q r u (Ok v) x y h k = (
   h.0 ++ k.0,
-  appends-append a b c h.0 k.0 h.1 k.1,
+  Appends-trans a b c h.0 k.0 h.1 k.1,
   sym (append_assoc p x y) ∙ ap (λ t. t ++ y) h.2 ∙ append_assoc h.0 q y ∙ ap (λ t. h.0 ++ t) k.2 ∙ sym (append_assoc h.0 k.0 r),
 )
 passes-then a b c p q r u (Err f) x y h k =
@@ -67,7 +58,7 @@ unfolding encode_with
 hex-nothing = refl
 
 pub passes-nothing : (a : Option (List ℕ)) (p text : List ℕ) → text ≡ [] → Passes a p a p (Ok tt) text
-passes-nothing a p text e = ([], appends-nothing a, ap (λ t. p ++ t) e ∙ append-nil p)
+passes-nothing a p text e = ([], Appends-nil a, ap (λ t. p ++ t) e ∙ append-nil p)
 
 -- the next part of some bytes
 pub hex_more : (xs : List ℕ) (i n : ℕ) → encode_lower (take (i + n) xs) ≡ encode_lower (take i xs) ++ encode_lower (take n (drop i xs))

@@ -19,9 +19,6 @@ use Rattle.ddcmp_core.proofs.Fits.{fits_any}
 use Rattle.ddcmp_core.proofs.Sent.{sending}
 use Rattle.ddcmp_core.proofs.Windows.{window_acknowledging, window_again, window_sent, window_more, window_new, window_popped, stored_drop, stored_none, stored_more}
 
-running_plain : is_starting Running ≡ false
-running_plain = refl
-
 running_other : (p : State) → p ≡ Running → p ≢ Maintenance
 running_other p e m = cc
 

@@ -1,5 +1,5 @@
 -- What an end does at startup, and what it sends.
-use Rattle.std.proofs.Common.{◌≡◌, ◌≢◌, ℕ, ◌+◌, ◌-◌, ◌%◌, ◌<◌, Bool, true, false, cond, List, length, refl, sym, ◌∙◌, ap, subst, arith}
+use Rattle.std.proofs.Common.{◌≡◌, ◌≢◌, ℕ, ◌+◌, ◌-◌, ◌%◌, ◌<◌, ◌≤◌, Bool, true, false, cond, List, length, refl, sym, ◌∙◌, ap, subst, arith}
 use Rattle.std.specs.Prelude.{◌==◌}
 use Rattle.ddcmp_frame.specs.declared.nak.Nak.{Nak as Reason}
 use Rattle.ddcmp_frame.specs.declared.nak.Nak.TheVariants as reason
@@ -180,8 +180,8 @@ pub data_sent : (l : Limits) (s : Station) (resp num : ℕ) (message : List ℕ)
 data_sent l s resp num message u h e = subst (OfFrame (DataIn s)) e (data_turn l s (next s) h (sending s))
 
 -- a frame that is sent is read as the frame that it is
-abbrev pub IsRead : Frame → Type 0
-IsRead f = (frame_of (header_of f) (data_of f) ≡ f) × IsFrame (header_of f) (data_of f) × InRange (header_of f)
+abbrev pub IsRead : Limits → Frame → Type 0
+IsRead l f = (frame_of (header_of f) (data_of f) ≡ f) × IsFrame (header_of f) (data_of f) × InRange (header_of f) × (length (data_of f) ≤ l.longest)
 
 reason_read : (why : Reason) → is_sent_reason why ≡ true → (reason_of (subtype_of why) ≡ why) × (subtype_of why < 64)
 reason_read reason.HeaderCheck e = (refl, omega arith)
@@ -193,30 +193,30 @@ reason_read reason.TooLong e = (refl, omega arith)
 reason_read reason.Format e = (refl, omega arith)
 reason_read (reason.Other n) e = absurd (cc e)
 
-read_turn : (l : Limits) (s : Station) (t : Turn) → IsSound l s → Sending s t → OfFrame IsRead t
-read_turn l s _ h (sends_strt p d) = (refl, refl, omega arith)
-read_turn l s _ h (sends_stack p d) = (refl, refl, omega arith)
+read_turn : (l : Limits) (s : Station) (t : Turn) → IsSound l s → Sending s t → OfFrame (IsRead l) t
+read_turn l s _ h (sends_strt p d) = (refl, refl, omega arith, omega arith)
+read_turn l s _ h (sends_stack p d) = (refl, refl, omega arith, omega arith)
 read_turn l s _ h (sends_nak why p r) =
     let e : is_sent_reason why ≡ true = sym (ap is_sent_reply r) ∙ h.fits.sent_reply in
     let k = reason_read why e in
-    (ap (λ (w : Reason). Naked w s.r) k.0, refl, k.1)
-read_turn l s _ h (sends_rep p r f) = (refl, refl, omega arith)
+    (ap (λ (w : Reason). Naked w s.r) k.0, refl, k.1, omega arith)
+read_turn l s _ h (sends_rep p r f) = (refl, refl, omega arith, omega arith)
 read_turn l s _ h (sends_data p r f place) =
     let k = h.out_stored.lengths (before_next s) place in
-    (refl, refl, (omega (arith, k.0), omega (arith, k.1, h.out_stored.longest_max)))
-read_turn l s _ h (sends_ack p r f place) = (refl, refl, omega arith)
+    (refl, refl, (omega (arith, k.0), omega (arith, k.1, h.out_stored.longest_max)), k.1)
+read_turn l s _ h (sends_ack p r f place) = (refl, refl, omega arith, omega arith)
 read_turn l s _ h (sends_maint m ms p o) =
     let one : 0 < length s.out = omega (arith, ap length o) in
     let k = h.out_stored.lengths 0 one in
     let k' = rw o at k in
-    (refl, refl, (omega (arith, k'.0), omega (arith, k'.1, h.out_stored.longest_max)))
+    (refl, refl, (omega (arith, k'.0), omega (arith, k'.1, h.out_stored.longest_max)), k'.1)
 read_turn l s _ h (halted_idles p) = tt
 read_turn l s _ h (starting_idles p d) = tt
 read_turn l s _ h (running_idles p r f place) = tt
 read_turn l s _ h (maintenance_idles p o) = tt
 
-pub read_sent : (l : Limits) (s : Station) (f : Frame) (u : Station) → IsSound l s → next s ≡ Sends f u → IsRead f
-read_sent l s f u h e = subst (OfFrame IsRead) e (read_turn l s (next s) h (sending s))
+pub read_sent : (l : Limits) (s : Station) (f : Frame) (u : Station) → IsSound l s → next s ≡ Sends f u → IsRead l f
+read_sent l s f u h e = subst (OfFrame (IsRead l)) e (read_turn l s (next s) h (sending s))
 
 -- ---- startup and maintenance
 

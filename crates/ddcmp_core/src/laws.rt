@@ -87,10 +87,11 @@ pub fn begins_with_nothing()
         → IsSound l s → s.state ≡ Maintenance → (s.a ≡ s.n) × (s.t ≡ next_number s.a) }
 {}
 
-/// A frame that is sent is read as the frame that it is.
+/// A frame that is sent is read as the frame that it is, and its data are within the limit.
 pub fn sends_what_is_read()
     ensures { (l : Limits) (s u : Station) (f : Frame) → IsSound l s → next s ≡ Sends f u
-        → (frame_of (header_of f) (data_of f) ≡ f) × IsFrame (header_of f) (data_of f) × InRange (header_of f) }
+        → (frame_of (header_of f) (data_of f) ≡ f) × IsFrame (header_of f) (data_of f) × InRange (header_of f)
+        × (length (data_of f) ≤ l.longest) }
 {}
 
 /// A running station has its timer off only where A is N, or a REP or all that is kept is to be

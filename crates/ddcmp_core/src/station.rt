@@ -70,7 +70,7 @@ impl<S: Store> Model for Core<S> {
 }
 
 impl<S: Store> Core<S> {
-    ghost use Rattle.std.specs.Prelude.{◌≡◌, ◌≢◌, ◌↔◌, ◌+◌, ◌<◌, ◌≤◌, [], length, sum_by, slice_index_or, IsTrue, Some, Ok, Err, OnErr, option_map, if◌then◌else◌};
+    ghost use Rattle.std.specs.Prelude.{◌≡◌, ◌≢◌, ◌↔◌, ◌+◌, ◌*◌, ◌<◌, ◌≤◌, [], length, sum_by, slice_index_or, IsTrue, Some, Ok, Err, OnErr, option_map, if◌then◌else◌};
     ghost use Rattle.ddcmp_window.specs.Window.{first, written};
     ghost use Rattle.ddcmp_core.specs.Table.{new_station, may_start, answer_to_start, started, in_maintenance, begun, halted, answer_to_send, may_send, accepted, answer_to_send_maintenance, may_send_maintenance, taken, expired, is_on, is_fresh, armed};
     ghost use Rattle.ddcmp_core.specs.Counting.{no_counts, expired_counted};
@@ -357,7 +357,8 @@ impl<S: Store> Core<S> {
 
     /// The length of all messages kept and in the inbox.
     pub fn bytes(&self) -> usize
-        ensures { result ≡ sum_by length self.now.station.out + sum_by length self.now.station.inbox }
+        ensures value { result ≡ sum_by length self.now.station.out + sum_by length self.now.station.inbox }
+        ensures within { result ≤ (self.now.limits.window + self.now.limits.room) * self.now.limits.longest }
     {
         self.sender.holds();
         self.inbox.holds();

@@ -12,3 +12,4 @@ pub record HasRoom (r : Inside) : Type 0 where
   pub before : r.finished ≡ false → vec_len r.buffer ≤ r.offset
   pub passing : r.skipped + r.left ≤ 16393
   pub lent : 0 < r.lent → 8 + r.lent ≤ vec_len r.buffer
+  pub lent_within : r.lent ≤ r.max

@@ -52,4 +52,4 @@ Found max at bytes Unfinished = length bytes < max + 10
 Found max at bytes Skips = is_start (slice_index bytes 0) ≡ false
 Found max at bytes Fails = (8 ≤ length bytes) × (parsed (take 8 bytes) ≡ Err Check)
 Found max at bytes (Announces h n) = (8 ≤ length bytes) × (parsed (take 8 bytes) ≡ Ok h) × (count_of h ≡ Some n) × (max < n) × (n ≤ 16383)
-Found max at bytes (Gives item n) = (8 + n ≤ taken item) × (taken item ≤ length bytes) × (taken item ≡ length_by (parsed (take 8 bytes))) × Lends item n bytes × (offset_of item ≡ at)
+Found max at bytes (Gives item n) = (8 + n ≤ taken item) × (taken item ≤ length bytes) × (taken item ≡ length_by (parsed (take 8 bytes))) × Lends item n bytes × (offset_of item ≡ at) × (n ≤ max)

@@ -109,6 +109,7 @@ impl Reader {
             → items self.old.max (text ++ byte ∷ []) ≡ items self.old.max text ++ given_by result self.new.lent }
         // Beside a good item its data are lent, which with the header are the last bytes.
         ensures lent { LentBeside result self.new.lent }
+        ensures within { length self.new.lent ≤ self.old.max }
         ensures wire { (text : List ℕ) → Stands self.old text → EndsWith result self.new.lent (text ++ byte ∷ []) }
         // A frame behind junk is found, and the junk costs at most one item.
         ensures resynchronises { (text junk message : List ℕ) (h : HeaderValue) → Stands self.old text
@@ -124,6 +125,7 @@ impl Reader {
         ensures counted { self.new.offset ≡ self.old.offset + 1 }
         ensures max { self.new.max ≡ self.old.max }
         ensures lent { LentBeside result self.new.lent }
+        ensures within { length self.new.lent ≤ self.old.max }
         ensures grows { (text : List ℕ) → Stands self.old text → Grows self.old byte result self.new text }
     {
         self.offset += 1;

@@ -14,6 +14,3 @@ pub use refusals::{Memory, SendRefusal};
 pub use sender::Sender;
 pub use slots::SlotStore;
 pub use store::Store;
-
-#[cfg(test)]
-mod tests;

@@ -1,7 +1,8 @@
 use Rattle.std.proofs.Common.{subst, arith, length-drop}
 use Rattle.std.proofs.lemmas.List.{take_rest}
 use Rattle.std.specs.Io.KnownBytes.{Appends}
-use Rattle.ddcmp_cli.proofs.WrittenLaws.{appends-append, take_then}
+use Rattle.std.proofs.KnownBytes.{Appends-trans}
+use Rattle.ddcmp_cli.proofs.WrittenLaws.{take_then}
 use Rattle.ddcmp_cli.proofs.page.write_all.Goals as goal
 
 pub loop-at-preserved : goal.loop-at-preserved
@@ -10,5 +11,5 @@ loop-at-preserved g c =
     record {
       whole = c.in-Some.ensures.broken;
       within = omega (arith, taken.0, length-drop c.loop-at.at c.args.bytes.now);
-      written = subst (λ t. Appends (g.W.Sink.contents c.args.writer.now) (g.W.Sink.contents c.write.new.self) t) (take_then c.args.bytes.now c.loop-at.at c.in-Some.n) (appends-append _ _ _ _ _ c.loop-at.invariant.written taken.2);
+      written = subst (λ t. Appends (g.W.Sink.contents c.args.writer.now) (g.W.Sink.contents c.write.new.self) t) (take_then c.args.bytes.now c.loop-at.at c.in-Some.n) (Appends-trans _ _ _ _ _ c.loop-at.invariant.written taken.2);
     }

@@ -1,0 +1,205 @@
+-- Turns of drive, one behind another.
+use Rattle.std.proofs.Common.{◌≡◌, ◌≢◌, Bool, true, false, cond, ◌&&◌, ℕ, ◌+◌, ◌<◌, ◌≤◌, List, [], ◌++◌, length, take, drop, refl, sym, ◌∙◌, ap, subst, append_assoc, append-nil, Option, Ok, Err}
+use Rattle.std.proofs.KnownBytes.{Consumes-nil, Consumes-kept}
+use Rattle.std.proofs.Math.Seq.{take-add}
+use Rattle.std.proofs.lemmas.List.{take_all}
+use Rattle.std.specs.Io.KnownBytes.{Appends, Consumes, Keeps}
+use Rattle.ddcmp_frame.specs.declared.device.Worst.{Worst}
+use Rattle.ddcmp_frame.specs.declared.device.Worst.TheVariants.{Fine, Idle as HadIdle, Failed as HadFailed}
+use Rattle.ddcmp_frame.specs.declared.device.Got.{Got}
+use Rattle.ddcmp_frame.specs.declared.device.Got.TheVariants.{Bytes, Idle, Failed}
+use Rattle.ddcmp_frame.specs.Device.{worse}
+use Rattle.ddcmp_frame.specs.Held.{Stands}
+use Rattle.ddcmp_core.specs.Kept.{Kept}
+use Rattle.ddcmp_station.specs.Bytes.{fed, told_of, polled}
+use Rattle.ddcmp_station.specs.Linked.{Linked}
+use Rattle.ddcmp_core.specs.Table.{frame_in, next, is_on}
+use Rattle.ddcmp_station.specs.declared.user.LineFault.{LineFault}
+use Rattle.ddcmp_station.specs.declared.user.LineFault.TheVariants.{Read, Write, Ended, Memory}
+use Rattle.ddcmp_station.specs.declared.driving.Tally.{Tally}
+use Rattle.ddcmp_station.specs.Driving.{Devices, Sent, deadline_at, is_due, run_out, with_arm, in_time, offered_to, frame_bytes, handed_up, before_read, after_read}
+use Rattle.ddcmp_station.specs.Turns.{Writes, TookTurn, BrokeTurn}
+use Rattle.ddcmp_station.proofs.FeedLaws.{PiecesState}
+
+pub take_then : (xs : List ℕ) (i n : ℕ) → take i xs ++ take n (drop i xs) ≡ take (i + n) xs
+take_then xs i n = sym (take-add i n xs)
+
+-- ---- a piece of the line, part by part
+
+pub record FedTo (old : Linked) (part : List ℕ) (new : Linked) : Type 0 where
+  pub stands : (text : List ℕ) → Stands old.line text → Stands new.line (text ++ part)
+  pub state : (text : List ℕ) → Stands old.line text → new.kept ≡ fed text part old.kept
+
+pub fed-to-nothing : ((text : List ℕ) (k : Kept) → (fed text [] k ≡ k) × (told_of text [] k ≡ [])) → (old : Linked) → FedTo old [] old
+fed-to-nothing none old = record {
+  stands = λ text s. subst (Stands old.line) (sym (append-nil text)) s;
+  state = λ text s. sym (none text old.kept).0;
+}
+
+pub fed-then : PiecesState → (old mid new : Linked) (u v : List ℕ) → FedTo old u mid → FedTo mid v new → FedTo old (u ++ v) new
+fed-then law old mid new u v a b = record {
+  stands = λ text s. subst (Stands new.line) (append_assoc text u v) (b.stands (text ++ u) (a.stands text s));
+  state = λ text s. b.state (text ++ u) (a.stands text s) ∙ ap (fed (text ++ u) v) (a.state text s) ∙ sym (law text u v old.kept);
+}
+
+pub fed-more : PiecesState → (old mid new : Linked) (piece : List ℕ) (at used : ℕ) → FedTo old (take at piece) mid → FedTo mid (take used (drop at piece)) new
+    → FedTo old (take (at + used) piece) new
+fed-more law old mid new piece at used a b = subst (λ p. FedTo old p new) (take_then piece at used) (fed-then law old mid new _ _ a b)
+
+pub fed-whole : (old new : Linked) (piece : List ℕ) (at : ℕ) → length piece ≤ at → FedTo old (take at piece) new → FedTo old piece new
+fed-whole old new piece at all a = subst (λ p. FedTo old p new) (take_all at piece all) a
+
+-- ---- one turn
+
+-- what a write that failed wrote
+pub some-sent : (a b : Option (List ℕ)) (bytes : List ℕ) (fault : LineFault) → Writes a b bytes (Err fault) → (sent : List ℕ) × Sent fault sent bytes × Appends a b sent
+some-sent a b bytes Read w = absurd w
+some-sent a b bytes Write w = (take w.0 bytes, (w.0, refl), w.1)
+some-sent a b bytes Ended w = absurd w
+some-sent a b bytes Memory w = absurd w
+
+-- behind a whole frame
+pub all-sent : (fault : LineFault) (frame : List ℕ) → fault ≢ Write → fault ≢ Memory → Sent fault frame frame
+all-sent Read frame w m = refl
+all-sent Write frame w m = absurd (w refl)
+all-sent Ended frame w m = refl
+all-sent Memory frame w m = absurd (m refl)
+
+in-time-limits : (now : ℕ) (deadline : Option ℕ) (k : Kept) → (in_time now deadline k).limits ≡ k.limits
+in-time-limits now deadline k = by (is_on k.station.timer && is_due now deadline)
+  where
+    by : (b : Bool) → (cond b (run_out k) k).limits ≡ k.limits
+    by true = refl
+    by false = refl
+
+-- a turn up to its read: the station before its frame, and after it
+pub record Stepped (ms now : ℕ) (offered : List ℕ) (old two three : Linked) (before after : Option ℕ) : Type 0 where
+  pub after_is : after ≡ deadline_at ms now old.kept.station.timer before
+  pub two_is : two.kept ≡ offered_to offered (in_time now (deadline_at ms now old.kept.station.timer before) (with_arm old.kept))
+  pub kept_is : three.kept ≡ polled two.kept
+  pub two_syn : two.syn ≡ old.syn
+  pub syn : three.syn ≡ old.syn
+  pub line : three.line ≡ old.line
+
+pub stepped : (ms now : ℕ) (offered : List ℕ) (old one two three : Linked) (before after : Option ℕ)
+    → after ≡ deadline_at ms now old.kept.station.timer before
+    → one ≡ record old { kept = in_time now (deadline_at ms now old.kept.station.timer before) (with_arm old.kept) }
+    → two ≡ record one { kept = offered_to offered one.kept }
+    → three ≡ record two { kept = polled two.kept }
+    → Stepped ms now offered old two three before after
+stepped ms now offered old one two three before after d e1 e2 e3 = record {
+  after_is = d;
+  two_is = ap (λ v. v.kept) e2 ∙ ap (λ v. offered_to offered v.kept) e1;
+  kept_is = ap (λ v. v.kept) e3;
+  two_syn = ap (λ v. v.syn) e2 ∙ ap (λ v. v.syn) e1;
+  syn = ap (λ v. v.syn) e3 ∙ ap (λ v. v.syn) e2 ∙ ap (λ v. v.syn) e1;
+  line = ap (λ v. v.line) e3 ∙ ap (λ v. v.line) e2 ∙ ap (λ v. v.line) e1;
+}
+
+pub stepped-limits : (ms now : ℕ) (offered : List ℕ) (old two three : Linked) (before after : Option ℕ) → Stepped ms now offered old two three before after → three.kept.limits ≡ old.kept.limits
+stepped-limits ms now offered old two three before after h =
+    ap (λ k. k.limits) h.kept_is ∙ ap (λ k. k.limits) h.two_is ∙ in-time-limits now (deadline_at ms now old.kept.station.timer before) (with_arm old.kept)
+
+stepped-is : (ms now : ℕ) (offered came : List ℕ) (old two three : Linked) (before after : Option ℕ) → Stepped ms now offered old two three before after → (text written : List ℕ)
+    → before_read ms old.syn (record { now = now; offered = offered; came = came }) (record { kept = old.kept; text = text; deadline = before; written = written })
+    ≡ record { kept = three.kept; text = text; deadline = after; written = written ++ frame_bytes old.syn (frame_in (next two.kept.station)) }
+stepped-is ms now offered came old two three before after h text written =
+    let d = deadline_at ms now old.kept.station.timer before in
+    ap (λ k. record { kept = polled k; text = text; deadline = d; written = written ++ frame_bytes old.syn (frame_in (next k.station)) }) (sym h.two_is)
+    ∙ ap (λ k. record { kept = k; text = text; deadline = d; written = written ++ frame_bytes old.syn (frame_in (next two.kept.station)) }) (sym h.kept_is)
+    ∙ ap (λ x. record { kept = three.kept; text = text; deadline = x; written = written ++ frame_bytes old.syn (frame_in (next two.kept.station)) }) (sym h.after_is)
+
+pub broke-turn : (ms now : ℕ) (offered sent : List ℕ) (old two three : Linked) (after : Option ℕ) (before : Tally) (devices : Devices) (fault : LineFault)
+    → Stepped ms now offered old two three before.deadline after → Sent fault sent (frame_bytes old.syn (frame_in (next two.kept.station)))
+    → Consumes devices.left devices.left_after [] → Appends devices.sink devices.sink_after sent → (devices.worst_after ≡ Fine → devices.worst ≡ Fine) → BrokeTurn ms old three before devices fault
+broke-turn ms now offered sent old two three after before devices fault h s c a f = record {
+  last = record { now = now; offered = offered; came = [] };
+  frame = frame_bytes old.syn (frame_in (next two.kept.station));
+  sent = sent;
+  sent_is = s;
+  consumed = c;
+  appended = a;
+  fine = f;
+  syn = h.syn;
+  line = h.line;
+  deadline = after;
+  before_is = stepped-is ms now offered [] old two three before.deadline after h;
+}
+
+pub took-turn : (ms now : ℕ) (offered came : List ℕ) (old two three new : Linked) (before after : Tally) (devices : Devices)
+    → Stepped ms now offered old two three before.deadline after.deadline
+    → length came ≤ 256 → (devices.worst_after ≡ Fine → (devices.worst ≡ Fine) × (0 < length came)) → Consumes devices.left devices.left_after came → Appends devices.sink devices.sink_after (frame_bytes old.syn (frame_in (next two.kept.station)))
+    → after.read ≡ before.read + length came → after.written ≡ before.written + length (frame_bytes old.syn (frame_in (next two.kept.station)))
+    → new.syn ≡ three.syn → new.kept.limits ≡ three.kept.limits → new.line.offset ≡ three.line.offset + length came
+    → ((text : List ℕ) → Stands three.line text → Stands new.line (text ++ came))
+    → ((text : List ℕ) → Stands three.line text → new.kept ≡ handed_up (fed text came three.kept))
+    → TookTurn ms old new before after devices
+took-turn ms now offered came old two three new before after devices h short fine c a r w syn limits offset stands state = record {
+  turn = record { now = now; offered = offered; came = came };
+  frame = frame_bytes old.syn (frame_in (next two.kept.station));
+  short = short;
+  fine = fine;
+  consumed = c;
+  appended = a;
+  read = r;
+  written = w;
+  syn = syn ∙ h.syn;
+  limits = limits ∙ stepped-limits ms now offered old two three before.deadline after.deadline h;
+  offset = offset ∙ ap (λ l. l.offset + length came) h.line;
+  stands = λ text s. stands text (subst (λ l. Stands l text) (sym h.line) s);
+  turned_is = λ text written s.
+      ap (after_read came) (stepped-is ms now offered came old two three before.deadline after.deadline h text written)
+      ∙ ap (λ k. record { kept = k; text = text ++ came; deadline = after.deadline; written = written ++ frame_bytes old.syn (frame_in (next two.kept.station)) })
+      (sym (state text (subst (λ l. Stands l text) (sym h.line) s)));
+}
+
+-- a write failed
+pub broke-sending : (ms now : ℕ) (offered : List ℕ) (old two three : Linked) (after : Option ℕ) (before : Tally) (left sink sink_after : Option (List ℕ)) (worst : Worst) (fault : LineFault)
+    → Stepped ms now offered old two three before.deadline after
+    → Writes sink sink_after (frame_bytes two.syn (frame_in (next two.kept.station))) (Err fault)
+    → BrokeTurn ms old three before (record { left = left; left_after = left; worst = worst; worst_after = worst; sink = sink; sink_after = sink_after }) fault
+broke-sending ms now offered old two three after before left sink sink_after worst fault h w =
+    let s = some-sent sink sink_after (frame_bytes old.syn (frame_in (next two.kept.station))) fault
+    (subst (λ n. Writes sink sink_after (frame_bytes n (frame_in (next two.kept.station))) (Err fault)) h.two_syn w) in
+    broke-turn ms now offered s.0 old two three after before _ fault h s.1 (Consumes-nil left) s.2 (λ e. e)
+
+-- a read failed or gave no bytes
+pub broke-hearing : (ms now n : ℕ) (offered : List ℕ) (old two three new : Linked) (after : Option ℕ) (before : Tally) (left left_after sink sink_after : Option (List ℕ)) (worst worst_after : Worst) (fault : LineFault)
+    → Stepped ms now offered old two three before.deadline after
+    → Writes sink sink_after (frame_bytes two.syn (frame_in (next two.kept.station))) (Ok n)
+    → new ≡ three → Keeps left left_after → fault ≢ Write → fault ≢ Memory → (worst_after ≡ Fine → worst ≡ Fine)
+    → BrokeTurn ms old new before (record { left = left; left_after = left_after; worst = worst; worst_after = worst_after; sink = sink; sink_after = sink_after }) fault
+broke-hearing ms now n offered old two three new after before left left_after sink sink_after worst worst_after fault h w e k nw nm f =
+    let x = subst (λ n. Appends sink sink_after (frame_bytes n (frame_in (next two.kept.station)))) h.two_syn w.1 in
+    subst (λ v. BrokeTurn ms old v before (record { left = left; left_after = left_after; worst = worst; worst_after = worst_after; sink = sink; sink_after = sink_after }) fault) (sym e)
+    (broke-turn ms now offered _ old two three after before _ fault h (all-sent fault _ nw nm) (Consumes-kept left left left_after [] (Consumes-nil left) k) x f)
+
+-- all went well
+pub took-hearing : (ms now n : ℕ) (offered came : List ℕ) (old two three new : Linked) (before : Tally) (deadline : Option ℕ) (left left_after sink sink_after : Option (List ℕ)) (worst worst_after : Worst) {read : ℕ}
+    → Stepped ms now offered old two three before.deadline deadline
+    → length came ≤ 256 → read ≡ length came → (worst_after ≡ Fine → (worst ≡ Fine) × (0 < read)) → Consumes left left_after came
+    → Writes sink sink_after (frame_bytes two.syn (frame_in (next two.kept.station))) (Ok n)
+    → new.syn ≡ three.syn → new.kept.limits ≡ three.kept.limits → new.line.offset ≡ three.line.offset + read
+    → ((text : List ℕ) → Stands three.line text → Stands new.line (text ++ came))
+    → ((text : List ℕ) → Stands three.line text → new.kept ≡ handed_up (fed text came three.kept))
+    → TookTurn ms old new before (record { deadline = deadline; read = before.read + read; written = before.written + n }) (record { left = left; left_after = left_after; worst = worst; worst_after = worst_after; sink = sink; sink_after = sink_after })
+took-hearing ms now n offered came old two three new before deadline left left_after sink sink_after worst worst_after {read} h short r f c w syn limits offset stands state =
+    let w' = subst (λ k. Writes sink sink_after (frame_bytes k (frame_in (next two.kept.station))) (Ok n)) h.two_syn w in
+    took-turn ms now offered came old two three new before _ _ h short (λ e. let p = f e in (p.0, subst (λ k. 0 < k) r p.1)) c w'.1 (ap (λ k. before.read + k) r) (ap (λ k. before.written + k) w'.0) syn limits (offset ∙ ap (λ k. three.line.offset + k) r) stands state
+
+-- a source that is fine was so before, and gave bytes
+abbrev pub GaveBytes : Got → Type 0
+GaveBytes (Bytes n) = Unit {0}
+GaveBytes Idle = ⊥
+GaveBytes Failed = ⊥
+
+pub fine-gave : (w : Worst) (g : Got) → worse w g ≡ Fine → (w ≡ Fine) × GaveBytes g
+fine-gave Fine (Bytes n) e = (refl, tt)
+fine-gave Fine Idle e = absurd (cc e)
+fine-gave Fine Failed e = absurd (cc e)
+fine-gave HadIdle (Bytes n) e = absurd (cc e)
+fine-gave HadIdle Idle e = absurd (cc e)
+fine-gave HadIdle Failed e = absurd (cc e)
+fine-gave HadFailed (Bytes n) e = absurd (cc e)
+fine-gave HadFailed Idle e = absurd (cc e)
+fine-gave HadFailed Failed e = absurd (cc e)

@@ -1,0 +1,5 @@
+pub mod Bounds
+pub mod FeedLaws
+pub mod PollLaws
+pub mod DriveLaws
+pub mod RunLaws

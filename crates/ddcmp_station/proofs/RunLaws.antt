@@ -1,0 +1,142 @@
+-- Turns of drive, from the first to the last.
+use Rattle.std.proofs.Common.{◌≡◌, ℕ, ◌+◌, ◌<◌, ◌≤◌, List, [], ◌∷◌, ◌++◌, length, refl, sym, ◌∙◌, ap, subst, append_assoc, append-nil, arith, length-append, Option, None, Ok, Err}
+use Rattle.std.proofs.KnownBytes.{Appends-nil, Appends-trans, Consumes-nil, Consumes-trans}
+use Rattle.std.proofs.lemmas.Grind.{flat_map-append}
+use Rattle.std.specs.Io.KnownBytes.{Consumes}
+use Rattle.ddcmp_frame.specs.declared.device.Worst.{Worst}
+use Rattle.ddcmp_frame.specs.declared.device.Worst.TheVariants.{Fine}
+use Rattle.ddcmp_frame.specs.Held.{Stands}
+use Rattle.ddcmp_station.specs.declared.user.LineFault.{LineFault}
+use Rattle.ddcmp_station.specs.declared.user.LineFault.TheVariants.{Read, Write, Ended, Memory}
+use Rattle.ddcmp_station.specs.declared.driving.Tally.{Tally}
+use Rattle.ddcmp_station.specs.Linked.{Linked}
+use Rattle.ddcmp_station.specs.Driving.{DriveTurn, Driving, Devices, undriven, stopped, before_read, turned, driven, came_in, Reads, Ends, Drives}
+use Rattle.ddcmp_station.specs.Turns.{TookTurn, BrokeTurn, SoFar}
+
+driven-more : (ms syn : ℕ) (turns : List DriveTurn) (turn : DriveTurn) (d : Driving) → driven ms syn (turns ++ turn ∷ []) d ≡ turned ms syn turn (driven ms syn turns d)
+unfolding driven
+driven-more ms syn [] turn d = refl
+driven-more ms syn (t ∷ turns) turn d = driven-more ms syn turns turn (turned ms syn t d)
+
+driven-none : (ms syn : ℕ) (d : Driving) → driven ms syn [] d ≡ d
+unfolding driven
+driven-none ms syn d = refl
+
+came-more : (turns : List DriveTurn) (turn : DriveTurn) → came_in (turns ++ turn ∷ []) ≡ came_in turns ++ turn.came
+came-more turns turn = flat_map-append (λ t. t.came) turns (turn ∷ []) ∙ ap (λ l. came_in turns ++ l) (append-nil turn.came)
+
+reads-more : (worst : Worst) (turns : List DriveTurn) (turn : DriveTurn) → Reads worst turns → length turn.came ≤ 256 → (worst ≡ Fine → 0 < length turn.came) → Reads worst (turns ++ turn ∷ [])
+unfolding Reads
+reads-more worst [] turn h s f = (s, f, tt)
+reads-more worst (t ∷ turns) turn h s f = (h.0, h.1, reads-more worst turns turn h.2 s f)
+
+reads-none : (worst : Worst) → Reads worst []
+unfolding Reads
+reads-none worst = tt
+
+-- a source that is fine was so before
+reads-later : (worst later : Worst) (turns : List DriveTurn) → (later ≡ Fine → worst ≡ Fine) → Reads worst turns → Reads later turns
+unfolding Reads
+reads-later worst later [] e h = tt
+reads-later worst later (t ∷ turns) e h = (h.0, λ f. h.1 (e f), reads-later worst later turns e h.2)
+
+abbrev pub devices : Option (List ℕ) → Option (List ℕ) → Worst → Worst → Option (List ℕ) → Option (List ℕ) → Devices
+devices left left_after worst worst_after sink sink_after = record { left = left; left_after = left_after; worst = worst; worst_after = worst_after; sink = sink; sink_after = sink_after }
+
+pub none-so-far : (ms : ℕ) (old : Linked) (left sink : Option (List ℕ)) (worst : Worst) → SoFar ms 0 old old (record { deadline = None; read = 0; written = 0 }) (devices left left worst worst sink sink)
+none-so-far ms old left sink worst = record {
+  turns = [];
+  written = [];
+  count_is = refl;
+  read_is = refl;
+  written_is = refl;
+  took = record {
+    reads = reads-none worst;
+    consumed = Consumes-nil left;
+    appended = Appends-nil sink;
+    syn = refl;
+    stands = λ text s. subst (Stands old.line) (sym (append-nil text)) s;
+    driven_is = λ text s.
+        driven-none ms old.syn (undriven old.kept text)
+        ∙ ap (λ t. record { kept = old.kept; text = t; deadline = None; written = [] }) (sym (append-nil text));
+  };
+}
+
+pub one-more : (ms count : ℕ) (old mid new : Linked) (tally after : Tally) (left left_mid left_after sink sink_mid sink_after : Option (List ℕ)) (worst worst_mid worst_after : Worst)
+    → SoFar ms count old mid tally (devices left left_mid worst worst_mid sink sink_mid)
+    → TookTurn ms mid new tally after (devices left_mid left_after worst_mid worst_after sink_mid sink_after)
+    → SoFar ms (count + 1) old new after (devices left left_after worst worst_after sink sink_after)
+one-more ms count old mid new tally after left left_mid left_after sink sink_mid sink_after worst worst_mid worst_after h t =
+    let more = came-more h.turns t.turn in
+    record {
+      turns = h.turns ++ t.turn ∷ [];
+      written = h.written ++ t.frame;
+      count_is = omega (arith, length-append h.turns (t.turn ∷ []), h.count_is);
+      read_is = omega (arith, ap length more, length-append (came_in h.turns) t.turn.came, t.read, h.read_is);
+      written_is = omega (arith, length-append h.written t.frame, t.written, h.written_is);
+      took = record {
+        reads = reads-more worst_after h.turns t.turn (reads-later worst_mid worst_after h.turns (λ e. (t.fine e).0) h.took.reads) t.short (λ e. (t.fine e).1);
+        consumed = subst (Consumes left left_after) (sym more) (Consumes-trans left left_mid left_after _ _ h.took.consumed t.consumed);
+        appended = Appends-trans sink sink_mid sink_after _ _ h.took.appended t.appended;
+        syn = t.syn ∙ h.took.syn;
+        stands = λ text s.
+            subst (Stands new.line) (append_assoc text (came_in h.turns) t.turn.came ∙ ap (λ p. text ++ p) (sym more)) (t.stands (text ++ came_in h.turns) (h.took.stands text s));
+        driven_is = λ text s.
+            driven-more ms old.syn h.turns t.turn (undriven old.kept text)
+            ∙ ap (turned ms old.syn t.turn) (h.took.driven_is text s)
+            ∙ ap (λ n. turned ms n t.turn (record { kept = mid.kept; text = text ++ came_in h.turns; deadline = tally.deadline; written = h.written })) (sym h.took.syn)
+            ∙ t.turned_is (text ++ came_in h.turns) h.written (h.took.stands text s)
+            ∙ ap (λ x. record { kept = new.kept; text = x; deadline = after.deadline; written = h.written ++ t.frame })
+            (append_assoc text (came_in h.turns) t.turn.came ∙ ap (λ p. text ++ p) (sym more));
+      };
+    }
+
+pub all-taken : (ms count : ℕ) (old new : Linked) (tally : Tally) (dev : Devices) → SoFar ms count old new tally dev
+    → Drives ms count old new dev (Ok (record { turns = count; read = tally.read; written = tally.written }))
+all-taken ms count old new tally dev h = (
+  h.turns,
+  h.written,
+  tally.deadline,
+  h.count_is,
+  ap (λ r. record { turns = count; read = r; written = tally.written }) h.read_is ∙ ap (λ w. record { turns = count; read = length (came_in h.turns); written = w }) h.written_is,
+  h.took,
+)
+
+pub broke : (ms count turns : ℕ) (old mid new halted : Linked) (tally : Tally) (left left_mid left_after sink sink_mid sink_after : Option (List ℕ)) (worst worst_mid worst_after : Worst) (fault : LineFault)
+    → SoFar ms count old mid tally (devices left left_mid worst worst_mid sink sink_mid) → count < turns
+    → BrokeTurn ms mid new tally (devices left_mid left_after worst_mid worst_after sink_mid sink_after) fault
+    → halted ≡ record new { kept = stopped new.kept }
+    → Ends ms turns old halted (devices left left_after worst worst_after sink sink_after) fault
+broke ms count turns old mid new halted tally left left_mid left_after sink sink_mid sink_after worst worst_mid worst_after fault h few b e = (
+  h.turns,
+  b.last,
+  h.written,
+  b.frame,
+  b.sent,
+  omega (arith, few, h.count_is),
+  b.sent_is,
+  record {
+    reads = reads-later worst_mid worst_after h.turns b.fine h.took.reads;
+    consumed = subst (Consumes left left_after) (append-nil (came_in h.turns)) (Consumes-trans left left_mid left_after _ _ h.took.consumed b.consumed);
+    appended = Appends-trans sink sink_mid sink_after _ _ h.took.appended b.appended;
+    syn = ap (λ v. v.syn) e ∙ b.syn ∙ h.took.syn;
+    stands = λ text s. subst (λ l. Stands l (text ++ came_in h.turns)) (sym (ap (λ v. v.line) e ∙ b.line)) (h.took.stands text s);
+    kept = λ text s. ap (λ v. v.kept) e ∙ sym (ap (λ d. stopped d.kept) (last_is text s));
+    written_is = λ text s. ap (λ d. d.written) (h.took.driven_is text s);
+    frame_is = λ text s. ap (λ d. d.written) (last_is text s);
+  },
+)
+  where
+    last_is : (text : List ℕ) → Stands old.line text
+        → before_read ms old.syn b.last (driven ms old.syn h.turns (undriven old.kept text))
+        ≡ record { kept = new.kept; text = text ++ came_in h.turns; deadline = b.deadline; written = h.written ++ b.frame }
+    last_is text s =
+        ap (before_read ms old.syn b.last) (h.took.driven_is text s)
+        ∙ ap (λ n. before_read ms n b.last (record { kept = mid.kept; text = text ++ came_in h.turns; deadline = tally.deadline; written = h.written })) (sym h.took.syn)
+        ∙ b.before_is (text ++ came_in h.turns) h.written
+
+pub ends-so : (ms turns : ℕ) (old new : Linked) (dev : Devices) (fault : LineFault) → Ends ms turns old new dev fault → Drives ms turns old new dev (Err fault)
+ends-so ms turns old new dev Read h = h
+ends-so ms turns old new dev Write h = h
+ends-so ms turns old new dev Ended h = h
+ends-so ms turns old new dev Memory h = tt

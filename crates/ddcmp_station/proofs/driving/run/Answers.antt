@@ -1,0 +1,40 @@
+use Rattle.std.proofs.Common.{◌≡◌, Bool, true, false, refl, ◌∙◌, arith}
+use Rattle.ddcmp_station.proofs.RunLaws.{none-so-far, one-more, broke, ends-so}
+use Rattle.ddcmp_station.proofs.driving.run.Goals as goal
+
+pub loop-done-init : goal.loop-done-init
+loop-done-init g c = record {
+  fine = c.requires.fine;
+  whole = c.requires.whole;
+  limits = refl;
+  syn = refl;
+  offset = omega arith;
+  read = omega arith;
+  written = omega arith;
+  taken = none-so-far c.args.timer_ms c.args.station.now _ _ _;
+}
+
+is_false : (b : Bool) → (b ≡ true → ⊥) → b ≡ false
+is_false false h = refl
+is_false true h = absurd (h refl)
+
+pub loop-done-preserved : goal.loop-done-preserved
+loop-done-preserved g c =
+    let i = c.loop-done.invariant in
+    let t = c.in-Ok.ensures.takes in
+    record {
+      fine = λ e. absurd (cc (c.in-Ok.ensures.read.1 e));
+      whole = is_false _ (λ e. absurd (cc (c.in-Ok.ensures.write.1 e)));
+      limits = t.limits ∙ i.limits;
+      syn = t.syn ∙ i.syn;
+      offset = omega (arith, t.offset, t.read, i.offset);
+      read = omega (arith, c.in-Ok.ensures.few.0, i.read);
+      written = omega (arith, c.in-Ok.ensures.few.1, i.written);
+      taken = one-more c.args.timer_ms c.loop-done._done c.args.station.now c.loop-done.station c.turn.new.station c.loop-done.tally c.turn.new.tally _ _ _ _ _ _ _ _ _ i.taken t;
+    }
+
+pub returns-in-Err-clause-drives : goal.returns-in-Err-clause-drives
+returns-in-Err-clause-drives g c =
+    let i = c.loop-done.invariant in
+    ends-so c.args.timer_ms c.args.turns _ c.halt.new.self _ c.in-Err.fault
+    (broke c.args.timer_ms c.loop-done._done c.args.turns c.args.station.now c.loop-done.station c.turn.new.station c.halt.new.self c.loop-done.tally _ _ _ _ _ _ _ _ _ c.in-Err.fault i.taken c.loop-done-test.true c.in-Err.ensures.takes c.halt.ensures)

@@ -1,0 +1,18 @@
+use Rattle.std.proofs.Common.{None, subst}
+use Rattle.ddcmp_station.specs.Linked.{TakesByte}
+use Rattle.ddcmp_station.proofs.FeedLaws.{byte-none, byte-some}
+use Rattle.ddcmp_station.proofs.station.Station.take_byte.Goals as goal
+
+pub returns-in-None : goal.returns-in-None
+returns-in-None c =
+    let i = c.self.inside in
+    let e = c.in-None.ensures in
+    subst (λ v. TakesByte v c.args.byte (record { kept = i.core; syn = i.syn; line = c.push.new.self }) None) c.self.view_is
+    (byte-none i.core i.syn i.reader c.push.new.self c.args.byte (record { stands = e.stands; item = e.item; counted = e.counted; max_is = e.max }))
+
+pub returns-in-Some : goal.returns-in-Some
+returns-in-Some c =
+    let i = c.self.inside in
+    let e = c.in-Some.ensures in
+    subst (λ v. TakesByte v c.args.byte c.take_item.new.self c.take_item.result) c.self.view_is
+    (byte-some i.core i.syn i.reader c.push.new.self c.args.byte c.in-Some.item c.take_item.new.self c.take_item.result (record { stands = e.stands; item = e.item; counted = e.counted; max_is = e.max }) c.take_item.ensures.state c.take_item.ensures.told)

@@ -1,0 +1,13 @@
+pub mod Bytes
+pub mod Linked
+pub mod Driving
+pub mod Turns
+pub use Rattle.ddcmp_frame.specs.Device
+pub use Rattle.ddcmp_frame.specs.Held
+pub use Rattle.ddcmp_frame.specs.Reading
+pub use Rattle.ddcmp_frame.specs.Wire
+pub use Rattle.ddcmp_window.specs.Window
+pub use Rattle.ddcmp_core.specs.Table
+pub use Rattle.ddcmp_core.specs.Frames
+pub use Rattle.ddcmp_core.specs.Counting
+pub use Rattle.ddcmp_core.specs.Kept

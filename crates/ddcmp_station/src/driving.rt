@@ -1,0 +1,312 @@
+// A station driven over a line, turn by turn.
+ghost use Rattle.std.specs.Prelude.{◌≡◌, ◌≢◌, ◌↔◌, ℕ, ◌+◌, ◌*◌, ◌<◌, ◌≤◌, ◌^◌, List, [], ◌++◌, true, false, is_err, length, take, replicate, Option, Ok, Err, IfOk, OnOk, OnErr};
+ghost use Rattle.std.specs.Io.KnownBytes.{Appends, Consumes, Keeps, IsAtEnd};
+ghost use Rattle.ddcmp_frame.specs.Held.{Stands};
+ghost use Rattle.ddcmp_core.specs.Table.{frame_in, next};
+ghost use Rattle.ddcmp_station.specs.Bytes.{polled, fed};
+ghost use Rattle.ddcmp_station.specs.Driving.{Drives, deadline_at, with_arm, in_time, offered_to, frame_bytes, handed_up};
+ghost use Rattle.ddcmp_station.specs.Turns.{Turns, Writes};
+
+use crate::laws::pieces;
+use crate::station::Station;
+use crate::user::{Clock, Driven, LineFault, User};
+use ddcmp_core::State;
+use ddcmp_frame::{Got, Sink, Source, Worst};
+use std::alloc::Global;
+
+/// What the turns so far have left.
+#[derive(Drop)]
+struct Tally {
+    /// When the timer runs out, where this call has set that.
+    deadline: Option<u64>,
+    read: u64,
+    written: u64,
+}
+
+/// Runs a station over a line for a number of turns. In a turn the timer is looked after, a message
+/// of the user is taken, a frame is written, and what came is heard: its notices and then all mail
+/// go to the user. An idle read is no fault. After a fault of the line the station is halted.
+pub fn drive<R: Source, W: Sink, U: User, C: Clock>(
+    alloc: Global,
+    station: &mut Station,
+    reader: &mut R,
+    writer: &mut W,
+    user: &mut U,
+    clock: &mut C,
+    timer_ms: u32,
+    turns: u32,
+) -> Result<Driven, LineFault>
+    requires fine { R.state reader.old ≢ Worst.Failed }
+    requires whole { W.broken writer.old ≡ false }
+    requires offset { station.old.line.offset + 256 * turns < 2 ^ 64 }
+    ensures drives { Drives timer_ms turns station.old station.new (record {
+      left = R.left reader.old;
+      left_after = R.left reader.new;
+      worst = R.state reader.old;
+      worst_after = R.state reader.new;
+      sink = W.contents writer.old;
+      sink_after = W.contents writer.new;
+    }) result }
+
+    // When each fault comes.
+    ensures read { (result ≡ Err LineFault.Read) ↔ (R.state reader.new ≡ Worst.Failed) }
+    ensures write { (result ≡ Err LineFault.Write) ↔ (W.broken writer.new ≡ true) }
+    ensures ended { result ≡ Err LineFault.Ended → IsAtEnd (R.left reader.new) }
+    ensures memory { result ≡ Err LineFault.Memory
+        → (station.new ≡ station.old) × (reader.new ≡ reader.old) × (writer.new ≡ writer.old) }
+{
+    let Ok(mut frame) = Vec::from_elem(alloc, 0u8, station.frame_room()) else {
+        return Err(LineFault::Memory);
+    };
+    run(
+        station, reader, writer, user, clock, timer_ms, turns, &mut frame,
+    )
+}
+
+/// The same, with room for a frame.
+fn run<R: Source, W: Sink, U: User, C: Clock>(
+    station: &mut Station,
+    reader: &mut R,
+    writer: &mut W,
+    user: &mut U,
+    clock: &mut C,
+    timer_ms: u32,
+    turns: u32,
+    frame: &mut [u8],
+) -> Result<Driven, LineFault>
+    requires fine { R.state reader.old ≢ Worst.Failed }
+    requires whole { W.broken writer.old ≡ false }
+    requires offset { station.old.line.offset + 256 * turns < 2 ^ 64 }
+    requires room { station.old.syn + station.old.kept.limits.longest + 10 ≤ length frame.old }
+    ensures drives { Drives timer_ms turns station.old station.new (record {
+      left = R.left reader.old;
+      left_after = R.left reader.new;
+      worst = R.state reader.old;
+      worst_after = R.state reader.new;
+      sink = W.contents writer.old;
+      sink_after = W.contents writer.new;
+    }) result }
+    ensures read { (result ≡ Err LineFault.Read) ↔ (R.state reader.new ≡ Worst.Failed) }
+    ensures write { (result ≡ Err LineFault.Write) ↔ (W.broken writer.new ≡ true) }
+    ensures ended { result ≡ Err LineFault.Ended → IsAtEnd (R.left reader.new) }
+    ensures memory { result ≢ Err LineFault.Memory }
+{
+    let mut piece = [0; 256];
+    let mut tally = Tally {
+        deadline: None,
+        read: 0,
+        written: 0,
+    };
+    station.holds();
+    for _done in 0..turns {
+        match turn(
+            station, reader, writer, user, clock, timer_ms, &mut tally, frame, &mut piece,
+        ) {
+            Ok(()) => {}
+            Err(fault) => {
+                station.halt();
+                return Err(fault);
+            }
+        }
+    }
+    Ok(Driven {
+        turns,
+        read: tally.read,
+        written: tally.written,
+    })
+}
+
+/// One turn.
+fn turn<R: Source, W: Sink, U: User, C: Clock>(
+    station: &mut Station,
+    reader: &mut R,
+    writer: &mut W,
+    user: &mut U,
+    clock: &mut C,
+    timer_ms: u32,
+    tally: &mut Tally,
+    frame: &mut [u8],
+    piece: &mut [u8; 256],
+) -> Result<(), LineFault>
+    requires fine { R.state reader.old ≢ Worst.Failed }
+    requires whole { W.broken writer.old ≡ false }
+    requires room { station.old.syn + station.old.kept.limits.longest + 10 ≤ length frame.old }
+    requires offset { station.old.line.offset + 256 < 2 ^ 64 }
+    requires read { tally.old.read + 256 < 2 ^ 64 }
+    requires written { tally.old.written + 16409 < 2 ^ 64 }
+    ensures takes { Turns timer_ms station.old station.new tally.old tally.new (record {
+      left = R.left reader.old;
+      left_after = R.left reader.new;
+      worst = R.state reader.old;
+      worst_after = R.state reader.new;
+      sink = W.contents writer.old;
+      sink_after = W.contents writer.new;
+    }) result }
+    ensures read { (result ≡ Err LineFault.Read) ↔ (R.state reader.new ≡ Worst.Failed) }
+    ensures write { (result ≡ Err LineFault.Write) ↔ (W.broken writer.new ≡ true) }
+    ensures ended { result ≡ Err LineFault.Ended → IsAtEnd (R.left reader.new) }
+    ensures memory { result ≢ Err LineFault.Memory }
+    ensures few { OnOk result ((tally.new.read ≤ tally.old.read + 256) × (tally.new.written ≤ tally.old.written + 16409)) }
+{
+    station.holds();
+    keep_time(station, clock.now(), timer_ms, &mut tally.deadline);
+    let _offered = offer_message(station, user, frame);
+    let written = match send_frame(station, writer, frame) {
+        Ok(written) => written,
+        Err(fault) => return Err(fault),
+    };
+    let read = match hear(station, reader, user, frame, piece) {
+        Ok(read) => read,
+        Err(fault) => return Err(fault),
+    };
+    tally.written += written as u64;
+    tally.read += read as u64;
+    Ok(())
+}
+
+/// Sets the deadline of a timer that was started, or that was on before this call, and tells the
+/// station where it has come.
+fn keep_time(station: &mut Station, now: u64, timer_ms: u32, deadline: &mut Option<u64>)
+    ensures deadline { deadline.new ≡ deadline_at timer_ms now station.old.kept.station.timer deadline.old }
+    ensures station { station.new ≡ record station.old {
+      kept = in_time now (deadline_at timer_ms now station.old.kept.station.timer deadline.old)
+          (with_arm station.old.kept);
+    } }
+{
+    let started = station.take_arm();
+    if !station.timer_on() {
+        return;
+    }
+    let due = match *deadline {
+        Some(moment) if !started => moment,
+        _ => now.saturating_add(timer_ms as u64),
+    };
+    *deadline = Some(due);
+    if due <= now {
+        station.expire();
+    }
+}
+
+/// Asks the user for a message where the station takes one, and sends it: its length. It stands at
+/// the front of the buffer.
+fn offer_message<U: User>(station: &mut Station, user: &mut U, buffer: &mut [u8]) -> usize
+    requires { station.old.kept.limits.longest ≤ length buffer.old }
+    ensures { station.new ≡ record station.old { kept = offered_to (take result buffer.new) station.old.kept } }
+{
+    if station.state() != State::Running || !station.room() {
+        return 0;
+    }
+    let longest = station.longest();
+    let length = user.message(&mut buffer[..longest]);
+    match station.send(&buffer[..length]) {
+        Ok(_number) => length,
+        Err(_nothing) => 0,
+    }
+}
+
+/// Writes the next frame, where there is one: how many bytes were written.
+fn send_frame<W: Sink>(
+    station: &mut Station,
+    writer: &mut W,
+    buffer: &mut [u8],
+) -> Result<usize, LineFault>
+    requires whole { W.broken writer.old ≡ false }
+    requires room { station.old.syn + station.old.kept.limits.longest + 10 ≤ length buffer.old }
+    ensures station { station.new ≡ record station.old { kept = polled station.old.kept } }
+    ensures writes { Writes (W.contents writer.old) (W.contents writer.new)
+        (frame_bytes station.old.syn (frame_in (next station.old.kept.station))) result }
+    ensures most { IfOk result (λ n. n ≤ station.old.syn + station.old.kept.limits.longest + 10) }
+    ensures broken { W.broken writer.new ≡ is_err result }
+{
+    match station.poll(buffer) {
+        None => Ok(0),
+        Some(length) => write_whole(writer, &buffer[..length]),
+    }
+}
+
+/// Writes all bytes: how many there are.
+fn write_whole<W: Sink>(writer: &mut W, bytes: &[u8]) -> Result<usize, LineFault>
+    requires whole { W.broken writer.old ≡ false }
+    ensures writes { Writes (W.contents writer.old) (W.contents writer.new) bytes.now result }
+    ensures whole { IfOk result (λ n. n ≡ length bytes.now) }
+    ensures broken { W.broken writer.new ≡ is_err result }
+{
+    let mut at = 0;
+    while at < bytes.len() {
+        match writer.write(&bytes[at..]) {
+            Some(n) => at += n,
+            None => return Err(LineFault::Write),
+        }
+    }
+    Ok(at)
+}
+
+/// Reads once, and hears what came: how many bytes were read. They stand at the front of `piece`.
+fn hear<R: Source, U: User>(
+    station: &mut Station,
+    reader: &mut R,
+    user: &mut U,
+    buffer: &mut [u8],
+    piece: &mut [u8; 256],
+) -> Result<usize, LineFault>
+    requires fine { R.state reader.old ≢ Worst.Failed }
+    requires room { station.old.kept.limits.longest ≤ length buffer.old }
+    requires offset { station.old.line.offset + 256 < 2 ^ 64 }
+    ensures most { IfOk result (λ n. n ≤ 256) }
+    ensures consumed { IfOk result (λ n. Consumes (R.left reader.old) (R.left reader.new) (take n piece.new)) }
+    ensures stands { (text : List ℕ) → Stands station.old.line text
+        → IfOk result (λ n. Stands station.new.line (text ++ take n piece.new)) }
+    ensures state { (text : List ℕ) → Stands station.old.line text
+        → IfOk result (λ n. station.new.kept ≡ handed_up (fed text (take n piece.new) station.old.kept)) }
+    ensures offset { IfOk result (λ n. station.new.line.offset ≡ station.old.line.offset + n) }
+    ensures limits { station.new.kept.limits ≡ station.old.kept.limits }
+    ensures syn { station.new.syn ≡ station.old.syn }
+    ensures refused { OnErr result (station.new ≡ station.old) }
+    ensures nothing { OnErr result (Keeps (R.left reader.old) (R.left reader.new)) }
+    ensures read { (result ≡ Err LineFault.Read) ↔ (R.state reader.new ≡ Worst.Failed) }
+    ensures ended { result ≡ Err LineFault.Ended → IsAtEnd (R.left reader.new) }
+    ensures fine { R.state reader.new ≡ Worst.Fine → (R.state reader.old ≡ Worst.Fine) × IfOk result (λ n. 0 < n) }
+    ensures write { result ≢ Err LineFault.Write }
+    ensures memory { result ≢ Err LineFault.Memory }
+{
+    let came = match reader.read(piece) {
+        Got::Bytes(0) => return Err(LineFault::Ended),
+        Got::Bytes(n) => n,
+        Got::Idle => 0,
+        Got::Failed => return Err(LineFault::Read),
+    };
+    feed_all(station, user, &piece[..came]);
+    hand_up(station, user, buffer);
+    Ok(came)
+}
+
+/// Feeds a whole piece. Each notice goes to the user.
+fn feed_all<U: User>(station: &mut Station, user: &mut U, piece: &[u8])
+    requires { station.old.line.offset + length piece.now < 2 ^ 64 }
+    ensures stands { (text : List ℕ) → Stands station.old.line text → Stands station.new.line (text ++ piece.now) }
+    ensures state { (text : List ℕ) → Stands station.old.line text
+        → station.new.kept ≡ fed text piece.now station.old.kept }
+    ensures offset { station.new.line.offset ≡ station.old.line.offset + length piece.now }
+    ensures limits { station.new.kept.limits ≡ station.old.kept.limits }
+    ensures syn { station.new.syn ≡ station.old.syn }
+{
+    pieces();
+    let mut at = 0;
+    while at < piece.len() {
+        let fed = station.feed(&piece[at..]);
+        at += fed.used;
+        if let Some(notice) = fed.notice {
+            user.notice(notice);
+        }
+    }
+}
+
+/// Takes all mail and gives it to the user.
+fn hand_up<U: User>(station: &mut Station, user: &mut U, buffer: &mut [u8])
+    requires { station.old.kept.limits.longest ≤ length buffer.old }
+    ensures { station.new ≡ record station.old { kept = handed_up station.old.kept } }
+{
+    while let Some(length) = station.take(buffer) {
+        user.mail(&buffer[..length]);
+    }
+}

@@ -1,0 +1,16 @@
+//! A station of DDCMP over bytes: bytes of a line in, cut in any way, and frames out; and `drive`,
+//! which runs one over a line.
+#![tactic(auto)]
+
+mod config;
+mod driving;
+pub mod laws;
+mod station;
+mod user;
+
+pub use config::{Config, ConfigRefusal};
+pub use ddcmp_core::{Counters, NakCounts, Notice, Numbers, SendRefusal, Seq, StartRefusal, State};
+pub use ddcmp_frame::{Got, Sink, Source, Worst};
+pub use driving::drive;
+pub use station::{Fed, Station};
+pub use user::{Clock, Driven, LineFault, User};
