@@ -5,10 +5,7 @@ use Rattle.std.proofs.Math.Seq.{take-add}
 use Rattle.std.proofs.lemmas.List.{take_all}
 use Rattle.std.specs.Io.KnownBytes.{Appends, Consumes, Keeps}
 use Rattle.ddcmp_frame.specs.declared.device.Worst.{Worst}
-use Rattle.ddcmp_frame.specs.declared.device.Worst.TheVariants.{Fine, Idle as HadIdle, Failed as HadFailed}
-use Rattle.ddcmp_frame.specs.declared.device.Got.{Got}
-use Rattle.ddcmp_frame.specs.declared.device.Got.TheVariants.{Bytes, Idle, Failed}
-use Rattle.ddcmp_frame.specs.Device.{worse}
+use Rattle.ddcmp_frame.specs.declared.device.Worst.TheVariants.{Fine}
 use Rattle.ddcmp_frame.specs.Held.{Stands}
 use Rattle.ddcmp_core.specs.Kept.{Kept}
 use Rattle.ddcmp_station.specs.Bytes.{fed, told_of, polled}
@@ -109,10 +106,10 @@ stepped-is ms now offered came old two three before after h text written =
     ∙ ap (λ k. record { kept = k; text = text; deadline = d; written = written ++ frame_bytes old.syn (frame_in (next two.kept.station)) }) (sym h.kept_is)
     ∙ ap (λ x. record { kept = three.kept; text = text; deadline = x; written = written ++ frame_bytes old.syn (frame_in (next two.kept.station)) }) (sym h.after_is)
 
-pub broke-turn : (ms now : ℕ) (offered sent : List ℕ) (old two three : Linked) (after : Option ℕ) (before : Tally) (devices : Devices) (fault : LineFault)
+pub broke-turn : (ms now : ℕ) (offered sent : List ℕ) (old two three : Linked) (after : Option ℕ) (before : Tally) (worst : Worst) (devices : Devices) (fault : LineFault)
     → Stepped ms now offered old two three before.deadline after → Sent fault sent (frame_bytes old.syn (frame_in (next two.kept.station)))
-    → Consumes devices.left devices.left_after [] → Appends devices.sink devices.sink_after sent → (devices.worst_after ≡ Fine → devices.worst ≡ Fine) → BrokeTurn ms old three before devices fault
-broke-turn ms now offered sent old two three after before devices fault h s c a f = record {
+    → Consumes devices.left devices.left_after [] → Appends devices.sink devices.sink_after sent → (devices.worst ≡ Fine → worst ≡ Fine) → BrokeTurn ms old three before worst devices fault
+broke-turn ms now offered sent old two three after before worst devices fault h s c a f = record {
   last = record { now = now; offered = offered; came = [] };
   frame = frame_bytes old.syn (frame_in (next two.kept.station));
   sent = sent;
@@ -121,20 +118,21 @@ broke-turn ms now offered sent old two three after before devices fault h s c a 
   appended = a;
   fine = f;
   syn = h.syn;
+  limits = stepped-limits ms now offered old two three before.deadline after h;
   line = h.line;
   deadline = after;
   before_is = stepped-is ms now offered [] old two three before.deadline after h;
 }
 
-pub took-turn : (ms now : ℕ) (offered came : List ℕ) (old two three new : Linked) (before after : Tally) (devices : Devices)
+pub took-turn : (ms now : ℕ) (offered came : List ℕ) (old two three new : Linked) (before after : Tally) (worst : Worst) (devices : Devices)
     → Stepped ms now offered old two three before.deadline after.deadline
-    → length came ≤ 256 → (devices.worst_after ≡ Fine → (devices.worst ≡ Fine) × (0 < length came)) → Consumes devices.left devices.left_after came → Appends devices.sink devices.sink_after (frame_bytes old.syn (frame_in (next two.kept.station)))
+    → length came ≤ 256 → (devices.worst ≡ Fine → (worst ≡ Fine) × (0 < length came)) → Consumes devices.left devices.left_after came → Appends devices.sink devices.sink_after (frame_bytes old.syn (frame_in (next two.kept.station)))
     → after.read ≡ before.read + length came → after.written ≡ before.written + length (frame_bytes old.syn (frame_in (next two.kept.station)))
     → new.syn ≡ three.syn → new.kept.limits ≡ three.kept.limits → new.line.offset ≡ three.line.offset + length came
     → ((text : List ℕ) → Stands three.line text → Stands new.line (text ++ came))
     → ((text : List ℕ) → Stands three.line text → new.kept ≡ handed_up (fed text came three.kept))
-    → TookTurn ms old new before after devices
-took-turn ms now offered came old two three new before after devices h short fine c a r w syn limits offset stands state = record {
+    → TookTurn ms old new before after worst devices
+took-turn ms now offered came old two three new before after worst devices h short fine c a r w syn limits offset stands state = record {
   turn = record { now = now; offered = offered; came = came };
   frame = frame_bytes old.syn (frame_in (next two.kept.station));
   short = short;
@@ -157,22 +155,22 @@ took-turn ms now offered came old two three new before after devices h short fin
 pub broke-sending : (ms now : ℕ) (offered : List ℕ) (old two three : Linked) (after : Option ℕ) (before : Tally) (left sink sink_after : Option (List ℕ)) (worst : Worst) (fault : LineFault)
     → Stepped ms now offered old two three before.deadline after
     → Writes sink sink_after (frame_bytes two.syn (frame_in (next two.kept.station))) (Err fault)
-    → BrokeTurn ms old three before (record { left = left; left_after = left; worst = worst; worst_after = worst; sink = sink; sink_after = sink_after }) fault
+    → BrokeTurn ms old three before worst (record { left = left; left_after = left; worst = worst; sink = sink; sink_after = sink_after }) fault
 broke-sending ms now offered old two three after before left sink sink_after worst fault h w =
     let s = some-sent sink sink_after (frame_bytes old.syn (frame_in (next two.kept.station))) fault
     (subst (λ n. Writes sink sink_after (frame_bytes n (frame_in (next two.kept.station))) (Err fault)) h.two_syn w) in
-    broke-turn ms now offered s.0 old two three after before _ fault h s.1 (Consumes-nil left) s.2 (λ e. e)
+    broke-turn ms now offered s.0 old two three after before worst _ fault h s.1 (Consumes-nil left) s.2 (λ e. e)
 
 -- a read failed or gave no bytes
 pub broke-hearing : (ms now n : ℕ) (offered : List ℕ) (old two three new : Linked) (after : Option ℕ) (before : Tally) (left left_after sink sink_after : Option (List ℕ)) (worst worst_after : Worst) (fault : LineFault)
     → Stepped ms now offered old two three before.deadline after
     → Writes sink sink_after (frame_bytes two.syn (frame_in (next two.kept.station))) (Ok n)
     → new ≡ three → Keeps left left_after → fault ≢ Write → fault ≢ Memory → (worst_after ≡ Fine → worst ≡ Fine)
-    → BrokeTurn ms old new before (record { left = left; left_after = left_after; worst = worst; worst_after = worst_after; sink = sink; sink_after = sink_after }) fault
+    → BrokeTurn ms old new before worst (record { left = left; left_after = left_after; worst = worst_after; sink = sink; sink_after = sink_after }) fault
 broke-hearing ms now n offered old two three new after before left left_after sink sink_after worst worst_after fault h w e k nw nm f =
     let x = subst (λ n. Appends sink sink_after (frame_bytes n (frame_in (next two.kept.station)))) h.two_syn w.1 in
-    subst (λ v. BrokeTurn ms old v before (record { left = left; left_after = left_after; worst = worst; worst_after = worst_after; sink = sink; sink_after = sink_after }) fault) (sym e)
-    (broke-turn ms now offered _ old two three after before _ fault h (all-sent fault _ nw nm) (Consumes-kept left left left_after [] (Consumes-nil left) k) x f)
+    subst (λ v. BrokeTurn ms old v before worst (record { left = left; left_after = left_after; worst = worst_after; sink = sink; sink_after = sink_after }) fault) (sym e)
+    (broke-turn ms now offered _ old two three after before worst _ fault h (all-sent fault _ nw nm) (Consumes-kept left left left_after [] (Consumes-nil left) k) x f)
 
 -- all went well
 pub took-hearing : (ms now n : ℕ) (offered came : List ℕ) (old two three new : Linked) (before : Tally) (deadline : Option ℕ) (left left_after sink sink_after : Option (List ℕ)) (worst worst_after : Worst) {read : ℕ}
@@ -182,24 +180,7 @@ pub took-hearing : (ms now n : ℕ) (offered came : List ℕ) (old two three new
     → new.syn ≡ three.syn → new.kept.limits ≡ three.kept.limits → new.line.offset ≡ three.line.offset + read
     → ((text : List ℕ) → Stands three.line text → Stands new.line (text ++ came))
     → ((text : List ℕ) → Stands three.line text → new.kept ≡ handed_up (fed text came three.kept))
-    → TookTurn ms old new before (record { deadline = deadline; read = before.read + read; written = before.written + n }) (record { left = left; left_after = left_after; worst = worst; worst_after = worst_after; sink = sink; sink_after = sink_after })
+    → TookTurn ms old new before (record { deadline = deadline; read = before.read + read; written = before.written + n }) worst (record { left = left; left_after = left_after; worst = worst_after; sink = sink; sink_after = sink_after })
 took-hearing ms now n offered came old two three new before deadline left left_after sink sink_after worst worst_after {read} h short r f c w syn limits offset stands state =
     let w' = subst (λ k. Writes sink sink_after (frame_bytes k (frame_in (next two.kept.station))) (Ok n)) h.two_syn w in
-    took-turn ms now offered came old two three new before _ _ h short (λ e. let p = f e in (p.0, subst (λ k. 0 < k) r p.1)) c w'.1 (ap (λ k. before.read + k) r) (ap (λ k. before.written + k) w'.0) syn limits (offset ∙ ap (λ k. three.line.offset + k) r) stands state
-
--- a source that is fine was so before, and gave bytes
-abbrev pub GaveBytes : Got → Type 0
-GaveBytes (Bytes n) = Unit {0}
-GaveBytes Idle = ⊥
-GaveBytes Failed = ⊥
-
-pub fine-gave : (w : Worst) (g : Got) → worse w g ≡ Fine → (w ≡ Fine) × GaveBytes g
-fine-gave Fine (Bytes n) e = (refl, tt)
-fine-gave Fine Idle e = absurd (cc e)
-fine-gave Fine Failed e = absurd (cc e)
-fine-gave HadIdle (Bytes n) e = absurd (cc e)
-fine-gave HadIdle Idle e = absurd (cc e)
-fine-gave HadIdle Failed e = absurd (cc e)
-fine-gave HadFailed (Bytes n) e = absurd (cc e)
-fine-gave HadFailed Idle e = absurd (cc e)
-fine-gave HadFailed Failed e = absurd (cc e)
+    took-turn ms now offered came old two three new before _ worst _ h short (λ e. let p = f e in (p.0, subst (λ k. 0 < k) r p.1)) c w'.1 (ap (λ k. before.read + k) r) (ap (λ k. before.written + k) w'.0) syn limits (offset ∙ ap (λ k. three.line.offset + k) r) stands state

@@ -8,7 +8,8 @@ use Rattle.ddcmp_frame.specs.declared.item.Item.{Item}
 use Rattle.ddcmp_frame.specs.Held.{Held, Stands}
 use Rattle.ddcmp_core.specs.declared.kinds.Notice.{Notice}
 use Rattle.ddcmp_core.specs.Kept.{Kept}
-use Rattle.ddcmp_station.specs.Linked.{Linked, TakesByte}
+use Rattle.ddcmp_station.specs.Linked.{Linked}
+use Rattle.ddcmp_station.specs.OneByte.{TakesByte}
 use Rattle.ddcmp_station.specs.Bytes.{heard_one, told_one, heard_all, told_all, added, fed, told_of}
 
 -- a text that goes on is read on: what was given stays

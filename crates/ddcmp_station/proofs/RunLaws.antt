@@ -40,10 +40,10 @@ unfolding Reads
 reads-later worst later [] e h = tt
 reads-later worst later (t ∷ turns) e h = (h.0, λ f. h.1 (e f), reads-later worst later turns e h.2)
 
-abbrev pub devices : Option (List ℕ) → Option (List ℕ) → Worst → Worst → Option (List ℕ) → Option (List ℕ) → Devices
-devices left left_after worst worst_after sink sink_after = record { left = left; left_after = left_after; worst = worst; worst_after = worst_after; sink = sink; sink_after = sink_after }
+abbrev pub devices : Option (List ℕ) → Option (List ℕ) → Worst → Option (List ℕ) → Option (List ℕ) → Devices
+devices left left_after worst sink sink_after = record { left = left; left_after = left_after; worst = worst; sink = sink; sink_after = sink_after }
 
-pub none-so-far : (ms : ℕ) (old : Linked) (left sink : Option (List ℕ)) (worst : Worst) → SoFar ms 0 old old (record { deadline = None; read = 0; written = 0 }) (devices left left worst worst sink sink)
+pub none-so-far : (ms : ℕ) (old : Linked) (left sink : Option (List ℕ)) (worst : Worst) → SoFar ms 0 old old (record { deadline = None; read = 0; written = 0 }) (devices left left worst sink sink)
 none-so-far ms old left sink worst = record {
   turns = [];
   written = [];
@@ -55,6 +55,8 @@ none-so-far ms old left sink worst = record {
     consumed = Consumes-nil left;
     appended = Appends-nil sink;
     syn = refl;
+    limits = refl;
+    offset = omega arith;
     stands = λ text s. subst (Stands old.line) (sym (append-nil text)) s;
     driven_is = λ text s.
         driven-none ms old.syn (undriven old.kept text)
@@ -62,11 +64,11 @@ none-so-far ms old left sink worst = record {
   };
 }
 
-pub one-more : (ms count : ℕ) (old mid new : Linked) (tally after : Tally) (left left_mid left_after sink sink_mid sink_after : Option (List ℕ)) (worst worst_mid worst_after : Worst)
-    → SoFar ms count old mid tally (devices left left_mid worst worst_mid sink sink_mid)
-    → TookTurn ms mid new tally after (devices left_mid left_after worst_mid worst_after sink_mid sink_after)
-    → SoFar ms (count + 1) old new after (devices left left_after worst worst_after sink sink_after)
-one-more ms count old mid new tally after left left_mid left_after sink sink_mid sink_after worst worst_mid worst_after h t =
+pub one-more : (ms count : ℕ) (old mid new : Linked) (tally after : Tally) (left left_mid left_after sink sink_mid sink_after : Option (List ℕ)) (worst_mid worst_after : Worst)
+    → SoFar ms count old mid tally (devices left left_mid worst_mid sink sink_mid)
+    → TookTurn ms mid new tally after worst_mid (devices left_mid left_after worst_after sink_mid sink_after)
+    → SoFar ms (count + 1) old new after (devices left left_after worst_after sink sink_after)
+one-more ms count old mid new tally after left left_mid left_after sink sink_mid sink_after worst_mid worst_after h t =
     let more = came-more h.turns t.turn in
     record {
       turns = h.turns ++ t.turn ∷ [];
@@ -79,6 +81,8 @@ one-more ms count old mid new tally after left left_mid left_after sink sink_mid
         consumed = subst (Consumes left left_after) (sym more) (Consumes-trans left left_mid left_after _ _ h.took.consumed t.consumed);
         appended = Appends-trans sink sink_mid sink_after _ _ h.took.appended t.appended;
         syn = t.syn ∙ h.took.syn;
+        limits = t.limits ∙ h.took.limits;
+        offset = omega (arith, t.offset, h.took.offset, ap length more, length-append (came_in h.turns) t.turn.came);
         stands = λ text s.
             subst (Stands new.line) (append_assoc text (came_in h.turns) t.turn.came ∙ ap (λ p. text ++ p) (sym more)) (t.stands (text ++ came_in h.turns) (h.took.stands text s));
         driven_is = λ text s.
@@ -91,23 +95,12 @@ one-more ms count old mid new tally after left left_mid left_after sink sink_mid
       };
     }
 
-pub all-taken : (ms count : ℕ) (old new : Linked) (tally : Tally) (dev : Devices) → SoFar ms count old new tally dev
-    → Drives ms count old new dev (Ok (record { turns = count; read = tally.read; written = tally.written }))
-all-taken ms count old new tally dev h = (
-  h.turns,
-  h.written,
-  tally.deadline,
-  h.count_is,
-  ap (λ r. record { turns = count; read = r; written = tally.written }) h.read_is ∙ ap (λ w. record { turns = count; read = length (came_in h.turns); written = w }) h.written_is,
-  h.took,
-)
-
-pub broke : (ms count turns : ℕ) (old mid new halted : Linked) (tally : Tally) (left left_mid left_after sink sink_mid sink_after : Option (List ℕ)) (worst worst_mid worst_after : Worst) (fault : LineFault)
-    → SoFar ms count old mid tally (devices left left_mid worst worst_mid sink sink_mid) → count < turns
-    → BrokeTurn ms mid new tally (devices left_mid left_after worst_mid worst_after sink_mid sink_after) fault
+pub broke : (ms count turns : ℕ) (old mid new halted : Linked) (tally : Tally) (left left_mid left_after sink sink_mid sink_after : Option (List ℕ)) (worst_mid worst_after : Worst) (fault : LineFault)
+    → SoFar ms count old mid tally (devices left left_mid worst_mid sink sink_mid) → count < turns
+    → BrokeTurn ms mid new tally worst_mid (devices left_mid left_after worst_after sink_mid sink_after) fault
     → halted ≡ record new { kept = stopped new.kept }
-    → Ends ms turns old halted (devices left left_after worst worst_after sink sink_after) fault
-broke ms count turns old mid new halted tally left left_mid left_after sink sink_mid sink_after worst worst_mid worst_after fault h few b e = (
+    → Ends ms turns old halted (devices left left_after worst_after sink sink_after) fault
+broke ms count turns old mid new halted tally left left_mid left_after sink sink_mid sink_after worst_mid worst_after fault h few b e = (
   h.turns,
   b.last,
   h.written,
@@ -120,6 +113,8 @@ broke ms count turns old mid new halted tally left left_mid left_after sink sink
     consumed = subst (Consumes left left_after) (append-nil (came_in h.turns)) (Consumes-trans left left_mid left_after _ _ h.took.consumed b.consumed);
     appended = Appends-trans sink sink_mid sink_after _ _ h.took.appended b.appended;
     syn = ap (λ v. v.syn) e ∙ b.syn ∙ h.took.syn;
+    limits = ap (λ v. v.kept.limits) e ∙ b.limits ∙ h.took.limits;
+    offset = ap (λ v. v.line.offset) e ∙ ap (λ l. l.offset) b.line ∙ h.took.offset;
     stands = λ text s. subst (λ l. Stands l (text ++ came_in h.turns)) (sym (ap (λ v. v.line) e ∙ b.line)) (h.took.stands text s);
     kept = λ text s. ap (λ v. v.kept) e ∙ sym (ap (λ d. stopped d.kept) (last_is text s));
     written_is = λ text s. ap (λ d. d.written) (h.took.driven_is text s);

@@ -83,12 +83,13 @@ stopped k = record k { station = halted k.station }
 
 -- ---- a turn
 
--- up to its read: the timer, then the message of the user, then the next frame
+-- up to its frame: the timer, then the message of the user
 abbrev pub before_frame : ℕ → DriveTurn → Driving → Kept
 before_frame milliseconds turn d =
     offered_to turn.offered
     (in_time turn.now (deadline_at milliseconds turn.now d.kept.station.timer d.deadline) (with_arm d.kept))
 
+-- up to its read: the frame is written
 abbrev pub before_read : ℕ → ℕ → DriveTurn → Driving → Driving
 before_read milliseconds syn turn d = record d {
   kept = polled (before_frame milliseconds turn d);
@@ -112,30 +113,32 @@ driven milliseconds syn (turn ∷ rest) d = driven milliseconds syn rest (turned
 abbrev pub came_in : List DriveTurn → List ℕ
 came_in turns = flat_map (λ t. t.came) turns
 
--- A read gives at most 256 bytes, and where it was never idle at least one: at the end of its input
--- `drive` ends.
+-- A read gives at most 256 bytes, and where the source was never idle since its making at least one:
+-- at the end of its input `drive` ends.
 unfoldable pub Reads : Worst → List DriveTurn → Type 0
 Reads worst [] = Unit {0}
 Reads worst (turn ∷ rest) = (length turn.came ≤ 256) × (worst ≡ Fine → 0 < length turn.came) × Reads worst rest
 
 -- ---- what drive did
 
--- What a source has left and its worst answer, and what a sink holds, before and after.
+-- What a source has left and what a sink holds, before and after; and the worst answer of the source
+-- after.
 pub record Devices : Type 0 where
   pub left : Option (List ℕ)
   pub left_after : Option (List ℕ)
   pub worst : Worst
-  pub worst_after : Worst
   pub sink : Option (List ℕ)
   pub sink_after : Option (List ℕ)
 
 -- These turns were taken: the source lost the bytes that came, the sink holds the bytes written,
 -- and the station is the driven one, whichever text it stands for.
 pub record Took (milliseconds : ℕ) (turns : List DriveTurn) (written : List ℕ) (deadline : Option ℕ) (old new : Linked) (devices : Devices) : Type 0 where
-  pub reads : Reads devices.worst_after turns
+  pub reads : Reads devices.worst turns
   pub consumed : Consumes devices.left devices.left_after (came_in turns)
   pub appended : Appends devices.sink devices.sink_after written
   pub syn : new.syn ≡ old.syn
+  pub limits : new.kept.limits ≡ old.kept.limits
+  pub offset : new.line.offset ≡ old.line.offset + length (came_in turns)
   pub stands : (text : List ℕ) → Stands old.line text → Stands new.line (text ++ came_in turns)
   pub driven_is : (text : List ℕ) → Stands old.line text
       → driven milliseconds old.syn turns (undriven old.kept text)
@@ -144,10 +147,12 @@ pub record Took (milliseconds : ℕ) (turns : List DriveTurn) (written : List �
 -- These turns were taken and one more up to its read, whose frame is `frame`, of which the sink
 -- has got `sent`. Then the station was halted.
 pub record Broke (milliseconds : ℕ) (turns : List DriveTurn) (last : DriveTurn) (written frame sent : List ℕ) (old new : Linked) (devices : Devices) : Type 0 where
-  pub reads : Reads devices.worst_after turns
+  pub reads : Reads devices.worst turns
   pub consumed : Consumes devices.left devices.left_after (came_in turns)
   pub appended : Appends devices.sink devices.sink_after (written ++ sent)
   pub syn : new.syn ≡ old.syn
+  pub limits : new.kept.limits ≡ old.kept.limits
+  pub offset : new.line.offset ≡ old.line.offset + length (came_in turns)
   pub stands : (text : List ℕ) → Stands old.line text → Stands new.line (text ++ came_in turns)
   pub kept : (text : List ℕ) → Stands old.line text
       → new.kept ≡ stopped (before_read milliseconds old.syn last (driven milliseconds old.syn turns (undriven old.kept text))).kept
@@ -168,7 +173,7 @@ Ends milliseconds count old new devices fault =
     (turns : List DriveTurn) × (last : DriveTurn) × (written frame sent : List ℕ)
     × (length turns < count) × Sent fault sent frame × Broke milliseconds turns last written frame sent old new devices
 
--- What a call of `drive` for `count` turns did. Where memory is refused it does nothing.
+-- What a call of `drive` for `count` turns did. Of refused memory its clause `memory` speaks.
 abbrev pub Drives : ℕ → ℕ → Linked → Linked → Devices → Result Driven LineFault → Type 0
 Drives milliseconds count old new devices (Ok told) =
     (turns : List DriveTurn) × (written : List ℕ) × (deadline : Option ℕ)

@@ -1,5 +1,6 @@
 pub mod Bytes
 pub mod Linked
+pub mod OneByte
 pub mod Driving
 pub mod Turns
 pub use Rattle.ddcmp_frame.specs.Device

@@ -1,6 +1,7 @@
 -- One turn of `drive`, as its parts are proved.
 use Rattle.std.specs.Prelude.{◌≡◌, ℕ, ◌+◌, ◌<◌, ◌≤◌, List, [], ◌++◌, length, take, Option, Result, Ok, Err}
 use Rattle.std.specs.Io.KnownBytes.{Appends, Consumes}
+use Rattle.ddcmp_frame.specs.declared.device.Worst.{Worst}
 use Rattle.ddcmp_frame.specs.declared.device.Worst.TheVariants.{Fine}
 use Rattle.ddcmp_frame.specs.Held.{Stands}
 use Rattle.ddcmp_station.specs.declared.user.LineFault.{LineFault}
@@ -18,11 +19,11 @@ Writes old new bytes (Err Ended) = ⊥
 Writes old new bytes (Err Memory) = ⊥
 
 -- a turn was taken
-pub record TookTurn (milliseconds : ℕ) (old new : Linked) (before after : Tally) (devices : Devices) : Type 0 where
+pub record TookTurn (milliseconds : ℕ) (old new : Linked) (before after : Tally) (worst : Worst) (devices : Devices) : Type 0 where
   pub turn : DriveTurn
   pub frame : List ℕ
   pub short : length turn.came ≤ 256
-  pub fine : devices.worst_after ≡ Fine → (devices.worst ≡ Fine) × (0 < length turn.came)
+  pub fine : devices.worst ≡ Fine → (worst ≡ Fine) × (0 < length turn.came)
   pub consumed : Consumes devices.left devices.left_after turn.came
   pub appended : Appends devices.sink devices.sink_after frame
   pub read : after.read ≡ before.read + length turn.came
@@ -36,24 +37,26 @@ pub record TookTurn (milliseconds : ℕ) (old new : Linked) (before after : Tall
       ≡ record { kept = new.kept; text = text ++ turn.came; deadline = after.deadline; written = written ++ frame }
 
 -- a turn was begun and ended at a fault
-pub record BrokeTurn (milliseconds : ℕ) (old new : Linked) (before : Tally) (devices : Devices) (fault : LineFault) : Type 0 where
+pub record BrokeTurn (milliseconds : ℕ) (old new : Linked) (before : Tally) (worst : Worst) (devices : Devices) (fault : LineFault) : Type 0 where
   pub last : DriveTurn
   pub frame : List ℕ
   pub sent : List ℕ
   pub sent_is : Sent fault sent frame
   pub consumed : Consumes devices.left devices.left_after []
   pub appended : Appends devices.sink devices.sink_after sent
-  pub fine : devices.worst_after ≡ Fine → devices.worst ≡ Fine
+  pub fine : devices.worst ≡ Fine → worst ≡ Fine
   pub syn : new.syn ≡ old.syn
+  pub limits : new.kept.limits ≡ old.kept.limits
   pub line : new.line ≡ old.line
   pub deadline : Option ℕ
   pub before_is : (text written : List ℕ)
       → before_read milliseconds old.syn last (record { kept = old.kept; text = text; deadline = before.deadline; written = written })
       ≡ record { kept = new.kept; text = text; deadline = deadline; written = written ++ frame }
 
-abbrev pub Turns : ℕ → Linked → Linked → Tally → Tally → Devices → Result (Unit {0}) LineFault → Type 0
-Turns milliseconds old new before after devices (Ok u) = TookTurn milliseconds old new before after devices
-Turns milliseconds old new before after devices (Err fault) = BrokeTurn milliseconds old new before devices fault
+-- either of the two; `worst` is the worst answer of the source before
+abbrev pub TurnEnds : ℕ → Linked → Linked → Tally → Tally → Worst → Devices → Result (Unit {0}) LineFault → Type 0
+TurnEnds milliseconds old new before after worst devices (Ok u) = TookTurn milliseconds old new before after worst devices
+TurnEnds milliseconds old new before after worst devices (Err fault) = BrokeTurn milliseconds old new before worst devices fault
 
 -- so many turns were taken, as the tally tells
 pub record SoFar (milliseconds count : ℕ) (old new : Linked) (tally : Tally) (devices : Devices) : Type 0 where

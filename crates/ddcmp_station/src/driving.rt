@@ -1,11 +1,11 @@
 // A station driven over a line, turn by turn.
-ghost use Rattle.std.specs.Prelude.{◌≡◌, ◌≢◌, ◌↔◌, ℕ, ◌+◌, ◌*◌, ◌<◌, ◌≤◌, ◌^◌, List, [], ◌++◌, true, false, is_err, length, take, replicate, Option, Ok, Err, IfOk, OnOk, OnErr};
-ghost use Rattle.std.specs.Io.KnownBytes.{Appends, Consumes, Keeps, IsAtEnd};
+ghost use Rattle.std.specs.Prelude.{◌≡◌, ◌≢◌, ◌↔◌, ℕ, ◌+◌, ◌*◌, ◌<◌, ◌≤◌, ◌^◌, List, ◌++◌, true, false, is_err, length, take, Option, Ok, Err, IfOk, OnOk, OnErr};
+ghost use Rattle.std.specs.Io.KnownBytes.{Consumes, Keeps, IsAtEnd};
 ghost use Rattle.ddcmp_frame.specs.Held.{Stands};
 ghost use Rattle.ddcmp_core.specs.Table.{frame_in, next};
 ghost use Rattle.ddcmp_station.specs.Bytes.{polled, fed};
 ghost use Rattle.ddcmp_station.specs.Driving.{Drives, deadline_at, with_arm, in_time, offered_to, frame_bytes, handed_up};
-ghost use Rattle.ddcmp_station.specs.Turns.{Turns, Writes};
+ghost use Rattle.ddcmp_station.specs.Turns.{TurnEnds, Writes};
 
 use crate::laws::pieces;
 use crate::station::Station;
@@ -42,8 +42,7 @@ pub fn drive<R: Source, W: Sink, U: User, C: Clock>(
     ensures drives { Drives timer_ms turns station.old station.new (record {
       left = R.left reader.old;
       left_after = R.left reader.new;
-      worst = R.state reader.old;
-      worst_after = R.state reader.new;
+      worst = R.state reader.new;
       sink = W.contents writer.old;
       sink_after = W.contents writer.new;
     }) result }
@@ -53,7 +52,8 @@ pub fn drive<R: Source, W: Sink, U: User, C: Clock>(
     ensures write { (result ≡ Err LineFault.Write) ↔ (W.broken writer.new ≡ true) }
     ensures ended { result ≡ Err LineFault.Ended → IsAtEnd (R.left reader.new) }
     ensures memory { result ≡ Err LineFault.Memory
-        → (station.new ≡ station.old) × (reader.new ≡ reader.old) × (writer.new ≡ writer.old) }
+        → (station.new ≡ station.old) × (reader.new ≡ reader.old) × (writer.new ≡ writer.old)
+        × (user.new ≡ user.old) × (clock.new ≡ clock.old) }
 {
     let Ok(mut frame) = Vec::from_elem(alloc, 0u8, station.frame_room()) else {
         return Err(LineFault::Memory);
@@ -63,7 +63,7 @@ pub fn drive<R: Source, W: Sink, U: User, C: Clock>(
     )
 }
 
-/// The same, with room for a frame.
+/// The same, with a buffer for a frame, for the message of the user, and for mail.
 fn run<R: Source, W: Sink, U: User, C: Clock>(
     station: &mut Station,
     reader: &mut R,
@@ -81,8 +81,7 @@ fn run<R: Source, W: Sink, U: User, C: Clock>(
     ensures drives { Drives timer_ms turns station.old station.new (record {
       left = R.left reader.old;
       left_after = R.left reader.new;
-      worst = R.state reader.old;
-      worst_after = R.state reader.new;
+      worst = R.state reader.new;
       sink = W.contents writer.old;
       sink_after = W.contents writer.new;
     }) result }
@@ -134,11 +133,10 @@ fn turn<R: Source, W: Sink, U: User, C: Clock>(
     requires offset { station.old.line.offset + 256 < 2 ^ 64 }
     requires read { tally.old.read + 256 < 2 ^ 64 }
     requires written { tally.old.written + 16409 < 2 ^ 64 }
-    ensures takes { Turns timer_ms station.old station.new tally.old tally.new (record {
+    ensures takes { TurnEnds timer_ms station.old station.new tally.old tally.new (R.state reader.old) (record {
       left = R.left reader.old;
       left_after = R.left reader.new;
-      worst = R.state reader.old;
-      worst_after = R.state reader.new;
+      worst = R.state reader.new;
       sink = W.contents writer.old;
       sink_after = W.contents writer.new;
     }) result }

@@ -1,5 +1,5 @@
 // Laws of a station over bytes: functions that do nothing.
-ghost use Rattle.std.specs.Prelude.{◌≡◌, ℕ, ◌+◌, ◌<◌, List, [], ◌++◌};
+ghost use Rattle.std.specs.Prelude.{◌≡◌, ℕ, List, [], ◌++◌};
 ghost use Rattle.ddcmp_core.specs.Kept.{Kept};
 ghost use Rattle.ddcmp_station.specs.Bytes.{fed, told_of};
 

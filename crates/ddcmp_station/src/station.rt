@@ -410,7 +410,8 @@ impl Station {
         self.reader.open()
     }
 
-    /// The number of bytes of messages to send, of mail, and of the unfinished frame.
+    /// The number of bytes of messages to send, of mail, and of the unfinished frame; none of a frame
+    /// that is too long.
     pub fn held(&self) -> usize
         ensures value { result ≡ held_of self.now }
         ensures text { (text : List ℕ) → Stands self.now.line text

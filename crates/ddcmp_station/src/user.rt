@@ -3,7 +3,7 @@ ghost use Rattle.std.specs.Prelude.{◌≤◌, length};
 
 use ddcmp_core::Notice;
 
-/// A clock that doesn't go back.
+/// What tells a driven station the time.
 pub trait Clock {
     /// The time in milliseconds.
     fn now(&mut self) -> u64;

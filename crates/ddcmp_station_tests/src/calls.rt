@@ -15,6 +15,12 @@ const STRT: [u8; 8] = [0x05, 0x06, 0xC0, 0x00, 0x00, 0x01, 0x75, 0x95];
 const DATA: [u8; 13] = [
     0x81, 0x03, 0x00, 0x00, 0x01, 0x01, 0x9A, 0x41, 0x61, 0x62, 0x63, 0x38, 0x97,
 ];
+/// Data message 2, `abc`.
+const DATA_2: [u8; 13] = [
+    0x81, 0x03, 0x00, 0x00, 0x02, 0x01, 0x9A, 0xB1, 0x61, 0x62, 0x63, 0x38, 0x97,
+];
+
+const ACK_0: [u8; 8] = [0x05, 0x01, 0x00, 0x00, 0x00, 0x01, 0xFC, 0x55];
 /// The maintenance message `abc`.
 const MAINTENANCE: [u8; 13] = [
     0x90, 0x03, 0xC0, 0x00, 0x00, 0x01, 0xA4, 0x90, 0x61, 0x62, 0x63, 0x38, 0x97,
@@ -50,12 +56,13 @@ impl Bench {
         }
     }
 
-    /// Started, and its STRT answered.
+    /// Started, and asked to start by its peer, which has its STACK.
     fn running(rt: &impl Abort, alloc: Global) -> Bench {
         let mut bench = Bench::new(rt, alloc, 0);
         assert_eq!(rt; bench.station.start(), Ok(0));
-        bench.writes(rt, &STRT);
-        bench.hears(rt, &STACK, 8, Some(Notice::Running));
+        bench.hears(rt, &STRT, 8, None);
+        bench.writes(rt, &STACK);
+        bench.hears(rt, &ACK_0, 8, Some(Notice::Running));
         bench
     }
 
@@ -123,14 +130,16 @@ fn takes_pieces_up_to_a_notice(rt: HostRuntime) {
     both[..8].copy_from_slice(&STACK);
     both[8..].copy_from_slice(&DATA);
     bench.hears(&rt, &both, 8, Some(Notice::Running));
-    bench.hears(&rt, &DATA[..12], 12, None);
+    bench.hears(&rt, &both[8..], 13, Some(Notice::HandedUp));
+    bench.hands_up(&rt, b"abc");
+    bench.hears(&rt, &DATA_2[..12], 12, None);
     assert_eq!(rt; bench.station.held(), 12);
     assert_eq!(rt; bench.station.open(), 12);
-    bench.hears(&rt, &DATA[12..], 1, Some(Notice::HandedUp));
+    bench.hears(&rt, &DATA_2[12..], 1, Some(Notice::HandedUp));
     assert_eq!(rt; bench.station.held(), 3);
     assert_eq!(rt; bench.station.waiting(), 1);
     bench.hands_up(&rt, b"abc");
-    assert_eq!(rt; bench.station.counters().messages_up, 1);
+    assert_eq!(rt; bench.station.counters().messages_up, 2);
 }
 
 #[test]
@@ -206,6 +215,7 @@ fn messages_are_kept_and_the_line_is_cleared(rt: HostRuntime) {
     let mut out = [0; 1500];
     assert!(rt; bench.station.waiting() > 0);
     assert_eq!(rt; bench.station.waiting_at(0, &mut out), 3);
+    assert_eq!(rt; &out[..3], b"abc".as_slice());
     bench.station.halt();
     assert!(rt; bench.station.clear_line());
     assert_eq!(rt; bench.station.offset(), 0);

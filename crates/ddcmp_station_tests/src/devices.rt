@@ -4,37 +4,58 @@ ghost use Rattle.std.specs.Prelude.{◌≤◌};
 use ddcmp_station::{Clock, Notice, User};
 use std::io::{self, ErrorKind, Read, Write};
 
-/// Gives its text, and then what its ending says.
-#[derive(Drop)]
-pub struct Text<'a> {
-    pub text: &'a [u8],
-    pub ending: Ending,
-}
-
-/// What a read gives where no text is left.
+/// What a read gives.
 #[derive(Clone, Copy, Debug, PartialEq, Eq)]
-pub enum Ending {
-    /// No bytes.
-    End,
-    /// It times out.
+pub enum Came<'a> {
+    /// These bytes, as many as there is room for; then the next read goes on with them.
+    Bytes(&'a [u8]),
+    /// Nothing yet: it times out.
     Silence,
     /// It fails.
     Failure,
 }
 
-impl Read for Text<'_> {
-    fn read(&mut self, buf: &mut [u8]) -> io::Result<usize> {
-        if self.text.is_empty() {
-            return match self.ending {
-                Ending::End => Ok(0),
-                Ending::Silence => Err(io::Error::from(ErrorKind::TimedOut)),
-                Ending::Failure => Err(io::Error::from(ErrorKind::BrokenPipe)),
-            };
+/// A line that brings these one after another, and then its end.
+#[derive(Drop)]
+pub struct Line<'a> {
+    came: &'a [Came<'a>],
+    next: usize,
+    used: usize,
+}
+
+impl<'a> Line<'a> {
+    pub fn bringing(came: &'a [Came<'a>]) -> Self {
+        Line {
+            came,
+            next: 0,
+            used: 0,
         }
-        let n = buf.len().min(self.text.len());
-        buf[..n].copy_from_slice(&self.text[..n]);
-        self.text = &self.text[n..];
-        Ok(n)
+    }
+}
+
+impl Read for Line<'_> {
+    fn read(&mut self, buf: &mut [u8]) -> io::Result<usize> {
+        let Some(came) = self.came.get(self.next) else {
+            return Ok(0);
+        };
+        match came {
+            Came::Bytes(bytes) => {
+                let from = self.used.min(bytes.len());
+                let n = buf.len().min(bytes.len() - from);
+                buf[..n].copy_from_slice(&bytes[from..from + n]);
+                self.used = from + n;
+                if self.used == bytes.len() {
+                    self.next = self.next.saturating_add(1);
+                    self.used = 0;
+                }
+                Ok(n)
+            }
+            Came::Silence => {
+                self.next = self.next.saturating_add(1);
+                Err(io::Error::from(ErrorKind::TimedOut))
+            }
+            Came::Failure => Err(io::Error::from(ErrorKind::BrokenPipe)),
+        }
     }
 }
 
@@ -82,54 +103,65 @@ impl Write for Written {
     }
 }
 
-/// A user that offers one message once, and keeps what it was told and handed.
+/// What a user saw.
+#[derive(Clone, Copy, Debug, PartialEq, Eq)]
+pub enum Seen {
+    Told(Notice),
+    /// A message of this length, beginning with this byte.
+    Mail(usize, u8),
+    /// It was asked for a message, with room for so many bytes.
+    Asked(usize),
+}
+
+/// A user that offers these messages one after another, and then none. It keeps what it saw.
 #[derive(Drop)]
 pub struct Recorder<'a> {
-    offer: &'a [u8],
-    pub told: [Option<Notice>; 4],
-    tellings: usize,
-    mail: [u8; 16],
-    mail_len: usize,
-    ghost within: { mail_len ≤ 16 },
+    offers: &'a [&'a [u8]],
+    next: usize,
+    pub seen: [Option<Seen>; 8],
+    sights: usize,
 }
 
 impl<'a> Recorder<'a> {
-    pub fn offering(offer: &'a [u8]) -> Self {
+    pub fn offering(offers: &'a [&'a [u8]]) -> Self {
         Recorder {
-            offer,
-            told: [None; 4],
-            tellings: 0,
-            mail: [0; 16],
-            mail_len: 0,
+            offers,
+            next: 0,
+            seen: [None; 8],
+            sights: 0,
         }
     }
 
-    /// All mail, one message behind another.
-    pub fn mail(&self) -> &[u8] {
-        &self.mail[..self.mail_len]
+    fn sees(&mut self, seen: Seen) {
+        if self.sights < 8 {
+            self.seen[self.sights] = Some(seen);
+            self.sights += 1;
+        }
     }
 }
 
 impl User for Recorder<'_> {
     fn message(&mut self, out: &mut [u8]) -> usize {
-        let n = self.offer.len().min(out.len());
-        out[..n].copy_from_slice(&self.offer[..n]);
-        self.offer = &[];
+        let Some(offer) = self.offers.get(self.next) else {
+            return 0;
+        };
+        self.sees(Seen::Asked(out.len()));
+        let n = offer.len().min(out.len());
+        out[..n].copy_from_slice(&offer[..n]);
+        self.next = self.next.saturating_add(1);
         n
     }
 
     fn notice(&mut self, notice: Notice) {
-        if self.tellings < 4 {
-            self.told[self.tellings] = Some(notice);
-            self.tellings += 1;
-        }
+        self.sees(Seen::Told(notice));
     }
 
     fn mail(&mut self, message: &[u8]) {
-        let n = message.len().min(16 - self.mail_len);
-        let end = self.mail_len + n;
-        self.mail[self.mail_len..end].copy_from_slice(&message[..n]);
-        self.mail_len = end;
+        let first = match message.first() {
+            Some(byte) => *byte,
+            None => 0,
+        };
+        self.sees(Seen::Mail(message.len(), first));
     }
 }
 

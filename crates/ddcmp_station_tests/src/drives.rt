@@ -1,32 +1,37 @@
 // Stations driven over memory.
 ghost use Rattle.std.specs.Prelude.{◌≡◌, ◌≤◌};
 
-use crate::devices::{Ending, Moments, Recorder, Text, Written};
+use crate::devices::{Came, Line, Moments, Recorder, Seen, Written};
 use ddcmp_frame::{FromRead, ToWrite};
 use ddcmp_station::{Config, Driven, LineFault, Notice, State, Station, drive};
 use std::alloc::Global;
 use std::process::Abort;
 
 const STRT: [u8; 8] = [0x05, 0x06, 0xC0, 0x00, 0x00, 0x01, 0x75, 0x95];
+
+const STACK: [u8; 8] = [0x05, 0x07, 0xC0, 0x00, 0x00, 0x01, 0x48, 0x55];
+/// ACK with RESP 1.
+const ACK: [u8; 8] = [0x05, 0x01, 0x00, 0x01, 0x00, 0x01, 0xAD, 0x95];
 /// STRT, and ACK 0.
 const STARTUP: [u8; 16] = [
     0x05, 0x06, 0xC0, 0x00, 0x00, 0x01, 0x75, 0x95, 0x05, 0x01, 0x00, 0x00, 0x00, 0x01, 0xFC, 0x55,
 ];
-/// STACK, and data message 1, `abc`.
-const ANSWER: [u8; 21] = [
+/// STACK, and data messages 1 and 2, `abc` each.
+const ANSWER: [u8; 34] = [
     0x05, 0x07, 0xC0, 0x00, 0x00, 0x01, 0x48, 0x55, 0x81, 0x03, 0x00, 0x00, 0x01, 0x01, 0x9A, 0x41,
-    0x61, 0x62, 0x63, 0x38, 0x97,
+    0x61, 0x62, 0x63, 0x38, 0x97, 0x81, 0x03, 0x00, 0x00, 0x02, 0x01, 0x9A, 0xB1, 0x61, 0x62, 0x63,
+    0x38, 0x97,
 ];
 
-/// A started station of the usual sizes.
-fn started(rt: &impl Abort, alloc: Global) -> Station
+/// A started station.
+fn started(rt: &impl Abort, alloc: Global, window: u16, max: u16, syn: u8) -> Station
     ensures { result.line.offset ≡ 0 }
 {
     let config = Config {
-        window: 7,
+        window,
         inbox: 8,
-        max: 1500,
-        syn: 0,
+        max,
+        syn,
         restart: false,
     };
     match Station::new(alloc, config) {
@@ -38,31 +43,27 @@ fn started(rt: &impl Abort, alloc: Global) -> Station
     }
 }
 
-/// A call of `drive`: its input, its clock, its turns, and what comes of it.
+/// A call of `drive`: what the line brings, the clock, the user's messages, how many bytes the sink
+/// takes, the turns, and what comes of it.
 #[derive(Clone, Copy)]
 struct Row<'a> {
-    text: &'a [u8],
-    ending: Ending,
+    came: &'a [Came<'a>],
     moments: &'a [u64],
-    offer: &'a [u8],
+    offers: &'a [&'a [u8]],
     most: usize,
     turns: u32,
     answer: Result<Driven, LineFault>,
     written: &'a [u8],
-    told: [Option<Notice>; 4],
-    mail: &'a [u8],
+    seen: [Option<Seen>; 8],
     state: State,
 }
 
 fn drives(rt: &impl Abort, alloc: Global, station: &mut Station, row: &Row<'_>) {
     let offset = station.offset();
     assert!(rt; offset < 1000 && row.most <= 64);
-    let mut reader = FromRead::new(Text {
-        text: row.text,
-        ending: row.ending,
-    });
+    let mut reader = FromRead::new(Line::bringing(row.came));
     let mut writer = ToWrite::new(Written::at_most(row.most));
-    let mut user = Recorder::offering(row.offer);
+    let mut user = Recorder::offering(row.offers);
     let mut clock = Moments {
         moments: row.moments,
         next: 0,
@@ -79,24 +80,21 @@ fn drives(rt: &impl Abort, alloc: Global, station: &mut Station, row: &Row<'_>) 
     );
     assert_eq!(rt; answer, row.answer);
     assert_eq!(rt; writer.into_inner().bytes(), row.written);
-    assert_eq!(rt; user.told, row.told);
-    assert_eq!(rt; user.mail(), row.mail);
+    assert_eq!(rt; user.seen, row.seen);
     assert_eq!(rt; station.state(), row.state);
 }
 
 /// A call that comes to nothing.
 fn nothing<'a>() -> Row<'a> {
     Row {
-        text: &[],
-        ending: Ending::Silence,
+        came: &[],
         moments: &[0],
-        offer: &[],
+        offers: &[],
         most: 64,
         turns: 0,
         answer: Ok(driven(0, 0, 0)),
         written: &[],
-        told: [None; 4],
-        mail: &[],
+        seen: [None; 8],
         state: State::IStart,
     }
 }
@@ -109,26 +107,71 @@ fn driven(turns: u32, read: u64, written: u64) -> Driven {
     }
 }
 
-/// One turn that starts a station, and hands over what came.
+fn sees(first: Seen, second: Seen, third: Seen, fourth: Seen) -> [Option<Seen>; 8] {
+    [
+        Some(first),
+        Some(second),
+        Some(third),
+        Some(fourth),
+        None,
+        None,
+        None,
+        None,
+    ]
+}
+
+const RUNNING: [Option<Seen>; 8] = [
+    Some(Seen::Told(Notice::Running)),
+    None,
+    None,
+    None,
+    None,
+    None,
+    None,
+    None,
+];
+
+/// One turn that starts a station, and tells so.
 fn one_turn<'a>() -> Row<'a> {
     Row {
-        text: &ANSWER[..8],
-        ending: Ending::End,
+        came: &[Came::Bytes(&STACK)],
         turns: 1,
         answer: Ok(driven(1, 8, 8)),
         written: &STRT,
-        told: [Some(Notice::Running), None, None, None],
+        seen: RUNNING,
         state: State::Running,
         ..nothing()
     }
 }
 
-/// Each on a station that was started.
 #[test]
-fn turns_over_memory(rt: HostRuntime) {
+fn turns_read_what_comes(rt: HostRuntime) {
     for row in [
         nothing(),
         one_turn(),
+        // What comes behind an idle read is read too.
+        Row {
+            came: &[
+                Came::Silence,
+                Came::Bytes(&STACK),
+                Came::Silence,
+                Came::Bytes(&ACK),
+            ],
+            turns: 4,
+            answer: Ok(driven(4, 16, 16)),
+            written: &STARTUP,
+            ..one_turn()
+        },
+    ] {
+        let mut station = started(&rt, rt.alloc(), 7, 1500, 0);
+        drives(&rt, rt.alloc(), &mut station, &row);
+    }
+}
+
+#[test]
+fn faults_end_the_turns(rt: HostRuntime) {
+    for row in [
+        // An end is an end, also behind an idle read.
         Row {
             turns: 2,
             answer: Err(LineFault::Ended),
@@ -136,42 +179,16 @@ fn turns_over_memory(rt: HostRuntime) {
             state: State::Halted,
             ..one_turn()
         },
-        // The timer runs out at its deadline, and not before.
         Row {
-            moments: &[0, 500, 1499, 1500],
-            turns: 4,
-            answer: Ok(driven(4, 0, 16)),
-            written: &[
-                0x05, 0x06, 0xC0, 0x00, 0x00, 0x01, 0x75, 0x95, 0x05, 0x06, 0xC0, 0x00, 0x00, 0x01,
-                0x75, 0x95,
-            ],
+            came: &[Came::Silence],
+            turns: 2,
+            answer: Err(LineFault::Ended),
+            written: &STRT,
+            state: State::Halted,
             ..nothing()
         },
-        // Mail goes to the user after the notices, in the same turn.
         Row {
-            text: &ANSWER,
-            answer: Ok(driven(1, 21, 8)),
-            told: [Some(Notice::Running), Some(Notice::HandedUp), None, None],
-            mail: b"abc",
-            ..one_turn()
-        },
-        // The message of the user is sent once the station runs. It carries R = 1.
-        Row {
-            text: &ANSWER,
-            ending: Ending::Silence,
-            offer: b"abc",
-            turns: 3,
-            answer: Ok(driven(3, 21, 21)),
-            written: &[
-                0x05, 0x06, 0xC0, 0x00, 0x00, 0x01, 0x75, 0x95, 0x81, 0x03, 0x00, 0x01, 0x01, 0x01,
-                0xCB, 0x81, 0x61, 0x62, 0x63, 0x38, 0x97,
-            ],
-            told: [Some(Notice::Running), Some(Notice::HandedUp), None, None],
-            mail: b"abc",
-            ..one_turn()
-        },
-        Row {
-            ending: Ending::Failure,
+            came: &[Came::Bytes(&STACK), Came::Failure],
             turns: 2,
             answer: Err(LineFault::Read),
             written: &STARTUP,
@@ -195,15 +212,118 @@ fn turns_over_memory(rt: HostRuntime) {
             ..nothing()
         },
     ] {
-        drives(&rt, rt.alloc(), &mut started(&rt, rt.alloc()), &row);
+        let mut station = started(&rt, rt.alloc(), 7, 1500, 0);
+        drives(&rt, rt.alloc(), &mut station, &row);
     }
+}
+
+/// Notices first, and then all mail, in the same turn.
+#[test]
+fn mail_goes_to_the_user(rt: HostRuntime) {
+    let mut station = started(&rt, rt.alloc(), 7, 1500, 0);
+    let row = Row {
+        came: &[Came::Bytes(&ANSWER)],
+        answer: Ok(driven(1, 34, 8)),
+        seen: [
+            Some(Seen::Told(Notice::Running)),
+            Some(Seen::Told(Notice::HandedUp)),
+            Some(Seen::Told(Notice::HandedUp)),
+            Some(Seen::Mail(3, b'a')),
+            Some(Seen::Mail(3, b'a')),
+            None,
+            None,
+            None,
+        ],
+        ..one_turn()
+    };
+    drives(&rt, rt.alloc(), &mut station, &row);
+}
+
+/// Mail that was there before goes to the user also where a read is idle.
+#[test]
+fn mail_from_before_goes_to_the_user(rt: HostRuntime) {
+    let mut station = started(&rt, rt.alloc(), 7, 1500, 0);
+    drives(&rt, rt.alloc(), &mut station, &one_turn());
+    assert!(rt; station.offset() < 1000);
+    assert_eq!(rt; station.feed(&ANSWER[8..21]).used, 13);
+    let row = Row {
+        came: &[Came::Silence],
+        turns: 1,
+        answer: Ok(driven(1, 0, 8)),
+        written: &ACK,
+        seen: [
+            Some(Seen::Mail(3, b'a')),
+            None,
+            None,
+            None,
+            None,
+            None,
+            None,
+            None,
+        ],
+        state: State::Running,
+        ..nothing()
+    };
+    drives(&rt, rt.alloc(), &mut station, &row);
+}
+
+/// The user is asked where the station runs and has room, with room for the longest message.
+#[test]
+fn messages_of_the_user_are_sent(rt: HostRuntime) {
+    let mut station = started(&rt, rt.alloc(), 1, 4, 2);
+    let row = Row {
+        came: &[
+            Came::Bytes(&STACK),
+            Came::Silence,
+            Came::Silence,
+            Came::Bytes(&ACK),
+            Came::Silence,
+            Came::Silence,
+        ],
+        offers: &[b"a", b"b", b"c"],
+        turns: 6,
+        answer: Ok(driven(6, 16, 36)),
+        written: &[
+            0x96, 0x96, 0x05, 0x06, 0xC0, 0x00, 0x00, 0x01, 0x75, 0x95, 0x96, 0x96, 0x81, 0x01,
+            0x00, 0x00, 0x01, 0x01, 0xE3, 0x81, 0x61, 0xC1, 0xE8, 0x96, 0x96, 0x81, 0x01, 0x00,
+            0x00, 0x02, 0x01, 0xE3, 0x71, 0x62, 0x81, 0xE9,
+        ],
+        seen: sees(
+            Seen::Told(Notice::Running),
+            Seen::Asked(4),
+            Seen::Told(Notice::Acknowledged(1)),
+            Seen::Asked(4),
+        ),
+        ..one_turn()
+    };
+    drives(&rt, rt.alloc(), &mut station, &row);
+    assert_eq!(rt; station.outgoing(), 1);
+}
+
+/// The timer runs out at its deadline, and not before.
+#[test]
+fn the_timer_runs_out(rt: HostRuntime) {
+    let mut station = started(&rt, rt.alloc(), 7, 1500, 0);
+    let row = Row {
+        came: &[Came::Silence; 4],
+        moments: &[0, 500, 1499, 1500],
+        turns: 4,
+        answer: Ok(driven(4, 0, 16)),
+        written: &[
+            0x05, 0x06, 0xC0, 0x00, 0x00, 0x01, 0x75, 0x95, 0x05, 0x06, 0xC0, 0x00, 0x00, 0x01,
+            0x75, 0x95,
+        ],
+        ..nothing()
+    };
+    drives(&rt, rt.alloc(), &mut station, &row);
 }
 
 /// A timer that was on when the call began gets a deadline of this call.
 #[test]
 fn a_second_call_sets_a_deadline(rt: HostRuntime) {
-    let mut station = started(&rt, rt.alloc());
+    let mut station = started(&rt, rt.alloc(), 7, 1500, 0);
     let first = Row {
+        came: &[Came::Silence; 3],
         moments: &[0, 500, 1499],
         turns: 3,
         answer: Ok(driven(3, 0, 8)),
@@ -212,6 +332,7 @@ fn a_second_call_sets_a_deadline(rt: HostRuntime) {
     };
     drives(&rt, rt.alloc(), &mut station, &first);
     let second = Row {
+        came: &[Came::Silence; 2],
         moments: &[2000, 3000],
         turns: 2,
         answer: Ok(driven(2, 0, 8)),
@@ -225,10 +346,10 @@ fn a_second_call_sets_a_deadline(rt: HostRuntime) {
 /// A call that reads nothing would tell so: all that there is is read, 256 bytes a turn.
 #[test]
 fn all_input_is_read(rt: HostRuntime) {
-    let mut station = started(&rt, rt.alloc());
+    let mut station = started(&rt, rt.alloc(), 7, 1500, 0);
     let fill = [0x96; 600];
     let row = Row {
-        text: &fill,
+        came: &[Came::Bytes(&fill), Came::Silence],
         turns: 4,
         answer: Ok(driven(4, 600, 8)),
         written: &STRT,
@@ -253,10 +374,7 @@ fn refused_memory_leaves_a_station(rt: HostRuntime) {
     };
     assert_eq!(rt; station.start(), Ok(0));
     let before = (station.numbers(), *station.counters());
-    let mut reader = FromRead::new(Text {
-        text: &ANSWER[..8],
-        ending: Ending::End,
-    });
+    let mut reader = FromRead::new(Line::bringing(&[Came::Bytes(&STACK)]));
     let mut writer = ToWrite::new(Written::at_most(64));
     let mut user = Recorder::offering(&[]);
     let mut clock = Moments {
@@ -274,7 +392,12 @@ fn refused_memory_leaves_a_station(rt: HostRuntime) {
         1,
     );
     match answer {
-        Ok(told) => assert_eq!(rt; told, driven(1, 8, 8)),
+        Ok(told) => {
+            assert_eq!(rt; told, driven(1, 8, 8));
+            assert_eq!(rt; writer.into_inner().bytes(), STRT.as_slice());
+            assert_eq!(rt; user.seen, RUNNING);
+            assert_eq!(rt; station.state(), State::Running);
+        }
         Err(fault) => {
             assert_eq!(rt; fault, LineFault::Memory);
             assert!(rt; writer.into_inner().bytes().is_empty());

@@ -1,7 +1,6 @@
 -- The first elements of a list, each seen by a function, as they change.
-use Rattle.std.proofs.Common.{◌≡◌, ℕ, ◌+◌, ◌<◌, ◌≤◌, List, ◌++◌, length, take, drop, map, get_or, sum_by, refl, arith}
-use Rattle.std.proofs.lemmas.List.{length-drop, take-append-le, drop-take, drop-map, map_more}
-use Rattle.std.proofs.lemmas.List.Sums.{sum_by_push}
+use Rattle.std.proofs.Common.{◌≡◌, ℕ, ◌+◌, ◌≤◌, List, ◌++◌, length, take, drop, map, refl, arith}
+use Rattle.std.proofs.lemmas.List.{length-drop, take-append-le, drop-take, drop-map}
 
 -- the first n elements leave, and stand behind the others
 pub front-rotated : {A B : Type 0} (f : A → B) (n m k : ℕ) (xs : List A) → n + m ≡ k → k ≤ length xs
@@ -9,8 +8,3 @@ pub front-rotated : {A B : Type 0} (f : A → B) (n m k : ℕ) (xs : List A) →
 front-rotated f n m k xs total inside =
     let short : m ≤ length (drop n xs) = omega (arith, length-drop n xs) in
     rw (drop-map f n (take k xs), ← total) (rw (take-append-le m (drop n xs) (take n xs) short, drop-take n m xs) refl)
-
--- one more element in a sum over the first ones
-pub sum-front-more : {A B : Type 0} (f : A → B) (g : B → ℕ) (i : ℕ) (xs : List A) (x : A) → i < length xs
-    → sum_by g (map f (take (i + 1) xs)) ≡ sum_by g (map f (take i xs)) + g (f (get_or xs i x))
-sum-front-more f g i xs x inside = rw (map_more f xs i x inside) (sum_by_push g (map f (take i xs)) (f (get_or xs i x)))

@@ -19,7 +19,7 @@ impl Station {
     ghost use Rattle.std.specs.Prelude.{◌≡◌, ℕ, ◌+◌, ◌<◌, ◌≤◌, ◌^◌, List, [], ◌++◌, length, take, option_to_list, Some, None};
     ghost use Rattle.ddcmp_frame.specs.Held.{Stands, LentBeside};
     ghost use Rattle.ddcmp_station.specs.Bytes.{fed, told_of, heard_one, told_one};
-    ghost use Rattle.ddcmp_station.specs.Linked.{TakesByte};
+    ghost use Rattle.ddcmp_station.specs.OneByte.{TakesByte};
 
     /// Takes bytes of the line, up to the first that gives a notice.
     pub fn feed(&mut self, piece: &[u8]) -> Fed

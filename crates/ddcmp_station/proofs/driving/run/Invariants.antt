@@ -15,8 +15,7 @@ invariant-loop-done g l = record {
   taken : SoFar l.timer_ms l._done l.initial.station l.station l.tally (record {
     left = g.R.Source.left l.initial.reader;
     left_after = g.R.Source.left l.reader;
-    worst = g.R.Source.state l.initial.reader;
-    worst_after = g.R.Source.state l.reader;
+    worst = g.R.Source.state l.reader;
     sink = g.W.Sink.contents l.initial.writer;
     sink_after = g.W.Sink.contents l.writer;
   });

@@ -1,5 +1,5 @@
 use Rattle.std.proofs.Common.{None, subst}
-use Rattle.ddcmp_station.specs.Linked.{TakesByte}
+use Rattle.ddcmp_station.specs.OneByte.{TakesByte}
 use Rattle.ddcmp_station.proofs.FeedLaws.{byte-none, byte-some}
 use Rattle.ddcmp_station.proofs.station.Station.take_byte.Goals as goal
 
