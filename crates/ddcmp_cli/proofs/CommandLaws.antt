@@ -1,5 +1,7 @@
 -- What a parse says of the command that the words name.
-use Rattle.std.proofs.Common.{codes, [], ◌∷◌, ◌≡◌, ◌∙◌, ap, sym, subst, refl, true, List, Option, Some, None}
+use Rattle.ddcmp_cli.specs.Endings.{CanRun, Performs, ExplainsOrNoMemory}
+use Rattle.ddcmp_cli.specs.declared.program.Ending.{Ending}
+use Rattle.std.proofs.Common.{inr, ℕ, codes, [], ◌∷◌, ◌≡◌, ◌∙◌, ap, sym, subst, refl, true, List, Option, Some, None}
 use Rattle.std.specs.Option.{option_map, option_and_then}
 use Rattle.clap.specs.Words.{App, Text, HasMatchesOf, is_simple, subcommand_of, subcommand_name_of, subcommand_rows_of, one_text, one_of, takes, Row}
 use Rattle.clap.specs.Walk.{rows_of}
@@ -74,3 +76,9 @@ given-raw = refl
 pub given-max : option_in (codes "ddcmp" ∷ codes "explain" ∷ codes "--max" ∷ codes "1500" ∷ []) (codes "max") ≡ Some (codes "1500")
 unfolding clap_on_literals option_in
 given-max = refl
+
+pub can_run : (o : Text → Option Text) (command : Command) → HasOptions o command → CanRun command
+can_run o (Explain form max) h = h.1.in_range
+
+pub performed : (words : List Text) (command : Command) (input : List ℕ) (left old new : Option (List ℕ)) (ending : Ending) → HasOptions (option_in words) command → Performs command input left old new ending → ExplainsOrNoMemory words input left old new ending
+performed words (Explain form max) input left old new ending h p = inr (form, max, p.0, h, p.1, p.2)

@@ -1,11 +1,14 @@
 -- The command line, as `clap` reads it.
-use Rattle.std.specs.Prelude.{ℕ, pos, ◌≡◌, ◌<◌, ◌≤◌, true, List, codes, decimal, Option, Some, None}
+use Rattle.std.specs.Prelude.{ℕ, pos, ◌≡◌, ◌≢◌, ◌<◌, ◌≤◌, Bool, true, false, List, [], codes, decimal, Option, Some, None, Result, Ok, Err}
 use Rattle.std.specs.Option.{option_map, option_and_then}
 use Rattle.ddcmp_cli.specs.declared.explaining.Form.{Form}
 use Rattle.ddcmp_cli.specs.declared.explaining.Form.TheVariants.{Hex, Raw}
 use Rattle.ddcmp_cli.specs.declared.command.Command.{Command}
 use Rattle.ddcmp_cli.specs.declared.command.Command.TheVariants.{Explain}
-use Rattle.clap.specs.Words.{App, Rule, Text, new_app, new_rule, one_of, subcommand_of, takes, with_rule, with_subcommand}
+use Rattle.ddcmp_cli.specs.declared.command.Declined.{Declined}
+use Rattle.ddcmp_cli.specs.declared.command.Declined.TheVariants.{Help, Usage, Memory}
+use Rattle.clap.specs.declared.error.kind.ErrorKind.TheVariants.{DisplayHelp, DisplayVersion}
+use Rattle.clap.specs.Words.{IsAmong, fault_of, App, Rule, Text, new_app, new_rule, one_of, subcommand_of, takes, with_rule, with_subcommand}
 use Rattle.clap.specs.declared.builder.ArgAction.TheVariants.{SetTrue}
 use Rattle.clap.specs.declared.builder.value_parser.ValueParser.TheVariants.{Signed}
 
@@ -60,3 +63,23 @@ pub record HasMaximum (most : Option Text) (max : ℕ) : Type 0 where
 -- a command with the options that were given
 abbrev pub HasOptions : (Text → Option Text) → Command → Type 0
 HasOptions option (Explain form max) = HasForm (option (codes "raw")) form × HasMaximum (option (codes "max")) max
+
+-- the words are out of order, and ask for no help
+pub record IsOutOfOrder (words : List Text) : Type 0 where
+  pub some : fault_of program words ≢ []
+  pub no_help : ¬ IsAmong DisplayHelp (fault_of program words)
+  pub no_version : ¬ IsAmong DisplayVersion (fault_of program words)
+
+-- words that were declined as out of order, or for want of memory
+abbrev pub is_usage : Result Command Declined → Bool
+is_usage (Ok c) = false
+is_usage (Err (Help t)) = false
+is_usage (Err (Usage t)) = true
+is_usage (Err Memory) = true
+
+-- words that were answered with help, or declined for want of memory
+abbrev pub is_help : Result Command Declined → Bool
+is_help (Ok c) = false
+is_help (Err (Help t)) = true
+is_help (Err (Usage t)) = false
+is_help (Err Memory) = true

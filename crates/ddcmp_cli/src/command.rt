@@ -1,8 +1,9 @@
 // The words of the command line.
-ghost use Rattle.std.specs.Prelude.{◌≡◌, ◌⊎◌, ◌↔◌, IsTrue, IfOk, IsOk, Some, codes, map, false};
+ghost use Rattle.std.specs.Prelude.{[], ◌∷◌, ◌≢◌, ◌≡◌, ◌⊎◌, ◌↔◌, IsTrue, IfOk, IsOk, Some, codes, map, false};
 ghost use Rattle.ddcmp_cli.specs.Words.{IsAsked, HasForm, HasMaximum, HasOptions, IsMaximum, named_by, option_in};
 ghost use Rattle.ddcmp_cli.specs.Words.{program, explain_app, raw_rule, max_rule};
-ghost use Rattle.clap.specs.Words.{kind_of, app_of, rule_of, found_of, one_text};
+ghost use Rattle.ddcmp_cli.specs.Words.{IsOutOfOrder, is_usage, is_help};
+ghost use Rattle.clap.specs.Words.{fault_of, kind_of, app_of, rule_of, found_of, one_text};
 ghost use Rattle.clap.specs.declared.builder.command.Command.TheViews.{out-Command as fields_of};
 
 use crate::explaining::Form;
@@ -74,6 +75,8 @@ fn parser<'a>(alloc: Global) -> Result<clap::Command<'a>, AllocError>
 /// A fault of the words as this crate tells it.
 fn decline(alloc: Global, error: &Error) -> Declined
     ensures memory { kind_of error.now ≡ ErrorKind.OutOfMemory → result ≡ Declined.Memory }
+    ensures usage { kind_of error.now ≢ ErrorKind.DisplayHelp → kind_of error.now ≢ ErrorKind.DisplayVersion → IsTrue (is_usage (Err result)) }
+    ensures help { kind_of error.now ≡ ErrorKind.DisplayHelp → IsTrue (is_help (Err result)) }
 {
     if error.kind() == ErrorKind::OutOfMemory {
         return Declined::Memory;
@@ -134,6 +137,9 @@ pub fn read_words<'a>(alloc: Global, words: &'a [&'a str]) -> Result<Command, De
         → IsOk result ⊎ (result ≡ Err Declined.Memory) }
     ensures options { IfOk result (HasOptions (option_in (map (λ word. word.now) words.entry.now))) }
     ensures only { IfOk result (λ _. named_by (map (λ word. word.now) words.entry.now) ≡ Some (codes "explain")) }
+    ensures in_order { IfOk result (λ _. fault_of program (map (λ word. word.now) words.entry.now) ≡ []) }
+    ensures usage { IsOutOfOrder (map (λ word. word.now) words.entry.now) → IsTrue (is_usage result) }
+    ensures help { fault_of program (map (λ word. word.now) words.entry.now) ≡ ErrorKind.DisplayHelp ∷ [] → IsTrue (is_help result) }
 {
     let command = match parser(alloc) {
         Ok(made) => made,

@@ -1,13 +1,15 @@
 // The program: words in, a command run, and how it ended.
-ghost use Rattle.std.specs.Prelude.{◌≡◌, ◌≢◌, ◌↔◌, ◌∷◌, [], false, IsTrue, IfOk, List, ℕ, Some, None, codes, map, string_bytes};
-ghost use Rattle.ddcmp_cli.specs.Words.{IsAsked, option_in};
-ghost use Rattle.ddcmp_cli.specs.Endings.{status_of, ExplainsOrNoMemory};
+ghost use Rattle.std.specs.Prelude.{IfErr, OnErr, IsOk, ◌⊎◌, ◌≡◌, ◌≢◌, ◌↔◌, ◌∷◌, [], false, IsTrue, IfOk, List, ℕ, Some, None, codes, map, string_bytes};
+ghost use Rattle.std.specs.IoError.{error_kind};
+ghost use Rattle.ddcmp_cli.specs.Words.{IsOutOfOrder, IsAsked, HasOptions, is_usage, option_in};
+ghost use Rattle.ddcmp_cli.specs.Endings.{CanRun, Performs, shown_of, is_refusal, status_of, ExplainsOrNoMemory};
 
 use crate::command::{Command, Declined, read_words};
 use crate::explaining::{ExplainFault, Form, explain};
 use crate::page::write_all;
 use ddcmp_frame::{Sink, Source, Worst};
 use std::alloc::{AllocError, Global};
+use std::io::ErrorKind;
 use std::{fmt, io};
 
 /// How the program ended.
@@ -41,6 +43,8 @@ impl Ending {
 
 /// What goes to standard error.
 impl fmt::Display for Ending {
+    ghost output = { shown_of };
+
     fn fmt<W: fmt::Write>(&self, f: &mut fmt::Formatter<W>) -> fmt::Result {
         match self {
             Ending::Done => Ok(()),
@@ -52,6 +56,29 @@ impl fmt::Display for Ending {
                 f.write_str("\n")
             }
         }
+    }
+}
+
+/// Runs a command.
+fn perform<R: Source, W: Sink>(
+    alloc: Global,
+    command: Command,
+    reader: &mut R,
+    writer: &mut W,
+) -> Ending
+    requires fine { R.state reader.old ≡ Worst.Fine }
+    requires whole { W.broken writer.old ≡ false }
+    requires runs { CanRun command }
+    ensures performs { (input : List ℕ) → R.left reader.old ≡ Some input
+        → Performs command input (R.left reader.new) (W.contents writer.old) (W.contents writer.new) result }
+    ensures read { R.state reader.new ≢ Worst.Fine → result ≡ Ending.Fault ExplainFault.Read }
+    ensures write { (result ≡ Ending.Fault ExplainFault.Write) ↔ IsTrue (W.broken writer.new) }
+{
+    match command {
+        Command::Explain { form, max } => match explain(alloc, reader, writer, form, max) {
+            Ok(()) => Ending::Done,
+            Err(fault) => Ending::Fault(fault),
+        },
     }
 }
 
@@ -68,14 +95,12 @@ pub fn run<R: Source, W: Sink>(
     ensures explains { (input : List ℕ) → R.left reader.old ≡ Some input
         → IsAsked (map (λ word. word.now) words.now) (codes "explain")
         → ExplainsOrNoMemory (map (λ word. word.now) words.now) input (R.left reader.new) (W.contents writer.old) (W.contents writer.new) result }
+    ensures refused { IsOutOfOrder (map (λ word. word.now) words.now) → IsTrue (is_refusal result) × (reader.new ≡ reader.old) × (writer.new ≡ writer.old) }
     ensures read { R.state reader.new ≢ Worst.Fine → result ≡ Ending.Fault ExplainFault.Read }
     ensures write { (result ≡ Ending.Fault ExplainFault.Write) ↔ IsTrue (W.broken writer.new) }
 {
     match read_words(alloc, words) {
-        Ok(Command::Explain { form, max }) => match explain(alloc, reader, writer, form, max) {
-            Ok(()) => Ending::Done,
-            Err(fault) => Ending::Fault(fault),
-        },
+        Ok(command) => perform(alloc, command, reader, writer),
         Err(Declined::Help(text)) => match write_all(writer, text.as_bytes()) {
             Ok(()) => Ending::Done,
             Err(_failed) => Ending::Fault(ExplainFault::Write),
@@ -117,6 +142,10 @@ pub fn run_args<R: Source, W: Sink>(
     ensures explains { (input : List ℕ) → R.left reader.old ≡ Some input
         → IfOk args (λ words. IsAsked (map string_bytes words.items) (codes "explain")
         → ExplainsOrNoMemory (map string_bytes words.items) input (R.left reader.new) (W.contents writer.old) (W.contents writer.new) result) }
+    ensures refused { IfOk args (λ words. IsOutOfOrder (map string_bytes words.items) → IsTrue (is_refusal result) × (reader.new ≡ reader.old) × (writer.new ≡ writer.old)) }
+    ensures no_memory { IfErr args (λ error. error_kind error ≡ ErrorKind.OutOfMemory → result ≡ Ending.Fault ExplainFault.Memory) }
+    ensures not_text { IfErr args (λ error. error_kind error ≢ ErrorKind.OutOfMemory → result ≡ Ending.NotText) }
+    ensures untouched { OnErr args ((reader.new ≡ reader.old) × (writer.new ≡ writer.old)) }
     ensures read { R.state reader.new ≢ Worst.Fine → result ≡ Ending.Fault ExplainFault.Read }
     ensures write { (result ≡ Ending.Fault ExplainFault.Write) ↔ IsTrue (W.broken writer.new) }
 {

@@ -1,5 +1,5 @@
 -- What a source has left and what a sink holds, where these are known.
-use Rattle.std.specs.Prelude.{◌≡◌, ℕ, ◌<◌, ◌≤◌, Bool, List, length, take, Option, Some, None}
+use Rattle.std.specs.Prelude.{◌≡◌, ℕ, ◌<◌, ◌≤◌, Bool, List, ◌++◌, length, take, Option, Some, None}
 use Rattle.std.specs.Io.KnownBytes.{Appends, Consumes, Keeps, IsAtEnd}
 use Rattle.ddcmp_frame.specs.declared.device.FromRead.{FromRead}
 use Rattle.ddcmp_frame.specs.declared.device.ToWrite.{ToWrite}
@@ -13,6 +13,12 @@ abbrev pub ReadGives : Option (List ℕ) → Option (List ℕ) → Got → List 
 ReadGives old new (Bytes n) buf = (n ≤ length buf) × Consumes old new (take n buf) × (n ≡ 0 → 0 < length buf → IsAtEnd new)
 ReadGives old new Idle buf = Keeps old new
 ReadGives old new Failed buf = Keeps old new
+
+-- a log that is known grows by what happened
+abbrev pub Logs : {A : Type 0} → Option (List A) → Option (List A) → List A → Type 0
+Logs None new xs = Unit {0}
+Logs (Some old) None xs = ⊥
+Logs (Some old) (Some new) xs = new ≡ old ++ xs
 
 -- the worse of the worst so far and an answer
 abbrev pub worse : Worst → Got → Worst

@@ -1,5 +1,5 @@
 // Where bytes come from and where they go.
-ghost use Rattle.std.specs.Prelude.{◌≡◌, ◌≢◌, false, true, is_none, List, ℕ, Option, Bool};
+ghost use Rattle.std.specs.Prelude.{◌≡◌, ◌≢◌, ◌<◌, length, false, true, is_none, List, ℕ, Option, Bool};
 
 use std::io::{ErrorKind, Read, Write};
 
@@ -24,9 +24,11 @@ pub enum Worst {
 
 /// A device that bytes come from. It tells them to contracts where it knows them.
 pub trait Source {
+    ghost use Rattle.std.specs.Prelude.{[], ◌∷◌, None};
+    ghost use Rattle.ddcmp_frame.specs.declared.device.Got.{Got as GotValue};
     ghost use Rattle.ddcmp_frame.specs.declared.device.Worst.{Worst as WorstValue};
     ghost use Rattle.ddcmp_frame.specs.declared.device.Worst.TheVariants.{Failed};
-    ghost use Rattle.ddcmp_frame.specs.Device.{ReadGives, worse};
+    ghost use Rattle.ddcmp_frame.specs.Device.{ReadGives, worse, Logs};
 
     // The bytes that reads will give, where they are known.
     ghost left: { Self → Option (List ℕ) };
@@ -34,11 +36,15 @@ pub trait Source {
     // The worst answer so far.
     ghost state: { Self → WorstValue };
 
+    // The answers of its reads, where these are known.
+    ghost answers: { Self → Option (List GotValue) } = { λ _. None };
+
     /// Reads into the front of `buf`.
     fn read(&mut self, buf: &mut [u8]) -> Got
         requires { state self.old ≢ Failed }
         ensures bytes { ReadGives (left self.old) (left self.new) result buf.new }
-        ensures worst { state self.new ≡ worse (state self.old) result };
+        ensures worst { state self.new ≡ worse (state self.old) result }
+        ensures answers { Logs (answers self.old) (answers self.new) (result ∷ []) };
 
     /// The worst answer so far.
     fn worst(&self) -> Worst
@@ -58,7 +64,8 @@ pub trait Sink {
     /// Takes bytes from the front of `bytes`, at least one where there is one, and says how
     /// many; None is a write that failed.
     fn write(&mut self, bytes: &[u8]) -> Option<usize>
-        requires { broken self.old ≡ false }
+        requires whole { broken self.old ≡ false }
+        requires some { 0 < length bytes.now }
         ensures bytes { WriteTakes (contents self.old) (contents self.new) result bytes.now }
         ensures broken { broken self.new ≡ is_none result };
 

@@ -3,3 +3,4 @@ pub mod FeedLaws
 pub mod PollLaws
 pub mod DriveLaws
 pub mod RunLaws
+pub mod SeenLaws

@@ -2,7 +2,7 @@
 use Rattle.std.proofs.Common.{◌≡◌, ℕ, ◌+◌, ◌<◌, ◌≤◌, List, [], ◌∷◌, ◌++◌, length, refl, sym, ◌∙◌, ap, subst, append_assoc, append-nil, arith, length-append, Option, None, Ok, Err}
 use Rattle.std.proofs.KnownBytes.{Appends-nil, Appends-trans, Consumes-nil, Consumes-trans}
 use Rattle.std.proofs.lemmas.Grind.{flat_map-append}
-use Rattle.std.specs.Io.KnownBytes.{Consumes}
+use Rattle.std.specs.Io.KnownBytes.{Appends, Consumes}
 use Rattle.ddcmp_frame.specs.declared.device.Worst.{Worst}
 use Rattle.ddcmp_frame.specs.declared.device.Worst.TheVariants.{Fine}
 use Rattle.ddcmp_frame.specs.Held.{Stands}
@@ -10,7 +10,11 @@ use Rattle.ddcmp_station.specs.declared.user.LineFault.{LineFault}
 use Rattle.ddcmp_station.specs.declared.user.LineFault.TheVariants.{Read, Write, Ended, Memory}
 use Rattle.ddcmp_station.specs.declared.driving.Tally.{Tally}
 use Rattle.ddcmp_station.specs.Linked.{Linked}
-use Rattle.ddcmp_station.specs.Driving.{DriveTurn, Driving, Devices, undriven, stopped, before_read, turned, driven, came_in, Reads, Ends, Drives}
+use Rattle.ddcmp_station.specs.Driving.{DriveTurn, Driving, Devices, undriven, stopped, before_read, turned, driven, came_in, moments, read_by, answer_of, last_read, Reads, Ends, Drives}
+use Rattle.ddcmp_station.proofs.DriveLaws.{Logs-nil, Logs-trans}
+use Rattle.ddcmp_frame.specs.Device.{Logs}
+use Rattle.ddcmp_frame.specs.declared.device.Got.{Got}
+use Rattle.ddcmp_station.specs.Seen.{Seen}
 use Rattle.ddcmp_station.specs.Turns.{TookTurn, BrokeTurn, SoFar}
 
 driven-more : (ms syn : ℕ) (turns : List DriveTurn) (turn : DriveTurn) (d : Driving) → driven ms syn (turns ++ turn ∷ []) d ≡ turned ms syn turn (driven ms syn turns d)
@@ -21,6 +25,12 @@ driven-more ms syn (t ∷ turns) turn d = driven-more ms syn turns turn (turned 
 driven-none : (ms syn : ℕ) (d : Driving) → driven ms syn [] d ≡ d
 unfolding driven
 driven-none ms syn d = refl
+
+moments-more : (turns : List DriveTurn) (turn : DriveTurn) → moments (turns ++ turn ∷ []) ≡ moments turns ++ turn.now ∷ []
+moments-more turns turn = flat_map-append (λ t. t.now ∷ []) turns (turn ∷ [])
+
+read-more : (turns : List DriveTurn) (turn : DriveTurn) → read_by (turns ++ turn ∷ []) ≡ read_by turns ++ answer_of (length turn.came) ∷ []
+read-more turns turn = flat_map-append (λ t. answer_of (length t.came) ∷ []) turns (turn ∷ [])
 
 came-more : (turns : List DriveTurn) (turn : DriveTurn) → came_in (turns ++ turn ∷ []) ≡ came_in turns ++ turn.came
 came-more turns turn = flat_map-append (λ t. t.came) turns (turn ∷ []) ∙ ap (λ l. came_in turns ++ l) (append-nil turn.came)
@@ -40,13 +50,14 @@ unfolding Reads
 reads-later worst later [] e h = tt
 reads-later worst later (t ∷ turns) e h = (h.0, λ f. h.1 (e f), reads-later worst later turns e h.2)
 
-abbrev pub devices : Option (List ℕ) → Option (List ℕ) → Worst → Option (List ℕ) → Option (List ℕ) → Devices
-devices left left_after worst sink sink_after = record { left = left; left_after = left_after; worst = worst; sink = sink; sink_after = sink_after }
+abbrev pub devices : Option (List ℕ) → Option (List ℕ) → Worst → Option (List ℕ) → Option (List ℕ) → Option (List ℕ) → Option (List ℕ) → Option (List Got) → Option (List Got) → Option (List Seen) → Option (List Seen) → Devices
+devices left left_after worst sink sink_after told told_after answers answers_after seen seen_after = record { left = left; left_after = left_after; worst = worst; sink = sink; sink_after = sink_after; told = told; told_after = told_after; answers = answers; answers_after = answers_after; seen = seen; seen_after = seen_after }
 
-pub none-so-far : (ms : ℕ) (old : Linked) (left sink : Option (List ℕ)) (worst : Worst) → SoFar ms 0 old old (record { deadline = None; read = 0; written = 0 }) (devices left left worst sink sink)
-none-so-far ms old left sink worst = record {
+pub none-so-far : (ms : ℕ) (old : Linked) (left sink told : Option (List ℕ)) (answers : Option (List Got)) (seen : Option (List Seen)) (worst : Worst) → SoFar ms 0 old old (record { deadline = None; read = 0; written = 0 }) (devices left left worst sink sink told told answers answers seen seen)
+none-so-far ms old left sink told answers seen worst = record {
   turns = [];
   written = [];
+  seen = [];
   count_is = refl;
   read_is = refl;
   written_is = refl;
@@ -54,25 +65,29 @@ none-so-far ms old left sink worst = record {
     reads = reads-none worst;
     consumed = Consumes-nil left;
     appended = Appends-nil sink;
+    clocked = Appends-nil told;
+    answered = Logs-nil answers;
+    shown = Logs-nil seen;
     syn = refl;
     limits = refl;
     offset = omega arith;
     stands = λ text s. subst (Stands old.line) (sym (append-nil text)) s;
     driven_is = λ text s.
         driven-none ms old.syn (undriven old.kept text)
-        ∙ ap (λ t. record { kept = old.kept; text = t; deadline = None; written = [] }) (sym (append-nil text));
+        ∙ ap (λ t. record { kept = old.kept; text = t; deadline = None; written = []; seen = [] }) (sym (append-nil text));
   };
 }
 
-pub one-more : (ms count : ℕ) (old mid new : Linked) (tally after : Tally) (left left_mid left_after sink sink_mid sink_after : Option (List ℕ)) (worst_mid worst_after : Worst)
-    → SoFar ms count old mid tally (devices left left_mid worst_mid sink sink_mid)
-    → TookTurn ms mid new tally after worst_mid (devices left_mid left_after worst_after sink_mid sink_after)
-    → SoFar ms (count + 1) old new after (devices left left_after worst_after sink sink_after)
-one-more ms count old mid new tally after left left_mid left_after sink sink_mid sink_after worst_mid worst_after h t =
+pub one-more : (ms count : ℕ) (old mid new : Linked) (tally after : Tally) (left left_mid left_after sink sink_mid sink_after told told_mid told_after : Option (List ℕ)) (answers answers_mid answers_after : Option (List Got)) (seen seen_mid seen_after : Option (List Seen)) (worst_mid worst_after : Worst)
+    → SoFar ms count old mid tally (devices left left_mid worst_mid sink sink_mid told told_mid answers answers_mid seen seen_mid)
+    → TookTurn ms mid new tally after worst_mid (devices left_mid left_after worst_after sink_mid sink_after told_mid told_after answers_mid answers_after seen_mid seen_after)
+    → SoFar ms (count + 1) old new after (devices left left_after worst_after sink sink_after told told_after answers answers_after seen seen_after)
+one-more ms count old mid new tally after left left_mid left_after sink sink_mid sink_after told told_mid told_after answers answers_mid answers_after seen seen_mid seen_after worst_mid worst_after h t =
     let more = came-more h.turns t.turn in
     record {
       turns = h.turns ++ t.turn ∷ [];
       written = h.written ++ t.frame;
+      seen = h.seen ++ t.sights;
       count_is = omega (arith, length-append h.turns (t.turn ∷ []), h.count_is);
       read_is = omega (arith, ap length more, length-append (came_in h.turns) t.turn.came, t.read, h.read_is);
       written_is = omega (arith, length-append h.written t.frame, t.written, h.written_is);
@@ -80,6 +95,9 @@ one-more ms count old mid new tally after left left_mid left_after sink sink_mid
         reads = reads-more worst_after h.turns t.turn (reads-later worst_mid worst_after h.turns (λ e. (t.fine e).0) h.took.reads) t.short (λ e. (t.fine e).1);
         consumed = subst (Consumes left left_after) (sym more) (Consumes-trans left left_mid left_after _ _ h.took.consumed t.consumed);
         appended = Appends-trans sink sink_mid sink_after _ _ h.took.appended t.appended;
+        clocked = subst (Appends told told_after) (sym (moments-more h.turns t.turn)) (Appends-trans told told_mid told_after _ _ h.took.clocked t.clocked);
+        answered = subst (Logs answers answers_after) (sym (read-more h.turns t.turn)) (Logs-trans answers answers_mid answers_after _ _ h.took.answered t.answered);
+        shown = Logs-trans seen seen_mid seen_after _ _ h.took.shown t.shown;
         syn = t.syn ∙ h.took.syn;
         limits = t.limits ∙ h.took.limits;
         offset = omega (arith, t.offset, h.took.offset, ap length more, length-append (came_in h.turns) t.turn.came);
@@ -88,30 +106,34 @@ one-more ms count old mid new tally after left left_mid left_after sink sink_mid
         driven_is = λ text s.
             driven-more ms old.syn h.turns t.turn (undriven old.kept text)
             ∙ ap (turned ms old.syn t.turn) (h.took.driven_is text s)
-            ∙ ap (λ n. turned ms n t.turn (record { kept = mid.kept; text = text ++ came_in h.turns; deadline = tally.deadline; written = h.written })) (sym h.took.syn)
-            ∙ t.turned_is (text ++ came_in h.turns) h.written (h.took.stands text s)
-            ∙ ap (λ x. record { kept = new.kept; text = x; deadline = after.deadline; written = h.written ++ t.frame })
+            ∙ ap (λ n. turned ms n t.turn (record { kept = mid.kept; text = text ++ came_in h.turns; deadline = tally.deadline; written = h.written; seen = h.seen })) (sym h.took.syn)
+            ∙ t.turned_is (text ++ came_in h.turns) h.written h.seen (h.took.stands text s)
+            ∙ ap (λ x. record { kept = new.kept; text = x; deadline = after.deadline; written = h.written ++ t.frame; seen = h.seen ++ t.sights })
             (append_assoc text (came_in h.turns) t.turn.came ∙ ap (λ p. text ++ p) (sym more));
       };
     }
 
-pub broke : (ms count turns : ℕ) (old mid new halted : Linked) (tally : Tally) (left left_mid left_after sink sink_mid sink_after : Option (List ℕ)) (worst_mid worst_after : Worst) (fault : LineFault)
-    → SoFar ms count old mid tally (devices left left_mid worst_mid sink sink_mid) → count < turns
-    → BrokeTurn ms mid new tally worst_mid (devices left_mid left_after worst_after sink_mid sink_after) fault
+pub broke : (ms count turns : ℕ) (old mid new halted : Linked) (tally : Tally) (left left_mid left_after sink sink_mid sink_after told told_mid told_after : Option (List ℕ)) (answers answers_mid answers_after : Option (List Got)) (seen seen_mid seen_after : Option (List Seen)) (worst_mid worst_after : Worst) (fault : LineFault)
+    → SoFar ms count old mid tally (devices left left_mid worst_mid sink sink_mid told told_mid answers answers_mid seen seen_mid) → count < turns
+    → BrokeTurn ms mid new tally worst_mid (devices left_mid left_after worst_after sink_mid sink_after told_mid told_after answers_mid answers_after seen_mid seen_after) fault
     → halted ≡ record new { kept = stopped new.kept }
-    → Ends ms turns old halted (devices left left_after worst_after sink sink_after) fault
-broke ms count turns old mid new halted tally left left_mid left_after sink sink_mid sink_after worst_mid worst_after fault h few b e = (
+    → Ends ms turns old halted (devices left left_after worst_after sink sink_after told told_after answers answers_after seen seen_after) fault
+broke ms count turns old mid new halted tally left left_mid left_after sink sink_mid sink_after told told_mid told_after answers answers_mid answers_after seen seen_mid seen_after worst_mid worst_after fault h few b e = (
   h.turns,
   b.last,
   h.written,
   b.frame,
   b.sent,
+  h.seen ++ b.sights,
   omega (arith, few, h.count_is),
   b.sent_is,
   record {
     reads = reads-later worst_mid worst_after h.turns b.fine h.took.reads;
     consumed = subst (Consumes left left_after) (append-nil (came_in h.turns)) (Consumes-trans left left_mid left_after _ _ h.took.consumed b.consumed);
     appended = Appends-trans sink sink_mid sink_after _ _ h.took.appended b.appended;
+    clocked = Appends-trans told told_mid told_after _ _ h.took.clocked b.clocked;
+    answered = Logs-trans answers answers_mid answers_after _ _ h.took.answered b.answered;
+    shown = Logs-trans seen seen_mid seen_after _ _ h.took.shown b.shown;
     syn = ap (λ v. v.syn) e ∙ b.syn ∙ h.took.syn;
     limits = ap (λ v. v.kept.limits) e ∙ b.limits ∙ h.took.limits;
     offset = ap (λ v. v.line.offset) e ∙ ap (λ l. l.offset) b.line ∙ h.took.offset;
@@ -119,16 +141,17 @@ broke ms count turns old mid new halted tally left left_mid left_after sink sink
     kept = λ text s. ap (λ v. v.kept) e ∙ sym (ap (λ d. stopped d.kept) (last_is text s));
     written_is = λ text s. ap (λ d. d.written) (h.took.driven_is text s);
     frame_is = λ text s. ap (λ d. d.written) (last_is text s);
+    seen_is = λ text s. ap (λ d. d.seen) (last_is text s);
   },
 )
   where
     last_is : (text : List ℕ) → Stands old.line text
         → before_read ms old.syn b.last (driven ms old.syn h.turns (undriven old.kept text))
-        ≡ record { kept = new.kept; text = text ++ came_in h.turns; deadline = b.deadline; written = h.written ++ b.frame }
+        ≡ record { kept = new.kept; text = text ++ came_in h.turns; deadline = b.deadline; written = h.written ++ b.frame; seen = h.seen ++ b.sights }
     last_is text s =
         ap (before_read ms old.syn b.last) (h.took.driven_is text s)
-        ∙ ap (λ n. before_read ms n b.last (record { kept = mid.kept; text = text ++ came_in h.turns; deadline = tally.deadline; written = h.written })) (sym h.took.syn)
-        ∙ b.before_is (text ++ came_in h.turns) h.written
+        ∙ ap (λ n. before_read ms n b.last (record { kept = mid.kept; text = text ++ came_in h.turns; deadline = tally.deadline; written = h.written; seen = h.seen })) (sym h.took.syn)
+        ∙ b.before_is (text ++ came_in h.turns) h.written h.seen
 
 pub ends-so : (ms turns : ℕ) (old new : Linked) (dev : Devices) (fault : LineFault) → Ends ms turns old new dev fault → Drives ms turns old new dev (Err fault)
 ends-so ms turns old new dev Read h = h

@@ -1,6 +1,7 @@
 pub mod Bytes
 pub mod Linked
 pub mod OneByte
+pub mod Seen
 pub mod Driving
 pub mod Turns
 pub use Rattle.ddcmp_frame.specs.Device

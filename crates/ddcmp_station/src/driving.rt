@@ -5,7 +5,9 @@ ghost use Rattle.ddcmp_frame.specs.Held.{Stands};
 ghost use Rattle.ddcmp_core.specs.Table.{frame_in, next};
 ghost use Rattle.ddcmp_station.specs.Bytes.{polled, fed};
 ghost use Rattle.ddcmp_station.specs.Driving.{Drives, deadline_at, with_arm, in_time, offered_to, frame_bytes, handed_up};
-ghost use Rattle.ddcmp_station.specs.Turns.{TurnEnds, Writes};
+ghost use Rattle.ddcmp_station.specs.Turns.{TurnEnds, Writes, answers_to};
+ghost use Rattle.ddcmp_frame.specs.Device.{Logs};
+ghost use Rattle.ddcmp_station.specs.Seen.{asked_of, handed_of, ToldOf, HeardBy};
 
 use crate::laws::pieces;
 use crate::station::Station;
@@ -45,6 +47,12 @@ pub fn drive<R: Source, W: Sink, U: User, C: Clock>(
       worst = R.state reader.new;
       sink = W.contents writer.old;
       sink_after = W.contents writer.new;
+      told = C.told clock.old;
+      told_after = C.told clock.new;
+      answers = R.answers reader.old;
+      answers_after = R.answers reader.new;
+      seen = U.seen user.old;
+      seen_after = U.seen user.new;
     }) result }
 
     // When each fault comes.
@@ -84,6 +92,12 @@ fn run<R: Source, W: Sink, U: User, C: Clock>(
       worst = R.state reader.new;
       sink = W.contents writer.old;
       sink_after = W.contents writer.new;
+      told = C.told clock.old;
+      told_after = C.told clock.new;
+      answers = R.answers reader.old;
+      answers_after = R.answers reader.new;
+      seen = U.seen user.old;
+      seen_after = U.seen user.new;
     }) result }
     ensures read { (result ≡ Err LineFault.Read) ↔ (R.state reader.new ≡ Worst.Failed) }
     ensures write { (result ≡ Err LineFault.Write) ↔ (W.broken writer.new ≡ true) }
@@ -139,6 +153,12 @@ fn turn<R: Source, W: Sink, U: User, C: Clock>(
       worst = R.state reader.new;
       sink = W.contents writer.old;
       sink_after = W.contents writer.new;
+      told = C.told clock.old;
+      told_after = C.told clock.new;
+      answers = R.answers reader.old;
+      answers_after = R.answers reader.new;
+      seen = U.seen user.old;
+      seen_after = U.seen user.new;
     }) result }
     ensures read { (result ≡ Err LineFault.Read) ↔ (R.state reader.new ≡ Worst.Failed) }
     ensures write { (result ≡ Err LineFault.Write) ↔ (W.broken writer.new ≡ true) }
@@ -189,7 +209,8 @@ fn keep_time(station: &mut Station, now: u64, timer_ms: u32, deadline: &mut Opti
 /// the front of the buffer.
 fn offer_message<U: User>(station: &mut Station, user: &mut U, buffer: &mut [u8]) -> usize
     requires { station.old.kept.limits.longest ≤ length buffer.old }
-    ensures { station.new ≡ record station.old { kept = offered_to (take result buffer.new) station.old.kept } }
+    ensures state { station.new ≡ record station.old { kept = offered_to (take result buffer.new) station.old.kept } }
+    ensures seen { Logs (U.seen user.old) (U.seen user.new) (asked_of station.old.kept (take result buffer.new)) }
 {
     if station.state() != State::Running || !station.room() {
         return 0;
@@ -240,6 +261,7 @@ fn write_whole<W: Sink>(writer: &mut W, bytes: &[u8]) -> Result<usize, LineFault
 }
 
 /// Reads once, and hears what came: how many bytes were read. They stand at the front of `piece`.
+#[tactic(auto, unfolding(crate::specs::Driving::answer_of))]
 fn hear<R: Source, U: User>(
     station: &mut Station,
     reader: &mut R,
@@ -266,6 +288,9 @@ fn hear<R: Source, U: User>(
     ensures fine { R.state reader.new ≡ Worst.Fine → (R.state reader.old ≡ Worst.Fine) × IfOk result (λ n. 0 < n) }
     ensures write { result ≢ Err LineFault.Write }
     ensures memory { result ≢ Err LineFault.Memory }
+    ensures answers { Logs (R.answers reader.old) (R.answers reader.new) (answers_to result) }
+    ensures seen { IfOk result (λ n. HeardBy station.old (take n piece.new) (U.seen user.old) (U.seen user.new)) }
+    ensures unseen { OnErr result (user.new ≡ user.old) }
 {
     let came = match reader.read(piece) {
         Got::Bytes(0) => return Err(LineFault::Ended),
@@ -287,6 +312,7 @@ fn feed_all<U: User>(station: &mut Station, user: &mut U, piece: &[u8])
     ensures offset { station.new.line.offset ≡ station.old.line.offset + length piece.now }
     ensures limits { station.new.kept.limits ≡ station.old.kept.limits }
     ensures syn { station.new.syn ≡ station.old.syn }
+    ensures seen { ToldOf station.old piece.now (U.seen user.old) (U.seen user.new) }
 {
     pieces();
     let mut at = 0;
@@ -302,7 +328,8 @@ fn feed_all<U: User>(station: &mut Station, user: &mut U, piece: &[u8])
 /// Takes all mail and gives it to the user.
 fn hand_up<U: User>(station: &mut Station, user: &mut U, buffer: &mut [u8])
     requires { station.old.kept.limits.longest ≤ length buffer.old }
-    ensures { station.new ≡ record station.old { kept = handed_up station.old.kept } }
+    ensures state { station.new ≡ record station.old { kept = handed_up station.old.kept } }
+    ensures seen { Logs (U.seen user.old) (U.seen user.new) (handed_of station.old.kept) }
 {
     while let Some(length) = station.take(buffer) {
         user.mail(&buffer[..length]);

@@ -5,21 +5,38 @@ use ddcmp_core::Notice;
 
 /// What tells a driven station the time.
 pub trait Clock {
+    ghost use Rattle.std.specs.Prelude.{ℕ, List, [], ◌∷◌, Option, None};
+    ghost use Rattle.std.specs.Io.KnownBytes.{Appends};
+
+    // The moments that it has told, where these are known.
+    ghost told: { Self → Option (List ℕ) } = { λ _. None };
+
     /// The time in milliseconds.
-    fn now(&mut self) -> u64;
+    fn now(&mut self) -> u64
+        ensures { Appends (told self.old) (told self.new) (result ∷ []) };
 }
 
 /// The user of a driven station.
 pub trait User {
+    ghost use Rattle.std.specs.Prelude.{◌≤◌, length, take, List, [], ◌∷◌, Option, None};
+    ghost use Rattle.ddcmp_frame.specs.Device.{Logs};
+    ghost use Rattle.ddcmp_station.specs.Seen.{Seen, Asked, Told, Handed};
+
+    // What it saw, where that is known.
+    ghost seen: { Self → Option (List Seen) } = { λ _. None };
+
     /// Writes a message to be sent at the front of `out`, and answers its length: 0 for none.
     fn message(&mut self, out: &mut [u8]) -> usize
-        ensures { result ≤ length out.new };
+        ensures within { result ≤ length out.new }
+        ensures seen { Logs (seen self.old) (seen self.new) (Asked (length out.new) (take result out.new) ∷ []) };
 
     /// Is told what happened.
-    fn notice(&mut self, notice: Notice);
+    fn notice(&mut self, notice: Notice)
+        ensures { Logs (seen self.old) (seen self.new) (Told notice ∷ []) };
 
     /// Is handed a message that came.
-    fn mail(&mut self, message: &[u8]);
+    fn mail(&mut self, message: &[u8])
+        ensures { Logs (seen self.old) (seen self.new) (Handed message.now ∷ []) };
 }
 
 /// What a call of `drive` did.

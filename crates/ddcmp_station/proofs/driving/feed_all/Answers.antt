@@ -1,6 +1,10 @@
-use Rattle.std.proofs.Common.{◌∙◌, refl, arith, length-drop}
+use Rattle.std.proofs.Common.{◌∙◌, refl, sym, subst, arith, length-drop, []}
 use Rattle.std.proofs.lemmas.List.{take_rest}
-use Rattle.ddcmp_station.proofs.DriveLaws.{fed-to-nothing, fed-more, fed-whole}
+use Rattle.ddcmp_station.proofs.DriveLaws.{fed-to-nothing, fed-more, fed-whole, Logs-nil}
+use Rattle.ddcmp_station.proofs.SeenLaws.{tells-more, tells-whole}
+use Rattle.ddcmp_station.specs.Seen.{told_to}
+use Rattle.ddcmp_frame.specs.Device.{Logs}
+use Rattle.std.specs.Prelude.{option_to_list}
 use Rattle.ddcmp_station.proofs.driving.feed_all.Goals as goal
 
 pub loop-at-init : goal.loop-at-init
@@ -10,6 +14,7 @@ loop-at-init g c = record {
   offset = omega arith;
   limits = refl;
   syn = refl;
+  seen = ([], Logs-nil _, λ text s. (c.pieces.ensures.none text c.args.station.now.kept).1);
 }
 
 pub loop-at-preserved : goal.loop-at-preserved
@@ -22,6 +27,7 @@ loop-at-preserved g c =
       offset = omega (arith, e.offset, i.offset);
       limits = e.limits ∙ i.limits;
       syn = e.syn ∙ i.syn;
+      seen = tells-more c.pieces.ensures.told _ c.loop-at.station _ c.loop-at.at _ _ _ _ c.feed-fed.result.notice i.fed e.told i.seen (subst (λ r. Logs (g.U.User.seen c.loop-at.user) (g.U.User.seen c.loop-at.user) (told_to (option_to_list r))) (sym c.in_default.is) (Logs-nil _));
     }
 
 pub loop-at-preserved-in-Some : goal.loop-at-preserved-in-Some
@@ -34,6 +40,7 @@ loop-at-preserved-in-Some g c =
       offset = omega (arith, e.offset, i.offset);
       limits = e.limits ∙ i.limits;
       syn = e.syn ∙ i.syn;
+      seen = tells-more c.pieces.ensures.told _ c.loop-at.station _ c.loop-at.at _ _ _ _ c.feed-fed.result.notice i.fed e.told i.seen (subst (λ r. Logs (g.U.User.seen c.loop-at.user) (g.U.User.seen c.notice.new.self) (told_to (option_to_list r))) (sym c.in-Some.is) c.notice.ensures);
     }
 
 pub returns-clause-stands : goal.returns-clause-stands
@@ -41,3 +48,6 @@ returns-clause-stands g c = (fed-whole _ _ c.args.piece.now c.loop-at.at (omega 
 
 pub returns-clause-state : goal.returns-clause-state
 returns-clause-state g c = (fed-whole _ _ c.args.piece.now c.loop-at.at (omega arith) c.loop-at.invariant.fed).state
+
+pub returns-clause-seen : goal.returns-clause-seen
+returns-clause-seen g c = tells-whole c.args.station.now c.args.piece.now c.loop-at.at _ _ (omega arith) c.loop-at.invariant.seen

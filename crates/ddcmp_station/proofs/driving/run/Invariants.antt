@@ -18,5 +18,11 @@ invariant-loop-done g l = record {
     worst = g.R.Source.state l.reader;
     sink = g.W.Sink.contents l.initial.writer;
     sink_after = g.W.Sink.contents l.writer;
+    told = g.C.Clock.told l.initial.clock;
+    told_after = g.C.Clock.told l.clock;
+    answers = g.R.Source.answers l.initial.reader;
+    answers_after = g.R.Source.answers l.reader;
+    seen = g.U.User.seen l.initial.user;
+    seen_after = g.U.User.seen l.user;
   });
 }

@@ -1,0 +1,14 @@
+use Rattle.std.proofs.Common.{◌≡◌, subst, sym, ap, ◌∙◌, arith, drop}
+use Rattle.ddcmp_station.specs.Seen.{Seen, handed_of}
+use Rattle.ddcmp_station.proofs.SeenLaws.{HandedSo, hands-one}
+use Rattle.ddcmp_station.proofs.driving.hand_up.Goals as goal
+
+pub loop-length-preserved : goal.loop-length-preserved
+loop-length-preserved g c =
+    let i = c.loop-length.invariant in
+    let t = c.take.ensures in
+    record {
+      room = rw t.state (omega (arith, i.room, c.take.auto.out));
+      rest = rw t.state i.rest;
+      seen = rw t.state (hands-one _ _ _ c.loop-length.station.kept.station.inbox _ c.in-Some.length _ _ i.seen (sym t.length ∙ c.in-Some.is) t.out c.mail.ensures);
+    }
