@@ -2,7 +2,7 @@
 use Rattle.std.proofs.Common.{◌≡◌, ℕ, ◌+◌, ◌-◌, ◌^◌, List, [], ◌++◌, length, take, refl, sym, ◌∙◌, ap, subst, arith, Option, Some, None, Result, Ok, Err, append_assoc, length-append, inl, inr}
 use Rattle.std.specs.Prelude.{option_to_list}
 use Rattle.std.specs.Io.KnownBytes.{Appends, Consumes, IsAtEnd, Keeps}
-use Rattle.ddcmp_frame.specs.Held.{Stands}
+use Rattle.ddcmp_frame.specs.Reader.{StandsFor}
 use Rattle.ddcmp_frame.specs.Reading.{items}
 use Rattle.ddcmp_frame.proofs.ReadingLaws.{items-nothing}
 use Rattle.ddcmp_cli.specs.declared.explaining.Explained.{Explained}
@@ -33,12 +33,12 @@ lines-nothing : (max : ℕ) → lines max [] ≡ []
 unfolding lines
 lines-nothing max = rw (items-nothing max) refl
 
-pub begun : (form : Form) (max : ℕ) (sink : Option (List ℕ)) (at : Explained) → Stands at.frames [] → at.frames.max ≡ max → at.items ≡ 0 → at.high ≡ None → Progress form max sink [] at sink []
+pub begun : (form : Form) (max : ℕ) (sink : Option (List ℕ)) (at : Explained) → StandsFor at.frames [] → at.frames.max ≡ max → at.items ≡ 0 → at.high ≡ None → Progress form max sink [] at sink []
 begun form max sink at s m n h =
     let none = nothing-spelled form in
     record {
       readable = nothing-strange form;
-      stands = subst (λ b. Stands at.frames b) (sym none) s;
+      stands = subst (λ b. StandsFor at.frames b) (sym none) s;
       max_is = m;
       counted = n ∙ sym (ap length (ap (items max) none ∙ items-nothing max));
       high = nothing-left form ∙ ap option_to_list (sym h);

@@ -4,8 +4,8 @@ use Rattle.std.specs.Prelude.{option_to_list}
 use Rattle.std.specs.List.{flat_map}
 use Rattle.std.proofs.lemmas.List.{append-nil, take_more, take-append-drop}
 use Rattle.std.proofs.lemmas.Grind.{flat_map-append}
-use Rattle.ddcmp_frame.specs.Reading.{Given, items, read, ending, more}
-use Rattle.ddcmp_frame.specs.Held.{Stands}
+use Rattle.ddcmp_frame.specs.Reading.{ReadItem, items, read, ending, with_more}
+use Rattle.ddcmp_frame.specs.Reader.{StandsFor}
 use Rattle.ddcmp_frame.proofs.ReadingLaws.{items-more}
 use Rattle.ddcmp_cli.specs.declared.explaining.Explained.{Explained}
 use Rattle.ddcmp_cli.specs.declared.explaining.Stop.{Stop}
@@ -22,12 +22,12 @@ use Rattle.ddcmp_cli.proofs.WrittenLaws.{append-part, part-append}
 use Rattle.ddcmp_cli.proofs.DigitLaws.{readable-more, stranger-here, digits-more, digits-blank, digits-strange, digits-digit, pairs-held, pairs-whole, bytes-prefix, stranger-stays, bytes-found}
 
 -- the lines of bytes that go on begin with the lines of the bytes
-pub lines-more : (max : ℕ) (bytes u : List ℕ) → lines max (bytes ++ u) ≡ lines max bytes ++ flat_map line_of (read max (more (ending max bytes) u)).items
+pub lines-more : (max : ℕ) (bytes u : List ℕ) → lines max (bytes ++ u) ≡ lines max bytes ++ flat_map line_of (read max (with_more (ending max bytes) u)).items
 unfolding lines
 lines-more max bytes u =
-    ap (flat_map line_of) (items-more max bytes u) ∙ flat_map-append line_of (items max bytes) (read max (more (ending max bytes) u)).items
+    ap (flat_map line_of) (items-more max bytes u) ∙ flat_map-append line_of (items max bytes) (read max (with_more (ending max bytes) u)).items
 
-pub lines-given : (max : ℕ) (bytes u : List ℕ) (given : List Given) → items max (bytes ++ u) ≡ items max bytes ++ given → lines max (bytes ++ u) ≡ lines max bytes ++ flat_map line_of given
+pub lines-given : (max : ℕ) (bytes u : List ℕ) (given : List ReadItem) → items max (bytes ++ u) ≡ items max bytes ++ given → lines max (bytes ++ u) ≡ lines max bytes ++ flat_map line_of given
 unfolding lines
 lines-given max bytes u given e = ap (flat_map line_of) e ∙ flat_map-append line_of (items max bytes) given
 
@@ -45,7 +45,7 @@ pub progress-same : (max : ℕ) (old sink : Option (List ℕ)) (page seen : List
 progress-same max old sink page seen digit at after p readable same left frames count =
     record {
       readable = readable-more seen digit p.readable readable;
-      stands = subst (λ b. Stands after.frames b) (sym same) (subst (λ f. Stands f (spelled seen)) (sym frames) p.stands);
+      stands = subst (λ b. StandsFor after.frames b) (sym same) (subst (λ f. StandsFor f (spelled seen)) (sym frames) p.stands);
       max_is = ap (λ f. f.max) frames ∙ p.max_is;
       counted = count ∙ p.counted ∙ ap (λ b. length (items max b)) (sym same);
       high = left;
@@ -84,13 +84,13 @@ pub progress-byte : (form : Form) (max : ℕ) (old sink sink_after : Option (Lis
     → mid.frames ≡ at.frames → mid.items ≡ at.items
     → ByteTaken mid after byte sink page sink_after page_after (Ok u) → Progress form max old (seen ++ digit ∷ []) after sink_after page_after
 progress-byte form max old sink sink_after page page_after seen digit byte at mid after u p readable now left frames count t =
-    let s : Stands mid.frames (bytes_of form seen) = subst (λ f. Stands f (bytes_of form seen)) (sym frames) p.stands in
+    let s : StandsFor mid.frames (bytes_of form seen) = subst (λ f. StandsFor f (bytes_of form seen)) (sym frames) p.stands in
     let m : mid.frames.max ≡ max = ap (λ f. f.max) frames ∙ p.max_is in
     let given : items max (bytes_of form seen ++ byte ∷ []) ≡ items max (bytes_of form seen) ++ t.given = subst (λ n. items n (bytes_of form seen ++ byte ∷ []) ≡ items n (bytes_of form seen) ++ t.given) m (t.items (bytes_of form seen) s) in
     let passed = t.passes in
     record {
       readable = readable;
-      stands = subst (λ b. Stands after.frames b) (sym now) (t.stands (bytes_of form seen) s);
+      stands = subst (λ b. StandsFor after.frames b) (sym now) (t.stands (bytes_of form seen) s);
       max_is = t.max_is ∙ m;
       counted = t.counted ∙ ap (λ n. n + length t.given) (count ∙ p.counted) ∙ sym (length-append (items max (bytes_of form seen)) t.given) ∙ ap length (sym given) ∙ ap (λ b. length (items max b)) (sym now);
       high = left ∙ ap option_to_list (sym t.high);
@@ -109,7 +109,7 @@ pub byte-breaks : (form : Form) (max : ℕ) (old sink sink_after : Option (List 
     → bytes_of form (seen ++ digit ∷ []) ≡ bytes_of form seen ++ byte ∷ [] → mid.frames ≡ at.frames
     → ByteTaken mid after byte sink page sink_after page_after (Err f) → AppendsPart old sink_after (lines max (bytes_of form (seen ++ digit ∷ [])))
 byte-breaks form max old sink sink_after page page_after seen digit byte at mid after f p now frames t =
-    let s : Stands mid.frames (bytes_of form seen) = subst (λ f. Stands f (bytes_of form seen)) (sym frames) p.stands in
+    let s : StandsFor mid.frames (bytes_of form seen) = subst (λ f. StandsFor f (bytes_of form seen)) (sym frames) p.stands in
     let m : mid.frames.max ≡ max = ap (λ f. f.max) frames ∙ p.max_is in
     let given : items max (bytes_of form seen ++ byte ∷ []) ≡ items max (bytes_of form seen) ++ t.given = subst (λ n. items n (bytes_of form seen ++ byte ∷ []) ≡ items n (bytes_of form seen) ++ t.given) m (t.items (bytes_of form seen) s) in
     subst (AppendsPart old sink_after)

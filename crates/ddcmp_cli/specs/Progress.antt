@@ -2,8 +2,8 @@
 use Rattle.std.specs.Prelude.{◌≡◌, ℕ, ◌+◌, Bool, true, false, List, [], ◌∷◌, ◌++◌, length, option_to_list, Option, Some, None, Result, Ok, Err}
 use Rattle.std.specs.List.{flat_map}
 use Rattle.std.specs.Io.KnownBytes.{Appends}
-use Rattle.ddcmp_frame.specs.Held.{Stands}
-use Rattle.ddcmp_frame.specs.Reading.{Given, items}
+use Rattle.ddcmp_frame.specs.Reader.{StandsFor}
+use Rattle.ddcmp_frame.specs.Reading.{ReadItem, items}
 use Rattle.ddcmp_cli.specs.declared.explaining.Explained.{Explained}
 use Rattle.ddcmp_cli.specs.declared.explaining.Form.{Form}
 use Rattle.ddcmp_cli.specs.Digits.{bytes_of, stranger_in, left_in}
@@ -21,16 +21,16 @@ pub record ByteTaken (old new : Explained) (byte : ℕ) (sink : Option (List ℕ
   pub max_is : new.frames.max ≡ old.frames.max
   pub high : new.high ≡ old.high
   pub seen : new.seen ≡ old.seen
-  pub given : List Given
-  pub stands : (bytes : List ℕ) → Stands old.frames bytes → Stands new.frames (bytes ++ byte ∷ [])
-  pub items : (bytes : List ℕ) → Stands old.frames bytes → items old.frames.max (bytes ++ byte ∷ []) ≡ items old.frames.max bytes ++ given
+  pub given : List ReadItem
+  pub stands : (bytes : List ℕ) → StandsFor old.frames bytes → StandsFor new.frames (bytes ++ byte ∷ [])
+  pub items : (bytes : List ℕ) → StandsFor old.frames bytes → items old.frames.max (bytes ++ byte ∷ []) ≡ items old.frames.max bytes ++ given
   pub counted : new.items ≡ old.items + length given
   pub passes : Passes sink page sink_after page_after result (flat_map line_of given)
 
 -- What was seen of the input has been taken in: its lines are in the sink, but for the page.
 pub record Progress (form : Form) (max : ℕ) (old : Option (List ℕ)) (seen : List ℕ) (at : Explained) (sink : Option (List ℕ)) (page : List ℕ) : Type 0 where
   pub readable : stranger_in form seen ≡ None
-  pub stands : Stands at.frames (bytes_of form seen)
+  pub stands : StandsFor at.frames (bytes_of form seen)
   pub max_is : at.frames.max ≡ max
   pub counted : at.items ≡ length (items max (bytes_of form seen))
   pub high : left_in form seen ≡ option_to_list at.high

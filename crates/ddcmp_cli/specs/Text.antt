@@ -12,7 +12,7 @@ use Rattle.ddcmp_frame.specs.declared.header.HeaderFault.TheVariants.{NotAStart,
 use Rattle.ddcmp_frame.specs.declared.item.Item.{Item}
 use Rattle.ddcmp_frame.specs.declared.item.Item.TheVariants.{Good, HeaderCheck, DataCheck, TooLong, Format}
 use Rattle.hex.specs.Hex.{encode_lower}
-use Rattle.ddcmp_frame.specs.Reading.{Given, items, open_at_end}
+use Rattle.ddcmp_frame.specs.Reading.{ReadItem, items, open_at_end}
 
 abbrev pub kind_text : ControlType → List ℕ
 kind_text Ack = codes "ACK"
@@ -69,7 +69,7 @@ data_text (TooLong offset h) lent = []
 data_text (Format offset fault) lent = []
 
 -- the line of an item with the data that it lends
-unfoldable pub line_of : Given → List ℕ
+unfoldable pub line_of : ReadItem → List ℕ
 line_of given = item_text given.0 ++ (data_text given.0 given.1 ++ codes "\n")
 
 -- the lines of the items of some bytes

@@ -1,11 +1,11 @@
 -- What fits a state.
 use Rattle.std.proofs.Common.{◌≡◌, ◌≢◌, true, false}
-use Rattle.ddcmp_core.specs.declared.kinds.State.TheVariants.{Maintenance}
-use Rattle.ddcmp_core.specs.Table.{Station, is_starting}
-use Rattle.ddcmp_core.specs.Kept.{FitsState, is_sent_reply}
+use Rattle.ddcmp_core.specs.declared.state.State.TheVariants.{Maintenance}
+use Rattle.ddcmp_core.specs.Table.{StationState, is_starting}
+use Rattle.ddcmp_core.specs.Core.{FitsState, is_sent_reply}
 
 -- in the states that say nothing of the numbers and lists
-pub fits_any : (s : Station) → is_starting s.state ≡ false → s.state ≢ Maintenance → is_sent_reply s.reply ≡ true → FitsState s
+pub fits_any : (s : StationState) → is_starting s.state ≡ false → s.state ≢ Maintenance → is_sent_reply s.reply ≡ true → FitsState s
 fits_any s e m r =
     record {
       starting_r = λ p. absurd (cc (p, e));

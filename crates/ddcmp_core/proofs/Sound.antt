@@ -5,16 +5,18 @@ use Rattle.std.proofs.lemmas.List.{nil_from_length}
 use Rattle.ddcmp_frame.specs.declared.nak.Nak.TheVariants as reason
 use Rattle.ddcmp_window.specs.declared.inbox.Offer.{Offer}
 use Rattle.ddcmp_window.specs.declared.inbox.Offer.TheVariants as offer
-use Rattle.ddcmp_window.specs.Window.{IsStored, is_within, next_number, answer_to_offer}
-use Rattle.ddcmp_core.specs.declared.kinds.State.{State}
-use Rattle.ddcmp_core.specs.declared.kinds.State.TheVariants.{Halted, IStart, AStart, Running, Maintenance}
-use Rattle.ddcmp_core.specs.declared.kinds.Reply.{Reply}
-use Rattle.ddcmp_core.specs.declared.kinds.Reply.TheVariants.{Quiet, Ack, Nak}
-use Rattle.ddcmp_core.specs.declared.kinds.Timer.{Timer}
-use Rattle.ddcmp_core.specs.declared.kinds.Timer.TheVariants.{Off, Fresh, On}
-use Rattle.ddcmp_core.specs.Table.{Station, Limits, Data, Acked, Naked, Rep, Strt, Stack, Maint, Heard, Good, Bad_header, Bad_data, Too_long, Bad_format, outgoing, incoming, begun, new_station, newly, acknowledging, before_next, takes, has_room, reply_to_offer, put, on_data, on_nak, on_maintenance, on_by, on, running, halted, restarted, may_restart, on_strt, may_start, started, in_maintenance, may_send, may_send_maintenance, accepted, taken, armed, expired_by, expired_at, expired, is_running, is_maintenance, is_starting, is_fresh, Turn, next, timed, after_turn}
-use Rattle.ddcmp_core.specs.Kept.{IsSound, IsHeard, FitsState, is_sent_reply}
-use Rattle.ddcmp_core.specs.Sending.{Sending, sends_strt, sends_stack, sends_nak, sends_rep, sends_data, sends_ack, sends_maint, halted_idles, starting_idles, running_idles, maintenance_idles}
+use Rattle.ddcmp_window.specs.Store.{IsStored}
+use Rattle.ddcmp_window.specs.Numbers.{is_within, next_number}
+use Rattle.ddcmp_window.specs.Inbox.{answer_to_offer}
+use Rattle.ddcmp_core.specs.declared.state.State.{State}
+use Rattle.ddcmp_core.specs.declared.state.State.TheVariants.{Halted, IStart, AStart, Running, Maintenance}
+use Rattle.ddcmp_core.specs.declared.state.Reply.{Reply}
+use Rattle.ddcmp_core.specs.declared.state.Reply.TheVariants.{Quiet, Ack, Nak}
+use Rattle.ddcmp_core.specs.declared.state.Timer.{Timer}
+use Rattle.ddcmp_core.specs.declared.state.Timer.TheVariants.{Off, Fresh, On}
+use Rattle.ddcmp_core.specs.Table.{StationState, Limits, Data, Acked, Naked, Rep, Strt, Stack, Maint, Received, Good, BadHeader, BadData, TooLong, BadFormat, outgoing, incoming, station_begun, new_station, newly_acknowledged, after_ack, before_next, takes_data, has_room, reply_to_offer, after_offer, on_data, on_nak, on_maintenance, on_by, on, after_startup, after_halt, after_restart, may_restart, on_strt, may_start, after_start, after_enter_maintenance, may_send, may_send_maintenance, after_accept, after_take, after_take_arm, after_expire_in, after_expire_with, after_expire, is_running, is_maintenance, is_starting, is_fresh, Next, next, timer_started, after_next}
+use Rattle.ddcmp_core.specs.Core.{IsSound, IsReceivable, FitsState, is_sent_reply}
+use Rattle.ddcmp_core.specs.NextFrame.{SentFor, sends_strt, sends_stack, sends_nak, sends_rep, sends_data, sends_ack, sends_maint, halted_idles, starting_idles, running_idles, maintenance_idles}
 use Rattle.ddcmp_core.proofs.Fits.{fits_any}
 use Rattle.ddcmp_core.proofs.Sent.{sending}
 use Rattle.ddcmp_core.proofs.Windows.{window_acknowledging, window_again, window_sent, window_more, window_new, window_popped, stored_drop, stored_none, stored_more}
@@ -26,14 +28,14 @@ halted_other : (p : State) → p ≡ Halted → p ≢ Maintenance
 halted_other p e m = cc
 
 -- another state, other flags and another timer
-flags : (l : Limits) (s : Station) (p : State) (due : Bool) (reply : Reply) (rep : Bool) (timer : Timer)
+flags : (l : Limits) (s : StationState) (p : State) (due : Bool) (reply : Reply) (rep : Bool) (timer : Timer)
     → (IsSound l s → FitsState (record s { state = p; due = due; reply = reply; rep = rep; timer = timer }))
     → IsSound l s → IsSound l (record s { state = p; due = due; reply = reply; rep = rep; timer = timer })
 flags l s p due reply rep timer f h =
     record { r_byte = h.r_byte; in_window = h.in_window; out_stored = h.out_stored; inbox_stored = h.inbox_stored; fits = f h }
 
 -- the state stays
-same_state : (l : Limits) (s : Station) (due : Bool) (reply : Reply) (rep : Bool) (timer : Timer) → is_sent_reply reply ≡ true
+same_state : (l : Limits) (s : StationState) (due : Bool) (reply : Reply) (rep : Bool) (timer : Timer) → is_sent_reply reply ≡ true
     → IsSound l s → IsSound l (record s { due = due; reply = reply; rep = rep; timer = timer })
 same_state l s due reply rep timer r h =
     flags l s s.state due reply rep timer
@@ -47,19 +49,19 @@ same_state l s due reply rep timer r h =
     })
     h
 
-to_running : (l : Limits) (s : Station) (reply : Reply) → is_sent_reply reply ≡ true → IsSound l s → IsSound l (record s { state = Running; due = false; timer = Off; reply = reply })
+to_running : (l : Limits) (s : StationState) (reply : Reply) → is_sent_reply reply ≡ true → IsSound l s → IsSound l (record s { state = Running; due = false; timer = Off; reply = reply })
 to_running l s reply r h =
     flags l s Running false reply s.rep Off
     (λ k. fits_any (record s { state = Running; due = false; reply = reply; timer = Off }) refl (running_other Running refl) r)
     h
 
-pub sound_halted : (l : Limits) (s : Station) → IsSound l s → IsSound l (halted s)
+pub sound_halted : (l : Limits) (s : StationState) → IsSound l s → IsSound l (after_halt s)
 sound_halted l s h =
-    flags l s Halted false Quiet false Off (λ k. fits_any (halted s) refl (halted_other Halted refl) refl) h
+    flags l s Halted false Quiet false Off (λ k. fits_any (after_halt s) refl (halted_other Halted refl) refl) h
 
 -- ---- a beginning
 
-begun_fits : (p : State) (due : Bool) (inbox : List (List ℕ)) → inbox ≡ [] → FitsState (begun p due inbox)
+begun_fits : (p : State) (due : Bool) (inbox : List (List ℕ)) → inbox ≡ [] → FitsState (station_begun p due inbox)
 begun_fits p due inbox e =
     record {
       starting_r = λ q. refl;
@@ -70,7 +72,7 @@ begun_fits p due inbox e =
       sent_reply = refl;
     }
 
-sound_begun : (l : Limits) (s : Station) (p : State) (due : Bool) → s.inbox ≡ [] → IsSound l s → IsSound l (begun p due s.inbox)
+sound_begun : (l : Limits) (s : StationState) (p : State) (due : Bool) → s.inbox ≡ [] → IsSound l s → IsSound l (station_begun p due s.inbox)
 sound_begun l s p due e h =
     record {
       r_byte = omega arith;
@@ -80,23 +82,23 @@ sound_begun l s p due e h =
       fits = begun_fits p due s.inbox e;
     }
 
-empty_inbox : (s : Station) → may_start s ≡ true → s.inbox ≡ []
+empty_inbox : (s : StationState) → may_start s ≡ true → s.inbox ≡ []
 empty_inbox s e = let z : length s.inbox ≡ 0 = grind (arith) in nil_from_length s.inbox z
 
 pub sound_new : (l : Limits) → IsStored l.window l.longest [] → IsStored l.room l.longest [] → IsSound l new_station
 sound_new l out inbox =
     record { r_byte = omega arith; in_window = window_new; out_stored = out; inbox_stored = inbox; fits = begun_fits Halted false [] refl }
 
-pub sound_started : (l : Limits) (s : Station) → may_start s ≡ true → IsSound l s → IsSound l (started s)
+pub sound_started : (l : Limits) (s : StationState) → may_start s ≡ true → IsSound l s → IsSound l (after_start s)
 sound_started l s e h = sound_begun l s IStart true (empty_inbox s e) h
 
-pub sound_in_maintenance : (l : Limits) (s : Station) → may_start s ≡ true → IsSound l s → IsSound l (in_maintenance s)
+pub sound_in_maintenance : (l : Limits) (s : StationState) → may_start s ≡ true → IsSound l s → IsSound l (after_enter_maintenance s)
 sound_in_maintenance l s e h = sound_begun l s Maintenance false (empty_inbox s e) h
 
-sound_strt : (l : Limits) (s : Station) → IsSound l s → IsSound l (on_strt l s)
+sound_strt : (l : Limits) (s : StationState) → IsSound l s → IsSound l (on_strt l s)
 sound_strt l s h = by (may_restart l s) refl
   where
-    by : (b : Bool) → may_restart l s ≡ b → IsSound l (cond b (restarted s) (halted s))
+    by : (b : Bool) → may_restart l s ≡ b → IsSound l (cond b (after_restart s) (after_halt s))
     by true e = let z : length s.inbox ≡ 0 = grind (arith) in sound_begun l s AStart true (nil_from_length s.inbox z) h
     by false e = sound_halted l s h
 
@@ -106,22 +108,22 @@ reply_fits : (b : Bool) (reply other : Reply) → is_sent_reply reply ≡ true �
 reply_fits true reply other r o = r
 reply_fits false reply other r o = o
 
-sound_acknowledging : (l : Limits) (s : Station) (q : ℕ) → s.state ≡ Running → q < 256 → IsSound l s → IsSound l (acknowledging s q)
+sound_acknowledging : (l : Limits) (s : StationState) (q : ℕ) → s.state ≡ Running → q < 256 → IsSound l s → IsSound l (after_ack s q)
 sound_acknowledging l s q e hq h =
     record {
       r_byte = h.r_byte;
       in_window = window_acknowledging (outgoing s) q hq h.in_window;
-      out_stored = stored_drop l.window l.longest (newly s q) s.out h.out_stored;
+      out_stored = stored_drop l.window l.longest (newly_acknowledged s q) s.out h.out_stored;
       inbox_stored = h.inbox_stored;
-      fits = fits_any (acknowledging s q) (ap is_starting e) (running_other s.state e) h.fits.sent_reply;
+      fits = fits_any (after_ack s q) (ap is_starting e) (running_other s.state e) h.fits.sent_reply;
     }
 
-sound_nak : (l : Limits) (s : Station) (q : ℕ) → s.state ≡ Running → q < 256 → IsSound l s → IsSound l (on_nak s q)
+sound_nak : (l : Limits) (s : StationState) (q : ℕ) → s.state ≡ Running → q < 256 → IsSound l s → IsSound l (on_nak s q)
 sound_nak l s q e hq h = by (is_within s.a q s.n)
   where
-    by : (b : Bool) → IsSound l (cond b (record (acknowledging s q) { t = next_number (acknowledging s q).a; rep = false; timer = Off }) s)
+    by : (b : Bool) → IsSound l (cond b (record (after_ack s q) { t = next_number (after_ack s q).a; rep = false; timer = Off }) s)
     by true =
-        let u = acknowledging s q in
+        let u = after_ack s q in
         let k = sound_acknowledging l s q e hq h in
         record {
           r_byte = k.r_byte;
@@ -141,27 +143,27 @@ byte_if : (b : Bool) (x y : ℕ) → x < 256 → y < 256 → cond b x y < 256
 byte_if true x y hx hy = hx
 byte_if false x y hx hy = hy
 
-sound_put : (l : Limits) (s : Station) (num : ℕ) (message : List ℕ) → s.state ≡ Running → num < 256 → 1 ≤ length message → length message ≤ l.longest
-    → IsSound l s → IsSound l (put l s num message)
+sound_put : (l : Limits) (s : StationState) (num : ℕ) (message : List ℕ) → s.state ≡ Running → num < 256 → 1 ≤ length message → length message ≤ l.longest
+    → IsSound l s → IsSound l (after_offer l s num message)
 sound_put l s num message e hn low high h =
     record {
-      r_byte = byte_if (takes l s num) num s.r hn h.r_byte;
+      r_byte = byte_if (takes_data l s num) num s.r hn h.r_byte;
       in_window = h.in_window;
       out_stored = h.out_stored;
-      inbox_stored = by (takes l s num) refl;
-      fits = fits_any (put l s num message) (ap is_starting e) (running_other s.state e) (offer_fits (answer_to_offer l.room (incoming s) num) s.reply h.fits.sent_reply);
+      inbox_stored = by (takes_data l s num) refl;
+      fits = fits_any (after_offer l s num message) (ap is_starting e) (running_other s.state e) (offer_fits (answer_to_offer l.room (incoming s) num) s.reply h.fits.sent_reply);
     }
   where
-    by : (b : Bool) → takes l s num ≡ b → IsStored l.room l.longest (cond b (s.inbox ++ message ∷ []) s.inbox)
+    by : (b : Bool) → takes_data l s num ≡ b → IsStored l.room l.longest (cond b (s.inbox ++ message ∷ []) s.inbox)
     by true t = let room : length s.inbox < l.room = grind (arith) in stored_more l.room l.longest s.inbox message room low high h.inbox_stored
     by false t = h.inbox_stored
 
-sound_data : (l : Limits) (s : Station) (resp num : ℕ) (message : List ℕ) → s.state ≡ Running → resp < 256 → num < 256 → 1 ≤ length message → length message ≤ l.longest
+sound_data : (l : Limits) (s : StationState) (resp num : ℕ) (message : List ℕ) → s.state ≡ Running → resp < 256 → num < 256 → 1 ≤ length message → length message ≤ l.longest
     → IsSound l s → IsSound l (on_data l s resp num message)
 sound_data l s resp num message e hr hn low high h =
-    sound_put l (acknowledging s resp) num message e hn low high (sound_acknowledging l s resp e hr h)
+    sound_put l (after_ack s resp) num message e hn low high (sound_acknowledging l s resp e hr h)
 
-sound_maintenance : (l : Limits) (s : Station) (message : List ℕ) → s.state ≡ Maintenance → 1 ≤ length message → length message ≤ l.longest
+sound_maintenance : (l : Limits) (s : StationState) (message : List ℕ) → s.state ≡ Maintenance → 1 ≤ length message → length message ≤ l.longest
     → IsSound l s → IsSound l (on_maintenance l s (Good (Maint message)))
 sound_maintenance l s message e low high h =
     record {
@@ -183,7 +185,7 @@ sound_maintenance l s message e low high h =
     by true t = let room : length s.inbox < l.room = grind (arith) in stored_more l.room l.longest s.inbox message room low high h.inbox_stored
     by false t = h.inbox_stored
 
-pub sound_on : (l : Limits) (s : Station) (e : Heard) → IsHeard l e → IsSound l s → IsSound l (on l s e)
+pub sound_on : (l : Limits) (s : StationState) (e : Received) → IsReceivable l e → IsSound l s → IsSound l (on l s e)
 unfolding on
 sound_on l s e g h = by s.state refl e g
   where
@@ -203,10 +205,10 @@ sound_on l s e g h = by s.state refl e g
         })
         h
 
-    runs : IsSound l (running s)
+    runs : IsSound l (after_startup s)
     runs = to_running l s s.reply h.fits.sent_reply h
 
-    by : (p : State) → s.state ≡ p → (e : Heard) → IsHeard l e → IsSound l (on_by p l s e)
+    by : (p : State) → s.state ≡ p → (e : Received) → IsReceivable l e → IsSound l (on_by p l s e)
     by Halted e f g = h
     by Maintenance e (Good (Maint message)) g = sound_maintenance l s message e g.0 g.1 h
     by Maintenance e f g = h
@@ -217,13 +219,13 @@ sound_on l s e g h = by s.state refl e g
     by AStart e (Good Stack) g = to_running l s Ack refl h
     by AStart e (Good (Acked resp)) g = go (resp == 0)
       where
-        go : (b : Bool) → IsSound l (cond b (running s) s)
+        go : (b : Bool) → IsSound l (cond b (after_startup s) s)
         go true = runs
         go false = h
     by AStart e (Good (Data resp num message)) g = go (resp == 0)
       where
-        go : (b : Bool) → IsSound l (cond b (on_data l (running s) resp num message) s)
-        go true = sound_data l (running s) resp num message refl g.0 g.1 g.2 g.3 runs
+        go : (b : Bool) → IsSound l (cond b (on_data l (after_startup s) resp num message) s)
+        go true = sound_data l (after_startup s) resp num message refl g.0 g.1 g.2 g.3 runs
         go false = h
     by AStart e f g = h
     by Running e (Good Strt) g = sound_strt l s h
@@ -233,14 +235,14 @@ sound_on l s e g h = by s.state refl e g
     by Running e (Good (Rep num)) g = replies (cond (num == s.r) Ack (Nak reason.ReplyToRep)) (reply_fits (num == s.r) Ack (Nak reason.ReplyToRep) refl refl)
     by Running e (Good (Data resp num message)) g = sound_data l s resp num message e g.0 g.1 g.2 g.3 h
     by Running e (Good (Maint message)) g = h
-    by Running e Bad_header g = replies (Nak reason.HeaderCheck) refl
-    by Running e (Bad_data b) g = replies (cond b (Nak reason.DataCheck) s.reply) (reply_fits b (Nak reason.DataCheck) s.reply refl h.fits.sent_reply)
-    by Running e (Too_long b) g = replies (cond b (Nak reason.TooLong) s.reply) (reply_fits b (Nak reason.TooLong) s.reply refl h.fits.sent_reply)
-    by Running e Bad_format g = replies (Nak reason.Format) refl
+    by Running e BadHeader g = replies (Nak reason.HeaderCheck) refl
+    by Running e (BadData b) g = replies (cond b (Nak reason.DataCheck) s.reply) (reply_fits b (Nak reason.DataCheck) s.reply refl h.fits.sent_reply)
+    by Running e (TooLong b) g = replies (cond b (Nak reason.TooLong) s.reply) (reply_fits b (Nak reason.TooLong) s.reply refl h.fits.sent_reply)
+    by Running e BadFormat g = replies (Nak reason.Format) refl
 
 -- ---- what is sent
 
-sound_sent : (l : Limits) (s : Station) (timer : Timer) → s.state ≡ Running → before_next s < length s.out → IsSound l s
+sound_sent : (l : Limits) (s : StationState) (timer : Timer) → s.state ≡ Running → before_next s < length s.out → IsSound l s
     → IsSound l (record s { n = cond (s.t == next_number s.n) s.t s.n; t = next_number s.t; reply = Quiet; timer = timer })
 sound_sent l s timer e place h =
     record {
@@ -251,7 +253,7 @@ sound_sent l s timer e place h =
       fits = fits_any (record s { n = cond (s.t == next_number s.n) s.t s.n; t = next_number s.t; reply = Quiet; timer = timer }) (ap is_starting e) (running_other s.state e) refl;
     }
 
-sound_rest : (l : Limits) (s : Station) (message : List ℕ) (rest : List (List ℕ)) → s.state ≡ Maintenance → s.out ≡ message ∷ rest → IsSound l s → IsSound l (record s { out = rest })
+sound_rest : (l : Limits) (s : StationState) (message : List ℕ) (rest : List (List ℕ)) → s.state ≡ Maintenance → s.out ≡ message ∷ rest → IsSound l s → IsSound l (record s { out = rest })
 sound_rest l s message rest e o h =
     let all : IsStored l.window l.longest (drop 1 s.out) = stored_drop l.window l.longest 1 s.out h.out_stored in
     record {
@@ -269,12 +271,12 @@ sound_rest l s message rest e o h =
       };
     }
 
-sound_turn : (l : Limits) (s : Station) (t : Turn) → Sending s t → IsSound l s → IsSound l (after_turn t s)
+sound_turn : (l : Limits) (s : StationState) (t : Next) → SentFor s t → IsSound l s → IsSound l (after_next t s)
 sound_turn l s _ (sends_strt p d) h = same_state l s false s.reply s.rep Fresh h.fits.sent_reply h
 sound_turn l s _ (sends_stack p d) h = same_state l s false s.reply s.rep Fresh h.fits.sent_reply h
 sound_turn l s _ (sends_nak c p r) h = same_state l s s.due Quiet s.rep s.timer refl h
 sound_turn l s _ (sends_rep p r f) h = same_state l s s.due s.reply false Fresh h.fits.sent_reply h
-sound_turn l s _ (sends_data p r f place) h = sound_sent l s (timed s.timer) p place h
+sound_turn l s _ (sends_data p r f place) h = sound_sent l s (timer_started s.timer) p place h
 sound_turn l s _ (sends_ack p r f place) h = same_state l s s.due Quiet s.rep s.timer refl h
 sound_turn l s _ (sends_maint m ms p o) h = sound_rest l s m ms p o h
 sound_turn l s _ (halted_idles p) h = h
@@ -282,31 +284,31 @@ sound_turn l s _ (starting_idles p d) h = h
 sound_turn l s _ (running_idles p r f place) h = h
 sound_turn l s _ (maintenance_idles p o) h = h
 
-pub sound_next : (l : Limits) (s : Station) → IsSound l s → IsSound l (after_turn (next s) s)
+pub sound_next : (l : Limits) (s : StationState) → IsSound l s → IsSound l (after_next (next s) s)
 sound_next l s h = sound_turn l s (next s) (sending s) h
 
 -- ---- the user's calls
 
-pub sound_expired : (l : Limits) (s : Station) → IsSound l s → IsSound l (expired s)
+pub sound_expired : (l : Limits) (s : StationState) → IsSound l s → IsSound l (after_expire s)
 sound_expired l s h = at s.timer
   where
-    by : (p : State) → IsSound l (expired_by p s)
+    by : (p : State) → IsSound l (after_expire_in p s)
     by Halted = same_state l s s.due s.reply s.rep Off h.fits.sent_reply h
     by IStart = same_state l s true s.reply s.rep Off h.fits.sent_reply h
     by AStart = same_state l s true s.reply s.rep Off h.fits.sent_reply h
     by Running = same_state l s s.due s.reply (cond (s.a == s.n) s.rep true) Off h.fits.sent_reply h
     by Maintenance = same_state l s s.due s.reply s.rep Off h.fits.sent_reply h
 
-    at : (t : Timer) → IsSound l (expired_at t s)
+    at : (t : Timer) → IsSound l (after_expire_with t s)
     at Off = h
     at Fresh = by s.state
     at On = by s.state
 
-pub sound_armed : (l : Limits) (s : Station) → IsSound l s → IsSound l (armed s)
+pub sound_armed : (l : Limits) (s : StationState) → IsSound l s → IsSound l (after_take_arm s)
 sound_armed l s h = same_state l s s.due s.reply s.rep (cond (is_fresh s.timer) On s.timer) h.fits.sent_reply h
 
-accepts : (l : Limits) (s : Station) (message : List ℕ) → is_starting s.state ≡ false → length s.out < l.window → 1 ≤ length message → length message ≤ l.longest
-    → IsSound l s → IsSound l (accepted s message)
+accepts : (l : Limits) (s : StationState) (message : List ℕ) → is_starting s.state ≡ false → length s.out < l.window → 1 ≤ length message → length message ≤ l.longest
+    → IsSound l s → IsSound l (after_accept s message)
 accepts l s message e room low high h =
     record {
       r_byte = h.r_byte;
@@ -337,19 +339,19 @@ maintains_only AStart e = absurd (cc)
 maintains_only Running e = refl
 maintains_only Maintenance e = refl
 
-pub sound_accepted : (l : Limits) (s : Station) (message : List ℕ) → may_send l s message ≡ true → IsSound l s → IsSound l (accepted s message)
+pub sound_accepted : (l : Limits) (s : StationState) (message : List ℕ) → may_send l s message ≡ true → IsSound l s → IsSound l (after_accept s message)
 sound_accepted l s message e h =
     let p : is_running s.state ≡ true = grind (arith) in
     let f : (length s.out < l.window) × (1 ≤ length message) × (length message ≤ l.longest) = grind (arith) in
     accepts l s message (runs_only s.state p) f.0 f.1 f.2 h
 
-pub sound_accepted_maintenance : (l : Limits) (s : Station) (message : List ℕ) → may_send_maintenance l s message ≡ true → IsSound l s → IsSound l (accepted s message)
+pub sound_accepted_maintenance : (l : Limits) (s : StationState) (message : List ℕ) → may_send_maintenance l s message ≡ true → IsSound l s → IsSound l (after_accept s message)
 sound_accepted_maintenance l s message e h =
     let p : is_maintenance s.state ≡ true = grind (arith) in
     let f : (length s.out < l.window) × (1 ≤ length message) × (length message ≤ l.longest) = grind (arith) in
     accepts l s message (maintains_only s.state p) f.0 f.1 f.2 h
 
-pub sound_taken : (l : Limits) (s : Station) → IsSound l s → IsSound l (taken s)
+pub sound_taken : (l : Limits) (s : StationState) → IsSound l s → IsSound l (after_take s)
 sound_taken l s h =
     record {
       r_byte = h.r_byte;

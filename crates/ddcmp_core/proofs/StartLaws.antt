@@ -5,53 +5,53 @@ use Rattle.ddcmp_frame.specs.declared.nak.Nak.{Nak as Reason}
 use Rattle.ddcmp_frame.specs.declared.nak.Nak.TheVariants as reason
 use Rattle.ddcmp_frame.specs.Naks.{reason_of, subtype_of}
 use Rattle.ddcmp_frame.specs.Wire.{IsFrame}
-use Rattle.ddcmp_frame.specs.Spelling.{InRange}
-use Rattle.ddcmp_window.specs.Window.{is_within, next_number}
-use Rattle.ddcmp_window.specs.Window as window
-use Rattle.ddcmp_core.specs.declared.kinds.State.{State}
-use Rattle.ddcmp_core.specs.declared.kinds.State.TheVariants.{Halted, IStart, AStart, Running, Maintenance}
-use Rattle.ddcmp_core.specs.declared.kinds.Timer.{Timer}
-use Rattle.ddcmp_core.specs.declared.kinds.Timer.TheVariants.{Off, Fresh, On}
-use Rattle.ddcmp_core.specs.Table.{Station, Limits, Frame, Data, Acked, Naked, Rep, Strt, Stack, Maint, Heard, Good, Bad_header, Bad_data, Too_long, Bad_format, before_next, acknowledging, on_data, on_nak, on_by, on, running, halted, restarted, may_restart, on_strt, expired_by, expired_at, expired, is_starting, Turn, Idle, Sends, next, after_turn}
-use Rattle.ddcmp_core.specs.Frames.{frame_of, header_of, data_of}
-use Rattle.ddcmp_core.specs.Kept.{IsSound, is_sent_reason, is_sent_reply}
+use Rattle.ddcmp_frame.specs.Spelling.{IsInRange}
+use Rattle.ddcmp_window.specs.Numbers.{is_within, next_number}
+use Rattle.ddcmp_window.specs.Sender.{Outgoing}
+use Rattle.ddcmp_core.specs.declared.state.State.{State}
+use Rattle.ddcmp_core.specs.declared.state.State.TheVariants.{Halted, IStart, AStart, Running, Maintenance}
+use Rattle.ddcmp_core.specs.declared.state.Timer.{Timer}
+use Rattle.ddcmp_core.specs.declared.state.Timer.TheVariants.{Off, Fresh, On}
+use Rattle.ddcmp_core.specs.Table.{StationState, Limits, Frame, Data, Acked, Naked, Rep, Strt, Stack, Maint, Received, Good, BadHeader, BadData, TooLong, BadFormat, before_next, after_ack, on_data, on_nak, on_by, on, after_startup, after_halt, after_restart, may_restart, on_strt, after_expire_in, after_expire_with, after_expire, is_starting, Next, Idle, Sends, next, after_next}
+use Rattle.ddcmp_core.specs.Frames.{frame_of, header_of, message_of}
+use Rattle.ddcmp_core.specs.Core.{IsSound, is_sent_reason, is_sent_reply}
 use Rattle.ddcmp_core.specs.Laws.{BeginsRunning, IsSentInWindow, HasNothing}
-use Rattle.ddcmp_core.specs.Sending.{Sending, sends_strt, sends_stack, sends_nak, sends_rep, sends_data, sends_ack, sends_maint, halted_idles, starting_idles, running_idles, maintenance_idles}
+use Rattle.ddcmp_core.specs.NextFrame.{SentFor, sends_strt, sends_stack, sends_nak, sends_rep, sends_data, sends_ack, sends_maint, halted_idles, starting_idles, running_idles, maintenance_idles}
 use Rattle.ddcmp_core.proofs.Sent.{sending}
 
 -- ---- states
 
-nak_state : (s : Station) (q : ℕ) → (on_nak s q).state ≡ s.state
+nak_state : (s : StationState) (q : ℕ) → (on_nak s q).state ≡ s.state
 nak_state s q = by (is_within s.a q s.n)
   where
-    by : (b : Bool) → (cond b (record (acknowledging s q) { t = next_number (acknowledging s q).a; rep = false; timer = Off }) s).state ≡ s.state
+    by : (b : Bool) → (cond b (record (after_ack s q) { t = next_number (after_ack s q).a; rep = false; timer = Off }) s).state ≡ s.state
     by true = refl
     by false = refl
 
-strt_state : (l : Limits) (s : Station) (p : State) → (Halted ≡ p → ⊥) → (AStart ≡ p → ⊥) → (on_strt l s).state ≡ p → ⊥
+strt_state : (l : Limits) (s : StationState) (p : State) → (Halted ≡ p → ⊥) → (AStart ≡ p → ⊥) → (on_strt l s).state ≡ p → ⊥
 strt_state l s p no_halt no_astart = by (may_restart l s)
   where
-    by : (b : Bool) → (cond b (restarted s) (halted s)).state ≡ p → ⊥
+    by : (b : Bool) → (cond b (after_restart s) (after_halt s)).state ≡ p → ⊥
     by true e = no_astart e
     by false e = no_halt e
 
-pub istart_stays : (l : Limits) (s : Station) (h : Heard) → (on l s h).state ≡ IStart → s.state ≡ IStart
+pub istart_stays : (l : Limits) (s : StationState) (h : Received) → (on l s h).state ≡ IStart → s.state ≡ IStart
 unfolding on
 istart_stays l s h = by s.state refl h
   where
-    by : (p : State) → s.state ≡ p → (h : Heard) → (on_by p l s h).state ≡ IStart → s.state ≡ IStart
+    by : (p : State) → s.state ≡ p → (h : Received) → (on_by p l s h).state ≡ IStart → s.state ≡ IStart
     by Halted e h i = i
     by IStart e h i = e
     by AStart e (Good Strt) i = i
     by AStart e (Good Stack) i = absurd (cc i)
     by AStart e (Good (Acked resp)) i = go (resp == 0) i
       where
-        go : (b : Bool) → (cond b (running s) s).state ≡ IStart → s.state ≡ IStart
+        go : (b : Bool) → (cond b (after_startup s) s).state ≡ IStart → s.state ≡ IStart
         go true i = absurd (cc i)
         go false i = i
     by AStart e (Good (Data resp num message)) i = go (resp == 0) i
       where
-        go : (b : Bool) → (cond b (on_data l (running s) resp num message) s).state ≡ IStart → s.state ≡ IStart
+        go : (b : Bool) → (cond b (on_data l (after_startup s) resp num message) s).state ≡ IStart → s.state ≡ IStart
         go true i = absurd (cc i)
         go false i = i
     by AStart e h i = i
@@ -62,18 +62,18 @@ istart_stays l s h = by s.state refl h
     by Running e (Good (Rep num)) i = i
     by Running e (Good (Data resp num message)) i = i
     by Running e (Good (Maint message)) i = i
-    by Running e Bad_header i = i
-    by Running e (Bad_data b) i = i
-    by Running e (Too_long b) i = i
-    by Running e Bad_format i = i
+    by Running e BadHeader i = i
+    by Running e (BadData b) i = i
+    by Running e (TooLong b) i = i
+    by Running e BadFormat i = i
     by Maintenance e (Good (Maint message)) i = i
     by Maintenance e h i = i
 
-pub begins_running : (l : Limits) (s : Station) (h : Heard) → s.state ≢ Running → (on l s h).state ≡ Running → BeginsRunning s.state h
+pub begins_running : (l : Limits) (s : StationState) (h : Received) → s.state ≢ Running → (on l s h).state ≡ Running → BeginsRunning s.state h
 unfolding on
 begins_running l s h n = by s.state refl h
   where
-    by : (p : State) → s.state ≡ p → (h : Heard) → (on_by p l s h).state ≡ Running → BeginsRunning p h
+    by : (p : State) → s.state ≡ p → (h : Received) → (on_by p l s h).state ≡ Running → BeginsRunning p h
     by Halted e h i = absurd (n i)
     by IStart e (Good Strt) i = absurd (cc i)
     by IStart e (Good Stack) i = tt
@@ -82,12 +82,12 @@ begins_running l s h n = by s.state refl h
     by AStart e (Good Stack) i = tt
     by AStart e (Good (Acked resp)) i = go (resp == 0) refl i
       where
-        go : (b : Bool) → (resp == 0) ≡ b → (cond b (running s) s).state ≡ Running → resp ≡ 0
+        go : (b : Bool) → (resp == 0) ≡ b → (cond b (after_startup s) s).state ≡ Running → resp ≡ 0
         go true z i = grind (arith)
         go false z i = absurd (n i)
     by AStart e (Good (Data resp num message)) i = go (resp == 0) refl i
       where
-        go : (b : Bool) → (resp == 0) ≡ b → (cond b (on_data l (running s) resp num message) s).state ≡ Running → resp ≡ 0
+        go : (b : Bool) → (resp == 0) ≡ b → (cond b (on_data l (after_startup s) resp num message) s).state ≡ Running → resp ≡ 0
         go true z i = grind (arith)
         go false z i = absurd (n i)
     by AStart e h i = absurd (n i)
@@ -95,7 +95,7 @@ begins_running l s h n = by s.state refl h
     by Maintenance e (Good (Maint message)) i = absurd (n i)
     by Maintenance e h i = absurd (n i)
 
-turn_state : (s : Station) (t : Turn) → Sending s t → (after_turn t s).state ≡ s.state
+turn_state : (s : StationState) (t : Next) → SentFor s t → (after_next t s).state ≡ s.state
 turn_state s _ (sends_strt p d) = refl
 turn_state s _ (sends_stack p d) = refl
 turn_state s _ (sends_nak c p r) = refl
@@ -108,20 +108,20 @@ turn_state s _ (starting_idles p d) = refl
 turn_state s _ (running_idles p r f place) = refl
 turn_state s _ (maintenance_idles p o) = refl
 
-pub next_state : (s : Station) → (after_turn (next s) s).state ≡ s.state
+pub next_state : (s : StationState) → (after_next (next s) s).state ≡ s.state
 next_state s = turn_state s (next s) (sending s)
 
-pub expired_state : (s : Station) → (expired s).state ≡ s.state
+pub expired_state : (s : StationState) → (after_expire s).state ≡ s.state
 expired_state s = at s.timer
   where
-    by : (p : State) → (expired_by p s).state ≡ s.state
+    by : (p : State) → (after_expire_in p s).state ≡ s.state
     by Halted = refl
     by IStart = refl
     by AStart = refl
     by Running = refl
     by Maintenance = refl
 
-    at : (t : Timer) → (expired_at t s).state ≡ s.state
+    at : (t : Timer) → (after_expire_with t s).state ≡ s.state
     at Off = refl
     at Fresh = by s.state
     at On = by s.state
@@ -129,17 +129,17 @@ expired_state s = at s.timer
 -- ---- what is sent
 
 -- what holds of a frame that is sent, by the reason of the turn
-abbrev pub OfFrame : (Frame → Type 0) → Turn → Type 0
+abbrev pub OfFrame : (Frame → Type 0) → Next → Type 0
 OfFrame P Idle = Unit {0}
 OfFrame P (Sends f u) = P f
 
-abbrev pub StrtIn : Station → Frame → Type 0
+abbrev pub StrtIn : StationState → Frame → Type 0
 StrtIn s Strt = s.state ≡ IStart
 StrtIn s Stack = s.state ≡ AStart
 StrtIn s (Maint message) = s.state ≡ Maintenance
 StrtIn s _ = s.state ≡ Running
 
-strt_turn : (s : Station) (t : Turn) → Sending s t → OfFrame (StrtIn s) t
+strt_turn : (s : StationState) (t : Next) → SentFor s t → OfFrame (StrtIn s) t
 strt_turn s _ (sends_strt p d) = p
 strt_turn s _ (sends_stack p d) = p
 strt_turn s _ (sends_nak c p r) = p
@@ -152,17 +152,17 @@ strt_turn s _ (starting_idles p d) = tt
 strt_turn s _ (running_idles p r f place) = tt
 strt_turn s _ (maintenance_idles p o) = tt
 
-pub sent_in_state : (s : Station) (f : Frame) (u : Station) → next s ≡ Sends f u → StrtIn s f
+pub sent_in_state : (s : StationState) (f : Frame) (u : StationState) → next s ≡ Sends f u → StrtIn s f
 sent_in_state s f u e = subst (OfFrame (StrtIn s)) e (strt_turn s (next s) (sending s))
 
-abbrev pub DataIn : Station → Frame → Type 0
+abbrev pub DataIn : StationState → Frame → Type 0
 DataIn s (Data resp num message) = (resp ≡ s.r) × IsSentInWindow s num message
 DataIn s _ = Unit {0}
 
 number_of : (a t : ℕ) → a < 256 → t < 256 → t ≡ (a + ((t + 511 - a) % 256 + 1)) % 256
 number_of a t ha ht = omega arith
 
-data_turn : (l : Limits) (s : Station) (t : Turn) → IsSound l s → Sending s t → OfFrame (DataIn s) t
+data_turn : (l : Limits) (s : StationState) (t : Next) → IsSound l s → SentFor s t → OfFrame (DataIn s) t
 data_turn l s _ h (sends_strt p d) = tt
 data_turn l s _ h (sends_stack p d) = tt
 data_turn l s _ h (sends_nak c p r) = tt
@@ -176,12 +176,12 @@ data_turn l s _ h (starting_idles p d) = tt
 data_turn l s _ h (running_idles p r f place) = tt
 data_turn l s _ h (maintenance_idles p o) = tt
 
-pub data_sent : (l : Limits) (s : Station) (resp num : ℕ) (message : List ℕ) (u : Station) → IsSound l s → next s ≡ Sends (Data resp num message) u → (resp ≡ s.r) × IsSentInWindow s num message
+pub data_sent : (l : Limits) (s : StationState) (resp num : ℕ) (message : List ℕ) (u : StationState) → IsSound l s → next s ≡ Sends (Data resp num message) u → (resp ≡ s.r) × IsSentInWindow s num message
 data_sent l s resp num message u h e = subst (OfFrame (DataIn s)) e (data_turn l s (next s) h (sending s))
 
 -- a frame that is sent is read as the frame that it is
 abbrev pub IsRead : Limits → Frame → Type 0
-IsRead l f = (frame_of (header_of f) (data_of f) ≡ f) × IsFrame (header_of f) (data_of f) × InRange (header_of f) × (length (data_of f) ≤ l.longest)
+IsRead l f = (frame_of (header_of f) (message_of f) ≡ f) × IsFrame (header_of f) (message_of f) × IsInRange (header_of f) × (length (message_of f) ≤ l.longest)
 
 reason_read : (why : Reason) → is_sent_reason why ≡ true → (reason_of (subtype_of why) ≡ why) × (subtype_of why < 64)
 reason_read reason.HeaderCheck e = (refl, omega arith)
@@ -193,7 +193,7 @@ reason_read reason.TooLong e = (refl, omega arith)
 reason_read reason.Format e = (refl, omega arith)
 reason_read (reason.Other n) e = absurd (cc e)
 
-read_turn : (l : Limits) (s : Station) (t : Turn) → IsSound l s → Sending s t → OfFrame (IsRead l) t
+read_turn : (l : Limits) (s : StationState) (t : Next) → IsSound l s → SentFor s t → OfFrame (IsRead l) t
 read_turn l s _ h (sends_strt p d) = (refl, refl, omega arith, omega arith)
 read_turn l s _ h (sends_stack p d) = (refl, refl, omega arith, omega arith)
 read_turn l s _ h (sends_nak why p r) =
@@ -215,22 +215,22 @@ read_turn l s _ h (starting_idles p d) = tt
 read_turn l s _ h (running_idles p r f place) = tt
 read_turn l s _ h (maintenance_idles p o) = tt
 
-pub read_sent : (l : Limits) (s : Station) (f : Frame) (u : Station) → IsSound l s → next s ≡ Sends f u → IsRead l f
+pub read_sent : (l : Limits) (s : StationState) (f : Frame) (u : StationState) → IsSound l s → next s ≡ Sends f u → IsRead l f
 read_sent l s f u h e = subst (OfFrame (IsRead l)) e (read_turn l s (next s) h (sending s))
 
 -- ---- startup and maintenance
 
-pub nothing_at_start : (l : Limits) (s : Station) → IsSound l s → is_starting s.state ≡ true → HasNothing s
+pub nothing_at_start : (l : Limits) (s : StationState) → IsSound l s → is_starting s.state ≡ true → HasNothing s
 nothing_at_start l s h e =
     let o = h.fits.starting_out e in
     record {
       r = h.fits.starting_r e;
-      a = ap (λ (x : window.Outgoing). x.a) o;
-      n = ap (λ (x : window.Outgoing). x.n) o;
-      t = ap (λ (x : window.Outgoing). x.t) o;
-      out = ap (λ (x : window.Outgoing). x.out) o;
+      a = ap (λ (x : Outgoing). x.a) o;
+      n = ap (λ (x : Outgoing). x.n) o;
+      t = ap (λ (x : Outgoing). x.t) o;
+      out = ap (λ (x : Outgoing). x.out) o;
       inbox = h.fits.starting_inbox e;
     }
 
-pub maintenance_pops : (l : Limits) (s : Station) → IsSound l s → s.state ≡ Maintenance → (s.a ≡ s.n) × (s.t ≡ next_number s.a)
+pub maintenance_pops : (l : Limits) (s : StationState) → IsSound l s → s.state ≡ Maintenance → (s.a ≡ s.n) × (s.t ≡ next_number s.a)
 maintenance_pops l s h e = (h.fits.maintenance_n e, h.fits.maintenance_t e)

@@ -4,7 +4,7 @@ use Rattle.std.specs.Prelude.{slice_index_or}
 use Rattle.std.specs.List.{sum_by}
 use Rattle.std.proofs.Math.Nat.{mul-le-mul}
 use Rattle.std.proofs.lemmas.List.Sums.{sum_by-cons}
-use Rattle.ddcmp_window.specs.Window.{IsStored}
+use Rattle.ddcmp_window.specs.Store.{IsStored}
 
 sum_by-within : (most : ℕ) (xs : List (List ℕ)) → ((i : ℕ) → i < length xs → length (slice_index_or xs i []) ≤ most)
     → sum_by length xs ≤ length xs * most

@@ -3,7 +3,9 @@ use Rattle.std.proofs.Common.{◌≡◌, ◌≢◌, ◌⊎◌, inl, inr, ℕ, ze
 use Rattle.std.specs.Prelude.{◌==◌, nat_lt, slice_index_or}
 use Rattle.std.proofs.lemmas.List.{get_or-drop}
 use Rattle.ddcmp_num.specs.Sequence.{distance}
-use Rattle.ddcmp_window.specs.Window.{Outgoing, nothing_sent, IsInWindow, IsStored, is_within, next_number, before_next, acknowledging}
+use Rattle.ddcmp_window.specs.Sender.{Outgoing, nothing_sent, IsInWindow, outgoing_before_next, outgoing_after_ack}
+use Rattle.ddcmp_window.specs.Store.{IsStored}
+use Rattle.ddcmp_window.specs.Numbers.{is_within, next_number}
 
 -- where m messages up to q leave
 passed : (a q t n : ℕ) → a < 256 → q < 256 → t < 256 → n < 256 → (t + 511 - a) % 256 ≤ distance a n → distance a q ≤ distance a n
@@ -22,7 +24,7 @@ window_left : (o : Outgoing) (q : ℕ) → q < 256 → distance o.a q ≤ distan
     → IsInWindow (record {
       a = q;
       n = o.n;
-      t = cond (nat_lt (before_next o) (distance o.a q)) (next_number q) o.t;
+      t = cond (nat_lt (outgoing_before_next o) (distance o.a q)) (next_number q) o.t;
       out = drop (distance o.a q) o.out;
     })
 window_left o q hq hm h =
@@ -31,35 +33,35 @@ window_left o q hq hm h =
     record {
       a_byte = hq;
       n_byte = h.n_byte;
-      t_byte = byte_of (nat_lt (before_next o) m) q o.t h.t_byte;
+      t_byte = byte_of (nat_lt (outgoing_before_next o) m) q o.t h.t_byte;
       next_sent = passed o.a q o.t o.n h.a_byte hq h.t_byte h.n_byte h.next_sent hm;
       sent_kept = omega (arith, l, h.sent_kept, h.a_byte, h.n_byte, hm);
     }
 
 -- where none leaves
 window_same : (o : Outgoing) (q : ℕ) → IsInWindow o
-    → IsInWindow (record { a = o.a; n = o.n; t = cond (nat_lt (before_next o) 0) (next_number q) o.t; out = drop 0 o.out })
-window_same o q h = by (nat_lt (before_next o) 0) refl
+    → IsInWindow (record { a = o.a; n = o.n; t = cond (nat_lt (outgoing_before_next o) 0) (next_number q) o.t; out = drop 0 o.out })
+window_same o q h = by (nat_lt (outgoing_before_next o) 0) refl
   where
-    by : (b : Bool) → nat_lt (before_next o) 0 ≡ b → IsInWindow (record { a = o.a; n = o.n; t = cond b (next_number q) o.t; out = drop 0 o.out })
-    by true e = let x : before_next o < 0 = grind (arith) in absurd (omega (arith, x))
+    by : (b : Bool) → nat_lt (outgoing_before_next o) 0 ≡ b → IsInWindow (record { a = o.a; n = o.n; t = cond b (next_number q) o.t; out = drop 0 o.out })
+    by true e = let x : outgoing_before_next o < 0 = grind (arith) in absurd (omega (arith, x))
     by false e = h
 
 window_by : (o : Outgoing) (q m : ℕ) → (b : Bool) → (m == 0) ≡ b → q < 256 → (m ≡ 0) ⊎ (m ≡ distance o.a q) → m ≤ distance o.a o.n → IsInWindow o
-    → IsInWindow (record { a = cond b o.a q; n = o.n; t = cond (nat_lt (before_next o) m) (next_number q) o.t; out = drop m o.out })
+    → IsInWindow (record { a = cond b o.a q; n = o.n; t = cond (nat_lt (outgoing_before_next o) m) (next_number q) o.t; out = drop m o.out })
 window_by o q m true e hq either hm h =
     let z : m ≡ 0 = grind (arith) in
-    let P : ℕ → Type 0 = λ k. IsInWindow (record { a = o.a; n = o.n; t = cond (nat_lt (before_next o) k) (next_number q) o.t; out = drop k o.out }) in
+    let P : ℕ → Type 0 = λ k. IsInWindow (record { a = o.a; n = o.n; t = cond (nat_lt (outgoing_before_next o) k) (next_number q) o.t; out = drop k o.out }) in
     rw z (window_same o q h)
 window_by o q m false e hq (inl z) hm h = absurd (let x : m ≢ 0 = grind (arith) in x z)
 window_by o q m false e hq (inr d) hm h =
     rw d (window_left o q hq (omega (arith, d, hm)) h)
 
-pub window_acknowledging : (o : Outgoing) (q : ℕ) → q < 256 → IsInWindow o → IsInWindow (acknowledging o q)
+pub window_acknowledging : (o : Outgoing) (q : ℕ) → q < 256 → IsInWindow o → IsInWindow (outgoing_after_ack o q)
 window_acknowledging o q hq h = by (is_within o.a q o.n) refl
   where
     by : (b : Bool) → is_within o.a q o.n ≡ b
-        → (let m = cond b (distance o.a q) 0 in IsInWindow (record { a = cond (m == 0) o.a q; n = o.n; t = cond (nat_lt (before_next o) m) (next_number q) o.t; out = drop m o.out }))
+        → (let m = cond b (distance o.a q) 0 in IsInWindow (record { a = cond (m == 0) o.a q; n = o.n; t = cond (nat_lt (outgoing_before_next o) m) (next_number q) o.t; out = drop m o.out }))
     by true e = window_by o q (distance o.a q) (distance o.a q == 0) refl hq (inr refl) (grind (arith)) h
     by false e = window_same o q h
 
@@ -93,7 +95,7 @@ sent_byte : (b : Bool) (t n : ℕ) → t < 256 → n < 256 → cond b t n < 256
 sent_byte true t n ht hn = ht
 sent_byte false t n ht hn = hn
 
-pub window_sent : (o : Outgoing) → before_next o < length o.out → length o.out ≤ 255 → IsInWindow o
+pub window_sent : (o : Outgoing) → outgoing_before_next o < length o.out → length o.out ≤ 255 → IsInWindow o
     → IsInWindow (record o { n = cond (o.t == next_number o.n) o.t o.n; t = next_number o.t })
 window_sent o place small h = record {
   a_byte = h.a_byte;

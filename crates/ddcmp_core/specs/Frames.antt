@@ -8,35 +8,35 @@ use Rattle.ddcmp_frame.specs.declared.header.Header.TheVariants as header
 use Rattle.ddcmp_frame.specs.Fields.{ShortFields}
 use Rattle.ddcmp_frame.specs.Naks.{reason_of, subtype_of}
 use Rattle.ddcmp_frame.specs.Wire.{IsFrame}
-use Rattle.ddcmp_core.specs.declared.kinds.Input.{Input}
-use Rattle.ddcmp_core.specs.declared.kinds.Input.TheVariants as input
-use Rattle.ddcmp_core.specs.Table.{Frame, Data, Acked, Naked, Rep, Strt, Stack, Maint, Heard, Good, Bad_header, Bad_data, Too_long, Bad_format}
+use Rattle.ddcmp_core.specs.declared.input.Input.{Input}
+use Rattle.ddcmp_core.specs.declared.input.Input.TheVariants as input
+use Rattle.ddcmp_core.specs.Table.{Frame, Data, Acked, Naked, Rep, Strt, Stack, Maint, Received, Good, BadHeader, BadData, TooLong, BadFormat}
 
 -- ---- as the table reads them
 
-abbrev pub control_frame : ControlType → ShortFields → Frame
-control_frame control.Ack h = Acked h.resp
-control_frame control.Nak h = Naked (reason_of h.sub) h.resp
-control_frame control.Rep h = Rep h.num
-control_frame control.Strt h = Strt
-control_frame control.Stack h = Stack
+abbrev pub frame_of_control : ControlType → ShortFields → Frame
+frame_of_control control.Ack h = Acked h.resp
+frame_of_control control.Nak h = Naked (reason_of h.sub) h.resp
+frame_of_control control.Rep h = Rep h.num
+frame_of_control control.Strt h = Strt
+frame_of_control control.Stack h = Stack
 
 abbrev pub frame_of : Header → List ℕ → Frame
 frame_of (header.Data h) message = Data h.resp h.num message
 frame_of (header.Maint h) message = Maint message
-frame_of (header.Control h) message = control_frame h.kind h
+frame_of (header.Control h) message = frame_of_control h.kind h
 
-abbrev pub is_data : Header → Bool
-is_data (header.Data h) = true
-is_data (header.Maint h) = false
-is_data (header.Control h) = false
+abbrev pub is_data_header : Header → Bool
+is_data_header (header.Data h) = true
+is_data_header (header.Maint h) = false
+is_data_header (header.Control h) = false
 
-abbrev pub heard : Input → Heard
-heard (input.Good h message) = Good (frame_of h message.now)
-heard input.HeaderCheck = Bad_header
-heard (input.DataCheck h) = Bad_data (is_data h)
-heard (input.TooLong h) = Too_long (is_data h)
-heard input.Format = Bad_format
+abbrev pub received : Input → Received
+received (input.Good h message) = Good (frame_of h message.now)
+received input.HeaderCheck = BadHeader
+received (input.DataCheck h) = BadData (is_data_header h)
+received (input.TooLong h) = TooLong (is_data_header h)
+received input.Format = BadFormat
 
 -- a good frame's data are as long as its COUNT says, none beside a control header, and within the limit
 abbrev pub FitsHeader : ℕ → Input → Type 0
@@ -60,11 +60,11 @@ header_of Strt = header.Control (record { kind = control.Strt; sub = 0; flags = 
 header_of Stack = header.Control (record { kind = control.Stack; sub = 0; flags = both_flags; resp = 0; num = 0; addr = 1 })
 header_of (Maint message) = header.Maint (record { count = length message; flags = both_flags; resp = 0; num = 0; addr = 1 })
 
-abbrev pub data_of : Frame → List ℕ
-data_of (Data resp num message) = message
-data_of (Maint message) = message
-data_of _ = []
+abbrev pub message_of : Frame → List ℕ
+message_of (Data resp num message) = message
+message_of (Maint message) = message
+message_of _ = []
 
 -- the header, and the length of the data
 abbrev pub header_and_length : Frame → Header × ℕ
-header_and_length f = (header_of f, length (data_of f))
+header_and_length f = (header_of f, length (message_of f))

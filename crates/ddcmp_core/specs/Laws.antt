@@ -1,12 +1,12 @@
 -- What the laws of one station say.
 use Rattle.std.specs.Prelude.{◌≡◌, ℕ, ◌+◌, ◌%◌, ◌<◌, ◌≤◌, List, [], length, slice_index_or}
 use Rattle.ddcmp_num.specs.Sequence.{distance}
-use Rattle.ddcmp_core.specs.declared.kinds.State.{State}
-use Rattle.ddcmp_core.specs.declared.kinds.State.TheVariants.{IStart, AStart}
-use Rattle.ddcmp_core.specs.Table.{Station, Data, Acked, Stack, Heard, Good, before_next}
+use Rattle.ddcmp_core.specs.declared.state.State.{State}
+use Rattle.ddcmp_core.specs.declared.state.State.TheVariants.{IStart, AStart}
+use Rattle.ddcmp_core.specs.Table.{StationState, Data, Acked, Stack, Received, Good, before_next}
 
 -- what makes a station run: a STACK, or, where it answered a STRT, an ACK or data with RESP 0
-abbrev pub BeginsRunning : State → Heard → Type 0
+abbrev pub BeginsRunning : State → Received → Type 0
 BeginsRunning IStart (Good Stack) = Unit {0}
 BeginsRunning AStart (Good Stack) = Unit {0}
 BeginsRunning AStart (Good (Acked resp)) = resp ≡ 0
@@ -15,14 +15,14 @@ BeginsRunning _ _ = ⊥
 
 -- A message that is sent is one of those kept, at some place counted from 0. Its number is that
 -- place and 1 behind the last one acknowledged, and at most one behind the last one sent.
-pub record IsSentInWindow (s : Station) (num : ℕ) (message : List ℕ) : Type 0 where
+pub record IsSentInWindow (s : StationState) (num : ℕ) (message : List ℕ) : Type 0 where
   pub place : before_next s < length s.out
   pub message_at : message ≡ slice_index_or s.out (before_next s) []
   pub number : num ≡ (s.a + (before_next s + 1)) % 256
   pub within : before_next s ≤ distance s.a s.n
 
 -- a station that starts has sent and received nothing, and both lists are empty
-pub record HasNothing (s : Station) : Type 0 where
+pub record HasNothing (s : StationState) : Type 0 where
   pub r : s.r ≡ 0
   pub a : s.a ≡ 0
   pub n : s.n ≡ 0

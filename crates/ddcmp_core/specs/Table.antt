@@ -1,24 +1,25 @@
 -- The station's table: its state, the user's calls, what comes in each state, and what is sent next.
-use Rattle.std.specs.Prelude.{ℕ, Bool, true, false, ◌&&◌, if◌then◌else◌, nat_lt, ◌==◌, List, [], ◌∷◌, ◌++◌, length, slice_index_or, Option, Some, None, Result, Ok, Err}
+use Rattle.std.specs.Prelude.{ℕ, Bool, true, false, ◌&&◌, if◌then◌else◌, nat_lt, ◌==◌, List, [], ◌∷◌, ◌++◌, length, slice_index_or, Option, Some, None, is_none, Result}
 use Rattle.ddcmp_num.specs.declared.sequence.Seq.{Seq}
 use Rattle.ddcmp_frame.specs.declared.nak.Nak.{Nak as Reason}
 use Rattle.ddcmp_frame.specs.declared.nak.Nak.TheVariants as reason
-use Rattle.ddcmp_window.specs.declared.refusals.SendRefusal.{SendRefusal}
-use Rattle.ddcmp_window.specs.declared.refusals.SendRefusal.TheVariants.{WrongState}
+use Rattle.ddcmp_window.specs.declared.sender.SendRefusal.{SendRefusal}
+use Rattle.ddcmp_window.specs.declared.sender.SendRefusal.TheVariants.{WrongState}
 use Rattle.ddcmp_window.specs.declared.inbox.Offer.{Offer}
 use Rattle.ddcmp_window.specs.declared.inbox.Offer.TheVariants as offer
-use Rattle.ddcmp_window.specs.Window.{Outgoing, Incoming, is_within, next_number}
-use Rattle.ddcmp_window.specs.Window as window
-use Rattle.ddcmp_core.specs.declared.kinds.State.{State}
-use Rattle.ddcmp_core.specs.declared.kinds.State.TheVariants.{Halted, IStart, AStart, Running, Maintenance}
-use Rattle.ddcmp_core.specs.declared.kinds.Reply.{Reply}
-use Rattle.ddcmp_core.specs.declared.kinds.Reply.TheVariants.{Quiet, Ack, Nak}
-use Rattle.ddcmp_core.specs.declared.kinds.Timer.{Timer}
-use Rattle.ddcmp_core.specs.declared.kinds.Timer.TheVariants.{Off, Fresh, On}
-use Rattle.ddcmp_core.specs.declared.kinds.Notice.{Notice}
-use Rattle.ddcmp_core.specs.declared.kinds.Notice.TheVariants as notice
-use Rattle.ddcmp_core.specs.declared.kinds.StartRefusal.{StartRefusal}
-use Rattle.ddcmp_core.specs.declared.kinds.StartRefusal.TheVariants.{NotHalted, Untaken}
+use Rattle.ddcmp_window.specs.Numbers.{is_within, next_number}
+use Rattle.ddcmp_window.specs.Sender.{Outgoing, outgoing_before_next, accept_refusal, number_accepted, answer_unless, count_acknowledged, outgoing_after_ack}
+use Rattle.ddcmp_window.specs.Inbox.{Incoming, answer_to_offer, incoming_after_offer, incoming_after_put, incoming_after_take, may_receive}
+use Rattle.ddcmp_core.specs.declared.state.State.{State}
+use Rattle.ddcmp_core.specs.declared.state.State.TheVariants.{Halted, IStart, AStart, Running, Maintenance}
+use Rattle.ddcmp_core.specs.declared.state.Reply.{Reply}
+use Rattle.ddcmp_core.specs.declared.state.Reply.TheVariants.{Quiet, Ack, Nak}
+use Rattle.ddcmp_core.specs.declared.state.Timer.{Timer}
+use Rattle.ddcmp_core.specs.declared.state.Timer.TheVariants.{Off, Fresh, On}
+use Rattle.ddcmp_core.specs.declared.notice.Notice.{Notice}
+use Rattle.ddcmp_core.specs.declared.notice.Notice.TheVariants as notice
+use Rattle.ddcmp_core.specs.declared.station.StartRefusal.{StartRefusal}
+use Rattle.ddcmp_core.specs.declared.station.StartRefusal.TheVariants.{NotHalted, Untaken}
 
 -- ---- the state
 
@@ -35,7 +36,7 @@ pub record Limits : Type 0 where
 -- sequence; n: the highest number sent; a: the highest number acknowledged; t: the next number to
 -- send. reply: what is owed. rep: a REP is to be sent. out: the messages kept, the first of which
 -- has the number a + 1; in Maintenance those to send.
-pub record Station : Type 0 where
+pub record StationState : Type 0 where
   pub state : State
   pub due : Bool
   pub r : ℕ
@@ -49,25 +50,25 @@ pub record Station : Type 0 where
   pub inbox : List (List ℕ)
 
 -- the numbers and messages of each direction
-abbrev pub outgoing : Station → Outgoing
+abbrev pub outgoing : StationState → Outgoing
 outgoing s = record { a = s.a; n = s.n; t = s.t; out = s.out }
 
-abbrev pub incoming : Station → Incoming
+abbrev pub incoming : StationState → Incoming
 incoming s = record { r = s.r; inbox = s.inbox }
 
-abbrev pub with_outgoing : Station → Outgoing → Station
+abbrev pub with_outgoing : StationState → Outgoing → StationState
 with_outgoing s o = record s { n = o.n; a = o.a; t = o.t; out = o.out }
 
-abbrev pub with_incoming : Station → Incoming → Station
+abbrev pub with_incoming : StationState → Incoming → StationState
 with_incoming s i = record s { r = i.r; inbox = i.inbox }
 
 -- the messages kept before t
-abbrev pub before_next : Station → ℕ
-before_next s = window.before_next (outgoing s)
+abbrev pub before_next : StationState → ℕ
+before_next s = outgoing_before_next (outgoing s)
 
 -- a station with this inbox that has sent and received nothing
-abbrev pub begun : State → Bool → List (List ℕ) → Station
-begun state due inbox = record {
+abbrev pub station_begun : State → Bool → List (List ℕ) → StationState
+station_begun state due inbox = record {
   state = state;
   due = due;
   r = 0;
@@ -81,8 +82,8 @@ begun state due inbox = record {
   inbox = inbox;
 }
 
-abbrev pub new_station : Station
-new_station = begun Halted false []
+abbrev pub new_station : StationState
+new_station = station_begun Halted false []
 
 abbrev pub is_halted : State → Bool
 is_halted Halted = true
@@ -103,70 +104,70 @@ is_starting _ = false
 
 -- ---- the user's calls
 
--- start and enter_maintenance, where the station is halted and the inbox empty
-abbrev pub may_start : Station → Bool
-may_start s = is_halted s.state && length s.inbox == 0
+-- Why start and enter_maintenance are refused: the station isn't halted, or its inbox isn't empty.
+abbrev pub start_refusal : StationState → Option StartRefusal
+start_refusal s =
+    if is_halted s.state then (if length s.inbox == 0 then None else Some Untaken) else Some NotHalted
 
-abbrev pub answer_to_start : Station → Result ℕ StartRefusal
-answer_to_start s =
-    if is_halted s.state then (if length s.inbox == 0 then Ok (length s.out) else Err Untaken)
-    else Err NotHalted
+abbrev pub may_start : StationState → Bool
+may_start s = is_none (start_refusal s)
 
-abbrev pub started : Station → Station
-started s = begun IStart true s.inbox
+abbrev pub answer_to_start : StationState → Result ℕ StartRefusal
+answer_to_start s = answer_unless (start_refusal s) (length s.out)
 
-abbrev pub in_maintenance : Station → Station
-in_maintenance s = begun Maintenance false s.inbox
+abbrev pub after_start : StationState → StationState
+after_start s = station_begun IStart true s.inbox
 
-abbrev pub halted : Station → Station
-halted s = record s { state = Halted; due = false; reply = Quiet; rep = false; timer = Off }
+abbrev pub after_enter_maintenance : StationState → StationState
+after_enter_maintenance s = station_begun Maintenance false s.inbox
 
--- send
-abbrev pub answer_to_send : Limits → Station → List ℕ → Result Seq SendRefusal
-answer_to_send l s message =
-    if is_running s.state then window.answer_to_accept l.window l.longest (outgoing s) message
-    else Err WrongState
+abbrev pub after_halt : StationState → StationState
+after_halt s = record s { state = Halted; due = false; reply = Quiet; rep = false; timer = Off }
 
-abbrev pub may_send : Limits → Station → List ℕ → Bool
-may_send l s message = is_running s.state && window.keeps l.window l.longest (outgoing s) message
+-- Why a message isn't sent: the station isn't running, or the window doesn't keep it.
+abbrev pub send_refusal : Limits → StationState → List ℕ → Option SendRefusal
+send_refusal l s message =
+    if is_running s.state then accept_refusal l.window l.longest (outgoing s) message else Some WrongState
 
-abbrev pub accepted : Station → List ℕ → Station
-accepted s message = record s { out = s.out ++ message ∷ [] }
+abbrev pub may_send : Limits → StationState → List ℕ → Bool
+may_send l s message = is_none (send_refusal l s message)
 
--- send_maintenance
-abbrev pub without_number : Result Seq SendRefusal → Result (Unit {0}) SendRefusal
-without_number (Ok number) = Ok tt
-without_number (Err refusal) = Err refusal
+abbrev pub answer_to_send : Limits → StationState → List ℕ → Result Seq SendRefusal
+answer_to_send l s message = answer_unless (send_refusal l s message) (number_accepted (outgoing s))
 
-abbrev pub answer_to_send_maintenance : Limits → Station → List ℕ → Result (Unit {0}) SendRefusal
-answer_to_send_maintenance l s message =
-    if is_maintenance s.state
-    then without_number (window.answer_to_accept l.window l.longest (outgoing s) message)
-    else Err WrongState
+abbrev pub after_accept : StationState → List ℕ → StationState
+after_accept s message = record s { out = s.out ++ message ∷ [] }
 
-abbrev pub may_send_maintenance : Limits → Station → List ℕ → Bool
-may_send_maintenance l s message =
-    is_maintenance s.state && window.keeps l.window l.longest (outgoing s) message
+-- why a maintenance message isn't sent
+abbrev pub send_maintenance_refusal : Limits → StationState → List ℕ → Option SendRefusal
+send_maintenance_refusal l s message =
+    if is_maintenance s.state then accept_refusal l.window l.longest (outgoing s) message else Some WrongState
+
+abbrev pub may_send_maintenance : Limits → StationState → List ℕ → Bool
+may_send_maintenance l s message = is_none (send_maintenance_refusal l s message)
+
+abbrev pub answer_to_send_maintenance : Limits → StationState → List ℕ → Result (Unit {0}) SendRefusal
+answer_to_send_maintenance l s message = answer_unless (send_maintenance_refusal l s message) tt
 
 -- take
-abbrev pub taken : Station → Station
-taken s = with_incoming s (window.taken (incoming s))
+abbrev pub after_take : StationState → StationState
+after_take s = with_incoming s (incoming_after_take (incoming s))
 
 -- expire
-abbrev pub expired_by : State → Station → Station
-expired_by Halted s = record s { timer = Off }
-expired_by IStart s = record s { due = true; timer = Off }
-expired_by AStart s = record s { due = true; timer = Off }
-expired_by Running s = record s { rep = if s.a == s.n then s.rep else true; timer = Off }
-expired_by Maintenance s = record s { timer = Off }
+abbrev pub after_expire_in : State → StationState → StationState
+after_expire_in Halted s = record s { timer = Off }
+after_expire_in IStart s = record s { due = true; timer = Off }
+after_expire_in AStart s = record s { due = true; timer = Off }
+after_expire_in Running s = record s { rep = if s.a == s.n then s.rep else true; timer = Off }
+after_expire_in Maintenance s = record s { timer = Off }
 
-abbrev pub expired_at : Timer → Station → Station
-expired_at Off s = s
-expired_at Fresh s = expired_by s.state s
-expired_at On s = expired_by s.state s
+abbrev pub after_expire_with : Timer → StationState → StationState
+after_expire_with Off s = s
+after_expire_with Fresh s = after_expire_in s.state s
+after_expire_with On s = after_expire_in s.state s
 
-abbrev pub expired : Station → Station
-expired s = expired_at s.timer s
+abbrev pub after_expire : StationState → StationState
+after_expire s = after_expire_with s.timer s
 
 abbrev pub is_on : Timer → Bool
 is_on Off = false
@@ -178,8 +179,8 @@ abbrev pub is_fresh : Timer → Bool
 is_fresh Fresh = true
 is_fresh _ = false
 
-abbrev pub armed : Station → Station
-armed s = record s { timer = if is_fresh s.timer then On else s.timer }
+abbrev pub after_take_arm : StationState → StationState
+after_take_arm s = record s { timer = if is_fresh s.timer then On else s.timer }
 
 -- ---- what comes
 
@@ -194,235 +195,232 @@ pub data Frame : Type 0 where
   Maint : List ℕ → Frame
 
 -- what the reader gives; of damaged data and of a frame too long it matters whether it is a data message
-pub data Heard : Type 0 where
-  Good : Frame → Heard
-  Bad_header : Heard
-  Bad_data : (of_data : Bool) → Heard
-  Too_long : (of_data : Bool) → Heard
-  Bad_format : Heard
+pub data Received : Type 0 where
+  Good : Frame → Received
+  BadHeader : Received
+  BadData : (of_data : Bool) → Received
+  TooLong : (of_data : Bool) → Received
+  BadFormat : Received
 
 -- acknowledging q: how many messages are newly acknowledged
-abbrev pub newly : Station → ℕ → ℕ
-newly s q = window.newly (outgoing s) q
+abbrev pub newly_acknowledged : StationState → ℕ → ℕ
+newly_acknowledged s q = count_acknowledged (outgoing s) q
 
-abbrev pub acknowledging : Station → ℕ → Station
-acknowledging s q =
-    record (with_outgoing s (window.acknowledging (outgoing s) q)) {
-      rep = if newly s q == 0 then s.rep else false;
-      timer = if newly s q == 0 then s.timer else (if q == s.n then Off else Fresh);
+abbrev pub after_ack : StationState → ℕ → StationState
+after_ack s q =
+    record (with_outgoing s (outgoing_after_ack (outgoing s) q)) {
+      rep = if newly_acknowledged s q == 0 then s.rep else false;
+      timer = if newly_acknowledged s q == 0 then s.timer else (if q == s.n then Off else Fresh);
     }
 
-abbrev pub told : ℕ → Option Notice
-told m = if m == 0 then None else Some (notice.Acknowledged m)
+abbrev pub acknowledged_notice : ℕ → Option Notice
+acknowledged_notice m = if m == 0 then None else Some (notice.Acknowledged m)
 
 -- Halted
-abbrev pub told_halted : Heard → Option Notice
-told_halted (Good Strt) = Some notice.PeerStarts
-told_halted (Good (Maint message)) = Some notice.MaintenanceSeen
-told_halted _ = None
+abbrev pub halted_notice : Received → Option Notice
+halted_notice (Good Strt) = Some notice.PeerStarts
+halted_notice (Good (Maint message)) = Some notice.MaintenanceSeen
+halted_notice _ = None
 
 -- Maintenance
-abbrev pub on_maintenance : Limits → Station → Heard → Station
-on_maintenance l s (Good (Maint message)) = with_incoming s (window.put l.room (incoming s) message)
+abbrev pub on_maintenance : Limits → StationState → Received → StationState
+on_maintenance l s (Good (Maint message)) = with_incoming s (incoming_after_put l.room (incoming s) message)
 on_maintenance l s _ = s
 
-abbrev pub has_room : Limits → Station → Bool
+abbrev pub has_room : Limits → StationState → Bool
 has_room l s = nat_lt (length s.inbox) l.room
 
-abbrev pub told_maintenance : Limits → Station → Heard → Option Notice
-told_maintenance l s (Good Strt) = Some notice.PeerStarts
-told_maintenance l s (Good (Maint message)) = Some (if has_room l s then notice.MaintenanceHandedUp else notice.MaintenanceDropped)
-told_maintenance l s _ = None
+abbrev pub maintenance_notice : Limits → StationState → Received → Option Notice
+maintenance_notice l s (Good Strt) = Some notice.PeerStarts
+maintenance_notice l s (Good (Maint message)) = Some (if has_room l s then notice.MaintenanceHandedUp else notice.MaintenanceDropped)
+maintenance_notice l s _ = None
 
 -- Running: good data
-abbrev pub takes : Limits → Station → ℕ → Bool
-takes l s num = window.takes l.room (incoming s) num
+abbrev pub takes_data : Limits → StationState → ℕ → Bool
+takes_data l s num = may_receive l.room (incoming s) num
 
 abbrev pub reply_to_offer : Offer → Reply → Reply
 reply_to_offer offer.Accepted reply = Ack
 reply_to_offer offer.NoRoom reply = Nak reason.NoBuffer
 reply_to_offer offer.OutOfSequence reply = reply
 
-abbrev pub put : Limits → Station → ℕ → List ℕ → Station
-put l s num message =
-    record (with_incoming s (window.offered l.room (incoming s) num message)) {
-      reply = reply_to_offer (window.answer_to_offer l.room (incoming s) num) s.reply;
+abbrev pub after_offer : Limits → StationState → ℕ → List ℕ → StationState
+after_offer l s num message =
+    record (with_incoming s (incoming_after_offer l.room (incoming s) num message)) {
+      reply = reply_to_offer (answer_to_offer l.room (incoming s) num) s.reply;
     }
 
-abbrev pub on_data : Limits → Station → ℕ → ℕ → List ℕ → Station
-on_data l s resp num message = put l (acknowledging s resp) num message
+abbrev pub on_data : Limits → StationState → ℕ → ℕ → List ℕ → StationState
+on_data l s resp num message = after_offer l (after_ack s resp) num message
 
-abbrev pub told_data : Limits → Station → ℕ → ℕ → Option Notice
-told_data l s resp num =
-    if takes l s num
-    then Some (if newly s resp == 0 then notice.HandedUp else notice.HandedUpAndAcknowledged (newly s resp))
-    else told (newly s resp)
+abbrev pub data_notice : Limits → StationState → ℕ → ℕ → Option Notice
+data_notice l s resp num =
+    if takes_data l s num
+    then Some (if newly_acknowledged s resp == 0 then notice.HandedUp else notice.HandedUpAndAcknowledged (newly_acknowledged s resp))
+    else acknowledged_notice (newly_acknowledged s resp)
 
 -- Running: a NAK, a REP and a STRT
-abbrev pub on_nak : Station → ℕ → Station
+abbrev pub on_nak : StationState → ℕ → StationState
 on_nak s resp =
     if is_within s.a resp s.n
-    then (let u = acknowledging s resp in record u { t = next_number u.a; rep = false; timer = Off })
+    then (let u = after_ack s resp in record u { t = next_number u.a; rep = false; timer = Off })
     else s
 
-abbrev pub on_rep : Station → ℕ → Station
+abbrev pub on_rep : StationState → ℕ → StationState
 on_rep s num = record s { reply = if num == s.r then Ack else Nak reason.ReplyToRep }
 
-abbrev pub may_restart : Limits → Station → Bool
+abbrev pub may_restart : Limits → StationState → Bool
 may_restart l s = l.restart && length s.inbox == 0
 
-abbrev pub restarted : Station → Station
-restarted s = begun AStart true s.inbox
+abbrev pub after_restart : StationState → StationState
+after_restart s = station_begun AStart true s.inbox
 
-abbrev pub on_strt : Limits → Station → Station
-on_strt l s = if may_restart l s then restarted s else halted s
+abbrev pub on_strt : Limits → StationState → StationState
+on_strt l s = if may_restart l s then after_restart s else after_halt s
 
-abbrev pub told_strt : Limits → Station → Notice
-told_strt l s = if may_restart l s then notice.Restarted (length s.out) else notice.PeerRestarted
+abbrev pub strt_notice : Limits → StationState → Notice
+strt_notice l s = if may_restart l s then notice.Restarted (length s.out) else notice.PeerRestarted
 
 -- IStart
-abbrev pub running : Station → Station
-running s = record s { state = Running; due = false; timer = Off }
+abbrev pub after_startup : StationState → StationState
+after_startup s = record s { state = Running; due = false; timer = Off }
 
-abbrev pub on_istart : Station → Heard → Station
+abbrev pub on_istart : StationState → Received → StationState
 on_istart s (Good Strt) = record s { state = AStart; due = true; timer = Off }
-on_istart s (Good Stack) = record (running s) { reply = Ack }
+on_istart s (Good Stack) = record (after_startup s) { reply = Ack }
 on_istart s _ = s
 
-abbrev pub told_istart : Heard → Option Notice
-told_istart (Good Stack) = Some notice.Running
-told_istart (Good (Maint message)) = Some notice.MaintenanceSeen
-told_istart _ = None
+abbrev pub istart_notice : Received → Option Notice
+istart_notice (Good Stack) = Some notice.Running
+istart_notice (Good (Maint message)) = Some notice.MaintenanceSeen
+istart_notice _ = None
 
 -- AStart
-abbrev pub on_astart : Limits → Station → Heard → Station
-on_astart l s (Good Stack) = record (running s) { reply = Ack }
+abbrev pub on_astart : Limits → StationState → Received → StationState
+on_astart l s (Good Stack) = record (after_startup s) { reply = Ack }
 on_astart l s (Good Strt) = record s { due = true }
-on_astart l s (Good (Acked resp)) = if resp == 0 then running s else s
-on_astart l s (Good (Data resp num message)) = if resp == 0 then on_data l (running s) resp num message else s
+on_astart l s (Good (Acked resp)) = if resp == 0 then after_startup s else s
+on_astart l s (Good (Data resp num message)) = if resp == 0 then on_data l (after_startup s) resp num message else s
 on_astart l s _ = s
 
-abbrev pub told_astart : Limits → Station → Heard → Option Notice
-told_astart l s (Good Stack) = Some notice.Running
-told_astart l s (Good (Acked resp)) = if resp == 0 then Some notice.Running else None
-told_astart l s (Good (Data resp num message)) =
-    if resp == 0 then Some (if takes l s num then notice.RunningAndHandedUp else notice.Running) else None
-told_astart l s (Good (Maint message)) = Some notice.MaintenanceSeen
-told_astart l s _ = None
+abbrev pub astart_notice : Limits → StationState → Received → Option Notice
+astart_notice l s (Good Stack) = Some notice.Running
+astart_notice l s (Good (Acked resp)) = if resp == 0 then Some notice.Running else None
+astart_notice l s (Good (Data resp num message)) =
+    if resp == 0 then Some (if takes_data l s num then notice.RunningAndHandedUp else notice.Running) else None
+astart_notice l s (Good (Maint message)) = Some notice.MaintenanceSeen
+astart_notice l s _ = None
 
 -- Running
-abbrev pub on_running : Limits → Station → Heard → Station
+abbrev pub on_running : Limits → StationState → Received → StationState
 on_running l s (Good Strt) = on_strt l s
 on_running l s (Good Stack) = record s { reply = Ack }
-on_running l s (Good (Acked resp)) = acknowledging s resp
+on_running l s (Good (Acked resp)) = after_ack s resp
 on_running l s (Good (Naked why resp)) = on_nak s resp
 on_running l s (Good (Rep num)) = on_rep s num
 on_running l s (Good (Data resp num message)) = on_data l s resp num message
 on_running l s (Good (Maint message)) = s
-on_running l s Bad_header = record s { reply = Nak reason.HeaderCheck }
-on_running l s (Bad_data of_data) = record s { reply = if of_data then Nak reason.DataCheck else s.reply }
-on_running l s (Too_long of_data) = record s { reply = if of_data then Nak reason.TooLong else s.reply }
-on_running l s Bad_format = record s { reply = Nak reason.Format }
+on_running l s BadHeader = record s { reply = Nak reason.HeaderCheck }
+on_running l s (BadData of_data) = record s { reply = if of_data then Nak reason.DataCheck else s.reply }
+on_running l s (TooLong of_data) = record s { reply = if of_data then Nak reason.TooLong else s.reply }
+on_running l s BadFormat = record s { reply = Nak reason.Format }
 
-abbrev pub told_running : Limits → Station → Heard → Option Notice
-told_running l s (Good Strt) = Some (told_strt l s)
-told_running l s (Good (Acked resp)) = told (newly s resp)
-told_running l s (Good (Naked why resp)) = told (newly s resp)
-told_running l s (Good (Data resp num message)) = told_data l s resp num
-told_running l s (Good (Maint message)) = Some notice.MaintenanceSeen
-told_running l s _ = None
+abbrev pub running_notice : Limits → StationState → Received → Option Notice
+running_notice l s (Good Strt) = Some (strt_notice l s)
+running_notice l s (Good (Acked resp)) = acknowledged_notice (newly_acknowledged s resp)
+running_notice l s (Good (Naked why resp)) = acknowledged_notice (newly_acknowledged s resp)
+running_notice l s (Good (Data resp num message)) = data_notice l s resp num
+running_notice l s (Good (Maint message)) = Some notice.MaintenanceSeen
+running_notice l s _ = None
 
 -- in each state
-abbrev pub on_by : State → Limits → Station → Heard → Station
+abbrev pub on_by : State → Limits → StationState → Received → StationState
 on_by Halted l s h = s
 on_by IStart l s h = on_istart s h
 on_by AStart l s h = on_astart l s h
 on_by Running l s h = on_running l s h
 on_by Maintenance l s h = on_maintenance l s h
 
-unfoldable pub on : Limits → Station → Heard → Station
+unfoldable pub on : Limits → StationState → Received → StationState
 on l s h = on_by s.state l s h
 
-abbrev pub notice_by : State → Limits → Station → Heard → Option Notice
-notice_by Halted l s h = told_halted h
-notice_by IStart l s h = told_istart h
-notice_by AStart l s h = told_astart l s h
-notice_by Running l s h = told_running l s h
-notice_by Maintenance l s h = told_maintenance l s h
+abbrev pub notice_by : State → Limits → StationState → Received → Option Notice
+notice_by Halted l s h = halted_notice h
+notice_by IStart l s h = istart_notice h
+notice_by AStart l s h = astart_notice l s h
+notice_by Running l s h = running_notice l s h
+notice_by Maintenance l s h = maintenance_notice l s h
 
-unfoldable pub notice_of : Limits → Station → Heard → Option Notice
+unfoldable pub notice_of : Limits → StationState → Received → Option Notice
 notice_of l s h = notice_by s.state l s h
 
 -- the number of messages that a notice tells acknowledged
-abbrev pub number_in : Option Notice → ℕ
-number_in None = 0
-number_in (Some (notice.Acknowledged m)) = m
-number_in (Some (notice.HandedUpAndAcknowledged m)) = m
-number_in (Some _) = 0
-
--- 1 where the station began anew
-abbrev pub restarts_in : Option Notice → ℕ
-restarts_in (Some (notice.Restarted m)) = 1
-restarts_in _ = 0
+abbrev pub acknowledged_by : Option Notice → ℕ
+acknowledged_by None = 0
+acknowledged_by (Some (notice.Acknowledged m)) = m
+acknowledged_by (Some (notice.HandedUpAndAcknowledged m)) = m
+acknowledged_by (Some _) = 0
 
 -- ---- what is sent next, and the station after it
 
-pub data Turn : Type 0 where
-  Idle : Turn
-  Sends : Frame → Station → Turn
+pub data Next : Type 0 where
+  Idle : Next
+  Sends : Frame → StationState → Next
 
-abbrev pub frame_in : Turn → Option Frame
-frame_in Idle = None
-frame_in (Sends frame u) = Some frame
+abbrev pub next_frame : Next → Option Frame
+next_frame Idle = None
+next_frame (Sends frame u) = Some frame
 
-abbrev pub after_turn : Turn → Station → Station
-after_turn Idle s = s
-after_turn (Sends frame u) s = u
+abbrev pub after_next : Next → StationState → StationState
+after_next Idle s = s
+after_next (Sends frame u) s = u
 
 -- a timer that is off is started
-abbrev pub timed : Timer → Timer
-timed Off = Fresh
-timed Fresh = Fresh
-timed On = On
+abbrev pub timer_started : Timer → Timer
+timer_started Off = Fresh
+timer_started Fresh = Fresh
+timer_started On = On
 
-abbrev pub sent_data : Station → Station
-sent_data s =
+-- a message is kept that has the number t
+abbrev pub has_message : StationState → Bool
+has_message s = nat_lt (before_next s) (length s.out)
+
+abbrev pub message_at_next : StationState → List ℕ
+message_at_next s = slice_index_or s.out (before_next s) []
+
+abbrev pub after_data : StationState → StationState
+after_data s =
     record s {
       n = if s.t == next_number s.n then s.t else s.n;
       t = next_number s.t;
       reply = Quiet;
-      timer = timed s.timer;
+      timer = timer_started s.timer;
     }
 
-abbrev pub next_data : Station → Turn
-next_data s =
-    if nat_lt (before_next s) (length s.out)
-    then Sends (Data s.r s.t (slice_index_or s.out (before_next s) [])) (sent_data s)
+abbrev pub is_ack : Reply → Bool
+is_ack Ack = true
+is_ack _ = false
+
+-- Running: the first of these that fits. A NAK is owed, a REP is to be sent, a message is kept that
+-- isn't sent since the last NAK, or an ACK is owed, which data would have carried.
+abbrev pub next_running : Reply → StationState → Next
+next_running (Nak why) s = Sends (Naked why s.r) (record s { reply = Quiet })
+next_running reply s =
+    if s.rep then Sends (Rep s.n) (record s { rep = false; timer = Fresh })
+    else if has_message s then Sends (Data s.r s.t (message_at_next s)) (after_data s)
+    else if is_ack reply then Sends (Acked s.r) (record s { reply = Quiet })
     else Idle
 
--- behind the data, where an ACK is owed
-abbrev pub or_ack : Turn → Station → Turn
-or_ack (Sends frame u) s = Sends frame u
-or_ack Idle s = Sends (Acked s.r) (record s { reply = Quiet })
-
-abbrev pub or_rep : Turn → Station → Turn
-or_rep turn s = if s.rep then Sends (Rep s.n) (record s { rep = false; timer = Fresh }) else turn
-
-abbrev pub next_running : Reply → Station → Turn
-next_running (Nak why) s = Sends (Naked why s.r) (record s { reply = Quiet })
-next_running Ack s = or_rep (or_ack (next_data s) s) s
-next_running Quiet s = or_rep (next_data s) s
-
-abbrev pub next_maintenance : List (List ℕ) → Station → Turn
+abbrev pub next_maintenance : List (List ℕ) → StationState → Next
 next_maintenance [] s = Idle
 next_maintenance (message ∷ rest) s = Sends (Maint message) (record s { out = rest })
 
-abbrev pub next_by : State → Station → Turn
+abbrev pub next_by : State → StationState → Next
 next_by Halted s = Idle
 next_by IStart s = if s.due then Sends Strt (record s { due = false; timer = Fresh }) else Idle
 next_by AStart s = if s.due then Sends Stack (record s { due = false; timer = Fresh }) else Idle
 next_by Running s = next_running s.reply s
 next_by Maintenance s = next_maintenance s.out s
 
-unfoldable pub next : Station → Turn
+unfoldable pub next : StationState → Next
 next s = next_by s.state s

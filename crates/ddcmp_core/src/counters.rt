@@ -1,9 +1,9 @@
-// Counters of what a station did and saw.
+//! Counters of what a station did and saw.
 ghost use Rattle.std.specs.Prelude.{◌≡◌, ◌≤◌, length};
-ghost use Rattle.ddcmp_core.specs.Counting.{counted, nak_counted, sent_counted, again_counted, up_counted, fault_counted, no_naks, no_counts};
-ghost use Rattle.ddcmp_core.specs.Frames.{heard};
+ghost use Rattle.ddcmp_core.specs.Counting.{count_plus, nak_counts_after, counters_after_sent, counters_after_again, counters_after_up, counters_after_fault, no_naks, no_counts};
+ghost use Rattle.ddcmp_core.specs.Frames.{received};
 
-use crate::kinds::Input;
+use crate::input::Input;
 use ddcmp_frame::Nak;
 
 /// NAKs by their reasons.
@@ -50,7 +50,7 @@ pub struct Counters {
 
 /// Adds to a counter, which goes no further than its largest value.
 fn add(count: &mut u32, more: u32)
-    ensures { count.new ≡ counted count.old more }
+    ensures { count.new ≡ count_plus count.old more }
 {
     *count = count.saturating_add(more);
 }
@@ -72,7 +72,7 @@ impl NakCounts {
     }
 
     fn count(&mut self, reason: Nak)
-        ensures { self.new ≡ nak_counted reason self.old }
+        ensures { self.new ≡ nak_counts_after reason self.old }
     {
         match reason {
             Nak::HeaderCheck => add(&mut self.header_check, 1),
@@ -111,25 +111,25 @@ impl Counters {
     }
 
     pub(crate) fn nak_sent(&mut self, reason: Nak)
-        ensures { self.new ≡ record self.old { nak_sent = nak_counted reason self.old.nak_sent } }
+        ensures { self.new ≡ record self.old { nak_sent = nak_counts_after reason self.old.nak_sent } }
     {
         self.nak_sent.count(reason);
     }
 
     pub(crate) fn nak_received(&mut self, reason: Nak)
-        ensures { self.new ≡ record self.old { nak_received = nak_counted reason self.old.nak_received } }
+        ensures { self.new ≡ record self.old { nak_received = nak_counts_after reason self.old.nak_received } }
     {
         self.nak_received.count(reason);
     }
 
     pub(crate) fn rep_sent(&mut self)
-        ensures { self.new ≡ record self.old { rep_sent = counted self.old.rep_sent 1 } }
+        ensures { self.new ≡ record self.old { rep_sent = count_plus self.old.rep_sent 1 } }
     {
         add(&mut self.rep_sent, 1);
     }
 
     pub(crate) fn rep_received(&mut self)
-        ensures { self.new ≡ record self.old { rep_received = counted self.old.rep_received 1 } }
+        ensures { self.new ≡ record self.old { rep_received = count_plus self.old.rep_received 1 } }
     {
         add(&mut self.rep_received, 1);
     }
@@ -137,7 +137,7 @@ impl Counters {
     /// A message of this many bytes was sent for the first time.
     pub(crate) fn sent(&mut self, bytes: usize)
         requires { bytes ≤ 16383 }
-        ensures { self.new ≡ sent_counted bytes self.old }
+        ensures { self.new ≡ counters_after_sent bytes self.old }
     {
         add(&mut self.messages_sent, 1);
         add(&mut self.bytes_sent, bytes as u32);
@@ -146,7 +146,7 @@ impl Counters {
     /// A message of this many bytes was sent again.
     pub(crate) fn again(&mut self, bytes: usize)
         requires { bytes ≤ 16383 }
-        ensures { self.new ≡ again_counted bytes self.old }
+        ensures { self.new ≡ counters_after_again bytes self.old }
     {
         add(&mut self.messages_again, 1);
         add(&mut self.bytes_again, bytes as u32);
@@ -155,21 +155,21 @@ impl Counters {
     /// A message of this many bytes is in the inbox.
     pub(crate) fn up(&mut self, bytes: usize)
         requires { bytes ≤ 16383 }
-        ensures { self.new ≡ up_counted bytes self.old }
+        ensures { self.new ≡ counters_after_up bytes self.old }
     {
         add(&mut self.messages_up, 1);
         add(&mut self.bytes_up, bytes as u32);
     }
 
     pub(crate) fn expired(&mut self)
-        ensures { self.new ≡ record self.old { expiries = counted self.old.expiries 1 } }
+        ensures { self.new ≡ record self.old { expiries = count_plus self.old.expiries 1 } }
     {
         add(&mut self.expiries, 1);
     }
 
     /// What came, where it is a fault.
     pub(crate) fn fault(&mut self, input: &Input<'_>)
-        ensures { self.new ≡ fault_counted (heard input.now) self.old }
+        ensures { self.new ≡ counters_after_fault (received input.now) self.old }
     {
         match input {
             Input::Good(_, _) => {}

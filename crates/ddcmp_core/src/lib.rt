@@ -2,17 +2,21 @@
 #![tactic(auto)]
 
 mod counters;
-mod kinds;
+mod input;
 mod laws;
+mod notice;
+mod state;
 mod station;
 
 pub use counters::{Counters, NakCounts};
 pub use ddcmp_frame::{ControlType, Counted, Flags, Header, Nak, Short};
-pub use ddcmp_window::{SendRefusal, Seq, Store};
-pub use kinds::{Input, Notice, Numbers, Reply, StartRefusal, State, Timer};
+pub use ddcmp_window::{MAX_COUNT, MAX_WINDOW, SendRefusal, Seq, Store};
+pub use input::Input;
 pub use laws::{
     acknowledges_what_was_sent, begins_with_nothing, leaves_istart_for_good, runs_after_startup,
     sends_for_a_reason, sends_in_window, sends_what_is_read, starts_in_state, stays_sound,
     stays_timed, tells_what_leaves,
 };
-pub use station::Core;
+pub use notice::Notice;
+pub use state::{Reply, State, Timer};
+pub use station::{Core, Numbers, StartRefusal};

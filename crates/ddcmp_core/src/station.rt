@@ -1,11 +1,32 @@
-// A station over two stores.
-mod hearing;
+//! A station over two stores.
+mod receiving;
 mod sending;
 
 use crate::counters::Counters;
-use crate::kinds::{Numbers, Reply, StartRefusal, State, Timer};
+use crate::state::{Reply, State, Timer};
 use ddcmp_window::{Inbox, SendRefusal, Sender, Seq, Store};
 use std::marker::Model;
+
+/// Why a station isn't started. The first that fits is answered.
+#[derive(Clone, Copy, Debug, PartialEq, Eq)]
+pub enum StartRefusal {
+    NotHalted,
+    /// The inbox isn't empty.
+    Untaken,
+}
+
+/// The numbers of a station.
+#[derive(Clone, Copy, Debug, PartialEq, Eq)]
+pub struct Numbers {
+    /// The highest number received in sequence.
+    pub r: Seq,
+    /// The highest number sent.
+    pub n: Seq,
+    /// The highest number acknowledged.
+    pub a: Seq,
+    /// The next number to send.
+    pub t: Seq,
+}
 
 /// One end of a link: its state, flags and numbers, the messages that it sends, an inbox of those
 /// that came, and counters.
@@ -27,9 +48,11 @@ pub struct Core<S: Store> {
 
 impl<S: Store> Model for Core<S> {
     ghost use Rattle.std.specs.Prelude.{◌≡◌, ℕ};
-    ghost use Rattle.ddcmp_core.specs.Kept.{Kept, FitsState};
+    ghost use Rattle.ddcmp_window.specs.Sender.{IsSoundSender};
+    ghost use Rattle.ddcmp_window.specs.Inbox.{IsSoundInbox};
+    ghost use Rattle.ddcmp_core.specs.Core.{CoreView, FitsState};
 
-    ghost Value = { Kept };
+    ghost Value = { CoreView };
 
     ghost view = { λ c. record {
       limits = record {
@@ -54,27 +77,28 @@ impl<S: Store> Model for Core<S> {
       counters = c.counters;
     } };
 
-    ghost invariant = { λ c. (c.sender.longest ≡ c.inbox.longest) × FitsState (record {
-      state = c.state;
-      due = c.due;
-      r = c.inbox.incoming.r;
-      n = c.sender.outgoing.n;
-      a = c.sender.outgoing.a;
-      t = c.sender.outgoing.t;
-      reply = c.reply;
-      rep = c.rep;
-      timer = c.timer;
-      out = c.sender.outgoing.out;
-      inbox = c.inbox.incoming.inbox;
-    }) };
+    ghost invariant = { λ c. (c.sender.longest ≡ c.inbox.longest) × IsSoundSender c.sender × IsSoundInbox c.inbox
+        × FitsState (record {
+          state = c.state;
+          due = c.due;
+          r = c.inbox.incoming.r;
+          n = c.sender.outgoing.n;
+          a = c.sender.outgoing.a;
+          t = c.sender.outgoing.t;
+          reply = c.reply;
+          rep = c.rep;
+          timer = c.timer;
+          out = c.sender.outgoing.out;
+          inbox = c.inbox.incoming.inbox;
+        }) };
 }
 
 impl<S: Store> Core<S> {
     ghost use Rattle.std.specs.Prelude.{◌≡◌, ◌≢◌, ◌↔◌, ◌+◌, ◌*◌, ◌<◌, ◌≤◌, [], length, sum_by, slice_index_or, IsTrue, Some, Ok, Err, OnErr, option_map, if◌then◌else◌};
-    ghost use Rattle.ddcmp_window.specs.Window.{first, written};
-    ghost use Rattle.ddcmp_core.specs.Table.{new_station, may_start, answer_to_start, started, in_maintenance, begun, halted, answer_to_send, may_send, accepted, answer_to_send_maintenance, may_send_maintenance, taken, expired, is_on, is_fresh, armed};
-    ghost use Rattle.ddcmp_core.specs.Counting.{no_counts, expired_counted};
-    ghost use Rattle.ddcmp_core.specs.Kept.{IsSound};
+    ghost use Rattle.ddcmp_window.specs.Store.{first_message, with_front};
+    ghost use Rattle.ddcmp_core.specs.Table.{new_station, may_start, answer_to_start, after_start, after_enter_maintenance, station_begun, after_halt, answer_to_send, may_send, after_accept, answer_to_send_maintenance, may_send_maintenance, after_take, after_expire, is_on, is_fresh, after_take_arm};
+    ghost use Rattle.ddcmp_core.specs.Counting.{no_counts, counters_after_expire};
+    ghost use Rattle.ddcmp_core.specs.Core.{IsSound};
 
     /// A halted station that keeps the messages to send in `out` and those that came in `inbox`.
     pub fn new(out: S, inbox: S, restart: bool) -> Self
@@ -108,16 +132,10 @@ impl<S: Store> Core<S> {
     /// Asks the peer to start: how many messages that waited to be sent were dropped.
     pub fn start(&mut self) -> Result<u8, StartRefusal>
         ensures state { self.new ≡ record self.old {
-          station = if may_start self.old.station then started self.old.station else self.old.station;
+          station = if may_start self.old.station then after_start self.old.station else self.old.station;
         } }
         ensures answer { result ≡ answer_to_start self.old.station }
         ensures refused { OnErr result (self.new ≡ self.old) }
-
-        // When each refusal comes.
-        ensures not_halted { (result ≡ Err StartRefusal.NotHalted)
-            ↔ (self.old.station.state ≢ State.Halted) }
-        ensures untaken { (result ≡ Err StartRefusal.Untaken)
-            ↔ ((self.old.station.state ≡ State.Halted) × (1 ≤ length self.old.station.inbox)) }
     {
         self.begin_halted(State::IStart, true)
     }
@@ -125,16 +143,10 @@ impl<S: Store> Core<S> {
     /// Enters the state of maintenance: how many messages that waited to be sent were dropped.
     pub fn enter_maintenance(&mut self) -> Result<u8, StartRefusal>
         ensures state { self.new ≡ record self.old {
-          station = if may_start self.old.station then in_maintenance self.old.station else self.old.station;
+          station = if may_start self.old.station then after_enter_maintenance self.old.station else self.old.station;
         } }
         ensures answer { result ≡ answer_to_start self.old.station }
         ensures refused { OnErr result (self.new ≡ self.old) }
-
-        // When each refusal comes.
-        ensures not_halted { (result ≡ Err StartRefusal.NotHalted)
-            ↔ (self.old.station.state ≢ State.Halted) }
-        ensures untaken { (result ≡ Err StartRefusal.Untaken)
-            ↔ ((self.old.station.state ≡ State.Halted) × (1 ≤ length self.old.station.inbox)) }
     {
         self.begin_halted(State::Maintenance, false)
     }
@@ -142,7 +154,7 @@ impl<S: Store> Core<S> {
     /// Begins in a state where it is halted and its inbox empty: how many messages were dropped.
     fn begin_halted(&mut self, state: State, due: bool) -> Result<u8, StartRefusal>
         ensures state { self.new ≡ record self.old {
-          station = if may_start self.old.station then begun state due self.old.station.inbox else self.old.station;
+          station = if may_start self.old.station then station_begun state due self.old.station.inbox else self.old.station;
         } }
         ensures answer { result ≡ answer_to_start self.old.station }
     {
@@ -158,7 +170,7 @@ impl<S: Store> Core<S> {
     /// Begins with an empty inbox in a state: how many messages were dropped.
     fn begin(&mut self, state: State, due: bool) -> u8
         requires { length self.old.station.inbox ≡ 0 }
-        ensures state { self.new ≡ record self.old { station = begun state due self.old.station.inbox } }
+        ensures state { self.new ≡ record self.old { station = station_begun state due self.old.station.inbox } }
         ensures dropped { result ≡ length self.old.station.out }
     {
         let dropped = self.sender.reset();
@@ -173,7 +185,7 @@ impl<S: Store> Core<S> {
 
     /// Sends and takes nothing more. Numbers and messages stay.
     pub fn halt(&mut self)
-        ensures { self.new ≡ record self.old { station = halted self.old.station } }
+        ensures { self.new ≡ record self.old { station = after_halt self.old.station } }
     {
         self.state = State::Halted;
         self.due = false;
@@ -186,21 +198,10 @@ impl<S: Store> Core<S> {
     pub fn send(&mut self, message: &[u8]) -> Result<Seq, SendRefusal>
         ensures state { self.new ≡ record self.old {
           station = if may_send self.old.limits self.old.station message.now
-              then accepted self.old.station message.now else self.old.station;
+              then after_accept self.old.station message.now else self.old.station;
         } }
         ensures answer { result ≡ answer_to_send self.old.limits self.old.station message.now }
         ensures refused { OnErr result (self.new ≡ self.old) }
-
-        // When each refusal comes.
-        ensures wrong_state { (result ≡ Err SendRefusal.WrongState)
-            ↔ (self.old.station.state ≢ State.Running) }
-        ensures empty { (result ≡ Err SendRefusal.Empty)
-            ↔ ((self.old.station.state ≡ State.Running) × (length message.now ≡ 0)) }
-        ensures too_long { (result ≡ Err SendRefusal.TooLong)
-            ↔ ((self.old.station.state ≡ State.Running) × (self.old.limits.longest < length message.now)) }
-        ensures window_full { (result ≡ Err SendRefusal.WindowFull)
-            ↔ ((self.old.station.state ≡ State.Running) × (1 ≤ length message.now)
-            × (length message.now ≤ self.old.limits.longest) × (self.old.limits.window ≤ length self.old.station.out)) }
     {
         if self.state != State::Running {
             return Err(SendRefusal::WrongState);
@@ -212,21 +213,10 @@ impl<S: Store> Core<S> {
     pub fn send_maintenance(&mut self, message: &[u8]) -> Result<(), SendRefusal>
         ensures state { self.new ≡ record self.old {
           station = if may_send_maintenance self.old.limits self.old.station message.now
-              then accepted self.old.station message.now else self.old.station;
+              then after_accept self.old.station message.now else self.old.station;
         } }
         ensures answer { result ≡ answer_to_send_maintenance self.old.limits self.old.station message.now }
         ensures refused { OnErr result (self.new ≡ self.old) }
-
-        // When each refusal comes.
-        ensures wrong_state { (result ≡ Err SendRefusal.WrongState)
-            ↔ (self.old.station.state ≢ State.Maintenance) }
-        ensures empty { (result ≡ Err SendRefusal.Empty)
-            ↔ ((self.old.station.state ≡ State.Maintenance) × (length message.now ≡ 0)) }
-        ensures too_long { (result ≡ Err SendRefusal.TooLong)
-            ↔ ((self.old.station.state ≡ State.Maintenance) × (self.old.limits.longest < length message.now)) }
-        ensures window_full { (result ≡ Err SendRefusal.WindowFull)
-            ↔ ((self.old.station.state ≡ State.Maintenance) × (1 ≤ length message.now)
-            × (length message.now ≤ self.old.limits.longest) × (self.old.limits.window ≤ length self.old.station.out)) }
     {
         if self.state != State::Maintenance {
             return Err(SendRefusal::WrongState);
@@ -240,9 +230,9 @@ impl<S: Store> Core<S> {
     /// Moves the first message of the inbox to the front of `out`, and answers its length.
     pub fn take(&mut self, out: &mut [u8]) -> Option<usize>
         requires { self.old.limits.longest ≤ length out.old }
-        ensures state { self.new ≡ record self.old { station = taken self.old.station } }
-        ensures length { result ≡ option_map length (first self.old.station.inbox) }
-        ensures out { out.new ≡ written (first self.old.station.inbox) out.old }
+        ensures state { self.new ≡ record self.old { station = after_take self.old.station } }
+        ensures length { result ≡ option_map length (first_message self.old.station.inbox) }
+        ensures out { out.new ≡ with_front (first_message self.old.station.inbox) out.old }
     {
         self.inbox.take(out)
     }
@@ -250,8 +240,8 @@ impl<S: Store> Core<S> {
     /// The timer has run out: whether it was on.
     pub fn expire(&mut self) -> bool
         ensures state { self.new ≡ record self.old {
-          station = expired self.old.station;
-          counters = expired_counted self.old.station self.old.counters;
+          station = after_expire self.old.station;
+          counters = counters_after_expire self.old.station self.old.counters;
         } }
         ensures answer { result ≡ is_on self.old.station.timer }
     {
@@ -274,7 +264,7 @@ impl<S: Store> Core<S> {
 
     /// Whether the timer was started since this was last asked: the caller sets its deadline.
     pub fn take_arm(&mut self) -> bool
-        ensures state { self.new ≡ record self.old { station = armed self.old.station } }
+        ensures state { self.new ≡ record self.old { station = after_take_arm self.old.station } }
         ensures answer { result ≡ is_fresh self.old.station.timer }
     {
         if self.timer != Timer::Fresh {
@@ -335,9 +325,8 @@ impl<S: Store> Core<S> {
         requires there { i < length self.now.station.inbox }
         requires longest { self.now.limits.longest ≤ length out.old }
         ensures length { result ≡ length (slice_index_or self.now.station.inbox i []) }
-        ensures out { out.new ≡ written (Some (slice_index_or self.now.station.inbox i [])) out.old }
+        ensures out { out.new ≡ with_front (Some (slice_index_or self.now.station.inbox i [])) out.old }
     {
-        self.inbox.holds();
         self.inbox.copy(i, out)
     }
 
@@ -359,17 +348,16 @@ impl<S: Store> Core<S> {
     pub fn bytes(&self) -> usize
         ensures value { result ≡ sum_by length self.now.station.out + sum_by length self.now.station.inbox }
         ensures within { result ≤ (self.now.limits.window + self.now.limits.room) * self.now.limits.longest }
+        ensures sound { IsSound self.now.limits self.now.station }
     {
-        self.sender.holds();
-        self.inbox.holds();
         self.sender.bytes() + self.inbox.bytes()
     }
 
-    /// What holds of every station, for proofs. It does nothing.
+    /// What holds of every core: a law, for those who have one. It does nothing.
     pub fn holds(&self)
         ensures { IsSound self.now.limits self.now.station }
     {
-        self.sender.holds();
-        self.inbox.holds();
+        // Where a field is looked at, the proof knows what holds of all of them.
+        let _ = &self.state;
     }
 }

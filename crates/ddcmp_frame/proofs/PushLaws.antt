@@ -8,23 +8,23 @@ use Rattle.ddcmp_frame.specs.declared.header.HeaderFault.TheVariants.{Check}
 use Rattle.ddcmp_frame.specs.declared.item.Item.{Item}
 use Rattle.ddcmp_frame.specs.declared.item.Item.TheVariants.{Good, HeaderCheck, DataCheck, TooLong, Format}
 use Rattle.ddcmp_frame.specs.Spelling.{parsed}
-use Rattle.ddcmp_frame.specs.Reading.{Place, past, is_start, count_of, data_of, by_length, by_count, by_verdict, row, read, items, ending, more}
+use Rattle.ddcmp_frame.specs.Reading.{Place, place_after, is_start, count_of, data_after_header, by_length, by_count, by_verdict, row, read, items, ending, with_more}
 use Rattle.ddcmp_frame.specs.Resume.{from_start}
-use Rattle.ddcmp_frame.specs.Held.{Held, Summarises, Stands, Grows, EndsWith, given_by, frame_length, length_by, to_come}
-use Rattle.ddcmp_frame.specs.declared.plain.Step.TheVariants.{Gives}
-use Rattle.ddcmp_frame.specs.Step.{taken, as_row, Found}
+use Rattle.ddcmp_frame.specs.Reader.{ReaderView, Summarises, StandsFor, Grows, EndsWith, items_given, frame_length, candidate_length, bytes_to_come}
+use Rattle.ddcmp_frame.specs.declared.reader.Step.TheVariants.{Gives}
+use Rattle.ddcmp_frame.specs.Step.{item_length, row_of_step, Found}
 use Rattle.ddcmp_frame.proofs.WireLaws.{frame_length-counted}
-use Rattle.ddcmp_frame.proofs.Tests.{some-inj, ltb-is, ltb-isnt, false-true}
+use Rattle.ddcmp_frame.proofs.Tests.{ok-inj, some-inj, ltb-is, ltb-isnt, false-true}
 use Rattle.ddcmp_frame.proofs.ReadingLaws.{read-none, read-some, read-nothing, items-more, ending-more, ending-stuck, ending-offset, ending-suffix, ending-told, ending-nothing, row-passes, row-waits, row-full, Counts, Waits, Stuck, row-stuck}
 
 -- the view of a reader's fields
-abbrev pub held : ℕ → ℕ → Bool → Bool → List ℕ → ℕ → ℕ → ℕ → Held
+abbrev pub held : ℕ → ℕ → Bool → Bool → List ℕ → ℕ → ℕ → ℕ → ReaderView
 held max o lost finished buffer skipped left lent = record { max = max; offset = o; lost = lost; bytes = (if finished then [] else buffer); skipped = skipped; left = left; lent = take lent (drop 8 buffer) }
 
 -- a reader that holds nothing stands for the empty text
-pub stands_anew : (max : ℕ) (buffer : List ℕ) (lent : ℕ) → lent ≡ 0 → Stands (held max 0 false true buffer 0 0 lent) []
+pub stands_anew : (max : ℕ) (buffer : List ℕ) (lent : ℕ) → lent ≡ 0 → StandsFor (held max 0 false true buffer 0 0 lent) []
 stands_anew max buffer lent none =
-    subst (λ p. (Stands (held max 0 false true buffer 0 0 lent) [])) none
+    subst (λ p. (StandsFor (held max 0 false true buffer 0 0 lent) [])) none
     (record {
       offset = refl;
       place = subst (Summarises (held max 0 false true buffer 0 0 lent)) (sym (ending-nothing max)) (record { lost = refl; bytes = refl; skipped = refl; left = refl });
@@ -33,7 +33,7 @@ stands_anew max buffer lent none =
 -- ---- a reading that goes on by one byte
 
 -- the place from which the next byte is read
-grown : (v w : Held) (text : List ℕ) (b : ℕ) (given : Option Item) (q : Place) → Stands v text → more (ending v.max text) (b ∷ []) ≡ q → w.max ≡ v.max → w.offset ≡ v.offset + 1 → (read v.max q).items ≡ given_by given w.lent → Summarises w (read v.max q).place → EndsWith given w.lent (text ++ b ∷ []) → Grows v b given w text
+grown : (v w : ReaderView) (text : List ℕ) (b : ℕ) (given : Option Item) (q : Place) → StandsFor v text → with_more (ending v.max text) (b ∷ []) ≡ q → w.max ≡ v.max → w.offset ≡ v.offset + 1 → (read v.max q).items ≡ items_given given w.lent → Summarises w (read v.max q).place → EndsWith given w.lent (text ++ b ∷ []) → Grows v b given w text
 grown v w text b given q s is same_max counted its place wired =
     let e : (read v.max q).place ≡ ending w.max (text ++ b ∷ []) = ap (λ x. (read v.max x).place) (sym is) ∙ sym (ending-more v.max text (b ∷ [])) ∙ ap (λ m. ending m (text ++ b ∷ [])) (sym same_max) in
     record {
@@ -72,17 +72,17 @@ row-counts : (max : ℕ) (q : Place) (k : Counts q.rest) → row max q ≡ by_le
 row-counts max q k =
     row-full max q k.start k.full ∙ ap (by_verdict max q) k.is ∙ ap (by_count max q k.header) k.counted
 
-row-told : (max : ℕ) (q : Place) (k : Counts q.rest) → max < k.count → q.told ≡ true → row max q ≡ (if nat_lt (length q.rest) (k.count + 10) then None else Some ([], past (k.count + 10) false q))
+row-told : (max : ℕ) (q : Place) (k : Counts q.rest) → max < k.count → q.told ≡ true → row max q ≡ (if nat_lt (length q.rest) (k.count + 10) then None else Some ([], place_after (k.count + 10) false q))
 row-told max q k above told =
     row-counts max q k
     ∙ ap (λ x. by_length q k.header k.count x q.told) (ltb-is max k.count above)
     ∙ ap (λ x. by_length q k.header k.count true x) told
 
-length_by-counts : (t : List ℕ) (k : Counts t) → length_by (parsed (take 8 t)) ≡ k.count + 10
-length_by-counts t k = ap length_by k.is ∙ frame_length-counted k.header k.count k.counted
+length_by-counts : (t : List ℕ) (k : Counts t) → candidate_length (parsed (take 8 t)) ≡ k.count + 10
+length_by-counts t k = ap candidate_length k.is ∙ frame_length-counted k.header k.count k.counted
 
 -- a reader to which bytes of a too long frame are still to come
-record Passing (v : Held) (text : List ℕ) : Type 0 where
+record Passing (v : ReaderView) (text : List ℕ) : Type 0 where
   counts : Counts (ending v.max text).rest
   above : v.max < counts.count
   told : (ending v.max text).told ≡ true
@@ -94,30 +94,30 @@ is_true : (b : Bool) → (b ≡ false → ⊥) → b ≡ true
 is_true true h = refl
 is_true false h = absurd (h refl)
 
-passing : (v : Held) (text : List ℕ) → Stands v text → 0 < v.left → Passing v text
+passing : (v : ReaderView) (text : List ℕ) → StandsFor v text → 0 < v.left → Passing v text
 passing v text s some =
     let p = ending v.max text in
     let l = s.place.left in
-    let told : p.told ≡ true = is_true p.told (λ f. absurd (omega (arith, l, unless p.told (to_come p.rest) 0 f))) in
+    let told : p.told ≡ true = is_true p.told (λ f. absurd (omega (arith, l, unless p.told (bytes_to_come p.rest) 0 f))) in
     let long = ending-told v.max text told in
     let k = long.counts in
     record {
       counts = k;
       above = long.above;
       told = told;
-      left = omega (arith, l, when p.told (to_come p.rest) 0 told, length_by-counts p.rest k);
+      left = omega (arith, l, when p.told (bytes_to_come p.rest) 0 told, length_by-counts p.rest k);
       skipped = s.place.skipped ∙ when p.told (length p.rest) 0 told;
       bytes = s.place.bytes ∙ when p.told [] p.rest told;
     }
 
 -- one byte more, and not the last
-pub exit_passes : (max o : ℕ) (lost finished : Bool) (buffer : List ℕ) (skipped left lent b : ℕ) (text : List ℕ) → 1 < left → Stands (held max o lost finished buffer skipped left lent) text → Grows (held max o lost finished buffer skipped left lent) b None (held max (o + 1) lost finished buffer (skipped + 1) (left - 1) 0) text
+pub exit_passes : (max o : ℕ) (lost finished : Bool) (buffer : List ℕ) (skipped left lent b : ℕ) (text : List ℕ) → 1 < left → StandsFor (held max o lost finished buffer skipped left lent) text → Grows (held max o lost finished buffer skipped left lent) b None (held max (o + 1) lost finished buffer (skipped + 1) (left - 1) 0) text
 unfolding counts-more passing
 exit_passes max o lost finished buffer skipped left lent b text two s =
     let v = held max o lost finished buffer skipped left lent in
     let k = passing v text s (omega arith) in
     let p = ending max text in
-    let q = more p (b ∷ []) in
+    let q = with_more p (b ∷ []) in
     let kq = counts-more p.rest (b ∷ []) k.counts in
     let longer = length-append p.rest (b ∷ []) in
     let kl = k.left in
@@ -127,24 +127,24 @@ exit_passes max o lost finished buffer skipped left lent b text two s =
       lost = s.place.lost;
       bytes = k.bytes ∙ sym (when q.told [] q.rest k.told);
       skipped = omega (arith, k.skipped, when q.told (length q.rest) 0 k.told);
-      left = omega (arith, length_by-counts q.rest kq, when q.told (to_come q.rest) 0 k.told);
+      left = omega (arith, length_by-counts q.rest kq, when q.told (bytes_to_come q.rest) 0 k.told);
     })) tt
 
 -- the last one
-pub exit_passed : (max o : ℕ) (lost finished : Bool) (buffer : List ℕ) (skipped left lent b : ℕ) (text : List ℕ) → left ≡ 1 → Stands (held max o lost finished buffer skipped left lent) text → Grows (held max o lost finished buffer skipped left lent) b None (held max (o + 1) false finished buffer 0 0 0) text
+pub exit_passed : (max o : ℕ) (lost finished : Bool) (buffer : List ℕ) (skipped left lent b : ℕ) (text : List ℕ) → left ≡ 1 → StandsFor (held max o lost finished buffer skipped left lent) text → Grows (held max o lost finished buffer skipped left lent) b None (held max (o + 1) false finished buffer 0 0 0) text
 unfolding counts-more passing
 exit_passed max o lost finished buffer skipped left lent b text one s =
     let v = held max o lost finished buffer skipped left lent in
     let k = passing v text s (omega arith) in
     let p = ending max text in
-    let q = more p (b ∷ []) in
+    let q = with_more p (b ∷ []) in
     let kq = counts-more p.rest (b ∷ []) k.counts in
     let longer = length-append p.rest (b ∷ []) in
     let kl = k.left in
-    let all : row max q ≡ Some ([], past (k.counts.count + 10) false q) = row-told max q kq k.above k.told ∙ unless (nat_lt (length q.rest) (k.counts.count + 10)) _ _ (ltb-isnt _ _ (omega arith)) in
+    let all : row max q ≡ Some ([], place_after (k.counts.count + 10) false q) = row-told max q kq k.above k.told ∙ unless (nat_lt (length q.rest) (k.counts.count + 10)) _ _ (ltb-isnt _ _ (omega arith)) in
     let z : drop (k.counts.count + 10) q.rest ≡ [] = drop_all (k.counts.count + 10) q.rest (omega arith) in
     let e = read-some max q _ all in
-    let n = read-nothing max (past (k.counts.count + 10) false q) z in
+    let n = read-nothing max (place_after (k.counts.count + 10) false q) z in
     grown v (held max (o + 1) false finished buffer 0 0 0) text b None q s refl refl refl (ap (λ x. x.items) e ∙ ap (λ x. x.items) n) (subst (Summarises (held max (o + 1) false finished buffer 0 0 0)) (sym (ap (λ x. x.place) e ∙ ap (λ x. x.place) n)) (record {
       lost = refl;
       bytes = k.bytes ∙ sym z;
@@ -155,18 +155,18 @@ exit_passed max o lost finished buffer skipped left lent b text one s =
 -- ---- the bytes held and one more
 
 -- a reader to which no bytes of a too long frame are to come
-record Holding (v : Held) (text : List ℕ) (p : Place) : Type 0 where
+record Holding (v : ReaderView) (text : List ℕ) (p : Place) : Type 0 where
   place : ending v.max text ≡ p
   stuck : Stuck v.max p
   skipped : v.skipped ≡ 0
 
-abbrev place_of : Held → Place
+abbrev place_of : ReaderView → Place
 place_of v = record { offset = v.offset - length v.bytes; lost = v.lost; told = false; rest = v.bytes }
 
 same_count : (t : List ℕ) (x y : Counts t) → x.count ≡ y.count
 same_count t x y = let a = length_by-counts t x in let b = length_by-counts t y in omega arith
 
-holding : (v : Held) (text : List ℕ) → Stands v text → v.left ≡ 0 → Holding v text (place_of v)
+holding : (v : ReaderView) (text : List ℕ) → StandsFor v text → v.left ≡ 0 → Holding v text (place_of v)
 holding v text s none =
     let p = ending v.max text in
     let told : p.told ≡ false = not_told p.told refl in
@@ -196,13 +196,13 @@ holding v text s none =
             | inr waits ↦
                 let w = waits.1 in
                 let same : k.count ≡ waits.0.count = same_count p.rest k waits.0 in
-                absurd (omega (arith, s.place.left, when p.told (to_come p.rest) 0 e, length_by-counts p.rest k, w.short))
+                absurd (omega (arith, s.place.left, when p.told (bytes_to_come p.rest) 0 e, length_by-counts p.rest k, w.short))
           ]
         ]
 
 -- the byte was put behind the bytes held
-pub record Stored (v : Held) (b : ℕ) (text u : List ℕ) (at : ℕ) : Type 0 where
-  pub stands : Stands v text
+pub record Stored (v : ReaderView) (b : ℕ) (text u : List ℕ) (at : ℕ) : Type 0 where
+  pub stands : StandsFor v text
   pub none : v.left ≡ 0
   pub bytes : u ≡ v.bytes ++ b ∷ []
   pub at_front : at ≡ v.offset + 1 - length u
@@ -210,13 +210,13 @@ pub record Stored (v : Held) (b : ℕ) (text u : List ℕ) (at : ℕ) : Type 0 w
 abbrev pub next_place : ℕ → Bool → List ℕ → Place
 next_place at lost u = record { offset = at; lost = lost; told = false; rest = u }
 
-next-is : (v : Held) (b : ℕ) (text u : List ℕ) (at : ℕ) → Stored v b text u at → more (ending v.max text) (b ∷ []) ≡ next_place at v.lost u
+next-is : (v : ReaderView) (b : ℕ) (text u : List ℕ) (at : ℕ) → Stored v b text u at → with_more (ending v.max text) (b ∷ []) ≡ next_place at v.lost u
 next-is v b text u at s =
     let h = holding v text s.stands s.none in
     let l = length-append v.bytes (b ∷ []) in
     let lu = ap length s.bytes in
     let e : v.offset - length v.bytes ≡ at = omega (arith, s.at_front) in
-    ap (λ p. more p (b ∷ [])) h.place ∙ (λ i. record { offset = e i; lost = v.lost; told = false; rest = (sym s.bytes) i })
+    ap (λ p. with_more p (b ∷ [])) h.place ∙ (λ i. record { offset = e i; lost = v.lost; told = false; rest = (sym s.bytes) i })
 
 pub exit_unfinished : (max o : ℕ) (lost finished : Bool) (buffer : List ℕ) (skipped left lent b : ℕ) (text u : List ℕ) (at : ℕ) → Stored (held max o lost finished buffer skipped left lent) b text u at → row max (next_place at lost u) ≡ None → Grows (held max o lost finished buffer skipped left lent) b None (held max (o + 1) lost false u skipped left 0) text
 exit_unfinished max o lost finished buffer skipped left lent b text u at s none =
@@ -236,14 +236,14 @@ first-of [] b l = absurd (omega arith)
 first-of (x ∷ t) b l = refl
 
 -- what is held begins with a start byte
-held-start : (v : Held) → Stuck v.max (place_of v) → 0 < length v.bytes → is_start (slice_index v.bytes 0) ≡ true
+held-start : (v : ReaderView) → Stuck v.max (place_of v) → 0 < length v.bytes → is_start (slice_index v.bytes 0) ≡ true
 held-start v stuck some =
     elim stuck [
       | inl nothing ↦ absurd (omega (arith, ap length nothing))
-      | inr more ↦ elim more [ inl few ↦ few.0 | inr waits ↦ let k = waits.0 in k.start ]
+      | inr with_more ↦ elim with_more [ inl few ↦ few.0 | inr waits ↦ let k = waits.0 in k.start ]
     ]
 
-pub exit_skips : (max o : ℕ) (lost finished : Bool) (buffer : List ℕ) (skipped left lent b : ℕ) (text u : List ℕ) (at : ℕ) → Stored (held max o lost finished buffer skipped left lent) b text u at → is_start (slice_index u 0) ≡ false → row max (next_place at lost u) ≡ Some ([], past 1 lost (next_place at lost u)) → Grows (held max o lost finished buffer skipped left lent) b None (held max (o + 1) lost true u skipped left 0) text
+pub exit_skips : (max o : ℕ) (lost finished : Bool) (buffer : List ℕ) (skipped left lent b : ℕ) (text u : List ℕ) (at : ℕ) → Stored (held max o lost finished buffer skipped left lent) b text u at → is_start (slice_index u 0) ≡ false → row max (next_place at lost u) ≡ Some ([], place_after 1 lost (next_place at lost u)) → Grows (held max o lost finished buffer skipped left lent) b None (held max (o + 1) lost true u skipped left 0) text
 exit_skips max o lost finished buffer skipped left lent b text u at s other skips =
     let v = held max o lost finished buffer skipped left lent in
     let w = held max (o + 1) lost true u skipped left 0 in
@@ -253,7 +253,7 @@ exit_skips max o lost finished buffer skipped left lent b text u at s other skip
     let lu = ap length s.bytes in
     let z : drop 1 u ≡ [] = drop_all 1 u (omega (arith, length-append v.bytes (b ∷ []))) in
     let e = read-some max q _ skips in
-    let n = read-nothing max (past 1 lost q) z in
+    let n = read-nothing max (place_after 1 lost q) z in
     grown v w text b None q s.stands (next-is v b text u at s) refl refl (ap (λ x. x.items) e ∙ ap (λ x. x.items) n) (subst (Summarises w) (sym (ap (λ x. x.place) e ∙ ap (λ x. x.place) n)) (record {
       lost = refl;
       bytes = sym z;
@@ -261,7 +261,7 @@ exit_skips max o lost finished buffer skipped left lent b text u at s other skip
       left = s.none;
     })) tt
   where
-    none_held : (v : Held) → Stuck v.max (place_of v) → is_start (slice_index u 0) ≡ false → u ≡ v.bytes ++ b ∷ [] → length v.bytes ≡ 0
+    none_held : (v : ReaderView) → Stuck v.max (place_of v) → is_start (slice_index u 0) ≡ false → u ≡ v.bytes ++ b ∷ [] → length v.bytes ≡ 0
     none_held v stuck other is = by_length (length v.bytes) refl
       where
         by_length : (n : ℕ) → length v.bytes ≡ n → length v.bytes ≡ 0
@@ -271,11 +271,11 @@ exit_skips max o lost finished buffer skipped left lent b text u at s other skip
             absurd (false-true (sym other ∙ ap (λ x. is_start (slice_index x 0)) is ∙ ap is_start (first-of v.bytes b some) ∙ held-start v stuck some))
 
 -- Eight bytes that are the first candidate to be read: it begins with the start byte held.
-record First (v : Held) (u : List ℕ) : Type 0 where
+record First (v : ReaderView) (u : List ℕ) : Type 0 where
   start : is_start (slice_index u 0) ≡ true
   eight : length u ≡ 8
 
-candidate : (v : Held) (b : ℕ) (u : List ℕ) → u ≡ v.bytes ++ b ∷ [] → Stuck v.max (place_of v) → 8 ≤ length u → ((k : Counts v.bytes) → Waits v.max (place_of v) k → parsed (take 8 u) ≡ Ok k.header → ⊥) → First v u
+candidate : (v : ReaderView) (b : ℕ) (u : List ℕ) → u ≡ v.bytes ++ b ∷ [] → Stuck v.max (place_of v) → 8 ≤ length u → ((k : Counts v.bytes) → Waits v.max (place_of v) k → parsed (take 8 u) ≡ Ok k.header → ⊥) → First v u
 candidate v b u is stuck full other =
     let lu = ap length is in
     let la = length-append v.bytes (b ∷ []) in
@@ -293,9 +293,6 @@ candidate v b u is stuck full other =
             absurd (other k waits.1 (ap (λ x. parsed (take 8 x)) is ∙ ap parsed (take-append-le 8 v.bytes (b ∷ []) k.full) ∙ k.is))
       ]
     ]
-
-ok-inj : {g h : Header} → ◌≡◌ {A = Result Header HeaderFault} (Ok g) (Ok h) → g ≡ h
-ok-inj e = cc
 
 ok-err : {h : Header} {f : HeaderFault} → ◌≡◌ {A = Result Header HeaderFault} (Ok h) (Err f) → ⊥
 ok-err e = cc
@@ -330,7 +327,7 @@ pub loss_told : (at : ℕ) (lost : Bool) (given : Option Item) → given ≡ (if
 loss_told at true given e = inl (refl, e)
 loss_told at false given e = inr (refl, e)
 
-pub exit_fails : (max o : ℕ) (lost finished : Bool) (buffer : List ℕ) (skipped left lent b : ℕ) (text u : List ℕ) (at : ℕ) (given : Option Item) (moved : List ℕ) → Stored (held max o lost finished buffer skipped left lent) b text u at → 8 ≤ length u → parsed (take 8 u) ≡ Err Check → row max (next_place at lost u) ≡ Some ((if lost then [] else (HeaderCheck at, []) ∷ []), past 1 true (next_place at lost u)) → LossTold at lost given → moved ≡ from_start (drop 1 u) → Grows (held max o lost finished buffer skipped left lent) b given (held max (o + 1) true false moved skipped left 0) text
+pub exit_fails : (max o : ℕ) (lost finished : Bool) (buffer : List ℕ) (skipped left lent b : ℕ) (text u : List ℕ) (at : ℕ) (given : Option Item) (moved : List ℕ) → Stored (held max o lost finished buffer skipped left lent) b text u at → 8 ≤ length u → parsed (take 8 u) ≡ Err Check → row max (next_place at lost u) ≡ Some ((if lost then [] else (HeaderCheck at, []) ∷ []), place_after 1 true (next_place at lost u)) → LossTold at lost given → moved ≡ from_start (drop 1 u) → Grows (held max o lost finished buffer skipped left lent) b given (held max (o + 1) true false moved skipped left 0) text
 exit_fails max o lost finished buffer skipped left lent b text u at given moved s full wrong fails told is =
     let v = held max o lost finished buffer skipped left lent in
     let w = held max (o + 1) true false moved skipped left 0 in
@@ -343,12 +340,12 @@ exit_fails max o lost finished buffer skipped left lent b text u at given moved 
       lost = sym (ap (λ x. x.place.lost) e ∙ p.lost);
       bytes = is ∙ sym (unless (read max q).place.told [] (read max q).place.rest (ap (λ x. x.place.told) e ∙ p.told) ∙ ap (λ x. x.place.rest) e ∙ p.rest);
       skipped = h.skipped ∙ sym (unless (read max q).place.told (length (read max q).place.rest) 0 (ap (λ x. x.place.told) e ∙ p.told));
-      left = s.none ∙ sym (unless (read max q).place.told (to_come (read max q).place.rest) 0 (ap (λ x. x.place.told) e ∙ p.told));
+      left = s.none ∙ sym (unless (read max q).place.told (bytes_to_come (read max q).place.rest) 0 (ap (λ x. x.place.told) e ∙ p.told));
     }) (wired told)
   where
-    its : (x : Bool) → LossTold at x given → given_by given [] ≡ (if x then [] else (HeaderCheck at, []) ∷ [])
-    its true told = elim told [ inl yes_lost ↦ ap (λ g. given_by g []) yes_lost.1 | inr not_lost ↦ absurd (false-true (sym not_lost.0)) ]
-    its false told = elim told [ inl yes_lost ↦ absurd (false-true yes_lost.0) | inr not_lost ↦ ap (λ g. given_by g []) not_lost.1 ]
+    its : (x : Bool) → LossTold at x given → items_given given [] ≡ (if x then [] else (HeaderCheck at, []) ∷ [])
+    its true told = elim told [ inl yes_lost ↦ ap (λ g. items_given g []) yes_lost.1 | inr not_lost ↦ absurd (false-true (sym not_lost.0)) ]
+    its false told = elim told [ inl yes_lost ↦ absurd (false-true yes_lost.0) | inr not_lost ↦ ap (λ g. items_given g []) not_lost.1 ]
 
     wired : LossTold at lost given → EndsWith given [] (text ++ b ∷ [])
     wired told = elim told [ inl yes_lost ↦ subst (λ g. EndsWith g [] (text ++ b ∷ [])) (sym yes_lost.1) tt | inr not_lost ↦ subst (λ g. EndsWith g [] (text ++ b ∷ [])) (sym not_lost.1) tt ]
@@ -367,7 +364,7 @@ exit_announces max o lost finished buffer skipped left lent b text u at h n s fu
     let none : row max p ≡ None = row-told max p k above refl ∙ when (nat_lt (length u) (n + 10)) _ _ (ltb-is _ _ (omega (arith, f.eight))) in
     let e = read-some max q _ announces in
     let m = read-none max p none in
-    let come = ap length_by ok ∙ frame_length-counted h n cs in
+    let come = ap candidate_length ok ∙ frame_length-counted h n cs in
     grown v w text b (Some (TooLong at h)) q s.stands (next-is v b text u at s) refl refl (ap (λ x. x.items) e ∙ ap (λ x. (TooLong at h, []) ∷ x.items) m) (subst (Summarises w) (sym (ap (λ x. x.place) e ∙ ap (λ x. x.place) m)) (record {
       lost = refl;
       bytes = refl;
@@ -376,7 +373,7 @@ exit_announces max o lost finished buffer skipped left lent b text u at h n s fu
     })) tt
 
 -- from the offset of the unfinished frame on the text is what is held
-ends-so : (v : Held) (b : ℕ) (text u : List ℕ) (at : ℕ) → Stored v b text u at → drop at (text ++ b ∷ []) ≡ u
+ends-so : (v : ReaderView) (b : ℕ) (text u : List ℕ) (at : ℕ) → Stored v b text u at → drop at (text ++ b ∷ []) ≡ u
 ends-so v b text u at s =
     let is = next-is v b text u at s in
     let o : (ending v.max text).offset ≡ at = ap (λ x. x.offset) is in
@@ -386,24 +383,24 @@ ends-so v b text u at s =
     ∙ ap (λ x. x ++ b ∷ []) (sym (ending-suffix v.max text))
     ∙ ap (λ x. x.rest) is
 
-pub exit_gives : (max o : ℕ) (lost finished : Bool) (buffer : List ℕ) (skipped left lent b : ℕ) (text u : List ℕ) (at : ℕ) (item : Item) (n : ℕ) → Stored (held max o lost finished buffer skipped left lent) b text u at → Found max at u (Gives item n) → row max (next_place at lost u) ≡ as_row (Gives item n) (next_place at lost u) → Grows (held max o lost finished buffer skipped left lent) b (Some item) (held max (o + 1) false true u skipped left n) text
+pub exit_gives : (max o : ℕ) (lost finished : Bool) (buffer : List ℕ) (skipped left lent b : ℕ) (text u : List ℕ) (at : ℕ) (item : Item) (n : ℕ) → Stored (held max o lost finished buffer skipped left lent) b text u at → Found max at u (Gives item n) → row max (next_place at lost u) ≡ row_of_step (Gives item n) (next_place at lost u) → Grows (held max o lost finished buffer skipped left lent) b (Some item) (held max (o + 1) false true u skipped left n) text
 exit_gives max o lost finished buffer skipped left lent b text u at item n s found gives =
     let v = held max o lost finished buffer skipped left lent in
     let w = held max (o + 1) false true u skipped left n in
     let h = holding v text s.stands s.none in
     let q = next_place at lost u in
-    let all : taken item ≡ length u = whole h.stuck found s.bytes in
-    let z : drop (taken item) u ≡ [] = drop_all (taken item) u (omega arith) in
+    let all : item_length item ≡ length u = whole h.stuck found s.bytes in
+    let z : drop (item_length item) u ≡ [] = drop_all (item_length item) u (omega arith) in
     let e = read-some max q _ gives in
-    let m = read-nothing max (past (taken item) false q) z in
-    grown v w text b (Some item) q s.stands (next-is v b text u at s) refl refl (ap (λ x. x.items) e ∙ ap (λ x. (item, data_of n u) ∷ x.items) m) (subst (Summarises w) (sym (ap (λ x. x.place) e ∙ ap (λ x. x.place) m)) (record {
+    let m = read-nothing max (place_after (item_length item) false q) z in
+    grown v w text b (Some item) q s.stands (next-is v b text u at s) refl refl (ap (λ x. x.items) e ∙ ap (λ x. (item, data_after_header n u) ∷ x.items) m) (subst (Summarises w) (sym (ap (λ x. x.place) e ∙ ap (λ x. x.place) m)) (record {
       lost = refl;
       bytes = sym z;
       skipped = h.skipped;
       left = s.none;
     })) (wired item all found (ends-so v b text u at s))
   where
-    whole : Stuck max (place_of (held max o lost finished buffer skipped left lent)) → Found max at u (Gives item n) → u ≡ (if finished then [] else buffer) ++ b ∷ [] → taken item ≡ length u
+    whole : Stuck max (place_of (held max o lost finished buffer skipped left lent)) → Found max at u (Gives item n) → u ≡ (if finished then [] else buffer) ++ b ∷ [] → item_length item ≡ length u
     whole stuck found is =
         let lu = ap length is in
         let la = length-append (if finished then [] else buffer) (b ∷ []) in
@@ -416,12 +413,12 @@ exit_gives max o lost finished buffer skipped left lent b text u at item n s fou
             | inr waits ↦
                 let k = waits.0 in
                 let short = (waits.1).short in
-                let same : taken item ≡ k.count + 10 = found.2 ∙ ap (λ x. length_by (parsed (take 8 x))) is ∙ ap (λ x. length_by (parsed x)) (take-append-le 8 (if finished then [] else buffer) (b ∷ []) k.full) ∙ length_by-counts (if finished then [] else buffer) k in
+                let same : item_length item ≡ k.count + 10 = found.2 ∙ ap (λ x. candidate_length (parsed (take 8 x))) is ∙ ap (λ x. candidate_length (parsed x)) (take-append-le 8 (if finished then [] else buffer) (b ∷ []) k.full) ∙ length_by-counts (if finished then [] else buffer) k in
                 omega arith
           ]
         ]
 
-    wired : (i : Item) → taken i ≡ length u → Found max at u (Gives i n) → drop at (text ++ b ∷ []) ≡ u → EndsWith (Some i) (data_of n u) (text ++ b ∷ [])
+    wired : (i : Item) → item_length i ≡ length u → Found max at u (Gives i n) → drop at (text ++ b ∷ []) ≡ u → EndsWith (Some i) (data_after_header n u) (text ++ b ∷ [])
     wired (Good p g) all found ends = ap (λ k. drop k (text ++ b ∷ [])) found.4 ∙ ends ∙ sym (take_all (frame_length g) u (omega arith)) ∙ (found.3).1
     wired (DataCheck p g) all found ends = tt
     wired (TooLong p g) all found ends = tt

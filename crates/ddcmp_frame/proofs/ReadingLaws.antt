@@ -7,13 +7,13 @@ use Rattle.ddcmp_frame.specs.declared.header.HeaderFault.{HeaderFault}
 use Rattle.ddcmp_frame.specs.declared.header.HeaderFault.TheVariants.{NotAStart, Check, BadType, CountZero}
 use Rattle.ddcmp_frame.specs.declared.item.Item.TheVariants.{Good, DataCheck}
 use Rattle.ddcmp_frame.specs.Spelling.{parsed}
-use Rattle.ddcmp_frame.specs.Rows.{after, ended, Falls}
-use Rattle.ddcmp_frame.specs.Reading.{Given, Place, past, is_start, count_of, data_of, data_right, by_length, by_count, by_verdict, by_front, row, weight, read, beginning, items, ending, more, good_of, good_in, good_frames}
+use Rattle.ddcmp_frame.specs.Rows.{outcome_after, outcome_at_end, Falls}
+use Rattle.ddcmp_frame.specs.Reading.{ReadItem, Place, place_after, is_start, count_of, data_after_header, is_data_right, by_length, by_count, by_verdict, by_front, row, weight, read, beginning, items, ending, with_more, good_frame_of, good_frames_in, good_frames}
 use Rattle.ddcmp_frame.proofs.RowsLaws as rows
 use Rattle.ddcmp_frame.proofs.Tests.{chosen, some-inj, none-some, some-none, ltb-is, ltb-isnt, ltb-less, ltb-not, false-true}
 
 abbrev pub Row : Type 0
-Row = List Given × Place
+Row = List ReadItem × Place
 
 drop-nil : (n : ℕ) → drop {A = ℕ} n [] ≡ []
 drop-nil zero = refl
@@ -33,9 +33,9 @@ record Sound (p : Place) (v : Place → Option Row) (r : Row) : Type 0 where
   falls : weight r.1 < weight p
   counts : r.1.offset + length r.1.rest ≡ p.offset + length p.rest
   suffix : (text : List ℕ) → p.rest ≡ drop p.offset text → r.1.rest ≡ drop r.1.offset text
-  stable : (u : List ℕ) → v (more p u) ≡ Some (r.0, more r.1 u)
+  stable : (u : List ℕ) → v (with_more p u) ≡ Some (r.0, with_more r.1 u)
 
-past-sound : (p : Place) (v : Place → Option Row) (front : List Given) (n : ℕ) (lost : Bool) → 0 < n → n ≤ length p.rest → ((u : List ℕ) → v (more p u) ≡ Some (front, past n lost (more p u))) → Sound p v (front, past n lost p)
+past-sound : (p : Place) (v : Place → Option Row) (front : List ReadItem) (n : ℕ) (lost : Bool) → 0 < n → n ≤ length p.rest → ((u : List ℕ) → v (with_more p u) ≡ Some (front, place_after n lost (with_more p u))) → Sound p v (front, place_after n lost p)
 past-sound p v front n lost pos enough e = record {
   falls = omega (arith, length-drop n p.rest);
   counts = omega (arith, length-drop n p.rest);
@@ -43,20 +43,20 @@ past-sound p v front n lost pos enough e = record {
   stable = λ u. e u ∙ ap (λ x. Some (front, record { offset = p.offset + n; lost = lost; told = false; rest = x })) (drop-append-le n p.rest u enough);
 }
 
-data_of-more : (n : ℕ) (t u : List ℕ) → n + 10 ≤ length t → data_of n (t ++ u) ≡ data_of n t
+data_of-more : (n : ℕ) (t u : List ℕ) → n + 10 ≤ length t → data_after_header n (t ++ u) ≡ data_after_header n t
 data_of-more n t u h =
     ap (take n) (drop-append-le 8 t u (omega arith)) ∙ take-append-le n (drop 8 t) u (omega (arith, length-drop 8 t))
 
-data_right-more : (n : ℕ) (t u : List ℕ) → n + 10 ≤ length t → data_right n (t ++ u) ≡ data_right n t
-unfolding data_right
+data_right-more : (n : ℕ) (t u : List ℕ) → n + 10 ≤ length t → is_data_right n (t ++ u) ≡ is_data_right n t
+unfolding is_data_right
 data_right-more n t u h =
     let d = data_of-more n t u h in
     let a : slice_index (t ++ u) (n + 8) ≡ slice_index t (n + 8) = get_or_append_left t u 0 (n + 8) (omega arith) in
     let b : slice_index (t ++ u) (n + 9) ≡ slice_index t (n + 9) = get_or_append_left t u 0 (n + 9) (omega arith) in
     rw (d, a, b) refl
 
-abbrev pub whole_item : Place → Header → ℕ → Given
-whole_item p h n = if data_right n p.rest then (Good p.offset h, data_of n p.rest) else (DataCheck p.offset h, [])
+abbrev pub whole_item : Place → Header → ℕ → ReadItem
+whole_item p h n = if is_data_right n p.rest then (Good p.offset h, data_after_header n p.rest) else (DataCheck p.offset h, [])
 
 length-sound : (p : Place) (h : Header) (n : ℕ) (above told : Bool) → p.told ≡ told → (r : Row) → by_length p h n above told ≡ Some r → Sound p (λ q. by_length q h n above told) r
 length-sound p h n true false t r e =
@@ -99,13 +99,13 @@ verdict-sound max p (Err (BadType c)) l r e = subst (Sound p (λ q. by_verdict m
 verdict-sound max p (Err CountZero) l r e = subst (Sound p (λ q. by_verdict max q (Err CountZero))) (some-inj e) (past-sound p _ _ 8 false (omega arith) l (λ u. refl))
 
 -- with eight bytes, what follows makes no difference
-full-stable : (max : ℕ) (p : Place) (b : ℕ) (t : List ℕ) → p.rest ≡ b ∷ t → is_start b ≡ true → 8 ≤ length p.rest → (u : List ℕ) → row max (more p u) ≡ by_verdict max (more p u) (parsed (take 8 p.rest))
+full-stable : (max : ℕ) (p : Place) (b : ℕ) (t : List ℕ) → p.rest ≡ b ∷ t → is_start b ≡ true → 8 ≤ length p.rest → (u : List ℕ) → row max (with_more p u) ≡ by_verdict max (with_more p u) (parsed (take 8 p.rest))
 unfolding row
 full-stable max p b t is e l u =
-    ap (λ x. by_front max (more p u) (x ++ u)) is
-    ∙ ap (λ x. cond x (if nat_lt (length (b ∷ (t ++ u))) 8 then None else by_verdict max (more p u) (parsed (take 8 (b ∷ (t ++ u))))) (Some ([], past 1 p.lost (more p u)))) e
-    ∙ ap (λ x. cond x None (by_verdict max (more p u) (parsed (take 8 (b ∷ (t ++ u)))))) (ltb-isnt (length (b ∷ (t ++ u))) 8 (omega (arith, length-append t u, ap length is)))
-    ∙ ap (λ x. by_verdict max (more p u) (parsed x)) (take-append-le 8 (b ∷ t) u (omega (arith, ap length is)) ∙ ap (take 8) (sym is))
+    ap (λ x. by_front max (with_more p u) (x ++ u)) is
+    ∙ ap (λ x. cond x (if nat_lt (length (b ∷ (t ++ u))) 8 then None else by_verdict max (with_more p u) (parsed (take 8 (b ∷ (t ++ u))))) (Some ([], place_after 1 p.lost (with_more p u)))) e
+    ∙ ap (λ x. cond x None (by_verdict max (with_more p u) (parsed (take 8 (b ∷ (t ++ u)))))) (ltb-isnt (length (b ∷ (t ++ u))) 8 (omega (arith, length-append t u, ap length is)))
+    ∙ ap (λ x. by_verdict max (with_more p u) (parsed x)) (take-append-le 8 (b ∷ t) u (omega (arith, ap length is)) ∙ ap (take 8) (sym is))
 
 row-sound-at : (max : ℕ) (o : ℕ) (lost told : Bool) (t : List ℕ) (r : Row) → row max (record { offset = o; lost = lost; told = told; rest = t }) ≡ Some r → Sound (record { offset = o; lost = lost; told = told; rest = t }) (row max) r
 unfolding row
@@ -120,7 +120,7 @@ row-sound-at max o lost told (b ∷ t) r e =
             let s = verdict-sound max p (parsed (take 8 (b ∷ t))) enough r full.1 in
             record { falls = s.falls; counts = s.counts; suffix = s.suffix; stable = λ u. full-stable max p b t refl start.0 enough u ∙ s.stable u }
       ]
-      | inr other ↦ subst (Sound p (row max)) (some-inj other.1) (past-sound p (row max) [] 1 lost (omega arith) (omega arith) (λ u. ap (λ x. cond x (if nat_lt (length (b ∷ (t ++ u))) 8 then None else by_verdict max (more p u) (parsed (take 8 (b ∷ (t ++ u))))) (Some ([], past 1 lost (more p u)))) other.0))
+      | inr other ↦ subst (Sound p (row max)) (some-inj other.1) (past-sound p (row max) [] 1 lost (omega arith) (omega arith) (λ u. ap (λ x. cond x (if nat_lt (length (b ∷ (t ++ u))) 8 then None else by_verdict max (with_more p u) (parsed (take 8 (b ∷ (t ++ u))))) (Some ([], place_after 1 lost (with_more p u)))) other.0))
     ]
 
 row-sound : (max : ℕ) (p : Place) (r : Row) → row max p ≡ Some r → Sound p (row max) r
@@ -129,36 +129,36 @@ row-sound max p r e = row-sound-at max p.offset p.lost p.told p.rest r e
 pub row-falls : (max : ℕ) → Falls (row max) weight
 row-falls max p r e = let s = row-sound max p r e in s.falls
 
-pub row-stable : (max : ℕ) (p : Place) (r : Row) (u : List ℕ) → row max p ≡ Some r → row max (more p u) ≡ Some (r.0, more r.1 u)
+pub row-stable : (max : ℕ) (p : Place) (r : Row) (u : List ℕ) → row max p ≡ Some r → row max (with_more p u) ≡ Some (r.0, with_more r.1 u)
 row-stable max p r u e = let s = row-sound max p r e in s.stable u
 
 -- ---- laws of whole readings
 
 -- where no row fits, reading ends
-pub read-none : (max : ℕ) (p : Place) → row max p ≡ None → read max p ≡ ended p
+pub read-none : (max : ℕ) (p : Place) → row max p ≡ None → read max p ≡ outcome_at_end p
 unfolding read
 read-none max p e = rows.read-none (row max) weight (row-falls max) p e
 
 -- else it goes on after the row
-pub read-some : (max : ℕ) (p : Place) (r : Row) → row max p ≡ Some r → read max p ≡ after r.0 (read max r.1)
+pub read-some : (max : ℕ) (p : Place) (r : Row) → row max p ≡ Some r → read max p ≡ outcome_after r.0 (read max r.1)
 unfolding read
 read-some max p r e = rows.read-some (row max) weight (row-falls max) p r e
 
 -- a text that goes on is read on from where its reading ended
-pub read-more : (max : ℕ) (p : Place) (u : List ℕ) → read max (more p u) ≡ after (read max p).items (read max (more (read max p).place u))
+pub read-more : (max : ℕ) (p : Place) (u : List ℕ) → read max (with_more p u) ≡ outcome_after (read max p).items (read max (with_more (read max p).place u))
 unfolding read
-read-more max p u = rows.read-more (row max) weight (row-falls max) more (row-stable max) p u
+read-more max p u = rows.read-more (row max) weight (row-falls max) with_more (row-stable max) p u
 
 pub read-counts : (max : ℕ) (p : Place) → (read max p).place.offset + length (read max p).place.rest ≡ p.offset + length p.rest
 unfolding read
 read-counts max p =
     rows.by_rows (row max) weight (row-falls max) (λ q o. o.place.offset + length o.place.rest ≡ q.offset + length q.rest) (λ q e. refl) (λ q r e h. let s = row-sound max q r e in h ∙ s.counts) p
 
-pub items-more : (max : ℕ) (text u : List ℕ) → items max (text ++ u) ≡ items max text ++ (read max (more (ending max text) u)).items
+pub items-more : (max : ℕ) (text u : List ℕ) → items max (text ++ u) ≡ items max text ++ (read max (with_more (ending max text) u)).items
 unfolding items ending
 items-more max text u = ap (λ o. o.items) (read-more max (beginning text) u)
 
-pub ending-more : (max : ℕ) (text u : List ℕ) → ending max (text ++ u) ≡ (read max (more (ending max text) u)).place
+pub ending-more : (max : ℕ) (text u : List ℕ) → ending max (text ++ u) ≡ (read max (with_more (ending max text) u)).place
 unfolding ending
 ending-more max text u = ap (λ o. o.place) (read-more max (beginning text) u)
 
@@ -180,7 +180,7 @@ pub row-nothing : (max : ℕ) (p : Place) → p.rest ≡ [] → row max p ≡ No
 unfolding row
 row-nothing max p e = ap (by_front max p) e
 
-pub read-nothing : (max : ℕ) (p : Place) → p.rest ≡ [] → read max p ≡ ended p
+pub read-nothing : (max : ℕ) (p : Place) → p.rest ≡ [] → read max p ≡ outcome_at_end p
 read-nothing max p e = read-none max p (row-nothing max p e)
 
 pub items-nothing : (max : ℕ) → items max [] ≡ []
@@ -193,7 +193,7 @@ ending-nothing max = ap (λ o. o.place) (read-nothing max (beginning []) refl)
 
 -- ---- the rows of the table, one by one
 
-pub row-passes : (max : ℕ) (p : Place) (b : ℕ) (t : List ℕ) → p.rest ≡ b ∷ t → is_start b ≡ false → row max p ≡ Some ([], past 1 p.lost p)
+pub row-passes : (max : ℕ) (p : Place) (b : ℕ) (t : List ℕ) → p.rest ≡ b ∷ t → is_start b ≡ false → row max p ≡ Some ([], place_after 1 p.lost p)
 unfolding row
 row-passes max p b t e n = ap (by_front max p) e ∙ rw n refl
 
@@ -332,13 +332,13 @@ ending-told max text =
 
 -- ---- good frames
 
-pub good_in-append : (s t : List Given) → good_in (s ++ t) ≡ good_in s ++ good_in t
-unfolding good_in
+pub good_in-append : (s t : List ReadItem) → good_frames_in (s ++ t) ≡ good_frames_in s ++ good_frames_in t
+unfolding good_frames_in
 good_in-append [] t = refl
-good_in-append (g ∷ s) t = ap (λ x. good_of g ++ x) (good_in-append s t) ∙ sym (append_assoc (good_of g) (good_in s) (good_in t))
+good_in-append (g ∷ s) t = ap (λ x. good_frame_of g ++ x) (good_in-append s t) ∙ sym (append_assoc (good_frame_of g) (good_frames_in s) (good_frames_in t))
 
-pub good-more : (max : ℕ) (text u : List ℕ) → good_frames max (text ++ u) ≡ good_frames max text ++ good_in (read max (more (ending max text) u)).items
-good-more max text u = ap good_in (items-more max text u) ∙ good_in-append (items max text) _
+pub good-more : (max : ℕ) (text u : List ℕ) → good_frames max (text ++ u) ≡ good_frames max text ++ good_frames_in (read max (with_more (ending max text) u)).items
+good-more max text u = ap good_frames_in (items-more max text u) ∙ good_in-append (items max text) _
 
 -- ---- rows by their verdict
 
@@ -349,10 +349,10 @@ row-empty max p l = row-nothing max p (nothing p.rest l)
     nothing [] l = refl
     nothing (b ∷ t) l = absurd (omega arith)
 
-pub row-skips : (max : ℕ) (p : Place) → 0 < length p.rest → is_start (slice_index p.rest 0) ≡ false → row max p ≡ Some ([], past 1 p.lost p)
+pub row-skips : (max : ℕ) (p : Place) → 0 < length p.rest → is_start (slice_index p.rest 0) ≡ false → row max p ≡ Some ([], place_after 1 p.lost p)
 row-skips max p some other = go p.rest refl some other
   where
-    go : (t : List ℕ) → p.rest ≡ t → 0 < length t → is_start (slice_index t 0) ≡ false → row max p ≡ Some ([], past 1 p.lost p)
+    go : (t : List ℕ) → p.rest ≡ t → 0 < length t → is_start (slice_index t 0) ≡ false → row max p ≡ Some ([], place_after 1 p.lost p)
     go [] is l n = absurd (omega arith)
     go (b ∷ t) is l n = row-passes max p b t is n
 

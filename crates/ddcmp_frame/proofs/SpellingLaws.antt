@@ -12,7 +12,7 @@ use Rattle.ddcmp_frame.specs.declared.header.Header.TheVariants.{Data, Maint, Co
 use Rattle.ddcmp_frame.specs.declared.header.HeaderFault.{HeaderFault}
 use Rattle.ddcmp_frame.specs.declared.header.HeaderFault.TheVariants.{NotAStart, Check, BadType, CountZero}
 use Rattle.ddcmp_frame.specs.Fields.{ShortFields, CountedFields}
-use Rattle.ddcmp_frame.specs.Spelling.{IsBytes, is_start, SpellsShort, SpellsCounted, Spells, HasCheck, IsNoType, check_holds, type_code, count_in, kind_of, short_of, counted_of, short_or_fault, counted_or_none, counted_or_fault, by_start, parsed}
+use Rattle.ddcmp_frame.specs.Spelling.{IsBytes, is_start, SpellsShort, SpellsCounted, Spells, HasCheck, IsNoType, is_check_right, type_code, count_field, kind_of, short_of, counted_of, short_or_fault, counted_or_none, counted_or_fault, by_start, parsed}
 use Rattle.ddcmp_frame.proofs.Tests.{chosen, when_false, false-true, eqb-true, eqb-false, same-eqb, other-eqb, decides-eqb, pair_from_tests, tests_from_pair, same_bool, some-inj, none-some}
 
 -- eight bytes, one by one
@@ -28,13 +28,13 @@ six (a ∷ b ∷ c ∷ d ∷ e ∷ f ∷ g ∷ t) l P k = absurd (omega arith)
 six _ l P k = absurd (omega arith)
 
 -- the test of the check decides the relation
-pub holds-has : (bytes : List ℕ) → length bytes ≡ 8 → check_holds bytes ≡ true → HasCheck bytes
-unfolding check_holds
-holds-has bytes l = eight bytes l (λ b. check_holds b ≡ true → HasCheck b) (λ a b c d e f g h t. pair_from_tests g h _ _ t)
+pub holds-has : (bytes : List ℕ) → length bytes ≡ 8 → is_check_right bytes ≡ true → HasCheck bytes
+unfolding is_check_right
+holds-has bytes l = eight bytes l (λ b. is_check_right b ≡ true → HasCheck b) (λ a b c d e f g h t. pair_from_tests g h _ _ t)
 
-pub has-holds : (bytes : List ℕ) → length bytes ≡ 8 → HasCheck bytes → check_holds bytes ≡ true
-unfolding check_holds
-has-holds bytes l = eight bytes l (λ b. HasCheck b → check_holds b ≡ true) (λ a b c d e f g h t. tests_from_pair g h _ _ t)
+pub has-holds : (bytes : List ℕ) → length bytes ≡ 8 → HasCheck bytes → is_check_right bytes ≡ true
+unfolding is_check_right
+has-holds bytes l = eight bytes l (λ b. HasCheck b → is_check_right b ≡ true) (λ a b c d e f g h t. tests_from_pair g h _ _ t)
 
 pub kind_of-some : (c : ℕ) (k : ControlType) → kind_of c ≡ Some k → c ≡ type_code k
 kind_of-some c k h =
@@ -79,7 +79,7 @@ Says (Ok h) bytes = Spells h (take 6 bytes) × HasCheck bytes
 Says (Err NotAStart) bytes = is_start (slice_index bytes 0) ≡ false
 Says (Err Check) bytes = (is_start (slice_index bytes 0) ≡ true) × (¬ HasCheck bytes)
 Says (Err (BadType c)) bytes = (slice_index bytes 0 ≡ 5) × HasCheck bytes × (slice_index bytes 1 ≡ c) × IsNoType c
-Says (Err CountZero) bytes = (is_start (slice_index bytes 0) ≡ true) × (slice_index bytes 0 ≢ 5) × HasCheck bytes × (count_in bytes ≡ 0)
+Says (Err CountZero) bytes = (is_start (slice_index bytes 0) ≡ true) × (slice_index bytes 0 ≢ 5) × HasCheck bytes × (count_field bytes ≡ 0)
 
 short-spelled : (k : ControlType) (bytes : List ℕ) → length bytes ≡ 8 → slice_index bytes 0 ≡ 5 → slice_index bytes 1 ≡ type_code k → SpellsShort (short_of k bytes) (take 6 bytes)
 short-spelled k bytes l =
@@ -95,9 +95,9 @@ short-spelled k bytes l =
       addr = refl;
     })
 
-counted-spelled : (first : ℕ) (bytes : List ℕ) → length bytes ≡ 8 → slice_index bytes 0 ≡ first → 0 < count_in bytes → SpellsCounted first (counted_of bytes) (take 6 bytes)
+counted-spelled : (first : ℕ) (bytes : List ℕ) → length bytes ≡ 8 → slice_index bytes 0 ≡ first → 0 < count_field bytes → SpellsCounted first (counted_of bytes) (take 6 bytes)
 counted-spelled first bytes l =
-    eight bytes l (λ x. slice_index x 0 ≡ first → 0 < count_in x → SpellsCounted first (counted_of x) (take 6 x)) (λ a b c d e f g h start above. record {
+    eight bytes l (λ x. slice_index x 0 ≡ first → 0 < count_field x → SpellsCounted first (counted_of x) (take 6 x)) (λ a b c d e f g h start above. record {
       len = refl;
       start = start;
       count = refl;
@@ -120,13 +120,13 @@ short-says bytes l start right = go (kind_of (slice_index bytes 1)) refl
     go (Some k) e = (short-spelled k bytes l start (kind_of-some _ k e), right)
 
 counted-says : (bytes : List ℕ) → length bytes ≡ 8 → is_start (slice_index bytes 0) ≡ true → slice_index bytes 0 ≢ 5 → HasCheck bytes → Says (counted_or_fault (slice_index bytes 0) (counted_or_none bytes)) bytes
-counted-says bytes l start other right = by_count (count_in bytes == 0) refl
+counted-says bytes l start other right = by_count (count_field bytes == 0) refl
   where
-    by_first : 0 < count_in bytes → (x : Bool) → (slice_index bytes 0 == 129) ≡ x → Says (Ok (if x then Data (counted_of bytes) else Maint (counted_of bytes))) bytes
+    by_first : 0 < count_field bytes → (x : Bool) → (slice_index bytes 0 == 129) ≡ x → Says (Ok (if x then Data (counted_of bytes) else Maint (counted_of bytes))) bytes
     by_first some true e = (counted-spelled 129 bytes l (eqb-true _ _ e) some, right)
     by_first some false e = (counted-spelled 144 bytes l (third_start _ start other (eqb-false _ _ e)) some, right)
 
-    by_count : (z : Bool) → (count_in bytes == 0) ≡ z → Says (counted_or_fault (slice_index bytes 0) (if z then None else Some (counted_of bytes))) bytes
+    by_count : (z : Bool) → (count_field bytes == 0) ≡ z → Says (counted_or_fault (slice_index bytes 0) (if z then None else Some (counted_of bytes))) bytes
     by_count true e = (start, other, right, eqb-true _ _ e)
     by_count false e = let n = eqb-false _ _ e in by_first (omega arith) (slice_index bytes 0 == 129) refl
 
@@ -138,12 +138,12 @@ parsed-says bytes l = by_first (is_start (slice_index bytes 0)) refl
     by_kind start right true e = short-says bytes l (eqb-true _ _ e) right
     by_kind start right false e = counted-says bytes l start (eqb-false _ _ e) right
 
-    by_check : is_start (slice_index bytes 0) ≡ true → (x : Bool) → check_holds bytes ≡ x → Says (if x then by_start bytes else Err Check) bytes
+    by_check : is_start (slice_index bytes 0) ≡ true → (x : Bool) → is_check_right bytes ≡ x → Says (if x then by_start bytes else Err Check) bytes
     by_check start true e = by_kind start (holds-has bytes l e) (slice_index bytes 0 == 5) refl
     by_check start false e = (start, λ has. false-true (sym e ∙ has-holds bytes l has))
 
-    by_first : (x : Bool) → is_start (slice_index bytes 0) ≡ x → Says (if x then (if check_holds bytes then by_start bytes else Err Check) else Err NotAStart) bytes
-    by_first true e = by_check e (check_holds bytes) refl
+    by_first : (x : Bool) → is_start (slice_index bytes 0) ≡ x → Says (if x then (if is_check_right bytes then by_start bytes else Err Check) else Err NotAStart) bytes
+    by_first true e = by_check e (is_check_right bytes) refl
     by_first false e = e
 
 -- ---- and nothing else says it
@@ -175,7 +175,7 @@ counted-same first h bytes l =
 record Front (bytes : List ℕ) : Type 0 where
   first : slice_index (take 6 bytes) 0 ≡ slice_index bytes 0
   second : slice_index (take 6 bytes) 1 ≡ slice_index bytes 1
-  count : count_in (take 6 bytes) ≡ count_in bytes
+  count : count_field (take 6 bytes) ≡ count_field bytes
 
 front : (bytes : List ℕ) → length bytes ≡ 8 → Front bytes
 front bytes l = eight bytes l Front (λ a b c d e f g h. record { first = refl; second = refl; count = refl })
@@ -197,8 +197,8 @@ parsed-counted bytes l start other has =
 
 counted-some : (bytes : List ℕ) (h : CountedFields) → counted_of bytes ≡ h → 0 < h.count → counted_or_none bytes ≡ Some h
 counted-some bytes h same some =
-    let n : count_in bytes ≡ h.count = ap (λ x. x.count) same in
-    let z : (count_in bytes == 0) ≡ false = other-eqb _ _ (omega arith) in
+    let n : count_field bytes ≡ h.count = ap (λ x. x.count) same in
+    let z : (count_field bytes == 0) ≡ false = other-eqb _ _ (omega arith) in
     rw z (ap (λ x. Some x) same)
 
 spells-parsed : (h : Header) (bytes : List ℕ) → length bytes ≡ 8 → Spells h (take 6 bytes) → HasCheck bytes → parsed bytes ≡ Ok h
@@ -224,13 +224,13 @@ pub says-parsed : (r : Result Header HeaderFault) (bytes : List ℕ) → length 
 unfolding parsed
 says-parsed (Ok h) bytes l s = spells-parsed h bytes l s.0 s.1
 says-parsed (Err NotAStart) bytes l s = rw s refl
-says-parsed (Err Check) bytes l s = ap (λ x. if x then (if check_holds bytes then by_start bytes else Err Check) else Err NotAStart) s.0 ∙ when_false (check_holds bytes) _ _ (λ t. s.1 (holds-has bytes l t))
+says-parsed (Err Check) bytes l s = ap (λ x. if x then (if is_check_right bytes then by_start bytes else Err Check) else Err NotAStart) s.0 ∙ when_false (is_check_right bytes) _ _ (λ t. s.1 (holds-has bytes l t))
 says-parsed (Err (BadType c)) bytes l s =
     parsed-short bytes l s.0 s.1
     ∙ ap (short_or_fault bytes) (no_type-none _ (subst IsNoType (sym s.2) s.3))
     ∙ ap (λ x. Err (BadType x)) s.2
 says-parsed (Err CountZero) bytes l s =
-    let z : (count_in bytes == 0) ≡ true = same-eqb _ _ s.3 in
+    let z : (count_field bytes == 0) ≡ true = same-eqb _ _ s.3 in
     parsed-counted bytes l s.0 s.1 s.2 ∙ rw z refl
 
 -- the two as an equivalence
@@ -273,7 +273,7 @@ counted-once first h x y bx by sx sy =
     let x2 = bx 2 in
     let y1 = by 1 in
     let y2 = by 2 in
-    let n : count_in x ≡ count_in y = sx.count ∙ sym sy.count in
+    let n : count_field x ≡ count_field y = sx.count ∙ sym sy.count in
     let low : slice_index x 1 ≡ slice_index y 1 = omega arith in
     let high : slice_index x 2 % 64 ≡ slice_index y 2 % 64 = omega arith in
     let third = high-same h.flags (slice_index x 2) (slice_index y 2) x2 y2 high sx.q sy.q sx.s sy.s in

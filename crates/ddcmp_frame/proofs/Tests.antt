@@ -1,5 +1,5 @@
 -- What tests of numbers say, and choices by them.
-use Rattle.std.proofs.Common.{◌≡◌, ◌≢◌, ℕ, ◌<◌, ◌≤◌, Bool, true, false, cond, List, [], ◌∷◌, refl, arith, ◌↔◌, ◌⊎◌, inl, inr, Some, None, Option}
+use Rattle.std.proofs.Common.{◌≡◌, ◌≢◌, ℕ, ◌<◌, ◌≤◌, Bool, true, false, cond, List, [], ◌∷◌, refl, arith, ◌↔◌, ◌⊎◌, inl, inr, Some, None, Option, Result, Ok}
 use Rattle.std.specs.Prelude.{◌==◌, ◌&&◌, nat_lt, IsTrue}
 use Rattle.std.proofs.lemmas.Bool.Decides.{nat_tests}
 
@@ -56,6 +56,9 @@ same_bool false false P f g = refl
 
 pub some-inj : {A : Type 0} {r s : A} → ◌≡◌ {A = Option A} (Some r) (Some s) → r ≡ s
 some-inj h = cc
+
+pub ok-inj : {A E : Type 0} {r s : A} → ◌≡◌ {A = Result A E} (Ok r) (Ok s) → r ≡ s
+ok-inj h = cc
 
 pub none-some : {A : Type 0} {r : A} → ◌≡◌ {A = Option A} None (Some r) → ⊥
 none-some h = cc

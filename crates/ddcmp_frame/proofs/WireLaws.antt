@@ -5,10 +5,10 @@ use Rattle.ddcmp_num.specs.Check.{check_of, check_pair}
 use Rattle.ddcmp_frame.specs.declared.header.Header.{Header}
 use Rattle.ddcmp_frame.specs.declared.header.Header.TheVariants.{Data, Maint, Control}
 use Rattle.ddcmp_frame.specs.Fields.{CountedFields}
-use Rattle.ddcmp_frame.specs.Spelling.{IsBytes, SpellsCounted, Spells, InRange, parsed}
-use Rattle.ddcmp_frame.specs.Wire.{counted_bytes, six_bytes, eight_bytes, behind, wire, IsFrame}
-use Rattle.ddcmp_frame.specs.Reading.{count_of, data_of, data_right}
-use Rattle.ddcmp_frame.specs.Held.{frame_length}
+use Rattle.ddcmp_frame.specs.Spelling.{IsBytes, SpellsCounted, Spells, IsInRange, parsed}
+use Rattle.ddcmp_frame.specs.Wire.{counted_bytes, six_bytes, eight_bytes, after_header, wire, IsFrame}
+use Rattle.ddcmp_frame.specs.Reading.{count_of, data_after_header, is_data_right}
+use Rattle.ddcmp_frame.specs.Reader.{frame_length}
 use Rattle.ddcmp_frame.proofs.Tests.{false-true, pair_from_tests, tests_from_pair}
 use Rattle.ddcmp_frame.proofs.SpellingLaws.{Says, parsed-says, says-parsed, six-same, flag-bit, take-bytes}
 use Rattle.ddcmp_frame.proofs.ReadingLaws.{drop-drop}
@@ -38,7 +38,7 @@ counted_bytes-spelled first h some most =
     }
 
 -- they spell it
-pub six-spelled : (h : Header) → InRange h → Spells h (six_bytes h)
+pub six-spelled : (h : Header) → IsInRange h → Spells h (six_bytes h)
 unfolding six_bytes
 six-spelled (Data h) r = counted_bytes-spelled 129 h r.0 r.1
 six-spelled (Maint h) r = counted_bytes-spelled 144 h r.0 r.1
@@ -101,7 +101,7 @@ drop-front (suc n) [] y l = absurd (omega arith)
 drop-front (suc n) (b ∷ x) y l = drop-front n x y (omega arith)
 
 -- the eight bytes of a header are read as it
-pub eight-parsed : (h : Header) → InRange h → parsed (eight_bytes h) ≡ Ok h
+pub eight-parsed : (h : Header) → IsInRange h → parsed (eight_bytes h) ≡ Ok h
 eight-parsed h r =
     let l = length-six h in
     let front : take 6 (eight_bytes h) ≡ six_bytes h = take-front 6 (six_bytes h) _ l in
@@ -145,7 +145,7 @@ take-add (suc m) n [] = take-nil (suc m + n) ∙ sym (take-nil n)
     take-nil (suc n) = refl
 take-add (suc m) n (b ∷ t) = let e : suc m + n ≡ suc (m + n) = omega arith in ap (λ k. take k (b ∷ t)) e ∙ ap (λ x. b ∷ x) (take-add m n t)
 
-behind-counted : (h : Header) (n : ℕ) (d : List ℕ) → count_of h ≡ Some n → behind h d ≡ d ++ check_pair (check_of d)
+behind-counted : (h : Header) (n : ℕ) (d : List ℕ) → count_of h ≡ Some n → after_header h d ≡ d ++ check_pair (check_of d)
 behind-counted (Data h) n d e = refl
 behind-counted (Maint h) n d e = refl
 behind-counted (Control h) n d e = cc
@@ -170,7 +170,7 @@ control-frame (Data h) d e f = cc
 control-frame (Maint h) d e f = cc
 control-frame (Control h) d e f = f
 
-behind-control : (h : Header) (d : List ℕ) → count_of h ≡ None → behind h d ≡ []
+behind-control : (h : Header) (d : List ℕ) → count_of h ≡ None → after_header h d ≡ []
 behind-control (Data h) d e = cc
 behind-control (Maint h) d e = cc
 behind-control (Control h) d e = refl
@@ -185,10 +185,10 @@ control-whole h t all full is cs =
     (frame-control h cs, ap (λ k. take k t) (frame_length-control h cs) ∙ front-eight h t all full is ∙ sym (append-nil (eight_bytes h)) ∙ ap (λ x. eight_bytes h ++ x) (sym (behind-control h [] cs)))
 
 -- and so is another, where the check of the data is right
-pub counted-whole : (h : Header) (n : ℕ) (t : List ℕ) → IsBytes t → n + 10 ≤ length t → parsed (take 8 t) ≡ Ok h → count_of h ≡ Some n → data_right n t ≡ true → IsFrame h (data_of n t) × (take (frame_length h) t ≡ wire h (data_of n t))
-unfolding wire data_right
+pub counted-whole : (h : Header) (n : ℕ) (t : List ℕ) → IsBytes t → n + 10 ≤ length t → parsed (take 8 t) ≡ Ok h → count_of h ≡ Some n → is_data_right n t ≡ true → IsFrame h (data_after_header n t) × (take (frame_length h) t ≡ wire h (data_after_header n t))
+unfolding wire is_data_right
 counted-whole h n t all full is cs right =
-    let d = data_of n t in
+    let d = data_after_header n t in
     let ld : length d ≡ n = length-take-le n (drop 8 t) (omega (arith, length-drop 8 t)) in
     let pair : take 2 (drop (n + 8) t) ≡ check_pair (check_of d) =
     two-at (n + 8) t (omega arith)
@@ -204,12 +204,12 @@ counted-whole h n t all full is cs right =
 
 pub wire-front : (h : Header) (d u : List ℕ) → take 8 (wire h d ++ u) ≡ eight_bytes h
 unfolding wire
-wire-front h d u = ap (take 8) (append_assoc (eight_bytes h) (behind h d) u) ∙ take-front 8 (eight_bytes h) _ (length-eight h)
+wire-front h d u = ap (take 8) (append_assoc (eight_bytes h) (after_header h d) u) ∙ take-front 8 (eight_bytes h) _ (length-eight h)
 
 pub length-wire : (h : Header) (d : List ℕ) → IsFrame h d → length (wire h d) ≡ frame_length h
 unfolding wire
-length-wire (Data h) d f = let a = length-eight (Data h) in omega (arith, length-append (eight_bytes (Data h)) (behind (Data h) d), length-append d (check_pair (check_of d)))
-length-wire (Maint h) d f = let a = length-eight (Maint h) in omega (arith, length-append (eight_bytes (Maint h)) (behind (Maint h) d), length-append d (check_pair (check_of d)))
+length-wire (Data h) d f = let a = length-eight (Data h) in omega (arith, length-append (eight_bytes (Data h)) (after_header (Data h) d), length-append d (check_pair (check_of d)))
+length-wire (Maint h) d f = let a = length-eight (Maint h) in omega (arith, length-append (eight_bytes (Maint h)) (after_header (Maint h) d), length-append d (check_pair (check_of d)))
 length-wire (Control h) d f = let a = length-eight (Control h) in omega (arith, length-append (eight_bytes (Control h)) [])
 
 index-front : (k i : ℕ) (x y : List ℕ) → length x ≡ k → slice_index (x ++ y) (k + i) ≡ slice_index y i
@@ -219,19 +219,19 @@ index-front (suc k) i [] y l = absurd (omega arith)
 index-front (suc k) i (b ∷ x) y l = let e : suc k + i ≡ suc (k + i) = omega arith in ap (slice_index (b ∷ (x ++ y))) e ∙ index-front k i x y (omega arith)
 
 -- the data of a frame on the line
-pub wire-data : (h : Header) (n : ℕ) (d : List ℕ) → count_of h ≡ Some n → IsFrame h d → data_of n (wire h d) ≡ d
+pub wire-data : (h : Header) (n : ℕ) (d : List ℕ) → count_of h ≡ Some n → IsFrame h d → data_after_header n (wire h d) ≡ d
 unfolding wire
 wire-data h n d cs f =
     let l = counted-frame h n d cs f in
-    ap (take n) (drop-front 8 (eight_bytes h) (behind h d) (length-eight h) ∙ behind-counted h n d cs) ∙ take-front n d _ l
+    ap (take n) (drop-front 8 (eight_bytes h) (after_header h d) (length-eight h) ∙ behind-counted h n d cs) ∙ take-front n d _ l
 
-pub wire-right : (h : Header) (n : ℕ) (d : List ℕ) → count_of h ≡ Some n → IsFrame h d → data_right n (wire h d) ≡ true
-unfolding wire data_right
+pub wire-right : (h : Header) (n : ℕ) (d : List ℕ) → count_of h ≡ Some n → IsFrame h d → is_data_right n (wire h d) ≡ true
+unfolding wire is_data_right
 wire-right h n d cs f =
     let l = counted-frame h n d cs f in
     let is : wire h d ≡ (eight_bytes h ++ d) ++ check_pair (check_of d) = ap (λ x. eight_bytes h ++ x) (behind-counted h n d cs) ∙ sym (append_assoc (eight_bytes h) d (check_pair (check_of d))) in
     let front : length (eight_bytes h ++ d) ≡ n + 8 = omega (arith, length-append (eight_bytes h) d, length-eight h) in
     let low : slice_index (wire h d) (n + 8) ≡ check_of d % 256 = ap (λ x. slice_index x (n + 8)) is ∙ ap (slice_index ((eight_bytes h ++ d) ++ check_pair (check_of d))) (omega arith) ∙ index-front (n + 8) 0 (eight_bytes h ++ d) (check_pair (check_of d)) front in
     let high : slice_index (wire h d) (n + 9) ≡ check_of d / 256 = ap (λ x. slice_index x (n + 9)) is ∙ ap (slice_index ((eight_bytes h ++ d) ++ check_pair (check_of d))) (omega arith) ∙ index-front (n + 8) 1 (eight_bytes h ++ d) (check_pair (check_of d)) front in
-    let same : data_of n (wire h d) ≡ d = wire-data h n d cs f in
-    tests_from_pair (slice_index (wire h d) (n + 8)) (slice_index (wire h d) (n + 9)) (check_of (data_of n (wire h d)) % 256) (check_of (data_of n (wire h d)) / 256) (cc (low ∙ ap (λ x. check_of x % 256) (sym same), high ∙ ap (λ x. check_of x / 256) (sym same)))
+    let same : data_after_header n (wire h d) ≡ d = wire-data h n d cs f in
+    tests_from_pair (slice_index (wire h d) (n + 8)) (slice_index (wire h d) (n + 9)) (check_of (data_after_header n (wire h d)) % 256) (check_of (data_after_header n (wire h d)) / 256) (cc (low ∙ ap (λ x. check_of x % 256) (sym same), high ∙ ap (λ x. check_of x / 256) (sym same)))

@@ -5,7 +5,7 @@ pub mod Wire
 pub mod Rows
 pub mod Reading
 pub mod Resume
-pub mod Held
+pub mod Reader
 pub mod Step
 pub mod Room
 pub mod Device

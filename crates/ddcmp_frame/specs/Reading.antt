@@ -12,8 +12,8 @@ use Rattle.ddcmp_frame.specs.Spelling.{parsed}
 use Rattle.ddcmp_frame.specs.Rows.{Outcome, read_rows}
 
 -- An item with the data that a reader lends beside it.
-abbrev pub Given : Type 0
-Given = Item × List ℕ
+abbrev pub ReadItem : Type 0
+ReadItem = Item × List ℕ
 
 -- Where reading stands: the offset, whether synchronism is lost, whether the frame that begins
 -- here was told to be too long, and the text from there on.
@@ -24,57 +24,57 @@ pub record Place : Type 0 where
   pub rest : List ℕ
 
 -- n bytes further on
-abbrev pub past : ℕ → Bool → Place → Place
-past n lost p = record { offset = p.offset + n; lost = lost; told = false; rest = drop n p.rest }
+abbrev pub place_after : ℕ → Bool → Place → Place
+place_after n lost p = record { offset = p.offset + n; lost = lost; told = false; rest = drop n p.rest }
 
 abbrev pub count_of : Header → Option ℕ
 count_of (Data h) = Some h.count
 count_of (Maint h) = Some h.count
 count_of (Control h) = None
 
--- the n bytes of data behind a header
-abbrev pub data_of : ℕ → List ℕ → List ℕ
-data_of n t = take n (drop 8 t)
+-- the n bytes of data after a header
+abbrev pub data_after_header : ℕ → List ℕ → List ℕ
+data_after_header n t = take n (drop 8 t)
 
--- the check of the data alone stands behind them
-unfoldable pub data_right : ℕ → List ℕ → Bool
-data_right n t = (slice_index t (n + 8) == check_of (data_of n t) % 256) && (slice_index t (n + 9) == check_of (data_of n t) / 256)
+-- the check of the data alone stands after them
+unfoldable pub is_data_right : ℕ → List ℕ → Bool
+is_data_right n t = (slice_index t (n + 8) == check_of (data_after_header n t) % 256) && (slice_index t (n + 9) == check_of (data_after_header n t) / 256)
 
 -- A header whose COUNT is above max is told once and passed over with its data, unchecked;
 -- another takes its data and their check. Until the last byte the frame is unfinished.
-abbrev pub by_length : Place → Header → ℕ → Bool → Bool → Option (List Given × Place)
+abbrev pub by_length : Place → Header → ℕ → Bool → Bool → Option (List ReadItem × Place)
 by_length p h n true false = Some ((TooLong p.offset h, []) ∷ [], record p { told = true })
-by_length p h n true true = if nat_lt (length p.rest) (n + 10) then None else Some ([], past (n + 10) false p)
+by_length p h n true true = if nat_lt (length p.rest) (n + 10) then None else Some ([], place_after (n + 10) false p)
 by_length p h n false told =
     if nat_lt (length p.rest) (n + 10)
     then None
-    else Some ((if data_right n p.rest then (Good p.offset h, data_of n p.rest) else (DataCheck p.offset h, [])) ∷ [], past (n + 10) false p)
+    else Some ((if is_data_right n p.rest then (Good p.offset h, data_after_header n p.rest) else (DataCheck p.offset h, [])) ∷ [], place_after (n + 10) false p)
 
 -- a control header is a whole frame
-abbrev pub by_count : ℕ → Place → Header → Option ℕ → Option (List Given × Place)
-by_count max p h None = Some ((Good p.offset h, []) ∷ [], past 8 false p)
+abbrev pub by_count : ℕ → Place → Header → Option ℕ → Option (List ReadItem × Place)
+by_count max p h None = Some ((Good p.offset h, []) ∷ [], place_after 8 false p)
 by_count max p h (Some n) = by_length p h n (nat_lt max n) p.told
 
 -- What the first eight bytes are decides. Where their check is wrong the start byte alone is
 -- given up, and the loss of synchronism is told once.
-abbrev pub by_verdict : ℕ → Place → Result Header HeaderFault → Option (List Given × Place)
-by_verdict max p (Err NotAStart) = Some ([], past 1 p.lost p)
-by_verdict max p (Err Check) = Some ((if p.lost then [] else (HeaderCheck p.offset, []) ∷ []), past 1 true p)
-by_verdict max p (Err (BadType c)) = Some ((Format p.offset (BadType c), []) ∷ [], past 8 false p)
-by_verdict max p (Err CountZero) = Some ((Format p.offset CountZero, []) ∷ [], past 8 false p)
+abbrev pub by_verdict : ℕ → Place → Result Header HeaderFault → Option (List ReadItem × Place)
+by_verdict max p (Err NotAStart) = Some ([], place_after 1 p.lost p)
+by_verdict max p (Err Check) = Some ((if p.lost then [] else (HeaderCheck p.offset, []) ∷ []), place_after 1 true p)
+by_verdict max p (Err (BadType c)) = Some ((Format p.offset (BadType c), []) ∷ [], place_after 8 false p)
+by_verdict max p (Err CountZero) = Some ((Format p.offset CountZero, []) ∷ [], place_after 8 false p)
 by_verdict max p (Ok h) = by_count max p h (count_of h)
 
 -- from a start byte eight bytes are a candidate; any other byte is skipped
-abbrev pub by_front : ℕ → Place → List ℕ → Option (List Given × Place)
+abbrev pub by_front : ℕ → Place → List ℕ → Option (List ReadItem × Place)
 by_front max p [] = None
 by_front max p (b ∷ t) =
     if is_start b
     then (if nat_lt (length (b ∷ t)) 8 then None else by_verdict max p (parsed (take 8 (b ∷ t))))
-    else Some ([], past 1 p.lost p)
+    else Some ([], place_after 1 p.lost p)
 
 -- One row of the table: the items that are given at a place and the place where reading goes on;
 -- None where it ends.
-unfoldable pub row : ℕ → Place → Option (List Given × Place)
+unfoldable pub row : ℕ → Place → Option (List ReadItem × Place)
 row max p = by_front max p p.rest
 
 -- what each row takes some of: two for each byte, and one where nothing was told
@@ -82,14 +82,14 @@ abbrev pub weight : Place → ℕ
 weight p = 2 * length p.rest + (if p.told then 0 else 1)
 
 -- reading on from a place, row after row
-unfoldable pub read : ℕ → Place → Outcome Given Place
+unfoldable pub read : ℕ → Place → Outcome ReadItem Place
 read max p = read_rows (row max) weight p
 
 abbrev pub beginning : List ℕ → Place
 beginning text = record { offset = 0; lost = false; told = false; rest = text }
 
 -- the items of a text, each with its data, for a reader that takes at most max bytes of data
-unfoldable pub items : ℕ → List ℕ → List Given
+unfoldable pub items : ℕ → List ℕ → List ReadItem
 items max text = (read max (beginning text)).items
 
 -- the place at which the reading of a text ends
@@ -104,23 +104,23 @@ open_at_end max text = length (ending max text).rest
 abbrev pub kept_at_end : ℕ → List ℕ → ℕ
 kept_at_end max text = if (ending max text).told then 0 else open_at_end max text
 
--- a place with more text behind it
-abbrev pub more : Place → List ℕ → Place
-more p u = record { offset = p.offset; lost = p.lost; told = p.told; rest = p.rest ++ u }
+-- a place with more text after it
+abbrev pub with_more : Place → List ℕ → Place
+with_more p u = record { offset = p.offset; lost = p.lost; told = p.told; rest = p.rest ++ u }
 
 -- the header and the data of the good item, if it is one
-abbrev pub good_of : Given → List (Header × List ℕ)
-good_of (Good o h, lent) = (h, lent) ∷ []
-good_of (HeaderCheck o, lent) = []
-good_of (DataCheck o h, lent) = []
-good_of (TooLong o h, lent) = []
-good_of (Format o f, lent) = []
+abbrev pub good_frame_of : ReadItem → List (Header × List ℕ)
+good_frame_of (Good o h, lent) = (h, lent) ∷ []
+good_frame_of (HeaderCheck o, lent) = []
+good_frame_of (DataCheck o h, lent) = []
+good_frame_of (TooLong o h, lent) = []
+good_frame_of (Format o f, lent) = []
 
 -- the frames of the good items
-unfoldable pub good_in : List Given → List (Header × List ℕ)
-good_in [] = []
-good_in (given ∷ rest) = good_of given ++ good_in rest
+unfoldable pub good_frames_in : List ReadItem → List (Header × List ℕ)
+good_frames_in [] = []
+good_frames_in (given ∷ rest) = good_frame_of given ++ good_frames_in rest
 
 -- the good frames of a text
 abbrev pub good_frames : ℕ → List ℕ → List (Header × List ℕ)
-good_frames max text = good_in (items max text)
+good_frames max text = good_frames_in (items max text)

@@ -8,6 +8,8 @@ use Rattle.ddcmp_frame.specs.declared.header.Header.{Header}
 use Rattle.ddcmp_frame.specs.declared.header.Header.TheVariants.{Data, Maint, Control}
 use Rattle.ddcmp_frame.specs.declared.header.HeaderFault.{HeaderFault}
 use Rattle.ddcmp_frame.specs.declared.header.HeaderFault.TheVariants.{NotAStart, Check, BadType, CountZero}
+use Rattle.ddcmp_num.specs.declared.limits.TheConstants.{MAX_COUNT}
+use Rattle.ddcmp_frame.specs.declared.codes.TheConstants.{CONTROL_START, DATA_START, MAINT_START, ACK_TYPE, NAK_TYPE, REP_TYPE, STRT_TYPE, STACK_TYPE}
 use Rattle.ddcmp_frame.specs.Fields.{ShortFields, CountedFields}
 
 -- a text: each of its numbers is below 256
@@ -16,26 +18,26 @@ IsBytes bytes = (i : ℕ) → slice_index bytes i < 256
 
 -- the bytes at which a header may begin: of a control, a data and a maintenance message
 abbrev pub is_start : ℕ → Bool
-is_start b = (b == 5) || ((b == 129) || (b == 144))
+is_start b = (b == CONTROL_START) || ((b == DATA_START) || (b == MAINT_START))
 
 -- ---- the relation
 
 -- the TYPE of a control header
 abbrev pub type_code : ControlType → ℕ
-type_code Ack = 1
-type_code Nak = 2
-type_code Rep = 3
-type_code Strt = 6
-type_code Stack = 7
+type_code Ack = ACK_TYPE
+type_code Nak = NAK_TYPE
+type_code Rep = REP_TYPE
+type_code Strt = STRT_TYPE
+type_code Stack = STACK_TYPE
 
 -- COUNT: the second byte and the six low bits of the third
-abbrev pub count_in : List ℕ → ℕ
-count_in bytes = slice_index bytes 1 + 256 * (slice_index bytes 2 % 64)
+abbrev pub count_field : List ℕ → ℕ
+count_field bytes = slice_index bytes 1 + 256 * (slice_index bytes 2 % 64)
 
 -- a control header and its six bytes
 pub record SpellsShort (h : ShortFields) (bytes : List ℕ) : Type 0 where
   pub len : length bytes ≡ 6
-  pub start : slice_index bytes 0 ≡ 5
+  pub start : slice_index bytes 0 ≡ CONTROL_START
   pub kind : slice_index bytes 1 ≡ type_code h.kind
   pub sub : slice_index bytes 2 % 64 ≡ h.sub
   pub q : IsTrue h.flags.q ↔ (slice_index bytes 2 / 64 % 2 ≡ 1)
@@ -48,7 +50,7 @@ pub record SpellsShort (h : ShortFields) (bytes : List ℕ) : Type 0 where
 pub record SpellsCounted (first : ℕ) (h : CountedFields) (bytes : List ℕ) : Type 0 where
   pub len : length bytes ≡ 6
   pub start : slice_index bytes 0 ≡ first
-  pub count : count_in bytes ≡ h.count
+  pub count : count_field bytes ≡ h.count
   pub some : 0 < h.count
   pub q : IsTrue h.flags.q ↔ (slice_index bytes 2 / 64 % 2 ≡ 1)
   pub s : IsTrue h.flags.s ↔ (slice_index bytes 2 / 128 % 2 ≡ 1)
@@ -58,8 +60,8 @@ pub record SpellsCounted (first : ℕ) (h : CountedFields) (bytes : List ℕ) : 
 
 -- a header and the six bytes that spell it
 abbrev pub Spells : Header → List ℕ → Type 0
-Spells (Data h) bytes = SpellsCounted 129 h bytes
-Spells (Maint h) bytes = SpellsCounted 144 h bytes
+Spells (Data h) bytes = SpellsCounted DATA_START h bytes
+Spells (Maint h) bytes = SpellsCounted MAINT_START h bytes
 Spells (Control h) bytes = SpellsShort h bytes
 
 -- the last two of eight bytes are the check of the first six
@@ -71,18 +73,24 @@ abbrev pub IsNoType : ℕ → Type 0
 IsNoType c = (kind : ControlType) → c ≢ type_code kind
 
 -- the ranges of the numbers that a header holds
-abbrev pub InRange : Header → Type 0
-InRange (Data h) = (0 < h.count) × (h.count ≤ 16383)
-InRange (Maint h) = (0 < h.count) × (h.count ≤ 16383)
-InRange (Control h) = h.sub < 64
+abbrev pub IsInRange : Header → Type 0
+IsInRange (Data h) = (0 < h.count) × (h.count ≤ MAX_COUNT)
+IsInRange (Maint h) = (0 < h.count) × (h.count ≤ MAX_COUNT)
+IsInRange (Control h) = h.sub < 64
 
 -- ---- the same as a function, for the reading of a text
 
 abbrev pub kind_of : ℕ → Option ControlType
-kind_of c = if c == 1 then Some Ack else if c == 2 then Some Nak else if c == 3 then Some Rep else if c == 6 then Some Strt else if c == 7 then Some Stack else None
+kind_of c =
+    if c == ACK_TYPE then Some Ack
+    else if c == NAK_TYPE then Some Nak
+    else if c == REP_TYPE then Some Rep
+    else if c == STRT_TYPE then Some Strt
+    else if c == STACK_TYPE then Some Stack
+    else None
 
-unfoldable pub check_holds : List ℕ → Bool
-check_holds bytes = (slice_index bytes 6 == check_of (take 6 bytes) % 256) && (slice_index bytes 7 == check_of (take 6 bytes) / 256)
+unfoldable pub is_check_right : List ℕ → Bool
+is_check_right bytes = (slice_index bytes 6 == check_of (take 6 bytes) % 256) && (slice_index bytes 7 == check_of (take 6 bytes) / 256)
 
 abbrev pub flags_of : List ℕ → Flags
 flags_of bytes = record { q = slice_index bytes 2 / 64 % 2 == 1; s = slice_index bytes 2 / 128 % 2 == 1 }
@@ -99,7 +107,7 @@ short_of kind bytes = record {
 
 abbrev pub counted_of : List ℕ → CountedFields
 counted_of bytes = record {
-  count = count_in bytes;
+  count = count_field bytes;
   flags = flags_of bytes;
   resp = slice_index bytes 3;
   num = slice_index bytes 4;
@@ -111,18 +119,18 @@ short_or_fault bytes (Some kind) = Ok (Control (short_of kind bytes))
 short_or_fault bytes None = Err (BadType (slice_index bytes 1))
 
 abbrev pub counted_or_none : List ℕ → Option CountedFields
-counted_or_none bytes = if count_in bytes == 0 then None else Some (counted_of bytes)
+counted_or_none bytes = if count_field bytes == 0 then None else Some (counted_of bytes)
 
 abbrev pub counted_or_fault : ℕ → Option CountedFields → Result Header HeaderFault
 counted_or_fault first None = Err CountZero
-counted_or_fault first (Some h) = Ok (if first == 129 then Data h else Maint h)
+counted_or_fault first (Some h) = Ok (if first == DATA_START then Data h else Maint h)
 
 abbrev pub by_start : List ℕ → Result Header HeaderFault
 by_start bytes =
-    if slice_index bytes 0 == 5
+    if slice_index bytes 0 == CONTROL_START
     then short_or_fault bytes (kind_of (slice_index bytes 1))
     else counted_or_fault (slice_index bytes 0) (counted_or_none bytes)
 
 -- the header that eight bytes are, or the first fault
 unfoldable pub parsed : List ℕ → Result Header HeaderFault
-parsed bytes = if is_start (slice_index bytes 0) then (if check_holds bytes then by_start bytes else Err Check) else Err NotAStart
+parsed bytes = if is_start (slice_index bytes 0) then (if is_check_right bytes then by_start bytes else Err Check) else Err NotAStart

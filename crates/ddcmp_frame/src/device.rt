@@ -1,4 +1,4 @@
-// Where bytes come from and where they go.
+//! Where bytes come from and where they go.
 ghost use Rattle.std.specs.Prelude.{◌≡◌, ◌≢◌, ◌<◌, length, false, true, is_none, List, ℕ, Option, Bool};
 
 use std::io::{ErrorKind, Read, Write};

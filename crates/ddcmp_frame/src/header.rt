@@ -1,10 +1,13 @@
-// Headers and their spelling.
+//! Headers and their spelling.
 ghost use Rattle.std.specs.Prelude.{◌≡◌, ◌≢◌, ◌/◌, ◌%◌, ℕ, ◌<◌, ◌≤◌, ◌↔◌, IfOk, IfSome, IsSome, List, take, length, slice_index, true, false};
-ghost use Rattle.ddcmp_frame.specs.Spelling.{Spells, SpellsCounted, HasCheck, IsNoType, IsBytes, parsed, count_in, is_start as is_start_byte, kind_of as kind_of_code, check_holds as check_holds_in, flags_of, short_of, counted_or_none, type_code as type_code_of};
+ghost use Rattle.ddcmp_frame.specs.Spelling.{Spells, SpellsCounted, HasCheck, IsNoType, IsBytes, parsed, count_field, is_start as is_start_byte, kind_of as kind_of_code, is_check_right as check_holds_in, flags_of, short_of, counted_or_none, type_code as type_code_of};
 ghost use Rattle.ddcmp_frame.specs.Wire.{six_bytes, counted_bytes, eight_bytes, flag_bits as flag_bits_of};
 ghost use Rattle.ddcmp_frame.specs.declared.header.Header.{Header as HeaderValue};
 
-use ddcmp_num::{check, check_bytes};
+use crate::codes::{
+    ACK_TYPE, CONTROL_START, DATA_START, MAINT_START, NAK_TYPE, REP_TYPE, STACK_TYPE, STRT_TYPE,
+};
+use ddcmp_num::{MAX_COUNT, check, check_bytes};
 use std::marker::Model;
 
 /// The two flags of a header, Q (quick sync) and S (select).
@@ -89,24 +92,25 @@ pub struct Counted {
 
 impl Model for Counted {
     ghost use Rattle.std.specs.Prelude.{◌<◌, ◌≤◌};
+    ghost use Rattle.ddcmp_num.specs.declared.limits.TheConstants.{MAX_COUNT};
     ghost use Rattle.ddcmp_frame.specs.Fields.{CountedFields};
 
     ghost Value = { CountedFields };
 
     ghost view = { λ h. record { count = h.count; flags = h.flags; resp = h.resp; num = h.num; addr = h.addr } };
 
-    ghost invariant = { λ h. (0 < h.count) × (h.count ≤ 16383) };
+    ghost invariant = { λ h. (0 < h.count) × (h.count ≤ MAX_COUNT) };
 
     ghost inverse = { λ h. record { count = h.count; flags = h.flags; resp = h.resp; num = h.num; addr = h.addr } };
 }
 
 impl Counted {
-    /// The fields in this order; None where `count` is 0 or above 16383.
+    /// The fields in this order; None where `count` is 0 or above `MAX_COUNT`.
     pub fn new(count: u16, flags: Flags, resp: u8, num: u8, addr: u8) -> Option<Self>
-        ensures valid { IsSome result ↔ ((0 < count) × (count ≤ 16383)) }
+        ensures valid { IsSome result ↔ ((0 < count) × (count ≤ MAX_COUNT)) }
         ensures value { IfSome result (λ h. h ≡ record { count = count; flags = flags; resp = resp; num = num; addr = addr }) }
     {
-        if 0 < count && count <= 16383 {
+        if 0 < count && count <= MAX_COUNT {
             Some(Counted {
                 count,
                 flags,
@@ -147,24 +151,24 @@ pub enum HeaderFault {
 pub(crate) fn is_start(byte: u8) -> bool
     ensures { result ≡ is_start_byte byte }
 {
-    byte == 0x05 || byte == 0x81 || byte == 0x90
+    byte == CONTROL_START || byte == DATA_START || byte == MAINT_START
 }
 
 fn kind_of(code: u8) -> Option<ControlType>
     ensures { result ≡ kind_of_code code }
 {
     match code {
-        1 => Some(ControlType::Ack),
-        2 => Some(ControlType::Nak),
-        3 => Some(ControlType::Rep),
-        6 => Some(ControlType::Strt),
-        7 => Some(ControlType::Stack),
+        ACK_TYPE => Some(ControlType::Ack),
+        NAK_TYPE => Some(ControlType::Nak),
+        REP_TYPE => Some(ControlType::Rep),
+        STRT_TYPE => Some(ControlType::Strt),
+        STACK_TYPE => Some(ControlType::Stack),
         _ => None,
     }
 }
 
 /// Whether the last two of eight bytes are the check of the first six.
-#[tactic(auto, unfolding(crate::specs::Spelling::check_holds))]
+#[tactic(auto, unfolding(crate::specs::Spelling::is_check_right))]
 fn check_holds(bytes: &[u8; 8]) -> bool
     ensures { result ≡ check_holds_in bytes.now }
 {
@@ -220,9 +224,9 @@ impl Header {
         ensures not_a_start { (result ≡ Err HeaderFault.NotAStart) ↔ (is_start_byte (slice_index bytes.now 0) ≡ false) }
         ensures check { (result ≡ Err HeaderFault.Check) ↔ ((is_start_byte (slice_index bytes.now 0) ≡ true) × (¬ HasCheck bytes.now)) }
         ensures bad_type { (c : ℕ) → (result ≡ Err (HeaderFault.BadType c))
-            ↔ ((slice_index bytes.now 0 ≡ 5) × HasCheck bytes.now × (slice_index bytes.now 1 ≡ c) × IsNoType c) }
+            ↔ ((slice_index bytes.now 0 ≡ CONTROL_START) × HasCheck bytes.now × (slice_index bytes.now 1 ≡ c) × IsNoType c) }
         ensures count_zero { (result ≡ Err HeaderFault.CountZero)
-            ↔ ((is_start_byte (slice_index bytes.now 0) ≡ true) × (slice_index bytes.now 0 ≢ 5) × HasCheck bytes.now × (count_in bytes.now ≡ 0)) }
+            ↔ ((is_start_byte (slice_index bytes.now 0) ≡ true) × (slice_index bytes.now 0 ≢ CONTROL_START) × HasCheck bytes.now × (count_field bytes.now ≡ 0)) }
         ensures exact { result ≡ parsed bytes.now }
     {
         Header::parse_exactly(bytes)
@@ -238,7 +242,7 @@ impl Header {
         if !check_holds(bytes) {
             return Err(HeaderFault::Check);
         }
-        if bytes[0] == 0x05 {
+        if bytes[0] == CONTROL_START {
             return match kind_of(bytes[1]) {
                 Some(kind) => Ok(Header::Control(short_in(kind, bytes))),
                 None => Err(HeaderFault::BadType(bytes[1])),
@@ -246,7 +250,7 @@ impl Header {
         }
         match counted_in(bytes) {
             None => Err(HeaderFault::CountZero),
-            Some(fields) if bytes[0] == 0x81 => Ok(Header::Data(fields)),
+            Some(fields) if bytes[0] == DATA_START => Ok(Header::Data(fields)),
             Some(fields) => Ok(Header::Maint(fields)),
         }
     }
@@ -278,10 +282,10 @@ impl Header {
         ensures exact { result ≡ six_bytes self.now }
     {
         match self {
-            Header::Data(h) => h.write_from(0x81),
-            Header::Maint(h) => h.write_from(0x90),
+            Header::Data(h) => h.write_from(DATA_START),
+            Header::Maint(h) => h.write_from(MAINT_START),
             Header::Control(h) => [
-                0x05,
+                CONTROL_START,
                 type_code(h.kind),
                 h.sub + flag_bits(h.flags),
                 h.resp,
@@ -324,10 +328,10 @@ fn type_code(kind: ControlType) -> u8
     ensures { result ≡ type_code_of kind }
 {
     match kind {
-        ControlType::Ack => 1,
-        ControlType::Nak => 2,
-        ControlType::Rep => 3,
-        ControlType::Strt => 6,
-        ControlType::Stack => 7,
+        ControlType::Ack => ACK_TYPE,
+        ControlType::Nak => NAK_TYPE,
+        ControlType::Rep => REP_TYPE,
+        ControlType::Strt => STRT_TYPE,
+        ControlType::Stack => STACK_TYPE,
     }
 }

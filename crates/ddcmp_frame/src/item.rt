@@ -1,4 +1,4 @@
-// What a reader gives.
+//! What a reader gives.
 use crate::header::{Header, HeaderFault};
 
 /// An item of a text, with the offset of its start byte.

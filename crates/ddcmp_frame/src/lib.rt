@@ -1,17 +1,19 @@
 //! Frames of DDCMP: headers and their spelling, frames on the line, and the reader of a line.
 #![tactic(auto)]
 
+pub mod codes;
 pub mod device;
 pub mod header;
 pub mod item;
 pub mod laws;
 pub mod nak;
-pub mod plain;
+pub mod reader;
 pub mod writer;
 
+pub use ddcmp_num::MAX_COUNT;
 pub use device::{FromRead, Got, Sink, Source, ToWrite, Worst};
 pub use header::{ControlType, Counted, Flags, Header, HeaderFault, Short};
 pub use item::Item;
 pub use nak::Nak;
-pub use plain::{Reader, ReaderRefusal};
+pub use reader::{Reader, ReaderRefusal};
 pub use writer::write_frame;

@@ -1,4 +1,4 @@
-// The reasons of a NAK.
+//! The reasons of a NAK.
 ghost use Rattle.std.specs.Prelude.{◌≡◌};
 ghost use Rattle.ddcmp_frame.specs.Naks.{subtype_of, reason_of};
 

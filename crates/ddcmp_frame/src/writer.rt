@@ -1,4 +1,4 @@
-// Frames as they go on the line.
+//! Frames as they go on the line.
 ghost use Rattle.std.specs.Prelude.{◌≡◌, ◌+◌, ◌≤◌, ◌++◌, length, take, drop};
 ghost use Rattle.ddcmp_frame.specs.Wire.{wire, IsFrame};
 

@@ -1,7 +1,7 @@
 // Vectors and worked texts, and one call of each function.
 ghost use Rattle.std.specs.Prelude.{◌≡◌, ◌+◌, ◌≤◌, length};
 ghost use Rattle.ddcmp_frame.specs.Wire.{IsFrame};
-ghost use Rattle.ddcmp_frame.specs.Held.{frame_length};
+ghost use Rattle.ddcmp_frame.specs.Reader.{frame_length};
 
 use ddcmp_frame::laws::wire_length;
 use ddcmp_frame::{

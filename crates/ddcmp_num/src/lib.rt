@@ -4,10 +4,12 @@
 ghost use Rattle.std.specs.Prelude.{◌≡◌, ◌≢◌, ◌<◌, List, ℕ, ◌∷◌, ◌++◌};
 ghost use Rattle.ddcmp_num.specs.Check.{check_of, check_pair};
 
+mod limits;
 mod running;
 mod sequence;
 
 use byteorder::{ByteOrder, LittleEndian};
+pub use limits::{MAX_COUNT, MAX_WINDOW};
 pub use running::Check;
 pub use sequence::Seq;
 

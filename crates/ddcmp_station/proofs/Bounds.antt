@@ -4,7 +4,7 @@ use Rattle.std.proofs.Math.Nat.{mul-le-mul}
 use Rattle.ddcmp_frame.specs.declared.header.Header.{Header}
 use Rattle.ddcmp_frame.specs.declared.header.Header.TheVariants.{Data, Maint, Control}
 use Rattle.ddcmp_frame.specs.Wire.{IsFrame}
-use Rattle.ddcmp_frame.specs.Held.{frame_length}
+use Rattle.ddcmp_frame.specs.Reader.{frame_length}
 
 -- the messages of two stores have at most 2 * 255 * 16383 bytes
 pub messages_most : (window room longest : ℕ) → window ≤ 255 → room ≤ 255 → longest ≤ 16383 → (window + room) * longest ≤ 8355330

@@ -3,135 +3,124 @@ use Rattle.std.proofs.Common.{◌≡◌, ℕ, ◌+◌, ◌<◌, ◌≤◌, List,
 use Rattle.std.specs.Prelude.{option_to_list}
 use Rattle.std.proofs.lemmas.Bool.{cases_lt}
 use Rattle.std.proofs.Math.Seq.{drop-append_seam, drop-length}
-use Rattle.ddcmp_frame.specs.Reading.{Given, items, ending, read, more}
+use Rattle.ddcmp_frame.specs.Reading.{ReadItem, items}
+use Rattle.ddcmp_frame.proofs.ReadingLaws.{items-more}
 use Rattle.ddcmp_frame.specs.declared.item.Item.{Item}
-use Rattle.ddcmp_frame.specs.Held.{Held, Stands}
-use Rattle.ddcmp_core.specs.declared.kinds.Notice.{Notice}
-use Rattle.ddcmp_core.specs.Kept.{Kept}
-use Rattle.ddcmp_station.specs.Linked.{Linked}
+use Rattle.ddcmp_frame.specs.Reader.{ReaderView, StandsFor}
+use Rattle.ddcmp_core.specs.declared.notice.Notice.{Notice}
+use Rattle.ddcmp_core.specs.Core.{CoreView}
+use Rattle.ddcmp_station.specs.Station.{StationView}
 use Rattle.ddcmp_station.specs.OneByte.{TakesByte}
-use Rattle.ddcmp_station.specs.Bytes.{heard_one, told_one, heard_all, told_all, added, fed, told_of}
+use Rattle.ddcmp_station.specs.Bytes.{after_item, notices_of_item, after_items, notices_of_items, items_added, after_piece, notices_of_piece}
 
--- a text that goes on is read on: what was given stays
-abbrev pub ReadsOn : Type 0
-ReadsOn = (max : ℕ) (text more_text : List ℕ) → items max (text ++ more_text) ≡ items max text ++ (read max (more (ending max text) more_text)).items
-
-pub heard-append : (x y : List Given) (k : Kept) → heard_all (x ++ y) k ≡ heard_all y (heard_all x k)
-unfolding heard_all
+pub heard-append : (x y : List ReadItem) (k : CoreView) → after_items (x ++ y) k ≡ after_items y (after_items x k)
+unfolding after_items
 heard-append [] y k = refl
-heard-append (g ∷ x) y k = heard-append x y (heard_one g k)
+heard-append (g ∷ x) y k = heard-append x y (after_item g k)
 
-pub told-append : (x y : List Given) (k : Kept) → told_all (x ++ y) k ≡ told_all x k ++ told_all y (heard_all x k)
-unfolding heard_all told_all
+pub told-append : (x y : List ReadItem) (k : CoreView) → notices_of_items (x ++ y) k ≡ notices_of_items x k ++ notices_of_items y (after_items x k)
+unfolding after_items notices_of_items
 told-append [] y k = refl
-told-append (g ∷ x) y k = ap (λ t. told_one g k ++ t) (told-append x y (heard_one g k)) ∙ sym (append_assoc (told_one g k) _ _)
+told-append (g ∷ x) y k = ap (λ t. notices_of_item g k ++ t) (told-append x y (after_item g k)) ∙ sym (append_assoc (notices_of_item g k) _ _)
 
-pub heard-limits : (x : List Given) (k : Kept) → (heard_all x k).limits ≡ k.limits
-unfolding heard_all
+pub heard-limits : (x : List ReadItem) (k : CoreView) → (after_items x k).limits ≡ k.limits
+unfolding after_items
 heard-limits [] k = refl
-heard-limits (g ∷ x) k = heard-limits x (heard_one g k)
+heard-limits (g ∷ x) k = heard-limits x (after_item g k)
 
-pub heard-none : (k : Kept) → heard_all [] k ≡ k
-unfolding heard_all
+pub heard-none : (k : CoreView) → after_items [] k ≡ k
+unfolding after_items
 heard-none k = refl
 
-pub told-none : (k : Kept) → told_all [] k ≡ []
-unfolding told_all
+pub told-none : (k : CoreView) → notices_of_items [] k ≡ []
+unfolding notices_of_items
 told-none k = refl
 
-pub heard-single : (g : Given) (k : Kept) → heard_all (g ∷ []) k ≡ heard_one g k
-unfolding heard_all
+pub heard-single : (g : ReadItem) (k : CoreView) → after_items (g ∷ []) k ≡ after_item g k
+unfolding after_items
 heard-single g k = refl
 
-pub told-single : (g : Given) (k : Kept) → told_all (g ∷ []) k ≡ told_one g k
-unfolding told_all
-told-single g k = append-nil (told_one g k)
+pub told-single : (g : ReadItem) (k : CoreView) → notices_of_items (g ∷ []) k ≡ notices_of_item g k
+unfolding notices_of_items
+told-single g k = append-nil (notices_of_item g k)
 
 -- the items that a piece adds are those that its text has behind the earlier ones
-pub added-is : (max : ℕ) (text u : List ℕ) (given : List Given) → items max (text ++ u) ≡ items max text ++ given → added max text u ≡ given
+pub added-is : (max : ℕ) (text u : List ℕ) (given : List ReadItem) → items max (text ++ u) ≡ items max text ++ given → items_added max text u ≡ given
 added-is max text u given e = ap (drop (length (items max text))) e ∙ drop-append_seam (items max text) given
 
-pub added-all : ReadsOn → (max : ℕ) (text u : List ℕ) → items max (text ++ u) ≡ items max text ++ added max text u
-added-all law max text u = law max text u ∙ ap (λ x. items max text ++ x) (sym (added-is max text u _ (law max text u)))
+pub added-all : (max : ℕ) (text u : List ℕ) → items max (text ++ u) ≡ items max text ++ items_added max text u
+added-all max text u = items-more max text u ∙ ap (λ x. items max text ++ x) (sym (added-is max text u _ (items-more max text u)))
 
-pub added-append : ReadsOn → (max : ℕ) (text u v : List ℕ) → added max text (u ++ v) ≡ added max text u ++ added max (text ++ u) v
-added-append law max text u v =
+pub added-append : (max : ℕ) (text u v : List ℕ) → items_added max text (u ++ v) ≡ items_added max text u ++ items_added max (text ++ u) v
+added-append max text u v =
     added-is max text (u ++ v) _
-    (ap (items max) (sym (append_assoc text u v)) ∙ added-all law max (text ++ u) v ∙ ap (λ x. x ++ added max (text ++ u) v) (added-all law max text u)
+    (ap (items max) (sym (append_assoc text u v)) ∙ added-all max (text ++ u) v ∙ ap (λ x. x ++ items_added max (text ++ u) v) (added-all max text u)
     ∙ append_assoc (items max text) _ _)
 
-pub added-none : (max : ℕ) (text : List ℕ) → added max text [] ≡ []
+pub added-none : (max : ℕ) (text : List ℕ) → items_added max text [] ≡ []
 added-none max text = ap (λ t. drop (length (items max text)) (items max t)) (append-nil text) ∙ drop-length (items max text)
 
-pub fed-limits : (text u : List ℕ) (k : Kept) → (fed text u k).limits ≡ k.limits
-fed-limits text u k = heard-limits (added k.limits.longest text u) k
+pub fed-limits : (text u : List ℕ) (k : CoreView) → (after_piece text u k).limits ≡ k.limits
+fed-limits text u k = heard-limits (items_added k.limits.longest text u) k
 
-pub fed-none : (text : List ℕ) (k : Kept) → fed text [] k ≡ k
-fed-none text k = ap (λ x. heard_all x k) (added-none k.limits.longest text) ∙ heard-none k
+pub fed-none : (text : List ℕ) (k : CoreView) → after_piece text [] k ≡ k
+fed-none text k = ap (λ x. after_items x k) (added-none k.limits.longest text) ∙ heard-none k
 
-pub told-of-none : (text : List ℕ) (k : Kept) → told_of text [] k ≡ []
-told-of-none text k = ap (λ x. told_all x k) (added-none k.limits.longest text) ∙ told-none k
+pub told-of-none : (text : List ℕ) (k : CoreView) → notices_of_piece text [] k ≡ []
+told-of-none text k = ap (λ x. notices_of_items x k) (added-none k.limits.longest text) ∙ told-none k
 
-pub fed-append : ReadsOn → (text u v : List ℕ) (k : Kept) → fed text (u ++ v) k ≡ fed (text ++ u) v (fed text u k)
-fed-append law text u v k =
-    ap (λ x. heard_all x k) (added-append law k.limits.longest text u v) ∙ heard-append _ _ k
-    ∙ ap (λ l. heard_all (added l.longest (text ++ u) v) (fed text u k)) (sym (fed-limits text u k))
+pub fed-append : (text u v : List ℕ) (k : CoreView) → after_piece text (u ++ v) k ≡ after_piece (text ++ u) v (after_piece text u k)
+fed-append text u v k =
+    ap (λ x. after_items x k) (added-append k.limits.longest text u v) ∙ heard-append _ _ k
+    ∙ ap (λ l. after_items (items_added l.longest (text ++ u) v) (after_piece text u k)) (sym (fed-limits text u k))
 
-pub told-of-append : ReadsOn → (text u v : List ℕ) (k : Kept) → told_of text (u ++ v) k ≡ told_of text u k ++ told_of (text ++ u) v (fed text u k)
-told-of-append law text u v k =
-    ap (λ x. told_all x k) (added-append law k.limits.longest text u v) ∙ told-append _ _ k
-    ∙ ap (λ l. told_of text u k ++ told_all (added l.longest (text ++ u) v) (fed text u k)) (sym (fed-limits text u k))
-
--- ---- the same laws, as the contract of `pieces` has them
-
-abbrev pub PiecesState : Type 0
-PiecesState = (text u v : List ℕ) (k : Kept) → fed text (u ++ v) k ≡ fed (text ++ u) v (fed text u k)
-
-abbrev pub PiecesTold : Type 0
-PiecesTold = (text u v : List ℕ) (k : Kept) → told_of text (u ++ v) k ≡ told_of text u k ++ told_of (text ++ u) v (fed text u k)
+pub told-of-append : (text u v : List ℕ) (k : CoreView) → notices_of_piece text (u ++ v) k ≡ notices_of_piece text u k ++ notices_of_piece (text ++ u) v (after_piece text u k)
+told-of-append text u v k =
+    ap (λ x. notices_of_items x k) (added-append k.limits.longest text u v) ∙ told-append _ _ k
+    ∙ ap (λ l. notices_of_piece text u k ++ notices_of_items (items_added l.longest (text ++ u) v) (after_piece text u k)) (sym (fed-limits text u k))
 
 -- ---- one byte
 
-pub fed-given : (max : ℕ) (text u : List ℕ) (given : List Given) (k : Kept) → max ≡ k.limits.longest → items max (text ++ u) ≡ items max text ++ given
-    → (fed text u k ≡ heard_all given k) × (told_of text u k ≡ told_all given k)
+pub fed-given : (max : ℕ) (text u : List ℕ) (given : List ReadItem) (k : CoreView) → max ≡ k.limits.longest → items max (text ++ u) ≡ items max text ++ given
+    → (after_piece text u k ≡ after_items given k) × (notices_of_piece text u k ≡ notices_of_items given k)
 fed-given max text u given k e its =
-    let a : added k.limits.longest text u ≡ given = subst (λ m. added m text u ≡ given) e (added-is max text u given its) in
-    (ap (λ x. heard_all x k) a, ap (λ x. told_all x k) a)
+    let a : items_added k.limits.longest text u ≡ given = subst (λ m. items_added m text u ≡ given) e (added-is max text u given its) in
+    (ap (λ x. after_items x k) a, ap (λ x. notices_of_items x k) a)
 
 -- a reader took a byte
-pub record Pushed (line after : Held) (b : ℕ) (given : List Given) : Type 0 where
-  pub stands : (text : List ℕ) → Stands line text → Stands after (text ++ b ∷ [])
-  pub item : (text : List ℕ) → Stands line text → items line.max (text ++ b ∷ []) ≡ items line.max text ++ given
+pub record Pushed (line after : ReaderView) (b : ℕ) (given : List ReadItem) : Type 0 where
+  pub stands : (text : List ℕ) → StandsFor line text → StandsFor after (text ++ b ∷ [])
+  pub item : (text : List ℕ) → StandsFor line text → items line.max (text ++ b ∷ []) ≡ items line.max text ++ given
   pub counted : after.offset ≡ line.offset + 1
-  pub max_is : after.max ≡ line.max
 
-pub byte-none : (kept : Kept) (syn : ℕ) (line after : Held) (b : ℕ) → Pushed line after b []
-    → TakesByte (record { kept = kept; syn = syn; line = line }) b (record { kept = kept; syn = syn; line = after }) None
-byte-none kept syn line after b p = record {
+pub byte-none : (core : CoreView) (syn : ℕ) (line after : ReaderView) (b : ℕ) → line.max ≡ core.limits.longest → Pushed line after b []
+    → TakesByte (record { core = core; syn = syn; line = line }) b (record { core = core; syn = syn; line = after }) None
+byte-none core syn line after b m p = record {
   given = [];
   stands = p.stands;
   items_are = p.item;
-  kept = sym (heard-none kept);
-  told = sym (told-none kept);
+  core = sym (heard-none core);
+  told = sym (told-none core);
   offset = p.counted;
-  max_is = p.max_is;
+  longest = m;
   limits = refl;
   syn = refl;
 }
 
-pub byte-some : (kept : Kept) (syn : ℕ) (line after : Held) (b : ℕ) (item : Item) (new : Linked) (notice : Option Notice) → Pushed line after b ((item, after.lent) ∷ [])
-    → new ≡ record { kept = heard_one (item, after.lent) kept; syn = syn; line = after }
-    → option_to_list notice ≡ told_one (item, after.lent) kept
-    → TakesByte (record { kept = kept; syn = syn; line = line }) b new notice
-byte-some kept syn line after b item new notice p e t =
-    subst (λ v. TakesByte (record { kept = kept; syn = syn; line = line }) b v notice) (sym e) (record {
+pub byte-some : (core : CoreView) (syn : ℕ) (line after : ReaderView) (b : ℕ) (item : Item) (new : StationView) (notice : Option Notice)
+    → line.max ≡ core.limits.longest → Pushed line after b ((item, after.lent) ∷ [])
+    → new ≡ record { core = after_item (item, after.lent) core; syn = syn; line = after }
+    → option_to_list notice ≡ notices_of_item (item, after.lent) core
+    → TakesByte (record { core = core; syn = syn; line = line }) b new notice
+byte-some core syn line after b item new notice m p e t =
+    subst (λ v. TakesByte (record { core = core; syn = syn; line = line }) b v notice) (sym e) (record {
       given = (item, after.lent) ∷ [];
       stands = p.stands;
       items_are = p.item;
-      kept = sym (heard-single (item, after.lent) kept);
-      told = t ∙ sym (told-single (item, after.lent) kept);
+      core = sym (heard-single (item, after.lent) core);
+      told = t ∙ sym (told-single (item, after.lent) core);
       offset = p.counted;
-      max_is = p.max_is;
+      longest = m;
       limits = refl;
       syn = refl;
     })
@@ -139,22 +128,20 @@ byte-some kept syn line after b item new notice p e t =
 -- ---- byte after byte
 
 -- the first i bytes of a piece were taken, and gave no notice
-pub record FedPart (old : Linked) (piece : List ℕ) (i : ℕ) (new : Linked) : Type 0 where
-  pub stands : (text : List ℕ) → Stands old.line text → Stands new.line (text ++ take i piece)
-  pub kept : (text : List ℕ) → Stands old.line text → new.kept ≡ fed text (take i piece) old.kept
-  pub quiet : (text : List ℕ) (n : ℕ) → Stands old.line text → n ≤ i → told_of text (take n piece) old.kept ≡ []
+pub record FedPart (old : StationView) (piece : List ℕ) (i : ℕ) (new : StationView) : Type 0 where
+  pub stands : (text : List ℕ) → StandsFor old.line text → StandsFor new.line (text ++ take i piece)
+  pub core : (text : List ℕ) → StandsFor old.line text → new.core ≡ after_piece text (take i piece) old.core
+  pub quiet : (text : List ℕ) (n : ℕ) → StandsFor old.line text → n ≤ i → notices_of_piece text (take n piece) old.core ≡ []
   pub offset : new.line.offset ≡ old.line.offset + i
-  pub max_is : new.line.max ≡ new.kept.limits.longest
-  pub limits : new.kept.limits ≡ old.kept.limits
+  pub limits : new.core.limits ≡ old.core.limits
   pub syn : new.syn ≡ old.syn
 
-pub fed-nothing : (old : Linked) (piece : List ℕ) → old.line.max ≡ old.kept.limits.longest → FedPart old piece 0 old
-fed-nothing old piece m = record {
-  stands = λ text s. subst (Stands old.line) (sym (append-nil text)) s;
-  kept = λ text s. sym (fed-none text old.kept);
-  quiet = λ text n s few. subst (λ k. told_of text (take k piece) old.kept ≡ []) (zero_only n few) (told-of-none text old.kept);
+pub fed-nothing : (old : StationView) (piece : List ℕ) → FedPart old piece 0 old
+fed-nothing old piece = record {
+  stands = λ text s. subst (StandsFor old.line) (sym (append-nil text)) s;
+  core = λ text s. sym (fed-none text old.core);
+  quiet = λ text n s few. subst (λ k. notices_of_piece text (take k piece) old.core ≡ []) (zero_only n few) (told-of-none text old.core);
   offset = omega arith;
-  max_is = m;
   limits = refl;
   syn = refl;
 }
@@ -163,49 +150,46 @@ fed-nothing old piece m = record {
     zero_only n h = omega arith
 
 -- one byte more, with whatever notice
-pub record FedNext (old : Linked) (piece : List ℕ) (i : ℕ) (new : Linked) (notice : Option Notice) : Type 0 where
-  pub stands : (text : List ℕ) → Stands old.line text → Stands new.line (text ++ take i piece)
-  pub kept : (text : List ℕ) → Stands old.line text → new.kept ≡ fed text (take i piece) old.kept
-  pub told : (text : List ℕ) → Stands old.line text → told_of text (take i piece) old.kept ≡ option_to_list notice
-  pub first : (text : List ℕ) (n : ℕ) → Stands old.line text → n < i → told_of text (take n piece) old.kept ≡ []
+pub record FedNext (old : StationView) (piece : List ℕ) (i : ℕ) (new : StationView) (notice : Option Notice) : Type 0 where
+  pub stands : (text : List ℕ) → StandsFor old.line text → StandsFor new.line (text ++ take i piece)
+  pub core : (text : List ℕ) → StandsFor old.line text → new.core ≡ after_piece text (take i piece) old.core
+  pub told : (text : List ℕ) → StandsFor old.line text → notices_of_piece text (take i piece) old.core ≡ option_to_list notice
+  pub first : (text : List ℕ) (n : ℕ) → StandsFor old.line text → n < i → notices_of_piece text (take n piece) old.core ≡ []
   pub offset : new.line.offset ≡ old.line.offset + i
-  pub max_is : new.line.max ≡ new.kept.limits.longest
-  pub limits : new.kept.limits ≡ old.kept.limits
+  pub limits : new.core.limits ≡ old.core.limits
   pub syn : new.syn ≡ old.syn
 
-pub fed-next : PiecesState → PiecesTold → (old mid new : Linked) (piece : List ℕ) (i b : ℕ) (notice : Option Notice) → take (i + 1) piece ≡ take i piece ++ b ∷ []
+pub fed-next : (old mid new : StationView) (piece : List ℕ) (i b : ℕ) (notice : Option Notice) → take (i + 1) piece ≡ take i piece ++ b ∷ []
     → FedPart old piece i mid → TakesByte mid b new notice → FedNext old piece (i + 1) new notice
-fed-next state told old mid new piece i b notice one h t = record {
-  stands = λ text s. subst (Stands new.line) (append_assoc text (take i piece) (b ∷ []) ∙ ap (λ p. text ++ p) (sym one)) (t.stands (text ++ take i piece) (h.stands text s));
-  kept = λ text s.
-      t.kept ∙ sym (given text s).0 ∙ ap (λ k. fed (text ++ take i piece) (b ∷ []) k) (h.kept text s)
-      ∙ sym (state text (take i piece) (b ∷ []) old.kept) ∙ ap (λ p. fed text p old.kept) (sym one);
+fed-next old mid new piece i b notice one h t = record {
+  stands = λ text s. subst (StandsFor new.line) (append_assoc text (take i piece) (b ∷ []) ∙ ap (λ p. text ++ p) (sym one)) (t.stands (text ++ take i piece) (h.stands text s));
+  core = λ text s.
+      t.core ∙ sym (given text s).0 ∙ ap (λ k. after_piece (text ++ take i piece) (b ∷ []) k) (h.core text s)
+      ∙ sym (fed-append text (take i piece) (b ∷ []) old.core) ∙ ap (λ p. after_piece text p old.core) (sym one);
   told = λ text s.
-      ap (λ p. told_of text p old.kept) one ∙ told text (take i piece) (b ∷ []) old.kept
-      ∙ ap (λ l. l ++ told_of (text ++ take i piece) (b ∷ []) (fed text (take i piece) old.kept)) (h.quiet text i s (omega arith))
-      ∙ ap (λ k. told_of (text ++ take i piece) (b ∷ []) k) (sym (h.kept text s)) ∙ (given text s).1 ∙ sym t.told;
+      ap (λ p. notices_of_piece text p old.core) one ∙ told-of-append text (take i piece) (b ∷ []) old.core
+      ∙ ap (λ l. l ++ notices_of_piece (text ++ take i piece) (b ∷ []) (after_piece text (take i piece) old.core)) (h.quiet text i s (omega arith))
+      ∙ ap (λ k. notices_of_piece (text ++ take i piece) (b ∷ []) k) (sym (h.core text s)) ∙ (given text s).1 ∙ sym t.told;
   first = λ text n s few. h.quiet text n s (omega (arith, few));
   offset = omega (arith, t.offset, h.offset);
-  max_is = t.max_is ∙ h.max_is ∙ ap (λ l. l.longest) (sym t.limits);
   limits = t.limits ∙ h.limits;
   syn = t.syn ∙ h.syn;
 }
   where
-    given : (text : List ℕ) → Stands old.line text
-        → (fed (text ++ take i piece) (b ∷ []) mid.kept ≡ heard_all t.given mid.kept) × (told_of (text ++ take i piece) (b ∷ []) mid.kept ≡ told_all t.given mid.kept)
-    given text s = fed-given mid.line.max (text ++ take i piece) (b ∷ []) t.given mid.kept h.max_is (t.items_are (text ++ take i piece) (h.stands text s))
+    given : (text : List ℕ) → StandsFor old.line text
+        → (after_piece (text ++ take i piece) (b ∷ []) mid.core ≡ after_items t.given mid.core) × (notices_of_piece (text ++ take i piece) (b ∷ []) mid.core ≡ notices_of_items t.given mid.core)
+    given text s = fed-given mid.line.max (text ++ take i piece) (b ∷ []) t.given mid.core t.longest (t.items_are (text ++ take i piece) (h.stands text s))
 
-pub fed-quiet : (old new : Linked) (piece : List ℕ) (i : ℕ) → FedNext old piece (i + 1) new None → FedPart old piece (i + 1) new
+pub fed-quiet : (old new : StationView) (piece : List ℕ) (i : ℕ) → FedNext old piece (i + 1) new None → FedPart old piece (i + 1) new
 fed-quiet old new piece i h = record {
   stands = h.stands;
-  kept = h.kept;
+  core = h.core;
   quiet = λ text n s few. by text n s (cases_lt n (i + 1)) few;
   offset = h.offset;
-  max_is = h.max_is;
   limits = h.limits;
   syn = h.syn;
 }
   where
-    by : (text : List ℕ) (n : ℕ) → Stands old.line text → (n < i + 1) ⊎ (i + 1 ≤ n) → n ≤ i + 1 → told_of text (take n piece) old.kept ≡ []
+    by : (text : List ℕ) (n : ℕ) → StandsFor old.line text → (n < i + 1) ⊎ (i + 1 ≤ n) → n ≤ i + 1 → notices_of_piece text (take n piece) old.core ≡ []
     by text n s (inl few) most = h.first text n s few
-    by text n s (inr all) most = subst (λ k. told_of text (take k piece) old.kept ≡ []) (let e : i + 1 ≡ n = omega (arith, all, most) in e) (h.told text s)
+    by text n s (inr all) most = subst (λ k. notices_of_piece text (take k piece) old.core ≡ []) (let e : i + 1 ≡ n = omega (arith, all, most) in e) (h.told text s)

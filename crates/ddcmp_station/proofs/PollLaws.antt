@@ -3,27 +3,21 @@ use Rattle.std.proofs.Common.{◌≡◌, ℕ, ◌≤◌, List, ◌++◌, length,
 use Rattle.std.specs.Prelude.{option_map, replicate}
 use Rattle.std.proofs.Math.Seq.{take-append_seam}
 use Rattle.ddcmp_frame.specs.declared.header.Header.{Header}
-use Rattle.ddcmp_frame.specs.Spelling.{InRange}
+use Rattle.ddcmp_frame.specs.Spelling.{IsInRange}
 use Rattle.ddcmp_frame.specs.Wire.{wire, IsFrame}
-use Rattle.ddcmp_window.specs.Window.{written}
-use Rattle.ddcmp_core.specs.Table.{Limits, Station, Frame, Turn, Idle, Sends, next, frame_in}
-use Rattle.ddcmp_core.specs.Frames.{frame_of, header_of, data_of, header_and_length}
-use Rattle.ddcmp_core.specs.Kept.{IsSound}
-use Rattle.ddcmp_station.specs.Bytes.{on_line}
-
--- what holds of a frame that is sent
-abbrev pub IsRead : Limits → Frame → Type 0
-IsRead l f = (frame_of (header_of f) (data_of f) ≡ f) × IsFrame (header_of f) (data_of f) × InRange (header_of f) × (length (data_of f) ≤ l.longest)
-
-abbrev pub SendsRead : Type 0
-SendsRead = (l : Limits) (s u : Station) (f : Frame) → IsSound l s → next s ≡ Sends f u → IsRead l f
+use Rattle.ddcmp_window.specs.Store.{with_front}
+use Rattle.ddcmp_core.specs.Table.{Limits, StationState, Frame, Next, Idle, Sends, next, next_frame}
+use Rattle.ddcmp_core.specs.Frames.{frame_of, header_of, message_of, header_and_length}
+use Rattle.ddcmp_core.specs.Core.{IsSound}
+use Rattle.ddcmp_core.proofs.StartLaws.{read_sent}
+use Rattle.ddcmp_station.specs.Bytes.{frame_on_line}
 
 -- a header and the front of a buffer are the next frame
-pub record IsNext (l : Limits) (s : Station) (h : Header) (message : List ℕ) : Type 0 where
+pub record IsNext (l : Limits) (s : StationState) (h : Header) (message : List ℕ) : Type 0 where
   pub frame : Frame
-  pub sends : frame_in (next s) ≡ Some frame
+  pub sends : next_frame (next s) ≡ Some frame
   pub header : h ≡ header_of frame
-  pub data_is : message ≡ data_of frame
+  pub data_is : message ≡ message_of frame
   pub fits : IsFrame h message
   pub short : length message ≤ l.longest
 
@@ -35,20 +29,20 @@ abbrev length_or : ℕ → Option (Header × ℕ) → ℕ
 length_or d None = d
 length_or d (Some p) = p.1
 
-pub next_is : SendsRead → (l : Limits) (s : Station) (h : Header) (n : ℕ) (old new : List ℕ) → IsSound l s
-    → Some (h, n) ≡ option_map header_and_length (frame_in (next s)) → new ≡ written (option_map data_of (frame_in (next s))) old → IsNext l s h (take n new)
-next_is law l s h n old new sound e w = by (next s) refl e w
+pub next_is : (l : Limits) (s : StationState) (h : Header) (n : ℕ) (old new : List ℕ) → IsSound l s
+    → Some (h, n) ≡ option_map header_and_length (next_frame (next s)) → new ≡ with_front (option_map message_of (next_frame (next s))) old → IsNext l s h (take n new)
+next_is l s h n old new sound e w = by (next s) refl e w
   where
-    by : (t : Turn) → next s ≡ t → Some (h, n) ≡ option_map header_and_length (frame_in t) → new ≡ written (option_map data_of (frame_in t)) old → IsNext l s h (take n new)
+    by : (t : Next) → next s ≡ t → Some (h, n) ≡ option_map header_and_length (next_frame t) → new ≡ with_front (option_map message_of (next_frame t)) old → IsNext l s h (take n new)
     by Idle t p q = absurd (cc p)
     by (Sends f u) t p q =
-        let k = law l s u f sound t in
+        let k = read_sent l s f u sound t in
         let e0 : h ≡ header_of f = ap (header_or h) p in
-        let e1 : n ≡ length (data_of f) = ap (length_or n) p in
-        let front : take n new ≡ data_of f = ap (λ x. take x new) e1 ∙ ap (take (length (data_of f))) q ∙ take-append_seam (data_of f) _ in
+        let e1 : n ≡ length (message_of f) = ap (length_or n) p in
+        let front : take n new ≡ message_of f = ap (λ x. take x new) e1 ∙ ap (take (length (message_of f))) q ∙ take-append_seam (message_of f) _ in
         record {
           frame = f;
-          sends = ap frame_in t;
+          sends = ap next_frame t;
           header = e0;
           data_is = front;
           fits = subst (λ x. IsFrame x (take n new)) (sym e0) (subst (IsFrame (header_of f)) (sym front) k.1);
@@ -56,8 +50,8 @@ next_is law l s h n old new sound e w = by (next s) refl e w
         }
 
 -- so its bytes are those of the next frame
-pub line_is : (l : Limits) (s : Station) (h : Header) (message : List ℕ) (syn : ℕ) → IsNext l s h message
-    → Some (replicate syn 150 ++ wire h message) ≡ option_map (on_line syn) (frame_in (next s))
+pub line_is : (l : Limits) (s : StationState) (h : Header) (message : List ℕ) (syn : ℕ) → IsNext l s h message
+    → Some (replicate syn 150 ++ wire h message) ≡ option_map (frame_on_line syn) (next_frame (next s))
 line_is l s h message syn k =
-    ap (λ m. Some (replicate syn 150 ++ wire h m)) k.data_is ∙ ap (λ x. Some (replicate syn 150 ++ wire x (data_of k.frame))) k.header
-    ∙ sym (ap (option_map (on_line syn)) k.sends)
+    ap (λ m. Some (replicate syn 150 ++ wire h m)) k.data_is ∙ ap (λ x. Some (replicate syn 150 ++ wire x (message_of k.frame))) k.header
+    ∙ sym (ap (option_map (frame_on_line syn)) k.sends)

@@ -4,21 +4,21 @@ use Rattle.std.specs.List.{flat_map}
 use Rattle.std.specs.Io.KnownBytes.{Appends, Consumes}
 use Rattle.ddcmp_frame.specs.declared.device.Worst.{Worst}
 use Rattle.ddcmp_frame.specs.declared.device.Worst.TheVariants.{Fine}
-use Rattle.ddcmp_frame.specs.Held.{Stands}
+use Rattle.ddcmp_frame.specs.Reader.{StandsFor}
 use Rattle.ddcmp_frame.specs.Device.{Logs}
 use Rattle.ddcmp_frame.specs.declared.device.Got.{Got}
 use Rattle.ddcmp_frame.specs.declared.device.Got.TheVariants.{Bytes, Idle, Failed}
-use Rattle.ddcmp_core.specs.declared.kinds.Timer.{Timer}
-use Rattle.ddcmp_core.specs.declared.kinds.Timer.TheVariants.{Off, Fresh, On}
-use Rattle.ddcmp_core.specs.Table.{Frame, halted, may_send, accepted, expired, armed, is_on, next, frame_in}
-use Rattle.ddcmp_core.specs.Counting.{expired_counted}
-use Rattle.ddcmp_core.specs.Kept.{Kept}
-use Rattle.ddcmp_station.specs.declared.user.Driven.{Driven}
-use Rattle.ddcmp_station.specs.declared.user.LineFault.{LineFault}
-use Rattle.ddcmp_station.specs.declared.user.LineFault.TheVariants.{Read, Write, Ended, Memory}
-use Rattle.ddcmp_station.specs.Bytes.{fed, told_of, on_line, polled}
-use Rattle.ddcmp_station.specs.Seen.{Seen, asked_of, told_to, handed_of}
-use Rattle.ddcmp_station.specs.Linked.{Linked}
+use Rattle.ddcmp_core.specs.declared.state.Timer.{Timer}
+use Rattle.ddcmp_core.specs.declared.state.Timer.TheVariants.{Off, Fresh, On}
+use Rattle.ddcmp_core.specs.Table.{Frame, after_halt, may_send, after_accept, after_expire, after_take_arm, is_on, next, next_frame}
+use Rattle.ddcmp_core.specs.Counting.{counters_after_expire}
+use Rattle.ddcmp_core.specs.Core.{CoreView}
+use Rattle.ddcmp_station.specs.declared.driving.Driven.{Driven}
+use Rattle.ddcmp_station.specs.declared.driving.LineFault.{LineFault}
+use Rattle.ddcmp_station.specs.declared.driving.LineFault.TheVariants.{Read, Write, Ended, Memory}
+use Rattle.ddcmp_station.specs.Bytes.{after_piece, notices_of_piece, frame_on_line, after_poll}
+use Rattle.ddcmp_station.specs.UserCalls.{UserCall, calls_of_offer, calls_of_notices, calls_of_mail}
+use Rattle.ddcmp_station.specs.Station.{StationView}
 
 -- One turn: the moment that the clock told, the message that the user offered (no bytes where it
 -- offered none or wasn't asked), and the bytes that the read gave.
@@ -30,14 +30,14 @@ pub record DriveTurn : Type 0 where
 -- A driven station: the station itself, the text of its line, the deadline of its timer, where
 -- this call has set one, and the bytes that this call has written.
 pub record Driving : Type 0 where
-  pub kept : Kept
+  pub core : CoreView
   pub text : List ℕ
   pub deadline : Option ℕ
   pub written : List ℕ
-  pub seen : List Seen
+  pub seen : List UserCall
 
-abbrev pub undriven : Kept → List ℕ → Driving
-undriven k text = record { kept = k; text = text; deadline = None; written = []; seen = [] }
+abbrev pub driving_from : CoreView → List ℕ → Driving
+driving_from k text = record { core = k; text = text; deadline = None; written = []; seen = [] }
 
 -- ---- the timer
 
@@ -58,95 +58,95 @@ is_due now None = false
 is_due now (Some moment) = nat_le moment now
 
 -- the timer has run out
-abbrev pub run_out : Kept → Kept
-run_out k = record k { station = expired k.station; counters = expired_counted k.station k.counters }
+abbrev pub core_after_expire : CoreView → CoreView
+core_after_expire k = record k { station = after_expire k.station; counters = counters_after_expire k.station k.counters }
 
-abbrev pub with_arm : Kept → Kept
-with_arm k = record k { station = armed k.station }
+abbrev pub core_after_take_arm : CoreView → CoreView
+core_after_take_arm k = record k { station = after_take_arm k.station }
 
 -- where the timer is on and its deadline has come, it runs out
-abbrev pub in_time : ℕ → Option ℕ → Kept → Kept
-in_time now deadline k = if is_on k.station.timer && is_due now deadline then run_out k else k
+abbrev pub core_at_deadline : ℕ → Option ℕ → CoreView → CoreView
+core_at_deadline now deadline k = if is_on k.station.timer && is_due now deadline then core_after_expire k else k
 
 -- ---- the message of the user, the frame, and the mail
 
-abbrev pub offered_to : List ℕ → Kept → Kept
-offered_to message k = record k {
-  station = if may_send k.limits k.station message then accepted k.station message else k.station;
+abbrev pub core_after_message : List ℕ → CoreView → CoreView
+core_after_message message k = record k {
+  station = if may_send k.limits k.station message then after_accept k.station message else k.station;
 }
 
 abbrev pub frame_bytes : ℕ → Option Frame → List ℕ
 frame_bytes syn None = []
-frame_bytes syn (Some f) = on_line syn f
+frame_bytes syn (Some f) = frame_on_line syn f
 
 -- all mail goes to the user
-abbrev pub handed_up : Kept → Kept
-handed_up k = record k { station = record k.station { inbox = [] } }
+abbrev pub core_after_mail : CoreView → CoreView
+core_after_mail k = record k { station = record k.station { inbox = [] } }
 
-abbrev pub stopped : Kept → Kept
-stopped k = record k { station = halted k.station }
+abbrev pub core_after_halt : CoreView → CoreView
+core_after_halt k = record k { station = after_halt k.station }
 
 -- ---- a turn
 
 -- up to its frame: the timer, then the message of the user
-abbrev pub before_offer : ℕ → DriveTurn → Driving → Kept
-before_offer milliseconds turn d = in_time turn.now (deadline_at milliseconds turn.now d.kept.station.timer d.deadline) (with_arm d.kept)
+abbrev pub before_offer : ℕ → DriveTurn → Driving → CoreView
+before_offer milliseconds turn d = core_at_deadline turn.now (deadline_at milliseconds turn.now d.core.station.timer d.deadline) (core_after_take_arm d.core)
 
-abbrev pub before_frame : ℕ → DriveTurn → Driving → Kept
-before_frame milliseconds turn d = offered_to turn.offered (before_offer milliseconds turn d)
+abbrev pub before_frame : ℕ → DriveTurn → Driving → CoreView
+before_frame milliseconds turn d = core_after_message turn.offered (before_offer milliseconds turn d)
 
 -- up to its read: the frame is written
 abbrev pub before_read : ℕ → ℕ → DriveTurn → Driving → Driving
 before_read milliseconds syn turn d = record d {
-  kept = polled (before_frame milliseconds turn d);
-  deadline = deadline_at milliseconds turn.now d.kept.station.timer d.deadline;
-  written = d.written ++ frame_bytes syn (frame_in (next (before_frame milliseconds turn d).station));
-  seen = d.seen ++ asked_of (before_offer milliseconds turn d) turn.offered;
+  core = after_poll (before_frame milliseconds turn d);
+  deadline = deadline_at milliseconds turn.now d.core.station.timer d.deadline;
+  written = d.written ++ frame_bytes syn (next_frame (next (before_frame milliseconds turn d).station));
+  seen = d.seen ++ calls_of_offer (before_offer milliseconds turn d) turn.offered;
 }
 
 -- and the read: what came is heard, and all mail is handed up
 abbrev pub after_read : List ℕ → Driving → Driving
 after_read came d = record d {
-  kept = handed_up (fed d.text came d.kept);
+  core = core_after_mail (after_piece d.text came d.core);
   text = d.text ++ came;
-  seen = d.seen ++ (told_to (told_of d.text came d.kept) ++ handed_of (fed d.text came d.kept));
+  seen = d.seen ++ (calls_of_notices (notices_of_piece d.text came d.core) ++ calls_of_mail (after_piece d.text came d.core));
 }
 
-abbrev pub turned : ℕ → ℕ → DriveTurn → Driving → Driving
-turned milliseconds syn turn d = after_read turn.came (before_read milliseconds syn turn d)
+abbrev pub after_turn : ℕ → ℕ → DriveTurn → Driving → Driving
+after_turn milliseconds syn turn d = after_read turn.came (before_read milliseconds syn turn d)
 
 -- turns in their order
-unfoldable pub driven : ℕ → ℕ → List DriveTurn → Driving → Driving
-driven milliseconds syn [] d = d
-driven milliseconds syn (turn ∷ rest) d = driven milliseconds syn rest (turned milliseconds syn turn d)
+unfoldable pub after_turns : ℕ → ℕ → List DriveTurn → Driving → Driving
+after_turns milliseconds syn [] d = d
+after_turns milliseconds syn (turn ∷ rest) d = after_turns milliseconds syn rest (after_turn milliseconds syn turn d)
 
 -- all that the reads gave
-abbrev pub came_in : List DriveTurn → List ℕ
-came_in turns = flat_map (λ t. t.came) turns
+abbrev pub bytes_read : List DriveTurn → List ℕ
+bytes_read turns = flat_map (λ t. t.came) turns
 
 -- the moments of the turns
 abbrev pub moments : List DriveTurn → List ℕ
 moments turns = flat_map (λ t. t.now ∷ []) turns
 
 -- each turn reads once: an idle read gives no bytes
-unfoldable pub answer_of : ℕ → Got
-answer_of n = if n == 0 then Idle else Bytes n
+unfoldable pub read_answer : ℕ → Got
+read_answer n = if n == 0 then Idle else Bytes n
 
-abbrev pub read_by : List DriveTurn → List Got
-read_by turns = flat_map (λ t. answer_of (length t.came) ∷ []) turns
+abbrev pub read_answers : List DriveTurn → List Got
+read_answers turns = flat_map (λ t. read_answer (length t.came) ∷ []) turns
 
 -- and what the read of a turn that was broken off answered, if there was one
-abbrev pub last_read : LineFault → List Got
-last_read Read = Failed ∷ []
-last_read Write = []
-last_read Ended = Bytes 0 ∷ []
-last_read Memory = []
+abbrev pub last_read_answer : LineFault → List Got
+last_read_answer Read = Failed ∷ []
+last_read_answer Write = []
+last_read_answer Ended = Bytes 0 ∷ []
+last_read_answer Memory = []
 
 -- A read gives at most 256 bytes, and where the source was never idle since its making at least one:
 -- at the end of its input `drive` ends.
-unfoldable pub Reads : Worst → List DriveTurn → Type 0
-Reads worst [] = Unit {0}
-Reads worst (turn ∷ rest) = (length turn.came ≤ 256) × (worst ≡ Fine → 0 < length turn.came) × Reads worst rest
+unfoldable pub ReadsInTurns : Worst → List DriveTurn → Type 0
+ReadsInTurns worst [] = Unit {0}
+ReadsInTurns worst (turn ∷ rest) = (length turn.came ≤ 256) × (worst ≡ Fine → 0 < length turn.came) × ReadsInTurns worst rest
 
 -- ---- what drive did
 
@@ -162,66 +162,66 @@ pub record Devices : Type 0 where
   pub told_after : Option (List ℕ)
   pub answers : Option (List Got)
   pub answers_after : Option (List Got)
-  pub seen : Option (List Seen)
-  pub seen_after : Option (List Seen)
+  pub seen : Option (List UserCall)
+  pub seen_after : Option (List UserCall)
 
 -- These turns were taken: the source lost the bytes that came, the sink holds the bytes written,
 -- and the station is the driven one, whichever text it stands for.
-pub record Took (milliseconds : ℕ) (turns : List DriveTurn) (written : List ℕ) (seen : List Seen) (deadline : Option ℕ) (old new : Linked) (devices : Devices) : Type 0 where
-  pub reads : Reads devices.worst turns
-  pub consumed : Consumes devices.left devices.left_after (came_in turns)
+pub record TakesTurns (milliseconds : ℕ) (turns : List DriveTurn) (written : List ℕ) (seen : List UserCall) (deadline : Option ℕ) (old new : StationView) (devices : Devices) : Type 0 where
+  pub reads : ReadsInTurns devices.worst turns
+  pub consumed : Consumes devices.left devices.left_after (bytes_read turns)
   pub appended : Appends devices.sink devices.sink_after written
   pub clocked : Appends devices.told devices.told_after (moments turns)
-  pub answered : Logs devices.answers devices.answers_after (read_by turns)
+  pub answered : Logs devices.answers devices.answers_after (read_answers turns)
   pub shown : Logs devices.seen devices.seen_after seen
   pub syn : new.syn ≡ old.syn
-  pub limits : new.kept.limits ≡ old.kept.limits
-  pub offset : new.line.offset ≡ old.line.offset + length (came_in turns)
-  pub stands : (text : List ℕ) → Stands old.line text → Stands new.line (text ++ came_in turns)
-  pub driven_is : (text : List ℕ) → Stands old.line text
-      → driven milliseconds old.syn turns (undriven old.kept text)
-      ≡ record { kept = new.kept; text = text ++ came_in turns; deadline = deadline; written = written; seen = seen }
+  pub limits : new.core.limits ≡ old.core.limits
+  pub offset : new.line.offset ≡ old.line.offset + length (bytes_read turns)
+  pub stands : (text : List ℕ) → StandsFor old.line text → StandsFor new.line (text ++ bytes_read turns)
+  pub driven_is : (text : List ℕ) → StandsFor old.line text
+      → after_turns milliseconds old.syn turns (driving_from old.core text)
+      ≡ record { core = new.core; text = text ++ bytes_read turns; deadline = deadline; written = written; seen = seen }
 
 -- These turns were taken and one more up to its read, whose frame is `frame`, of which the sink
 -- has got `sent`. Then the station was halted.
-pub record Broke (milliseconds : ℕ) (turns : List DriveTurn) (last : DriveTurn) (written frame sent : List ℕ) (seen : List Seen) (old new : Linked) (devices : Devices) (fault : LineFault) : Type 0 where
-  pub reads : Reads devices.worst turns
-  pub consumed : Consumes devices.left devices.left_after (came_in turns)
+pub record BreaksOff (milliseconds : ℕ) (turns : List DriveTurn) (last : DriveTurn) (written frame sent : List ℕ) (seen : List UserCall) (old new : StationView) (devices : Devices) (fault : LineFault) : Type 0 where
+  pub reads : ReadsInTurns devices.worst turns
+  pub consumed : Consumes devices.left devices.left_after (bytes_read turns)
   pub appended : Appends devices.sink devices.sink_after (written ++ sent)
   pub clocked : Appends devices.told devices.told_after (moments turns ++ last.now ∷ [])
-  pub answered : Logs devices.answers devices.answers_after (read_by turns ++ last_read fault)
+  pub answered : Logs devices.answers devices.answers_after (read_answers turns ++ last_read_answer fault)
   pub shown : Logs devices.seen devices.seen_after seen
   pub syn : new.syn ≡ old.syn
-  pub limits : new.kept.limits ≡ old.kept.limits
-  pub offset : new.line.offset ≡ old.line.offset + length (came_in turns)
-  pub stands : (text : List ℕ) → Stands old.line text → Stands new.line (text ++ came_in turns)
-  pub kept : (text : List ℕ) → Stands old.line text
-      → new.kept ≡ stopped (before_read milliseconds old.syn last (driven milliseconds old.syn turns (undriven old.kept text))).kept
-  pub written_is : (text : List ℕ) → Stands old.line text
-      → (driven milliseconds old.syn turns (undriven old.kept text)).written ≡ written
-  pub frame_is : (text : List ℕ) → Stands old.line text
-      → (before_read milliseconds old.syn last (driven milliseconds old.syn turns (undriven old.kept text))).written ≡ written ++ frame
-  pub seen_is : (text : List ℕ) → Stands old.line text
-      → (before_read milliseconds old.syn last (driven milliseconds old.syn turns (undriven old.kept text))).seen ≡ seen
+  pub limits : new.core.limits ≡ old.core.limits
+  pub offset : new.line.offset ≡ old.line.offset + length (bytes_read turns)
+  pub stands : (text : List ℕ) → StandsFor old.line text → StandsFor new.line (text ++ bytes_read turns)
+  pub core : (text : List ℕ) → StandsFor old.line text
+      → new.core ≡ core_after_halt (before_read milliseconds old.syn last (after_turns milliseconds old.syn turns (driving_from old.core text))).core
+  pub written_is : (text : List ℕ) → StandsFor old.line text
+      → (after_turns milliseconds old.syn turns (driving_from old.core text)).written ≡ written
+  pub frame_is : (text : List ℕ) → StandsFor old.line text
+      → (before_read milliseconds old.syn last (after_turns milliseconds old.syn turns (driving_from old.core text))).written ≡ written ++ frame
+  pub seen_is : (text : List ℕ) → StandsFor old.line text
+      → (before_read milliseconds old.syn last (after_turns milliseconds old.syn turns (driving_from old.core text))).seen ≡ seen
 
 -- how much of its last frame went out: all of it before a read, else some of it
-abbrev pub Sent : LineFault → List ℕ → List ℕ → Type 0
-Sent Read sent frame = sent ≡ frame
-Sent Write sent frame = (n : ℕ) × (sent ≡ take n frame)
-Sent Ended sent frame = sent ≡ frame
-Sent Memory sent frame = ⊥
+abbrev pub IsSentPart : LineFault → List ℕ → List ℕ → Type 0
+IsSentPart Read sent frame = sent ≡ frame
+IsSentPart Write sent frame = (n : ℕ) × (sent ≡ take n frame)
+IsSentPart Ended sent frame = sent ≡ frame
+IsSentPart Memory sent frame = ⊥
 
-abbrev pub Ends : ℕ → ℕ → Linked → Linked → Devices → LineFault → Type 0
+abbrev pub Ends : ℕ → ℕ → StationView → StationView → Devices → LineFault → Type 0
 Ends milliseconds count old new devices fault =
-    (turns : List DriveTurn) × (last : DriveTurn) × (written frame sent : List ℕ) × (seen : List Seen)
-    × (length turns < count) × Sent fault sent frame × Broke milliseconds turns last written frame sent seen old new devices fault
+    (turns : List DriveTurn) × (last : DriveTurn) × (written frame sent : List ℕ) × (seen : List UserCall)
+    × (length turns < count) × IsSentPart fault sent frame × BreaksOff milliseconds turns last written frame sent seen old new devices fault
 
 -- What a call of `drive` for `count` turns did. Of refused memory its clause `memory` speaks.
-abbrev pub Drives : ℕ → ℕ → Linked → Linked → Devices → Result Driven LineFault → Type 0
+abbrev pub Drives : ℕ → ℕ → StationView → StationView → Devices → Result Driven LineFault → Type 0
 Drives milliseconds count old new devices (Ok told) =
-    (turns : List DriveTurn) × (written : List ℕ) × (seen : List Seen) × (deadline : Option ℕ)
-    × (length turns ≡ count) × (told ≡ record { turns = count; read = length (came_in turns); written = length written })
-    × Took milliseconds turns written seen deadline old new devices
+    (turns : List DriveTurn) × (written : List ℕ) × (seen : List UserCall) × (deadline : Option ℕ)
+    × (length turns ≡ count) × (told ≡ record { turns = count; read = length (bytes_read turns); written = length written })
+    × TakesTurns milliseconds turns written seen deadline old new devices
 Drives milliseconds count old new devices (Err Read) = Ends milliseconds count old new devices Read
 Drives milliseconds count old new devices (Err Write) = Ends milliseconds count old new devices Write
 Drives milliseconds count old new devices (Err Ended) = Ends milliseconds count old new devices Ended

@@ -1,20 +1,43 @@
-// A station driven over a line, turn by turn.
+//! A station driven over a line, turn by turn.
 ghost use Rattle.std.specs.Prelude.{◌≡◌, ◌≢◌, ◌↔◌, ℕ, ◌+◌, ◌*◌, ◌<◌, ◌≤◌, ◌^◌, List, ◌++◌, true, false, is_err, length, take, Option, Ok, Err, IfOk, OnOk, OnErr};
 ghost use Rattle.std.specs.Io.KnownBytes.{Consumes, Keeps, IsAtEnd};
-ghost use Rattle.ddcmp_frame.specs.Held.{Stands};
-ghost use Rattle.ddcmp_core.specs.Table.{frame_in, next};
-ghost use Rattle.ddcmp_station.specs.Bytes.{polled, fed};
-ghost use Rattle.ddcmp_station.specs.Driving.{Drives, deadline_at, with_arm, in_time, offered_to, frame_bytes, handed_up};
-ghost use Rattle.ddcmp_station.specs.Turns.{TurnEnds, Writes, answers_to};
+ghost use Rattle.ddcmp_frame.specs.Reader.{StandsFor};
+ghost use Rattle.ddcmp_core.specs.Table.{next_frame, next};
+ghost use Rattle.ddcmp_station.specs.Bytes.{after_poll, after_piece};
+ghost use Rattle.ddcmp_station.specs.Driving.{Drives, deadline_at, core_after_take_arm, core_at_deadline, core_after_message, frame_bytes, core_after_mail};
+ghost use Rattle.ddcmp_station.specs.Turns.{TurnEnds, WritesFrame, read_answers_of};
 ghost use Rattle.ddcmp_frame.specs.Device.{Logs};
-ghost use Rattle.ddcmp_station.specs.Seen.{asked_of, handed_of, ToldOf, HeardBy};
+ghost use Rattle.ddcmp_station.specs.UserCalls.{calls_of_offer, calls_of_mail, TellsNotices, TellsPiece};
 
-use crate::laws::pieces;
 use crate::station::Station;
-use crate::user::{Clock, Driven, LineFault, User};
-use ddcmp_core::State;
+use crate::user::{Clock, User};
+use crate::config::MAX_SYN;
+use ddcmp_core::{MAX_COUNT, Notice, State};
 use ddcmp_frame::{Got, Sink, Source, Worst};
 use std::alloc::Global;
+
+/// What a call of `drive` did.
+#[derive(Clone, Copy, Debug, PartialEq, Eq)]
+pub struct Driven {
+    pub turns: u32,
+    /// The number of bytes read.
+    pub read: u64,
+    /// The number of bytes written.
+    pub written: u64,
+}
+
+/// Why `drive` ended before its turns were over.
+#[derive(Clone, Copy, Debug, PartialEq, Eq)]
+pub enum LineFault {
+    /// A read failed.
+    Read,
+    /// A write failed. How much of the last frame went out isn't known.
+    Write,
+    /// A read gave no bytes: the line ended.
+    Ended,
+    /// Memory was refused, before anything was done.
+    Memory,
+}
 
 /// What the turns so far have left.
 #[derive(Drop)]
@@ -26,7 +49,7 @@ struct Tally {
 }
 
 /// Runs a station over a line for a number of turns. In a turn the timer is looked after, a message
-/// of the user is taken, a frame is written, and what came is heard: its notices and then all mail
+/// of the user is taken, a frame is written, and what came is taken: its notices and then all mail
 /// go to the user. An idle read is no fault. After a fault of the line the station is halted.
 pub fn drive<R: Source, W: Sink, U: User, C: Clock>(
     alloc: Global,
@@ -85,7 +108,7 @@ fn run<R: Source, W: Sink, U: User, C: Clock>(
     requires fine { R.state reader.old ≢ Worst.Failed }
     requires whole { W.broken writer.old ≡ false }
     requires offset { station.old.line.offset + 256 * turns < 2 ^ 64 }
-    requires room { station.old.syn + station.old.kept.limits.longest + 10 ≤ length frame.old }
+    requires room { station.old.syn + station.old.core.limits.longest + 10 ≤ length frame.old }
     ensures drives { Drives timer_ms turns station.old station.new (record {
       left = R.left reader.old;
       left_after = R.left reader.new;
@@ -110,7 +133,6 @@ fn run<R: Source, W: Sink, U: User, C: Clock>(
         read: 0,
         written: 0,
     };
-    station.holds();
     for _done in 0..turns {
         match turn(
             station, reader, writer, user, clock, timer_ms, &mut tally, frame, &mut piece,
@@ -143,10 +165,10 @@ fn turn<R: Source, W: Sink, U: User, C: Clock>(
 ) -> Result<(), LineFault>
     requires fine { R.state reader.old ≢ Worst.Failed }
     requires whole { W.broken writer.old ≡ false }
-    requires room { station.old.syn + station.old.kept.limits.longest + 10 ≤ length frame.old }
+    requires room { station.old.syn + station.old.core.limits.longest + 10 ≤ length frame.old }
     requires offset { station.old.line.offset + 256 < 2 ^ 64 }
     requires read { tally.old.read + 256 < 2 ^ 64 }
-    requires written { tally.old.written + 16409 < 2 ^ 64 }
+    requires written { tally.old.written + MAX_COUNT + 10 + MAX_SYN < 2 ^ 64 }
     ensures takes { TurnEnds timer_ms station.old station.new tally.old tally.new (R.state reader.old) (record {
       left = R.left reader.old;
       left_after = R.left reader.new;
@@ -164,16 +186,15 @@ fn turn<R: Source, W: Sink, U: User, C: Clock>(
     ensures write { (result ≡ Err LineFault.Write) ↔ (W.broken writer.new ≡ true) }
     ensures ended { result ≡ Err LineFault.Ended → IsAtEnd (R.left reader.new) }
     ensures memory { result ≢ Err LineFault.Memory }
-    ensures few { OnOk result ((tally.new.read ≤ tally.old.read + 256) × (tally.new.written ≤ tally.old.written + 16409)) }
+    ensures few { OnOk result ((tally.new.read ≤ tally.old.read + 256) × (tally.new.written ≤ tally.old.written + MAX_COUNT + 10 + MAX_SYN)) }
 {
-    station.holds();
     keep_time(station, clock.now(), timer_ms, &mut tally.deadline);
     let _offered = offer_message(station, user, frame);
     let written = match send_frame(station, writer, frame) {
         Ok(written) => written,
         Err(fault) => return Err(fault),
     };
-    let read = match hear(station, reader, user, frame, piece) {
+    let read = match receive(station, reader, user, frame, piece) {
         Ok(read) => read,
         Err(fault) => return Err(fault),
     };
@@ -185,10 +206,10 @@ fn turn<R: Source, W: Sink, U: User, C: Clock>(
 /// Sets the deadline of a timer that was started, or that was on before this call, and tells the
 /// station where it has come.
 fn keep_time(station: &mut Station, now: u64, timer_ms: u32, deadline: &mut Option<u64>)
-    ensures deadline { deadline.new ≡ deadline_at timer_ms now station.old.kept.station.timer deadline.old }
+    ensures deadline { deadline.new ≡ deadline_at timer_ms now station.old.core.station.timer deadline.old }
     ensures station { station.new ≡ record station.old {
-      kept = in_time now (deadline_at timer_ms now station.old.kept.station.timer deadline.old)
-          (with_arm station.old.kept);
+      core = core_at_deadline now (deadline_at timer_ms now station.old.core.station.timer deadline.old)
+          (core_after_take_arm station.old.core);
     } }
 {
     let started = station.take_arm();
@@ -208,9 +229,9 @@ fn keep_time(station: &mut Station, now: u64, timer_ms: u32, deadline: &mut Opti
 /// Asks the user for a message where the station takes one, and sends it: its length. It stands at
 /// the front of the buffer.
 fn offer_message<U: User>(station: &mut Station, user: &mut U, buffer: &mut [u8]) -> usize
-    requires { station.old.kept.limits.longest ≤ length buffer.old }
-    ensures state { station.new ≡ record station.old { kept = offered_to (take result buffer.new) station.old.kept } }
-    ensures seen { Logs (U.seen user.old) (U.seen user.new) (asked_of station.old.kept (take result buffer.new)) }
+    requires { station.old.core.limits.longest ≤ length buffer.old }
+    ensures state { station.new ≡ record station.old { core = core_after_message (take result buffer.new) station.old.core } }
+    ensures seen { Logs (U.seen user.old) (U.seen user.new) (calls_of_offer station.old.core (take result buffer.new)) }
 {
     if station.state() != State::Running || !station.room() {
         return 0;
@@ -230,11 +251,11 @@ fn send_frame<W: Sink>(
     buffer: &mut [u8],
 ) -> Result<usize, LineFault>
     requires whole { W.broken writer.old ≡ false }
-    requires room { station.old.syn + station.old.kept.limits.longest + 10 ≤ length buffer.old }
-    ensures station { station.new ≡ record station.old { kept = polled station.old.kept } }
-    ensures writes { Writes (W.contents writer.old) (W.contents writer.new)
-        (frame_bytes station.old.syn (frame_in (next station.old.kept.station))) result }
-    ensures most { IfOk result (λ n. n ≤ station.old.syn + station.old.kept.limits.longest + 10) }
+    requires room { station.old.syn + station.old.core.limits.longest + 10 ≤ length buffer.old }
+    ensures station { station.new ≡ record station.old { core = after_poll station.old.core } }
+    ensures writes { WritesFrame (W.contents writer.old) (W.contents writer.new)
+        (frame_bytes station.old.syn (next_frame (next station.old.core.station))) result }
+    ensures within { IfOk result (λ n. n ≤ MAX_COUNT + 10 + MAX_SYN) }
     ensures broken { W.broken writer.new ≡ is_err result }
 {
     match station.poll(buffer) {
@@ -246,7 +267,7 @@ fn send_frame<W: Sink>(
 /// Writes all bytes: how many there are.
 fn write_whole<W: Sink>(writer: &mut W, bytes: &[u8]) -> Result<usize, LineFault>
     requires whole { W.broken writer.old ≡ false }
-    ensures writes { Writes (W.contents writer.old) (W.contents writer.new) bytes.now result }
+    ensures writes { WritesFrame (W.contents writer.old) (W.contents writer.new) bytes.now result }
     ensures whole { IfOk result (λ n. n ≡ length bytes.now) }
     ensures broken { W.broken writer.new ≡ is_err result }
 {
@@ -260,9 +281,9 @@ fn write_whole<W: Sink>(writer: &mut W, bytes: &[u8]) -> Result<usize, LineFault
     Ok(at)
 }
 
-/// Reads once, and hears what came: how many bytes were read. They stand at the front of `piece`.
-#[tactic(auto, unfolding(crate::specs::Driving::answer_of))]
-fn hear<R: Source, U: User>(
+/// Reads once, and takes what came: how many bytes were read. They stand at the front of `piece`.
+#[tactic(auto, unfolding(crate::specs::Driving::read_answer))]
+fn receive<R: Source, U: User>(
     station: &mut Station,
     reader: &mut R,
     user: &mut U,
@@ -270,16 +291,16 @@ fn hear<R: Source, U: User>(
     piece: &mut [u8; 256],
 ) -> Result<usize, LineFault>
     requires fine { R.state reader.old ≢ Worst.Failed }
-    requires room { station.old.kept.limits.longest ≤ length buffer.old }
+    requires room { station.old.core.limits.longest ≤ length buffer.old }
     requires offset { station.old.line.offset + 256 < 2 ^ 64 }
     ensures most { IfOk result (λ n. n ≤ 256) }
     ensures consumed { IfOk result (λ n. Consumes (R.left reader.old) (R.left reader.new) (take n piece.new)) }
-    ensures stands { (text : List ℕ) → Stands station.old.line text
-        → IfOk result (λ n. Stands station.new.line (text ++ take n piece.new)) }
-    ensures state { (text : List ℕ) → Stands station.old.line text
-        → IfOk result (λ n. station.new.kept ≡ handed_up (fed text (take n piece.new) station.old.kept)) }
+    ensures stands { (text : List ℕ) → StandsFor station.old.line text
+        → IfOk result (λ n. StandsFor station.new.line (text ++ take n piece.new)) }
+    ensures state { (text : List ℕ) → StandsFor station.old.line text
+        → IfOk result (λ n. station.new.core ≡ core_after_mail (after_piece text (take n piece.new) station.old.core)) }
     ensures offset { IfOk result (λ n. station.new.line.offset ≡ station.old.line.offset + n) }
-    ensures limits { station.new.kept.limits ≡ station.old.kept.limits }
+    ensures limits { station.new.core.limits ≡ station.old.core.limits }
     ensures syn { station.new.syn ≡ station.old.syn }
     ensures refused { OnErr result (station.new ≡ station.old) }
     ensures nothing { OnErr result (Keeps (R.left reader.old) (R.left reader.new)) }
@@ -288,8 +309,8 @@ fn hear<R: Source, U: User>(
     ensures fine { R.state reader.new ≡ Worst.Fine → (R.state reader.old ≡ Worst.Fine) × IfOk result (λ n. 0 < n) }
     ensures write { result ≢ Err LineFault.Write }
     ensures memory { result ≢ Err LineFault.Memory }
-    ensures answers { Logs (R.answers reader.old) (R.answers reader.new) (answers_to result) }
-    ensures seen { IfOk result (λ n. HeardBy station.old (take n piece.new) (U.seen user.old) (U.seen user.new)) }
+    ensures answers { Logs (R.answers reader.old) (R.answers reader.new) (read_answers_of result) }
+    ensures seen { IfOk result (λ n. TellsPiece station.old (take n piece.new) (U.seen user.old) (U.seen user.new)) }
     ensures unseen { OnErr result (user.new ≡ user.old) }
 {
     let came = match reader.read(piece) {
@@ -306,15 +327,14 @@ fn hear<R: Source, U: User>(
 /// Feeds a whole piece. Each notice goes to the user.
 fn feed_all<U: User>(station: &mut Station, user: &mut U, piece: &[u8])
     requires { station.old.line.offset + length piece.now < 2 ^ 64 }
-    ensures stands { (text : List ℕ) → Stands station.old.line text → Stands station.new.line (text ++ piece.now) }
-    ensures state { (text : List ℕ) → Stands station.old.line text
-        → station.new.kept ≡ fed text piece.now station.old.kept }
+    ensures stands { (text : List ℕ) → StandsFor station.old.line text → StandsFor station.new.line (text ++ piece.now) }
+    ensures state { (text : List ℕ) → StandsFor station.old.line text
+        → station.new.core ≡ after_piece text piece.now station.old.core }
     ensures offset { station.new.line.offset ≡ station.old.line.offset + length piece.now }
-    ensures limits { station.new.kept.limits ≡ station.old.kept.limits }
+    ensures limits { station.new.core.limits ≡ station.old.core.limits }
     ensures syn { station.new.syn ≡ station.old.syn }
-    ensures seen { ToldOf station.old piece.now (U.seen user.old) (U.seen user.new) }
+    ensures seen { TellsNotices station.old piece.now (U.seen user.old) (U.seen user.new) }
 {
-    pieces();
     let mut at = 0;
     while at < piece.len() {
         let fed = station.feed(&piece[at..]);
@@ -327,9 +347,9 @@ fn feed_all<U: User>(station: &mut Station, user: &mut U, piece: &[u8])
 
 /// Takes all mail and gives it to the user.
 fn hand_up<U: User>(station: &mut Station, user: &mut U, buffer: &mut [u8])
-    requires { station.old.kept.limits.longest ≤ length buffer.old }
-    ensures state { station.new ≡ record station.old { kept = handed_up station.old.kept } }
-    ensures seen { Logs (U.seen user.old) (U.seen user.new) (handed_of station.old.kept) }
+    requires { station.old.core.limits.longest ≤ length buffer.old }
+    ensures state { station.new ≡ record station.old { core = core_after_mail station.old.core } }
+    ensures seen { Logs (U.seen user.old) (U.seen user.new) (calls_of_mail station.old.core) }
 {
     while let Some(length) = station.take(buffer) {
         user.mail(&buffer[..length]);

@@ -8,9 +8,11 @@ pub mod laws;
 mod station;
 mod user;
 
-pub use config::{Config, ConfigRefusal};
-pub use ddcmp_core::{Counters, NakCounts, Notice, Numbers, SendRefusal, Seq, StartRefusal, State};
+pub use config::{Config, ConfigRefusal, MAX_INBOX, MAX_SYN};
+pub use ddcmp_core::{
+    Counters, MAX_COUNT, MAX_WINDOW, NakCounts, Notice, Numbers, SendRefusal, Seq, StartRefusal, State,
+};
 pub use ddcmp_frame::{Got, Sink, Source, Worst};
-pub use driving::drive;
+pub use driving::{Driven, LineFault, drive};
 pub use station::{Fed, Station};
-pub use user::{Clock, Driven, LineFault, User};
+pub use user::{Clock, User};

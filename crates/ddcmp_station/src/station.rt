@@ -1,17 +1,17 @@
-// A station over the bytes of its line.
+//! A station over the bytes of its line.
 mod feeding;
 
 ghost use Rattle.std.specs.Prelude.{◌≡◌, ◌+◌, ◌≤◌, ◌++◌, length, drop, replicate, option_map, IfSome};
 ghost use Rattle.ddcmp_frame.specs.Wire.{wire, IsFrame};
-ghost use Rattle.ddcmp_window.specs.Window.{written};
-ghost use Rattle.ddcmp_core.specs.Table.{next, frame_in};
-ghost use Rattle.ddcmp_station.specs.Bytes.{on_line, polled};
+ghost use Rattle.ddcmp_window.specs.Store.{with_front};
+ghost use Rattle.ddcmp_core.specs.Table.{next, next_frame};
+ghost use Rattle.ddcmp_station.specs.Bytes.{frame_on_line, after_poll};
 
-use crate::config::{Config, ConfigRefusal};
+use crate::config::{Config, ConfigRefusal, MAX_SYN};
 use ddcmp_core::{
-    Core, Counters, Header, Numbers, SendRefusal, Seq, StartRefusal, State, sends_what_is_read,
+    Core, Counters, Header, MAX_COUNT, Numbers, SendRefusal, Seq, StartRefusal, State,
 };
-use ddcmp_frame::laws::wire_length;
+use ddcmp_frame::codes::SYN;
 use ddcmp_frame::{Reader, write_frame};
 use ddcmp_window::SlotStore;
 pub use feeding::Fed;
@@ -19,7 +19,7 @@ use std::alloc::Global;
 use std::marker::Model;
 
 /// As much SYN fill as a station writes before a frame.
-const FILL: [u8; 16] = [0x96; 16];
+const FILL: [u8; 16] = [SYN; 16];
 
 /// A station over the bytes of its line. After it is made no call takes memory.
 #[derive(Drop)]
@@ -33,22 +33,23 @@ pub struct Station {
 
 impl Model for Station {
     ghost use Rattle.std.specs.Prelude.{◌≡◌, ◌≤◌, vec_len};
-    ghost use Rattle.ddcmp_station.specs.Linked.{Linked};
+    ghost use Rattle.ddcmp_station.specs.declared.config.TheConstants.{MAX_SYN};
+    ghost use Rattle.ddcmp_station.specs.Station.{StationView};
 
-    ghost Value = { Linked };
+    ghost Value = { StationView };
 
-    ghost view = { λ s. record { kept = s.core; syn = s.syn; line = s.reader } };
+    ghost view = { λ s. record { core = s.core; syn = s.syn; line = s.reader } };
 
-    ghost invariant = { λ s. (s.reader.max ≡ s.core.limits.longest) × (vec_len s.message ≡ s.core.limits.longest) × (s.syn ≤ 16) };
+    ghost invariant = { λ s. (s.reader.max ≡ s.core.limits.longest) × (vec_len s.message ≡ s.core.limits.longest) × (s.syn ≤ MAX_SYN) };
 }
 
 /// Writes SYN fill and a frame at the front of `out`, and says how many bytes they have.
 fn write_line(syn: u8, header: &Header, message: &[u8], out: &mut [u8]) -> usize
-    requires syn { syn ≤ 16 }
+    requires syn { syn ≤ MAX_SYN }
     requires frame { IsFrame header.now message.now }
     requires room { syn + length (wire header.now message.now) ≤ length out.old }
-    ensures length { result ≡ length (replicate syn 150 ++ wire header.now message.now) }
-    ensures written { out.new ≡ (replicate syn 150 ++ wire header.now message.now) ++ drop result out.old }
+    ensures length { result ≡ length (replicate syn SYN ++ wire header.now message.now) }
+    ensures written { out.new ≡ (replicate syn SYN ++ wire header.now message.now) ++ drop result out.old }
 {
     let (fill, frame) = out.split_at_mut(syn as usize);
     fill.copy_from_slice(&FILL[..syn as usize]);
@@ -62,17 +63,15 @@ fn write_next(
     message: &mut [u8],
     out: &mut [u8],
 ) -> Option<usize>
-    requires syn { syn ≤ 16 }
+    requires syn { syn ≤ MAX_SYN }
     requires longest { core.old.limits.longest ≤ length message.old }
     requires room { syn + core.old.limits.longest + 10 ≤ length out.old }
-    ensures state { core.new ≡ polled core.old }
-    ensures length { result ≡ option_map length (option_map (on_line syn) (frame_in (next core.old.station))) }
+    ensures state { core.new ≡ after_poll core.old }
+    ensures length { result ≡ option_map length (option_map (frame_on_line syn) (next_frame (next core.old.station))) }
     ensures most { IfSome result (λ n. n ≤ syn + core.old.limits.longest + 10) }
-    ensures out { out.new ≡ written (option_map (on_line syn) (frame_in (next core.old.station))) out.old }
+    ensures within { IfSome result (λ n. n ≤ MAX_COUNT + 10 + MAX_SYN) }
+    ensures out { out.new ≡ with_front (option_map (frame_on_line syn) (next_frame (next core.old.station))) out.old }
 {
-    core.holds();
-    wire_length();
-    sends_what_is_read();
     match core.next(message) {
         None => None,
         Some((header, length)) => Some(write_line(syn, &header, &message[..length], out)),
@@ -80,14 +79,15 @@ fn write_next(
 }
 
 impl Station {
-    ghost use Rattle.std.specs.Prelude.{◌≡◌, ◌↔◌, ◌<◌, ◌≤◌, ◌⊎◌, [], Err, IfOk, IfSome};
-    ghost use Rattle.ddcmp_frame.specs.Held.{Stands};
+    ghost use Rattle.std.specs.Prelude.{◌≡◌, ◌⊎◌, [], Some, None, Err, IsOk, IfOk, IfSome};
+    ghost use Rattle.ddcmp_station.specs.Config.{first_refusal};
+    ghost use Rattle.ddcmp_frame.specs.Reader.{StandsFor};
     ghost use Rattle.ddcmp_core.specs.Table.{new_station};
     ghost use Rattle.ddcmp_core.specs.Counting.{no_counts};
 
     /// A halted station whose line has had no bytes. It takes all memory that it will need.
     pub fn new(alloc: Global, config: Config) -> Result<Station, ConfigRefusal>
-        ensures made { IfOk result (λ s. (s.kept ≡ record {
+        ensures made { IfOk result (λ s. (s.core ≡ record {
           limits = record {
             window = config.window;
             room = config.inbox;
@@ -97,47 +97,25 @@ impl Station {
           station = new_station;
           counters = no_counts;
         }) × (s.syn ≡ config.syn)) }
-        ensures stands { IfOk result (λ s. Stands s.line []) }
+        ensures stands { IfOk result (λ s. StandsFor s.line []) }
 
-        // When each refusal comes.
-        ensures window { (result ≡ Err ConfigRefusal.Window) ↔ ((config.window ≡ 0) ⊎ (255 < config.window)) }
-        ensures inbox { (result ≡ Err ConfigRefusal.Inbox)
-            ↔ (((1 ≤ config.window) × (config.window ≤ 255)) × ((config.inbox ≡ 0) ⊎ (255 < config.inbox))) }
-        ensures max { (result ≡ Err ConfigRefusal.Max)
-            ↔ (((1 ≤ config.window) × (config.window ≤ 255)) × ((1 ≤ config.inbox) × (config.inbox ≤ 255))
-            × ((config.max ≡ 0) ⊎ (16383 < config.max))) }
-        ensures syn { (result ≡ Err ConfigRefusal.Syn)
-            ↔ (((1 ≤ config.window) × (config.window ≤ 255)) × ((1 ≤ config.inbox) × (config.inbox ≤ 255))
-            × ((1 ≤ config.max) × (config.max ≤ 16383)) × (16 < config.syn)) }
-        ensures memory { result ≡ Err ConfigRefusal.Memory
-            → ((1 ≤ config.window) × (config.window ≤ 255)) × ((1 ≤ config.inbox) × (config.inbox ≤ 255))
-            × ((1 ≤ config.max) × (config.max ≤ 16383)) × (config.syn ≤ 16) }
+        // The first size that is out of range is refused; where none is, want of memory alone.
+        ensures refused { (refusal : ConfigRefusal) → first_refusal config ≡ Some refusal → result ≡ Err refusal }
+        ensures only { first_refusal config ≡ None → IsOk result ⊎ (result ≡ Err ConfigRefusal.Memory) }
     {
-        if config.window == 0 || config.window > 255 {
-            return Err(ConfigRefusal::Window);
-        }
-        if config.inbox == 0 || config.inbox > 255 {
-            return Err(ConfigRefusal::Inbox);
-        }
-        if config.max == 0 || config.max > 16383 {
-            return Err(ConfigRefusal::Max);
-        }
-        if config.syn > 16 {
-            return Err(ConfigRefusal::Syn);
-        }
-        match Station::make(alloc, config) {
-            Some(station) => Ok(station),
-            None => Err(ConfigRefusal::Memory),
+        match config.first_refusal() {
+            Some(refusal) => Err(refusal),
+            None => match Station::make(alloc, config) {
+                Some(station) => Ok(station),
+                None => Err(ConfigRefusal::Memory),
+            },
         }
     }
 
     /// A station with sizes in range; None where memory is refused.
     fn make(alloc: Global, config: Config) -> Option<Station>
-        requires window { (1 ≤ config.window) × (config.window ≤ 255) }
-        requires inbox { (1 ≤ config.inbox) × (config.inbox ≤ 255) }
-        requires max { (1 ≤ config.max) × (config.max ≤ 16383) }
-        requires syn { config.syn ≤ 16 }
-        ensures made { IfSome result (λ s. (s.kept ≡ record {
+        requires { first_refusal config ≡ None }
+        ensures made { IfSome result (λ s. (s.core ≡ record {
           limits = record {
             window = config.window;
             room = config.inbox;
@@ -147,7 +125,7 @@ impl Station {
           station = new_station;
           counters = no_counts;
         }) × (s.syn ≡ config.syn)) }
-        ensures stands { IfSome result (λ s. Stands s.line []) }
+        ensures stands { IfSome result (λ s. StandsFor s.line []) }
     {
         let out = SlotStore::new(alloc, config.window as u8, config.max).ok()?;
         let inbox = SlotStore::new(alloc, config.inbox as u8, config.max).ok()?;
@@ -164,29 +142,23 @@ impl Station {
 
 impl Station {
     ghost use Rattle.std.specs.Prelude.{◌≡◌, ◌≢◌, ◌↔◌, ℕ, ◌+◌, ◌<◌, ◌≤◌, true, false, List, [], length, slice_index_or, IsTrue, Some, Err, OnErr, IfSome, option_map, if◌then◌else◌};
-    ghost use Rattle.ddcmp_frame.specs.Held.{Stands, open_of};
+    ghost use Rattle.ddcmp_frame.specs.Reader.{StandsFor, open_of};
     ghost use Rattle.ddcmp_frame.specs.Reading.{open_at_end, kept_at_end};
-    ghost use Rattle.ddcmp_window.specs.Window.{first, written};
-    ghost use Rattle.ddcmp_core.specs.Table.{may_start, answer_to_start, started, in_maintenance, halted, answer_to_send, may_send, accepted, answer_to_send_maintenance, may_send_maintenance, taken, expired, is_on, is_fresh, is_halted, armed, next, frame_in};
-    ghost use Rattle.ddcmp_core.specs.Counting.{expired_counted};
-    ghost use Rattle.ddcmp_station.specs.Bytes.{on_line, polled};
-    ghost use Rattle.ddcmp_station.specs.Linked.{IsLinked, held_of, held_at_most, bytes_kept};
+    ghost use Rattle.ddcmp_window.specs.Store.{first_message, with_front};
+    ghost use Rattle.ddcmp_core.specs.Table.{may_start, answer_to_start, after_start, after_enter_maintenance, after_halt, answer_to_send, may_send, after_accept, answer_to_send_maintenance, may_send_maintenance, after_take, after_expire, is_on, is_fresh, is_halted, after_take_arm, next, next_frame};
+    ghost use Rattle.ddcmp_core.specs.Counting.{counters_after_expire};
+    ghost use Rattle.ddcmp_station.specs.Bytes.{frame_on_line, after_poll};
+    ghost use Rattle.ddcmp_station.specs.Station.{IsSoundStation, held_of, held_at_most, message_bytes};
 
     /// Asks the peer to start: how many messages that waited to be sent were dropped.
     pub fn start(&mut self) -> Result<u8, StartRefusal>
         ensures state { self.new ≡ record self.old {
-          kept = record self.old.kept {
-            station = if may_start self.old.kept.station then started self.old.kept.station else self.old.kept.station;
+          core = record self.old.core {
+            station = if may_start self.old.core.station then after_start self.old.core.station else self.old.core.station;
           };
         } }
-        ensures answer { result ≡ answer_to_start self.old.kept.station }
+        ensures answer { result ≡ answer_to_start self.old.core.station }
         ensures refused { OnErr result (self.new ≡ self.old) }
-
-        // When each refusal comes.
-        ensures not_halted { (result ≡ Err StartRefusal.NotHalted)
-            ↔ (self.old.kept.station.state ≢ State.Halted) }
-        ensures untaken { (result ≡ Err StartRefusal.Untaken)
-            ↔ ((self.old.kept.station.state ≡ State.Halted) × (1 ≤ length self.old.kept.station.inbox)) }
     {
         self.core.start()
     }
@@ -194,34 +166,28 @@ impl Station {
     /// Enters the state of maintenance: how many messages that waited to be sent were dropped.
     pub fn enter_maintenance(&mut self) -> Result<u8, StartRefusal>
         ensures state { self.new ≡ record self.old {
-          kept = record self.old.kept {
-            station = if may_start self.old.kept.station then in_maintenance self.old.kept.station else self.old.kept.station;
+          core = record self.old.core {
+            station = if may_start self.old.core.station then after_enter_maintenance self.old.core.station else self.old.core.station;
           };
         } }
-        ensures answer { result ≡ answer_to_start self.old.kept.station }
+        ensures answer { result ≡ answer_to_start self.old.core.station }
         ensures refused { OnErr result (self.new ≡ self.old) }
-
-        // When each refusal comes.
-        ensures not_halted { (result ≡ Err StartRefusal.NotHalted)
-            ↔ (self.old.kept.station.state ≢ State.Halted) }
-        ensures untaken { (result ≡ Err StartRefusal.Untaken)
-            ↔ ((self.old.kept.station.state ≡ State.Halted) × (1 ≤ length self.old.kept.station.inbox)) }
     {
         self.core.enter_maintenance()
     }
 
     /// Sends and takes nothing more. Numbers and messages stay.
     pub fn halt(&mut self)
-        ensures { self.new ≡ record self.old { kept = record self.old.kept { station = halted self.old.kept.station } } }
+        ensures { self.new ≡ record self.old { core = record self.old.core { station = after_halt self.old.core.station } } }
     {
         self.core.halt();
     }
 
     /// Forgets the bytes of the line so far, where the station is halted: whether it is.
     pub fn clear_line(&mut self) -> bool
-        ensures answer { result ≡ is_halted self.old.kept.station.state }
-        ensures cleared { result ≡ true → Stands self.new.line [] }
-        ensures kept { (self.new.kept ≡ self.old.kept) × (self.new.syn ≡ self.old.syn) }
+        ensures answer { result ≡ is_halted self.old.core.station.state }
+        ensures cleared { result ≡ true → StandsFor self.new.line [] }
+        ensures core { (self.new.core ≡ self.old.core) × (self.new.syn ≡ self.old.syn) }
         ensures refused { result ≡ false → self.new ≡ self.old }
     {
         if self.state() != State::Halted {
@@ -234,25 +200,13 @@ impl Station {
     /// Keeps a message to be sent, and answers its number.
     pub fn send(&mut self, message: &[u8]) -> Result<Seq, SendRefusal>
         ensures state { self.new ≡ record self.old {
-          kept = record self.old.kept {
-            station = if may_send self.old.kept.limits self.old.kept.station message.now
-                then accepted self.old.kept.station message.now else self.old.kept.station;
+          core = record self.old.core {
+            station = if may_send self.old.core.limits self.old.core.station message.now
+                then after_accept self.old.core.station message.now else self.old.core.station;
           };
         } }
-        ensures answer { result ≡ answer_to_send self.old.kept.limits self.old.kept.station message.now }
+        ensures answer { result ≡ answer_to_send self.old.core.limits self.old.core.station message.now }
         ensures refused { OnErr result (self.new ≡ self.old) }
-
-        // When each refusal comes.
-        ensures wrong_state { (result ≡ Err SendRefusal.WrongState)
-            ↔ (self.old.kept.station.state ≢ State.Running) }
-        ensures empty { (result ≡ Err SendRefusal.Empty)
-            ↔ ((self.old.kept.station.state ≡ State.Running) × (length message.now ≡ 0)) }
-        ensures too_long { (result ≡ Err SendRefusal.TooLong)
-            ↔ ((self.old.kept.station.state ≡ State.Running) × (self.old.kept.limits.longest < length message.now)) }
-        ensures window_full { (result ≡ Err SendRefusal.WindowFull)
-            ↔ ((self.old.kept.station.state ≡ State.Running) × (1 ≤ length message.now)
-            × (length message.now ≤ self.old.kept.limits.longest)
-            × (self.old.kept.limits.window ≤ length self.old.kept.station.out)) }
     {
         self.core.send(message)
     }
@@ -260,25 +214,13 @@ impl Station {
     /// Keeps a maintenance message to be sent.
     pub fn send_maintenance(&mut self, message: &[u8]) -> Result<(), SendRefusal>
         ensures state { self.new ≡ record self.old {
-          kept = record self.old.kept {
-            station = if may_send_maintenance self.old.kept.limits self.old.kept.station message.now
-                then accepted self.old.kept.station message.now else self.old.kept.station;
+          core = record self.old.core {
+            station = if may_send_maintenance self.old.core.limits self.old.core.station message.now
+                then after_accept self.old.core.station message.now else self.old.core.station;
           };
         } }
-        ensures answer { result ≡ answer_to_send_maintenance self.old.kept.limits self.old.kept.station message.now }
+        ensures answer { result ≡ answer_to_send_maintenance self.old.core.limits self.old.core.station message.now }
         ensures refused { OnErr result (self.new ≡ self.old) }
-
-        // When each refusal comes.
-        ensures wrong_state { (result ≡ Err SendRefusal.WrongState)
-            ↔ (self.old.kept.station.state ≢ State.Maintenance) }
-        ensures empty { (result ≡ Err SendRefusal.Empty)
-            ↔ ((self.old.kept.station.state ≡ State.Maintenance) × (length message.now ≡ 0)) }
-        ensures too_long { (result ≡ Err SendRefusal.TooLong)
-            ↔ ((self.old.kept.station.state ≡ State.Maintenance) × (self.old.kept.limits.longest < length message.now)) }
-        ensures window_full { (result ≡ Err SendRefusal.WindowFull)
-            ↔ ((self.old.kept.station.state ≡ State.Maintenance) × (1 ≤ length message.now)
-            × (length message.now ≤ self.old.kept.limits.longest)
-            × (self.old.kept.limits.window ≤ length self.old.kept.station.out)) }
     {
         self.core.send_maintenance(message)
     }
@@ -286,23 +228,24 @@ impl Station {
     /// Writes SYN fill and the next frame at the front of `out`, and answers how many bytes they
     /// have.
     pub fn poll(&mut self, out: &mut [u8]) -> Option<usize>
-        requires { self.old.syn + self.old.kept.limits.longest + 10 ≤ length out.old }
-        ensures state { self.new ≡ record self.old { kept = polled self.old.kept } }
+        requires { self.old.syn + self.old.core.limits.longest + 10 ≤ length out.old }
+        ensures state { self.new ≡ record self.old { core = after_poll self.old.core } }
         ensures length { result ≡ option_map length
-            (option_map (on_line self.old.syn) (frame_in (next self.old.kept.station))) }
-        ensures most { IfSome result (λ n. n ≤ self.old.syn + self.old.kept.limits.longest + 10) }
-        ensures out { out.new ≡ written
-            (option_map (on_line self.old.syn) (frame_in (next self.old.kept.station))) out.old }
+            (option_map (frame_on_line self.old.syn) (next_frame (next self.old.core.station))) }
+        ensures most { IfSome result (λ n. n ≤ self.old.syn + self.old.core.limits.longest + 10) }
+        ensures out { out.new ≡ with_front
+            (option_map (frame_on_line self.old.syn) (next_frame (next self.old.core.station))) out.old }
+        ensures within { IfSome result (λ n. n ≤ MAX_COUNT + 10 + MAX_SYN) }
     {
         write_next(&mut self.core, self.syn, &mut self.message, out)
     }
 
     /// Moves the first message of the inbox to the front of `out`, and answers its length.
     pub fn take(&mut self, out: &mut [u8]) -> Option<usize>
-        requires { self.old.kept.limits.longest ≤ length out.old }
-        ensures state { self.new ≡ record self.old { kept = record self.old.kept { station = taken self.old.kept.station } } }
-        ensures length { result ≡ option_map length (first self.old.kept.station.inbox) }
-        ensures out { out.new ≡ written (first self.old.kept.station.inbox) out.old }
+        requires { self.old.core.limits.longest ≤ length out.old }
+        ensures state { self.new ≡ record self.old { core = record self.old.core { station = after_take self.old.core.station } } }
+        ensures length { result ≡ option_map length (first_message self.old.core.station.inbox) }
+        ensures out { out.new ≡ with_front (first_message self.old.core.station.inbox) out.old }
     {
         self.core.take(out)
     }
@@ -310,27 +253,27 @@ impl Station {
     /// The timer has run out: whether it was on.
     pub fn expire(&mut self) -> bool
         ensures state { self.new ≡ record self.old {
-          kept = record self.old.kept {
-            station = expired self.old.kept.station;
-            counters = expired_counted self.old.kept.station self.old.kept.counters;
+          core = record self.old.core {
+            station = after_expire self.old.core.station;
+            counters = counters_after_expire self.old.core.station self.old.core.counters;
           };
         } }
-        ensures answer { result ≡ is_on self.old.kept.station.timer }
+        ensures answer { result ≡ is_on self.old.core.station.timer }
     {
         self.core.expire()
     }
 
     /// Whether the timer was started since this was last asked: the caller sets its deadline.
     pub fn take_arm(&mut self) -> bool
-        ensures state { self.new ≡ record self.old { kept = record self.old.kept { station = armed self.old.kept.station } } }
-        ensures answer { result ≡ is_fresh self.old.kept.station.timer }
+        ensures state { self.new ≡ record self.old { core = record self.old.core { station = after_take_arm self.old.core.station } } }
+        ensures answer { result ≡ is_fresh self.old.core.station.timer }
     {
         self.core.take_arm()
     }
 
     /// The state.
     pub fn state(&self) -> State
-        ensures { result ≡ self.now.kept.station.state }
+        ensures { result ≡ self.now.core.station.state }
     {
         self.core.state()
     }
@@ -338,10 +281,10 @@ impl Station {
     /// The numbers.
     pub fn numbers(&self) -> Numbers
         ensures { result ≡ record {
-          r = record { 0 = self.now.kept.station.r };
-          n = record { 0 = self.now.kept.station.n };
-          a = record { 0 = self.now.kept.station.a };
-          t = record { 0 = self.now.kept.station.t };
+          r = record { 0 = self.now.core.station.r };
+          n = record { 0 = self.now.core.station.n };
+          a = record { 0 = self.now.core.station.a };
+          t = record { 0 = self.now.core.station.t };
         } }
     {
         self.core.numbers()
@@ -349,21 +292,21 @@ impl Station {
 
     /// The number of messages to send that are kept.
     pub fn outgoing(&self) -> u8
-        ensures { result ≡ length self.now.kept.station.out }
+        ensures { result ≡ length self.now.core.station.out }
     {
         self.core.outgoing()
     }
 
     /// Whether fewer messages are kept than the window allows.
     pub fn room(&self) -> bool
-        ensures { IsTrue result ↔ (length self.now.kept.station.out < self.now.kept.limits.window) }
+        ensures { IsTrue result ↔ (length self.now.core.station.out < self.now.core.limits.window) }
     {
         self.core.room()
     }
 
     /// The number of messages in the inbox.
     pub fn waiting(&self) -> u8
-        ensures { result ≡ length self.now.kept.station.inbox }
+        ensures { result ≡ length self.now.core.station.inbox }
     {
         self.core.waiting()
     }
@@ -371,24 +314,24 @@ impl Station {
     /// Copies message `i` of the inbox, counted from 0, to the front of `out`, and answers its
     /// length.
     pub fn waiting_at(&self, i: u8, out: &mut [u8]) -> usize
-        requires there { i < length self.now.kept.station.inbox }
-        requires longest { self.now.kept.limits.longest ≤ length out.old }
-        ensures length { result ≡ length (slice_index_or self.now.kept.station.inbox i []) }
-        ensures out { out.new ≡ written (Some (slice_index_or self.now.kept.station.inbox i [])) out.old }
+        requires there { i < length self.now.core.station.inbox }
+        requires longest { self.now.core.limits.longest ≤ length out.old }
+        ensures length { result ≡ length (slice_index_or self.now.core.station.inbox i []) }
+        ensures out { out.new ≡ with_front (Some (slice_index_or self.now.core.station.inbox i [])) out.old }
     {
         self.core.waiting_at(i, out)
     }
 
     /// Whether the timer isn't off.
     pub fn timer_on(&self) -> bool
-        ensures { result ≡ is_on self.now.kept.station.timer }
+        ensures { result ≡ is_on self.now.core.station.timer }
     {
         self.core.timer_on()
     }
 
     /// What was counted.
     pub fn counters(&self) -> &Counters
-        ensures { result.now ≡ self.now.kept.counters }
+        ensures { result.now ≡ self.now.core.counters }
     {
         self.core.counters()
     }
@@ -396,7 +339,7 @@ impl Station {
     /// The number of bytes of the line since it was cleared.
     pub fn offset(&self) -> u64
         ensures value { result ≡ self.now.line.offset }
-        ensures text { (text : List ℕ) → Stands self.now.line text → result ≡ length text }
+        ensures text { (text : List ℕ) → StandsFor self.now.line text → result ≡ length text }
     {
         self.reader.offset()
     }
@@ -404,8 +347,8 @@ impl Station {
     /// The number of bytes from the start byte of the unfinished frame on.
     pub fn open(&self) -> usize
         ensures value { result ≡ open_of self.now.line }
-        ensures text { (text : List ℕ) → Stands self.now.line text
-            → result ≡ open_at_end self.now.kept.limits.longest text }
+        ensures text { (text : List ℕ) → StandsFor self.now.line text
+            → result ≡ open_at_end self.now.core.limits.longest text }
     {
         self.reader.open()
     }
@@ -414,31 +357,30 @@ impl Station {
     /// that is too long.
     pub fn held(&self) -> usize
         ensures value { result ≡ held_of self.now }
-        ensures text { (text : List ℕ) → Stands self.now.line text
-            → result ≡ bytes_kept self.now.kept.station + kept_at_end self.now.kept.limits.longest text }
-        ensures within { result ≤ held_at_most self.now.kept.limits }
+        ensures text { (text : List ℕ) → StandsFor self.now.line text
+            → result ≡ message_bytes self.now.core.station + kept_at_end self.now.core.limits.longest text }
+        ensures within { result ≤ held_at_most self.now.core.limits }
     {
-        self.core.holds();
         self.core.bytes() + self.reader.kept()
     }
 
     /// The largest length of a message.
     pub(crate) fn longest(&self) -> usize
-        ensures { result ≡ self.now.kept.limits.longest }
+        ensures { result ≡ self.now.core.limits.longest }
     {
         self.message.len()
     }
 
     /// The largest number of bytes that `poll` writes.
     pub(crate) fn frame_room(&self) -> usize
-        ensures { result ≡ self.now.syn + self.now.kept.limits.longest + 10 }
+        ensures { result ≡ self.now.syn + self.now.core.limits.longest + 10 }
     {
         self.syn as usize + self.message.len() + 10
     }
 
-    /// What holds of every station, for proofs. It does nothing.
+    /// What holds of every station: a law, for those who have one. It does nothing.
     pub fn holds(&self)
-        ensures { IsLinked self.now }
+        ensures { IsSoundStation self.now }
     {
         self.core.holds();
     }

@@ -1,4 +1,4 @@
-// Who drives a station and what comes of it.
+//! Who drives a station and what comes of it.
 ghost use Rattle.std.specs.Prelude.{◌≤◌, length};
 
 use ddcmp_core::Notice;
@@ -20,10 +20,10 @@ pub trait Clock {
 pub trait User {
     ghost use Rattle.std.specs.Prelude.{◌≤◌, length, take, List, [], ◌∷◌, Option, None};
     ghost use Rattle.ddcmp_frame.specs.Device.{Logs};
-    ghost use Rattle.ddcmp_station.specs.Seen.{Seen, Asked, Told, Handed};
+    ghost use Rattle.ddcmp_station.specs.UserCalls.{UserCall, Asked, Told, Handed};
 
     // What it saw, where that is known.
-    ghost seen: { Self → Option (List Seen) } = { λ _. None };
+    ghost seen: { Self → Option (List UserCall) } = { λ _. None };
 
     /// Writes a message to be sent at the front of `out`, and answers its length: 0 for none.
     fn message(&mut self, out: &mut [u8]) -> usize
@@ -37,27 +37,4 @@ pub trait User {
     /// Is handed a message that came.
     fn mail(&mut self, message: &[u8])
         ensures { Logs (seen self.old) (seen self.new) (Handed message.now ∷ []) };
-}
-
-/// What a call of `drive` did.
-#[derive(Clone, Copy, Debug, PartialEq, Eq)]
-pub struct Driven {
-    pub turns: u32,
-    /// The number of bytes read.
-    pub read: u64,
-    /// The number of bytes written.
-    pub written: u64,
-}
-
-/// Why `drive` ended before its turns were over.
-#[derive(Clone, Copy, Debug, PartialEq, Eq)]
-pub enum LineFault {
-    /// A read failed.
-    Read,
-    /// A write failed. How much of the last frame went out isn't known.
-    Write,
-    /// A read gave no bytes: the line ended.
-    Ended,
-    /// Memory was refused, before anything was done.
-    Memory,
 }

@@ -1,4 +1,5 @@
--- The first elements of a list, each seen by a function.
+-- The first elements of a list, each seen by a function: lemmas that the impl of `Store` cites for
+-- what holds of every store, and may take from specs/ alone.
 use Rattle.std.proofs.Common.{◌≡◌, ℕ, zero, suc, ◌<◌, ◌≤◌, List, [], ◌∷◌, length, take, map, get_or, arith}
 use Rattle.std.proofs.lemmas.List.{length-map, length-take-le}
 

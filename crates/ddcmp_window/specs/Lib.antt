@@ -1,4 +1,6 @@
 pub mod Fronts
-pub mod Kept
-pub mod Window
+pub mod Numbers
+pub mod Store
+pub mod Sender
+pub mod Inbox
 pub use Rattle.ddcmp_num.specs.Sequence

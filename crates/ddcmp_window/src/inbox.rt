@@ -1,4 +1,4 @@
-// The receiving half: messages that came in sequence.
+//! The receiving half: messages that came in sequence.
 ghost use Rattle.std.specs.Prelude.{◌≡◌, ◌≢◌, ◌↔◌, ◌+◌, ◌<◌, ◌≤◌, [], ◌∷◌, ◌++◌, length, slice_index_or, sum_by, IsTrue, Option, Some, None, option_map};
 
 use crate::store::{Store, take_first};
@@ -26,9 +26,9 @@ pub struct Inbox<S: Store> {
 
 impl<S: Store> Model for Inbox<S> {
     ghost use Rattle.std.specs.Prelude.{◌<◌};
-    ghost use Rattle.ddcmp_window.specs.Kept.{Receiving};
+    ghost use Rattle.ddcmp_window.specs.Inbox.{InboxView};
 
-    ghost Value = { Receiving };
+    ghost Value = { InboxView };
 
     ghost view = { λ s. record {
       limit = S.limit s.store;
@@ -40,12 +40,15 @@ impl<S: Store> Model for Inbox<S> {
 }
 
 impl<S: Store> Inbox<S> {
-    ghost use Rattle.ddcmp_window.specs.Window.{IsStored, next_number, nothing_received, answer_to_offer, offered, put, taken, first, written};
+    ghost use Rattle.ddcmp_window.specs.Store.{first_message, with_front};
+    ghost use Rattle.ddcmp_window.specs.Numbers.{next_number};
+    ghost use Rattle.ddcmp_window.specs.Inbox.{IsSoundInbox, nothing_received, answer_to_offer, incoming_after_offer, incoming_after_put, incoming_after_take};
 
     /// An inbox that has received nothing.
     pub fn new(store: S) -> Self
         requires { S.messages store ≡ [] }
-        ensures { result ≡ record { limit = S.limit store; longest = S.longest store; incoming = nothing_received } }
+        ensures value { result ≡ record { limit = S.limit store; longest = S.longest store; incoming = nothing_received } }
+        ensures sound { IsSoundInbox result }
     {
         Inbox {
             store,
@@ -55,7 +58,8 @@ impl<S: Store> Inbox<S> {
 
     /// Begins anew: all messages are dropped.
     pub fn reset(&mut self)
-        ensures { self.new ≡ record self.old { incoming = nothing_received } }
+        ensures state { self.new ≡ record self.old { incoming = nothing_received } }
+        ensures sound { IsSoundInbox self.new }
     {
         self.store.clear();
         self.last = Seq(0);
@@ -65,8 +69,9 @@ impl<S: Store> Inbox<S> {
     pub fn offer(&mut self, number: Seq, message: &[u8]) -> Offer
         requires not_empty { 1 ≤ length message.now }
         requires not_too_long { length message.now ≤ self.old.longest }
-        ensures state { self.new ≡ record self.old { incoming = offered self.old.limit self.old.incoming number.0 message.now } }
+        ensures state { self.new ≡ record self.old { incoming = incoming_after_offer self.old.limit self.old.incoming number.0 message.now } }
         ensures answer { result ≡ answer_to_offer self.old.limit self.old.incoming number.0 }
+        ensures sound { IsSoundInbox self.new }
 
         // When each refusal comes.
         ensures out_of_sequence { (result ≡ Offer.OutOfSequence) ↔ (number.0 ≢ next_number self.old.incoming.r) }
@@ -88,8 +93,9 @@ impl<S: Store> Inbox<S> {
     pub fn put(&mut self, message: &[u8]) -> bool
         requires not_empty { 1 ≤ length message.now }
         requires not_too_long { length message.now ≤ self.old.longest }
-        ensures state { self.new ≡ record self.old { incoming = put self.old.limit self.old.incoming message.now } }
+        ensures state { self.new ≡ record self.old { incoming = incoming_after_put self.old.limit self.old.incoming message.now } }
         ensures room { IsTrue result ↔ (length self.old.incoming.inbox < self.old.limit) }
+        ensures sound { IsSoundInbox self.new }
     {
         if !self.store.room() {
             return false;
@@ -101,9 +107,10 @@ impl<S: Store> Inbox<S> {
     /// Moves the first message to the front of `out`, and answers its length.
     pub fn take(&mut self, out: &mut [u8]) -> Option<usize>
         requires { self.old.longest ≤ length out.old }
-        ensures state { self.new ≡ record self.old { incoming = taken self.old.incoming } }
-        ensures length { result ≡ option_map length (first self.old.incoming.inbox) }
-        ensures out { out.new ≡ written (first self.old.incoming.inbox) out.old }
+        ensures state { self.new ≡ record self.old { incoming = incoming_after_take self.old.incoming } }
+        ensures length { result ≡ option_map length (first_message self.old.incoming.inbox) }
+        ensures out { out.new ≡ with_front (first_message self.old.incoming.inbox) out.old }
+        ensures sound { IsSoundInbox self.new }
     {
         take_first(&mut self.store, out)
     }
@@ -127,7 +134,7 @@ impl<S: Store> Inbox<S> {
         requires there { i < length self.now.incoming.inbox }
         requires fits { length (slice_index_or self.now.incoming.inbox i []) ≤ length out.old }
         ensures length { result ≡ length (slice_index_or self.now.incoming.inbox i []) }
-        ensures out { out.new ≡ written (Some (slice_index_or self.now.incoming.inbox i [])) out.old }
+        ensures out { out.new ≡ with_front (Some (slice_index_or self.now.incoming.inbox i [])) out.old }
     {
         self.store.copy(i, out)
     }
@@ -139,10 +146,9 @@ impl<S: Store> Inbox<S> {
         self.store.bytes()
     }
 
-    /// What holds of every inbox, for proofs. It does nothing.
+    /// What holds of every inbox: a law, for those who have one. It does nothing.
     pub fn holds(&self)
-        ensures number { self.now.incoming.r < 256 }
-        ensures stored { IsStored self.now.limit self.now.longest self.now.incoming.inbox }
+        ensures { IsSoundInbox self.now }
     {
         // Where a field is looked at, the proof knows what holds of all of them.
         let _ = &self.store;

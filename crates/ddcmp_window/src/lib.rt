@@ -3,14 +3,12 @@
 #![tactic(auto)]
 
 mod inbox;
-mod refusals;
 mod sender;
-mod slots;
+mod slot_store;
 mod store;
 
-pub use ddcmp_num::Seq;
+pub use ddcmp_num::{MAX_COUNT, MAX_WINDOW, Seq};
 pub use inbox::{Inbox, Offer};
-pub use refusals::{Memory, SendRefusal};
-pub use sender::Sender;
-pub use slots::SlotStore;
-pub use store::Store;
+pub use sender::{SendRefusal, Sender};
+pub use slot_store::SlotStore;
+pub use store::{Memory, Store};

@@ -1,10 +1,22 @@
-// The sending half: messages are kept until they are acknowledged.
-ghost use Rattle.std.specs.Prelude.{◌≡◌, ◌≢◌, ◌↔◌, ◌+◌, ◌<◌, ◌≤◌, ◌%◌, ℕ, [], length, sum_by, IsTrue, Option, Some, None, option_map, if◌then◌else◌, Err, IsOk};
+//! The sending half: messages are kept until they are acknowledged.
+ghost use Rattle.std.specs.Prelude.{◌≡◌, ◌≢◌, ◌↔◌, ◌+◌, ◌<◌, ◌≤◌, ◌%◌, ℕ, [], length, sum_by, IsTrue, Option, Some, None, option_map, if◌then◌else◌, Err, OnOk};
 
-use crate::refusals::SendRefusal;
 use crate::store::{Store, take_first};
 use ddcmp_num::Seq;
 use std::marker::Model;
+
+/// Why a message to be sent isn't accepted. The first that fits is answered.
+#[derive(Clone, Copy, Debug, PartialEq, Eq)]
+pub enum SendRefusal {
+    /// The station is in another state. Only a station answers this.
+    WrongState,
+    /// The message has no bytes.
+    Empty,
+    /// The message is longer than the longest that is kept.
+    TooLong,
+    /// As many messages are kept as the window allows.
+    WindowFull,
+}
 
 /// Keeps messages until they are acknowledged, and gives them in order, each with its number, to
 /// be sent. A message that is refused is given again, with all that follow it.
@@ -20,10 +32,10 @@ pub struct Sender<S: Store> {
 }
 
 impl<S: Store> Model for Sender<S> {
-    ghost use Rattle.ddcmp_window.specs.Kept.{Sending};
-    ghost use Rattle.ddcmp_window.specs.Window.{IsInWindow};
+    ghost use Rattle.ddcmp_window.specs.Sender.{SenderView};
+    ghost use Rattle.ddcmp_window.specs.Sender.{IsInWindow};
 
-    ghost Value = { Sending };
+    ghost Value = { SenderView };
 
     ghost view = { λ s. record {
       limit = S.limit s.store;
@@ -35,13 +47,16 @@ impl<S: Store> Model for Sender<S> {
 }
 
 impl<S: Store> Sender<S> {
-    ghost use Rattle.ddcmp_window.specs.Window.{IsStored, IsInWindow, nothing_sent, before_next, accepted, answer_to_accept, keeps, newly, acknowledging, refused, is_within, next_number, next_message, after_next, first, written, popped};
+    ghost use Rattle.ddcmp_window.specs.Store.{first_message, with_front};
+    ghost use Rattle.ddcmp_window.specs.Sender.{IsSoundSender, nothing_sent, outgoing_before_next, outgoing_after_accept, accept_refusal, number_accepted, answer_unless, count_acknowledged, outgoing_after_ack, outgoing_after_nak, next_message, outgoing_after_next, outgoing_after_pop};
+    ghost use Rattle.ddcmp_window.specs.Numbers.{is_within, next_number};
     ghost use Rattle.ddcmp_num.specs.Sequence.{distance};
 
     /// A sender that has sent nothing.
     pub fn new(store: S) -> Self
         requires { S.messages store ≡ [] }
-        ensures { result ≡ record { limit = S.limit store; longest = S.longest store; outgoing = nothing_sent } }
+        ensures value { result ≡ record { limit = S.limit store; longest = S.longest store; outgoing = nothing_sent } }
+        ensures sound { IsSoundSender result }
     {
         Sender {
             store,
@@ -55,6 +70,7 @@ impl<S: Store> Sender<S> {
     pub fn reset(&mut self) -> u8
         ensures state { self.new ≡ record self.old { outgoing = nothing_sent } }
         ensures dropped { result ≡ length self.old.outgoing.out }
+        ensures sound { IsSoundSender self.new }
     {
         let dropped = self.store.len();
         self.store.clear();
@@ -67,10 +83,12 @@ impl<S: Store> Sender<S> {
     /// Keeps a message to be sent, and answers its number.
     pub fn accept(&mut self, message: &[u8]) -> Result<Seq, SendRefusal>
         ensures state { self.new ≡ record self.old {
-          outgoing = accepted self.old.limit self.old.longest self.old.outgoing message.now;
+          outgoing = outgoing_after_accept self.old.limit self.old.longest self.old.outgoing message.now;
         } }
-        ensures answer { result ≡ answer_to_accept self.old.limit self.old.longest self.old.outgoing message.now }
-        ensures kept { IsOk result ↔ IsTrue (keeps self.old.limit self.old.longest self.old.outgoing message.now) }
+        ensures answer { result ≡ answer_unless
+            (accept_refusal self.old.limit self.old.longest self.old.outgoing message.now)
+            (number_accepted self.old.outgoing) }
+        ensures sound { OnOk result (IsSoundSender self.new) }
 
         // When each refusal comes.
         ensures wrong_state { result ≢ Err SendRefusal.WrongState }
@@ -94,8 +112,9 @@ impl<S: Store> Sender<S> {
 
     /// The peer has all messages up to `number`: how many of them it hadn't acknowledged before.
     pub fn acknowledged(&mut self, number: Seq) -> u8
-        ensures state { self.new ≡ record self.old { outgoing = acknowledging self.old.outgoing number.0 } }
-        ensures newly { result ≡ newly self.old.outgoing number.0 }
+        ensures state { self.new ≡ record self.old { outgoing = outgoing_after_ack self.old.outgoing number.0 } }
+        ensures newly { result ≡ count_acknowledged self.old.outgoing number.0 }
+        ensures sound { IsSoundSender self.new }
     {
         if !Seq::within(self.acknowledged, number, self.sent) {
             return 0;
@@ -112,9 +131,10 @@ impl<S: Store> Sender<S> {
     /// The peer has all messages up to `number` and wants those behind it again: how many it
     /// hadn't acknowledged before, or None where `number` isn't one that it can have.
     pub fn refused(&mut self, number: Seq) -> Option<u8>
-        ensures state { self.new ≡ record self.old { outgoing = refused self.old.outgoing number.0 } }
+        ensures state { self.new ≡ record self.old { outgoing = outgoing_after_nak self.old.outgoing number.0 } }
         ensures newly { result ≡ (if is_within self.old.outgoing.a number.0 self.old.outgoing.n
-            then Some (newly self.old.outgoing number.0) else None) }
+            then Some (count_acknowledged self.old.outgoing number.0) else None) }
+        ensures sound { IsSoundSender self.new }
     {
         let in_window = Seq::within(self.acknowledged, number, self.sent);
         if !in_window {
@@ -128,9 +148,10 @@ impl<S: Store> Sender<S> {
     /// Writes the next message to send at the front of `out`: its number and its length.
     pub fn next(&mut self, out: &mut [u8]) -> Option<(Seq, usize)>
         requires { self.old.longest ≤ length out.old }
-        ensures state { self.new ≡ record self.old { outgoing = after_next self.old.outgoing } }
+        ensures state { self.new ≡ record self.old { outgoing = outgoing_after_next self.old.outgoing } }
         ensures sent { result ≡ option_map (λ message. (record { 0 = self.old.outgoing.t }, length message)) (next_message self.old.outgoing) }
-        ensures out { out.new ≡ written (next_message self.old.outgoing) out.old }
+        ensures out { out.new ≡ with_front (next_message self.old.outgoing) out.old }
+        ensures sound { IsSoundSender self.new }
     {
         let before = self.before_next();
         if before >= self.store.len() {
@@ -151,9 +172,10 @@ impl<S: Store> Sender<S> {
         requires longest { self.old.longest ≤ length out.old }
         requires all_acknowledged { self.old.outgoing.a ≡ self.old.outgoing.n }
         requires none_sent { self.old.outgoing.t ≡ next_number self.old.outgoing.a }
-        ensures state { self.new ≡ record self.old { outgoing = popped self.old.outgoing } }
-        ensures length { result ≡ option_map length (first self.old.outgoing.out) }
-        ensures out { out.new ≡ written (first self.old.outgoing.out) out.old }
+        ensures state { self.new ≡ record self.old { outgoing = outgoing_after_pop self.old.outgoing } }
+        ensures length { result ≡ option_map length (first_message self.old.outgoing.out) }
+        ensures out { out.new ≡ with_front (first_message self.old.outgoing.out) out.old }
+        ensures sound { IsSoundSender self.new }
     {
         take_first(&mut self.store, out)
     }
@@ -207,17 +229,16 @@ impl<S: Store> Sender<S> {
         self.store.bytes()
     }
 
-    /// What holds of every sender, for proofs. It does nothing.
+    /// What holds of every sender: a law, for those who have one. It does nothing.
     pub fn holds(&self)
-        ensures numbers { IsInWindow self.now.outgoing }
-        ensures stored { IsStored self.now.limit self.now.longest self.now.outgoing.out }
+        ensures { IsSoundSender self.now }
     {
         // Where a field is looked at, the proof knows what holds of all of them.
         let _ = &self.store;
     }
 
     fn before_next(&self) -> u8
-        ensures { result ≡ before_next self.now.outgoing }
+        ensures { result ≡ outgoing_before_next self.now.outgoing }
     {
         Seq::distance(self.acknowledged, Seq(self.next.0.wrapping_sub(1)))
     }

@@ -1,6 +1,19 @@
-// What holds messages, within two limits.
+//! What holds messages, within two limits.
 ghost use Rattle.std.specs.Prelude.{◌≡◌, ◌↔◌, ℕ, ◌+◌, ◌<◌, ◌≤◌, List, [], ◌∷◌, ◌++◌, length, drop, slice_index_or, sum_by, IsTrue, Option, Some, None, option_map};
-ghost use Rattle.ddcmp_window.specs.Window.{first, written};
+ghost use Rattle.ddcmp_num.specs.declared.limits.TheConstants.{MAX_COUNT, MAX_WINDOW};
+ghost use Rattle.ddcmp_window.specs.Store.{first_message, with_front};
+
+use std::alloc::AllocError;
+
+/// Memory was refused.
+#[derive(Clone, Copy, Debug, PartialEq, Eq)]
+pub struct Memory;
+
+impl From<AllocError> for Memory {
+    fn from(_refused: AllocError) -> Memory {
+        Memory
+    }
+}
 
 /// A list of messages, first in, first out. It holds at most `limit` messages of 1 to `longest`
 /// bytes. All its memory is reserved when it is made: no call takes any.
@@ -49,7 +62,7 @@ pub trait Store {
         requires there { i < length (messages self.now) }
         requires fits { length (slice_index_or (messages self.now) i []) ≤ length out.old }
         ensures length { result ≡ length (slice_index_or (messages self.now) i []) }
-        ensures out { out.new ≡ written (Some (slice_index_or (messages self.now) i [])) out.old };
+        ensures out { out.new ≡ with_front (Some (slice_index_or (messages self.now) i [])) out.old };
 
     /// The length of all messages together.
     fn bytes(&self) -> usize
@@ -64,9 +77,9 @@ pub trait Store {
     // What holds of every store.
     ghost within_limit: { (s : Self) → length (messages s) ≤ limit s };
 
-    ghost limit_in_range: { (s : Self) → (1 ≤ limit s) × (limit s ≤ 255) };
+    ghost limit_in_range: { (s : Self) → (1 ≤ limit s) × (limit s ≤ MAX_WINDOW) };
 
-    ghost longest_in_range: { (s : Self) → (1 ≤ longest s) × (longest s ≤ 16383) };
+    ghost longest_in_range: { (s : Self) → (1 ≤ longest s) × (longest s ≤ MAX_COUNT) };
 
     ghost lengths_in_range: { (s : Self) (i : ℕ) → i < length (messages s)
         → (1 ≤ length (slice_index_or (messages s) i [])) × (length (slice_index_or (messages s) i []) ≤ longest s) };
@@ -75,8 +88,8 @@ pub trait Store {
 /// Moves the first message to the front of `out`, and answers its length.
 pub(crate) fn take_first<S: Store>(store: &mut S, out: &mut [u8]) -> Option<usize>
     requires { S.longest store.old ≤ length out.old }
-    ensures length { result ≡ option_map length (first (S.messages store.old)) }
-    ensures out { out.new ≡ written (first (S.messages store.old)) out.old }
+    ensures length { result ≡ option_map length (first_message (S.messages store.old)) }
+    ensures out { out.new ≡ with_front (first_message (S.messages store.old)) out.old }
     ensures messages { S.messages store.new ≡ drop 1 (S.messages store.old) }
     ensures limit { S.limit store.new ≡ S.limit store.old }
     ensures longest { S.longest store.new ≡ S.longest store.old }

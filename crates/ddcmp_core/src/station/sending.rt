@@ -1,10 +1,10 @@
-// What a station sends.
+//! What a station sends.
 ghost use Rattle.std.specs.Prelude.{◌≡◌, ◌<◌, ◌≤◌};
 ghost use Rattle.ddcmp_core.specs.Frames.{no_flags, both_flags, header_of};
 ghost use Rattle.ddcmp_frame.specs.Naks.{subtype_of};
 ghost use Rattle.ddcmp_core.specs.Table.{Naked};
 
-use crate::kinds::{Reply, State, Timer};
+use crate::state::{Reply, State, Timer};
 use crate::station::Core;
 use ddcmp_frame::{ControlType, Counted, Flags, Header, Nak, Short};
 use ddcmp_window::{Seq, Store};
@@ -57,23 +57,26 @@ fn nak(reason: Nak, resp: u8) -> Header
     })
 }
 
-#[tactic(auto, unfolding(crate::specs::Table::next, crate::specs::Counting::turn_counted))]
+#[tactic(auto, unfolding(crate::specs::Table::next, crate::specs::Counting::counters_after_next))]
 impl<S: Store> Core<S> {
     ghost use Rattle.std.specs.Prelude.{◌≡◌, ◌≤◌, length, option_map};
-    ghost use Rattle.ddcmp_window.specs.Window.{written};
-    ghost use Rattle.ddcmp_core.specs.Table.{next, next_running, next_data, next_maintenance, frame_in, after_turn};
-    ghost use Rattle.ddcmp_core.specs.Frames.{data_of, header_and_length};
-    ghost use Rattle.ddcmp_core.specs.Counting.{turn_counted};
+    ghost use Rattle.ddcmp_window.specs.Store.{with_front};
+    ghost use Rattle.ddcmp_core.specs.Table.{next, next_running, next_maintenance, next_frame, after_next};
+    ghost use Rattle.ddcmp_core.specs.NextFrame.{next_data};
+    ghost use Rattle.ddcmp_core.specs.Frames.{message_of, header_and_length};
+    ghost use Rattle.ddcmp_core.specs.Counting.{counters_after_next};
+    ghost use Rattle.ddcmp_core.specs.Core.{IsSound};
 
     /// The next frame: its header, and the length of its data, which stand at the front of `out`.
     pub fn next(&mut self, out: &mut [u8]) -> Option<(Header, usize)>
         requires { self.old.limits.longest ≤ length out.old }
         ensures state { self.new ≡ record self.old {
-          station = after_turn (next self.old.station) self.old.station;
-          counters = turn_counted self.old.station (next self.old.station) self.old.counters;
+          station = after_next (next self.old.station) self.old.station;
+          counters = counters_after_next self.old.station (next self.old.station) self.old.counters;
         } }
-        ensures frame { result ≡ option_map header_and_length (frame_in (next self.old.station)) }
-        ensures out { out.new ≡ written (option_map data_of (frame_in (next self.old.station))) out.old }
+        ensures frame { result ≡ option_map header_and_length (next_frame (next self.old.station)) }
+        ensures out { out.new ≡ with_front (option_map message_of (next_frame (next self.old.station))) out.old }
+        ensures sound { IsSound self.old.limits self.old.station }
     {
         match self.state {
             State::IStart if self.due => {
@@ -96,14 +99,14 @@ impl<S: Store> Core<S> {
         requires running { self.old.station.state ≡ State.Running }
         requires longest { self.old.limits.longest ≤ length out.old }
         ensures state { self.new ≡ record self.old {
-          station = after_turn (next_running self.old.station.reply self.old.station) self.old.station;
-          counters = turn_counted self.old.station (next_running self.old.station.reply self.old.station)
+          station = after_next (next_running self.old.station.reply self.old.station) self.old.station;
+          counters = counters_after_next self.old.station (next_running self.old.station.reply self.old.station)
               self.old.counters;
         } }
         ensures frame { let s = self.old.station in
-            result ≡ option_map header_and_length (frame_in (next_running s.reply s)) }
+            result ≡ option_map header_and_length (next_frame (next_running s.reply s)) }
         ensures out { let s = self.old.station in
-            out.new ≡ written (option_map data_of (frame_in (next_running s.reply s))) out.old }
+            out.new ≡ with_front (option_map message_of (next_frame (next_running s.reply s))) out.old }
     {
         if let Reply::Nak(reason) = self.reply {
             self.reply = Reply::Quiet;
@@ -130,13 +133,12 @@ impl<S: Store> Core<S> {
         requires running { self.old.station.state ≡ State.Running }
         requires longest { self.old.limits.longest ≤ length out.old }
         ensures state { self.new ≡ record self.old {
-          station = after_turn (next_data self.old.station) self.old.station;
-          counters = turn_counted self.old.station (next_data self.old.station) self.old.counters;
+          station = after_next (next_data self.old.station) self.old.station;
+          counters = counters_after_next self.old.station (next_data self.old.station) self.old.counters;
         } }
-        ensures frame { result ≡ option_map header_and_length (frame_in (next_data self.old.station)) }
-        ensures out { out.new ≡ written (option_map data_of (frame_in (next_data self.old.station))) out.old }
+        ensures frame { result ≡ option_map header_and_length (next_frame (next_data self.old.station)) }
+        ensures out { out.new ≡ with_front (option_map message_of (next_frame (next_data self.old.station))) out.old }
     {
-        self.sender.holds();
         let first = self.sender.last_sent().next();
         let (number, length) = self.sender.next(out)?;
         self.reply = Reply::Quiet;
@@ -163,16 +165,15 @@ impl<S: Store> Core<S> {
         requires maintenance { self.old.station.state ≡ State.Maintenance }
         requires longest { self.old.limits.longest ≤ length out.old }
         ensures state { self.new ≡ record self.old {
-          station = after_turn (next_maintenance self.old.station.out self.old.station) self.old.station;
-          counters = turn_counted self.old.station (next_maintenance self.old.station.out self.old.station)
+          station = after_next (next_maintenance self.old.station.out self.old.station) self.old.station;
+          counters = counters_after_next self.old.station (next_maintenance self.old.station.out self.old.station)
               self.old.counters;
         } }
         ensures frame { let s = self.old.station in
-            result ≡ option_map header_and_length (frame_in (next_maintenance s.out s)) }
+            result ≡ option_map header_and_length (next_frame (next_maintenance s.out s)) }
         ensures out { let s = self.old.station in
-            out.new ≡ written (option_map data_of (frame_in (next_maintenance s.out s))) out.old }
+            out.new ≡ with_front (option_map message_of (next_frame (next_maintenance s.out s))) out.old }
     {
-        self.sender.holds();
         let length = self.sender.pop(out)?;
         self.counters.sent(length);
         let header = Counted {

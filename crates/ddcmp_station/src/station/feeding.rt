@@ -1,7 +1,6 @@
-// What a station does with the bytes of its line.
+//! What a station does with the bytes of its line.
 ghost use Rattle.std.specs.Prelude.{◌≡◌};
 
-use crate::laws::pieces;
 use crate::station::Station;
 use ddcmp_core::{Input, Notice};
 use ddcmp_frame::Item;
@@ -17,33 +16,31 @@ pub struct Fed {
 
 impl Station {
     ghost use Rattle.std.specs.Prelude.{◌≡◌, ℕ, ◌+◌, ◌<◌, ◌≤◌, ◌^◌, List, [], ◌++◌, length, take, option_to_list, Some, None};
-    ghost use Rattle.ddcmp_frame.specs.Held.{Stands, LentBeside};
-    ghost use Rattle.ddcmp_station.specs.Bytes.{fed, told_of, heard_one, told_one};
+    ghost use Rattle.ddcmp_frame.specs.Reader.{StandsFor, LentBeside};
+    ghost use Rattle.ddcmp_station.specs.Bytes.{after_piece, notices_of_piece, after_item, notices_of_item};
     ghost use Rattle.ddcmp_station.specs.OneByte.{TakesByte};
 
     /// Takes bytes of the line, up to the first that gives a notice.
     pub fn feed(&mut self, piece: &[u8]) -> Fed
         requires { self.old.line.offset + length piece.now < 2 ^ 64 }
         // The station stands for the text with the bytes used, however the text was cut before.
-        ensures stands { (text : List ℕ) → Stands self.old.line text
-            → Stands self.new.line (text ++ take result.used piece.now) }
-        ensures state { (text : List ℕ) → Stands self.old.line text
-            → self.new.kept ≡ fed text (take result.used piece.now) self.old.kept }
+        ensures stands { (text : List ℕ) → StandsFor self.old.line text
+            → StandsFor self.new.line (text ++ take result.used piece.now) }
+        ensures state { (text : List ℕ) → StandsFor self.old.line text
+            → self.new.core ≡ after_piece text (take result.used piece.now) self.old.core }
         // The last byte used gave the notice, and no byte before it gave one.
-        ensures told { (text : List ℕ) → Stands self.old.line text
-            → told_of text (take result.used piece.now) self.old.kept ≡ option_to_list result.notice }
-        ensures first { (text : List ℕ) (n : ℕ) → Stands self.old.line text → n < result.used
-            → told_of text (take n piece.now) self.old.kept ≡ [] }
+        ensures told { (text : List ℕ) → StandsFor self.old.line text
+            → notices_of_piece text (take result.used piece.now) self.old.core ≡ option_to_list result.notice }
+        ensures first { (text : List ℕ) (n : ℕ) → StandsFor self.old.line text → n < result.used
+            → notices_of_piece text (take n piece.now) self.old.core ≡ [] }
         ensures used { result.used ≤ length piece.now }
         ensures whole { result.notice ≡ None → result.used ≡ length piece.now }
         ensures some { 0 < length piece.now → 0 < result.used }
         // Without a text.
         ensures offset { self.new.line.offset ≡ self.old.line.offset + result.used }
-        ensures limits { self.new.kept.limits ≡ self.old.kept.limits }
+        ensures limits { self.new.core.limits ≡ self.old.core.limits }
         ensures syn { self.new.syn ≡ self.old.syn }
     {
-        pieces();
-        self.holds();
         for (i, byte) in piece.iter().enumerate() {
             match self.take_byte(*byte) {
                 None => {}
@@ -72,12 +69,12 @@ impl Station {
         }
     }
 
-    /// Hears an item of the line, whose data the reader lends: the notice that it gives.
+    /// Takes an item of the line, whose data the reader lends: the notice that it gives.
     fn take_item(&mut self, item: Item) -> Option<Notice>
         requires lent { LentBeside (Some item) self.old.line.lent }
-        requires within { length self.old.line.lent ≤ self.old.kept.limits.longest }
-        ensures state { self.new ≡ record self.old { kept = heard_one (item, self.old.line.lent) self.old.kept } }
-        ensures told { option_to_list result ≡ told_one (item, self.old.line.lent) self.old.kept }
+        requires within { length self.old.line.lent ≤ self.old.core.limits.longest }
+        ensures state { self.new ≡ record self.old { core = after_item (item, self.old.line.lent) self.old.core } }
+        ensures told { option_to_list result ≡ notices_of_item (item, self.old.line.lent) self.old.core }
     {
         match item {
             Item::Good(_at, header) => self.core.on(&Input::Good(header, self.reader.data())),

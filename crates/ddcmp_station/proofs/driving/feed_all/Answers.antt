@@ -1,8 +1,9 @@
 use Rattle.std.proofs.Common.{◌∙◌, refl, sym, subst, arith, length-drop, []}
 use Rattle.std.proofs.lemmas.List.{take_rest}
 use Rattle.ddcmp_station.proofs.DriveLaws.{fed-to-nothing, fed-more, fed-whole, Logs-nil}
+use Rattle.ddcmp_station.proofs.FeedLaws.{told-of-none}
 use Rattle.ddcmp_station.proofs.SeenLaws.{tells-more, tells-whole}
-use Rattle.ddcmp_station.specs.Seen.{told_to}
+use Rattle.ddcmp_station.specs.UserCalls.{calls_of_notices}
 use Rattle.ddcmp_frame.specs.Device.{Logs}
 use Rattle.std.specs.Prelude.{option_to_list}
 use Rattle.ddcmp_station.proofs.driving.feed_all.Goals as goal
@@ -10,11 +11,11 @@ use Rattle.ddcmp_station.proofs.driving.feed_all.Goals as goal
 pub loop-at-init : goal.loop-at-init
 loop-at-init g c = record {
   within = omega arith;
-  fed = fed-to-nothing c.pieces.ensures.none c.args.station.now;
+  fed = fed-to-nothing c.args.station.now;
   offset = omega arith;
   limits = refl;
   syn = refl;
-  seen = ([], Logs-nil _, λ text s. (c.pieces.ensures.none text c.args.station.now.kept).1);
+  seen = ([], Logs-nil _, λ text s. told-of-none text c.args.station.now.core);
 }
 
 pub loop-at-preserved : goal.loop-at-preserved
@@ -23,11 +24,11 @@ loop-at-preserved g c =
     let i = c.loop-at.invariant in
     record {
       within = omega (arith, e.used, length-drop c.loop-at.at c.args.piece.now, i.within);
-      fed = fed-more c.pieces.ensures.state _ c.loop-at.station c.feed-fed.new.self _ c.loop-at.at _ i.fed (record { stands = e.stands; state = e.state });
+      fed = fed-more _ c.loop-at.station c.feed-fed.new.self _ c.loop-at.at _ i.fed (record { stands = e.stands; state = e.state });
       offset = omega (arith, e.offset, i.offset);
       limits = e.limits ∙ i.limits;
       syn = e.syn ∙ i.syn;
-      seen = tells-more c.pieces.ensures.told _ c.loop-at.station _ c.loop-at.at _ _ _ _ c.feed-fed.result.notice i.fed e.told i.seen (subst (λ r. Logs (g.U.User.seen c.loop-at.user) (g.U.User.seen c.loop-at.user) (told_to (option_to_list r))) (sym c.in_default.is) (Logs-nil _));
+      seen = tells-more _ c.loop-at.station _ c.loop-at.at _ _ _ _ c.feed-fed.result.notice i.fed e.told i.seen (subst (λ r. Logs (g.U.User.seen c.loop-at.user) (g.U.User.seen c.loop-at.user) (calls_of_notices (option_to_list r))) (sym c.in_default.is) (Logs-nil _));
     }
 
 pub loop-at-preserved-in-Some : goal.loop-at-preserved-in-Some
@@ -36,11 +37,11 @@ loop-at-preserved-in-Some g c =
     let i = c.loop-at.invariant in
     record {
       within = omega (arith, e.used, length-drop c.loop-at.at c.args.piece.now, i.within);
-      fed = fed-more c.pieces.ensures.state _ c.loop-at.station c.feed-fed.new.self _ c.loop-at.at _ i.fed (record { stands = e.stands; state = e.state });
+      fed = fed-more _ c.loop-at.station c.feed-fed.new.self _ c.loop-at.at _ i.fed (record { stands = e.stands; state = e.state });
       offset = omega (arith, e.offset, i.offset);
       limits = e.limits ∙ i.limits;
       syn = e.syn ∙ i.syn;
-      seen = tells-more c.pieces.ensures.told _ c.loop-at.station _ c.loop-at.at _ _ _ _ c.feed-fed.result.notice i.fed e.told i.seen (subst (λ r. Logs (g.U.User.seen c.loop-at.user) (g.U.User.seen c.notice.new.self) (told_to (option_to_list r))) (sym c.in-Some.is) c.notice.ensures);
+      seen = tells-more _ c.loop-at.station _ c.loop-at.at _ _ _ _ c.feed-fed.result.notice i.fed e.told i.seen (subst (λ r. Logs (g.U.User.seen c.loop-at.user) (g.U.User.seen c.notice.new.self) (calls_of_notices (option_to_list r))) (sym c.in-Some.is) c.notice.ensures);
     }
 
 pub returns-clause-stands : goal.returns-clause-stands

@@ -1,6 +1,6 @@
 use Rattle.std.proofs.Common.{◌≡◌, ◌≤◌, ◌+◌, ◌-◌, length, take}
 use Rattle.ddcmp_station.proofs.DriveLaws.{FedTo}
-use Rattle.ddcmp_station.specs.Seen.{ToldOf}
+use Rattle.ddcmp_station.specs.UserCalls.{TellsNotices}
 use Rattle.ddcmp_station.proofs.driving.feed_all.Given as goal
 
 abbrev pub invariant-loop-at : goal.invariant-loop-at
@@ -8,9 +8,9 @@ invariant-loop-at g l = record {
   within : l.at ≤ length l.piece;
   fed : FedTo l.initial.station (take l.at l.piece) l.station;
   offset : l.station.line.offset ≡ l.initial.station.line.offset + l.at;
-  limits : l.station.kept.limits ≡ l.initial.station.kept.limits;
+  limits : l.station.core.limits ≡ l.initial.station.core.limits;
   syn : l.station.syn ≡ l.initial.station.syn;
-  seen : ToldOf l.initial.station (take l.at l.piece) (g.U.User.seen l.initial.user) (g.U.User.seen l.user);
+  seen : TellsNotices l.initial.station (take l.at l.piece) (g.U.User.seen l.initial.user) (g.U.User.seen l.user);
 }
 
 abbrev pub decreases-loop-at : goal.decreases-loop-at

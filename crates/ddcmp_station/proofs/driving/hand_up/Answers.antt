@@ -1,5 +1,5 @@
 use Rattle.std.proofs.Common.{◌≡◌, subst, sym, ap, ◌∙◌, arith, drop}
-use Rattle.ddcmp_station.specs.Seen.{Seen, handed_of}
+use Rattle.ddcmp_station.specs.UserCalls.{UserCall, calls_of_mail}
 use Rattle.ddcmp_station.proofs.SeenLaws.{HandedSo, hands-one}
 use Rattle.ddcmp_station.proofs.driving.hand_up.Goals as goal
 
@@ -10,5 +10,5 @@ loop-length-preserved g c =
     record {
       room = rw t.state (omega (arith, i.room, c.take.auto.out));
       rest = rw t.state i.rest;
-      seen = rw t.state (hands-one _ _ _ c.loop-length.station.kept.station.inbox _ c.in-Some.length _ _ i.seen (sym t.length ∙ c.in-Some.is) t.out c.mail.ensures);
+      seen = rw t.state (hands-one _ _ _ c.loop-length.station.core.station.inbox _ c.in-Some.length _ _ i.seen (sym t.length ∙ c.in-Some.is) t.out c.mail.ensures);
     }

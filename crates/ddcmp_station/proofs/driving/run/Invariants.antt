@@ -1,18 +1,18 @@
 use Rattle.std.proofs.Common.{◌≡◌, ◌≢◌, ◌+◌, ◌*◌, ◌≤◌, false}
 use Rattle.ddcmp_frame.specs.declared.device.Worst.TheVariants.{Failed}
-use Rattle.ddcmp_station.specs.Turns.{SoFar}
+use Rattle.ddcmp_station.specs.Turns.{TurnsSoFar}
 use Rattle.ddcmp_station.proofs.driving.run.Given as goal
 
 abbrev pub invariant-loop-done : goal.invariant-loop-done
 invariant-loop-done g l = record {
   fine : g.R.Source.state l.reader ≢ Failed;
   whole : g.W.Sink.broken l.writer ≡ false;
-  limits : l.station.kept.limits ≡ l.initial.station.kept.limits;
+  limits : l.station.core.limits ≡ l.initial.station.core.limits;
   syn : l.station.syn ≡ l.initial.station.syn;
   offset : l.station.line.offset ≡ l.initial.station.line.offset + l.tally.read;
   read : l.tally.read ≤ 256 * l._done;
   written : l.tally.written ≤ 16409 * l._done;
-  taken : SoFar l.timer_ms l._done l.initial.station l.station l.tally (record {
+  taken : TurnsSoFar l.timer_ms l._done l.initial.station l.station l.tally (record {
     left = g.R.Source.left l.initial.reader;
     left_after = g.R.Source.left l.reader;
     worst = g.R.Source.state l.reader;

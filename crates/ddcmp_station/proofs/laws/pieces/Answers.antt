@@ -5,6 +5,6 @@ pub returns : goal.returns
 returns c = record {
   limits = λ text u k. fed-limits text u k;
   none = λ text k. (fed-none text k, told-of-none text k);
-  state = λ text u v k. fed-append c.items_of_longer.ensures.items text u v k;
-  told = λ text u v k. told-of-append c.items_of_longer.ensures.items text u v k;
+  state = λ text u v k. fed-append text u v k;
+  told = λ text u v k. told-of-append text u v k;
 }

@@ -1,0 +1,17 @@
+//! What comes to a station from its line.
+use ddcmp_frame::Header;
+
+/// What comes from the line.
+#[derive(Clone, Copy, Debug)]
+pub enum Input<'a> {
+    /// A frame and its data.
+    Good(Header, &'a [u8]),
+    /// Synchronism was lost.
+    HeaderCheck,
+    /// The data of a frame with this header are damaged.
+    DataCheck(Header),
+    /// A frame with this header is longer than this end takes.
+    TooLong(Header),
+    /// A header of a form that there isn't.
+    Format,
+}

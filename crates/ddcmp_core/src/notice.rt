@@ -1,0 +1,28 @@
+//! What a station tells its user.
+
+/// What the user is told.
+#[derive(Clone, Copy, Debug, PartialEq, Eq)]
+pub enum Notice {
+    /// Both ends have started.
+    Running,
+    /// The same, by a message that is in the inbox now.
+    RunningAndHandedUp,
+    /// The peer has this many messages more.
+    Acknowledged(u8),
+    /// A message is in the inbox.
+    HandedUp,
+    /// Both.
+    HandedUpAndAcknowledged(u8),
+    /// The peer asks this end, which isn't starting, to start.
+    PeerStarts,
+    /// The peer began anew, so this end halted.
+    PeerRestarted,
+    /// The peer began anew, and so did this end. It dropped this many messages.
+    Restarted(u8),
+    /// A maintenance message came where none is taken.
+    MaintenanceSeen,
+    /// A maintenance message is in the inbox.
+    MaintenanceHandedUp,
+    /// A maintenance message found no room.
+    MaintenanceDropped,
+}

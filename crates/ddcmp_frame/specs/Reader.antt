@@ -1,0 +1,86 @@
+-- What contracts see of a reader, and the texts that it stands for.
+use Rattle.std.specs.Prelude.{◌≡◌, ℕ, ◌+◌, ◌-◌, Bool, List, [], ◌∷◌, ◌++◌, length, take, drop, if◌then◌else◌, Option, Some, None, Result, Ok, Err}
+use Rattle.ddcmp_frame.specs.declared.header.Header.{Header}
+use Rattle.ddcmp_frame.specs.declared.header.Header.TheVariants.{Data, Maint, Control}
+use Rattle.ddcmp_frame.specs.declared.header.HeaderFault.{HeaderFault}
+use Rattle.ddcmp_frame.specs.declared.item.Item.{Item}
+use Rattle.ddcmp_frame.specs.declared.item.Item.TheVariants.{Good, HeaderCheck, DataCheck, TooLong, Format}
+use Rattle.ddcmp_frame.specs.Spelling.{parsed}
+use Rattle.ddcmp_frame.specs.Wire.{wire, IsFrame}
+use Rattle.ddcmp_frame.specs.Reading.{ReadItem, Place, items, ending}
+
+-- A reader: the most data that it takes, the number of bytes so far, whether synchronism is lost,
+-- and of the unfinished frame its bytes, or where it was told to be too long how many have come
+-- and how many are still to come; last the data that it lends.
+pub record ReaderView : Type 0 where
+  pub max : ℕ
+  pub offset : ℕ
+  pub lost : Bool
+  pub bytes : List ℕ
+  pub skipped : ℕ
+  pub left : ℕ
+  pub lent : List ℕ
+
+-- the number of bytes from the start byte of the unfinished frame on
+abbrev pub open_of : ReaderView → ℕ
+open_of v = length v.bytes + v.skipped
+
+-- those of them that it keeps
+abbrev pub kept_of : ReaderView → ℕ
+kept_of v = length v.bytes
+
+-- the length of a frame with this header
+abbrev pub frame_length : Header → ℕ
+frame_length (Data h) = h.count + 10
+frame_length (Maint h) = h.count + 10
+frame_length (Control h) = 8
+
+-- how many bytes are taken for what eight bytes are
+abbrev pub candidate_length : Result Header HeaderFault → ℕ
+candidate_length (Ok h) = frame_length h
+candidate_length (Err f) = 8
+
+-- how many bytes of the frame at the front of a text are still to come
+abbrev pub bytes_to_come : List ℕ → ℕ
+bytes_to_come t = candidate_length (parsed (take 8 t)) - length t
+
+-- what a reader keeps of a place: the bytes, but of a too long frame only their number
+pub record Summarises (v : ReaderView) (p : Place) : Type 0 where
+  pub lost : v.lost ≡ p.lost
+  pub bytes : v.bytes ≡ (if p.told then [] else p.rest)
+  pub skipped : v.skipped ≡ (if p.told then length p.rest else 0)
+  pub left : v.left ≡ (if p.told then bytes_to_come p.rest else 0)
+
+-- A reader stands for a text: it is the summary of the place where the reading of the text ends.
+pub record StandsFor (reader : ReaderView) (text : List ℕ) : Type 0 where
+  pub offset : reader.offset ≡ length text
+  pub place : Summarises reader (ending reader.max text)
+
+-- what a push gave: at most one item, with the data that are lent beside it
+abbrev pub items_given : Option Item → List ℕ → List ReadItem
+items_given None lent = []
+items_given (Some item) lent = (item, lent) ∷ []
+
+-- Beside a good item its data are lent, and else none.
+abbrev pub LentBeside : Option Item → List ℕ → Type 0
+LentBeside (Some (Good o h)) lent = IsFrame h lent
+LentBeside (Some (HeaderCheck o)) lent = lent ≡ []
+LentBeside (Some (DataCheck o h)) lent = lent ≡ []
+LentBeside (Some (TooLong o h)) lent = lent ≡ []
+LentBeside (Some (Format o f)) lent = lent ≡ []
+LentBeside None lent = lent ≡ []
+
+-- The bytes of a text from the offset of a good item on are that frame as it goes on the line.
+abbrev pub EndsWith : Option Item → List ℕ → List ℕ → Type 0
+EndsWith (Some (Good o h)) lent text = drop o text ≡ wire h lent
+EndsWith (Some (HeaderCheck o)) lent text = Unit {0}
+EndsWith (Some (DataCheck o h)) lent text = Unit {0}
+EndsWith (Some (TooLong o h)) lent text = Unit {0}
+EndsWith (Some (Format o f)) lent text = Unit {0}
+EndsWith None lent text = Unit {0}
+
+-- what one byte does to a reader that stands for a text
+pub record Grows (old : ReaderView) (b : ℕ) (given : Option Item) (new : ReaderView) (text : List ℕ) : Type 0 where
+  pub stands : StandsFor new (text ++ b ∷ [])
+  pub items : items old.max (text ++ b ∷ []) ≡ items old.max text ++ items_given given new.lent
+  pub wire : EndsWith given new.lent (text ++ b ∷ [])

@@ -1,0 +1,22 @@
+-- Which sizes a station may have.
+use Rattle.std.specs.Prelude.{ℕ, Bool, ◌&&◌, if◌then◌else◌, nat_le, Option, Some, None}
+use Rattle.ddcmp_core.specs.Limits.{MAX_COUNT, MAX_WINDOW}
+use Rattle.ddcmp_station.specs.declared.config.TheConstants.{MAX_SYN, MAX_INBOX}
+use Rattle.ddcmp_station.specs.declared.config.Config.{Config}
+use Rattle.ddcmp_station.specs.declared.config.ConfigRefusal.{ConfigRefusal}
+use Rattle.ddcmp_station.specs.declared.config.ConfigRefusal.TheVariants.{Window, Inbox, Max, Syn}
+
+-- from 1 to the most
+abbrev pub is_size : ℕ → ℕ → Bool
+is_size most n = nat_le 1 n && nat_le n most
+
+-- the first size that is out of range
+abbrev pub first_refusal : Config → Option ConfigRefusal
+first_refusal config =
+    if is_size MAX_WINDOW config.window
+    then (if is_size MAX_INBOX config.inbox
+        then (if is_size MAX_COUNT config.max
+            then (if nat_le config.syn MAX_SYN then None else Some Syn)
+            else Some Max)
+        else Some Inbox)
+    else Some Window
