@@ -4,12 +4,12 @@
 ghost use Rattle.std.specs.Prelude.{◌≡◌, ◌≢◌, ◌<◌, List, ℕ, ◌∷◌, ◌++◌};
 ghost use Rattle.ddcmp_num.specs.Check.{check_of, check_pair};
 
-mod running;
-mod sequence;
+mod block_check;
+mod seq;
 
 use byteorder::{ByteOrder, LittleEndian};
-pub use running::Check;
-pub use sequence::Seq;
+pub use block_check::Check;
+pub use seq::Seq;
 
 /// The block check of a text: CRC-16 of the polynomial x^16 + x^15 + x^2 + 1, begun at 0,
 /// low bit of each byte first, not inverted (DDCMP 4.1, block check).

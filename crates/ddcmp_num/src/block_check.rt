@@ -1,4 +1,4 @@
-// A check that is computed byte by byte.
+//! A check that is computed byte by byte.
 ghost use Rattle.std.specs.Prelude.{◌≡◌, ◌<◌, ◌^◌, List, ℕ, [], ◌∷◌, ◌++◌};
 ghost use Rattle.ddcmp_num.specs.Check.{check_of};
 
