@@ -6,11 +6,11 @@ use Rattle.std.proofs.lemmas.List.{append-nil}
 use Rattle.std.specs.Int.Bits.{xor_zero_r, xor_self, xor_assoc}
 use Rattle.std.proofs.lemmas.Bool.Decides.{nat_tests}
 use Rattle.ddcmp_num.specs.Check.{check_of}
-use Rattle.ddcmp_num.proofs.Division.{next, turns, turned, next-bound, register_of, check_of-register, register-length, number-bound}
+use Rattle.ddcmp_num.proofs.Division.{divisor_register, next, turns, turned, next-bound, register_of, check_of-register, register-length, number-bound}
 
 -- an odd register gets its top bit, and an even one does not
-odd_high : (r : ℕ) → r < 2 ^ 16 → bit_xor (r / 2) 40961 ≡ 32768 + bit_xor (r / 2) 8193
-odd_high r h = ap (λ t. bit_xor t 40961) low ∙ xor_block 15 0 1 (r / 2) 8193 (omega arith) (omega arith)
+odd_high : (r : ℕ) → r < 2 ^ 16 → bit_xor (r / 2) divisor_register ≡ 32768 + bit_xor (r / 2) 8193
+odd_high r h = ap (λ t. bit_xor t divisor_register) low ∙ xor_block 15 0 1 (r / 2) 8193 (omega arith) (omega arith)
   where
     low : r / 2 ≡ 0 * 2 ^ 15 + r / 2
     low = omega arith
@@ -21,8 +21,8 @@ xor_cancel a b c e =
     ∙ ap (λ t. bit_xor t c) e
     ∙ xor_assoc b c c ∙ ap (bit_xor b) (xor_self c) ∙ xor_zero_r b
 
-chosen_once : (x y : Bool) (r s : ℕ) → r < 2 ^ 16 → s < 2 ^ 16 → cond x (bit_xor (r / 2) 40961) (r / 2) ≡ cond y (bit_xor (s / 2) 40961) (s / 2) → (x ≡ y) × (r / 2 ≡ s / 2)
-chosen_once true true r s h k e = (refl, xor_cancel (r / 2) (s / 2) 40961 e)
+chosen_once : (x y : Bool) (r s : ℕ) → r < 2 ^ 16 → s < 2 ^ 16 → cond x (bit_xor (r / 2) divisor_register) (r / 2) ≡ cond y (bit_xor (s / 2) divisor_register) (s / 2) → (x ≡ y) × (r / 2 ≡ s / 2)
+chosen_once true true r s h k e = (refl, xor_cancel (r / 2) (s / 2) divisor_register e)
 chosen_once true false r s h k e = absurd (omega (arith, odd_high r h))
 chosen_once false true r s h k e = absurd (omega (arith, odd_high s k))
 chosen_once false false r s h k e = (refl, e)

@@ -2,6 +2,7 @@
 ghost use Rattle.std.specs.Prelude.{◌≡◌, ◌<◌, ◌^◌, List, ℕ, [], ◌∷◌, ◌++◌};
 ghost use Rattle.ddcmp_num.specs.Check.{check_of};
 
+use crate::check_tables::byte_check;
 use std::marker::Model;
 
 /// A block check that is computed byte by byte. Contracts see it as the number of the check.
@@ -30,15 +31,8 @@ impl Check {
     pub fn push(&mut self, byte: u8)
         ensures { (text : List ℕ) → self.old ≡ check_of text → self.new ≡ check_of (text ++ byte ∷ []) }
     {
-        let mut register = self.register ^ byte as u16;
-        for _turn in 0..8u8 {
-            register = if register & 1 == 1 {
-                (register >> 1) ^ 0xA001
-            } else {
-                register >> 1
-            };
-        }
-        self.register = register;
+        let [low, high] = self.register.to_le_bytes();
+        self.register = u16::from(high) ^ byte_check(0, low ^ byte);
     }
 
     /// The check of all bytes taken.

@@ -5,10 +5,11 @@ ghost use Rattle.std.specs.Prelude.{◌≡◌, ◌≢◌, ◌<◌, List, ℕ, �
 ghost use Rattle.ddcmp_num.specs.Check.{check_of, check_pair};
 
 mod block_check;
+mod check_tables;
 mod seq;
 
-use byteorder::{ByteOrder, LittleEndian};
 pub use block_check::Check;
+use byteorder::{ByteOrder, LittleEndian};
 pub use seq::Seq;
 
 /// The block check of a text: CRC-16 of the polynomial x^16 + x^15 + x^2 + 1, begun at 0,
