@@ -35,6 +35,15 @@ impl Check {
         self.register = u16::from(high) ^ byte_check(0, low ^ byte);
     }
 
+    /// Takes all these bytes.
+    pub fn push_all(&mut self, bytes: &[u8])
+        ensures { (text : List ℕ) → self.old ≡ check_of text → self.new ≡ check_of (text ++ bytes.now) }
+    {
+        for byte in bytes {
+            self.push(*byte);
+        }
+    }
+
     /// The check of all bytes taken.
     pub fn value(&self) -> u16
         ensures { result ≡ self.now }

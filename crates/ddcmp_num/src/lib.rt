@@ -22,9 +22,7 @@ pub fn check(text: &[u8]) -> u16
         → result ≢ check_of (front ++ new ∷ back) }
 {
     let mut check = Check::new();
-    for byte in text {
-        check.push(*byte);
-    }
+    check.push_all(text);
     check.value()
 }
 

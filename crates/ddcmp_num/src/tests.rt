@@ -25,6 +25,23 @@ fn known_checks(rt: HostRuntime) {
 }
 
 #[test]
+fn pieces_have_the_check_of_the_whole(rt: HostRuntime) {
+    let text = b"Sixteen bytes go by eights, and the last few alone.";
+    let mut bytewise = Check::new();
+    for byte in text {
+        bytewise.push(*byte);
+    }
+    assert_eq!(rt; bytewise.value(), check(text));
+    for end in 0..text.len() {
+        let (front, back) = text.split_at(end);
+        let mut running = Check::new();
+        running.push_all(front);
+        running.push_all(back);
+        assert_eq!(rt; running, bytewise);
+    }
+}
+
+#[test]
 fn numbers_wrap(rt: HostRuntime) {
     assert_eq!(rt; Seq(255).next(), Seq(0));
     assert_eq!(rt; Seq::distance(Seq(250), Seq(3)), 9);
