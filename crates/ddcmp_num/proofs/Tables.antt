@@ -9,6 +9,7 @@ use Rattle.std.proofs.lemmas.List.FromFn.{get_or-map-range_with_len, length-map-
 use Rattle.std.specs.Int.Bits.{xor_zero_l, xor_zero_r, xor_self, xor_assoc}
 use Rattle.ddcmp_num.specs.Check.{check_of}
 use Rattle.ddcmp_num.specs.declared.check_tables.TheConstants.{BYTE_CHECKS}
+use Rattle.ddcmp_num.proofs.OneByte.{AreBytes, all_bytes}
 use Rattle.ddcmp_num.proofs.Division.{divisor_register, next, turns, turned, bit-xor, none_yet}
 
 -- ---- a turn of a sum is the sum of the turns
@@ -139,3 +140,92 @@ push_by_table text register byte high entry e h top looked_up =
     ∙ ap (λ t. bit_xor t (turns 8 (bit_xor (register % 256) byte))) top
     ∙ sym (turns-pushed register byte)
     ∙ turned text register byte e (omega arith)
+
+-- ---- eight bytes at once
+
+zero_bytes-xor : (k a b : ℕ) → zero_bytes k (bit_xor a b) ≡ bit_xor (zero_bytes k a) (zero_bytes k b)
+unfolding zero_bytes
+zero_bytes-xor zero a b = refl
+zero_bytes-xor (suc k) a b = ap (zero_bytes k) (turns-xor 8 a b) ∙ zero_bytes-xor k (turns 8 a) (turns 8 b)
+
+-- the register after these bytes
+absorbed : List ℕ → ℕ → ℕ
+absorbed [] register = register
+absorbed (b ∷ bytes) register = absorbed bytes (turns 8 (bit_xor register b))
+
+absorbed-check : (bytes text : List ℕ) (register : ℕ) → AreBytes bytes → register ≡ check_of text → absorbed bytes register ≡ check_of (text ++ bytes)
+unfolding absorbed
+absorbed-check [] text register all e = e ∙ ap check_of (sym (append-nil text))
+absorbed-check (b ∷ bytes) text register all e =
+    absorbed-check bytes (text ++ b ∷ []) (turns 8 (bit_xor register b)) all.1 (turned text register b e all.0)
+    ∙ ap check_of (append_assoc text (b ∷ []) bytes)
+
+-- a sum, and each byte with as many zero bytes behind it as bytes follow it
+gathered : List ℕ → ℕ → ℕ
+gathered [] sum = sum
+gathered (b ∷ bytes) sum = gathered bytes (bit_xor sum (zero_bytes (suc (length bytes)) b))
+
+absorbed-gathered : (bytes : List ℕ) (register : ℕ) → absorbed bytes register ≡ gathered bytes (zero_bytes (length bytes) register)
+unfolding absorbed gathered zero_bytes
+absorbed-gathered [] register = refl
+absorbed-gathered (b ∷ bytes) register =
+    absorbed-gathered bytes (turns 8 (bit_xor register b))
+    ∙ ap (gathered bytes) (zero_bytes-xor (suc (length bytes)) register b)
+
+parted : (k register : ℕ) → zero_bytes (suc k) register ≡ bit_xor (zero_bytes k (register / 256)) (zero_bytes (suc k) (register % 256))
+unfolding zero_bytes
+parted k register = ap (zero_bytes k) (turns-register register) ∙ zero_bytes-xor k (register / 256) (turns 8 (register % 256))
+
+-- the register's two bytes go with the first two bytes
+first_two : (k register a b : ℕ) → bit_xor (bit_xor (zero_bytes (suc k) register) (zero_bytes (suc k) a)) (zero_bytes k b) ≡ bit_xor (zero_bytes (suc k) (bit_xor (register % 256) a)) (zero_bytes k (bit_xor (register / 256) b))
+first_two k register a b =
+    ap (λ t. bit_xor (bit_xor t (zero_bytes (suc k) a)) (zero_bytes k b)) (parted k register ∙ xor_comm (zero_bytes k (register / 256)) (zero_bytes (suc k) (register % 256)))
+    ∙ xor_assoc (bit_xor (zero_bytes (suc k) (register % 256)) (zero_bytes k (register / 256))) (zero_bytes (suc k) a) (zero_bytes k b)
+    ∙ xor_four (zero_bytes (suc k) (register % 256)) (zero_bytes k (register / 256)) (zero_bytes (suc k) a) (zero_bytes k b)
+    ∙ ap (bit_xor (bit_xor (zero_bytes (suc k) (register % 256)) (zero_bytes (suc k) a))) (sym (zero_bytes-xor k (register / 256) b))
+    ∙ ap (λ t. bit_xor t (zero_bytes k (bit_xor (register / 256) b))) (sym (zero_bytes-xor (suc k) (register % 256) a))
+
+-- the check of a byte and of k zero bytes behind it
+abbrev pub entry : ℕ → ℕ → ℕ
+entry k b = check_of (b ∷ replicate k 0)
+
+entry-zero_bytes : (k b : ℕ) → b < 256 → zero_bytes (suc k) b ≡ entry k b
+unfolding zero_bytes
+entry-zero_bytes k b h = byte-check k b h
+
+eight_of : (bytes : List ℕ) → length bytes ≡ 8
+    → bytes ≡ get_or bytes 0 0 ∷ get_or bytes 1 0 ∷ get_or bytes 2 0 ∷ get_or bytes 3 0 ∷ get_or bytes 4 0 ∷ get_or bytes 5 0 ∷ get_or bytes 6 0 ∷ get_or bytes 7 0 ∷ []
+eight_of (a ∷ b ∷ c ∷ d ∷ e ∷ f ∷ g ∷ h ∷ []) l = refl
+eight_of _ l = absurd (omega arith)
+
+gathered-eight : (register a b c d e f g h : ℕ)
+    → gathered (a ∷ b ∷ c ∷ d ∷ e ∷ f ∷ g ∷ h ∷ []) (zero_bytes 8 register)
+    ≡ bit_xor (bit_xor (bit_xor (bit_xor (bit_xor (bit_xor (bit_xor (zero_bytes 8 (bit_xor (register % 256) a)) (zero_bytes 7 (bit_xor (register / 256) b)))
+    (zero_bytes 6 c)) (zero_bytes 5 d)) (zero_bytes 4 e)) (zero_bytes 3 f)) (zero_bytes 2 g)) (zero_bytes 1 h)
+unfolding gathered
+gathered-eight register a b c d e f g h = ap (gathered (c ∷ d ∷ e ∷ f ∷ g ∷ h ∷ [])) (first_two 7 register a b)
+
+-- eight more bytes, each by a table of its own
+pub push_by_tables : (text bytes : List ℕ) (register : ℕ) → register < 2 ^ 16 → length bytes ≡ 8 → ((i : ℕ) → get_or bytes i 0 < 256) → register ≡ check_of text
+    → bit_xor (bit_xor (bit_xor (bit_xor (bit_xor (bit_xor (bit_xor (entry 7 (bit_xor (register % 256) (get_or bytes 0 0))) (entry 6 (bit_xor (register / 256) (get_or bytes 1 0))))
+    (entry 5 (get_or bytes 2 0))) (entry 4 (get_or bytes 3 0))) (entry 3 (get_or bytes 4 0))) (entry 2 (get_or bytes 5 0))) (entry 1 (get_or bytes 6 0))) (entry 0 (get_or bytes 7 0))
+    ≡ check_of (text ++ bytes)
+push_by_tables text bytes register fits l small is =
+    let byte : ℕ → ℕ = λ i. get_or bytes i 0 in
+    let low : bit_xor (register % 256) (byte 0) < 256 = xor_of_8 (register % 256) (byte 0) (omega arith) (omega (arith, small 0)) in
+    let high : bit_xor (register / 256) (byte 1) < 256 = xor_of_8 (register / 256) (byte 1) (omega arith) (omega (arith, small 1)) in
+    rw (
+      ← entry-zero_bytes 7 (bit_xor (register % 256) (byte 0)) low,
+      ← entry-zero_bytes 6 (bit_xor (register / 256) (byte 1)) high,
+      ← entry-zero_bytes 5 (byte 2) (small 2),
+      ← entry-zero_bytes 4 (byte 3) (small 3),
+      ← entry-zero_bytes 3 (byte 4) (small 4),
+      ← entry-zero_bytes 2 (byte 5) (small 5),
+      ← entry-zero_bytes 1 (byte 6) (small 6),
+      ← entry-zero_bytes 0 (byte 7) (small 7),
+    )
+    (sym (gathered-eight register (byte 0) (byte 1) (byte 2) (byte 3) (byte 4) (byte 5) (byte 6) (byte 7))
+    ∙ ap (λ t. gathered t (zero_bytes 8 register)) (sym (eight_of bytes l))
+    ∙ ap (λ n. gathered bytes (zero_bytes n register)) (sym l)
+    ∙ sym (absorbed-gathered bytes register)
+    ∙ absorbed-check bytes text register (all_bytes bytes small) is)

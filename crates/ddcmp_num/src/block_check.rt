@@ -39,9 +39,33 @@ impl Check {
     pub fn push_all(&mut self, bytes: &[u8])
         ensures { (text : List ℕ) → self.old ≡ check_of text → self.new ≡ check_of (text ++ bytes.now) }
     {
-        for byte in bytes {
-            self.push(*byte);
+        let mut check = *self;
+        let (eights, rest) = bytes.as_chunks::<8>();
+        for eight in eights {
+            check.push_eight(eight);
         }
+        for byte in rest {
+            check.push(*byte);
+        }
+        *self = check;
+    }
+
+    // Each byte goes by the table of as many zero bytes as bytes follow it here, so that no
+    // look-up waits for another.
+    #[inline(always)]
+    fn push_eight(&mut self, bytes: &[u8; 8])
+        ensures { (text : List ℕ) → self.old ≡ check_of text → self.new ≡ check_of (text ++ bytes.now) }
+    {
+        let [low, high] = self.register.to_le_bytes();
+        let [a, b, c, d, e, f, g, h] = *bytes;
+        self.register = byte_check(7, low ^ a)
+            ^ byte_check(6, high ^ b)
+            ^ byte_check(5, c)
+            ^ byte_check(4, d)
+            ^ byte_check(3, e)
+            ^ byte_check(2, f)
+            ^ byte_check(1, g)
+            ^ byte_check(0, h);
     }
 
     /// The check of all bytes taken.
