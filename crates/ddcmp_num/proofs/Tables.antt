@@ -33,7 +33,7 @@ next-xor : (a b : ℕ) → next (bit_xor a b) ≡ bit_xor (next a) (next b)
 unfolding next
 next-xor a b = rw (bit-xor, xor_shr a b 1) (chosen-xor (a % 2 == 1) (b % 2 == 1) (a / 2) (b / 2) divisor_register)
 
-pub turns-xor : (k a b : ℕ) → turns k (bit_xor a b) ≡ bit_xor (turns k a) (turns k b)
+turns-xor : (k a b : ℕ) → turns k (bit_xor a b) ≡ bit_xor (turns k a) (turns k b)
 unfolding turns
 turns-xor zero a b = refl
 turns-xor (suc k) a b = ap (turns k) (next-xor a b) ∙ turns-xor k (next a) (next b)
@@ -89,7 +89,7 @@ turns-pushed register byte =
 -- ---- the tables
 
 -- the register after this many zero bytes
-pub zero_bytes : ℕ → ℕ → ℕ
+zero_bytes : ℕ → ℕ → ℕ
 zero_bytes zero r = r
 zero_bytes (suc k) r = zero_bytes k (turns 8 r)
 
@@ -118,11 +118,12 @@ zero_bytes-check (suc k) register text h =
     zero_bytes-check k (turns 8 register) (text ++ 0 ∷ []) (ap (turns 8) (sym (xor_zero_r register)) ∙ turned text register 0 h (omega arith))
     ∙ ap check_of (append_assoc text (0 ∷ []) (replicate k 0))
 
--- a byte and zero bytes behind it
-pub byte-check : (k b : ℕ) → b < 256 → zero_bytes k (turns 8 b) ≡ check_of (b ∷ replicate k 0)
+-- the register after a byte and zero bytes holds their check
+byte-check : (k b : ℕ) → b < 256 → zero_bytes k (turns 8 b) ≡ check_of (b ∷ replicate k 0)
 byte-check k b h =
     zero_bytes-check k (turns 8 b) (b ∷ []) (ap (turns 8) (sym (xor_zero_l b)) ∙ turned [] 0 b (sym none_yet) (omega arith))
 
+-- entry b of table k is the check of the byte b and of k zero bytes behind it
 pub table-check : (k b : ℕ) → k < 8 → b < 256 → get_or (get_or BYTE_CHECKS k []) b 0 ≡ check_of (b ∷ replicate k 0)
 table-check k b h l =
     ap (λ t. get_or (get_or t k []) b 0) tables-computed
@@ -172,6 +173,7 @@ absorbed-gathered (b ∷ bytes) register =
     absorbed-gathered bytes (turns 8 (bit_xor register b))
     ∙ ap (gathered bytes) (zero_bytes-xor (suc (length bytes)) register b)
 
+-- zero bytes behind a register, by its two bytes
 parted : (k register : ℕ) → zero_bytes (suc k) register ≡ bit_xor (zero_bytes k (register / 256)) (zero_bytes (suc k) (register % 256))
 unfolding zero_bytes
 parted k register = ap (zero_bytes k) (turns-register register) ∙ zero_bytes-xor k (register / 256) (turns 8 (register % 256))
@@ -193,11 +195,13 @@ entry-zero_bytes : (k b : ℕ) → b < 256 → zero_bytes (suc k) b ≡ entry k 
 unfolding zero_bytes
 entry-zero_bytes k b h = byte-check k b h
 
+-- eight bytes by their places
 eight_of : (bytes : List ℕ) → length bytes ≡ 8
     → bytes ≡ get_or bytes 0 0 ∷ get_or bytes 1 0 ∷ get_or bytes 2 0 ∷ get_or bytes 3 0 ∷ get_or bytes 4 0 ∷ get_or bytes 5 0 ∷ get_or bytes 6 0 ∷ get_or bytes 7 0 ∷ []
 eight_of (a ∷ b ∷ c ∷ d ∷ e ∷ f ∷ g ∷ h ∷ []) l = refl
 eight_of _ l = absurd (omega arith)
 
+-- the sum of eight bytes
 gathered-eight : (register a b c d e f g h : ℕ)
     → gathered (a ∷ b ∷ c ∷ d ∷ e ∷ f ∷ g ∷ h ∷ []) (zero_bytes 8 register)
     ≡ bit_xor (bit_xor (bit_xor (bit_xor (bit_xor (bit_xor (bit_xor (zero_bytes 8 (bit_xor (register % 256) a)) (zero_bytes 7 (bit_xor (register / 256) b)))

@@ -1,11 +1,11 @@
-//! A check that is computed byte by byte.
+//! A block check that is computed piece by piece.
 ghost use Rattle.std.specs.Prelude.{◌≡◌, ◌<◌, ◌^◌, List, ℕ, [], ◌∷◌, ◌++◌};
 ghost use Rattle.ddcmp_num.specs.Check.{check_of};
 
 use crate::check_tables::byte_check;
 use std::marker::Model;
 
-/// A block check that is computed byte by byte. Contracts see it as the number of the check.
+/// A block check that is computed piece by piece. Contracts see it as the number of the check.
 #[derive(Clone, Copy, Debug, PartialEq, Eq)]
 pub struct Check {
     register: u16,
@@ -29,7 +29,8 @@ impl Check {
 
     /// Takes one more byte.
     pub fn push(&mut self, byte: u8)
-        ensures { (text : List ℕ) → self.old ≡ check_of text → self.new ≡ check_of (text ++ byte ∷ []) }
+        ensures { (text : List ℕ) → self.old ≡ check_of text
+            → self.new ≡ check_of (text ++ byte ∷ []) }
     {
         let [low, high] = self.register.to_le_bytes();
         self.register = u16::from(high) ^ byte_check(0, low ^ byte);
@@ -37,7 +38,8 @@ impl Check {
 
     /// Takes all these bytes.
     pub fn push_all(&mut self, bytes: &[u8])
-        ensures { (text : List ℕ) → self.old ≡ check_of text → self.new ≡ check_of (text ++ bytes.now) }
+        ensures { (text : List ℕ) → self.old ≡ check_of text
+            → self.new ≡ check_of (text ++ bytes.now) }
     {
         let mut check = *self;
         let (eights, rest) = bytes.as_chunks::<8>();
@@ -54,7 +56,8 @@ impl Check {
     // look-up waits for another.
     #[inline(always)]
     fn push_eight(&mut self, bytes: &[u8; 8])
-        ensures { (text : List ℕ) → self.old ≡ check_of text → self.new ≡ check_of (text ++ bytes.now) }
+        ensures { (text : List ℕ) → self.old ≡ check_of text
+            → self.new ≡ check_of (text ++ bytes.now) }
     {
         let [low, high] = self.register.to_le_bytes();
         let [a, b, c, d, e, f, g, h] = *bytes;

@@ -18,8 +18,8 @@ pub fn check(text: &[u8]) -> u16
     ensures value { result ≡ check_of text.now }
 
     // A text of the same length that differs in one byte has another check.
-    ensures one_byte { (front back : List ℕ) (old new : ℕ) → text.now ≡ front ++ old ∷ back → new < 256 → new ≢ old
-        → result ≢ check_of (front ++ new ∷ back) }
+    ensures one_byte { (front back : List ℕ) (old new : ℕ) → text.now ≡ front ++ old ∷ back
+        → new < 256 → new ≢ old → result ≢ check_of (front ++ new ∷ back) }
 {
     let mut check = Check::new();
     check.push_all(text);
