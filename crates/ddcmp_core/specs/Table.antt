@@ -1,6 +1,6 @@
 -- The station's table: its state, the user's calls, what comes in each state, and what is sent next.
 use Rattle.std.specs.Prelude.{ℕ, Bool, true, false, ◌&&◌, if◌then◌else◌, nat_lt, ◌==◌, List, [], ◌∷◌, ◌++◌, length, slice_index_or, Option, Some, None, is_none, Result}
-use Rattle.ddcmp_num.specs.declared.sequence.Seq.{Seq}
+use Rattle.ddcmp_num.specs.declared.seq.Seq.{Seq}
 use Rattle.ddcmp_frame.specs.declared.nak.Nak.{Nak as Reason}
 use Rattle.ddcmp_frame.specs.declared.nak.Nak.TheVariants as reason
 use Rattle.ddcmp_window.specs.declared.sender.SendRefusal.{SendRefusal}

@@ -4,14 +4,15 @@
 ghost use Rattle.std.specs.Prelude.{◌≡◌, ◌≢◌, ◌<◌, List, ℕ, ◌∷◌, ◌++◌};
 ghost use Rattle.ddcmp_num.specs.Check.{check_of, check_pair};
 
+mod block_check;
+mod check_tables;
 mod limits;
-mod running;
-mod sequence;
+mod seq;
 
+pub use block_check::Check;
 use byteorder::{ByteOrder, LittleEndian};
 pub use limits::{MAX_COUNT, MAX_WINDOW};
-pub use running::Check;
-pub use sequence::Seq;
+pub use seq::Seq;
 
 /// The block check of a text: CRC-16 of the polynomial x^16 + x^15 + x^2 + 1, begun at 0,
 /// low bit of each byte first, not inverted (DDCMP 4.1, block check).
@@ -19,13 +20,11 @@ pub fn check(text: &[u8]) -> u16
     ensures value { result ≡ check_of text.now }
 
     // A text of the same length that differs in one byte has another check.
-    ensures one_byte { (front back : List ℕ) (old new : ℕ) → text.now ≡ front ++ old ∷ back → new < 256 → new ≢ old
-        → result ≢ check_of (front ++ new ∷ back) }
+    ensures one_byte { (front back : List ℕ) (old new : ℕ) → text.now ≡ front ++ old ∷ back
+        → new < 256 → new ≢ old → result ≢ check_of (front ++ new ∷ back) }
 {
     let mut check = Check::new();
-    for byte in text {
-        check.push(*byte);
-    }
+    check.push_all(text);
     check.value()
 }
 

@@ -1,4 +1,4 @@
-// Vectors from the published description of the check, and one call of each function.
+//! Vectors from the published description of the check, and one call of each function.
 use crate::{Check, Seq, check, check_bytes};
 
 #[test]
@@ -22,6 +22,23 @@ fn known_checks(rt: HostRuntime) {
     }
     assert_eq!(rt; check(b"b"), 0xE981);
     assert_eq!(rt; check_bytes(0x9738), [0x38, 0x97]);
+}
+
+#[test]
+fn pieces_have_the_check_of_the_whole(rt: HostRuntime) {
+    let text = b"Sixteen bytes go by eights, and the last few alone.";
+    let mut bytewise = Check::new();
+    for byte in text {
+        bytewise.push(*byte);
+    }
+    assert_eq!(rt; bytewise.value(), check(text));
+    for end in 0..text.len() {
+        let (front, back) = text.split_at(end);
+        let mut running = Check::new();
+        running.push_all(front);
+        running.push_all(back);
+        assert_eq!(rt; running, bytewise);
+    }
 }
 
 #[test]

@@ -1,7 +1,7 @@
 -- Sending in a window, on numbers modulo 256 and a list of messages.
 use Rattle.std.specs.Prelude.{ℕ, ◌+◌, ◌-◌, ◌%◌, ◌<◌, ◌≤◌, Bool, ◌&&◌, if◌then◌else◌, is_none, nat_lt, nat_le, ◌==◌, List, [], ◌∷◌, ◌++◌, length, drop, slice_index_or, Option, Some, None, Result, Ok, Err}
 use Rattle.ddcmp_num.specs.Sequence.{distance}
-use Rattle.ddcmp_num.specs.declared.sequence.Seq.{Seq}
+use Rattle.ddcmp_num.specs.declared.seq.Seq.{Seq}
 use Rattle.ddcmp_window.specs.declared.sender.SendRefusal.{SendRefusal}
 use Rattle.ddcmp_window.specs.declared.sender.SendRefusal.TheVariants.{Empty, TooLong, WindowFull}
 use Rattle.ddcmp_window.specs.Numbers.{next_number, is_within}

@@ -1,4 +1,4 @@
-// Sequence numbers, which count modulo 256.
+//! Sequence numbers, which count modulo 256.
 ghost use Rattle.std.specs.Prelude.{◌≡◌, ◌↔◌, ◌+◌, ◌%◌, IsTrue};
 ghost use Rattle.ddcmp_num.specs.Sequence.{distance as distance_of, Within};
 

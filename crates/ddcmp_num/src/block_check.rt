@@ -1,0 +1,80 @@
+//! A block check that is computed piece by piece.
+ghost use Rattle.std.specs.Prelude.{◌≡◌, ◌<◌, ◌^◌, List, ℕ, [], ◌∷◌, ◌++◌};
+ghost use Rattle.ddcmp_num.specs.Check.{check_of};
+
+use crate::check_tables::byte_check;
+use std::marker::Model;
+
+/// A block check that is computed piece by piece. Contracts see it as the number of the check.
+#[derive(Clone, Copy, Debug, PartialEq, Eq)]
+pub struct Check {
+    register: u16,
+}
+
+impl Model for Check {
+    ghost Value = { ℕ };
+
+    ghost view = { λ c. c.register };
+
+    ghost inverse = { λ n. record { register = n } };
+}
+
+impl Check {
+    /// The check of no bytes.
+    pub fn new() -> Self
+        ensures { result ≡ check_of [] }
+    {
+        Check { register: 0 }
+    }
+
+    /// Takes one more byte.
+    pub fn push(&mut self, byte: u8)
+        ensures { (text : List ℕ) → self.old ≡ check_of text
+            → self.new ≡ check_of (text ++ byte ∷ []) }
+    {
+        let [low, high] = self.register.to_le_bytes();
+        self.register = u16::from(high) ^ byte_check(0, low ^ byte);
+    }
+
+    /// Takes all these bytes.
+    pub fn push_all(&mut self, bytes: &[u8])
+        ensures { (text : List ℕ) → self.old ≡ check_of text
+            → self.new ≡ check_of (text ++ bytes.now) }
+    {
+        let mut check = *self;
+        let (eights, rest) = bytes.as_chunks::<8>();
+        for eight in eights {
+            check.push_eight(eight);
+        }
+        for byte in rest {
+            check.push(*byte);
+        }
+        *self = check;
+    }
+
+    // Each byte goes by the table of as many zero bytes as bytes follow it here, so that no
+    // look-up waits for another.
+    #[inline(always)]
+    fn push_eight(&mut self, bytes: &[u8; 8])
+        ensures { (text : List ℕ) → self.old ≡ check_of text
+            → self.new ≡ check_of (text ++ bytes.now) }
+    {
+        let [low, high] = self.register.to_le_bytes();
+        let [a, b, c, d, e, f, g, h] = *bytes;
+        self.register = byte_check(7, low ^ a)
+            ^ byte_check(6, high ^ b)
+            ^ byte_check(5, c)
+            ^ byte_check(4, d)
+            ^ byte_check(3, e)
+            ^ byte_check(2, f)
+            ^ byte_check(1, g)
+            ^ byte_check(0, h);
+    }
+
+    /// The check of all bytes taken.
+    pub fn value(&self) -> u16
+        ensures { result ≡ self.now }
+    {
+        self.register
+    }
+}
