@@ -18,8 +18,8 @@ use Rattle.ddcmp_core.specs.declared.state.Timer.{Timer}
 use Rattle.ddcmp_core.specs.declared.state.Timer.TheVariants.{Off, Fresh, On}
 use Rattle.ddcmp_core.specs.declared.notice.Notice.{Notice}
 use Rattle.ddcmp_core.specs.declared.notice.Notice.TheVariants as notice
-use Rattle.ddcmp_core.specs.declared.station.StartRefusal.{StartRefusal}
-use Rattle.ddcmp_core.specs.declared.station.StartRefusal.TheVariants.{NotHalted, Untaken}
+use Rattle.ddcmp_core.specs.declared.station_core.StartRefusal.{StartRefusal}
+use Rattle.ddcmp_core.specs.declared.station_core.StartRefusal.TheVariants.{NotHalted, Untaken}
 
 -- ---- the state
 

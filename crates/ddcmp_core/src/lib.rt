@@ -6,7 +6,7 @@ mod input;
 mod laws;
 mod notice;
 mod state;
-mod station;
+mod station_core;
 
 pub use counters::{Counters, NakCounts};
 pub use ddcmp_frame::{ControlType, Counted, Flags, Header, Nak, Short};
@@ -19,4 +19,4 @@ pub use laws::{
 };
 pub use notice::Notice;
 pub use state::{Reply, State, Timer};
-pub use station::{Core, Numbers, StartRefusal};
+pub use station_core::{Core, Numbers, StartRefusal};

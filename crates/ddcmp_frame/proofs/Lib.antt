@@ -6,3 +6,4 @@ pub mod PushLaws
 pub mod WireLaws
 pub mod FrameLaws
 pub mod PutLaws
+pub mod TableLaws

@@ -12,7 +12,7 @@ use Rattle.ddcmp_frame.specs.declared.header.Header.TheVariants.{Data, Maint, Co
 use Rattle.ddcmp_frame.specs.declared.header.HeaderFault.{HeaderFault}
 use Rattle.ddcmp_frame.specs.declared.header.HeaderFault.TheVariants.{NotAStart, Check, BadType, CountZero}
 use Rattle.ddcmp_frame.specs.Fields.{ShortFields, CountedFields}
-use Rattle.ddcmp_frame.specs.Spelling.{IsBytes, is_start, SpellsShort, SpellsCounted, Spells, HasCheck, IsNoType, is_check_right, type_code, count_field, kind_of, short_of, counted_of, short_or_fault, counted_or_none, counted_or_fault, by_start, parsed}
+use Rattle.ddcmp_frame.specs.Spelling.{Says, IsBytes, is_start, SpellsShort, SpellsCounted, Spells, HasCheck, IsNoType, is_check_right, type_code, count_field, kind_of, short_of, counted_of, short_or_fault, counted_or_none, counted_or_fault, by_start, parsed}
 use Rattle.ddcmp_frame.proofs.Tests.{chosen, when_false, false-true, eqb-true, eqb-false, same-eqb, other-eqb, decides-eqb, pair_from_tests, tests_from_pair, same_bool, some-inj, none-some}
 
 -- eight bytes, one by one
@@ -73,13 +73,6 @@ no_type-none c other = go (kind_of c) refl
     go (Some k) e = absurd (other k (kind_of-some c k e))
 
 -- ---- what each outcome says of eight bytes
-
-abbrev pub Says : Result Header HeaderFault → List ℕ → Type 0
-Says (Ok h) bytes = Spells h (take 6 bytes) × HasCheck bytes
-Says (Err NotAStart) bytes = is_start (slice_index bytes 0) ≡ false
-Says (Err Check) bytes = (is_start (slice_index bytes 0) ≡ true) × (¬ HasCheck bytes)
-Says (Err (BadType c)) bytes = (slice_index bytes 0 ≡ 5) × HasCheck bytes × (slice_index bytes 1 ≡ c) × IsNoType c
-Says (Err CountZero) bytes = (is_start (slice_index bytes 0) ≡ true) × (slice_index bytes 0 ≢ 5) × HasCheck bytes × (count_field bytes ≡ 0)
 
 short-spelled : (k : ControlType) (bytes : List ℕ) → length bytes ≡ 8 → slice_index bytes 0 ≡ 5 → slice_index bytes 1 ≡ type_code k → SpellsShort (short_of k bytes) (take 6 bytes)
 short-spelled k bytes l =

@@ -10,7 +10,8 @@ use Rattle.ddcmp_frame.specs.Wire.{counted_bytes, six_bytes, eight_bytes, after_
 use Rattle.ddcmp_frame.specs.Reading.{count_of, data_after_header, is_data_right}
 use Rattle.ddcmp_frame.specs.Reader.{frame_length}
 use Rattle.ddcmp_frame.proofs.Tests.{false-true, pair_from_tests, tests_from_pair}
-use Rattle.ddcmp_frame.proofs.SpellingLaws.{Says, parsed-says, says-parsed, six-same, flag-bit, take-bytes}
+use Rattle.ddcmp_frame.proofs.SpellingLaws.{parsed-says, says-parsed, six-same, flag-bit, take-bytes}
+use Rattle.ddcmp_frame.specs.Spelling.{Says}
 use Rattle.ddcmp_frame.proofs.ReadingLaws.{drop-drop}
 
 -- ---- the six bytes of a header

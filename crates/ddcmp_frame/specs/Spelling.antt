@@ -1,5 +1,5 @@
 -- How a header is spelled in bytes.
-use Rattle.std.specs.Prelude.{◌≡◌, ◌≢◌, ℕ, ◌+◌, ◌*◌, ◌/◌, ◌%◌, ◌<◌, ◌≤◌, ◌==◌, ◌&&◌, ◌||◌, ◌↔◌, Bool, IsTrue, List, length, take, drop, slice_index, if◌then◌else◌, Option, Some, None, Result, Ok, Err}
+use Rattle.std.specs.Prelude.{◌≡◌, ◌≢◌, ℕ, ◌+◌, ◌*◌, ◌/◌, ◌%◌, ◌<◌, ◌≤◌, ◌==◌, ◌&&◌, ◌||◌, ◌↔◌, Bool, true, false, IsTrue, List, length, take, drop, slice_index, if◌then◌else◌, Option, Some, None, Result, Ok, Err}
 use Rattle.ddcmp_num.specs.Check.{check_of, check_pair}
 use Rattle.ddcmp_frame.specs.declared.header.Flags.{Flags}
 use Rattle.ddcmp_frame.specs.declared.header.ControlType.{ControlType}
@@ -77,6 +77,14 @@ abbrev pub IsInRange : Header → Type 0
 IsInRange (Data h) = (0 < h.count) × (h.count ≤ MAX_COUNT)
 IsInRange (Maint h) = (0 < h.count) × (h.count ≤ MAX_COUNT)
 IsInRange (Control h) = h.sub < 64
+
+-- what each verdict says of eight bytes
+abbrev pub Says : Result Header HeaderFault → List ℕ → Type 0
+Says (Ok h) bytes = Spells h (take 6 bytes) × HasCheck bytes
+Says (Err NotAStart) bytes = is_start (slice_index bytes 0) ≡ false
+Says (Err Check) bytes = (is_start (slice_index bytes 0) ≡ true) × (¬ HasCheck bytes)
+Says (Err (BadType c)) bytes = (slice_index bytes 0 ≡ CONTROL_START) × HasCheck bytes × (slice_index bytes 1 ≡ c) × IsNoType c
+Says (Err CountZero) bytes = (is_start (slice_index bytes 0) ≡ true) × (slice_index bytes 0 ≢ CONTROL_START) × HasCheck bytes × (count_field bytes ≡ 0)
 
 -- ---- the same as a function, for the reading of a text
 

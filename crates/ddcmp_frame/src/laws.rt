@@ -1,13 +1,18 @@
 //! What holds of frames and of the reading of texts, for the crates above: functions that do
 //! nothing, whose contracts are the laws.
-ghost use Rattle.std.specs.Prelude.{◌≡◌, ◌+◌, ◌≤◌, ℕ, List, [], ◌∷◌, ◌++◌, length, replicate};
+ghost use Rattle.std.specs.Prelude.{◌≡◌, ◌+◌, ◌<◌, ◌≤◌, ◌↔◌, ℕ, Bool, true, false, List, [], ◌∷◌, ◌++◌, length, take, drop, slice_index, replicate, if◌then◌else◌, Some, None, Result, Ok, Err};
 ghost use Rattle.ddcmp_frame.specs.declared.codes.TheConstants.{SYN};
-ghost use Rattle.ddcmp_frame.specs.Spelling.{IsInRange, IsBytes, Spells};
+ghost use Rattle.ddcmp_frame.specs.Spelling.{IsInRange, IsBytes, Spells, Says, is_start, parsed};
 ghost use Rattle.ddcmp_frame.specs.Wire.{six_bytes, wire, IsFrame};
-ghost use Rattle.ddcmp_frame.specs.Reading.{items, ending, beginning, read, with_more, good_frames_in, good_frames, open_at_end};
+ghost use Rattle.ddcmp_frame.specs.Reading.{items, ending, beginning, read, with_more, good_frames_in, good_frames, open_at_end, count_of, data_after_header, is_data_right};
+ghost use Rattle.ddcmp_frame.specs.Rows.{outcome_after, outcome_at_end};
+ghost use Rattle.ddcmp_frame.specs.Step.{place_untold};
 ghost use Rattle.ddcmp_frame.specs.Reader.{frame_length};
 ghost use Rattle.ddcmp_frame.specs.declared.header.Header.{Header as HeaderValue};
-ghost use Rattle.ddcmp_frame.specs.declared.item.Item.TheVariants.{Good};
+ghost use Rattle.ddcmp_frame.specs.declared.header.HeaderFault.{HeaderFault as HeaderFaultValue};
+ghost use Rattle.ddcmp_frame.specs.declared.item.Item.TheVariants.{Good, HeaderCheck, DataCheck, TooLong, Format};
+
+use crate::header::HeaderFault;
 
 /// The empty text has no items, and its reading ends where it begins.
 pub fn items_of_nothing()
@@ -21,6 +26,73 @@ pub fn items_of_longer()
         → items max (text ++ more_text) ≡ items max text ++ (read max (with_more (ending max text) more_text)).items }
     ensures ending { (max : ℕ) (text more_text : List ℕ)
         → ending max (text ++ more_text) ≡ (read max (with_more (ending max text) more_text)).place }
+{}
+
+/// The table of reading, row by row: what a text gives that begins at an offset, and where reading
+/// goes on. Where the text is too short for its row, reading ends there.
+pub fn reading_table()
+    ensures nothing { (max o : ℕ) (lost : Bool)
+        → read max (place_untold o lost []) ≡ outcome_at_end (place_untold o lost []) }
+    ensures skipped { (max o b : ℕ) (lost : Bool) (t : List ℕ) → is_start b ≡ false
+        → read max (place_untold o lost (b ∷ t)) ≡ read max (place_untold (o + 1) lost t) }
+
+    // From a start byte eight bytes are a candidate.
+    ensures short { (max o : ℕ) (lost : Bool) (t : List ℕ)
+        → is_start (slice_index t 0) ≡ true → length t < 8
+        → read max (place_untold o lost t) ≡ outcome_at_end (place_untold o lost t) }
+    ensures failed { (max o : ℕ) (lost : Bool) (t : List ℕ)
+        → is_start (slice_index t 0) ≡ true → 8 ≤ length t → parsed (take 8 t) ≡ Err HeaderFault.Check
+        → read max (place_untold o lost t) ≡ outcome_after
+            (if lost then [] else (HeaderCheck o, []) ∷ []) (read max (place_untold (o + 1) true (drop 1 t))) }
+    ensures bad_type { (max o code : ℕ) (lost : Bool) (t : List ℕ)
+        → is_start (slice_index t 0) ≡ true → 8 ≤ length t
+        → parsed (take 8 t) ≡ Err (HeaderFault.BadType code)
+        → read max (place_untold o lost t) ≡ outcome_after
+            ((Format o (HeaderFault.BadType code), []) ∷ []) (read max (place_untold (o + 8) false (drop 8 t))) }
+    ensures count_zero { (max o : ℕ) (lost : Bool) (t : List ℕ)
+        → is_start (slice_index t 0) ≡ true → 8 ≤ length t
+        → parsed (take 8 t) ≡ Err HeaderFault.CountZero
+        → read max (place_untold o lost t) ≡ outcome_after
+            ((Format o HeaderFault.CountZero, []) ∷ []) (read max (place_untold (o + 8) false (drop 8 t))) }
+
+    // A control header is a whole frame; another has data, and their check.
+    ensures control { (max o : ℕ) (lost : Bool) (t : List ℕ) (h : HeaderValue)
+        → is_start (slice_index t 0) ≡ true → 8 ≤ length t
+        → parsed (take 8 t) ≡ Ok h → count_of h ≡ None
+        → read max (place_untold o lost t) ≡ outcome_after
+            ((Good o h, []) ∷ []) (read max (place_untold (o + 8) false (drop 8 t))) }
+    ensures too_long { (max o n : ℕ) (lost : Bool) (t : List ℕ) (h : HeaderValue)
+        → is_start (slice_index t 0) ≡ true → 8 ≤ length t
+        → parsed (take 8 t) ≡ Ok h → count_of h ≡ Some n → max < n → n + 10 ≤ length t
+        → read max (place_untold o lost t) ≡ outcome_after
+            ((TooLong o h, []) ∷ []) (read max (place_untold (o + (n + 10)) false (drop (n + 10) t))) }
+    ensures too_long_open { (max o n : ℕ) (lost : Bool) (t : List ℕ) (h : HeaderValue)
+        → is_start (slice_index t 0) ≡ true → 8 ≤ length t
+        → parsed (take 8 t) ≡ Ok h → count_of h ≡ Some n → max < n → length t < n + 10
+        → read max (place_untold o lost t) ≡ outcome_after ((TooLong o h, []) ∷ [])
+            (outcome_at_end (record (place_untold o lost t) { told = true })) }
+    ensures unfinished { (max o n : ℕ) (lost : Bool) (t : List ℕ) (h : HeaderValue)
+        → is_start (slice_index t 0) ≡ true → 8 ≤ length t
+        → parsed (take 8 t) ≡ Ok h → count_of h ≡ Some n → n ≤ max → length t < n + 10
+        → read max (place_untold o lost t) ≡ outcome_at_end (place_untold o lost t) }
+    ensures good { (max o n : ℕ) (lost : Bool) (t : List ℕ) (h : HeaderValue)
+        → is_start (slice_index t 0) ≡ true → 8 ≤ length t
+        → parsed (take 8 t) ≡ Ok h → count_of h ≡ Some n → n ≤ max → n + 10 ≤ length t
+        → is_data_right n t ≡ true
+        → read max (place_untold o lost t) ≡ outcome_after ((Good o h, data_after_header n t) ∷ [])
+            (read max (place_untold (o + (n + 10)) false (drop (n + 10) t))) }
+    ensures damaged { (max o n : ℕ) (lost : Bool) (t : List ℕ) (h : HeaderValue)
+        → is_start (slice_index t 0) ≡ true → 8 ≤ length t
+        → parsed (take 8 t) ≡ Ok h → count_of h ≡ Some n → n ≤ max → n + 10 ≤ length t
+        → is_data_right n t ≡ false
+        → read max (place_untold o lost t) ≡ outcome_after ((DataCheck o h, []) ∷ [])
+            (read max (place_untold (o + (n + 10)) false (drop (n + 10) t))) }
+{}
+
+/// What eight bytes are parsed as is what the spelling of headers says that they are.
+pub fn parsed_is_the_spelling()
+    ensures { (verdict : Result HeaderValue HeaderFaultValue) (bytes : List ℕ) → length bytes ≡ 8
+        → (parsed bytes ≡ verdict) ↔ Says verdict bytes }
 {}
 
 /// The good frames of a text that goes on only grow at their end.

@@ -3,7 +3,8 @@ use Rattle.ddcmp_frame.specs.declared.header.Header.{Header}
 use Rattle.ddcmp_frame.specs.declared.header.HeaderFault.{HeaderFault}
 use Rattle.ddcmp_frame.specs.declared.header.HeaderFault.TheVariants.{NotAStart, Check, BadType, CountZero}
 use Rattle.ddcmp_frame.specs.Spelling.{Spells, HasCheck}
-use Rattle.ddcmp_frame.proofs.SpellingLaws.{Says, parsed-says, says-parsed, parsed-decides}
+use Rattle.ddcmp_frame.proofs.SpellingLaws.{parsed-says, says-parsed, parsed-decides}
+use Rattle.ddcmp_frame.specs.Spelling.{Says}
 use Rattle.ddcmp_frame.proofs.header.Header.parse.Goals as goal
 
 found : (r : Result Header HeaderFault) (bytes : List ℕ) → Says r bytes → IfOk r (λ h. Spells h (take 6 bytes) × HasCheck bytes)

@@ -1,5 +1,6 @@
 use Rattle.std.proofs.Common.{rules, subst, Ok}
-use Rattle.ddcmp_frame.proofs.SpellingLaws.{Says, parsed-says, says-parsed, one_writing}
+use Rattle.ddcmp_frame.proofs.SpellingLaws.{parsed-says, says-parsed, one_writing}
+use Rattle.ddcmp_frame.specs.Spelling.{Says}
 use Rattle.ddcmp_frame.proofs.header.Header.write.Goals as goal
 
 pub returns-clause-read : goal.returns-clause-read

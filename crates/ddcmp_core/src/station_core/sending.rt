@@ -5,7 +5,7 @@ ghost use Rattle.ddcmp_frame.specs.Naks.{subtype_of};
 ghost use Rattle.ddcmp_core.specs.Table.{Naked};
 
 use crate::state::{Reply, State, Timer};
-use crate::station::Core;
+use crate::station_core::Core;
 use ddcmp_frame::{ControlType, Counted, Flags, Header, Nak, Short};
 use ddcmp_window::{Seq, Store};
 

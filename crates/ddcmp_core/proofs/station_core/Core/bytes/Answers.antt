@@ -1,6 +1,6 @@
 use Rattle.std.proofs.Common.{◌+◌, ◌*◌, ◌≤◌, subst, arith}
 use Rattle.ddcmp_core.proofs.Totals.{total_within, two_within, limits_within}
-use Rattle.ddcmp_core.proofs.station.Core.bytes.Goals as goal
+use Rattle.ddcmp_core.proofs.station_core.Core.bytes.Goals as goal
 
 pub overflow_add-result : goal.overflow_add-result
 overflow_add-result g c =

@@ -6,7 +6,7 @@ ghost use Rattle.ddcmp_core.specs.Frames.{is_data_header};
 use crate::input::Input;
 use crate::notice::Notice;
 use crate::state::{Reply, State, Timer};
-use crate::station::Core;
+use crate::station_core::Core;
 use ddcmp_frame::{ControlType, Counted, Header, Nak, Short};
 use ddcmp_window::{Offer, Seq, Store};
 
