@@ -35,7 +35,7 @@ sending s = by s.state refl
 
     rep_or : s.state ≡ Running → (r : Reply) → s.reply ≡ r → is_nak r ≡ false → (b : Bool) → s.rep ≡ b
         → SentFor s (cond b (Sends (Rep s.n) (record s { rep = false; timer = Fresh }))
-          (cond (nat_lt (before_next s) (length s.out)) (Sends (Data s.r s.t (message_at_next s)) (after_data s)) (cond (is_ack r) (Sends (Acked s.r) (record s { reply = Quiet })) Idle)))
+        (cond (nat_lt (before_next s) (length s.out)) (Sends (Data s.r s.t (message_at_next s)) (after_data s)) (cond (is_ack r) (Sends (Acked s.r) (record s { reply = Quiet })) Idle)))
     rep_or e r q k true f = sends_rep e (cc) f
     rep_or e r q k false f = data_or e r q k f (nat_lt (before_next s) (length s.out)) refl
 

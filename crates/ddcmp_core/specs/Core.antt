@@ -64,6 +64,7 @@ IsReceivable l _ = Unit {0}
 -- Where the timer is off: a running station waits for nothing, or is to send a REP, or all that is
 -- kept; one that starts is to send its STRT or STACK.
 pub record IsTimed (s : StationState) : Type 0 where
-  pub waits : s.state ≡ Running → s.timer ≡ Off → (s.a ≡ s.n) ⊎ ((s.rep ≡ true) ⊎ (s.t ≡ next_number s.a))
+  pub waits : s.state ≡ Running → s.timer ≡ Off
+      → (s.a ≡ s.n) ⊎ ((s.rep ≡ true) ⊎ (s.t ≡ next_number s.a))
   pub asks : is_starting s.state ≡ true → s.timer ≡ Off → s.due ≡ true
   pub begins : is_starting s.state ≡ true → s.a ≡ s.n

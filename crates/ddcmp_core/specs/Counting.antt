@@ -14,7 +14,17 @@ abbrev pub count_plus : ℕ → ℕ → ℕ
 count_plus count k = min (count + k) 4294967295
 
 abbrev pub no_naks : NakCounts
-no_naks = record { header_check = 0; data_check = 0; reply_to_rep = 0; no_buffer = 0; overrun = 0; too_long = 0; format = 0; other = 0 }
+no_naks =
+    record {
+      header_check = 0;
+      data_check = 0;
+      reply_to_rep = 0;
+      no_buffer = 0;
+      overrun = 0;
+      too_long = 0;
+      format = 0;
+      other = 0;
+    }
 
 abbrev pub no_counts : Counters
 no_counts = record {
@@ -48,13 +58,22 @@ nak_counts_after (reason.Other n) c = record c { other = count_plus c.other 1 }
 
 -- one message of so many bytes is sent for the first time, or sent again, or put into the inbox
 abbrev pub counters_after_sent : ℕ → Counters → Counters
-counters_after_sent bytes c = record c { messages_sent = count_plus c.messages_sent 1; bytes_sent = count_plus c.bytes_sent bytes }
+counters_after_sent bytes c =
+    record c {
+      messages_sent = count_plus c.messages_sent 1;
+      bytes_sent = count_plus c.bytes_sent bytes;
+    }
 
 abbrev pub counters_after_again : ℕ → Counters → Counters
-counters_after_again bytes c = record c { messages_again = count_plus c.messages_again 1; bytes_again = count_plus c.bytes_again bytes }
+counters_after_again bytes c =
+    record c {
+      messages_again = count_plus c.messages_again 1;
+      bytes_again = count_plus c.bytes_again bytes;
+    }
 
 abbrev pub counters_after_up : ℕ → Counters → Counters
-counters_after_up bytes c = record c { messages_up = count_plus c.messages_up 1; bytes_up = count_plus c.bytes_up bytes }
+counters_after_up bytes c =
+    record c { messages_up = count_plus c.messages_up 1; bytes_up = count_plus c.bytes_up bytes }
 
 -- ---- what comes
 
@@ -70,17 +89,21 @@ abbrev pub counters_after_up_if : Bool → ℕ → Counters → Counters
 counters_after_up_if up bytes c = if up then counters_after_up bytes c else c
 
 abbrev pub running_counters : Limits → StationState → Received → Counters → Counters
-running_counters l s (Good (Naked why resp)) c = record c { nak_received = nak_counts_after why c.nak_received }
+running_counters l s (Good (Naked why resp)) c =
+    record c { nak_received = nak_counts_after why c.nak_received }
 running_counters l s (Good (Rep num)) c = record c { rep_received = count_plus c.rep_received 1 }
-running_counters l s (Good (Data resp num message)) c = counters_after_up_if (takes_data l s num) (length message) c
+running_counters l s (Good (Data resp num message)) c =
+    counters_after_up_if (takes_data l s num) (length message) c
 running_counters l s _ c = c
 
 abbrev pub astart_counters : Limits → StationState → Received → Counters → Counters
-astart_counters l s (Good (Data resp num message)) c = counters_after_up_if (resp == 0 && takes_data l s num) (length message) c
+astart_counters l s (Good (Data resp num message)) c =
+    counters_after_up_if (resp == 0 && takes_data l s num) (length message) c
 astart_counters l s _ c = c
 
 abbrev pub maintenance_counters : Limits → StationState → Received → Counters → Counters
-maintenance_counters l s (Good (Maint message)) c = counters_after_up_if (has_room l s) (length message) c
+maintenance_counters l s (Good (Maint message)) c =
+    counters_after_up_if (has_room l s) (length message) c
 maintenance_counters l s _ c = c
 
 abbrev pub counters_by : State → Limits → StationState → Received → Counters → Counters
@@ -96,12 +119,16 @@ counters_on l s h c = counters_by s.state l s h (counters_after_fault h c)
 -- ---- what is sent, and expiries
 
 unfoldable pub counters_after_next : StationState → Next → Counters → Counters
-counters_after_next s (Sends (Naked why resp) u) c = record c { nak_sent = nak_counts_after why c.nak_sent }
+counters_after_next s (Sends (Naked why resp) u) c =
+    record c { nak_sent = nak_counts_after why c.nak_sent }
 counters_after_next s (Sends (Rep num) u) c = record c { rep_sent = count_plus c.rep_sent 1 }
 counters_after_next s (Sends (Data resp num message) u) c =
-    if num == next_number s.n then counters_after_sent (length message) c else counters_after_again (length message) c
+    if num == next_number s.n
+    then counters_after_sent (length message) c
+    else counters_after_again (length message) c
 counters_after_next s (Sends (Maint message) u) c = counters_after_sent (length message) c
 counters_after_next s _ c = c
 
 abbrev pub counters_after_expire : StationState → Counters → Counters
-counters_after_expire s c = record c { expiries = if is_on s.timer then count_plus c.expiries 1 else c.expiries }
+counters_after_expire s c =
+    record c { expiries = if is_on s.timer then count_plus c.expiries 1 else c.expiries }

@@ -38,7 +38,8 @@ received (input.DataCheck h) = BadData (is_data_header h)
 received (input.TooLong h) = TooLong (is_data_header h)
 received input.Format = BadFormat
 
--- a good frame's data are as long as its COUNT says, none beside a control header, and within the limit
+-- a good frame's data are as long as its COUNT says, none beside a control header, and within the
+-- limit
 abbrev pub FitsHeader : ℕ → Input → Type 0
 FitsHeader longest (input.Good h message) = IsFrame h message.now × (length message.now ≤ longest)
 FitsHeader longest _ = Unit {0}
@@ -52,13 +53,67 @@ abbrev pub both_flags : Flags
 both_flags = record { q = true; s = true }
 
 abbrev pub header_of : Frame → Header
-header_of (Data resp num message) = header.Data (record { count = length message; flags = no_flags; resp = resp; num = num; addr = 1 })
-header_of (Acked resp) = header.Control (record { kind = control.Ack; sub = 0; flags = no_flags; resp = resp; num = 0; addr = 1 })
-header_of (Naked why resp) = header.Control (record { kind = control.Nak; sub = subtype_of why; flags = no_flags; resp = resp; num = 0; addr = 1 })
-header_of (Rep num) = header.Control (record { kind = control.Rep; sub = 0; flags = no_flags; resp = 0; num = num; addr = 1 })
-header_of Strt = header.Control (record { kind = control.Strt; sub = 0; flags = both_flags; resp = 0; num = 0; addr = 1 })
-header_of Stack = header.Control (record { kind = control.Stack; sub = 0; flags = both_flags; resp = 0; num = 0; addr = 1 })
-header_of (Maint message) = header.Maint (record { count = length message; flags = both_flags; resp = 0; num = 0; addr = 1 })
+header_of (Data resp num message) =
+    header.Data (record {
+      count = length message;
+      flags = no_flags;
+      resp = resp;
+      num = num;
+      addr = 1;
+    })
+header_of (Acked resp) =
+    header.Control (record {
+      kind = control.Ack;
+      sub = 0;
+      flags = no_flags;
+      resp = resp;
+      num = 0;
+      addr = 1;
+    })
+header_of (Naked why resp) =
+    header.Control (record {
+      kind = control.Nak;
+      sub = subtype_of why;
+      flags = no_flags;
+      resp = resp;
+      num = 0;
+      addr = 1;
+    })
+header_of (Rep num) =
+    header.Control (record {
+      kind = control.Rep;
+      sub = 0;
+      flags = no_flags;
+      resp = 0;
+      num = num;
+      addr = 1;
+    })
+header_of Strt =
+    header.Control (record {
+      kind = control.Strt;
+      sub = 0;
+      flags = both_flags;
+      resp = 0;
+      num = 0;
+      addr = 1;
+    })
+header_of Stack =
+    header.Control (record {
+      kind = control.Stack;
+      sub = 0;
+      flags = both_flags;
+      resp = 0;
+      num = 0;
+      addr = 1;
+    })
+header_of (Maint message) =
+    header.Maint (record {
+      count = length message;
+      flags = both_flags;
+      resp = 0;
+      num = 0;
+      addr = 1;
+    })
 
 abbrev pub message_of : Frame → List ℕ
 message_of (Data resp num message) = message

@@ -13,7 +13,8 @@ is_nak _ = false
 
 -- the next message of a running station, where there is one, by itself
 abbrev pub next_data : StationState → Next
-next_data s = if has_message s then Sends (Data s.r s.t (message_at_next s)) (after_data s) else Idle
+next_data s =
+    if has_message s then Sends (Data s.r s.t (message_at_next s)) (after_data s) else Idle
 
 -- What a station sends next, with the reason for it, or why it sends nothing.
 pub data SentFor (s : StationState) : Next → Type 0 where
@@ -26,10 +27,12 @@ pub data SentFor (s : StationState) : Next → Type 0 where
   sends_rep : s.state ≡ Running → is_nak s.reply ≡ false → s.rep ≡ true
       → SentFor s (Sends (Rep s.n) (record s { rep = false; timer = Fresh }))
   sends_data : s.state ≡ Running → is_nak s.reply ≡ false → s.rep ≡ false
-      → before_next s < length s.out → SentFor s (Sends (Data s.r s.t (message_at_next s)) (after_data s))
+      → before_next s < length s.out
+      → SentFor s (Sends (Data s.r s.t (message_at_next s)) (after_data s))
   sends_ack : s.state ≡ Running → s.reply ≡ Ack → s.rep ≡ false
       → length s.out ≤ before_next s → SentFor s (Sends (Acked s.r) (record s { reply = Quiet }))
-  sends_maint : (message : List ℕ) (rest : List (List ℕ)) → s.state ≡ Maintenance → s.out ≡ message ∷ rest
+  sends_maint : (message : List ℕ) (rest : List (List ℕ))
+      → s.state ≡ Maintenance → s.out ≡ message ∷ rest
       → SentFor s (Sends (Maint message) (record s { out = rest }))
   halted_idles : s.state ≡ Halted → SentFor s Idle
   starting_idles : is_starting s.state ≡ true → s.due ≡ false → SentFor s Idle

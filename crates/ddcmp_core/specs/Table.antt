@@ -1,4 +1,4 @@
--- The station's table: its state, the user's calls, what comes in each state, and what is sent next.
+-- The station's table: its state, the user's calls, what comes in each state, and what is sent.
 use Rattle.std.specs.Prelude.{ℕ, Bool, true, false, ◌&&◌, if◌then◌else◌, nat_lt, ◌==◌, List, [], ◌∷◌, ◌++◌, length, slice_index_or, Option, Some, None, is_none, Result}
 use Rattle.ddcmp_num.specs.declared.seq.Seq.{Seq}
 use Rattle.ddcmp_frame.specs.declared.nak.Nak.{Nak as Reason}
@@ -107,7 +107,9 @@ is_starting _ = false
 -- Why start and enter_maintenance are refused: the station isn't halted, or its inbox isn't empty.
 abbrev pub start_refusal : StationState → Option StartRefusal
 start_refusal s =
-    if is_halted s.state then (if length s.inbox == 0 then None else Some Untaken) else Some NotHalted
+    if is_halted s.state
+    then (if length s.inbox == 0 then None else Some Untaken)
+    else Some NotHalted
 
 abbrev pub may_start : StationState → Bool
 may_start s = is_none (start_refusal s)
@@ -127,7 +129,9 @@ after_halt s = record s { state = Halted; due = false; reply = Quiet; rep = fals
 -- Why a message isn't sent: the station isn't running, or the window doesn't keep it.
 abbrev pub send_refusal : Limits → StationState → List ℕ → Option SendRefusal
 send_refusal l s message =
-    if is_running s.state then accept_refusal l.window l.longest (outgoing s) message else Some WrongState
+    if is_running s.state
+    then accept_refusal l.window l.longest (outgoing s) message
+    else Some WrongState
 
 abbrev pub may_send : Limits → StationState → List ℕ → Bool
 may_send l s message = is_none (send_refusal l s message)
@@ -141,12 +145,15 @@ after_accept s message = record s { out = s.out ++ message ∷ [] }
 -- why a maintenance message isn't sent
 abbrev pub send_maintenance_refusal : Limits → StationState → List ℕ → Option SendRefusal
 send_maintenance_refusal l s message =
-    if is_maintenance s.state then accept_refusal l.window l.longest (outgoing s) message else Some WrongState
+    if is_maintenance s.state
+    then accept_refusal l.window l.longest (outgoing s) message
+    else Some WrongState
 
 abbrev pub may_send_maintenance : Limits → StationState → List ℕ → Bool
 may_send_maintenance l s message = is_none (send_maintenance_refusal l s message)
 
-abbrev pub answer_to_send_maintenance : Limits → StationState → List ℕ → Result (Unit {0}) SendRefusal
+abbrev pub answer_to_send_maintenance : Limits → StationState → List ℕ
+    → Result (Unit {0}) SendRefusal
 answer_to_send_maintenance l s message = answer_unless (send_maintenance_refusal l s message) tt
 
 -- take
@@ -194,7 +201,8 @@ pub data Frame : Type 0 where
   Stack : Frame
   Maint : List ℕ → Frame
 
--- what the reader gives; of damaged data and of a frame too long it matters whether it is a data message
+-- What the reader gives. Of damaged data and of a frame too long it matters whether it is a data
+-- message.
 pub data Received : Type 0 where
   Good : Frame → Received
   BadHeader : Received
@@ -224,7 +232,8 @@ halted_notice _ = None
 
 -- Maintenance
 abbrev pub on_maintenance : Limits → StationState → Received → StationState
-on_maintenance l s (Good (Maint message)) = with_incoming s (incoming_after_put l.room (incoming s) message)
+on_maintenance l s (Good (Maint message)) =
+    with_incoming s (incoming_after_put l.room (incoming s) message)
 on_maintenance l s _ = s
 
 abbrev pub has_room : Limits → StationState → Bool
@@ -232,7 +241,8 @@ has_room l s = nat_lt (length s.inbox) l.room
 
 abbrev pub maintenance_notice : Limits → StationState → Received → Option Notice
 maintenance_notice l s (Good Strt) = Some notice.PeerStarts
-maintenance_notice l s (Good (Maint message)) = Some (if has_room l s then notice.MaintenanceHandedUp else notice.MaintenanceDropped)
+maintenance_notice l s (Good (Maint message)) =
+    Some (if has_room l s then notice.MaintenanceHandedUp else notice.MaintenanceDropped)
 maintenance_notice l s _ = None
 
 -- Running: good data
@@ -256,7 +266,8 @@ on_data l s resp num message = after_offer l (after_ack s resp) num message
 abbrev pub data_notice : Limits → StationState → ℕ → ℕ → Option Notice
 data_notice l s resp num =
     if takes_data l s num
-    then Some (if newly_acknowledged s resp == 0 then notice.HandedUp else notice.HandedUpAndAcknowledged (newly_acknowledged s resp))
+    then Some (if newly_acknowledged s resp == 0 then notice.HandedUp
+    else notice.HandedUpAndAcknowledged (newly_acknowledged s resp))
     else acknowledged_notice (newly_acknowledged s resp)
 
 -- Running: a NAK, a REP and a STRT
@@ -300,14 +311,17 @@ abbrev pub on_astart : Limits → StationState → Received → StationState
 on_astart l s (Good Stack) = record (after_startup s) { reply = Ack }
 on_astart l s (Good Strt) = record s { due = true }
 on_astart l s (Good (Acked resp)) = if resp == 0 then after_startup s else s
-on_astart l s (Good (Data resp num message)) = if resp == 0 then on_data l (after_startup s) resp num message else s
+on_astart l s (Good (Data resp num message)) =
+    if resp == 0 then on_data l (after_startup s) resp num message else s
 on_astart l s _ = s
 
 abbrev pub astart_notice : Limits → StationState → Received → Option Notice
 astart_notice l s (Good Stack) = Some notice.Running
 astart_notice l s (Good (Acked resp)) = if resp == 0 then Some notice.Running else None
 astart_notice l s (Good (Data resp num message)) =
-    if resp == 0 then Some (if takes_data l s num then notice.RunningAndHandedUp else notice.Running) else None
+    if resp == 0
+    then Some (if takes_data l s num then notice.RunningAndHandedUp else notice.Running)
+    else None
 astart_notice l s (Good (Maint message)) = Some notice.MaintenanceSeen
 astart_notice l s _ = None
 
@@ -321,8 +335,10 @@ on_running l s (Good (Rep num)) = on_rep s num
 on_running l s (Good (Data resp num message)) = on_data l s resp num message
 on_running l s (Good (Maint message)) = s
 on_running l s BadHeader = record s { reply = Nak reason.HeaderCheck }
-on_running l s (BadData of_data) = record s { reply = if of_data then Nak reason.DataCheck else s.reply }
-on_running l s (TooLong of_data) = record s { reply = if of_data then Nak reason.TooLong else s.reply }
+on_running l s (BadData of_data) =
+    record s { reply = if of_data then Nak reason.DataCheck else s.reply }
+on_running l s (TooLong of_data) =
+    record s { reply = if of_data then Nak reason.TooLong else s.reply }
 on_running l s BadFormat = record s { reply = Nak reason.Format }
 
 abbrev pub running_notice : Limits → StationState → Received → Option Notice

@@ -111,13 +111,15 @@ impl Counters {
     }
 
     pub(crate) fn nak_sent(&mut self, reason: Nak)
-        ensures { self.new ≡ record self.old { nak_sent = nak_counts_after reason self.old.nak_sent } }
+        ensures { self.new
+            ≡ record self.old { nak_sent = nak_counts_after reason self.old.nak_sent } }
     {
         self.nak_sent.count(reason);
     }
 
     pub(crate) fn nak_received(&mut self, reason: Nak)
-        ensures { self.new ≡ record self.old { nak_received = nak_counts_after reason self.old.nak_received } }
+        ensures { self.new
+            ≡ record self.old { nak_received = nak_counts_after reason self.old.nak_received } }
     {
         self.nak_received.count(reason);
     }

@@ -15,16 +15,22 @@ ghost use Rattle.ddcmp_core.specs.NextFrame.{SentFor};
 /// Numbers are bytes, T lies in A + 1 to N + 1, what was sent and isn't acknowledged is kept, and
 /// the lists are within the limits: of a new station, and after each call.
 pub fn stays_sound()
-    ensures new { (l : Limits) → IsStored l.window l.longest [] → IsStored l.room l.longest [] → IsSound l new_station }
-    ensures hears { (l : Limits) (s : StationState) (h : Received) → IsReceivable l h → IsSound l s → IsSound l (on l s h) }
-    ensures sends { (l : Limits) (s : StationState) → IsSound l s → IsSound l (after_next (next s) s) }
-    ensures starts { (l : Limits) (s : StationState) → may_start s ≡ true → IsSound l s → IsSound l (after_start s) }
-    ensures maintains { (l : Limits) (s : StationState) → may_start s ≡ true → IsSound l s → IsSound l (after_enter_maintenance s) }
+    ensures new { (l : Limits) → IsStored l.window l.longest [] → IsStored l.room l.longest []
+        → IsSound l new_station }
+    ensures receives { (l : Limits) (s : StationState) (h : Received) → IsReceivable l h → IsSound l s
+        → IsSound l (on l s h) }
+    ensures sends { (l : Limits) (s : StationState) → IsSound l s
+        → IsSound l (after_next (next s) s) }
+    ensures starts { (l : Limits) (s : StationState) → may_start s ≡ true → IsSound l s
+        → IsSound l (after_start s) }
+    ensures maintains { (l : Limits) (s : StationState) → may_start s ≡ true → IsSound l s
+        → IsSound l (after_enter_maintenance s) }
     ensures halts { (l : Limits) (s : StationState) → IsSound l s → IsSound l (after_halt s) }
     ensures accepts { (l : Limits) (s : StationState) (message : List ℕ)
         → may_send l s message ≡ true → IsSound l s → IsSound l (after_accept s message) }
     ensures accepts_maintenance { (l : Limits) (s : StationState) (message : List ℕ)
-        → may_send_maintenance l s message ≡ true → IsSound l s → IsSound l (after_accept s message) }
+        → may_send_maintenance l s message ≡ true → IsSound l s
+        → IsSound l (after_accept s message) }
     ensures takes { (l : Limits) (s : StationState) → IsSound l s → IsSound l (after_take s) }
     ensures expires { (l : Limits) (s : StationState) → IsSound l s → IsSound l (after_expire s) }
     ensures arms { (l : Limits) (s : StationState) → IsSound l s → IsSound l (after_take_arm s) }
@@ -43,11 +49,13 @@ pub fn starts_in_state()
 
 /// A station comes to IStart by `start` alone.
 pub fn leaves_istart_for_good()
-    ensures hears { (l : Limits) (s : StationState) (h : Received) → (on l s h).state ≡ IStart → s.state ≡ IStart }
+    ensures receives { (l : Limits) (s : StationState) (h : Received) → (on l s h).state ≡ IStart
+        → s.state ≡ IStart }
     ensures sends { (s : StationState) → (after_next (next s) s).state ≡ s.state }
     ensures maintains { (s : StationState) → (after_enter_maintenance s).state ≡ Maintenance }
     ensures halts { (s : StationState) → (after_halt s).state ≡ Halted }
-    ensures accepts { (s : StationState) (message : List ℕ) → (after_accept s message).state ≡ s.state }
+    ensures accepts { (s : StationState) (message : List ℕ) → (after_accept s message).state
+        ≡ s.state }
     ensures takes { (s : StationState) → (after_take s).state ≡ s.state }
     ensures expires { (s : StationState) → (after_expire s).state ≡ s.state }
     ensures arms { (s : StationState) → (after_take_arm s).state ≡ s.state }
@@ -64,14 +72,17 @@ pub fn runs_after_startup()
 /// N + 1.
 pub fn sends_in_window()
     ensures { (l : Limits) (s u : StationState) (resp num : ℕ) (message : List ℕ)
-        → IsSound l s → next s ≡ Sends (Data resp num message) u → (resp ≡ s.r) × IsSentInWindow s num message }
+        → IsSound l s → next s ≡ Sends (Data resp num message) u → (resp ≡ s.r)
+        × IsSentInWindow s num message }
 {}
 
 /// An acknowledgement never passes N, and no more is told than was sent.
 pub fn acknowledges_what_was_sent()
-    ensures number { (s : StationState) (q : ℕ) → s.a < 256 → distance s.a (after_ack s q).a ≤ distance s.a s.n }
+    ensures number { (s : StationState) (q : ℕ) → s.a < 256
+        → distance s.a (after_ack s q).a ≤ distance s.a s.n }
     ensures newly { (s : StationState) (q : ℕ) → newly_acknowledged s q ≤ distance s.a s.n }
-    ensures told { (l : Limits) (s : StationState) (h : Received) → IsSound l s → acknowledged_by (notice_of l s h) ≤ distance s.a s.n }
+    ensures told { (l : Limits) (s : StationState) (h : Received) → IsSound l s
+        → acknowledged_by (notice_of l s h) ≤ distance s.a s.n }
 {}
 
 /// What is told acknowledged leaves: with what is left it is no more than was kept before.
@@ -83,7 +94,8 @@ pub fn tells_what_leaves()
 /// A station that starts has sent and received nothing; in Maintenance nothing waits for an
 /// acknowledgement.
 pub fn begins_with_nothing()
-    ensures starting { (l : Limits) (s : StationState) → IsSound l s → is_starting s.state ≡ true → HasNothing s }
+    ensures starting { (l : Limits) (s : StationState) → IsSound l s → is_starting s.state ≡ true
+        → HasNothing s }
     ensures maintenance { (l : Limits) (s : StationState)
         → IsSound l s → s.state ≡ Maintenance → (s.a ≡ s.n) × (s.t ≡ next_number s.a) }
 {}
@@ -91,7 +103,8 @@ pub fn begins_with_nothing()
 /// A frame that is sent is read as the frame that it is, and its data are within the limit.
 pub fn sends_what_is_read()
     ensures { (l : Limits) (s u : StationState) (f : Frame) → IsSound l s → next s ≡ Sends f u
-        → (frame_of (header_of f) (message_of f) ≡ f) × IsFrame (header_of f) (message_of f) × IsInRange (header_of f)
+        → (frame_of (header_of f) (message_of f) ≡ f) × IsFrame (header_of f) (message_of f)
+        × IsInRange (header_of f)
         × (length (message_of f) ≤ l.longest) }
 {}
 
@@ -99,12 +112,14 @@ pub fn sends_what_is_read()
 /// sent; one that starts only where its STRT or STACK is to be sent.
 pub fn stays_timed()
     ensures new { IsTimed new_station }
-    ensures hears { (l : Limits) (s : StationState) (h : Received) → IsTimed s → IsTimed (on l s h) }
+    ensures receives { (l : Limits) (s : StationState) (h : Received) → IsTimed s
+        → IsTimed (on l s h) }
     ensures sends { (s : StationState) → IsTimed s → IsTimed (after_next (next s) s) }
     ensures starts { (s : StationState) → IsTimed (after_start s) }
     ensures maintains { (s : StationState) → IsTimed (after_enter_maintenance s) }
     ensures halts { (s : StationState) → IsTimed (after_halt s) }
-    ensures accepts { (s : StationState) (message : List ℕ) → IsTimed s → IsTimed (after_accept s message) }
+    ensures accepts { (s : StationState) (message : List ℕ) → IsTimed s
+        → IsTimed (after_accept s message) }
     ensures takes { (s : StationState) → IsTimed s → IsTimed (after_take s) }
     ensures expires { (s : StationState) → IsTimed s → IsTimed (after_expire s) }
     ensures arms { (s : StationState) → IsTimed s → IsTimed (after_take_arm s) }

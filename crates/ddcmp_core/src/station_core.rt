@@ -77,7 +77,8 @@ impl<S: Store> Model for Core<S> {
       counters = c.counters;
     } };
 
-    ghost invariant = { λ c. (c.sender.longest ≡ c.inbox.longest) × IsSoundSender c.sender × IsSoundInbox c.inbox
+    ghost invariant = { λ c. (c.sender.longest ≡ c.inbox.longest) × IsSoundSender c.sender
+        × IsSoundInbox c.inbox
         × FitsState (record {
           state = c.state;
           due = c.due;
@@ -132,7 +133,8 @@ impl<S: Store> Core<S> {
     /// Asks the peer to start: how many messages that waited to be sent were dropped.
     pub fn start(&mut self) -> Result<u8, StartRefusal>
         ensures state { self.new ≡ record self.old {
-          station = if may_start self.old.station then after_start self.old.station else self.old.station;
+          station = if may_start self.old.station then after_start self.old.station
+              else self.old.station;
         } }
         ensures answer { result ≡ answer_to_start self.old.station }
         ensures refused { OnErr result (self.new ≡ self.old) }
@@ -143,7 +145,8 @@ impl<S: Store> Core<S> {
     /// Enters the state of maintenance: how many messages that waited to be sent were dropped.
     pub fn enter_maintenance(&mut self) -> Result<u8, StartRefusal>
         ensures state { self.new ≡ record self.old {
-          station = if may_start self.old.station then after_enter_maintenance self.old.station else self.old.station;
+          station = if may_start self.old.station then after_enter_maintenance self.old.station
+              else self.old.station;
         } }
         ensures answer { result ≡ answer_to_start self.old.station }
         ensures refused { OnErr result (self.new ≡ self.old) }
@@ -154,7 +157,8 @@ impl<S: Store> Core<S> {
     /// Begins in a state where it is halted and its inbox empty: how many messages were dropped.
     fn begin_halted(&mut self, state: State, due: bool) -> Result<u8, StartRefusal>
         ensures state { self.new ≡ record self.old {
-          station = if may_start self.old.station then station_begun state due self.old.station.inbox else self.old.station;
+          station = if may_start self.old.station
+              then station_begun state due self.old.station.inbox else self.old.station;
         } }
         ensures answer { result ≡ answer_to_start self.old.station }
     {
@@ -170,7 +174,8 @@ impl<S: Store> Core<S> {
     /// Begins with an empty inbox in a state: how many messages were dropped.
     fn begin(&mut self, state: State, due: bool) -> u8
         requires { length self.old.station.inbox ≡ 0 }
-        ensures state { self.new ≡ record self.old { station = station_begun state due self.old.station.inbox } }
+        ensures state { self.new
+            ≡ record self.old { station = station_begun state due self.old.station.inbox } }
         ensures dropped { result ≡ length self.old.station.out }
     {
         let dropped = self.sender.reset();
@@ -215,7 +220,8 @@ impl<S: Store> Core<S> {
           station = if may_send_maintenance self.old.limits self.old.station message.now
               then after_accept self.old.station message.now else self.old.station;
         } }
-        ensures answer { result ≡ answer_to_send_maintenance self.old.limits self.old.station message.now }
+        ensures answer { result
+            ≡ answer_to_send_maintenance self.old.limits self.old.station message.now }
         ensures refused { OnErr result (self.new ≡ self.old) }
     {
         if self.state != State::Maintenance {
@@ -325,7 +331,8 @@ impl<S: Store> Core<S> {
         requires there { i < length self.now.station.inbox }
         requires longest { self.now.limits.longest ≤ length out.old }
         ensures length { result ≡ length (slice_index_or self.now.station.inbox i []) }
-        ensures out { out.new ≡ with_front (Some (slice_index_or self.now.station.inbox i [])) out.old }
+        ensures out { out.new
+            ≡ with_front (Some (slice_index_or self.now.station.inbox i [])) out.old }
     {
         self.inbox.copy(i, out)
     }
@@ -346,8 +353,10 @@ impl<S: Store> Core<S> {
 
     /// The length of all messages kept and in the inbox.
     pub fn bytes(&self) -> usize
-        ensures value { result ≡ sum_by length self.now.station.out + sum_by length self.now.station.inbox }
-        ensures within { result ≤ (self.now.limits.window + self.now.limits.room) * self.now.limits.longest }
+        ensures value { result
+            ≡ sum_by length self.now.station.out + sum_by length self.now.station.inbox }
+        ensures within { result ≤
+            (self.now.limits.window + self.now.limits.room) * self.now.limits.longest }
         ensures sound { IsSound self.now.limits self.now.station }
     {
         self.sender.bytes() + self.inbox.bytes()

@@ -10,7 +10,8 @@ use Rattle.ddcmp_frame.specs.declared.device.Worst.TheVariants.{Fine, Idle as Ha
 
 -- a read gave the bytes at its front, none only at the end
 abbrev pub ReadGives : Option (List ℕ) → Option (List ℕ) → Got → List ℕ → Type 0
-ReadGives old new (Bytes n) buf = (n ≤ length buf) × Consumes old new (take n buf) × (n ≡ 0 → 0 < length buf → IsAtEnd new)
+ReadGives old new (Bytes n) buf =
+    (n ≤ length buf) × Consumes old new (take n buf) × (n ≡ 0 → 0 < length buf → IsAtEnd new)
 ReadGives old new Idle buf = Keeps old new
 ReadGives old new Failed buf = Keeps old new
 
@@ -34,7 +35,8 @@ worse HadIdle Failed = HadFailed
 
 -- a write took the bytes at the front, at least one where there is one
 abbrev pub WriteTakes : Option (List ℕ) → Option (List ℕ) → Option ℕ → List ℕ → Type 0
-WriteTakes old new (Some n) bytes = (n ≤ length bytes) × (0 < length bytes → 0 < n) × Appends old new (take n bytes)
+WriteTakes old new (Some n) bytes =
+    (n ≤ length bytes) × (0 < length bytes → 0 < n) × Appends old new (take n bytes)
 WriteTakes old new None bytes = Keeps old new
 
 -- the reader that a source wraps, and the worst answer that the source has given

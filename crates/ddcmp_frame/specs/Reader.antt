@@ -80,7 +80,8 @@ EndsWith (Some (Format o f)) lent text = Unit {0}
 EndsWith None lent text = Unit {0}
 
 -- what one byte does to a reader that stands for a text
-pub record Grows (old : ReaderView) (b : ℕ) (given : Option Item) (new : ReaderView) (text : List ℕ) : Type 0 where
+pub record Grows (old : ReaderView) (b : ℕ) (given : Option Item) (new : ReaderView)
+    (text : List ℕ) : Type 0 where
   pub stands : StandsFor new (text ++ b ∷ [])
   pub items : items old.max (text ++ b ∷ []) ≡ items old.max text ++ items_given given new.lent
   pub wire : EndsWith given new.lent (text ++ b ∷ [])

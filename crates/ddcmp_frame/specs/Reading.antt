@@ -25,7 +25,8 @@ pub record Place : Type 0 where
 
 -- n bytes further on
 abbrev pub place_after : ℕ → Bool → Place → Place
-place_after n lost p = record { offset = p.offset + n; lost = lost; told = false; rest = drop n p.rest }
+place_after n lost p =
+    record { offset = p.offset + n; lost = lost; told = false; rest = drop n p.rest }
 
 abbrev pub count_of : Header → Option ℕ
 count_of (Data h) = Some h.count
@@ -38,17 +39,24 @@ data_after_header n t = take n (drop 8 t)
 
 -- the check of the data alone stands after them
 unfoldable pub is_data_right : ℕ → List ℕ → Bool
-is_data_right n t = (slice_index t (n + 8) == check_of (data_after_header n t) % 256) && (slice_index t (n + 9) == check_of (data_after_header n t) / 256)
+is_data_right n t =
+    (slice_index t (n + 8) == check_of (data_after_header n t) % 256)
+    && (slice_index t (n + 9) == check_of (data_after_header n t) / 256)
 
 -- A header whose COUNT is above max is told once and passed over with its data, unchecked;
 -- another takes its data and their check. Until the last byte the frame is unfinished.
 abbrev pub by_length : Place → Header → ℕ → Bool → Bool → Option (List ReadItem × Place)
 by_length p h n true false = Some ((TooLong p.offset h, []) ∷ [], record p { told = true })
-by_length p h n true true = if nat_lt (length p.rest) (n + 10) then None else Some ([], place_after (n + 10) false p)
+by_length p h n true true =
+    if nat_lt (length p.rest) (n + 10) then None else Some ([], place_after (n + 10) false p)
 by_length p h n false told =
     if nat_lt (length p.rest) (n + 10)
     then None
-    else Some ((if is_data_right n p.rest then (Good p.offset h, data_after_header n p.rest) else (DataCheck p.offset h, [])) ∷ [], place_after (n + 10) false p)
+    else Some (
+      (if is_data_right n p.rest then (Good p.offset h, data_after_header n p.rest)
+          else (DataCheck p.offset h, [])) ∷ [],
+      place_after (n + 10) false p,
+    )
 
 -- a control header is a whole frame
 abbrev pub by_count : ℕ → Place → Header → Option ℕ → Option (List ReadItem × Place)
@@ -59,9 +67,12 @@ by_count max p h (Some n) = by_length p h n (nat_lt max n) p.told
 -- given up, and the loss of synchronism is told once.
 abbrev pub by_verdict : ℕ → Place → Result Header HeaderFault → Option (List ReadItem × Place)
 by_verdict max p (Err NotAStart) = Some ([], place_after 1 p.lost p)
-by_verdict max p (Err Check) = Some ((if p.lost then [] else (HeaderCheck p.offset, []) ∷ []), place_after 1 true p)
-by_verdict max p (Err (BadType c)) = Some ((Format p.offset (BadType c), []) ∷ [], place_after 8 false p)
-by_verdict max p (Err CountZero) = Some ((Format p.offset CountZero, []) ∷ [], place_after 8 false p)
+by_verdict max p (Err Check) =
+    Some ((if p.lost then [] else (HeaderCheck p.offset, []) ∷ []), place_after 1 true p)
+by_verdict max p (Err (BadType c)) =
+    Some ((Format p.offset (BadType c), []) ∷ [], place_after 8 false p)
+by_verdict max p (Err CountZero) =
+    Some ((Format p.offset CountZero, []) ∷ [], place_after 8 false p)
 by_verdict max p (Ok h) = by_count max p h (count_of h)
 
 -- from a start byte eight bytes are a candidate; any other byte is skipped

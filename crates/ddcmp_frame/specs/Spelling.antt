@@ -83,8 +83,11 @@ abbrev pub Says : Result Header HeaderFault → List ℕ → Type 0
 Says (Ok h) bytes = Spells h (take 6 bytes) × HasCheck bytes
 Says (Err NotAStart) bytes = is_start (slice_index bytes 0) ≡ false
 Says (Err Check) bytes = (is_start (slice_index bytes 0) ≡ true) × (¬ HasCheck bytes)
-Says (Err (BadType c)) bytes = (slice_index bytes 0 ≡ CONTROL_START) × HasCheck bytes × (slice_index bytes 1 ≡ c) × IsNoType c
-Says (Err CountZero) bytes = (is_start (slice_index bytes 0) ≡ true) × (slice_index bytes 0 ≢ CONTROL_START) × HasCheck bytes × (count_field bytes ≡ 0)
+Says (Err (BadType c)) bytes =
+    (slice_index bytes 0 ≡ CONTROL_START) × HasCheck bytes × (slice_index bytes 1 ≡ c) × IsNoType c
+Says (Err CountZero) bytes =
+    (is_start (slice_index bytes 0) ≡ true) × (slice_index bytes 0 ≢ CONTROL_START)
+    × HasCheck bytes × (count_field bytes ≡ 0)
 
 -- ---- the same as a function, for the reading of a text
 
@@ -98,10 +101,13 @@ kind_of c =
     else None
 
 unfoldable pub is_check_right : List ℕ → Bool
-is_check_right bytes = (slice_index bytes 6 == check_of (take 6 bytes) % 256) && (slice_index bytes 7 == check_of (take 6 bytes) / 256)
+is_check_right bytes =
+    (slice_index bytes 6 == check_of (take 6 bytes) % 256)
+    && (slice_index bytes 7 == check_of (take 6 bytes) / 256)
 
 abbrev pub flags_of : List ℕ → Flags
-flags_of bytes = record { q = slice_index bytes 2 / 64 % 2 == 1; s = slice_index bytes 2 / 128 % 2 == 1 }
+flags_of bytes =
+    record { q = slice_index bytes 2 / 64 % 2 == 1; s = slice_index bytes 2 / 128 % 2 == 1 }
 
 abbrev pub short_of : ControlType → List ℕ → ShortFields
 short_of kind bytes = record {
@@ -141,4 +147,7 @@ by_start bytes =
 
 -- the header that eight bytes are, or the first fault
 unfoldable pub parsed : List ℕ → Result Header HeaderFault
-parsed bytes = if is_start (slice_index bytes 0) then (if is_check_right bytes then by_start bytes else Err Check) else Err NotAStart
+parsed bytes =
+    if is_start (slice_index bytes 0)
+    then (if is_check_right bytes then by_start bytes else Err Check)
+    else Err NotAStart

@@ -35,13 +35,17 @@ item_offset (Format o f) = o
 abbrev pub row_of_step : Step → Place → Option (List ReadItem × Place)
 row_of_step Unfinished p = None
 row_of_step Skips p = Some ([], place_after 1 p.lost p)
-row_of_step Fails p = Some ((if p.lost then [] else (HeaderCheck p.offset, []) ∷ []), place_after 1 true p)
+row_of_step Fails p =
+    Some ((if p.lost then [] else (HeaderCheck p.offset, []) ∷ []), place_after 1 true p)
 row_of_step (Announces h n) p = Some ((TooLong p.offset h, []) ∷ [], record p { told = true })
-row_of_step (Gives item n) p = Some ((item, data_after_header n p.rest) ∷ [], place_after (item_length item) false p)
+row_of_step (Gives item n) p =
+    Some ((item, data_after_header n p.rest) ∷ [], place_after (item_length item) false p)
 
 -- the data beside an item, as a part of the bytes
 abbrev pub Lends : Item → ℕ → List ℕ → Type 0
-Lends (Good o h) n bytes = IsFrame h (data_after_header n bytes) × (take (frame_length h) bytes ≡ wire h (data_after_header n bytes))
+Lends (Good o h) n bytes =
+    IsFrame h (data_after_header n bytes)
+    × (take (frame_length h) bytes ≡ wire h (data_after_header n bytes))
 Lends (DataCheck o h) n bytes = n ≡ 0
 Lends (TooLong o h) n bytes = n ≡ 0
 Lends (HeaderCheck o) n bytes = n ≡ 0
@@ -52,5 +56,10 @@ abbrev pub Found : ℕ → ℕ → List ℕ → Step → Type 0
 Found max at bytes Unfinished = length bytes < max + 10
 Found max at bytes Skips = is_start (slice_index bytes 0) ≡ false
 Found max at bytes Fails = (8 ≤ length bytes) × (parsed (take 8 bytes) ≡ Err Check)
-Found max at bytes (Announces h n) = (8 ≤ length bytes) × (parsed (take 8 bytes) ≡ Ok h) × (count_of h ≡ Some n) × (max < n) × (n ≤ MAX_COUNT)
-Found max at bytes (Gives item n) = (8 + n ≤ item_length item) × (item_length item ≤ length bytes) × (item_length item ≡ candidate_length (parsed (take 8 bytes))) × Lends item n bytes × (item_offset item ≡ at) × (n ≤ max)
+Found max at bytes (Announces h n) =
+    (8 ≤ length bytes) × (parsed (take 8 bytes) ≡ Ok h) × (count_of h ≡ Some n) × (max < n)
+    × (n ≤ MAX_COUNT)
+Found max at bytes (Gives item n) =
+    (8 + n ≤ item_length item) × (item_length item ≤ length bytes)
+    × (item_length item ≡ candidate_length (parsed (take 8 bytes))) × Lends item n bytes
+    × (item_offset item ≡ at) × (n ≤ max)

@@ -13,13 +13,15 @@ abbrev pub flag_bits : Flags → ℕ
 flag_bits flags = (if flags.q then 64 else 0) + (if flags.s then 128 else 0)
 
 abbrev pub counted_bytes : ℕ → CountedFields → List ℕ
-counted_bytes first h = first ∷ h.count % 256 ∷ (h.count / 256 + flag_bits h.flags) ∷ h.resp ∷ h.num ∷ h.addr ∷ []
+counted_bytes first h =
+    first ∷ h.count % 256 ∷ (h.count / 256 + flag_bits h.flags) ∷ h.resp ∷ h.num ∷ h.addr ∷ []
 
 -- the six bytes of a header
 unfoldable pub six_bytes : Header → List ℕ
 six_bytes (Data h) = counted_bytes DATA_START h
 six_bytes (Maint h) = counted_bytes MAINT_START h
-six_bytes (Control h) = CONTROL_START ∷ type_code h.kind ∷ (h.sub + flag_bits h.flags) ∷ h.resp ∷ h.num ∷ h.addr ∷ []
+six_bytes (Control h) =
+    CONTROL_START ∷ type_code h.kind ∷ (h.sub + flag_bits h.flags) ∷ h.resp ∷ h.num ∷ h.addr ∷ []
 
 -- the six bytes of a header and their check
 abbrev pub eight_bytes : Header → List ℕ
@@ -35,7 +37,8 @@ after_header (Control h) data_bytes = []
 unfoldable pub wire : Header → List ℕ → List ℕ
 wire h data_bytes = eight_bytes h ++ after_header h data_bytes
 
--- a header and data that make a frame: COUNT is the length of the data, and a control header has none
+-- a header and data that make a frame: COUNT is the length of the data, and a control header has
+-- none
 abbrev pub IsFrame : Header → List ℕ → Type 0
 IsFrame (Data h) data_bytes = h.count ≡ length data_bytes
 IsFrame (Maint h) data_bytes = h.count ≡ length data_bytes

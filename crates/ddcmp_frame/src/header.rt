@@ -44,11 +44,25 @@ impl Model for Short {
 
     ghost Value = { ShortFields };
 
-    ghost view = { λ h. record { kind = h.kind; sub = h.sub; flags = h.flags; resp = h.resp; num = h.num; addr = h.addr } };
+    ghost view = { λ h. record {
+      kind = h.kind;
+      sub = h.sub;
+      flags = h.flags;
+      resp = h.resp;
+      num = h.num;
+      addr = h.addr;
+    } };
 
     ghost invariant = { λ h. h.sub < 64 };
 
-    ghost inverse = { λ h. record { kind = h.kind; sub = h.sub; flags = h.flags; resp = h.resp; num = h.num; addr = h.addr } };
+    ghost inverse = { λ h. record {
+      kind = h.kind;
+      sub = h.sub;
+      flags = h.flags;
+      resp = h.resp;
+      num = h.num;
+      addr = h.addr;
+    } };
 }
 
 impl Short {
@@ -62,7 +76,15 @@ impl Short {
         addr: u8,
     ) -> Option<Self>
         ensures valid { IsSome result ↔ (sub < 64) }
-        ensures value { IfSome result (λ h. h ≡ record { kind = kind; sub = sub; flags = flags; resp = resp; num = num; addr = addr }) }
+        ensures value { IfSome result (λ h. h
+            ≡ record {
+              kind = kind;
+              sub = sub;
+              flags = flags;
+              resp = resp;
+              num = num;
+              addr = addr;
+            }) }
     {
         if sub < 64 {
             Some(Short {
@@ -97,18 +119,31 @@ impl Model for Counted {
 
     ghost Value = { CountedFields };
 
-    ghost view = { λ h. record { count = h.count; flags = h.flags; resp = h.resp; num = h.num; addr = h.addr } };
+    ghost view = { λ h. record {
+      count = h.count;
+      flags = h.flags;
+      resp = h.resp;
+      num = h.num;
+      addr = h.addr;
+    } };
 
     ghost invariant = { λ h. (0 < h.count) × (h.count ≤ MAX_COUNT) };
 
-    ghost inverse = { λ h. record { count = h.count; flags = h.flags; resp = h.resp; num = h.num; addr = h.addr } };
+    ghost inverse = { λ h. record {
+      count = h.count;
+      flags = h.flags;
+      resp = h.resp;
+      num = h.num;
+      addr = h.addr;
+    } };
 }
 
 impl Counted {
     /// The fields in this order; None where `count` is 0 or above `MAX_COUNT`.
     pub fn new(count: u16, flags: Flags, resp: u8, num: u8, addr: u8) -> Option<Self>
         ensures valid { IsSome result ↔ ((0 < count) × (count ≤ MAX_COUNT)) }
-        ensures value { IfSome result (λ h. h ≡ record { count = count; flags = flags; resp = resp; num = num; addr = addr }) }
+        ensures value { IfSome result (λ h. h
+            ≡ record { count = count; flags = flags; resp = resp; num = num; addr = addr }) }
     {
         if 0 < count && count <= MAX_COUNT {
             Some(Counted {
@@ -219,14 +254,20 @@ impl Header {
     pub fn parse(bytes: &[u8; 8]) -> Result<Header, HeaderFault>
         // A header and its check are read as this header, and nothing else is read as one.
         ensures found { IfOk result (λ h. Spells h (take 6 bytes.now) × HasCheck bytes.now) }
-        ensures only { (h : HeaderValue) → Spells h (take 6 bytes.now) → HasCheck bytes.now → result ≡ Ok h }
+        ensures only { (h : HeaderValue) → Spells h (take 6 bytes.now) → HasCheck bytes.now
+            → result ≡ Ok h }
         // Which fault it is.
-        ensures not_a_start { (result ≡ Err HeaderFault.NotAStart) ↔ (is_start_byte (slice_index bytes.now 0) ≡ false) }
-        ensures check { (result ≡ Err HeaderFault.Check) ↔ ((is_start_byte (slice_index bytes.now 0) ≡ true) × (¬ HasCheck bytes.now)) }
+        ensures not_a_start { (result ≡ Err HeaderFault.NotAStart)
+            ↔ (is_start_byte (slice_index bytes.now 0) ≡ false) }
+        ensures check { (result ≡ Err HeaderFault.Check)
+            ↔ ((is_start_byte (slice_index bytes.now 0) ≡ true) × (¬ HasCheck bytes.now)) }
         ensures bad_type { (c : ℕ) → (result ≡ Err (HeaderFault.BadType c))
-            ↔ ((slice_index bytes.now 0 ≡ CONTROL_START) × HasCheck bytes.now × (slice_index bytes.now 1 ≡ c) × IsNoType c) }
+            ↔ ((slice_index bytes.now 0 ≡ CONTROL_START) × HasCheck bytes.now
+            × (slice_index bytes.now 1 ≡ c) × IsNoType c) }
         ensures count_zero { (result ≡ Err HeaderFault.CountZero)
-            ↔ ((is_start_byte (slice_index bytes.now 0) ≡ true) × (slice_index bytes.now 0 ≢ CONTROL_START) × HasCheck bytes.now × (count_field bytes.now ≡ 0)) }
+            ↔ ((is_start_byte (slice_index bytes.now 0) ≡ true)
+            × (slice_index bytes.now 0 ≢ CONTROL_START) × HasCheck bytes.now
+            × (count_field bytes.now ≡ 0)) }
         ensures exact { result ≡ parsed bytes.now }
     {
         Header::parse_exactly(bytes)
@@ -260,7 +301,8 @@ impl Header {
         ensures spelled { Spells self.now (take 6 result) }
         ensures check { HasCheck result }
         ensures read { parsed result ≡ Ok self.now }
-        ensures only { (bytes : List ℕ) → length bytes ≡ 8 → IsBytes bytes → parsed bytes ≡ Ok self.now → result ≡ bytes }
+        ensures only { (bytes : List ℕ) → length bytes ≡ 8 → IsBytes bytes → parsed bytes
+            ≡ Ok self.now → result ≡ bytes }
         ensures exact { result ≡ eight_bytes self.now }
     {
         self.write_exactly()

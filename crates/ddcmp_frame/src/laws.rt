@@ -23,9 +23,11 @@ pub fn items_of_nothing()
 /// A text that goes on is read on from where its reading ended: what was given stays.
 pub fn items_of_longer()
     ensures items { (max : ℕ) (text more_text : List ℕ)
-        → items max (text ++ more_text) ≡ items max text ++ (read max (with_more (ending max text) more_text)).items }
+        → items max (text ++ more_text) ≡ items max text
+        ++ (read max (with_more (ending max text) more_text)).items }
     ensures ending { (max : ℕ) (text more_text : List ℕ)
-        → ending max (text ++ more_text) ≡ (read max (with_more (ending max text) more_text)).place }
+        → ending max (text ++ more_text)
+        ≡ (read max (with_more (ending max text) more_text)).place }
 {}
 
 /// The table of reading, row by row: what a text gives that begins at an offset, and where reading
@@ -41,36 +43,41 @@ pub fn reading_table()
         → is_start (slice_index t 0) ≡ true → length t < 8
         → read max (place_untold o lost t) ≡ outcome_at_end (place_untold o lost t) }
     ensures failed { (max o : ℕ) (lost : Bool) (t : List ℕ)
-        → is_start (slice_index t 0) ≡ true → 8 ≤ length t → parsed (take 8 t) ≡ Err HeaderFault.Check
+        → is_start (slice_index t 0) ≡ true → 8 ≤ length t → parsed (take 8 t)
+        ≡ Err HeaderFault.Check
         → read max (place_untold o lost t) ≡ outcome_after
-            (if lost then [] else (HeaderCheck o, []) ∷ []) (read max (place_untold (o + 1) true (drop 1 t))) }
+        (if lost then []
+        else (HeaderCheck o, []) ∷ []) (read max (place_untold (o + 1) true (drop 1 t))) }
     ensures bad_type { (max o code : ℕ) (lost : Bool) (t : List ℕ)
         → is_start (slice_index t 0) ≡ true → 8 ≤ length t
         → parsed (take 8 t) ≡ Err (HeaderFault.BadType code)
         → read max (place_untold o lost t) ≡ outcome_after
-            ((Format o (HeaderFault.BadType code), []) ∷ []) (read max (place_untold (o + 8) false (drop 8 t))) }
+        ((Format o (HeaderFault.BadType code), []) ∷ []) (read max (place_untold
+        (o + 8) false (drop 8 t))) }
     ensures count_zero { (max o : ℕ) (lost : Bool) (t : List ℕ)
         → is_start (slice_index t 0) ≡ true → 8 ≤ length t
         → parsed (take 8 t) ≡ Err HeaderFault.CountZero
         → read max (place_untold o lost t) ≡ outcome_after
-            ((Format o HeaderFault.CountZero, []) ∷ []) (read max (place_untold (o + 8) false (drop 8 t))) }
+        ((Format o HeaderFault.CountZero, []) ∷ []) (read max (place_untold (o + 8) false
+        (drop 8 t))) }
 
     // A control header is a whole frame; another has data, and their check.
     ensures control { (max o : ℕ) (lost : Bool) (t : List ℕ) (h : HeaderValue)
         → is_start (slice_index t 0) ≡ true → 8 ≤ length t
         → parsed (take 8 t) ≡ Ok h → count_of h ≡ None
         → read max (place_untold o lost t) ≡ outcome_after
-            ((Good o h, []) ∷ []) (read max (place_untold (o + 8) false (drop 8 t))) }
+        ((Good o h, []) ∷ []) (read max (place_untold (o + 8) false (drop 8 t))) }
     ensures too_long { (max o n : ℕ) (lost : Bool) (t : List ℕ) (h : HeaderValue)
         → is_start (slice_index t 0) ≡ true → 8 ≤ length t
         → parsed (take 8 t) ≡ Ok h → count_of h ≡ Some n → max < n → n + 10 ≤ length t
         → read max (place_untold o lost t) ≡ outcome_after
-            ((TooLong o h, []) ∷ []) (read max (place_untold (o + (n + 10)) false (drop (n + 10) t))) }
+        ((TooLong o h, []) ∷ []) (read max (place_untold (o + (n + 10)) false (drop
+        (n + 10) t))) }
     ensures too_long_open { (max o n : ℕ) (lost : Bool) (t : List ℕ) (h : HeaderValue)
         → is_start (slice_index t 0) ≡ true → 8 ≤ length t
         → parsed (take 8 t) ≡ Ok h → count_of h ≡ Some n → max < n → length t < n + 10
         → read max (place_untold o lost t) ≡ outcome_after ((TooLong o h, []) ∷ [])
-            (outcome_at_end (record (place_untold o lost t) { told = true })) }
+        (outcome_at_end (record (place_untold o lost t) { told = true })) }
     ensures unfinished { (max o n : ℕ) (lost : Bool) (t : List ℕ) (h : HeaderValue)
         → is_start (slice_index t 0) ≡ true → 8 ≤ length t
         → parsed (take 8 t) ≡ Ok h → count_of h ≡ Some n → n ≤ max → length t < n + 10
@@ -80,13 +87,13 @@ pub fn reading_table()
         → parsed (take 8 t) ≡ Ok h → count_of h ≡ Some n → n ≤ max → n + 10 ≤ length t
         → is_data_right n t ≡ true
         → read max (place_untold o lost t) ≡ outcome_after ((Good o h, data_after_header n t) ∷ [])
-            (read max (place_untold (o + (n + 10)) false (drop (n + 10) t))) }
+        (read max (place_untold (o + (n + 10)) false (drop (n + 10) t))) }
     ensures damaged { (max o n : ℕ) (lost : Bool) (t : List ℕ) (h : HeaderValue)
         → is_start (slice_index t 0) ≡ true → 8 ≤ length t
         → parsed (take 8 t) ≡ Ok h → count_of h ≡ Some n → n ≤ max → n + 10 ≤ length t
         → is_data_right n t ≡ false
         → read max (place_untold o lost t) ≡ outcome_after ((DataCheck o h, []) ∷ [])
-            (read max (place_untold (o + (n + 10)) false (drop (n + 10) t))) }
+        (read max (place_untold (o + (n + 10)) false (drop (n + 10) t))) }
 {}
 
 /// What eight bytes are parsed as is what the spelling of headers says that they are.
@@ -98,12 +105,14 @@ pub fn parsed_is_the_spelling()
 /// The good frames of a text that goes on only grow at their end.
 pub fn good_frames_of_longer()
     ensures { (max : ℕ) (text more_text : List ℕ)
-        → good_frames max (text ++ more_text) ≡ good_frames max text ++ good_frames_in (read max (with_more (ending max text) more_text)).items }
+        → good_frames max (text ++ more_text) ≡ good_frames max text
+        ++ good_frames_in (read max (with_more (ending max text) more_text)).items }
 {}
 
 /// The place where reading ends counts the bytes that were read.
 pub fn ending_counts()
-    ensures { (max : ℕ) (text : List ℕ) → (ending max text).offset + length (ending max text).rest ≡ length text }
+    ensures { (max : ℕ) (text : List ℕ) → (ending max text).offset + length (ending max text).rest
+        ≡ length text }
 {}
 
 /// Where nothing is open, fill and a whole frame are one good item and leave nothing open, whether
@@ -111,7 +120,8 @@ pub fn ending_counts()
 pub fn whole_frame()
     ensures item { (max fill : ℕ) (text message : List ℕ) (h : HeaderValue)
         → open_at_end max text ≡ 0 → IsInRange h → IsFrame h message → length message ≤ max
-        → items max (text ++ (replicate fill SYN ++ wire h message)) ≡ items max text ++ (Good (length text + fill) h, message) ∷ [] }
+        → items max (text ++ (replicate fill SYN ++ wire h message)) ≡ items max text
+        ++ (Good (length text + fill) h, message) ∷ [] }
     ensures closed { (max fill : ℕ) (text message : List ℕ) (h : HeaderValue)
         → open_at_end max text ≡ 0 → IsInRange h → IsFrame h message → length message ≤ max
         → open_at_end max (text ++ (replicate fill SYN ++ wire h message)) ≡ 0 }
@@ -120,11 +130,13 @@ pub fn whole_frame()
 /// A header has one spelling, its six bytes, and no six bytes spell two headers.
 pub fn spellings()
     ensures spelled { (h : HeaderValue) → IsInRange h → Spells h (six_bytes h) }
-    ensures one { (h : HeaderValue) (bytes : List ℕ) → IsBytes bytes → Spells h bytes → bytes ≡ six_bytes h }
+    ensures one { (h : HeaderValue) (bytes : List ℕ) → IsBytes bytes → Spells h bytes → bytes
+        ≡ six_bytes h }
     ensures same { (g h : HeaderValue) (bytes : List ℕ) → Spells g bytes → Spells h bytes → g ≡ h }
 {}
 
 /// The number of bytes of a frame on the line.
 pub fn wire_length()
-    ensures { (h : HeaderValue) (message : List ℕ) → IsFrame h message → length (wire h message) ≡ frame_length h }
+    ensures { (h : HeaderValue) (message : List ℕ) → IsFrame h message → length (wire h message)
+        ≡ frame_length h }
 {}

@@ -45,7 +45,16 @@ impl Model for Reader {
 
     ghost Value = { ReaderView };
 
-    ghost view = { λ r. record { max = r.max; offset = r.offset; lost = r.lost; bytes = (if r.finished then [] else r.buffer.items); skipped = r.skipped; left = r.left; lent = take r.lent (drop 8 r.buffer.items) } };
+    ghost view = { λ r. record {
+      max = r.max;
+      offset = r.offset;
+      lost = r.lost;
+      bytes = (if r.finished then []
+          else r.buffer.items);
+      skipped = r.skipped;
+      left = r.left;
+      lent = take r.lent (drop 8 r.buffer.items);
+    } };
 
     ghost use Rattle.ddcmp_frame.specs.Room.{HasRoom};
 
@@ -104,13 +113,16 @@ impl Reader {
         ensures counted { self.new.offset ≡ self.old.offset + 1 }
         ensures max { self.new.max ≡ self.old.max }
         // The reader stands for the bytes so far, and has given their items.
-        ensures stands { (text : List ℕ) → StandsFor self.old text → StandsFor self.new (text ++ byte ∷ []) }
+        ensures stands { (text : List ℕ) → StandsFor self.old text
+            → StandsFor self.new (text ++ byte ∷ []) }
         ensures item { (text : List ℕ) → StandsFor self.old text
-            → items self.old.max (text ++ byte ∷ []) ≡ items self.old.max text ++ items_given result self.new.lent }
+            → items self.old.max (text ++ byte ∷ []) ≡ items self.old.max text
+            ++ items_given result self.new.lent }
         // Beside a good item its data are lent, which with the header are the last bytes.
         ensures lent { LentBeside result self.new.lent }
         ensures within { length self.new.lent ≤ self.old.max }
-        ensures wire { (text : List ℕ) → StandsFor self.old text → EndsWith result self.new.lent (text ++ byte ∷ []) }
+        ensures wire { (text : List ℕ) → StandsFor self.old text
+            → EndsWith result self.new.lent (text ++ byte ∷ []) }
         // A frame after discarded bytes is found, and these cost at most one item.
         ensures resynchronises { (text discarded message : List ℕ) (h : HeaderValue)
             → StandsFor self.old text → text ++ byte ∷ [] ≡ discarded ++ wire h message
@@ -128,7 +140,8 @@ impl Reader {
         ensures max { self.new.max ≡ self.old.max }
         ensures lent { LentBeside result self.new.lent }
         ensures within { length self.new.lent ≤ self.old.max }
-        ensures grows { (text : List ℕ) → StandsFor self.old text → Grows self.old byte result self.new text }
+        ensures grows { (text : List ℕ) → StandsFor self.old text
+            → Grows self.old byte result self.new text }
     {
         self.offset += 1;
         self.lent = 0;
@@ -194,7 +207,8 @@ impl Reader {
     /// The number of bytes from the start byte of the unfinished frame on.
     pub fn open(&self) -> usize
         ensures value { result ≡ open_of self.now }
-        ensures text { (text : List ℕ) → StandsFor self.now text → result ≡ open_at_end self.now.max text }
+        ensures text { (text : List ℕ) → StandsFor self.now text → result
+            ≡ open_at_end self.now.max text }
     {
         self.kept() + self.skipped
     }
@@ -202,7 +216,8 @@ impl Reader {
     /// The number of bytes of the unfinished frame that are kept.
     pub fn kept(&self) -> usize
         ensures value { result ≡ kept_of self.now }
-        ensures text { (text : List ℕ) → StandsFor self.now text → result ≡ kept_at_end self.now.max text }
+        ensures text { (text : List ℕ) → StandsFor self.now text → result
+            ≡ kept_at_end self.now.max text }
         ensures within { result ≤ self.now.max + 10 }
     {
         if self.finished { 0 } else { self.buffer.len() }
@@ -268,7 +283,8 @@ fn resume(buffer: &mut Vec<u8>)
 
 /// The row that fits at the front of the bytes, which begin at the offset `at`.
 fn row(bytes: &[u8], max: u16, at: u64) -> Step
-    ensures row { (lost : Bool) → row_at max (place_untold at lost bytes.now) ≡ row_of_step result (place_untold at lost bytes.now) }
+    ensures row { (lost : Bool) → row_at max (place_untold at lost bytes.now)
+        ≡ row_of_step result (place_untold at lost bytes.now) }
     ensures found { Found max at bytes.now result }
 {
     if bytes.is_empty() {
@@ -295,7 +311,9 @@ fn row(bytes: &[u8], max: u16, at: u64) -> Step
 fn row_after_header(bytes: &[u8], max: u16, at: u64, header: Header) -> Step
     requires front { 8 ≤ length bytes.now }
     requires header { parsed (take 8 bytes.now) ≡ Ok header }
-    ensures row { (lost : Bool) → by_count max (place_untold at lost bytes.now) header (count_in header) ≡ row_of_step result (place_untold at lost bytes.now) }
+    ensures row { (lost : Bool)
+        → by_count max (place_untold at lost bytes.now) header (count_in header)
+        ≡ row_of_step result (place_untold at lost bytes.now) }
     ensures found { Found max at bytes.now result }
 {
     let Some(count) = count_of(&header) else {

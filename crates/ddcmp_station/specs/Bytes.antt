@@ -37,7 +37,8 @@ after_items (given ∷ rest) k = after_items rest (after_item given k)
 
 unfoldable pub notices_of_items : List ReadItem → CoreView → List Notice
 notices_of_items [] k = []
-notices_of_items (given ∷ rest) k = notices_of_item given k ++ notices_of_items rest (after_item given k)
+notices_of_items (given ∷ rest) k =
+    notices_of_item given k ++ notices_of_items rest (after_item given k)
 
 -- the items that a piece adds to those of the text before it
 abbrev pub items_added : ℕ → List ℕ → List ℕ → List ReadItem

@@ -15,8 +15,8 @@ abbrev pub first_refusal : Config → Option ConfigRefusal
 first_refusal config =
     if is_size MAX_WINDOW config.window
     then (if is_size MAX_INBOX config.inbox
-        then (if is_size MAX_COUNT config.max
-            then (if nat_le config.syn MAX_SYN then None else Some Syn)
-            else Some Max)
-        else Some Inbox)
+    then (if is_size MAX_COUNT config.max
+    then (if nat_le config.syn MAX_SYN then None else Some Syn)
+    else Some Max)
+    else Some Inbox)
     else Some Window

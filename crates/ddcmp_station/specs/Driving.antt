@@ -59,20 +59,26 @@ is_due now (Some moment) = nat_le moment now
 
 -- the timer has run out
 abbrev pub core_after_expire : CoreView → CoreView
-core_after_expire k = record k { station = after_expire k.station; counters = counters_after_expire k.station k.counters }
+core_after_expire k =
+    record k {
+      station = after_expire k.station;
+      counters = counters_after_expire k.station k.counters;
+    }
 
 abbrev pub core_after_take_arm : CoreView → CoreView
 core_after_take_arm k = record k { station = after_take_arm k.station }
 
 -- where the timer is on and its deadline has come, it runs out
 abbrev pub core_at_deadline : ℕ → Option ℕ → CoreView → CoreView
-core_at_deadline now deadline k = if is_on k.station.timer && is_due now deadline then core_after_expire k else k
+core_at_deadline now deadline k =
+    if is_on k.station.timer && is_due now deadline then core_after_expire k else k
 
 -- ---- the message of the user, the frame, and the mail
 
 abbrev pub core_after_message : List ℕ → CoreView → CoreView
 core_after_message message k = record k {
-  station = if may_send k.limits k.station message then after_accept k.station message else k.station;
+  station = if may_send k.limits k.station message then after_accept k.station message
+      else k.station;
 }
 
 abbrev pub frame_bytes : ℕ → Option Frame → List ℕ
@@ -90,17 +96,21 @@ core_after_halt k = record k { station = after_halt k.station }
 
 -- up to its frame: the timer, then the message of the user
 abbrev pub before_offer : ℕ → DriveTurn → Driving → CoreView
-before_offer milliseconds turn d = core_at_deadline turn.now (deadline_at milliseconds turn.now d.core.station.timer d.deadline) (core_after_take_arm d.core)
+before_offer milliseconds turn d =
+    core_at_deadline turn.now (deadline_at milliseconds turn.now d.core.station.timer d.deadline)
+    (core_after_take_arm d.core)
 
 abbrev pub before_frame : ℕ → DriveTurn → Driving → CoreView
-before_frame milliseconds turn d = core_after_message turn.offered (before_offer milliseconds turn d)
+before_frame milliseconds turn d =
+    core_after_message turn.offered (before_offer milliseconds turn d)
 
 -- up to its read: the frame is written
 abbrev pub before_read : ℕ → ℕ → DriveTurn → Driving → Driving
 before_read milliseconds syn turn d = record d {
   core = after_poll (before_frame milliseconds turn d);
   deadline = deadline_at milliseconds turn.now d.core.station.timer d.deadline;
-  written = d.written ++ frame_bytes syn (next_frame (next (before_frame milliseconds turn d).station));
+  written = d.written
+      ++ frame_bytes syn (next_frame (next (before_frame milliseconds turn d).station));
   seen = d.seen ++ calls_of_offer (before_offer milliseconds turn d) turn.offered;
 }
 
@@ -109,7 +119,8 @@ abbrev pub after_read : List ℕ → Driving → Driving
 after_read came d = record d {
   core = core_after_mail (after_piece d.text came d.core);
   text = d.text ++ came;
-  seen = d.seen ++ (calls_of_notices (notices_of_piece d.text came d.core) ++ calls_of_mail (after_piece d.text came d.core));
+  seen = d.seen ++ (calls_of_notices (notices_of_piece d.text came d.core)
+      ++ calls_of_mail (after_piece d.text came d.core));
 }
 
 abbrev pub after_turn : ℕ → ℕ → DriveTurn → Driving → Driving
@@ -118,7 +129,8 @@ after_turn milliseconds syn turn d = after_read turn.came (before_read milliseco
 -- turns in their order
 unfoldable pub after_turns : ℕ → ℕ → List DriveTurn → Driving → Driving
 after_turns milliseconds syn [] d = d
-after_turns milliseconds syn (turn ∷ rest) d = after_turns milliseconds syn rest (after_turn milliseconds syn turn d)
+after_turns milliseconds syn (turn ∷ rest) d =
+    after_turns milliseconds syn rest (after_turn milliseconds syn turn d)
 
 -- all that the reads gave
 abbrev pub bytes_read : List DriveTurn → List ℕ
@@ -142,16 +154,17 @@ last_read_answer Write = []
 last_read_answer Ended = Bytes 0 ∷ []
 last_read_answer Memory = []
 
--- A read gives at most 256 bytes, and where the source was never idle since its making at least one:
--- at the end of its input `drive` ends.
+-- A read gives at most 256 bytes, and where the source was never idle since its making at least
+-- one: at the end of its input `drive` ends.
 unfoldable pub ReadsInTurns : Worst → List DriveTurn → Type 0
 ReadsInTurns worst [] = Unit {0}
-ReadsInTurns worst (turn ∷ rest) = (length turn.came ≤ 256) × (worst ≡ Fine → 0 < length turn.came) × ReadsInTurns worst rest
+ReadsInTurns worst (turn ∷ rest) =
+    (length turn.came ≤ 256) × (worst ≡ Fine → 0 < length turn.came) × ReadsInTurns worst rest
 
 -- ---- what drive did
 
--- What a source has left and what a sink holds, before and after; and the worst answer of the source
--- after.
+-- What a source has left and what a sink holds, before and after; and the worst answer of the
+-- source after.
 pub record Devices : Type 0 where
   pub left : Option (List ℕ)
   pub left_after : Option (List ℕ)
@@ -167,7 +180,9 @@ pub record Devices : Type 0 where
 
 -- These turns were taken: the source lost the bytes that came, the sink holds the bytes written,
 -- and the station is the driven one, whichever text it stands for.
-pub record TakesTurns (milliseconds : ℕ) (turns : List DriveTurn) (written : List ℕ) (seen : List UserCall) (deadline : Option ℕ) (old new : StationView) (devices : Devices) : Type 0 where
+pub record TakesTurns (milliseconds : ℕ) (turns : List DriveTurn) (written : List ℕ)
+    (seen : List UserCall) (deadline : Option ℕ) (old new : StationView)
+    (devices : Devices) : Type 0 where
   pub reads : ReadsInTurns devices.worst turns
   pub consumed : Consumes devices.left devices.left_after (bytes_read turns)
   pub appended : Appends devices.sink devices.sink_after written
@@ -177,32 +192,46 @@ pub record TakesTurns (milliseconds : ℕ) (turns : List DriveTurn) (written : L
   pub syn : new.syn ≡ old.syn
   pub limits : new.core.limits ≡ old.core.limits
   pub offset : new.line.offset ≡ old.line.offset + length (bytes_read turns)
-  pub stands : (text : List ℕ) → StandsFor old.line text → StandsFor new.line (text ++ bytes_read turns)
+  pub stands : (text : List ℕ) → StandsFor old.line text
+      → StandsFor new.line (text ++ bytes_read turns)
   pub driven_is : (text : List ℕ) → StandsFor old.line text
       → after_turns milliseconds old.syn turns (driving_from old.core text)
-      ≡ record { core = new.core; text = text ++ bytes_read turns; deadline = deadline; written = written; seen = seen }
+      ≡ record {
+        core = new.core;
+        text = text ++ bytes_read turns;
+        deadline = deadline;
+        written = written;
+        seen = seen;
+      }
 
 -- These turns were taken and one more up to its read, whose frame is `frame`, of which the sink
 -- has got `sent`. Then the station was halted.
-pub record BreaksOff (milliseconds : ℕ) (turns : List DriveTurn) (last : DriveTurn) (written frame sent : List ℕ) (seen : List UserCall) (old new : StationView) (devices : Devices) (fault : LineFault) : Type 0 where
+pub record BreaksOff (milliseconds : ℕ) (turns : List DriveTurn) (last : DriveTurn)
+    (written frame sent : List ℕ) (seen : List UserCall) (old new : StationView)
+    (devices : Devices) (fault : LineFault) : Type 0 where
   pub reads : ReadsInTurns devices.worst turns
   pub consumed : Consumes devices.left devices.left_after (bytes_read turns)
   pub appended : Appends devices.sink devices.sink_after (written ++ sent)
   pub clocked : Appends devices.told devices.told_after (moments turns ++ last.now ∷ [])
-  pub answered : Logs devices.answers devices.answers_after (read_answers turns ++ last_read_answer fault)
+  pub answered : Logs devices.answers devices.answers_after
+      (read_answers turns ++ last_read_answer fault)
   pub shown : Logs devices.seen devices.seen_after seen
   pub syn : new.syn ≡ old.syn
   pub limits : new.core.limits ≡ old.core.limits
   pub offset : new.line.offset ≡ old.line.offset + length (bytes_read turns)
-  pub stands : (text : List ℕ) → StandsFor old.line text → StandsFor new.line (text ++ bytes_read turns)
+  pub stands : (text : List ℕ) → StandsFor old.line text
+      → StandsFor new.line (text ++ bytes_read turns)
   pub core : (text : List ℕ) → StandsFor old.line text
-      → new.core ≡ core_after_halt (before_read milliseconds old.syn last (after_turns milliseconds old.syn turns (driving_from old.core text))).core
+      → new.core ≡ core_after_halt (before_read milliseconds old.syn last
+      (after_turns milliseconds old.syn turns (driving_from old.core text))).core
   pub written_is : (text : List ℕ) → StandsFor old.line text
       → (after_turns milliseconds old.syn turns (driving_from old.core text)).written ≡ written
   pub frame_is : (text : List ℕ) → StandsFor old.line text
-      → (before_read milliseconds old.syn last (after_turns milliseconds old.syn turns (driving_from old.core text))).written ≡ written ++ frame
+      → (before_read milliseconds old.syn last
+      (after_turns milliseconds old.syn turns (driving_from old.core text))).written ≡ written ++ frame
   pub seen_is : (text : List ℕ) → StandsFor old.line text
-      → (before_read milliseconds old.syn last (after_turns milliseconds old.syn turns (driving_from old.core text))).seen ≡ seen
+      → (before_read milliseconds old.syn last
+      (after_turns milliseconds old.syn turns (driving_from old.core text))).seen ≡ seen
 
 -- how much of its last frame went out: all of it before a read, else some of it
 abbrev pub IsSentPart : LineFault → List ℕ → List ℕ → Type 0
@@ -213,16 +242,21 @@ IsSentPart Memory sent frame = ⊥
 
 abbrev pub Ends : ℕ → ℕ → StationView → StationView → Devices → LineFault → Type 0
 Ends milliseconds count old new devices fault =
-    (turns : List DriveTurn) × (last : DriveTurn) × (written frame sent : List ℕ) × (seen : List UserCall)
-    × (length turns < count) × IsSentPart fault sent frame × BreaksOff milliseconds turns last written frame sent seen old new devices fault
+    (turns : List DriveTurn) × (last : DriveTurn) × (written frame sent : List ℕ)
+    × (seen : List UserCall)
+    × (length turns < count) × IsSentPart fault sent frame
+    × BreaksOff milliseconds turns last written frame sent seen old new devices fault
 
 -- What a call of `drive` for `count` turns did. Of refused memory its clause `memory` speaks.
 abbrev pub Drives : ℕ → ℕ → StationView → StationView → Devices → Result Driven LineFault → Type 0
 Drives milliseconds count old new devices (Ok told) =
     (turns : List DriveTurn) × (written : List ℕ) × (seen : List UserCall) × (deadline : Option ℕ)
-    × (length turns ≡ count) × (told ≡ record { turns = count; read = length (bytes_read turns); written = length written })
+    × (length turns ≡ count)
+    × (told ≡ record { turns = count; read = length (bytes_read turns); written = length written })
     × TakesTurns milliseconds turns written seen deadline old new devices
 Drives milliseconds count old new devices (Err Read) = Ends milliseconds count old new devices Read
-Drives milliseconds count old new devices (Err Write) = Ends milliseconds count old new devices Write
-Drives milliseconds count old new devices (Err Ended) = Ends milliseconds count old new devices Ended
+Drives milliseconds count old new devices (Err Write) =
+    Ends milliseconds count old new devices Write
+Drives milliseconds count old new devices (Err Ended) =
+    Ends milliseconds count old new devices Ended
 Drives milliseconds count old new devices (Err Memory) = Unit {0}

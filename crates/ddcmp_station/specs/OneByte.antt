@@ -8,7 +8,8 @@ use Rattle.ddcmp_station.specs.Station.{StationView}
 
 -- What one byte of the line does: the items that it completes, for every text that the reader
 -- stands for, and what they do to the station.
-pub record TakesByte (old : StationView) (byte : ℕ) (new : StationView) (notice : Option Notice) : Type 0 where
+pub record TakesByte (old : StationView) (byte : ℕ) (new : StationView)
+    (notice : Option Notice) : Type 0 where
   pub given : List ReadItem
   pub stands : (text : List ℕ) → StandsFor old.line text → StandsFor new.line (text ++ byte ∷ [])
   pub items_are : (text : List ℕ) → StandsFor old.line text

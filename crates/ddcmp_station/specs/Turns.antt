@@ -27,7 +27,8 @@ read_answers_of (Ok n) = read_answer n ∷ []
 read_answers_of (Err fault) = last_read_answer fault
 
 -- a turn was taken
-pub record TakesTurn (milliseconds : ℕ) (old new : StationView) (before after : Tally) (worst : Worst) (devices : Devices) : Type 0 where
+pub record TakesTurn (milliseconds : ℕ) (old new : StationView) (before after : Tally)
+    (worst : Worst) (devices : Devices) : Type 0 where
   pub turn : DriveTurn
   pub frame : List ℕ
   pub short : length turn.came ≤ 256
@@ -45,11 +46,24 @@ pub record TakesTurn (milliseconds : ℕ) (old new : StationView) (before after 
   pub offset : new.line.offset ≡ old.line.offset + length turn.came
   pub stands : (text : List ℕ) → StandsFor old.line text → StandsFor new.line (text ++ turn.came)
   pub turned_is : (text written : List ℕ) (seen : List UserCall) → StandsFor old.line text
-      → after_turn milliseconds old.syn turn (record { core = old.core; text = text; deadline = before.deadline; written = written; seen = seen })
-      ≡ record { core = new.core; text = text ++ turn.came; deadline = after.deadline; written = written ++ frame; seen = seen ++ sights }
+      → after_turn milliseconds old.syn turn (record {
+        core = old.core;
+        text = text;
+        deadline = before.deadline;
+        written = written;
+        seen = seen;
+      })
+      ≡ record {
+        core = new.core;
+        text = text ++ turn.came;
+        deadline = after.deadline;
+        written = written ++ frame;
+        seen = seen ++ sights;
+      }
 
 -- a turn was begun and ended at a fault
-pub record BreaksTurn (milliseconds : ℕ) (old new : StationView) (before : Tally) (worst : Worst) (devices : Devices) (fault : LineFault) : Type 0 where
+pub record BreaksTurn (milliseconds : ℕ) (old new : StationView) (before : Tally) (worst : Worst)
+    (devices : Devices) (fault : LineFault) : Type 0 where
   pub last : DriveTurn
   pub frame : List ℕ
   pub sent : List ℕ
@@ -66,16 +80,32 @@ pub record BreaksTurn (milliseconds : ℕ) (old new : StationView) (before : Tal
   pub line : new.line ≡ old.line
   pub deadline : Option ℕ
   pub before_is : (text written : List ℕ) (seen : List UserCall)
-      → before_read milliseconds old.syn last (record { core = old.core; text = text; deadline = before.deadline; written = written; seen = seen })
-      ≡ record { core = new.core; text = text; deadline = deadline; written = written ++ frame; seen = seen ++ sights }
+      → before_read milliseconds old.syn last (record {
+        core = old.core;
+        text = text;
+        deadline = before.deadline;
+        written = written;
+        seen = seen;
+      })
+      ≡ record {
+        core = new.core;
+        text = text;
+        deadline = deadline;
+        written = written ++ frame;
+        seen = seen ++ sights;
+      }
 
 -- either of the two; `worst` is the worst answer of the source before
-abbrev pub TurnEnds : ℕ → StationView → StationView → Tally → Tally → Worst → Devices → Result (Unit {0}) LineFault → Type 0
-TurnEnds milliseconds old new before after worst devices (Ok u) = TakesTurn milliseconds old new before after worst devices
-TurnEnds milliseconds old new before after worst devices (Err fault) = BreaksTurn milliseconds old new before worst devices fault
+abbrev pub TurnEnds : ℕ → StationView → StationView → Tally → Tally → Worst → Devices
+    → Result (Unit {0}) LineFault → Type 0
+TurnEnds milliseconds old new before after worst devices (Ok u) =
+    TakesTurn milliseconds old new before after worst devices
+TurnEnds milliseconds old new before after worst devices (Err fault) =
+    BreaksTurn milliseconds old new before worst devices fault
 
 -- so many turns were taken, as the tally tells
-pub record TurnsSoFar (milliseconds count : ℕ) (old new : StationView) (tally : Tally) (devices : Devices) : Type 0 where
+pub record TurnsSoFar (milliseconds count : ℕ) (old new : StationView) (tally : Tally)
+    (devices : Devices) : Type 0 where
   pub turns : List DriveTurn
   pub written : List ℕ
   pub seen : List UserCall

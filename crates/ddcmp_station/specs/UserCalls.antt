@@ -30,13 +30,17 @@ abbrev pub calls_of_mail : CoreView → List UserCall
 calls_of_mail k = map Handed k.station.inbox
 
 -- the user was told the notices of a piece of the line, in their order
-abbrev pub TellsNotices : StationView → List ℕ → Option (List UserCall) → Option (List UserCall) → Type 0
+abbrev pub TellsNotices : StationView → List ℕ → Option (List UserCall) → Option (List UserCall)
+    → Type 0
 TellsNotices old piece before after =
     (notices : List Notice) × Logs before after (calls_of_notices notices)
     × ((text : List ℕ) → StandsFor old.line text → notices_of_piece text piece old.core ≡ notices)
 
 -- the user was told the notices of a piece, and then handed all mail
-abbrev pub TellsPiece : StationView → List ℕ → Option (List UserCall) → Option (List UserCall) → Type 0
+abbrev pub TellsPiece : StationView → List ℕ → Option (List UserCall) → Option (List UserCall)
+    → Type 0
 TellsPiece old came before after =
     (sights : List UserCall) × Logs before after sights
-    × ((text : List ℕ) → StandsFor old.line text → calls_of_notices (notices_of_piece text came old.core) ++ calls_of_mail (after_piece text came old.core) ≡ sights)
+    × ((text : List ℕ) → StandsFor old.line text
+    → calls_of_notices (notices_of_piece text came old.core)
+    ++ calls_of_mail (after_piece text came old.core) ≡ sights)

@@ -9,9 +9,9 @@ ghost use Rattle.ddcmp_station.specs.Turns.{TurnEnds, WritesFrame, read_answers_
 ghost use Rattle.ddcmp_frame.specs.Device.{Logs};
 ghost use Rattle.ddcmp_station.specs.UserCalls.{calls_of_offer, calls_of_mail, TellsNotices, TellsPiece};
 
+use crate::config::MAX_SYN;
 use crate::station::Station;
 use crate::user::{Clock, User};
-use crate::config::MAX_SYN;
 use ddcmp_core::{MAX_COUNT, Notice, State};
 use ddcmp_frame::{Got, Sink, Source, Worst};
 use std::alloc::Global;
@@ -169,24 +169,26 @@ fn turn<R: Source, W: Sink, U: User, C: Clock>(
     requires offset { station.old.line.offset + 256 < 2 ^ 64 }
     requires read { tally.old.read + 256 < 2 ^ 64 }
     requires written { tally.old.written + MAX_COUNT + 10 + MAX_SYN < 2 ^ 64 }
-    ensures takes { TurnEnds timer_ms station.old station.new tally.old tally.new (R.state reader.old) (record {
-      left = R.left reader.old;
-      left_after = R.left reader.new;
-      worst = R.state reader.new;
-      sink = W.contents writer.old;
-      sink_after = W.contents writer.new;
-      told = C.told clock.old;
-      told_after = C.told clock.new;
-      answers = R.answers reader.old;
-      answers_after = R.answers reader.new;
-      seen = U.seen user.old;
-      seen_after = U.seen user.new;
-    }) result }
+    ensures takes { TurnEnds timer_ms station.old station.new tally.old tally.new
+        (R.state reader.old) (record {
+          left = R.left reader.old;
+          left_after = R.left reader.new;
+          worst = R.state reader.new;
+          sink = W.contents writer.old;
+          sink_after = W.contents writer.new;
+          told = C.told clock.old;
+          told_after = C.told clock.new;
+          answers = R.answers reader.old;
+          answers_after = R.answers reader.new;
+          seen = U.seen user.old;
+          seen_after = U.seen user.new;
+        }) result }
     ensures read { (result ≡ Err LineFault.Read) ↔ (R.state reader.new ≡ Worst.Failed) }
     ensures write { (result ≡ Err LineFault.Write) ↔ (W.broken writer.new ≡ true) }
     ensures ended { result ≡ Err LineFault.Ended → IsAtEnd (R.left reader.new) }
     ensures memory { result ≢ Err LineFault.Memory }
-    ensures few { OnOk result ((tally.new.read ≤ tally.old.read + 256) × (tally.new.written ≤ tally.old.written + MAX_COUNT + 10 + MAX_SYN)) }
+    ensures few { OnOk result ((tally.new.read ≤ tally.old.read + 256)
+        × (tally.new.written ≤ tally.old.written + MAX_COUNT + 10 + MAX_SYN)) }
 {
     keep_time(station, clock.now(), timer_ms, &mut tally.deadline);
     let _offered = offer_message(station, user, frame);
@@ -206,9 +208,11 @@ fn turn<R: Source, W: Sink, U: User, C: Clock>(
 /// Sets the deadline of a timer that was started, or that was on before this call, and tells the
 /// station where it has come.
 fn keep_time(station: &mut Station, now: u64, timer_ms: u32, deadline: &mut Option<u64>)
-    ensures deadline { deadline.new ≡ deadline_at timer_ms now station.old.core.station.timer deadline.old }
+    ensures deadline { deadline.new
+        ≡ deadline_at timer_ms now station.old.core.station.timer deadline.old }
     ensures station { station.new ≡ record station.old {
-      core = core_at_deadline now (deadline_at timer_ms now station.old.core.station.timer deadline.old)
+      core = core_at_deadline now
+          (deadline_at timer_ms now station.old.core.station.timer deadline.old)
           (core_after_take_arm station.old.core);
     } }
 {
@@ -230,8 +234,13 @@ fn keep_time(station: &mut Station, now: u64, timer_ms: u32, deadline: &mut Opti
 /// the front of the buffer.
 fn offer_message<U: User>(station: &mut Station, user: &mut U, buffer: &mut [u8]) -> usize
     requires { station.old.core.limits.longest ≤ length buffer.old }
-    ensures state { station.new ≡ record station.old { core = core_after_message (take result buffer.new) station.old.core } }
-    ensures seen { Logs (U.seen user.old) (U.seen user.new) (calls_of_offer station.old.core (take result buffer.new)) }
+    ensures state { station.new
+        ≡ record station.old {
+          core = core_after_message
+              (take result buffer.new) station.old.core;
+        } }
+    ensures seen { Logs (U.seen user.old) (U.seen user.new) (calls_of_offer station.old.core
+        (take result buffer.new)) }
 {
     if station.state() != State::Running || !station.room() {
         return 0;
@@ -294,11 +303,13 @@ fn receive<R: Source, U: User>(
     requires room { station.old.core.limits.longest ≤ length buffer.old }
     requires offset { station.old.line.offset + 256 < 2 ^ 64 }
     ensures most { IfOk result (λ n. n ≤ 256) }
-    ensures consumed { IfOk result (λ n. Consumes (R.left reader.old) (R.left reader.new) (take n piece.new)) }
+    ensures consumed { IfOk result (λ n. Consumes (R.left reader.old) (R.left reader.new)
+        (take n piece.new)) }
     ensures stands { (text : List ℕ) → StandsFor station.old.line text
         → IfOk result (λ n. StandsFor station.new.line (text ++ take n piece.new)) }
     ensures state { (text : List ℕ) → StandsFor station.old.line text
-        → IfOk result (λ n. station.new.core ≡ core_after_mail (after_piece text (take n piece.new) station.old.core)) }
+        → IfOk result (λ n. station.new.core
+        ≡ core_after_mail (after_piece text (take n piece.new) station.old.core)) }
     ensures offset { IfOk result (λ n. station.new.line.offset ≡ station.old.line.offset + n) }
     ensures limits { station.new.core.limits ≡ station.old.core.limits }
     ensures syn { station.new.syn ≡ station.old.syn }
@@ -306,11 +317,13 @@ fn receive<R: Source, U: User>(
     ensures nothing { OnErr result (Keeps (R.left reader.old) (R.left reader.new)) }
     ensures read { (result ≡ Err LineFault.Read) ↔ (R.state reader.new ≡ Worst.Failed) }
     ensures ended { result ≡ Err LineFault.Ended → IsAtEnd (R.left reader.new) }
-    ensures fine { R.state reader.new ≡ Worst.Fine → (R.state reader.old ≡ Worst.Fine) × IfOk result (λ n. 0 < n) }
+    ensures fine { R.state reader.new ≡ Worst.Fine → (R.state reader.old ≡ Worst.Fine)
+        × IfOk result (λ n. 0 < n) }
     ensures write { result ≢ Err LineFault.Write }
     ensures memory { result ≢ Err LineFault.Memory }
     ensures answers { Logs (R.answers reader.old) (R.answers reader.new) (read_answers_of result) }
-    ensures seen { IfOk result (λ n. TellsPiece station.old (take n piece.new) (U.seen user.old) (U.seen user.new)) }
+    ensures seen { IfOk result (λ n. TellsPiece station.old (take n piece.new) (U.seen user.old)
+        (U.seen user.new)) }
     ensures unseen { OnErr result (user.new ≡ user.old) }
 {
     let came = match reader.read(piece) {
@@ -327,7 +340,8 @@ fn receive<R: Source, U: User>(
 /// Feeds a whole piece. Each notice goes to the user.
 fn feed_all<U: User>(station: &mut Station, user: &mut U, piece: &[u8])
     requires { station.old.line.offset + length piece.now < 2 ^ 64 }
-    ensures stands { (text : List ℕ) → StandsFor station.old.line text → StandsFor station.new.line (text ++ piece.now) }
+    ensures stands { (text : List ℕ) → StandsFor station.old.line text
+        → StandsFor station.new.line (text ++ piece.now) }
     ensures state { (text : List ℕ) → StandsFor station.old.line text
         → station.new.core ≡ after_piece text piece.now station.old.core }
     ensures offset { station.new.line.offset ≡ station.old.line.offset + length piece.now }

@@ -9,10 +9,13 @@ use ddcmp_frame::laws::items_of_longer;
 /// matter.
 pub fn pieces()
     ensures limits { (text u : List ℕ) (k : CoreView) → (after_piece text u k).limits ≡ k.limits }
-    ensures none { (text : List ℕ) (k : CoreView) → (after_piece text [] k ≡ k) × (notices_of_piece text [] k ≡ []) }
-    ensures state { (text u v : List ℕ) (k : CoreView) → after_piece text (u ++ v) k ≡ after_piece (text ++ u) v (after_piece text u k) }
+    ensures none { (text : List ℕ) (k : CoreView) → (after_piece text [] k ≡ k)
+        × (notices_of_piece text [] k ≡ []) }
+    ensures state { (text u v : List ℕ) (k : CoreView) → after_piece text (u ++ v) k
+        ≡ after_piece (text ++ u) v (after_piece text u k) }
     ensures told { (text u v : List ℕ) (k : CoreView)
-        → notices_of_piece text (u ++ v) k ≡ notices_of_piece text u k ++ notices_of_piece (text ++ u) v (after_piece text u k) }
+        → notices_of_piece text (u ++ v) k ≡ notices_of_piece text u k
+        ++ notices_of_piece (text ++ u) v (after_piece text u k) }
 {
     items_of_longer();
 }

@@ -40,7 +40,8 @@ impl Model for Station {
 
     ghost view = { λ s. record { core = s.core; syn = s.syn; line = s.reader } };
 
-    ghost invariant = { λ s. (s.reader.max ≡ s.core.limits.longest) × (vec_len s.message ≡ s.core.limits.longest) × (s.syn ≤ MAX_SYN) };
+    ghost invariant = { λ s. (s.reader.max ≡ s.core.limits.longest)
+        × (vec_len s.message ≡ s.core.limits.longest) × (s.syn ≤ MAX_SYN) };
 }
 
 /// Writes SYN fill and a frame at the front of `out`, and says how many bytes they have.
@@ -49,7 +50,8 @@ fn write_line(syn: u8, header: &Header, message: &[u8], out: &mut [u8]) -> usize
     requires frame { IsFrame header.now message.now }
     requires room { syn + length (wire header.now message.now) ≤ length out.old }
     ensures length { result ≡ length (replicate syn SYN ++ wire header.now message.now) }
-    ensures written { out.new ≡ (replicate syn SYN ++ wire header.now message.now) ++ drop result out.old }
+    ensures written { out.new ≡ (replicate syn SYN ++ wire header.now message.now)
+        ++ drop result out.old }
 {
     let (fill, frame) = out.split_at_mut(syn as usize);
     fill.copy_from_slice(&FILL[..syn as usize]);
@@ -67,10 +69,12 @@ fn write_next(
     requires longest { core.old.limits.longest ≤ length message.old }
     requires room { syn + core.old.limits.longest + 10 ≤ length out.old }
     ensures state { core.new ≡ after_poll core.old }
-    ensures length { result ≡ option_map length (option_map (frame_on_line syn) (next_frame (next core.old.station))) }
+    ensures length { result
+        ≡ option_map length (option_map (frame_on_line syn) (next_frame (next core.old.station))) }
     ensures most { IfSome result (λ n. n ≤ syn + core.old.limits.longest + 10) }
     ensures within { IfSome result (λ n. n ≤ MAX_COUNT + 10 + MAX_SYN) }
-    ensures out { out.new ≡ with_front (option_map (frame_on_line syn) (next_frame (next core.old.station))) out.old }
+    ensures out { out.new
+        ≡ with_front (option_map (frame_on_line syn) (next_frame (next core.old.station))) out.old }
 {
     match core.next(message) {
         None => None,
@@ -100,8 +104,10 @@ impl Station {
         ensures stands { IfOk result (λ s. StandsFor s.line []) }
 
         // The first size that is out of range is refused; where none is, want of memory alone.
-        ensures refused { (refusal : ConfigRefusal) → first_refusal config ≡ Some refusal → result ≡ Err refusal }
-        ensures only { first_refusal config ≡ None → IsOk result ⊎ (result ≡ Err ConfigRefusal.Memory) }
+        ensures refused { (refusal : ConfigRefusal) → first_refusal config ≡ Some refusal → result
+            ≡ Err refusal }
+        ensures only { first_refusal config ≡ None → IsOk result
+            ⊎ (result ≡ Err ConfigRefusal.Memory) }
     {
         match config.first_refusal() {
             Some(refusal) => Err(refusal),
@@ -154,7 +160,8 @@ impl Station {
     pub fn start(&mut self) -> Result<u8, StartRefusal>
         ensures state { self.new ≡ record self.old {
           core = record self.old.core {
-            station = if may_start self.old.core.station then after_start self.old.core.station else self.old.core.station;
+            station = if may_start self.old.core.station then after_start self.old.core.station
+                else self.old.core.station;
           };
         } }
         ensures answer { result ≡ answer_to_start self.old.core.station }
@@ -167,7 +174,8 @@ impl Station {
     pub fn enter_maintenance(&mut self) -> Result<u8, StartRefusal>
         ensures state { self.new ≡ record self.old {
           core = record self.old.core {
-            station = if may_start self.old.core.station then after_enter_maintenance self.old.core.station else self.old.core.station;
+            station = if may_start self.old.core.station
+                then after_enter_maintenance self.old.core.station else self.old.core.station;
           };
         } }
         ensures answer { result ≡ answer_to_start self.old.core.station }
@@ -205,7 +213,8 @@ impl Station {
                 then after_accept self.old.core.station message.now else self.old.core.station;
           };
         } }
-        ensures answer { result ≡ answer_to_send self.old.core.limits self.old.core.station message.now }
+        ensures answer { result
+            ≡ answer_to_send self.old.core.limits self.old.core.station message.now }
         ensures refused { OnErr result (self.new ≡ self.old) }
     {
         self.core.send(message)
@@ -219,7 +228,8 @@ impl Station {
                 then after_accept self.old.core.station message.now else self.old.core.station;
           };
         } }
-        ensures answer { result ≡ answer_to_send_maintenance self.old.core.limits self.old.core.station message.now }
+        ensures answer { result
+            ≡ answer_to_send_maintenance self.old.core.limits self.old.core.station message.now }
         ensures refused { OnErr result (self.new ≡ self.old) }
     {
         self.core.send_maintenance(message)
@@ -234,7 +244,8 @@ impl Station {
             (option_map (frame_on_line self.old.syn) (next_frame (next self.old.core.station))) }
         ensures most { IfSome result (λ n. n ≤ self.old.syn + self.old.core.limits.longest + 10) }
         ensures out { out.new ≡ with_front
-            (option_map (frame_on_line self.old.syn) (next_frame (next self.old.core.station))) out.old }
+            (option_map (frame_on_line self.old.syn) (next_frame
+            (next self.old.core.station))) out.old }
         ensures within { IfSome result (λ n. n ≤ MAX_COUNT + 10 + MAX_SYN) }
     {
         write_next(&mut self.core, self.syn, &mut self.message, out)
@@ -317,7 +328,8 @@ impl Station {
         requires there { i < length self.now.core.station.inbox }
         requires longest { self.now.core.limits.longest ≤ length out.old }
         ensures length { result ≡ length (slice_index_or self.now.core.station.inbox i []) }
-        ensures out { out.new ≡ with_front (Some (slice_index_or self.now.core.station.inbox i [])) out.old }
+        ensures out { out.new
+            ≡ with_front (Some (slice_index_or self.now.core.station.inbox i [])) out.old }
     {
         self.core.waiting_at(i, out)
     }
@@ -353,8 +365,8 @@ impl Station {
         self.reader.open()
     }
 
-    /// The number of bytes of messages to send, of mail, and of the unfinished frame; none of a frame
-    /// that is too long.
+    /// The number of bytes of messages to send, of mail, and of the unfinished frame; none of a
+    /// frame that is too long.
     pub fn held(&self) -> usize
         ensures value { result ≡ held_of self.now }
         ensures text { (text : List ℕ) → StandsFor self.now.line text

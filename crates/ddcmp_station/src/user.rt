@@ -28,7 +28,8 @@ pub trait User {
     /// Writes a message to be sent at the front of `out`, and answers its length: 0 for none.
     fn message(&mut self, out: &mut [u8]) -> usize
         ensures within { result ≤ length out.new }
-        ensures seen { Logs (seen self.old) (seen self.new) (Asked (length out.new) (take result out.new) ∷ []) };
+        ensures seen { Logs (seen self.old) (seen self.new) (Asked (length out.new)
+            (take result out.new) ∷ []) };
 
     /// Is told what happened.
     fn notice(&mut self, notice: Notice)

@@ -60,7 +60,10 @@ answer_unless None answer = Ok answer
 
 abbrev pub outgoing_after_accept : ℕ → ℕ → Outgoing → List ℕ → Outgoing
 outgoing_after_accept limit longest s message =
-    record s { out = if is_none (accept_refusal limit longest s message) then s.out ++ message ∷ [] else s.out }
+    record s {
+      out = if is_none (accept_refusal limit longest s message) then s.out ++ message ∷ []
+          else s.out;
+    }
 
 -- how many messages an acknowledgement of q newly acknowledges
 abbrev pub count_acknowledged : Outgoing → ℕ → ℕ

@@ -10,7 +10,8 @@ pub record IsStored (limit longest : ℕ) (messages : List (List ℕ)) : Type 0 
   pub longest_max : longest ≤ MAX_COUNT
   pub count : length messages ≤ limit
   pub lengths : (i : ℕ) → i < length messages
-      → (1 ≤ length (slice_index_or messages i [])) × (length (slice_index_or messages i []) ≤ longest)
+      → (1 ≤ length (slice_index_or messages i []))
+      × (length (slice_index_or messages i []) ≤ longest)
 
 -- the first message, where there is one
 abbrev pub first_message : List (List ℕ) → Option (List ℕ)

@@ -47,7 +47,12 @@ impl<S: Store> Inbox<S> {
     /// An inbox that has received nothing.
     pub fn new(store: S) -> Self
         requires { S.messages store ≡ [] }
-        ensures value { result ≡ record { limit = S.limit store; longest = S.longest store; incoming = nothing_received } }
+        ensures value { result
+            ≡ record {
+              limit = S.limit store;
+              longest = S.longest store;
+              incoming = nothing_received;
+            } }
         ensures sound { IsSoundInbox result }
     {
         Inbox {
@@ -74,7 +79,8 @@ impl<S: Store> Inbox<S> {
         ensures sound { IsSoundInbox self.new }
 
         // When each refusal comes.
-        ensures out_of_sequence { (result ≡ Offer.OutOfSequence) ↔ (number.0 ≢ next_number self.old.incoming.r) }
+        ensures out_of_sequence { (result ≡ Offer.OutOfSequence)
+            ↔ (number.0 ≢ next_number self.old.incoming.r) }
         ensures no_room { (result ≡ Offer.NoRoom) ↔ ((number.0 ≡ next_number self.old.incoming.r)
             × (self.old.limit ≤ length self.old.incoming.inbox)) }
     {
@@ -107,7 +113,8 @@ impl<S: Store> Inbox<S> {
     /// Moves the first message to the front of `out`, and answers its length.
     pub fn take(&mut self, out: &mut [u8]) -> Option<usize>
         requires { self.old.longest ≤ length out.old }
-        ensures state { self.new ≡ record self.old { incoming = incoming_after_take self.old.incoming } }
+        ensures state { self.new
+            ≡ record self.old { incoming = incoming_after_take self.old.incoming } }
         ensures length { result ≡ option_map length (first_message self.old.incoming.inbox) }
         ensures out { out.new ≡ with_front (first_message self.old.incoming.inbox) out.old }
         ensures sound { IsSoundInbox self.new }
@@ -134,7 +141,8 @@ impl<S: Store> Inbox<S> {
         requires there { i < length self.now.incoming.inbox }
         requires fits { length (slice_index_or self.now.incoming.inbox i []) ≤ length out.old }
         ensures length { result ≡ length (slice_index_or self.now.incoming.inbox i []) }
-        ensures out { out.new ≡ with_front (Some (slice_index_or self.now.incoming.inbox i [])) out.old }
+        ensures out { out.new
+            ≡ with_front (Some (slice_index_or self.now.incoming.inbox i [])) out.old }
     {
         self.store.copy(i, out)
     }

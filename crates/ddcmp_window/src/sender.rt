@@ -40,10 +40,20 @@ impl<S: Store> Model for Sender<S> {
     ghost view = { λ s. record {
       limit = S.limit s.store;
       longest = S.longest s.store;
-      outgoing = record { a = s.acknowledged.0; n = s.sent.0; t = s.next.0; out = S.messages s.store };
+      outgoing = record {
+        a = s.acknowledged.0;
+        n = s.sent.0;
+        t = s.next.0;
+        out = S.messages s.store;
+      };
     } };
 
-    ghost invariant = { λ s. IsInWindow (record { a = s.acknowledged.0; n = s.sent.0; t = s.next.0; out = S.messages s.store }) };
+    ghost invariant = { λ s. IsInWindow (record {
+      a = s.acknowledged.0;
+      n = s.sent.0;
+      t = s.next.0;
+      out = S.messages s.store;
+    }) };
 }
 
 impl<S: Store> Sender<S> {
@@ -55,7 +65,8 @@ impl<S: Store> Sender<S> {
     /// A sender that has sent nothing.
     pub fn new(store: S) -> Self
         requires { S.messages store ≡ [] }
-        ensures value { result ≡ record { limit = S.limit store; longest = S.longest store; outgoing = nothing_sent } }
+        ensures value { result
+            ≡ record { limit = S.limit store; longest = S.longest store; outgoing = nothing_sent } }
         ensures sound { IsSoundSender result }
     {
         Sender {
@@ -93,9 +104,11 @@ impl<S: Store> Sender<S> {
         // When each refusal comes.
         ensures wrong_state { result ≢ Err SendRefusal.WrongState }
         ensures empty { (result ≡ Err SendRefusal.Empty) ↔ (length message.now ≡ 0) }
-        ensures too_long { (result ≡ Err SendRefusal.TooLong) ↔ (self.old.longest < length message.now) }
+        ensures too_long { (result ≡ Err SendRefusal.TooLong)
+            ↔ (self.old.longest < length message.now) }
         ensures window_full { (result ≡ Err SendRefusal.WindowFull) ↔ ((1 ≤ length message.now)
-            × (length message.now ≤ self.old.longest) × (self.old.limit ≤ length self.old.outgoing.out)) }
+            × (length message.now ≤ self.old.longest)
+            × (self.old.limit ≤ length self.old.outgoing.out)) }
     {
         if message.is_empty() {
             return Err(SendRefusal::Empty);
@@ -112,7 +125,8 @@ impl<S: Store> Sender<S> {
 
     /// The peer has all messages up to `number`: how many of them it hadn't acknowledged before.
     pub fn acknowledged(&mut self, number: Seq) -> u8
-        ensures state { self.new ≡ record self.old { outgoing = outgoing_after_ack self.old.outgoing number.0 } }
+        ensures state { self.new
+            ≡ record self.old { outgoing = outgoing_after_ack self.old.outgoing number.0 } }
         ensures newly { result ≡ count_acknowledged self.old.outgoing number.0 }
         ensures sound { IsSoundSender self.new }
     {
@@ -131,7 +145,8 @@ impl<S: Store> Sender<S> {
     /// The peer has all messages up to `number` and wants those behind it again: how many it
     /// hadn't acknowledged before, or None where `number` isn't one that it can have.
     pub fn refused(&mut self, number: Seq) -> Option<u8>
-        ensures state { self.new ≡ record self.old { outgoing = outgoing_after_nak self.old.outgoing number.0 } }
+        ensures state { self.new
+            ≡ record self.old { outgoing = outgoing_after_nak self.old.outgoing number.0 } }
         ensures newly { result ≡ (if is_within self.old.outgoing.a number.0 self.old.outgoing.n
             then Some (count_acknowledged self.old.outgoing number.0) else None) }
         ensures sound { IsSoundSender self.new }
@@ -148,8 +163,11 @@ impl<S: Store> Sender<S> {
     /// Writes the next message to send at the front of `out`: its number and its length.
     pub fn next(&mut self, out: &mut [u8]) -> Option<(Seq, usize)>
         requires { self.old.longest ≤ length out.old }
-        ensures state { self.new ≡ record self.old { outgoing = outgoing_after_next self.old.outgoing } }
-        ensures sent { result ≡ option_map (λ message. (record { 0 = self.old.outgoing.t }, length message)) (next_message self.old.outgoing) }
+        ensures state { self.new
+            ≡ record self.old { outgoing = outgoing_after_next self.old.outgoing } }
+        ensures sent { result
+            ≡ option_map (λ message. (record { 0 = self.old.outgoing.t }, length message))
+            (next_message self.old.outgoing) }
         ensures out { out.new ≡ with_front (next_message self.old.outgoing) out.old }
         ensures sound { IsSoundSender self.new }
     {
@@ -172,7 +190,8 @@ impl<S: Store> Sender<S> {
         requires longest { self.old.longest ≤ length out.old }
         requires all_acknowledged { self.old.outgoing.a ≡ self.old.outgoing.n }
         requires none_sent { self.old.outgoing.t ≡ next_number self.old.outgoing.a }
-        ensures state { self.new ≡ record self.old { outgoing = outgoing_after_pop self.old.outgoing } }
+        ensures state { self.new
+            ≡ record self.old { outgoing = outgoing_after_pop self.old.outgoing } }
         ensures length { result ≡ option_map length (first_message self.old.outgoing.out) }
         ensures out { out.new ≡ with_front (first_message self.old.outgoing.out) out.old }
         ensures sound { IsSoundSender self.new }

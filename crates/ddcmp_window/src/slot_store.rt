@@ -18,9 +18,11 @@ pub struct SlotStore {
     ghost longest_in_range: { (1 ≤ longest) × (longest ≤ MAX_COUNT) },
     ghost within_limit: { len ≤ limit },
     ghost one_each: { length slots.items ≡ limit },
-    ghost reserved: { (i : ℕ) (slot : _) → i < limit → longest ≤ vec_capacity (slice_index_or slots.items i slot) },
+    ghost reserved: { (i : ℕ) (slot : _) → i < limit
+        → longest ≤ vec_capacity (slice_index_or slots.items i slot) },
     ghost lengths_in_range: { (i : ℕ) (slot : _) → i < len
-        → (1 ≤ length (slice_index_or slots.items i slot).items) × (length (slice_index_or slots.items i slot).items ≤ longest) },
+        → (1 ≤ length (slice_index_or slots.items i slot).items)
+        × (length (slice_index_or slots.items i slot).items ≤ longest) },
 }
 
 impl SlotStore {
@@ -108,12 +110,19 @@ impl Store for SlotStore {
     ghost use Rattle.ddcmp_window.specs.Fronts.{length-front, each-front};
     ghost use Rattle.std.proofs.Common.{arith};
 
-    ghost within_limit = { λ s. Prim.omega (arith, length-front (λ slot. slot.items) s.len s.slots.items) };
+    ghost within_limit = { λ s. Prim.omega (
+      arith,
+      length-front
+          (λ slot. slot.items) s.len s.slots.items,
+    ) };
 
     ghost limit_in_range = { λ s. s.limit_in_range };
 
     ghost longest_in_range = { λ s. s.longest_in_range };
 
-    ghost lengths_in_range = { λ s i below. (let count = length-front (λ slot. slot.items) s.len s.slots.items (Prim.omega arith) in
-        each-front (λ slot. slot.items) (λ m. (1 ≤ length m) × (length m ≤ s.longest)) s.len s.slots.items i [] s.lengths_in_range (Prim.omega arith) (Prim.omega arith)) };
+    ghost lengths_in_range = { λ s i below. (let count = length-front
+        (λ slot. slot.items) s.len s.slots.items (Prim.omega arith) in
+        each-front (λ slot. slot.items) (λ m. (1 ≤ length m)
+        × (length m ≤ s.longest)) s.len s.slots.items i [] s.lengths_in_range
+        (Prim.omega arith) (Prim.omega arith)) };
 }

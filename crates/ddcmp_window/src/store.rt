@@ -62,7 +62,8 @@ pub trait Store {
         requires there { i < length (messages self.now) }
         requires fits { length (slice_index_or (messages self.now) i []) ≤ length out.old }
         ensures length { result ≡ length (slice_index_or (messages self.now) i []) }
-        ensures out { out.new ≡ with_front (Some (slice_index_or (messages self.now) i [])) out.old };
+        ensures out { out.new
+            ≡ with_front (Some (slice_index_or (messages self.now) i [])) out.old };
 
     /// The length of all messages together.
     fn bytes(&self) -> usize
@@ -82,7 +83,8 @@ pub trait Store {
     ghost longest_in_range: { (s : Self) → (1 ≤ longest s) × (longest s ≤ MAX_COUNT) };
 
     ghost lengths_in_range: { (s : Self) (i : ℕ) → i < length (messages s)
-        → (1 ≤ length (slice_index_or (messages s) i [])) × (length (slice_index_or (messages s) i []) ≤ longest s) };
+        → (1 ≤ length (slice_index_or (messages s) i []))
+        × (length (slice_index_or (messages s) i []) ≤ longest s) };
 }
 
 /// Moves the first message to the front of `out`, and answers its length.

@@ -44,7 +44,8 @@ impl<S: Store> Core<S> {
         requires { FitsHeader self.old.limits.longest input.now }
         ensures state { self.new ≡ record self.old {
           station = on self.old.limits self.old.station (received input.now);
-          counters = counters_on self.old.limits self.old.station (received input.now) self.old.counters;
+          counters = counters_on self.old.limits self.old.station
+              (received input.now) self.old.counters;
         } }
         ensures told { result ≡ notice_of self.old.limits self.old.station (received input.now) }
     {
@@ -75,7 +76,8 @@ impl<S: Store> Core<S> {
 
     fn on_istart(&mut self, input: &Input<'_>) -> Option<Notice>
         requires { self.old.station.state ≡ State.IStart }
-        ensures state { self.new ≡ record self.old { station = on_istart self.old.station (received input.now) } }
+        ensures state { self.new
+            ≡ record self.old { station = on_istart self.old.station (received input.now) } }
         ensures told { result ≡ istart_notice (received input.now) }
     {
         match input {
@@ -124,9 +126,11 @@ impl<S: Store> Core<S> {
         requires within { FitsHeader self.old.limits.longest input.now }
         ensures state { self.new ≡ record self.old {
           station = on_astart self.old.limits self.old.station (received input.now);
-          counters = astart_counters self.old.limits self.old.station (received input.now) self.old.counters;
+          counters = astart_counters self.old.limits self.old.station
+              (received input.now) self.old.counters;
         } }
-        ensures told { result ≡ astart_notice self.old.limits self.old.station (received input.now) }
+        ensures told { result
+            ≡ astart_notice self.old.limits self.old.station (received input.now) }
     {
         match input {
             Input::Good(header, message) => match header {
@@ -150,9 +154,12 @@ impl<S: Store> Core<S> {
     fn on_astart_control(&mut self, header: Short) -> Option<Notice>
         requires { self.old.station.state ≡ State.AStart }
         ensures state { self.new ≡ record self.old {
-          station = on_astart self.old.limits self.old.station (Good (frame_of_control header.kind header));
+          station = on_astart self.old.limits self.old.station (Good
+              (frame_of_control header.kind header));
         } }
-        ensures told { result ≡ astart_notice self.old.limits self.old.station (Good (frame_of_control header.kind header)) }
+        ensures told { result
+            ≡ astart_notice self.old.limits self.old.station (Good
+            (frame_of_control header.kind header)) }
     {
         match header.kind {
             ControlType::Stack => {
@@ -177,9 +184,11 @@ impl<S: Store> Core<S> {
         requires within { FitsHeader self.old.limits.longest input.now }
         ensures state { self.new ≡ record self.old {
           station = on_running self.old.limits self.old.station (received input.now);
-          counters = running_counters self.old.limits self.old.station (received input.now) self.old.counters;
+          counters = running_counters self.old.limits self.old.station
+              (received input.now) self.old.counters;
         } }
-        ensures told { result ≡ running_notice self.old.limits self.old.station (received input.now) }
+        ensures told { result
+            ≡ running_notice self.old.limits self.old.station (received input.now) }
     {
         match input {
             Input::Good(header, message) => match header {
@@ -199,11 +208,14 @@ impl<S: Store> Core<S> {
     fn on_running_control(&mut self, header: Short) -> Option<Notice>
         requires { self.old.station.state ≡ State.Running }
         ensures state { self.new ≡ record self.old {
-          station = on_running self.old.limits self.old.station (Good (frame_of_control header.kind header));
+          station = on_running self.old.limits self.old.station (Good
+              (frame_of_control header.kind header));
           counters = running_counters self.old.limits self.old.station
               (Good (frame_of_control header.kind header)) self.old.counters;
         } }
-        ensures told { result ≡ running_notice self.old.limits self.old.station (Good (frame_of_control header.kind header)) }
+        ensures told { result
+            ≡ running_notice self.old.limits self.old.station (Good
+            (frame_of_control header.kind header)) }
     {
         match header.kind {
             ControlType::Strt => Some(self.on_strt()),
@@ -223,7 +235,8 @@ impl<S: Store> Core<S> {
     /// A reply to what came is to be sent.
     fn owe(&mut self, reply: Reply) -> Option<Notice>
         requires { is_sent_reply reply ≡ true }
-        ensures state { self.new ≡ record self.old { station = record self.old.station { reply = reply } } }
+        ensures state { self.new
+            ≡ record self.old { station = record self.old.station { reply = reply } } }
         ensures told { result ≡ None }
     {
         self.reply = reply;
@@ -245,7 +258,8 @@ impl<S: Store> Core<S> {
     /// The peer asks a running end to start.
     fn on_strt(&mut self) -> Notice
         requires { self.old.station.state ≡ State.Running }
-        ensures state { self.new ≡ record self.old { station = on_strt self.old.limits self.old.station } }
+        ensures state { self.new
+            ≡ record self.old { station = on_strt self.old.limits self.old.station } }
         ensures told { result ≡ strt_notice self.old.limits self.old.station }
     {
         if self.restart && self.inbox.len() == 0 {
@@ -299,7 +313,8 @@ impl<S: Store> Core<S> {
           counters = counters_after_up_if (takes_data self.old.limits self.old.station header.num)
               (length message.now) self.old.counters;
         } }
-        ensures told { result ≡ data_notice self.old.limits self.old.station header.resp header.num }
+        ensures told { result
+            ≡ data_notice self.old.limits self.old.station header.resp header.num }
     {
         let messages = self.acknowledging(Seq(header.resp));
         let is_taken = self.offer(header, message);
@@ -344,9 +359,11 @@ impl<S: Store> Core<S> {
         requires within { FitsHeader self.old.limits.longest input.now }
         ensures state { self.new ≡ record self.old {
           station = on_maintenance self.old.limits self.old.station (received input.now);
-          counters = maintenance_counters self.old.limits self.old.station (received input.now) self.old.counters;
+          counters = maintenance_counters self.old.limits self.old.station
+              (received input.now) self.old.counters;
         } }
-        ensures told { result ≡ maintenance_notice self.old.limits self.old.station (received input.now) }
+        ensures told { result
+            ≡ maintenance_notice self.old.limits self.old.station (received input.now) }
     {
         match input {
             Input::Good(header, message) => match header {

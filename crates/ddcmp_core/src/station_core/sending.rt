@@ -17,7 +17,15 @@ const NO_FLAGS: Flags = Flags { q: false, s: false };
 const BOTH_FLAGS: Flags = Flags { q: true, s: true };
 
 fn control(kind: ControlType, resp: u8, num: u8) -> Header
-    ensures { result ≡ Header.Control (record { kind = kind; sub = 0; flags = no_flags; resp = resp; num = num; addr = 1 }) }
+    ensures { result
+        ≡ Header.Control (record {
+          kind = kind;
+          sub = 0;
+          flags = no_flags;
+          resp = resp;
+          num = num;
+          addr = 1;
+        }) }
 {
     Header::Control(Short {
         kind,
@@ -31,7 +39,15 @@ fn control(kind: ControlType, resp: u8, num: u8) -> Header
 
 /// A STRT or a STACK.
 fn startup(kind: ControlType) -> Header
-    ensures { result ≡ Header.Control (record { kind = kind; sub = 0; flags = both_flags; resp = 0; num = 0; addr = 1 }) }
+    ensures { result
+        ≡ Header.Control (record {
+          kind = kind;
+          sub = 0;
+          flags = both_flags;
+          resp = 0;
+          num = 0;
+          addr = 1;
+        }) }
 {
     Header::Control(Short {
         kind,
@@ -75,7 +91,8 @@ impl<S: Store> Core<S> {
           counters = counters_after_next self.old.station (next self.old.station) self.old.counters;
         } }
         ensures frame { result ≡ option_map header_and_length (next_frame (next self.old.station)) }
-        ensures out { out.new ≡ with_front (option_map message_of (next_frame (next self.old.station))) out.old }
+        ensures out { out.new
+            ≡ with_front (option_map message_of (next_frame (next self.old.station))) out.old }
         ensures sound { IsSound self.old.limits self.old.station }
     {
         match self.state {
@@ -99,14 +116,17 @@ impl<S: Store> Core<S> {
         requires running { self.old.station.state ≡ State.Running }
         requires longest { self.old.limits.longest ≤ length out.old }
         ensures state { self.new ≡ record self.old {
-          station = after_next (next_running self.old.station.reply self.old.station) self.old.station;
-          counters = counters_after_next self.old.station (next_running self.old.station.reply self.old.station)
+          station = after_next
+              (next_running self.old.station.reply self.old.station) self.old.station;
+          counters = counters_after_next self.old.station
+              (next_running self.old.station.reply self.old.station)
               self.old.counters;
         } }
         ensures frame { let s = self.old.station in
             result ≡ option_map header_and_length (next_frame (next_running s.reply s)) }
         ensures out { let s = self.old.station in
-            out.new ≡ with_front (option_map message_of (next_frame (next_running s.reply s))) out.old }
+            out.new ≡ with_front (option_map message_of (next_frame
+            (next_running s.reply s))) out.old }
     {
         if let Reply::Nak(reason) = self.reply {
             self.reply = Reply::Quiet;
@@ -134,10 +154,13 @@ impl<S: Store> Core<S> {
         requires longest { self.old.limits.longest ≤ length out.old }
         ensures state { self.new ≡ record self.old {
           station = after_next (next_data self.old.station) self.old.station;
-          counters = counters_after_next self.old.station (next_data self.old.station) self.old.counters;
+          counters = counters_after_next self.old.station
+              (next_data self.old.station) self.old.counters;
         } }
-        ensures frame { result ≡ option_map header_and_length (next_frame (next_data self.old.station)) }
-        ensures out { out.new ≡ with_front (option_map message_of (next_frame (next_data self.old.station))) out.old }
+        ensures frame { result
+            ≡ option_map header_and_length (next_frame (next_data self.old.station)) }
+        ensures out { out.new
+            ≡ with_front (option_map message_of (next_frame (next_data self.old.station))) out.old }
     {
         let first = self.sender.last_sent().next();
         let (number, length) = self.sender.next(out)?;
@@ -165,14 +188,17 @@ impl<S: Store> Core<S> {
         requires maintenance { self.old.station.state ≡ State.Maintenance }
         requires longest { self.old.limits.longest ≤ length out.old }
         ensures state { self.new ≡ record self.old {
-          station = after_next (next_maintenance self.old.station.out self.old.station) self.old.station;
-          counters = counters_after_next self.old.station (next_maintenance self.old.station.out self.old.station)
+          station = after_next
+              (next_maintenance self.old.station.out self.old.station) self.old.station;
+          counters = counters_after_next self.old.station
+              (next_maintenance self.old.station.out self.old.station)
               self.old.counters;
         } }
         ensures frame { let s = self.old.station in
             result ≡ option_map header_and_length (next_frame (next_maintenance s.out s)) }
         ensures out { let s = self.old.station in
-            out.new ≡ with_front (option_map message_of (next_frame (next_maintenance s.out s))) out.old }
+            out.new ≡ with_front (option_map message_of (next_frame
+            (next_maintenance s.out s))) out.old }
     {
         let length = self.sender.pop(out)?;
         self.counters.sent(length);

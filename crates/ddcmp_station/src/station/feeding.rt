@@ -30,7 +30,8 @@ impl Station {
             → self.new.core ≡ after_piece text (take result.used piece.now) self.old.core }
         // The last byte used gave the notice, and no byte before it gave one.
         ensures told { (text : List ℕ) → StandsFor self.old.line text
-            → notices_of_piece text (take result.used piece.now) self.old.core ≡ option_to_list result.notice }
+            → notices_of_piece text (take result.used piece.now) self.old.core
+            ≡ option_to_list result.notice }
         ensures first { (text : List ℕ) (n : ℕ) → StandsFor self.old.line text → n < result.used
             → notices_of_piece text (take n piece.now) self.old.core ≡ [] }
         ensures used { result.used ≤ length piece.now }
@@ -73,8 +74,10 @@ impl Station {
     fn take_item(&mut self, item: Item) -> Option<Notice>
         requires lent { LentBeside (Some item) self.old.line.lent }
         requires within { length self.old.line.lent ≤ self.old.core.limits.longest }
-        ensures state { self.new ≡ record self.old { core = after_item (item, self.old.line.lent) self.old.core } }
-        ensures told { option_to_list result ≡ notices_of_item (item, self.old.line.lent) self.old.core }
+        ensures state { self.new
+            ≡ record self.old { core = after_item (item, self.old.line.lent) self.old.core } }
+        ensures told { option_to_list result
+            ≡ notices_of_item (item, self.old.line.lent) self.old.core }
     {
         match item {
             Item::Good(_at, header) => self.core.on(&Input::Good(header, self.reader.data())),

@@ -4,8 +4,8 @@ use Rattle.ddcmp_core.proofs.laws.stays_timed.Goals as goal
 pub returns-clause-new : goal.returns-clause-new
 returns-clause-new c = timed_new
 
-pub returns-clause-hears : goal.returns-clause-hears
-returns-clause-hears c = timed_on
+pub returns-clause-receives : goal.returns-clause-receives
+returns-clause-receives c = timed_on
 
 pub returns-clause-sends : goal.returns-clause-sends
 returns-clause-sends c = timed_next

@@ -33,7 +33,7 @@ overflow_add-tally g c =
     let offered = take c.offer_message-offered.result c.offer_message-offered.new.buffer in
     let h = stepped c.args.timer_ms c.now.result offered c.args.station.now c.keep_time.new.station c.offer_message-offered.new.station c.send_frame.new.station c.args.tally.now.deadline c.keep_time.new.deadline c.keep_time.ensures.deadline c.keep_time.ensures.station c.offer_message-offered.ensures.state c.in-Ok.ensures.station in
     let limits : c.offer_message-offered.new.station.core.limits.longest ≡ c.args.station.now.core.limits.longest =
-        ap (λ l. l.longest) (sym (ap (λ k. k.limits) h.kept_is) ∙ stepped-limits _ _ _ _ _ _ _ _ h) in
+    ap (λ l. l.longest) (sym (ap (λ k. k.limits) h.kept_is) ∙ stepped-limits _ _ _ _ _ _ _ _ h) in
     omega (arith, h.two_syn, limits, c.in-Ok.ensures.within, c.requires.written)
 
 pub returns-clause-few : goal.returns-clause-few
@@ -41,5 +41,5 @@ returns-clause-few g c =
     let offered = take c.offer_message-offered.result c.offer_message-offered.new.buffer in
     let h = stepped c.args.timer_ms c.now.result offered c.args.station.now c.keep_time.new.station c.offer_message-offered.new.station c.send_frame.new.station c.args.tally.now.deadline c.keep_time.new.deadline c.keep_time.ensures.deadline c.keep_time.ensures.station c.offer_message-offered.ensures.state c.in-Ok.ensures.station in
     let limits : c.offer_message-offered.new.station.core.limits.longest ≡ c.args.station.now.core.limits.longest =
-        ap (λ l. l.longest) (sym (ap (λ k. k.limits) h.kept_is) ∙ stepped-limits _ _ _ _ _ _ _ _ h) in
+    ap (λ l. l.longest) (sym (ap (λ k. k.limits) h.kept_is) ∙ stepped-limits _ _ _ _ _ _ _ _ h) in
     (omega (arith, c.in-Ok-receive.ensures.most), omega (arith, h.two_syn, limits, c.in-Ok.ensures.within))
