@@ -1,6 +1,8 @@
 -- What a source has left and what a sink holds, where these are known.
 use Rattle.std.specs.Prelude.{◌≡◌, ℕ, ◌<◌, ◌≤◌, Bool, List, ◌++◌, length, take, Option, Some, None}
 use Rattle.std.specs.Io.KnownBytes.{Appends, Consumes, Keeps, IsAtEnd}
+use Rattle.std.specs.declared.io.ErrorKind.{ErrorKind}
+use Rattle.std.specs.declared.io.ErrorKind.TheVariants.{WouldBlock, TimedOut, Interrupted}
 use Rattle.ddcmp_frame.specs.declared.device.FromRead.{FromRead}
 use Rattle.ddcmp_frame.specs.declared.device.ToWrite.{ToWrite}
 use Rattle.ddcmp_frame.specs.declared.device.Got.{Got}
@@ -20,6 +22,13 @@ abbrev pub Logs : {A : Type 0} → Option (List A) → Option (List A) → List 
 Logs None new xs = Unit {0}
 Logs (Some old) None xs = ⊥
 Logs (Some old) (Some new) xs = new ≡ old ++ xs
+
+-- what an error of a read is: nothing came yet where it would block, timed out or was interrupted
+abbrev pub got_of_error : ErrorKind → Got
+got_of_error WouldBlock = Idle
+got_of_error TimedOut = Idle
+got_of_error Interrupted = Idle
+got_of_error _ = Failed
 
 -- the worse of the worst so far and an answer
 abbrev pub worse : Worst → Got → Worst

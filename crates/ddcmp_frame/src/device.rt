@@ -1,5 +1,6 @@
 //! Where bytes come from and where they go.
 ghost use Rattle.std.specs.Prelude.{◌≡◌, ◌≢◌, ◌<◌, length, false, true, is_none, List, ℕ, Option, Bool};
+ghost use Rattle.ddcmp_frame.specs.Device.{got_of_error as got_of_error_kind};
 
 use std::io::{ErrorKind, Read, Write};
 
@@ -96,27 +97,33 @@ impl<R> FromRead<R> {
     }
 }
 
+/// What a read that ended in an error of this kind gave: nothing yet, or a failure.
+fn got_of_error(kind: ErrorKind) -> Got
+    ensures { result ≡ got_of_error_kind kind }
+{
+    match kind {
+        ErrorKind::WouldBlock | ErrorKind::TimedOut | ErrorKind::Interrupted => Got::Idle,
+        _ => Got::Failed,
+    }
+}
+
 impl<R: Read> Source for FromRead<R> {
     ghost left = { λ s. R.remaining s.inner };
 
     ghost state = { λ s. s.worst };
 
     fn read(&mut self, buf: &mut [u8]) -> Got {
-        match self.inner.read(buf) {
+        let got = match self.inner.read(buf) {
             Ok(n) => Got::Bytes(n),
-            Err(e) => match e.kind() {
-                ErrorKind::WouldBlock | ErrorKind::TimedOut | ErrorKind::Interrupted => {
-                    if self.worst == Worst::Fine {
-                        self.worst = Worst::Idle;
-                    }
-                    Got::Idle
-                }
-                _ => {
-                    self.worst = Worst::Failed;
-                    Got::Failed
-                }
-            },
-        }
+            Err(e) => got_of_error(e.kind()),
+        };
+        self.worst = match got {
+            Got::Bytes(_) => self.worst,
+            Got::Idle if self.worst == Worst::Fine => Worst::Idle,
+            Got::Idle => self.worst,
+            Got::Failed => Worst::Failed,
+        };
+        got
     }
 
     fn worst(&self) -> Worst {
