@@ -6,7 +6,7 @@ use Rattle.ddcmp_core.specs.declared.state.State.TheVariants.{Halted, IStart, AS
 use Rattle.ddcmp_core.specs.declared.state.Reply.{Reply}
 use Rattle.ddcmp_core.specs.declared.state.Reply.TheVariants.{Quiet, Ack, Nak}
 use Rattle.ddcmp_core.specs.declared.state.Timer.TheVariants.{Fresh}
-use Rattle.ddcmp_core.specs.Table.{StationState, Data, Acked, Rep, Strt, Stack, Next, Idle, Sends, before_next, message_at_next, is_ack, after_data, next_running, next_maintenance, next_by, next}
+use Rattle.ddcmp_core.specs.Table.{StationState, Data, Acked, Rep, Strt, Stack, Idle, Sends, before_next, message_at_next, is_ack, after_data, next_running, next_maintenance, next_by, next}
 use Rattle.ddcmp_core.specs.NextFrame.{is_nak, SentFor, sends_strt, sends_stack, sends_nak, sends_rep, sends_data, sends_ack, sends_maint, halted_idles, starting_idles, running_idles, maintenance_idles}
 
 pub sending : (s : StationState) → SentFor s (next s)

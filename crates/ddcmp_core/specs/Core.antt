@@ -2,10 +2,13 @@
 use Rattle.std.specs.Prelude.{◌≡◌, ◌<◌, ◌≤◌, ◌⊎◌, Bool, true, false, [], length}
 use Rattle.ddcmp_frame.specs.declared.nak.Nak.{Nak as Reason}
 use Rattle.ddcmp_frame.specs.declared.nak.Nak.TheVariants as reason
-use Rattle.ddcmp_window.specs.Sender.{IsInWindow, nothing_sent}
+use Rattle.ddcmp_window.specs.Sender.{SenderView, IsInWindow, nothing_sent}
 use Rattle.ddcmp_window.specs.Store.{IsStored}
 use Rattle.ddcmp_window.specs.Numbers.{next_number}
 use Rattle.ddcmp_core.specs.declared.counters.Counters.{Counters}
+use Rattle.ddcmp_core.specs.declared.state.State.{State}
+use Rattle.ddcmp_core.specs.declared.state.Timer.{Timer}
+use Rattle.ddcmp_window.specs.Inbox.{InboxView}
 use Rattle.ddcmp_core.specs.declared.state.State.TheVariants.{Running, Maintenance}
 use Rattle.ddcmp_core.specs.declared.state.Reply.{Reply}
 use Rattle.ddcmp_core.specs.declared.state.Reply.TheVariants.{Quiet, Ack, Nak}
@@ -16,6 +19,22 @@ pub record CoreView : Type 0 where
   pub limits : Limits
   pub station : StationState
   pub counters : Counters
+
+-- the eleven fields, of which a sender and an inbox hold the numbers and the lists
+abbrev pub state_of : State → Bool → Reply → Bool → Timer → SenderView → InboxView → StationState
+state_of state due reply rep timer sender inbox = record {
+  state = state;
+  due = due;
+  r = inbox.incoming.r;
+  n = sender.outgoing.n;
+  a = sender.outgoing.a;
+  t = sender.outgoing.t;
+  reply = reply;
+  rep = rep;
+  timer = timer;
+  out = sender.outgoing.out;
+  inbox = inbox.incoming.inbox;
+}
 
 -- the reasons of the NAKs that a station sends
 abbrev pub is_sent_reason : Reason → Bool

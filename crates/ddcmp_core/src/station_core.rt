@@ -50,7 +50,7 @@ impl<S: Store> Model for Core<S> {
     ghost use Rattle.std.specs.Prelude.{◌≡◌, ℕ};
     ghost use Rattle.ddcmp_window.specs.Sender.{IsSoundSender};
     ghost use Rattle.ddcmp_window.specs.Inbox.{IsSoundInbox};
-    ghost use Rattle.ddcmp_core.specs.Core.{CoreView, FitsState};
+    ghost use Rattle.ddcmp_core.specs.Core.{CoreView, FitsState, state_of};
 
     ghost Value = { CoreView };
 
@@ -61,37 +61,13 @@ impl<S: Store> Model for Core<S> {
         longest = c.sender.longest;
         restart = c.restart;
       };
-      station = record {
-        state = c.state;
-        due = c.due;
-        r = c.inbox.incoming.r;
-        n = c.sender.outgoing.n;
-        a = c.sender.outgoing.a;
-        t = c.sender.outgoing.t;
-        reply = c.reply;
-        rep = c.rep;
-        timer = c.timer;
-        out = c.sender.outgoing.out;
-        inbox = c.inbox.incoming.inbox;
-      };
+      station = state_of c.state c.due c.reply c.rep c.timer c.sender c.inbox;
       counters = c.counters;
     } };
 
     ghost invariant = { λ c. (c.sender.longest ≡ c.inbox.longest) × IsSoundSender c.sender
         × IsSoundInbox c.inbox
-        × FitsState (record {
-          state = c.state;
-          due = c.due;
-          r = c.inbox.incoming.r;
-          n = c.sender.outgoing.n;
-          a = c.sender.outgoing.a;
-          t = c.sender.outgoing.t;
-          reply = c.reply;
-          rep = c.rep;
-          timer = c.timer;
-          out = c.sender.outgoing.out;
-          inbox = c.inbox.incoming.inbox;
-        }) };
+        × FitsState (state_of c.state c.due c.reply c.rep c.timer c.sender c.inbox) };
 }
 
 impl<S: Store> Core<S> {

@@ -1,11 +1,11 @@
 -- The rows of the table of reading, as they stand in a text.
-use Rattle.std.proofs.Common.{◌≡◌, ℕ, ◌+◌, ◌<◌, ◌≤◌, Bool, true, false, List, [], ◌∷◌, length, take, drop, slice_index, refl, ◌∙◌, ap, arith, Ok, Err, Some, None, Result}
+use Rattle.std.proofs.Common.{◌≡◌, ℕ, ◌+◌, ◌<◌, ◌≤◌, Bool, true, false, List, [], ◌∷◌, length, take, drop, slice_index, refl, ◌∙◌, ap, Ok, Some, Result}
 use Rattle.std.specs.Prelude.{nat_lt, if◌then◌else◌}
 use Rattle.ddcmp_frame.specs.declared.header.Header.{Header}
 use Rattle.ddcmp_frame.specs.declared.header.HeaderFault.{HeaderFault}
 use Rattle.ddcmp_frame.specs.declared.item.Item.TheVariants.{Good, DataCheck, TooLong}
 use Rattle.ddcmp_frame.specs.Spelling.{is_start, parsed}
-use Rattle.ddcmp_frame.specs.Rows.{Outcome, outcome_after, outcome_at_end}
+use Rattle.ddcmp_frame.specs.Rows.{outcome_after, outcome_at_end}
 use Rattle.ddcmp_frame.specs.Reading.{ReadItem, Place, place_after, count_of, data_after_header, is_data_right, by_length, by_count, by_verdict, row, read}
 use Rattle.ddcmp_frame.specs.Step.{place_untold}
 use Rattle.ddcmp_frame.proofs.ReadingLaws.{read-none, read-some, row-by}

@@ -3,11 +3,10 @@ use Rattle.std.proofs.Common.{◌≡◌, ℕ, ◌≤◌, List, ◌++◌, length,
 use Rattle.std.specs.Prelude.{option_map, replicate}
 use Rattle.std.proofs.Math.Seq.{take-append_seam}
 use Rattle.ddcmp_frame.specs.declared.header.Header.{Header}
-use Rattle.ddcmp_frame.specs.Spelling.{IsInRange}
 use Rattle.ddcmp_frame.specs.Wire.{wire, IsFrame}
 use Rattle.ddcmp_window.specs.Store.{with_front}
 use Rattle.ddcmp_core.specs.Table.{Limits, StationState, Frame, Next, Idle, Sends, next, next_frame}
-use Rattle.ddcmp_core.specs.Frames.{frame_of, header_of, message_of, header_and_length}
+use Rattle.ddcmp_core.specs.Frames.{header_of, message_of, header_and_length}
 use Rattle.ddcmp_core.specs.Core.{IsSound}
 use Rattle.ddcmp_core.proofs.StartLaws.{read_sent}
 use Rattle.ddcmp_station.specs.Bytes.{frame_on_line}

@@ -1,5 +1,5 @@
 -- Turns of drive, from the first to the last.
-use Rattle.std.proofs.Common.{◌≡◌, ℕ, ◌+◌, ◌<◌, ◌≤◌, List, [], ◌∷◌, ◌++◌, length, refl, sym, ◌∙◌, ap, subst, append_assoc, append-nil, arith, length-append, Option, None, Ok, Err}
+use Rattle.std.proofs.Common.{◌≡◌, ℕ, ◌+◌, ◌<◌, ◌≤◌, List, [], ◌∷◌, ◌++◌, length, refl, sym, ◌∙◌, ap, subst, append_assoc, append-nil, arith, length-append, Option, None, Err}
 use Rattle.std.proofs.KnownBytes.{Appends-nil, Appends-trans, Consumes-nil, Consumes-trans}
 use Rattle.std.proofs.lemmas.Grind.{flat_map-append}
 use Rattle.std.specs.Io.KnownBytes.{Appends, Consumes}
@@ -10,7 +10,7 @@ use Rattle.ddcmp_station.specs.declared.driving.LineFault.{LineFault}
 use Rattle.ddcmp_station.specs.declared.driving.LineFault.TheVariants.{Read, Write, Ended, Memory}
 use Rattle.ddcmp_station.specs.declared.driving.Tally.{Tally}
 use Rattle.ddcmp_station.specs.Station.{StationView}
-use Rattle.ddcmp_station.specs.Driving.{DriveTurn, Driving, Devices, driving_from, core_after_halt, before_read, after_turn, after_turns, bytes_read, moments, read_answers, read_answer, last_read_answer, ReadsInTurns, Ends, Drives}
+use Rattle.ddcmp_station.specs.Driving.{DriveTurn, Driving, Devices, driving_from, core_after_halt, before_read, after_turn, after_turns, bytes_read, moments, read_answers, read_answer, ReadsInTurns, Ends, Drives}
 use Rattle.ddcmp_station.proofs.DriveLaws.{Logs-nil, Logs-trans}
 use Rattle.ddcmp_frame.specs.Device.{Logs}
 use Rattle.ddcmp_frame.specs.declared.device.Got.{Got}

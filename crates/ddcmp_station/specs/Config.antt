@@ -1,6 +1,9 @@
--- Which sizes a station may have.
+-- Which sizes a station may have, and how it begins.
 use Rattle.std.specs.Prelude.{ℕ, Bool, ◌&&◌, if◌then◌else◌, nat_le, Option, Some, None}
 use Rattle.ddcmp_core.specs.Limits.{MAX_COUNT, MAX_WINDOW}
+use Rattle.ddcmp_core.specs.Table.{new_station}
+use Rattle.ddcmp_core.specs.Counting.{no_counts}
+use Rattle.ddcmp_core.specs.Core.{CoreView}
 use Rattle.ddcmp_station.specs.declared.config.TheConstants.{MAX_SYN, MAX_INBOX}
 use Rattle.ddcmp_station.specs.declared.config.Config.{Config}
 use Rattle.ddcmp_station.specs.declared.config.ConfigRefusal.{ConfigRefusal}
@@ -20,3 +23,16 @@ first_refusal config =
     else Some Max)
     else Some Inbox)
     else Some Window
+
+-- the core of a new station
+abbrev pub core_made : Config → CoreView
+core_made config = record {
+  limits = record {
+    window = config.window;
+    room = config.inbox;
+    longest = config.max;
+    restart = config.restart;
+  };
+  station = new_station;
+  counters = no_counts;
+}

@@ -84,23 +84,12 @@ fn write_next(
 
 impl Station {
     ghost use Rattle.std.specs.Prelude.{◌≡◌, ◌⊎◌, [], Some, None, Err, IsOk, IfOk, IfSome};
-    ghost use Rattle.ddcmp_station.specs.Config.{first_refusal};
+    ghost use Rattle.ddcmp_station.specs.Config.{first_refusal, core_made};
     ghost use Rattle.ddcmp_frame.specs.Reader.{StandsFor};
-    ghost use Rattle.ddcmp_core.specs.Table.{new_station};
-    ghost use Rattle.ddcmp_core.specs.Counting.{no_counts};
 
     /// A halted station whose line has had no bytes. It takes all memory that it will need.
     pub fn new(alloc: Global, config: Config) -> Result<Station, ConfigRefusal>
-        ensures made { IfOk result (λ s. (s.core ≡ record {
-          limits = record {
-            window = config.window;
-            room = config.inbox;
-            longest = config.max;
-            restart = config.restart;
-          };
-          station = new_station;
-          counters = no_counts;
-        }) × (s.syn ≡ config.syn)) }
+        ensures made { IfOk result (λ s. (s.core ≡ core_made config) × (s.syn ≡ config.syn)) }
         ensures stands { IfOk result (λ s. StandsFor s.line []) }
 
         // The first size that is out of range is refused; where none is, want of memory alone.
@@ -121,16 +110,7 @@ impl Station {
     /// A station with sizes in range; None where memory is refused.
     fn make(alloc: Global, config: Config) -> Option<Station>
         requires { first_refusal config ≡ None }
-        ensures made { IfSome result (λ s. (s.core ≡ record {
-          limits = record {
-            window = config.window;
-            room = config.inbox;
-            longest = config.max;
-            restart = config.restart;
-          };
-          station = new_station;
-          counters = no_counts;
-        }) × (s.syn ≡ config.syn)) }
+        ensures made { IfSome result (λ s. (s.core ≡ core_made config) × (s.syn ≡ config.syn)) }
         ensures stands { IfSome result (λ s. StandsFor s.line []) }
     {
         let out = SlotStore::new(alloc, config.window as u8, config.max).ok()?;

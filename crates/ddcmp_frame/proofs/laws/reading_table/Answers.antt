@@ -4,7 +4,7 @@ use Rattle.ddcmp_frame.specs.declared.item.Item.TheVariants.{Good, TooLong}
 use Rattle.ddcmp_frame.specs.Reading.{place_after, by_count}
 use Rattle.ddcmp_frame.specs.Rows.{outcome_after}
 use Rattle.ddcmp_frame.specs.Step.{place_untold}
-use Rattle.ddcmp_frame.proofs.ReadingLaws.{read-none, read-some, read-nothing, row-passes, row-waits, row-by}
+use Rattle.ddcmp_frame.proofs.ReadingLaws.{read-none, read-some, read-nothing, row-passes, row-waits}
 use Rattle.ddcmp_frame.proofs.TableLaws.{read-by, read-too-long, read-passed, read-passing, read-unfinished, read-whole}
 use Rattle.ddcmp_frame.proofs.laws.reading_table.Goals as goal
 

@@ -1,6 +1,5 @@
-use Rattle.std.proofs.Common.{◌≡◌, subst, sym, ap, ◌∙◌, arith, drop}
-use Rattle.ddcmp_station.specs.UserCalls.{UserCall, calls_of_mail}
-use Rattle.ddcmp_station.proofs.SeenLaws.{HandedSo, hands-one}
+use Rattle.std.proofs.Common.{sym, ◌∙◌, arith}
+use Rattle.ddcmp_station.proofs.SeenLaws.{hands-one}
 use Rattle.ddcmp_station.proofs.driving.hand_up.Goals as goal
 
 pub loop-length-preserved : goal.loop-length-preserved
