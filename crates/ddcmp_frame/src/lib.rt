@@ -2,6 +2,7 @@
 #![tactic(auto)]
 
 pub mod device;
+pub mod failing;
 pub mod header;
 pub mod item;
 pub mod laws;
