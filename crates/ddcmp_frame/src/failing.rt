@@ -6,8 +6,8 @@ ghost use Rattle.ddcmp_frame.specs.declared.device.Worst.TheVariants.{Fine};
 use crate::device::{Got, Sink, Source, Worst};
 use std::marker::Model;
 
-/// A call that never comes.
-const NEVER: usize = usize::MAX;
+/// No call: they are counted from 1.
+const NEVER: usize = 0;
 
 /// A source that brings pieces one after another, and then its end. An empty piece is an idle read.
 /// Contracts see the bytes that are left and the worst answer so far.
@@ -57,7 +57,7 @@ impl<'a> Pieces<'a> {
         Pieces { most, ..self }
     }
 
-    /// Its read number `call`, counted from 1, is idle.
+    /// Its read number `call`, counted from 1, is idle; 0 is none.
     pub fn idle_at(self, call: usize) -> Self
         ensures { result ≡ self.entry }
     {
@@ -67,7 +67,7 @@ impl<'a> Pieces<'a> {
         }
     }
 
-    /// Its read number `call`, counted from 1, fails.
+    /// Its read number `call`, counted from 1, fails; 0 is none.
     pub fn failing_at(self, call: usize) -> Self
         ensures { result ≡ self.entry }
     {
@@ -172,7 +172,7 @@ impl<const N: usize> Taken<N> {
         Taken { most, ..self }
     }
 
-    /// Its write number `call`, counted from 1, fails.
+    /// Its write number `call`, counted from 1, fails; 0 is none.
     pub fn failing_at(self, call: usize) -> Self
         ensures { result ≡ self.entry }
     {

@@ -380,6 +380,16 @@ fn too_long(rt: HostRuntime) -> Result<(), Fail> {
     Ok(())
 }
 
+#[test]
+fn readers_of_many_sizes(rt: HostRuntime) {
+    for max in [1, 2, 7, 255, 1501, 9000, 16382, 16383] {
+        match Reader::new(rt.alloc(), max) {
+            Ok(reader) => assert_eq!(rt; reader.open(), 0),
+            Err(refusal) => panic!(rt; "{refusal:?} at {max}"),
+        }
+    }
+}
+
 /// Where memory is refused the answer is Memory, and else a reader: run with each allocation
 /// refused in turn.
 #[test]
