@@ -1,6 +1,6 @@
 // Devices over memory, for tests: they go in small steps, are idle, and fail when they are told to.
 // None takes memory. Run a call with a failure at 1, 2, .. until a device has met none.
-ghost use Rattle.std.specs.Prelude.{◌≡◌, ◌<◌, ◌≤◌, [], false, flat_map};
+ghost use Rattle.std.specs.Prelude.{◌≡◌, ◌<◌, ◌≤◌, ◌++◌, [], false, flat_map};
 ghost use Rattle.ddcmp_frame.specs.declared.device.Worst.TheVariants.{Fine};
 
 use crate::device::{Got, Sink, Source, Worst};
@@ -38,9 +38,22 @@ impl<'a> Pieces<'a> {
     pub fn new(pieces: &'a [&'a [u8]]) -> Self
         ensures { result ≡ (flat_map (λ piece. piece.now) pieces.now, Fine) }
     {
+        Pieces::beginning(&[], pieces)
+    }
+
+    /// A text in one piece.
+    pub fn of(text: &'a [u8]) -> Self
+        ensures { result ≡ (text.now, Fine) }
+    {
+        Pieces::beginning(text, &[])
+    }
+
+    fn beginning(begun: &'a [u8], later: &'a [&'a [u8]]) -> Self
+        ensures { result ≡ (begun.now ++ flat_map (λ piece. piece.now) later.now, Fine) }
+    {
         Pieces {
-            begun: &[],
-            later: pieces,
+            begun,
+            later,
             most: usize::MAX,
             calls: 0,
             idle_at: NEVER,
