@@ -248,11 +248,27 @@ fn messages_are_kept_and_the_line_is_cleared(rt: HostRuntime) {
     assert_eq!(rt; bench.station.start(), Err(StartRefusal::Untaken));
 }
 
-/// Run with one allocation refused after another; the other tests want all of them.
+/// Whether memory is refused to a station.
+fn is_refused(rt: &(impl Abort + AllocGlobal)) -> bool {
+    match Station::new(rt.alloc(), sizes(2, 2, 8, 0)) {
+        Ok(station) => {
+            assert_eq!(rt; station.state(), State::Halted);
+            false
+        }
+        Err(refusal) => {
+            assert_eq!(rt; refusal, ConfigRefusal::Memory);
+            true
+        }
+    }
+}
+
+/// Run with one allocation refused after another, until the next test passes too.
 #[test]
 fn refused_memory_makes_no_station(rt: HostRuntime) {
-    match Station::new(rt.alloc(), sizes(2, 2, 8, 0)) {
-        Ok(station) => assert_eq!(rt; station.state(), State::Halted),
-        Err(refusal) => assert_eq!(rt; refusal, ConfigRefusal::Memory),
-    }
+    let _either = is_refused(&rt);
+}
+
+#[test]
+fn ample_memory_makes_a_station(rt: HostRuntime) {
+    assert!(rt; !is_refused(&rt));
 }

@@ -7,6 +7,7 @@ use crate::rows::{
 };
 use ddcmp_frame::failing::{Pieces, Taken};
 use ddcmp_station::{Config, LineFault, Notice, State, Station, drive};
+use std::process::Abort;
 
 /// One turn that starts a station, and tells so.
 fn one_turn<'a>() -> Row<'a> {
@@ -214,9 +215,8 @@ fn all_input_is_read(rt: HostRuntime) {
     assert_eq!(rt; station.offset(), 600);
 }
 
-/// Run with one allocation refused after another: the station is made with all of them.
-#[test]
-fn refused_memory_leaves_a_station(rt: HostRuntime) {
+/// Whether memory is refused to a station or a call: then the station stays as it was.
+fn is_refused(rt: &(impl Abort + AllocGlobal)) -> bool {
     let config = Config {
         window: 1,
         inbox: 1,
@@ -225,7 +225,7 @@ fn refused_memory_leaves_a_station(rt: HostRuntime) {
         restart: false,
     };
     let Ok(mut station) = Station::new(rt.alloc(), config) else {
-        return;
+        return true;
     };
     assert_eq!(rt; station.start(), Ok(0));
     let before = (station.numbers(), *station.counters());
@@ -253,6 +253,7 @@ fn refused_memory_leaves_a_station(rt: HostRuntime) {
             assert_eq!(rt; writer.bytes(), STRT.as_slice());
             assert_eq!(rt; user.seen(), [Seen::Told(Notice::Running)].as_slice());
             assert_eq!(rt; station.state(), State::Running);
+            false
         }
         Err(fault) => {
             assert_eq!(rt; fault, LineFault::Memory);
@@ -260,6 +261,18 @@ fn refused_memory_leaves_a_station(rt: HostRuntime) {
             assert_eq!(rt; station.state(), State::IStart);
             assert_eq!(rt; (station.numbers(), *station.counters()), before);
             assert_eq!(rt; clock.next, 0);
+            true
         }
     }
+}
+
+/// Run with one allocation refused after another, until the next test passes too.
+#[test]
+fn refused_memory_leaves_a_station(rt: HostRuntime) {
+    let _either = is_refused(&rt);
+}
+
+#[test]
+fn ample_memory_drives(rt: HostRuntime) {
+    assert!(rt; !is_refused(&rt));
 }

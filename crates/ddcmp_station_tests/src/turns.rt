@@ -204,7 +204,7 @@ fn a_peer_begins_anew(rt: HostRuntime) {
     }
 }
 
-/// Messages that weren't acknowledged are dropped where an end begins anew, and kept where it halts.
+/// Messages that wait are dropped where an end begins anew, and kept where it halts.
 #[test]
 fn a_peer_begins_anew_and_messages_wait(rt: HostRuntime) {
     let row = Row {
