@@ -1,6 +1,4 @@
 // Stations driven over memory.
-ghost use Rattle.std.specs.Prelude.{◌≡◌, ◌≤◌};
-
 use crate::devices::{Moments, Recorder, Seen};
 use crate::rows::{
     ACK, ANSWER, Row, SILENCE, STACK, STARTUP, STRT, driven, drives, nothing, started,

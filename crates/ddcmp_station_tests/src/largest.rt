@@ -1,8 +1,8 @@
 // Stations of the largest sizes, a message of the most bytes, and many turns.
-ghost use Rattle.std.specs.Prelude.{◌≡◌, ◌≤◌};
+ghost use Rattle.std.specs.Prelude.{◌≡◌};
 
 use crate::devices::{Moments, Recorder, Seen};
-use crate::rows::{ACK_0, SILENCE, STACK, STRT, driven, halted, running, started, usual};
+use crate::rows::{SILENCE, STACK, STRT, driven, started};
 use ddcmp_frame::failing::{Pieces, Taken};
 use ddcmp_station::{Config, Notice, Station, drive};
 use std::alloc::Global;
