@@ -1,5 +1,5 @@
 // Frames of the most data that a reader takes, and of one byte more.
-use ddcmp_cli::{ExplainFault, Form, explain};
+use ddcmp_cli::{Form, explain};
 use ddcmp_frame::failing::{Pieces, Taken};
 use std::process::Abort;
 
