@@ -3,6 +3,7 @@
 
 pub mod codes;
 pub mod device;
+pub mod failing;
 pub mod header;
 pub mod item;
 pub mod laws;

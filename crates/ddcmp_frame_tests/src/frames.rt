@@ -380,10 +380,18 @@ fn too_long(rt: HostRuntime) -> Result<(), Fail> {
     Ok(())
 }
 
-/// Where memory is refused the answer is Memory, and else a reader: run with each allocation
-/// refused in turn.
 #[test]
-fn refused_memory(rt: HostRuntime) {
+fn readers_of_many_sizes(rt: HostRuntime) {
+    for max in [1, 2, 7, 255, 1501, 9000, 16382, 16383] {
+        match Reader::new(rt.alloc(), max) {
+            Ok(reader) => assert_eq!(rt; reader.open(), 0),
+            Err(refusal) => panic!(rt; "{refusal:?} at {max}"),
+        }
+    }
+}
+
+/// Whether memory is refused to a reader.
+fn is_refused(rt: &(impl Abort + AllocGlobal)) -> bool {
     let alloc = rt.alloc();
     assert_eq!(rt; Reader::new(alloc, 0).err(), Some(ReaderRefusal::MaxZero));
     assert_eq!(rt;
@@ -391,7 +399,24 @@ fn refused_memory(rt: HostRuntime) {
         Some(ReaderRefusal::MaxAbove16383)
     );
     match Reader::new(alloc, 1) {
-        Ok(reader) => assert_eq!(rt; reader.open(), 0),
-        Err(refusal) => assert_eq!(rt; refusal, ReaderRefusal::Memory),
+        Ok(reader) => {
+            assert_eq!(rt; reader.open(), 0);
+            false
+        }
+        Err(refusal) => {
+            assert_eq!(rt; refusal, ReaderRefusal::Memory);
+            true
+        }
     }
+}
+
+/// Run with one allocation refused after another, until the next test passes too.
+#[test]
+fn refused_memory(rt: HostRuntime) {
+    let _either = is_refused(&rt);
+}
+
+#[test]
+fn ample_memory(rt: HostRuntime) {
+    assert!(rt; !is_refused(&rt));
 }

@@ -118,6 +118,32 @@ fn sizes_are_tested_in_order(rt: HostRuntime) {
     }
 }
 
+/// Each size at its ends and between, with both choices of a restart.
+#[test]
+fn stations_of_many_sizes(rt: HostRuntime) {
+    for config in [
+        sizes(1, 8, 1500, 0),
+        sizes(128, 8, 1500, 0),
+        sizes(255, 8, 1500, 0),
+        sizes(7, 1, 1500, 0),
+        sizes(7, 128, 1500, 0),
+        sizes(7, 255, 1500, 0),
+        sizes(7, 8, 1, 0),
+        sizes(7, 8, 8192, 0),
+        sizes(7, 8, 16383, 0),
+        sizes(7, 8, 1500, 8),
+        sizes(7, 8, 1500, 16),
+        sizes(255, 255, 16383, 16),
+    ] {
+        for restart in [false, true] {
+            match Station::new(rt.alloc(), Config { restart, ..config }) {
+                Ok(station) => assert_eq!(rt; station.state(), State::Halted),
+                Err(refusal) => panic!(rt; "{refusal:?} of {config:?}"),
+            }
+        }
+    }
+}
+
 #[test]
 fn takes_pieces_up_to_a_notice(rt: HostRuntime) {
     let mut bench = Bench::new(&rt, rt.alloc(), 0);
@@ -222,11 +248,27 @@ fn messages_are_kept_and_the_line_is_cleared(rt: HostRuntime) {
     assert_eq!(rt; bench.station.start(), Err(StartRefusal::Untaken));
 }
 
-/// Run with one allocation refused after another; the other tests want all of them.
+/// Whether memory is refused to a station.
+fn is_refused(rt: &(impl Abort + AllocGlobal)) -> bool {
+    match Station::new(rt.alloc(), sizes(2, 2, 8, 0)) {
+        Ok(station) => {
+            assert_eq!(rt; station.state(), State::Halted);
+            false
+        }
+        Err(refusal) => {
+            assert_eq!(rt; refusal, ConfigRefusal::Memory);
+            true
+        }
+    }
+}
+
+/// Run with one allocation refused after another, until the next test passes too.
 #[test]
 fn refused_memory_makes_no_station(rt: HostRuntime) {
-    match Station::new(rt.alloc(), sizes(2, 2, 8, 0)) {
-        Ok(station) => assert_eq!(rt; station.state(), State::Halted),
-        Err(refusal) => assert_eq!(rt; refusal, ConfigRefusal::Memory),
-    }
+    let _either = is_refused(&rt);
+}
+
+#[test]
+fn ample_memory_makes_a_station(rt: HostRuntime) {
+    assert!(rt; !is_refused(&rt));
 }

@@ -1,144 +1,20 @@
 // Stations driven over memory.
-ghost use Rattle.std.specs.Prelude.{◌≡◌, ◌≤◌};
-
-use crate::devices::{Came, Line, Moments, Recorder, Seen, Written};
-use ddcmp_frame::{FromRead, ToWrite};
-use ddcmp_station::{Config, Driven, LineFault, Notice, State, Station, drive};
-use std::alloc::Global;
+use crate::devices::{Moments, Recorder, Seen};
+use crate::rows::{
+    ACK, ANSWER, Row, SILENCE, STACK, STARTUP, STRT, driven, drives, nothing, started,
+};
+use ddcmp_frame::failing::{Pieces, Taken};
+use ddcmp_station::{Config, LineFault, Notice, State, Station, drive};
 use std::process::Abort;
-
-const STRT: [u8; 8] = [0x05, 0x06, 0xC0, 0x00, 0x00, 0x01, 0x75, 0x95];
-
-const STACK: [u8; 8] = [0x05, 0x07, 0xC0, 0x00, 0x00, 0x01, 0x48, 0x55];
-/// ACK with RESP 1.
-const ACK: [u8; 8] = [0x05, 0x01, 0x00, 0x01, 0x00, 0x01, 0xAD, 0x95];
-/// STRT, and ACK 0.
-const STARTUP: [u8; 16] = [
-    0x05, 0x06, 0xC0, 0x00, 0x00, 0x01, 0x75, 0x95, 0x05, 0x01, 0x00, 0x00, 0x00, 0x01, 0xFC, 0x55,
-];
-/// STACK, and data messages 1 and 2, `abc` each.
-const ANSWER: [u8; 34] = [
-    0x05, 0x07, 0xC0, 0x00, 0x00, 0x01, 0x48, 0x55, 0x81, 0x03, 0x00, 0x00, 0x01, 0x01, 0x9A, 0x41,
-    0x61, 0x62, 0x63, 0x38, 0x97, 0x81, 0x03, 0x00, 0x00, 0x02, 0x01, 0x9A, 0xB1, 0x61, 0x62, 0x63,
-    0x38, 0x97,
-];
-
-/// A started station.
-fn started(rt: &impl Abort, alloc: Global, window: u16, max: u16, syn: u8) -> Station
-    ensures { result.line.offset ≡ 0 }
-{
-    let config = Config {
-        window,
-        inbox: 8,
-        max,
-        syn,
-        restart: false,
-    };
-    match Station::new(alloc, config) {
-        Ok(mut station) => {
-            assert_eq!(rt; station.start(), Ok(0));
-            station
-        }
-        Err(refusal) => panic!(rt; "{refusal:?}"),
-    }
-}
-
-/// A call of `drive`: what the line brings, the clock, the user's messages, how many bytes the sink
-/// takes, the turns, and what comes of it.
-#[derive(Clone, Copy)]
-struct Row<'a> {
-    came: &'a [Came<'a>],
-    moments: &'a [u64],
-    offers: &'a [&'a [u8]],
-    most: usize,
-    turns: u32,
-    answer: Result<Driven, LineFault>,
-    written: &'a [u8],
-    seen: [Option<Seen>; 8],
-    state: State,
-}
-
-fn drives(rt: &impl Abort, alloc: Global, station: &mut Station, row: &Row<'_>) {
-    let offset = station.offset();
-    assert!(rt; offset < 1000 && row.most <= 64);
-    let mut reader = FromRead::new(Line::bringing(row.came));
-    let mut writer = ToWrite::new(Written::at_most(row.most));
-    let mut user = Recorder::offering(row.offers);
-    let mut clock = Moments {
-        moments: row.moments,
-        next: 0,
-    };
-    let answer = drive(
-        alloc,
-        station,
-        &mut reader,
-        &mut writer,
-        &mut user,
-        &mut clock,
-        1000,
-        row.turns,
-    );
-    assert_eq!(rt; answer, row.answer);
-    assert_eq!(rt; writer.into_inner().bytes(), row.written);
-    assert_eq!(rt; user.seen, row.seen);
-    assert_eq!(rt; station.state(), row.state);
-}
-
-/// A call that comes to nothing.
-fn nothing<'a>() -> Row<'a> {
-    Row {
-        came: &[],
-        moments: &[0],
-        offers: &[],
-        most: 64,
-        turns: 0,
-        answer: Ok(driven(0, 0, 0)),
-        written: &[],
-        seen: [None; 8],
-        state: State::IStart,
-    }
-}
-
-fn driven(turns: u32, read: u64, written: u64) -> Driven {
-    Driven {
-        turns,
-        read,
-        written,
-    }
-}
-
-fn sees(first: Seen, second: Seen, third: Seen, fourth: Seen) -> [Option<Seen>; 8] {
-    [
-        Some(first),
-        Some(second),
-        Some(third),
-        Some(fourth),
-        None,
-        None,
-        None,
-        None,
-    ]
-}
-
-const RUNNING: [Option<Seen>; 8] = [
-    Some(Seen::Told(Notice::Running)),
-    None,
-    None,
-    None,
-    None,
-    None,
-    None,
-    None,
-];
 
 /// One turn that starts a station, and tells so.
 fn one_turn<'a>() -> Row<'a> {
     Row {
-        came: &[Came::Bytes(&STACK)],
+        came: &[&STACK],
         turns: 1,
         answer: Ok(driven(1, 8, 8)),
         written: &STRT,
-        seen: RUNNING,
+        seen: &[Seen::Told(Notice::Running)],
         state: State::Running,
         ..nothing()
     }
@@ -151,12 +27,7 @@ fn turns_read_what_comes(rt: HostRuntime) {
         one_turn(),
         // What comes behind an idle read is read too.
         Row {
-            came: &[
-                Came::Silence,
-                Came::Bytes(&STACK),
-                Came::Silence,
-                Came::Bytes(&ACK),
-            ],
+            came: &[SILENCE, &STACK, SILENCE, &ACK],
             turns: 4,
             answer: Ok(driven(4, 16, 16)),
             written: &STARTUP,
@@ -180,7 +51,7 @@ fn faults_end_the_turns(rt: HostRuntime) {
             ..one_turn()
         },
         Row {
-            came: &[Came::Silence],
+            came: &[SILENCE],
             turns: 2,
             answer: Err(LineFault::Ended),
             written: &STRT,
@@ -188,7 +59,7 @@ fn faults_end_the_turns(rt: HostRuntime) {
             ..nothing()
         },
         Row {
-            came: &[Came::Bytes(&STACK), Came::Failure],
+            fails_at: 2,
             turns: 2,
             answer: Err(LineFault::Read),
             written: &STARTUP,
@@ -222,18 +93,16 @@ fn faults_end_the_turns(rt: HostRuntime) {
 fn mail_goes_to_the_user(rt: HostRuntime) {
     let mut station = started(&rt, rt.alloc(), 7, 1500, 0);
     let row = Row {
-        came: &[Came::Bytes(&ANSWER)],
+        came: &[&ANSWER],
         answer: Ok(driven(1, 34, 8)),
-        seen: [
-            Some(Seen::Told(Notice::Running)),
-            Some(Seen::Told(Notice::HandedUp)),
-            Some(Seen::Told(Notice::HandedUp)),
-            Some(Seen::Mail(3, b'a')),
-            Some(Seen::Mail(3, b'a')),
-            None,
-            None,
-            None,
+        seen: &[
+            Seen::Told(Notice::Running),
+            Seen::Told(Notice::HandedUp),
+            Seen::Told(Notice::HandedUp),
+            Seen::Mail(3, b'a'),
+            Seen::Mail(3, b'a'),
         ],
+        mail: b"abcabc",
         ..one_turn()
     };
     drives(&rt, rt.alloc(), &mut station, &row);
@@ -247,20 +116,12 @@ fn mail_from_before_goes_to_the_user(rt: HostRuntime) {
     assert!(rt; station.offset() < 1000);
     assert_eq!(rt; station.feed(&ANSWER[8..21]).used, 13);
     let row = Row {
-        came: &[Came::Silence],
+        came: &[SILENCE],
         turns: 1,
         answer: Ok(driven(1, 0, 8)),
         written: &ACK,
-        seen: [
-            Some(Seen::Mail(3, b'a')),
-            None,
-            None,
-            None,
-            None,
-            None,
-            None,
-            None,
-        ],
+        seen: &[Seen::Mail(3, b'a')],
+        mail: b"abc",
         state: State::Running,
         ..nothing()
     };
@@ -272,14 +133,7 @@ fn mail_from_before_goes_to_the_user(rt: HostRuntime) {
 fn messages_of_the_user_are_sent(rt: HostRuntime) {
     let mut station = started(&rt, rt.alloc(), 1, 4, 2);
     let row = Row {
-        came: &[
-            Came::Bytes(&STACK),
-            Came::Silence,
-            Came::Silence,
-            Came::Bytes(&ACK),
-            Came::Silence,
-            Came::Silence,
-        ],
+        came: &[&STACK, SILENCE, SILENCE, &ACK, SILENCE, SILENCE],
         offers: &[b"a", b"b", b"c"],
         turns: 6,
         answer: Ok(driven(6, 16, 36)),
@@ -288,12 +142,12 @@ fn messages_of_the_user_are_sent(rt: HostRuntime) {
             0x00, 0x00, 0x01, 0x01, 0xE3, 0x81, 0x61, 0xC1, 0xE8, 0x96, 0x96, 0x81, 0x01, 0x00,
             0x00, 0x02, 0x01, 0xE3, 0x71, 0x62, 0x81, 0xE9,
         ],
-        seen: sees(
+        seen: &[
             Seen::Told(Notice::Running),
             Seen::Asked(4),
             Seen::Told(Notice::Acknowledged(1)),
             Seen::Asked(4),
-        ),
+        ],
         ..one_turn()
     };
     drives(&rt, rt.alloc(), &mut station, &row);
@@ -305,7 +159,7 @@ fn messages_of_the_user_are_sent(rt: HostRuntime) {
 fn the_timer_runs_out(rt: HostRuntime) {
     let mut station = started(&rt, rt.alloc(), 7, 1500, 0);
     let row = Row {
-        came: &[Came::Silence; 4],
+        came: &[SILENCE; 4],
         moments: &[0, 500, 1499, 1500],
         turns: 4,
         answer: Ok(driven(4, 0, 16)),
@@ -323,7 +177,7 @@ fn the_timer_runs_out(rt: HostRuntime) {
 fn a_second_call_sets_a_deadline(rt: HostRuntime) {
     let mut station = started(&rt, rt.alloc(), 7, 1500, 0);
     let first = Row {
-        came: &[Came::Silence; 3],
+        came: &[SILENCE; 3],
         moments: &[0, 500, 1499],
         turns: 3,
         answer: Ok(driven(3, 0, 8)),
@@ -332,7 +186,7 @@ fn a_second_call_sets_a_deadline(rt: HostRuntime) {
     };
     drives(&rt, rt.alloc(), &mut station, &first);
     let second = Row {
-        came: &[Came::Silence; 2],
+        came: &[SILENCE; 2],
         moments: &[2000, 3000],
         turns: 2,
         answer: Ok(driven(2, 0, 8)),
@@ -349,7 +203,7 @@ fn all_input_is_read(rt: HostRuntime) {
     let mut station = started(&rt, rt.alloc(), 7, 1500, 0);
     let fill = [0x96; 600];
     let row = Row {
-        came: &[Came::Bytes(&fill), Came::Silence],
+        came: &[&fill, SILENCE],
         turns: 4,
         answer: Ok(driven(4, 600, 8)),
         written: &STRT,
@@ -359,9 +213,8 @@ fn all_input_is_read(rt: HostRuntime) {
     assert_eq!(rt; station.offset(), 600);
 }
 
-/// Run with one allocation refused after another: the station is made with all of them.
-#[test]
-fn refused_memory_leaves_a_station(rt: HostRuntime) {
+/// Whether memory is refused to a station or a call: then the station stays as it was.
+fn is_refused(rt: &(impl Abort + AllocGlobal)) -> bool {
     let config = Config {
         window: 1,
         inbox: 1,
@@ -370,12 +223,13 @@ fn refused_memory_leaves_a_station(rt: HostRuntime) {
         restart: false,
     };
     let Ok(mut station) = Station::new(rt.alloc(), config) else {
-        return;
+        return true;
     };
     assert_eq!(rt; station.start(), Ok(0));
     let before = (station.numbers(), *station.counters());
-    let mut reader = FromRead::new(Line::bringing(&[Came::Bytes(&STACK)]));
-    let mut writer = ToWrite::new(Written::at_most(64));
+    let pieces: [&[u8]; 1] = [&STACK];
+    let mut reader = Pieces::new(&pieces);
+    let mut writer = Taken::<64>::new();
     let mut user = Recorder::offering(&[]);
     let mut clock = Moments {
         moments: &[0],
@@ -394,16 +248,29 @@ fn refused_memory_leaves_a_station(rt: HostRuntime) {
     match answer {
         Ok(told) => {
             assert_eq!(rt; told, driven(1, 8, 8));
-            assert_eq!(rt; writer.into_inner().bytes(), STRT.as_slice());
-            assert_eq!(rt; user.seen, RUNNING);
+            assert_eq!(rt; writer.bytes(), STRT.as_slice());
+            assert_eq!(rt; user.seen(), [Seen::Told(Notice::Running)].as_slice());
             assert_eq!(rt; station.state(), State::Running);
+            false
         }
         Err(fault) => {
             assert_eq!(rt; fault, LineFault::Memory);
-            assert!(rt; writer.into_inner().bytes().is_empty());
+            assert!(rt; writer.bytes().is_empty());
             assert_eq!(rt; station.state(), State::IStart);
             assert_eq!(rt; (station.numbers(), *station.counters()), before);
             assert_eq!(rt; clock.next, 0);
+            true
         }
     }
+}
+
+/// Run with one allocation refused after another, until the next test passes too.
+#[test]
+fn refused_memory_leaves_a_station(rt: HostRuntime) {
+    let _either = is_refused(&rt);
+}
+
+#[test]
+fn ample_memory_drives(rt: HostRuntime) {
+    assert!(rt; !is_refused(&rt));
 }

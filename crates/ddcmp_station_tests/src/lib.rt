@@ -7,3 +7,11 @@ mod calls;
 mod devices;
 #[cfg(test)]
 mod drives;
+#[cfg(test)]
+mod faults;
+#[cfg(test)]
+mod largest;
+#[cfg(test)]
+mod rows;
+#[cfg(test)]
+mod turns;

@@ -1,13 +1,12 @@
 // The text of explain, against worked rows.
-use crate::devices::{Fixed, Held, Pieces};
 use ddcmp_cli::{ExplainFault, Form, explain};
-use ddcmp_frame::{FromRead, ToWrite};
-use std::io::ErrorKind;
+use ddcmp_frame::failing::{Pieces, Taken};
+use ddcmp_frame::{Sink, Source, Worst};
 use std::process::Abort;
 
-type Told = (Result<(), ExplainFault>, Vec<u8>);
+type Told = (Result<(), ExplainFault>, Taken<256>);
 
-/// What explain answers and writes, with pieces of these sizes.
+/// What explain answers and writes, with reads and writes of at most so many bytes.
 fn told(
     rt: &(impl Abort + AllocGlobal),
     input: &[u8],
@@ -16,11 +15,11 @@ fn told(
     read: usize,
     write: usize,
 ) -> Told {
-    assert!(rt; 0 < max && max <= 16383);
-    let mut reader = FromRead::new(Pieces::of(input, read));
-    let mut writer = ToWrite::new(Held::new(rt.alloc(), write, usize::MAX));
+    assert!(rt; 0 < max && max <= 16383 && 0 < read && 0 < write);
+    let mut reader = Pieces::of(input).at_most(read);
+    let mut writer = Taken::new().at_most(write);
     let answer = explain(rt.alloc(), &mut reader, &mut writer, form, max);
-    (answer, writer.into_inner().text)
+    (answer, writer)
 }
 
 type Row<'a> = (&'a [u8], Result<(), ExplainFault>, &'a [u8]);
@@ -73,7 +72,7 @@ fn worked_rows(rt: HostRuntime) {
         for (read, write) in [(4096, 8192), (1, 1), (3, 7)] {
             let (answered, written) = told(&rt, input, Form::Hex, 16383, read, write);
             assert_eq!(rt; answered, answer);
-            assert_eq!(rt; written.as_slice(), text);
+            assert_eq!(rt; written.bytes(), text);
         }
     }
 }
@@ -90,44 +89,60 @@ fn start_bytes_alone(rt: HostRuntime) {
     let (answer, text) = told(&rt, &input, Form::Hex, 16383, 4096, 8192);
     assert_eq!(rt; answer, Ok(()));
     assert_eq!(rt;
-        text.as_slice(),
+        text.bytes(),
         b"0 header check\nitems=1 bytes=300 open=7\n".as_slice()
     );
 }
 
-/// One read or one write fails: that fault is told, and what was written before it stays.
+/// A read fails or is idle: the lines of the items read so far stay. Each read gives one byte, so
+/// the items end at the reads 16 and 40, and the end is read number 41.
 #[test]
-fn one_device_fails(rt: HostRuntime) {
-    for kind in [
-        ErrorKind::BrokenPipe,
-        ErrorKind::WouldBlock,
-        ErrorKind::Interrupted,
-    ] {
-        for fails_at in 1..50 {
-            let mut reader = FromRead::new(Pieces::failing(STARTUP, 1, fails_at, kind));
-            let mut writer = ToWrite::new(Held::new(rt.alloc(), 9, usize::MAX));
+fn each_read_fails(rt: HostRuntime) {
+    for call in 1..43 {
+        let whole = match call {
+            1..=16 => 0,
+            17..=40 => 41,
+            41 => 84,
+            _ => STARTUP_TEXT.len(),
+        };
+        assert!(rt; whole <= STARTUP_TEXT.len());
+        for mut reader in [
+            Pieces::of(STARTUP).at_most(1).failing_at(call),
+            Pieces::of(STARTUP).at_most(1).idle_at(call),
+        ] {
+            let mut writer = Taken::<256>::new().at_most(9);
             let answer = explain(rt.alloc(), &mut reader, &mut writer, Form::Hex, 16383);
-            let text = writer.into_inner().text;
-            assert!(rt; STARTUP_TEXT.starts_with(text.as_slice()));
-            // Forty bytes and the end are forty-one calls.
-            if fails_at <= 41 {
+            assert_eq!(rt; writer.bytes(), &STARTUP_TEXT[..whole]);
+            if call <= 41 {
                 assert_eq!(rt; answer, Err(ExplainFault::Read));
             } else {
                 assert_eq!(rt; answer, Ok(()));
-                assert_eq!(rt; text.as_slice(), STARTUP_TEXT);
+                assert_eq!(rt; reader.worst(), Worst::Fine);
             }
         }
     }
-    for fails_at in 1..30 {
-        let mut reader = FromRead::new(Pieces::of(STARTUP, 4096));
-        let mut writer = ToWrite::new(Held::new(rt.alloc(), 9, fails_at));
+}
+
+/// A write fails: what was written before it stays. Each write takes nine bytes: both lines, of 84,
+/// take ten writes, and the totals, of 24, take three.
+#[test]
+fn each_write_fails(rt: HostRuntime) {
+    for call in 1..15 {
+        let mut reader = Pieces::of(STARTUP);
+        let mut writer = Taken::<256>::new().at_most(9).failing_at(call);
         let answer = explain(rt.alloc(), &mut reader, &mut writer, Form::Hex, 16383);
-        let text = writer.into_inner().text;
-        assert!(rt; STARTUP_TEXT.starts_with(text.as_slice()));
-        if text.len() < STARTUP_TEXT.len() {
+        let whole = match call {
+            1..=10 => 9 * (call - 1),
+            11..=13 => 84 + 9 * (call - 11),
+            _ => STARTUP_TEXT.len(),
+        };
+        assert!(rt; whole <= STARTUP_TEXT.len());
+        assert_eq!(rt; writer.bytes(), &STARTUP_TEXT[..whole]);
+        if call <= 13 {
             assert_eq!(rt; answer, Err(ExplainFault::Write));
         } else {
             assert_eq!(rt; answer, Ok(()));
+            assert!(rt; !writer.failed());
         }
     }
 }
@@ -174,7 +189,7 @@ fn worked_rows_with_data(rt: HostRuntime) {
         for (read, write) in [(4096, 8192), (1, 1), (3, 7)] {
             let (answered, written) = told(&rt, input, Form::Hex, 1500, read, write);
             assert_eq!(rt; answered, answer);
-            assert_eq!(rt; written.as_slice(), text);
+            assert_eq!(rt; written.bytes(), text);
         }
     }
 }
@@ -191,7 +206,7 @@ fn behind_a_too_long_frame(rt: HostRuntime) {
     assert_eq!(rt; answer, Ok(()));
     let want =
         b"0 too long DATA count=1501 q=0 s=0 resp=0 num=1 addr=1\n1511 ACK sub=0 q=0 s=0 resp=0 num=0 addr=1\nitems=2 bytes=1519 open=0\n";
-    assert_eq!(rt; text.as_slice(), want.as_slice());
+    assert_eq!(rt; text.bytes(), want.as_slice());
 }
 
 /// Bytes as they are say the same as their digits.
@@ -206,23 +221,32 @@ fn raw_input(rt: HostRuntime) {
         for (read, write) in [(4096, 8192), (1, 1)] {
             let (answered, written) = told(&rt, input, Form::Raw, 16383, read, write);
             assert_eq!(rt; answered, Ok(()));
-            assert_eq!(rt; written.as_slice(), text);
+            assert_eq!(rt; written.bytes(), text);
         }
     }
 }
 
-/// Where the memory of the reader is refused nothing is written; else all is. Run outside the
-/// gate with each allocation refused in turn.
+/// Whether memory is refused to a call: nothing is written then, and else all is.
+fn is_refused(rt: &(impl Abort + AllocGlobal)) -> bool {
+    let mut reader = Pieces::of(STARTUP);
+    let mut writer = Taken::<256>::new();
+    let answer = explain(rt.alloc(), &mut reader, &mut writer, Form::Hex, 16383);
+    if answer == Err(ExplainFault::Memory) {
+        assert!(rt; writer.bytes().is_empty());
+        return true;
+    }
+    assert_eq!(rt; answer, Ok(()));
+    assert_eq!(rt; writer.bytes(), STARTUP_TEXT);
+    false
+}
+
+/// Run with one allocation refused after another, until the next test passes too.
 #[test]
 fn refused_memory_is_told(rt: HostRuntime) {
-    let mut reader = FromRead::new(Pieces::of(STARTUP, 4096));
-    let mut writer = ToWrite::new(Fixed::new());
-    let answer = explain(rt.alloc(), &mut reader, &mut writer, Form::Hex, 16383);
-    let held = writer.into_inner();
-    if answer == Err(ExplainFault::Memory) {
-        assert!(rt; held.text().is_empty());
-    } else {
-        assert_eq!(rt; answer, Ok(()));
-        assert_eq!(rt; held.text(), STARTUP_TEXT);
-    }
+    let _either = is_refused(&rt);
+}
+
+#[test]
+fn ample_memory_is_enough(rt: HostRuntime) {
+    assert!(rt; !is_refused(&rt));
 }

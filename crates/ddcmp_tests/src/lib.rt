@@ -2,8 +2,10 @@
 #![tactic(auto)]
 
 #[cfg(test)]
-mod devices;
-#[cfg(test)]
 mod explains;
 #[cfg(test)]
 mod programs;
+#[cfg(test)]
+mod sizes;
+#[cfg(test)]
+mod streams;

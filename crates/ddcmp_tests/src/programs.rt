@@ -1,8 +1,8 @@
 // Words, endings, and the program as a whole but for the system's streams.
-use crate::devices::{Held, Pieces};
 use ddcmp_cli::command::read_words;
-use ddcmp_cli::{Command, Declined, Ending, ExplainFault, Form, run};
-use ddcmp_frame::{FromRead, ToWrite};
+use ddcmp_cli::{Command, Declined, Ending, ExplainFault, Form, run, run_args};
+use ddcmp_frame::failing::{Pieces, Taken};
+use std::io::{self, ErrorKind};
 use std::process::Abort;
 use std::test::Fail;
 
@@ -77,37 +77,144 @@ fn endings_have_a_status_and_a_line(rt: HostRuntime) -> Result<(), Fail> {
     Ok(())
 }
 
-/// What a run over memory ends as, and what it wrote.
+/// What a run over memory ends as, and what it wrote; the write `fails_at` fails, 0 is none.
 fn ran(
     rt: &(impl Abort + AllocGlobal),
     words: &[&str],
     input: &[u8],
     fails_at: usize,
-) -> (Ending, Vec<u8>) {
-    let mut reader = FromRead::new(Pieces::of(input, 4096));
-    let mut writer = ToWrite::new(Held::new(rt.alloc(), 8192, fails_at));
+) -> (Ending, Taken<4096>) {
+    let mut reader = Pieces::of(input);
+    let mut writer = Taken::new().failing_at(fails_at);
     let ending = run(rt.alloc(), words, &mut reader, &mut writer);
-    (ending, writer.into_inner().text)
+    (ending, writer)
 }
 
 #[test]
 fn runs_end_as_their_commands(rt: HostRuntime) {
-    let (ending, text) = ran(&rt, &["ddcmp", "explain"], b"050100000001fc55", usize::MAX);
+    let (ending, text) = ran(&rt, &["ddcmp", "explain"], b"050100000001fc55", 0);
     assert!(rt; matches!(ending, Ending::Done));
     assert_eq!(rt;
-        text.as_slice(),
+        text.bytes(),
         b"0 ACK sub=0 q=0 s=0 resp=0 num=0 addr=1\nitems=1 bytes=8 open=0\n".as_slice()
     );
-    let (ending, text) = ran(&rt, &["ddcmp", "explain"], b"050", usize::MAX);
+    let (ending, text) = ran(&rt, &["ddcmp", "explain"], b"050", 0);
     assert!(rt; matches!(ending, Ending::Fault(ExplainFault::Odd)));
-    assert!(rt; text.is_empty());
-    let (ending, text) = ran(&rt, &["ddcmp", "--help"], b"", usize::MAX);
+    assert!(rt; text.bytes().is_empty());
+    let (ending, text) = ran(&rt, &["ddcmp", "--help"], b"", 0);
     assert!(rt; matches!(ending, Ending::Done));
-    assert!(rt; !text.is_empty());
+    assert!(rt; !text.bytes().is_empty());
     // Help that can't be written is a write that failed.
     let (ending, _) = ran(&rt, &["ddcmp", "--help"], b"", 1);
     assert!(rt; matches!(ending, Ending::Fault(ExplainFault::Write)));
-    let (ending, text) = ran(&rt, &["ddcmp"], b"", usize::MAX);
+    let (ending, text) = ran(&rt, &["ddcmp"], b"", 0);
     assert!(rt; matches!(ending, Ending::Usage(_)));
-    assert!(rt; text.is_empty());
+    assert!(rt; text.bytes().is_empty());
+}
+
+/// The options reach the reader of the line.
+#[test]
+fn runs_take_options(rt: HostRuntime) {
+    let ack = [0x05, 0x01, 0x00, 0x00, 0x00, 0x01, 0xFC, 0x55];
+    let long = [0x81, 0xDD, 0x05, 0x00, 0x01, 0x01, 0x32, 0x9E];
+    let ack_text = b"0 ACK sub=0 q=0 s=0 resp=0 num=0 addr=1\nitems=1 bytes=8 open=0\n";
+    let long_text =
+        b"0 too long DATA count=1501 q=0 s=0 resp=0 num=1 addr=1\nitems=1 bytes=8 open=8\n";
+    let rows: [(&[&str], &[u8], &[u8]); 6] = [
+        (&["ddcmp", "explain", "--raw"], &ack, ack_text),
+        (
+            &["ddcmp", "explain", "--raw"],
+            &long,
+            b"items=0 bytes=8 open=8\n",
+        ),
+        (
+            &["ddcmp", "explain", "--max", "1500"],
+            b"81dd05000101329e",
+            long_text,
+        ),
+        (
+            &["ddcmp", "explain", "--max=1501"],
+            b"81dd05000101329e",
+            b"items=0 bytes=8 open=8\n",
+        ),
+        (
+            &["ddcmp", "explain", "--raw", "--max", "1500"],
+            &long,
+            long_text,
+        ),
+        (
+            &["ddcmp", "explain", "--max", "1500", "--raw"],
+            &long,
+            long_text,
+        ),
+    ];
+    for (words, input, text) in rows {
+        let (ending, written) = ran(&rt, words, input, 0);
+        assert!(rt; matches!(ending, Ending::Done));
+        assert_eq!(rt; written.bytes(), text);
+    }
+}
+
+/// The first byte that is no digit is told, also far behind blanks.
+#[test]
+fn strangers_are_told(rt: HostRuntime) {
+    let mut far = [b' '; 70_000];
+    far[69_999] = b'x';
+    let rows: [(&[u8], u64); 4] = [(b"zz", 0), (b"05zz", 2), (b"05 0g", 4), (&far, 69_999)];
+    for (input, index) in rows {
+        let (ending, text) = ran(&rt, &["ddcmp", "explain"], input, 0);
+        assert_eq!(rt; ending.status(), 1);
+        assert!(rt; matches!(ending, Ending::Fault(ExplainFault::NotHex(at)) if at == index));
+        assert!(rt; text.bytes().is_empty());
+    }
+}
+
+/// Wrong words behind `explain` are told as usage, and nothing is written.
+#[test]
+fn wrong_words_are_told(rt: HostRuntime) -> Result<(), Fail> {
+    let rows: [&[&str]; 4] = [
+        &["ddcmp", "explain", "--wrong"],
+        &["ddcmp", "explain", "more"],
+        &["ddcmp", "explain", "--max", "0"],
+        &["ddcmp", "explain", "--raw", "--max"],
+    ];
+    for words in rows {
+        let (ending, text) = ran(&rt, words, b"050100000001fc55", 0);
+        assert_eq!(rt; ending.status(), 2);
+        assert!(rt; !ending.to_string(rt.alloc())?.is_empty());
+        assert!(rt; matches!(ending, Ending::Usage(_)));
+        assert!(rt; text.bytes().is_empty());
+    }
+    Ok(())
+}
+
+/// What a run with the words of the system ends as, and what it wrote.
+fn ran_args(rt: &(impl Abort + AllocGlobal), args: io::Result<Vec<String>>) -> (u8, Taken<4096>) {
+    let mut reader = Pieces::of(b"050100000001fc55");
+    let mut writer = Taken::new();
+    let ending = run_args(rt.alloc(), args, &mut reader, &mut writer);
+    (ending.status(), writer)
+}
+
+#[test]
+fn words_of_the_system_are_taken(rt: HostRuntime) -> Result<(), Fail> {
+    let alloc = rt.alloc();
+    let mut words = Vec::new(alloc);
+    words.push(String::from_str(alloc, "ddcmp")?)?;
+    words.push(String::from_str(alloc, "explain")?)?;
+    let (status, text) = ran_args(&rt, Ok(words));
+    assert_eq!(rt; status, 0);
+    assert_eq!(rt;
+        text.bytes(),
+        b"0 ACK sub=0 q=0 s=0 resp=0 num=0 addr=1\nitems=1 bytes=8 open=0\n".as_slice()
+    );
+    let (status, text) = ran_args(&rt, Ok(Vec::new(alloc)));
+    assert_eq!(rt; status, 2);
+    assert!(rt; text.bytes().is_empty());
+    for (kind, status) in [(ErrorKind::InvalidData, 2), (ErrorKind::OutOfMemory, 3)] {
+        let (told, text) = ran_args(&rt, Err(io::Error::from(kind)));
+        assert_eq!(rt; told, status);
+        assert!(rt; text.bytes().is_empty());
+    }
+    Ok(())
 }

@@ -1,0 +1,103 @@
+// Two stations exchange a message. The program carries the bytes from one to the other.
+ghost use Rattle.std.specs.Prelude.{◌≡◌, ◌≤◌, length};
+
+use ddcmp_station::{Config, Station};
+use std::alloc::Global;
+use std::io;
+
+const SIZES: Config = Config {
+    window: 7,
+    inbox: 8,
+    max: 64,
+    syn: 0,
+    restart: false,
+};
+/// The most bytes of a frame: 10, and the longest message.
+const FRAME: usize = 74;
+
+/// One end of the line.
+#[derive(Drop)]
+struct End {
+    name: &'static str,
+    station: Station,
+    ghost longest: { station.kept.limits.longest ≡ 64 },
+    ghost syn: { station.syn ≡ 0 },
+}
+
+impl End {
+    fn new(alloc: Global, name: &'static str) -> Option<End> {
+        let station = Station::new(alloc, SIZES).ok()?;
+        Some(End { name, station })
+    }
+
+    fn start(&mut self, rt: &impl Print) -> io::Result<()> {
+        let answer = self.station.start();
+        println!(rt; "{} starts: {answer:?}", self.name)
+    }
+
+    fn send(&mut self, rt: &impl Print, message: &[u8]) -> io::Result<()> {
+        let answer = self.station.send(message);
+        println!(rt; "{} sends: {answer:?}", self.name)
+    }
+
+    /// Takes the first message of its mail.
+    fn take(&mut self, rt: &impl Print) -> io::Result<()> {
+        let mut message = [0; 64];
+        match self.station.take(&mut message) {
+            Some(n) => println!(rt; "{} takes {:?}", self.name, &message[..n]),
+            None => println!(rt; "{} has no mail", self.name),
+        }
+    }
+
+    /// Writes the next frame, if there is one, at the front of `out`: how many bytes it has.
+    fn write(&mut self, out: &mut [u8]) -> usize
+        requires { FRAME ≤ length out.old }
+        ensures { result ≤ FRAME }
+    {
+        self.station.poll(out).unwrap_or(0)
+    }
+
+    /// Hears a piece of the line. `feed` stops behind each notice, so the rest is fed again.
+    fn hear(&mut self, rt: &(impl Print + AllocGlobal), piece: &[u8]) -> io::Result<()> {
+        println!(rt; "to {}: {}", self.name, hex::encode(rt.alloc(), piece)?)?;
+        let mut rest = piece;
+        while !rest.is_empty() {
+            // The bytes of a line are counted in 64 bits.
+            let counted = self.station.offset().checked_add(rest.len() as u64);
+            if counted.is_none() {
+                return println!(rt; "the line is full");
+            }
+            let fed = self.station.feed(rest);
+            rest = &rest[fed.used..];
+            if let Some(notice) = fed.notice {
+                println!(rt; "{} tells {notice:?}", self.name)?;
+            }
+        }
+        Ok(())
+    }
+}
+
+pub fn run(rt: &(impl Print + AllocGlobal)) -> io::Result<()> {
+    let Some(mut a) = End::new(rt.alloc(), "A") else {
+        return println!(rt; "no memory for A");
+    };
+    let Some(mut b) = End::new(rt.alloc(), "B") else {
+        return println!(rt; "no memory for B");
+    };
+    a.start(rt)?;
+    b.start(rt)?;
+    let mut piece = [0; 2 * FRAME];
+    let n = a.write(&mut piece);
+    b.hear(rt, &piece[..n])?;
+    let n = b.write(&mut piece);
+    a.hear(rt, &piece[..n])?;
+
+    // A owes an ACK, and then has a message. Both frames go in one piece.
+    let ack = a.write(&mut piece);
+    a.send(rt, b"abc")?;
+    let n = ack + a.write(&mut piece[ack..]);
+    b.hear(rt, &piece[..n])?;
+    b.take(rt)?;
+    let n = b.write(&mut piece);
+    a.hear(rt, &piece[..n])
+}
