@@ -1,4 +1,4 @@
-// Rows worked by hand, as calls of a core over two stores, and each call once.
+//! Rows worked by hand, as calls of a core over two stores, and each call once.
 ghost use Rattle.std.specs.Prelude.{◌≡◌, ◌≤◌};
 
 use ddcmp_core::{

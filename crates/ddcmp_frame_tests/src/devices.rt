@@ -1,4 +1,4 @@
-// `FromRead` and `ToWrite` tell std's faults and no others, with one call for each of theirs.
+//! `FromRead` and `ToWrite` tell std's faults and no others, with one call for each of theirs.
 ghost use Rattle.std.specs.Prelude.{◌<◌, length};
 
 use ddcmp_frame::{FromRead, Got, Sink, Source, ToWrite, Worst};

@@ -1,4 +1,4 @@
-// The devices of the tests do what they are told.
+//! The devices of the tests do what they are told.
 
 use ddcmp_frame::failing::{Pieces, Taken};
 use ddcmp_frame::{Got, Sink, Source, Worst};

@@ -1,4 +1,4 @@
-// Vectors and worked texts, and one call of each function.
+//! Vectors and worked texts, and one call of each function.
 ghost use Rattle.std.specs.Prelude.{◌≡◌, ◌+◌, ◌≤◌, length};
 ghost use Rattle.ddcmp_frame.specs.Wire.{IsFrame};
 ghost use Rattle.ddcmp_frame.specs.Reader.{frame_length};

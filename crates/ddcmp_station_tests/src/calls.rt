@@ -1,4 +1,4 @@
-// Rows worked by hand, as calls of a station, and each call once.
+//! Rows worked by hand, as calls of a station, and each call once.
 ghost use Rattle.std.specs.Prelude.{◌≡◌, ◌≤◌, ◌<◌, ◌+◌, ◌^◌, length, false};
 
 use ddcmp_station::{
@@ -42,7 +42,7 @@ fn sizes(window: u16, inbox: u16, max: u16, syn: u8) -> Config
 #[derive(Drop)]
 struct Bench {
     station: Station,
-    ghost longest: { station.kept.limits.longest ≡ 1500 },
+    ghost longest: { station.core.limits.longest ≡ 1500 },
     ghost syn: { station.syn ≤ 16 },
 }
 

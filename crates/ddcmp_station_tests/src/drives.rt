@@ -1,4 +1,4 @@
-// Stations driven over memory.
+//! Stations driven over memory.
 use crate::devices::{Moments, Recorder, Seen};
 use crate::rows::{
     ACK, ANSWER, Row, SILENCE, STACK, STARTUP, STRT, driven, drives, nothing, started,

@@ -1,4 +1,4 @@
-// One read or one write fails, at each call in turn.
+//! One read or one write fails, at each call in turn.
 use crate::devices::Seen;
 use crate::rows::{ACK, Row, SILENCE, STACK, driven, drives, nothing, started};
 use ddcmp_station::{LineFault, Notice, State};

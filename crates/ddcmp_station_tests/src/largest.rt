@@ -1,4 +1,4 @@
-// Stations of the largest sizes, a message of the most bytes, and many turns.
+//! Stations of the largest sizes, a message of the most bytes, and many turns.
 ghost use Rattle.std.specs.Prelude.{◌≡◌};
 
 use crate::devices::{Moments, Recorder, Seen};
@@ -97,7 +97,7 @@ fn the_longest_message(rt: HostRuntime) {
 #[derive(Drop)]
 struct End {
     station: Station,
-    ghost longest: { station.kept.limits.longest ≡ 16383 },
+    ghost longest: { station.core.limits.longest ≡ 16383 },
     ghost syn: { station.syn ≡ 16 },
 }
 

@@ -1,4 +1,4 @@
-// A call of `drive` over memory: what goes in, and what has to come of it.
+//! A call of `drive` over memory: what goes in, and what has to come of it.
 ghost use Rattle.std.specs.Prelude.{◌≡◌};
 
 use crate::devices::{Moments, Recorder, Seen};

@@ -1,4 +1,4 @@
-// Examples worked by hand, over each store, and each call once with ample memory.
+//! Examples worked by hand, over each store, and each call once with ample memory.
 ghost use Rattle.std.specs.Prelude.{◌≡◌, []};
 
 use ddcmp_window::{Inbox, Memory, Offer, SendRefusal, Sender, Seq, SlotStore, Store};

@@ -1,5 +1,5 @@
-// A station is driven over a line in memory. In each turn `drive` looks after the timer, asks the
-// user for a message, writes a frame, reads, and tells the user what came.
+//! A station is driven over a line in memory. In each turn `drive` looks after the timer, asks the
+//! user for a message, writes a frame, reads, and tells the user what came.
 use ddcmp_frame::failing::{Pieces, Taken};
 use ddcmp_station::{Clock, Config, Notice, Station, User, drive};
 use std::io;

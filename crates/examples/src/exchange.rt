@@ -1,4 +1,4 @@
-// Two stations exchange a message. The program carries the bytes from one to the other.
+//! Two stations exchange a message. The program carries the bytes from one to the other.
 ghost use Rattle.std.specs.Prelude.{◌≡◌, ◌≤◌, length};
 
 use ddcmp_station::{Config, Station};
@@ -20,7 +20,7 @@ const FRAME: usize = 74;
 struct End {
     name: &'static str,
     station: Station,
-    ghost longest: { station.kept.limits.longest ≡ 64 },
+    ghost longest: { station.core.limits.longest ≡ 64 },
     ghost syn: { station.syn ≡ 0 },
 }
 
