@@ -1,6 +1,7 @@
 //! A store that keeps all messages in one ring of bytes.
 ghost use Rattle.ddcmp_num.specs.declared.limits.TheConstants.{MAX_COUNT, MAX_WINDOW};
-ghost use Rattle.std.specs.Prelude.{◌≡◌, ◌+◌, ◌*◌, ◌<◌, ◌≤◌, [], ◌++◌, length, take, drop, slice_index, sum, All, IfOk};
+ghost use Rattle.std.specs.Prelude.{◌≡◌, ◌+◌, ◌*◌, ◌<◌, ◌≤◌, IfOk};
+ghost use Rattle.std.specs.Prelude.{[], ◌++◌, length, take, drop, slice_index, sum, All};
 
 use crate::store::{Memory, Store};
 use circular_buffer::HeapCircularBuffer;
