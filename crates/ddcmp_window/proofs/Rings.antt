@@ -1,5 +1,5 @@
 -- A ring that has room, and its items as the last of them stay.
-use Rattle.std.proofs.Common.{◌≡◌, ℕ, ◌+◌, ◌-◌, ◌*◌, ◌<◌, ◌≤◌, List, [], ◌∷◌, ◌++◌, length, drop, sum, All, refl, arith}
+use Rattle.std.proofs.Common.{◌≡◌, ℕ, ◌+◌, ◌-◌, ◌*◌, ◌<◌, ◌≤◌, List, [], ◌∷◌, ◌++◌, length, sum, All, refl, arith}
 use Rattle.std.proofs.Math.Nat.{add-mul}
 use Rattle.std.proofs.lemmas.List.{length-append, length_push}
 use Rattle.std.proofs.lemmas.List.Elements.{All-weaker}
@@ -11,12 +11,6 @@ pub keep_last-all : {A : Type 0} (n : ℕ) (xs : List A) → length xs ≤ n →
 keep_last-all n xs inside =
     let none : length xs - n ≡ 0 = omega arith in
     rw none refl
-
--- those that are left without the first n
-pub keep_last-rest : {A : Type 0} (left n : ℕ) (xs : List A) → left + n ≡ length xs → keep_last left xs ≡ drop n xs
-keep_last-rest left n xs total =
-    let rest : length xs - left ≡ n = omega arith in
-    rw rest refl
 
 -- one more item, where the ring isn't full
 pub keep_last-push : {A : Type 0} (capacity limit : ℕ) (xs : List A) (x : A) → capacity ≡ limit → length xs < limit

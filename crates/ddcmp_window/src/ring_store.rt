@@ -2,6 +2,7 @@
 ghost use Rattle.ddcmp_num.specs.declared.limits.TheConstants.{MAX_COUNT, MAX_WINDOW};
 ghost use Rattle.std.specs.Prelude.{◌≡◌, ◌+◌, ◌*◌, ◌<◌, ◌≤◌, IfOk};
 ghost use Rattle.std.specs.Prelude.{[], ◌++◌, length, take, drop, slice_index, sum, All};
+ghost use Rattle.circular_buffer.specs.Buffer.{buffer};
 
 use crate::store::{Memory, Store};
 use circular_buffer::HeapCircularBuffer;
@@ -68,6 +69,14 @@ impl RingStore {
     }
 }
 
+/// Drops the first `n` items.
+fn drop_first<T: Drop>(ring: &mut HeapCircularBuffer<T>, n: usize)
+    requires { n ≤ length ring.old.items }
+    ensures { ring.new ≡ buffer (drop n ring.old.items) ring.old.capacity }
+{
+    ring.truncate_front(ring.len() - n);
+}
+
 /// Copies the bytes from `start` on, of two slices of which one follows the other, into `out`.
 fn copy_across(front: &[u8], back: &[u8], start: usize, out: &mut [u8])
     requires { start + length out.old ≤ length (front.now ++ back.now) }
@@ -112,10 +121,9 @@ impl Store for RingStore {
     }
 
     fn drop_front(&mut self, n: u8) {
-        let bytes_left = self.ring.len() - self.bytes_before(n);
-        let messages_left = self.lengths.len() - n as usize;
-        self.ring.truncate_front(bytes_left);
-        self.lengths.truncate_front(messages_left);
+        let bytes = self.bytes_before(n);
+        drop_first(&mut self.ring, bytes);
+        drop_first(&mut self.lengths, n as usize);
     }
 
     fn copy(&self, i: u8, out: &mut [u8]) -> usize {
