@@ -1,1 +1,4 @@
+pub mod Across
+pub mod Cuts
 pub mod Fronts
+pub mod Rings

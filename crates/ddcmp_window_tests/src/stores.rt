@@ -1,7 +1,8 @@
 //! Examples worked by hand, over each store, and each call once with ample memory.
-ghost use Rattle.std.specs.Prelude.{◌≡◌, []};
+ghost use Rattle.std.specs.Prelude.{◌≡◌, ◌≤◌, []};
 
-use ddcmp_window::{Inbox, Memory, Offer, SendRefusal, Sender, Seq, SlotStore, Store};
+use ddcmp_window::{Inbox, Memory, Offer, RingStore, SendRefusal, Sender, Seq, SlotStore, Store};
+use std::alloc::Global;
 use std::process::Abort;
 use std::test::Fail;
 
@@ -225,10 +226,50 @@ fn slots_serve_a_window(rt: HostRuntime) -> Result<(), Fail> {
     Ok(())
 }
 
+#[test]
+fn a_ring_serves_a_window(rt: HostRuntime) -> Result<(), Fail> {
+    keeps_until_acknowledged(&rt, RingStore::new(rt.alloc(), 3, 4)?);
+    gives_without_numbers(&rt, RingStore::new(rt.alloc(), 3, 4)?);
+    numbers_wrap(&rt, RingStore::new(rt.alloc(), 1, 4)?);
+    fills_the_window(&rt, RingStore::new(rt.alloc(), 255, 4)?);
+    takes_in_sequence(&rt, RingStore::new(rt.alloc(), 1, 4)?);
+    keeps_in_order(&rt, RingStore::new(rt.alloc(), 2, 3)?);
+    Ok(())
+}
+
+/// With ample memory.
+#[test]
+fn rings_are_made(rt: HostRuntime) -> Result<(), Fail> {
+    rings_of_each_length(&rt, rt.alloc(), 1)?;
+    rings_of_each_length(&rt, rt.alloc(), 2)?;
+    rings_of_each_length(&rt, rt.alloc(), 7)?;
+    rings_of_each_length(&rt, rt.alloc(), 127)?;
+    rings_of_each_length(&rt, rt.alloc(), 255)?;
+    Ok(())
+}
+
+fn rings_of_each_length(rt: &impl Abort, alloc: Global, limit: u8) -> Result<(), Memory>
+    requires { 1 ≤ limit }
+{
+    assert_eq!(rt; RingStore::new(alloc, limit, 1)?.longest(), 1);
+    assert_eq!(rt; RingStore::new(alloc, limit, 2)?.longest(), 2);
+    assert_eq!(rt; RingStore::new(alloc, limit, 1500)?.longest(), 1500);
+    assert_eq!(rt; RingStore::new(alloc, limit, 16383)?.longest(), 16383);
+    Ok(())
+}
+
 /// Run with one allocation refused after another; the other tests want all of them.
 #[test]
 fn refused_memory_is_told(rt: HostRuntime) {
     match SlotStore::new(rt.alloc(), 3, 4) {
+        Ok(store) => assert_eq!(rt; store.limit(), 3),
+        Err(refused) => assert_eq!(rt; refused, Memory),
+    }
+}
+
+#[test]
+fn refused_memory_for_a_ring_is_told(rt: HostRuntime) {
+    match RingStore::new(rt.alloc(), 3, 4) {
         Ok(store) => assert_eq!(rt; store.limit(), 3),
         Err(refused) => assert_eq!(rt; refused, Memory),
     }
