@@ -1,7 +1,13 @@
 -- What a parse says of the command that the words name.
 use Rattle.ddcmp_cli.specs.Endings.{CanRun, Performs, ExplainsOrNoMemory}
-use Rattle.ddcmp_cli.specs.declared.program.Ending.{Ending}
-use Rattle.std.proofs.Common.{inr, ℕ, codes, [], ◌∷◌, ◌≡◌, ◌∙◌, ap, sym, subst, refl, true, List, Option, Some, None}
+use Rattle.ddcmp_cli.specs.declared.ending.Ending.{Ending}
+use Rattle.clap.specs.Words.{IsAmong, fault_of, Kinds, is_simple_and_free}
+use Rattle.clap.specs.declared.error.kind.ErrorKind.{ErrorKind}
+use Rattle.clap.specs.declared.error.kind.ErrorKind.TheVariants.{DisplayHelp, DisplayVersion, OutOfMemory}
+use Rattle.ddcmp_cli.specs.declared.declined.Declined.{Declined}
+use Rattle.ddcmp_cli.specs.declared.declined.Declined.TheVariants.{Help, Version, Usage, Memory}
+use Rattle.ddcmp_cli.specs.Words.{IsOutOfOrder, IsMistaken, Declines, Reads, is_usage, is_help, is_version}
+use Rattle.std.proofs.Common.{inl, inr, ◌≢◌, ◌⊎◌, Err, ℕ, codes, [], ◌∷◌, ◌≡◌, ◌∙◌, ap, sym, subst, refl, true, List, Option, Some, None}
 use Rattle.std.specs.Option.{option_map, option_and_then}
 use Rattle.clap.specs.Words.{App, Text, HasMatchesOf, is_simple, subcommand_of, subcommand_name_of, subcommand_rows_of, one_text, one_of, takes, Row}
 use Rattle.clap.specs.Walk.{rows_of}
@@ -35,10 +41,6 @@ named app words m e h =
 pub in_order : (app : App) (words : List Text) (name : Text) → app ≡ program → IsAsked words name → takes app words ≡ true
 in_order app words name e asked = ap (λ (a : App). takes a words) e ∙ asked.in_order
 
-pub explain-asked : IsAsked (codes "ddcmp" ∷ codes "explain" ∷ []) (codes "explain")
-unfolding clap_on_literals named_by
-explain-asked = record { in_order = refl; names = refl }
-
 and_then-map : {A B C : Type 0} (g : A → Option C) (f : A → B) (h : B → Option C) (o : Option A) (b : B) → ((x : A) → g x ≡ h (f x)) → option_map f o ≡ Some b → option_and_then g o ≡ h b
 and_then-map g f h None b k e = let e' : ◌≡◌ None (Some b) = e in cc
 and_then-map g f h (Some x) b k e = let i : f x ≡ b = cc in k x ∙ ap h i
@@ -61,24 +63,61 @@ has_options app words m f (Explain form max) e h rows o = (
   subst (λ t. HasMaximum t max) (option_met app words m f (codes "max") e h rows) o.1,
 )
 
-pub plain-raw : option_in (codes "ddcmp" ∷ codes "explain" ∷ []) (codes "raw") ≡ Some (codes "false")
-unfolding clap_on_literals option_in
-plain-raw = refl
-
-pub plain-max : option_in (codes "ddcmp" ∷ codes "explain" ∷ []) (codes "max") ≡ None
-unfolding clap_on_literals option_in
-plain-max = refl
-
-pub given-raw : option_in (codes "ddcmp" ∷ codes "explain" ∷ codes "--raw" ∷ []) (codes "raw") ≡ Some (codes "true")
-unfolding clap_on_literals option_in
-given-raw = refl
-
-pub given-max : option_in (codes "ddcmp" ∷ codes "explain" ∷ codes "--max" ∷ codes "1500" ∷ []) (codes "max") ≡ Some (codes "1500")
-unfolding clap_on_literals option_in
-given-max = refl
-
 pub can_run : (o : Text → Option Text) (command : Command) → HasOptions o command → CanRun command
 can_run o (Explain form max) h = h.1.in_range
 
 pub performed : (words : List Text) (command : Command) (input : List ℕ) (left old new : Option (List ℕ)) (ending : Ending) → HasOptions (option_in words) command → Performs command input left old new ending → ExplainsOrNoMemory words input left old new ending
 performed words (Explain form max) input left old new ending h p = inr (form, max, p.0, h, p.1, p.2)
+
+-- ---- words that clap finds a fault with
+
+program-free : is_simple_and_free program ≡ true
+unfolding clap_on_literals
+program-free = refl
+
+pub at-program : (F : App → Type 0) (app : App) → app ≡ program → (is_simple_and_free app ≡ true → F app) → F program
+at-program F app e f = subst F e (f (ap is_simple_and_free e ∙ program-free))
+
+pub declined-memory : (kind : ErrorKind) (d : Declined) → Declines kind d → kind ≡ OutOfMemory → d ≡ Memory
+declined-memory kind (Help t) h e = let bad : DisplayHelp ≡ OutOfMemory = sym h ∙ e in cc
+declined-memory kind (Version t) h e = let bad : DisplayVersion ≡ OutOfMemory = sym h ∙ e in cc
+declined-memory kind (Usage t) h e = absurd (h.2 e)
+declined-memory kind Memory h e = refl
+
+among : (words : List Text) (kind known : ErrorKind) → kind ≡ known → known ≢ OutOfMemory → (kind ≡ OutOfMemory) ⊎ IsAmong kind (fault_of program words) → IsAmong known (fault_of program words)
+among words kind known e n (inl oom) = absurd (n (sym e ∙ oom))
+among words kind known e n (inr a) = subst (λ k. IsAmong k (fault_of program words)) e a
+
+pub reads-fault : (words : List Text) (kind : ErrorKind) (d : Declined) → Declines kind d → (kind ≡ OutOfMemory) ⊎ IsAmong kind (fault_of program words) → Reads words (Err d)
+reads-fault words kind (Help t) h a = among words kind DisplayHelp h (λ e. cc) a
+reads-fault words kind (Version t) h a = among words kind DisplayVersion h (λ e. cc) a
+reads-fault words kind (Usage t) h (inl oom) = absurd (h.2 oom)
+reads-fault words kind (Usage t) h (inr a) = inr (kind, a, h.0, h.1)
+reads-fault words kind Memory h a = tt
+
+pub reads-usage : (words : List Text) (d : Declined) → Reads words (Err d) → IsOutOfOrder words → is_usage (Err d) ≡ true
+reads-usage words (Help t) r o = absurd (o.no_help r)
+reads-usage words (Version t) r o = absurd (o.no_version r)
+reads-usage words (Usage t) r o = refl
+reads-usage words Memory r o = refl
+
+-- a lone kind of error is the one that is met
+lone : (words : List Text) (kind known : ErrorKind) → fault_of program words ≡ known ∷ [] → IsAmong kind (fault_of program words) → kind ≡ known
+lone words kind known e a = elim (subst (IsAmong kind) e a) [ inl same ↦ same | inr none ↦ absurd none ]
+
+mistaken-not : (words : List Text) (known : ErrorKind) (P : Type 0) → fault_of program words ≡ known ∷ [] → ((fault_of program words ≡ []) × (named_by words ≢ Some (codes "explain"))) ⊎ IsMistaken words → (known ≡ DisplayHelp) ⊎ (known ≡ DisplayVersion) → P
+mistaken-not words known P e (inl none) k = let bad : ◌≡◌ {A = Kinds} [] (known ∷ []) = sym none.0 ∙ e in cc
+mistaken-not words known P e (inr m) (inl k) = absurd (m.2 (lone words m.0 known e m.1 ∙ k))
+mistaken-not words known P e (inr m) (inr k) = absurd (m.3 (lone words m.0 known e m.1 ∙ k))
+
+pub reads-help : (words : List Text) (d : Declined) → Reads words (Err d) → fault_of program words ≡ DisplayHelp ∷ [] → is_help (Err d) ≡ true
+reads-help words (Help t) r e = refl
+reads-help words (Version t) r e = let bad : DisplayVersion ≡ DisplayHelp = lone words DisplayVersion DisplayHelp e r in cc
+reads-help words (Usage t) r e = mistaken-not words DisplayHelp (is_help (Err (Usage t)) ≡ true) e r (inl refl)
+reads-help words Memory r e = refl
+
+pub reads-version : (words : List Text) (d : Declined) → Reads words (Err d) → fault_of program words ≡ DisplayVersion ∷ [] → is_version (Err d) ≡ true
+reads-version words (Help t) r e = let bad : DisplayHelp ≡ DisplayVersion = lone words DisplayHelp DisplayVersion e r in cc
+reads-version words (Version t) r e = refl
+reads-version words (Usage t) r e = mistaken-not words DisplayVersion (is_version (Err (Usage t)) ≡ true) e r (inr refl)
+reads-version words Memory r e = refl

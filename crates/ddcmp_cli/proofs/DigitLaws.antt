@@ -5,9 +5,9 @@ use Rattle.std.specs.List.{filter_map, take_while, position_from, cons_option}
 use Rattle.std.proofs.lemmas.List.Sums.{take_while-cons}
 use Rattle.std.proofs.lemmas.List.{append-nil}
 use Rattle.std.proofs.lemmas.List.Elements.{filter_map-append}
-use Rattle.ddcmp_cli.specs.declared.explaining.Form.{Form}
-use Rattle.ddcmp_cli.specs.declared.explaining.Form.TheVariants.{Hex, Raw}
-use Rattle.ddcmp_cli.specs.Digits.{hex_value, is_blank, is_readable, first_stranger, digits, pairs, left_over, spelled, bytes_of, stranger_in, left_in}
+use Rattle.ddcmp_cli.specs.declared.form.Form.{Form}
+use Rattle.ddcmp_cli.specs.declared.form.Form.TheVariants.{Hex, Raw}
+use Rattle.ddcmp_cli.specs.Digits.{hex_value, is_blank, is_readable, first_unexpected, digits, pairs, left_over, bytes_of, unexpected_in, left_in}
 
 none-some : {n : ℕ} → ◌≡◌ {A = Option ℕ} None (Some n) → ⊥
 none-some h = cc
@@ -32,63 +32,63 @@ none-more p i (x ∷ s) t e = at (p x) (none-more p (i + 1) s t) e
     at true ih e = absurd (some-none e)
     at false ih e = ih e ∙ ap (λ n. position_from p n t) (omega arith)
 
-pub readable-more : (seen : List ℕ) (b : ℕ) → first_stranger seen ≡ None → is_readable b ≡ true → first_stranger (seen ++ b ∷ []) ≡ None
-unfolding first_stranger
+pub readable-more : (seen : List ℕ) (b : ℕ) → first_unexpected seen ≡ None → is_readable b ≡ true → first_unexpected (seen ++ b ∷ []) ≡ None
+unfolding first_unexpected
 readable-more seen b e h = none-more (λ c. not (is_readable c)) 0 seen (b ∷ []) e ∙ rw h refl
 
-pub stranger-here : (seen : List ℕ) (b : ℕ) → first_stranger seen ≡ None → is_readable b ≡ false → first_stranger (seen ++ b ∷ []) ≡ Some (length seen)
-unfolding first_stranger
-stranger-here seen b e h = none-more (λ c. not (is_readable c)) 0 seen (b ∷ []) e ∙ rw h (ap Some (omega arith))
+pub unexpected-here : (seen : List ℕ) (b : ℕ) → first_unexpected seen ≡ None → is_readable b ≡ false → first_unexpected (seen ++ b ∷ []) ≡ Some (length seen)
+unfolding first_unexpected
+unexpected-here seen b e h = none-more (λ c. not (is_readable c)) 0 seen (b ∷ []) e ∙ rw h (ap Some (omega arith))
 
-pub stranger-more : (s t : List ℕ) (n : ℕ) → first_stranger s ≡ Some n → first_stranger (s ++ t) ≡ Some n
-unfolding first_stranger
-stranger-more s t n e = found-more (λ c. not (is_readable c)) 0 s t n e
+pub unexpected-more : (s t : List ℕ) (n : ℕ) → first_unexpected s ≡ Some n → first_unexpected (s ++ t) ≡ Some n
+unfolding first_unexpected
+unexpected-more s t n e = found-more (λ c. not (is_readable c)) 0 s t n e
 
-pub stranger-none : first_stranger [] ≡ None
-unfolding first_stranger
-stranger-none = refl
+pub unexpected-none : first_unexpected [] ≡ None
+unfolding first_unexpected
+unexpected-none = refl
 
 pub digits-none : digits [] ≡ []
 unfolding digits
 digits-none = refl
 
-abbrev strange : ℕ → Bool
-strange c = not (is_readable c)
+abbrev unexpected : ℕ → Bool
+unexpected c = not (is_readable c)
 
--- what was read to its end is taken whole, and then what follows
-while-more : (i : ℕ) (s t : List ℕ) → position_from strange i s ≡ None → take_while is_readable (s ++ t) ≡ s ++ take_while is_readable t
+-- what was read to its end is kept whole, and then what follows
+while-more : (i : ℕ) (s t : List ℕ) → position_from unexpected i s ≡ None → take_while is_readable (s ++ t) ≡ s ++ take_while is_readable t
 while-more i [] t e = refl
 while-more i (x ∷ s) t e =
     take_while-cons is_readable x (s ++ t) ∙ at (is_readable x) (while-more (i + 1) s t) e
   where
-    at : (b : Bool) → (position_from strange (i + 1) s ≡ None → take_while is_readable (s ++ t) ≡ s ++ take_while is_readable t) → cond (not b) (Some i) (position_from strange (i + 1) s) ≡ None → cond b (x ∷ take_while is_readable (s ++ t)) [] ≡ x ∷ (s ++ take_while is_readable t)
+    at : (b : Bool) → (position_from unexpected (i + 1) s ≡ None → take_while is_readable (s ++ t) ≡ s ++ take_while is_readable t) → cond (not b) (Some i) (position_from unexpected (i + 1) s) ≡ None → cond b (x ∷ take_while is_readable (s ++ t)) [] ≡ x ∷ (s ++ take_while is_readable t)
     at true ih e = ap (λ r. x ∷ r) (ih e)
     at false ih e = absurd (some-none e)
 
--- what was read up to a stranger stays, whatever follows
-while-found : (i : ℕ) (s t : List ℕ) (n : ℕ) → position_from strange i s ≡ Some n → take_while is_readable (s ++ t) ≡ take_while is_readable s
+-- what was read up to an unexpected byte stays, whatever follows
+while-found : (i : ℕ) (s t : List ℕ) (n : ℕ) → position_from unexpected i s ≡ Some n → take_while is_readable (s ++ t) ≡ take_while is_readable s
 while-found i [] t n e = absurd (none-some e)
 while-found i (x ∷ s) t n e =
     take_while-cons is_readable x (s ++ t) ∙ at (is_readable x) (while-found (i + 1) s t n) e ∙ sym (take_while-cons is_readable x s)
   where
-    at : (b : Bool) → (position_from strange (i + 1) s ≡ Some n → take_while is_readable (s ++ t) ≡ take_while is_readable s) → cond (not b) (Some i) (position_from strange (i + 1) s) ≡ Some n → cond b (x ∷ take_while is_readable (s ++ t)) [] ≡ cond b (x ∷ take_while is_readable s) []
+    at : (b : Bool) → (position_from unexpected (i + 1) s ≡ Some n → take_while is_readable (s ++ t) ≡ take_while is_readable s) → cond (not b) (Some i) (position_from unexpected (i + 1) s) ≡ Some n → cond b (x ∷ take_while is_readable (s ++ t)) [] ≡ cond b (x ∷ take_while is_readable s) []
     at true ih e = ap (λ r. x ∷ r) (ih e)
     at false ih e = refl
 
-while-all : (s : List ℕ) → first_stranger s ≡ None → take_while is_readable s ≡ s
-unfolding first_stranger
+while-all : (s : List ℕ) → first_unexpected s ≡ None → take_while is_readable s ≡ s
+unfolding first_unexpected
 while-all s e = ap (take_while is_readable) (sym (append-nil s)) ∙ while-more 0 s [] e ∙ append-nil s
 
 -- the digits of an input that goes on
-pub digits-more : (s t : List ℕ) → first_stranger s ≡ None → digits (s ++ t) ≡ digits s ++ digits t
-unfolding digits first_stranger
+pub digits-more : (s t : List ℕ) → first_unexpected s ≡ None → digits (s ++ t) ≡ digits s ++ digits t
+unfolding digits first_unexpected
 digits-more s t e =
     ap (filter_map hex_value) (while-more 0 s t e)
     ∙ filter_map-append hex_value s (take_while is_readable t)
     ∙ ap (λ x. filter_map hex_value x ++ filter_map hex_value (take_while is_readable t)) (sym (while-all s e))
 
-pub digits-found : (s t : List ℕ) (n : ℕ) → first_stranger s ≡ Some n → digits (s ++ t) ≡ digits s
-unfolding digits first_stranger
+pub digits-found : (s t : List ℕ) (n : ℕ) → first_unexpected s ≡ Some n → digits (s ++ t) ≡ digits s
+unfolding digits first_unexpected
 digits-found s t n e = ap (filter_map hex_value) (while-found 0 s t n e)
 
 while-one : (b : ℕ) → is_readable b ≡ true → take_while is_readable (b ∷ []) ≡ b ∷ []
@@ -104,9 +104,9 @@ pub digits-blank : (b : ℕ) → is_readable b ≡ true → hex_value b ≡ None
 unfolding digits
 digits-blank b r e = ap (filter_map hex_value) (while-one b r) ∙ one-digit b None e
 
-pub digits-strange : (b : ℕ) → is_readable b ≡ false → digits (b ∷ []) ≡ []
+pub digits-unexpected : (b : ℕ) → is_readable b ≡ false → digits (b ∷ []) ≡ []
 unfolding digits
-digits-strange b r = ap (filter_map hex_value) (while-not b r)
+digits-unexpected b r = ap (filter_map hex_value) (while-not b r)
 
 pub digits-digit : (b v : ℕ) → is_readable b ≡ true → hex_value b ≡ Some v → digits (b ∷ []) ≡ v ∷ []
 unfolding digits
@@ -123,19 +123,6 @@ pairs-whole [] high v e = let e' : ◌≡◌ {A = List ℕ} [] (high ∷ []) = e
 pairs-whole (h ∷ []) high v e = let s : h ≡ high = cc in (ap (λ x. (x * 16 + v) ∷ []) s, refl)
 pairs-whole (h ∷ l ∷ d) high v e = let r = pairs-whole d high v e in (ap (λ t. (h * 16 + l) ∷ t) r.0, r.1)
 
--- bytes that were whole stay the first ones
-pub pairs-prefix : (d t : List ℕ) → (more : List ℕ) × (pairs (d ++ t) ≡ pairs d ++ more)
-pairs-prefix [] t = (pairs t, refl)
-pairs-prefix (h ∷ []) t = (pairs (h ∷ t), refl)
-pairs-prefix (h ∷ l ∷ d) t = let r = pairs-prefix d t in (r.0, ap (λ x. (h * 16 + l) ∷ x) r.1)
-
-pub spelled-prefix : (s t : List ℕ) → (more : List ℕ) × (spelled (s ++ t) ≡ spelled s ++ more)
-spelled-prefix s t = at (first_stranger s) refl
-  where
-    at : (o : Option ℕ) → first_stranger s ≡ o → (more : List ℕ) × (spelled (s ++ t) ≡ spelled s ++ more)
-    at None e = let r = pairs-prefix (digits s) (digits t) in (r.0, ap pairs (digits-more s t e) ∙ r.1)
-    at (Some n) e = ([], ap pairs (digits-found s t n e) ∙ sym (append-nil (pairs (digits s))))
-
 pub readable-digit : (b v : ℕ) → hex_value b ≡ Some v → is_readable b ≡ true
 readable-digit b v e = ap (λ o. is_blank b || is_some o) e ∙ or-true (is_blank b)
   where
@@ -151,21 +138,13 @@ readable-neither b e h = ap (λ x. x || is_some (hex_value b)) e ∙ ap is_some 
 
 -- ---- in either form
 
-pub bytes-prefix : (form : Form) (s t : List ℕ) → (more : List ℕ) × (bytes_of form (s ++ t) ≡ bytes_of form s ++ more)
-bytes-prefix Hex s t = spelled-prefix s t
-bytes-prefix Raw s t = (t, refl)
+pub unexpected-stays : (form : Form) (s t : List ℕ) (n : ℕ) → unexpected_in form s ≡ Some n → unexpected_in form (s ++ t) ≡ Some n
+unexpected-stays Hex s t n e = unexpected-more s t n e
+unexpected-stays Raw s t n e = absurd (none-some e)
 
-pub stranger-stays : (form : Form) (s t : List ℕ) (n : ℕ) → stranger_in form s ≡ Some n → stranger_in form (s ++ t) ≡ Some n
-stranger-stays Hex s t n e = stranger-more s t n e
-stranger-stays Raw s t n e = absurd (none-some e)
-
-pub bytes-found : (form : Form) (s t : List ℕ) (n : ℕ) → stranger_in form s ≡ Some n → bytes_of form (s ++ t) ≡ bytes_of form s
-bytes-found Hex s t n e = ap pairs (digits-found s t n e)
-bytes-found Raw s t n e = absurd (none-some e)
-
-pub nothing-strange : (form : Form) → stranger_in form [] ≡ None
-nothing-strange Hex = stranger-none
-nothing-strange Raw = refl
+pub nothing-unexpected : (form : Form) → unexpected_in form [] ≡ None
+nothing-unexpected Hex = unexpected-none
+nothing-unexpected Raw = refl
 
 pub nothing-spelled : (form : Form) → bytes_of form [] ≡ []
 nothing-spelled Hex = ap pairs digits-none

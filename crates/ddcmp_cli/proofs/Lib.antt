@@ -1,7 +1,8 @@
-pub mod WrittenLaws
+pub mod TextLaws
 pub mod DigitLaws
-pub mod ProgressLaws
-pub mod EndLaws
+pub mod DecodingLaws
+pub mod LinesLaws
 pub mod ExplainLaws
+pub mod TakeLaws
 pub mod CommandLaws
 pub mod MaximumLaws

@@ -1,4 +1,4 @@
--- What the text behind `--max` is read as.
+-- What the text after `--max` is read as.
 use Rattle.std.proofs.Common.{◌≡◌, ◌∙◌, Bool, true, false, ℕ, ◌≤◌, List, refl, ap, sym, arith, Option, Some, None, Result, Ok, Err}
 use Rattle.std.specs.Prelude.{decimal}
 use Rattle.std.specs.Str.Parse.{ParsesUnsigned}
@@ -29,9 +29,9 @@ none-some h = cc
 false-true : ◌≡◌ {A = Bool} false true → ⊥
 false-true e = cc
 
--- a number in range is taken
-pub taken : (text : Option (List ℕ)) (v : ℕ) → IsMaximum v → (text ≡ None → Some v ≡ None) → ((n : ℕ) → text ≡ Some (decimal n) → n ≤ 16383 → Some v ≡ Some n) → HasMaximum text v
-taken text v r none reads = record {
+-- a number in range is read
+pub in_range : (text : Option (List ℕ)) (v : ℕ) → IsMaximum v → (text ≡ None → Some v ≡ None) → ((n : ℕ) → text ≡ Some (decimal n) → n ≤ 16383 → Some v ≡ Some n) → HasMaximum text v
+in_range text v r none reads = record {
   in_range = r;
   given = λ n e h. some-inj (reads n e h.1);
   absent = λ e. absurd (some-none (none e));

@@ -2,8 +2,8 @@
 use Rattle.std.specs.Prelude.{ℕ, ◌+◌, ◌*◌, ◌==◌, ◌||◌, nat_lt, Bool, not, is_some, List, [], ◌∷◌, if◌then◌else◌, Option, Some, None}
 use Rattle.std.specs.Char.{digit_value}
 use Rattle.std.specs.List.{filter_map, take_while, position_from}
-use Rattle.ddcmp_cli.specs.declared.explaining.Form.{Form}
-use Rattle.ddcmp_cli.specs.declared.explaining.Form.TheVariants.{Hex, Raw}
+use Rattle.ddcmp_cli.specs.declared.form.Form.{Form}
+use Rattle.ddcmp_cli.specs.declared.form.Form.TheVariants.{Hex, Raw}
 
 -- the value of a hexadecimal digit, in either case
 abbrev pub hex_value : ℕ → Option ℕ
@@ -17,8 +17,8 @@ abbrev pub is_readable : ℕ → Bool
 is_readable c = is_blank c || is_some (hex_value c)
 
 -- the place of the first byte that is neither blank nor a digit
-unfoldable pub first_stranger : List ℕ → Option ℕ
-first_stranger input = position_from (λ c. not (is_readable c)) 0 input
+unfoldable pub first_unexpected : List ℕ → Option ℕ
+first_unexpected input = position_from (λ c. not (is_readable c)) 0 input
 
 -- the values of the digits before it
 unfoldable pub digits : List ℕ → List ℕ
@@ -46,9 +46,9 @@ bytes_of Hex input = spelled input
 bytes_of Raw input = input
 
 -- where an input can't be read on
-abbrev pub stranger_in : Form → List ℕ → Option ℕ
-stranger_in Hex input = first_stranger input
-stranger_in Raw input = None
+abbrev pub unexpected_in : Form → List ℕ → Option ℕ
+unexpected_in Hex input = first_unexpected input
+unexpected_in Raw input = None
 
 -- the digit that makes no byte
 abbrev pub left_in : Form → List ℕ → List ℕ

@@ -1,8 +1,7 @@
 pub mod Digits
+pub mod Decoding
 pub mod Text
-pub mod Written
 pub mod Explains
 pub mod Progress
 pub mod Words
 pub mod Endings
-pub use Rattle.ddcmp_frame.specs.Reading

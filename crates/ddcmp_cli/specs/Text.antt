@@ -25,12 +25,14 @@ abbrev pub flag_text : Bool → List ℕ
 flag_text b = if b then codes "1" else codes "0"
 
 abbrev pub flags_text : Flags → List ℕ
-flags_text flags = codes " q=" ++ flag_text flags.q ++ codes " s=" ++ flag_text flags.s ++ codes " resp="
+flags_text flags =
+    codes " q=" ++ flag_text flags.q ++ codes " s=" ++ flag_text flags.s ++ codes " resp="
 
 -- the fields that all headers have
 abbrev pub fields_text : Flags → ℕ → ℕ → ℕ → List ℕ
 fields_text flags resp num addr =
-    flags_text flags ++ decimal resp ++ codes " num=" ++ decimal num ++ codes " addr=" ++ decimal addr
+    flags_text flags ++ decimal resp ++ codes " num=" ++ decimal num
+    ++ codes " addr=" ++ decimal addr
 
 abbrev pub counted_text : CountedFields → List ℕ
 counted_text h = codes " count=" ++ decimal h.count ++ fields_text h.flags h.resp h.num h.addr
@@ -38,7 +40,8 @@ counted_text h = codes " count=" ++ decimal h.count ++ fields_text h.flags h.res
 abbrev pub header_text : Header → List ℕ
 header_text (Data h) = codes "DATA" ++ counted_text h
 header_text (Maint h) = codes "MAINT" ++ counted_text h
-header_text (Control h) = kind_text h.kind ++ codes " sub=" ++ decimal h.sub ++ fields_text h.flags h.resp h.num h.addr
+header_text (Control h) =
+    kind_text h.kind ++ codes " sub=" ++ decimal h.sub ++ fields_text h.flags h.resp h.num h.addr
 
 -- no reader gives the last two
 abbrev pub fault_text : HeaderFault → List ℕ
@@ -47,7 +50,7 @@ fault_text CountZero = codes "count=0"
 fault_text NotAStart = codes "start"
 fault_text Check = codes "check"
 
--- what an item is, behind the offset of its start byte
+-- what an item is, after the offset of its start byte
 unfoldable pub item_text : Item → List ℕ
 item_text (Good offset h) = decimal offset ++ codes " " ++ header_text h
 item_text (HeaderCheck offset) = decimal offset ++ codes " header check"
@@ -56,13 +59,13 @@ item_text (TooLong offset h) = decimal offset ++ codes " too long " ++ header_te
 item_text (Format offset fault) = decimal offset ++ codes " format " ++ fault_text fault
 
 -- the data of a good frame, in hexadecimal
-abbrev pub data_behind : Header → List ℕ → List ℕ
-data_behind (Data h) lent = codes " " ++ encode_lower lent
-data_behind (Maint h) lent = codes " " ++ encode_lower lent
-data_behind (Control h) lent = []
+abbrev pub data_after : Header → List ℕ → List ℕ
+data_after (Data h) lent = codes " " ++ encode_lower lent
+data_after (Maint h) lent = codes " " ++ encode_lower lent
+data_after (Control h) lent = []
 
 abbrev pub data_text : Item → List ℕ → List ℕ
-data_text (Good offset h) lent = data_behind h lent
+data_text (Good offset h) lent = data_after h lent
 data_text (HeaderCheck offset) lent = []
 data_text (DataCheck offset h) lent = []
 data_text (TooLong offset h) lent = []
@@ -70,7 +73,7 @@ data_text (Format offset fault) lent = []
 
 -- the line of an item with the data that it lends
 unfoldable pub line_of : ReadItem → List ℕ
-line_of given = item_text given.0 ++ (data_text given.0 given.1 ++ codes "\n")
+line_of given = item_text given.0 ++ data_text given.0 given.1 ++ codes "\n"
 
 -- the lines of the items of some bytes
 unfoldable pub lines : ℕ → List ℕ → List ℕ
@@ -78,7 +81,8 @@ lines max bytes = flat_map line_of (items max bytes)
 
 abbrev pub totals : ℕ → ℕ → ℕ → List ℕ
 totals count bytes left_open =
-    codes "items=" ++ decimal count ++ codes " bytes=" ++ decimal bytes ++ codes " open=" ++ decimal left_open ++ codes "\n"
+    codes "items=" ++ decimal count ++ codes " bytes=" ++ decimal bytes
+    ++ codes " open=" ++ decimal left_open ++ codes "\n"
 
 -- how many items there are, how many bytes, and how many of these are of an unfinished frame
 abbrev pub last_line : ℕ → List ℕ → List ℕ

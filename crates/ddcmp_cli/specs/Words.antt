@@ -1,13 +1,15 @@
 -- The command line, as `clap` reads it.
-use Rattle.std.specs.Prelude.{ℕ, pos, ◌≡◌, ◌≢◌, ◌<◌, ◌≤◌, Bool, true, false, List, [], codes, decimal, Option, Some, None, Result, Ok, Err}
+use Rattle.std.specs.Prelude.{ℕ, pos, ◌≡◌, ◌≢◌, ◌⊎◌, ◌<◌, ◌≤◌, Bool, true, false, List, [], codes, decimal, Option, Some, None, Result, Ok, Err, ⊤}
 use Rattle.std.specs.Option.{option_map, option_and_then}
-use Rattle.ddcmp_cli.specs.declared.explaining.Form.{Form}
-use Rattle.ddcmp_cli.specs.declared.explaining.Form.TheVariants.{Hex, Raw}
+use Rattle.ddcmp_cli.specs.declared.form.Form.{Form}
+use Rattle.ddcmp_cli.specs.declared.form.Form.TheVariants.{Hex, Raw}
 use Rattle.ddcmp_cli.specs.declared.command.Command.{Command}
 use Rattle.ddcmp_cli.specs.declared.command.Command.TheVariants.{Explain}
-use Rattle.ddcmp_cli.specs.declared.command.Declined.{Declined}
-use Rattle.ddcmp_cli.specs.declared.command.Declined.TheVariants.{Help, Usage, Memory}
-use Rattle.clap.specs.declared.error.kind.ErrorKind.TheVariants.{DisplayHelp, DisplayVersion}
+use Rattle.ddcmp_cli.specs.declared.declined.Declined.{Declined}
+use Rattle.ddcmp_cli.specs.declared.declined.Declined.TheVariants.{Help, Version, Usage, Memory}
+use Rattle.clap.specs.declared.error.kind.ErrorKind.{ErrorKind}
+use Rattle.clap.specs.declared.error.kind.ErrorKind.TheVariants.{DisplayHelp, DisplayVersion, OutOfMemory}
+use Rattle.ddcmp_frame.specs.Limits.{MAX_COUNT}
 use Rattle.clap.specs.Words.{IsAmong, fault_of, App, Rule, Text, new_app, new_rule, one_of, subcommand_of, takes, with_rule, with_subcommand}
 use Rattle.clap.specs.declared.builder.ArgAction.TheVariants.{SetTrue}
 use Rattle.clap.specs.declared.builder.value_parser.ValueParser.TheVariants.{Signed}
@@ -18,7 +20,11 @@ raw_rule = record (new_rule (codes "raw")) { long = Some (codes "raw"); action =
 
 -- `--max N`, N being 1 to 16383
 abbrev pub max_rule : Rule
-max_rule = record (new_rule (codes "max")) { long = Some (codes "max"); value_names = 1; parser = Some (Signed (pos 1) (pos 16383)) }
+max_rule = record (new_rule (codes "max")) {
+  long = Some (codes "max");
+  value_names = 1;
+  parser = Some (Signed (pos 1) (pos MAX_COUNT));
+}
 
 -- `ddcmp explain`
 abbrev pub explain_app : App
@@ -26,7 +32,9 @@ explain_app = with_rule (with_rule (new_app (codes "explain")) raw_rule) max_rul
 
 -- `ddcmp`, which wants a command
 abbrev pub bare_app : App
-bare_app = let a = new_app (codes "ddcmp") in record { top = record a.top { subcommand_required = true }; subs = a.subs }
+bare_app =
+    let a = new_app (codes "ddcmp") in
+    record { top = record a.top { has_version = true; subcommand_required = true }; subs = a.subs }
 
 abbrev pub program : App
 program = with_subcommand bare_app explain_app.top
@@ -42,7 +50,7 @@ pub record IsAsked (words : List Text) (name : Text) : Type 0 where
 
 -- a COUNT that a reader may be made for
 abbrev pub IsMaximum : ℕ → Type 0
-IsMaximum max = (0 < max) × (max ≤ 16383)
+IsMaximum max = (0 < max) × (max ≤ MAX_COUNT)
 
 -- the text of an option, as the words give it to the command that they name
 unfoldable pub option_in : List Text → Text → Option Text
@@ -54,15 +62,16 @@ pub record HasForm (raw : Option Text) (form : Form) : Type 0 where
   pub left_out : raw ≡ Some (codes "false") → form ≡ Hex
   pub absent : raw ≡ None → form ≡ Hex
 
--- the number behind `--max`, else the largest
+-- the number after `--max`, else the largest
 pub record HasMaximum (most : Option Text) (max : ℕ) : Type 0 where
   pub in_range : IsMaximum max
   pub given : (n : ℕ) → most ≡ Some (decimal n) → IsMaximum n → max ≡ n
-  pub absent : most ≡ None → max ≡ 16383
+  pub absent : most ≡ None → max ≡ MAX_COUNT
 
 -- a command with the options that were given
 abbrev pub HasOptions : (Text → Option Text) → Command → Type 0
-HasOptions option (Explain form max) = HasForm (option (codes "raw")) form × HasMaximum (option (codes "max")) max
+HasOptions option (Explain form max) =
+    HasForm (option (codes "raw")) form × HasMaximum (option (codes "max")) max
 
 -- the words are out of order, and ask for no help
 pub record IsOutOfOrder (words : List Text) : Type 0 where
@@ -74,6 +83,7 @@ pub record IsOutOfOrder (words : List Text) : Type 0 where
 abbrev pub is_usage : Result Command Declined → Bool
 is_usage (Ok c) = false
 is_usage (Err (Help t)) = false
+is_usage (Err (Version t)) = false
 is_usage (Err (Usage t)) = true
 is_usage (Err Memory) = true
 
@@ -81,5 +91,40 @@ is_usage (Err Memory) = true
 abbrev pub is_help : Result Command Declined → Bool
 is_help (Ok c) = false
 is_help (Err (Help t)) = true
+is_help (Err (Version t)) = false
 is_help (Err (Usage t)) = false
 is_help (Err Memory) = true
+
+-- words that were answered with the version, or declined for want of memory
+abbrev pub is_version : Result Command Declined → Bool
+is_version (Ok c) = false
+is_version (Err (Help t)) = false
+is_version (Err (Version t)) = true
+is_version (Err (Usage t)) = false
+is_version (Err Memory) = true
+
+-- how words are declined for an error of this kind; for want of memory for any
+abbrev pub Declines : ErrorKind → Declined → Type 0
+Declines kind (Help text) = kind ≡ DisplayHelp
+Declines kind (Version text) = kind ≡ DisplayVersion
+Declines kind (Usage text) = (kind ≢ DisplayHelp) × (kind ≢ DisplayVersion) × (kind ≢ OutOfMemory)
+Declines kind Memory = ⊤
+
+-- a mistake in the words, as clap finds it
+abbrev pub IsMistaken : List Text → Type 0
+IsMistaken words =
+    (kind : ErrorKind) × IsAmong kind (fault_of program words)
+    × (kind ≢ DisplayHelp) × (kind ≢ DisplayVersion)
+
+-- What words ask for: where clap finds no fault the command that they name, which `explain` alone
+-- is, and else help, the version or usage as its kinds of error are. For want of memory any words
+-- are declined.
+abbrev pub Reads : List Text → Result Command Declined → Type 0
+Reads words (Ok command) =
+    (fault_of program words ≡ []) × (named_by words ≡ Some (codes "explain"))
+    × HasOptions (option_in words) command
+Reads words (Err (Help text)) = IsAmong DisplayHelp (fault_of program words)
+Reads words (Err (Version text)) = IsAmong DisplayVersion (fault_of program words)
+Reads words (Err (Usage text)) =
+    ((fault_of program words ≡ []) × (named_by words ≢ Some (codes "explain"))) ⊎ IsMistaken words
+Reads words (Err Memory) = ⊤

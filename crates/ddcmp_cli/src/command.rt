@@ -1,14 +1,16 @@
-// The words of the command line.
-ghost use Rattle.std.specs.Prelude.{[], ◌∷◌, ◌≢◌, ◌≡◌, ◌⊎◌, ◌↔◌, IsTrue, IfOk, IsOk, Some, codes, map, false};
-ghost use Rattle.ddcmp_cli.specs.Words.{IsAsked, HasForm, HasMaximum, HasOptions, IsMaximum, named_by, option_in};
-ghost use Rattle.ddcmp_cli.specs.Words.{program, explain_app, raw_rule, max_rule};
-ghost use Rattle.ddcmp_cli.specs.Words.{IsOutOfOrder, is_usage, is_help};
+//! The words of the command line.
+ghost use Rattle.std.specs.Prelude.{[], ◌∷◌, ◌≡◌, ◌⊎◌, ◌↔◌, IsTrue, IfOk, IsOk, Some, codes, map, false};
+ghost use Rattle.ddcmp_cli.specs.Words.{IsAsked, HasForm, HasMaximum, HasOptions, IsMaximum};
+ghost use Rattle.ddcmp_cli.specs.Words.{named_by, option_in, program, explain_app, raw_rule, max_rule};
+ghost use Rattle.ddcmp_cli.specs.Words.{IsOutOfOrder, is_usage, is_help, is_version, Declines, Reads};
 ghost use Rattle.clap.specs.Words.{fault_of, kind_of, app_of, rule_of, found_of, one_text};
 ghost use Rattle.clap.specs.declared.builder.command.Command.TheViews.{out-Command as fields_of};
 
-use crate::explaining::Form;
+use crate::declined::Declined;
+use crate::form::Form;
 use clap::error::ErrorKind;
 use clap::{Arg, ArgAction, ArgMatches, Error};
+use ddcmp_frame::MAX_COUNT;
 use std::alloc::{AllocError, Global};
 
 /// What the words ask for.
@@ -16,20 +18,6 @@ use std::alloc::{AllocError, Global};
 pub enum Command {
     /// Explain the input in this form, for a reader of at most `max` bytes of data.
     Explain { form: Form, max: u16 },
-}
-
-/// The most that COUNT can be.
-const MAX: u16 = 16383;
-
-/// Why no command is run.
-#[derive(Debug, Drop)]
-pub enum Declined {
-    /// Help was asked for; this is its text.
-    Help(String),
-    /// The words are out of order; this says how.
-    Usage(String),
-    /// There was no memory to read them.
-    Memory,
 }
 
 fn raw_arg<'a>(alloc: Global) -> Arg<'a>
@@ -49,7 +37,7 @@ fn max_arg<'a>(alloc: Global) -> Arg<'a>
     Arg::new(alloc, "max")
         .long("max")
         .value_name("N")
-        .value_parser(clap::value_parser!(u16).range(1..=16383))
+        .value_parser(clap::value_parser!(u16).range(1..=MAX_COUNT as i64))
         .help("The most bytes of data that a frame may have, 1 to 16383; 16383 by default")
 }
 
@@ -67,6 +55,7 @@ fn parser<'a>(alloc: Global) -> Result<clap::Command<'a>, AllocError>
     ensures { IfOk result (λ made. app_of made ≡ program) }
 {
     clap::Command::new(alloc, "ddcmp")
+        .version("0.1.0")
         .about("DDCMP, the data link protocol of DECnet")
         .subcommand_required(true)
         .subcommand(explain_parser(alloc)?)
@@ -74,21 +63,15 @@ fn parser<'a>(alloc: Global) -> Result<clap::Command<'a>, AllocError>
 
 /// A fault of the words as this crate tells it.
 fn decline(alloc: Global, error: &Error) -> Declined
-    ensures memory { kind_of error.now ≡ ErrorKind.OutOfMemory → result ≡ Declined.Memory }
-    ensures usage { kind_of error.now ≢ ErrorKind.DisplayHelp → kind_of error.now ≢ ErrorKind.DisplayVersion → IsTrue (is_usage (Err result)) }
-    ensures help { kind_of error.now ≡ ErrorKind.DisplayHelp → IsTrue (is_help (Err result)) }
+    ensures { Declines (kind_of error.now) result }
 {
-    if error.kind() == ErrorKind::OutOfMemory {
-        return Declined::Memory;
-    }
     match error.to_string(alloc) {
-        Ok(text) => {
-            if error.use_stderr() {
-                Declined::Usage(text)
-            } else {
-                Declined::Help(text)
-            }
-        }
+        Ok(text) => match error.kind() {
+            ErrorKind::OutOfMemory => Declined::Memory,
+            ErrorKind::DisplayHelp => Declined::Help(text),
+            ErrorKind::DisplayVersion => Declined::Version(text),
+            _ => Declined::Usage(text),
+        },
         Err(_refused) => Declined::Memory,
     }
 }
@@ -109,8 +92,8 @@ fn max_given(options: &ArgMatches<'_>) -> u16
     ensures { HasMaximum (one_text (found_of options.now) (codes "max")) result }
 {
     match options.get_one::<u16>("max") {
-        Some(max) => { if is_maximum(max) { max } else { MAX } }
-        None => MAX,
+        Some(max) => { if is_maximum(max) { max } else { MAX_COUNT } }
+        None => MAX_COUNT,
     }
 }
 
@@ -118,7 +101,7 @@ fn max_given(options: &ArgMatches<'_>) -> u16
 fn is_maximum(max: u16) -> bool
     ensures { IsTrue result ↔ IsMaximum max }
 {
-    0 < max && max <= MAX
+    0 < max && max <= MAX_COUNT
 }
 
 /// The options of `explain`, as they were given or as they are without.
@@ -135,11 +118,20 @@ fn explain_with(options: &ArgMatches<'_>) -> Command
 pub fn read_words<'a>(alloc: Global, words: &'a [&'a str]) -> Result<Command, Declined>
     ensures asked { IsAsked (map (λ word. word.now) words.entry.now) (codes "explain")
         → IsOk result ⊎ (result ≡ Err Declined.Memory) }
-    ensures options { IfOk result (HasOptions (option_in (map (λ word. word.now) words.entry.now))) }
-    ensures only { IfOk result (λ _. named_by (map (λ word. word.now) words.entry.now) ≡ Some (codes "explain")) }
-    ensures in_order { IfOk result (λ _. fault_of program (map (λ word. word.now) words.entry.now) ≡ []) }
-    ensures usage { IsOutOfOrder (map (λ word. word.now) words.entry.now) → IsTrue (is_usage result) }
-    ensures help { fault_of program (map (λ word. word.now) words.entry.now) ≡ ErrorKind.DisplayHelp ∷ [] → IsTrue (is_help result) }
+    ensures options { IfOk result
+        (HasOptions (option_in (map (λ word. word.now) words.entry.now))) }
+    ensures only { IfOk result (λ _. named_by (map (λ word. word.now) words.entry.now)
+        ≡ Some (codes "explain")) }
+    ensures in_order { IfOk result (λ _.
+        fault_of program (map (λ word. word.now) words.entry.now) ≡ []) }
+    ensures usage { IsOutOfOrder (map (λ word. word.now) words.entry.now)
+        → IsTrue (is_usage result) }
+    ensures help { fault_of program (map (λ word. word.now) words.entry.now)
+        ≡ ErrorKind.DisplayHelp ∷ [] → IsTrue (is_help result) }
+    ensures version { fault_of program (map (λ word. word.now) words.entry.now)
+        ≡ ErrorKind.DisplayVersion ∷ [] → IsTrue (is_version result) }
+    // What the words ask for, whatever they are.
+    ensures reads { Reads (map (λ word. word.now) words.entry.now) result }
 {
     let command = match parser(alloc) {
         Ok(made) => made,

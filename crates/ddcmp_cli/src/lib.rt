@@ -3,12 +3,21 @@
 #![tactic(auto)]
 
 pub mod command;
-mod digits;
+pub mod declined;
+mod decoder;
+pub mod ending;
+pub mod explain_fault;
+mod explainer;
 pub mod explaining;
-mod page;
+pub mod form;
+mod lines;
 pub mod program;
 mod text;
 
-pub use command::{Command, Declined};
-pub use explaining::{ExplainFault, Form, explain};
-pub use program::{Ending, explain_is_asked, run, run_args};
+pub use command::{Command, read_words};
+pub use declined::Declined;
+pub use ending::Ending;
+pub use explain_fault::ExplainFault;
+pub use explaining::explain;
+pub use form::Form;
+pub use program::{explain_is_asked, run, run_args};

@@ -1,18 +1,16 @@
-// The lines of items, written to a page.
-ghost use Rattle.std.specs.Prelude.{◌≡◌, ◌+◌, ◌≤◌, ◌++◌, [], length, codes, decimal, is_err, false, OnOk};
-ghost use Rattle.ddcmp_cli.specs.Text.{kind_text, flags_text, fields_text, counted_text, header_text, fault_text, item_text, data_behind, data_text, line_of, totals};
-ghost use Rattle.ddcmp_cli.specs.Written.{Passes};
+//! The text of items, handed to a page piece by piece.
+ghost use Rattle.std.specs.Prelude.{◌≡◌, ◌*◌, ◌≤◌, ◌++◌, codes, decimal, length};
+ghost use Rattle.ddcmp_frame.specs.Written.{HandsOver, output_of};
+ghost use Rattle.ddcmp_cli.specs.Text.{kind_text, flags_text, fields_text, counted_text};
+ghost use Rattle.ddcmp_cli.specs.Text.{header_text, fault_text, item_text, data_text, line_of};
+ghost use Rattle.ddcmp_cli.specs.Text.{totals};
 ghost use Rattle.hex.specs.Hex.{encode_lower};
 
-use crate::page::{PAGE, Page, WriteFailed};
-use ddcmp_frame::{ControlType, Counted, Flags, Header, HeaderFault, Item, Sink};
-
-/// The most bytes of a line but for its data.
-const LINE: usize = 96;
+use ddcmp_frame::{ControlType, Counted, Flags, Header, HeaderFault, Item, Page, Sink};
+use itoa::{Buffer, Integer};
 
 fn kind_name(kind: ControlType) -> &'static [u8]
-    ensures text { result.now ≡ kind_text kind }
-    ensures short { length result.now ≤ 5 }
+    ensures { result.now ≡ kind_text kind }
 {
     match kind {
         ControlType::Ack => b"ACK",
@@ -24,295 +22,203 @@ fn kind_name(kind: ControlType) -> &'static [u8]
 }
 
 /// Both flags, up to the number that follows them.
-fn put_flags(page: &mut Page, flags: Flags)
-    requires { length page.old + 14 ≤ PAGE }
-    ensures appended { page.new ≡ page.old ++ flags_text flags }
-    ensures len { length page.new ≡ length page.old + 14 }
+fn flags_name(flags: Flags) -> &'static [u8]
+    ensures { result.now ≡ flags_text flags }
 {
-    page.text(match (flags.q, flags.s) {
+    match (flags.q, flags.s) {
         (false, false) => b" q=0 s=0 resp=",
         (false, true) => b" q=0 s=1 resp=",
         (true, false) => b" q=1 s=0 resp=",
         (true, true) => b" q=1 s=1 resp=",
-    });
+    }
 }
 
-fn put_fields(page: &mut Page, flags: Flags, resp: u8, num: u8, addr: u8)
-    requires { length page.old + 34 ≤ PAGE }
-    ensures appended { page.new ≡ page.old ++ fields_text flags resp num addr }
-    ensures len { length page.new ≤ length page.old + 34 }
+/// A number in decimal digits.
+fn write_number<W: Sink, I: Integer>(page: &mut Page, writer: &mut W, number: I)
+    ensures { HandsOver (output_of W.broken W.contents writer.old page.old)
+        (output_of W.broken W.contents writer.new page.new) (I.text number) }
 {
-    put_flags(page, flags);
-    page.number(resp);
-    page.text(b" num=");
-    page.number(num);
-    page.text(b" addr=");
-    page.number(addr);
+    let mut buffer = Buffer::new();
+    page.write(writer, buffer.format(number).as_bytes());
 }
 
-fn put_counted(page: &mut Page, header: &Counted)
-    requires { length page.old + 46 ≤ PAGE }
-    ensures appended { page.new ≡ page.old ++ counted_text header.now }
-    ensures len { length page.new ≤ length page.old + 46 }
+fn write_fields<W: Sink>(page: &mut Page, writer: &mut W, flags: Flags, resp: u8, num: u8, addr: u8)
+    ensures { HandsOver (output_of W.broken W.contents writer.old page.old)
+        (output_of W.broken W.contents writer.new page.new) (fields_text flags resp num addr) }
 {
-    page.text(b" count=");
-    page.number(header.count);
-    put_fields(page, header.flags, header.resp, header.num, header.addr);
+    page.write(writer, flags_name(flags));
+    write_number(page, writer, resp);
+    page.write(writer, b" num=");
+    write_number(page, writer, num);
+    page.write(writer, b" addr=");
+    write_number(page, writer, addr);
 }
 
-fn put_header(page: &mut Page, header: &Header)
-    requires { length page.old + 51 ≤ PAGE }
-    ensures appended { page.new ≡ page.old ++ header_text header.now }
-    ensures len { length page.new ≤ length page.old + 51 }
+fn write_counted<W: Sink>(page: &mut Page, writer: &mut W, header: &Counted)
+    ensures { HandsOver (output_of W.broken W.contents writer.old page.old)
+        (output_of W.broken W.contents writer.new page.new) (counted_text header.now) }
+{
+    page.write(writer, b" count=");
+    write_number(page, writer, header.count);
+    write_fields(
+        page,
+        writer,
+        header.flags,
+        header.resp,
+        header.num,
+        header.addr,
+    );
+}
+
+fn write_header<W: Sink>(page: &mut Page, writer: &mut W, header: &Header)
+    ensures { HandsOver (output_of W.broken W.contents writer.old page.old)
+        (output_of W.broken W.contents writer.new page.new) (header_text header.now) }
 {
     match header {
         Header::Data(h) => {
-            page.text(b"DATA");
-            put_counted(page, h);
+            page.write(writer, b"DATA");
+            write_counted(page, writer, h);
         }
         Header::Maint(h) => {
-            page.text(b"MAINT");
-            put_counted(page, h);
+            page.write(writer, b"MAINT");
+            write_counted(page, writer, h);
         }
         Header::Control(h) => {
-            page.text(kind_name(h.kind));
-            page.text(b" sub=");
-            page.number(h.sub);
-            put_fields(page, h.flags, h.resp, h.num, h.addr);
+            page.write(writer, kind_name(h.kind));
+            page.write(writer, b" sub=");
+            write_number(page, writer, h.sub);
+            write_fields(page, writer, h.flags, h.resp, h.num, h.addr);
         }
     }
 }
 
-/// An offset, what is said there, and the header.
-fn put_labelled(page: &mut Page, offset: u64, label: &[u8], header: &Header)
-    requires { length page.old + length label.now + 71 ≤ PAGE }
-    ensures { page.new ≡ page.old ++ (decimal offset ++ label.now ++ header_text header.now) }
-{
-    page.number(offset);
-    page.text(label);
-    put_header(page, header);
-}
-
-fn put_fault(page: &mut Page, fault: &HeaderFault)
-    requires { length page.old + 8 ≤ PAGE }
-    ensures appended { page.new ≡ page.old ++ fault_text fault.now }
-    ensures len { length page.new ≤ length page.old + 8 }
+fn write_fault<W: Sink>(page: &mut Page, writer: &mut W, fault: &HeaderFault)
+    ensures { HandsOver (output_of W.broken W.contents writer.old page.old)
+        (output_of W.broken W.contents writer.new page.new) (fault_text fault.now) }
 {
     match fault {
         HeaderFault::BadType(code) => {
-            page.text(b"type=");
-            page.number(*code);
+            page.write(writer, b"type=");
+            write_number(page, writer, *code);
         }
-        HeaderFault::CountZero => page.text(b"count=0"),
-        HeaderFault::NotAStart => page.text(b"start"),
-        HeaderFault::Check => page.text(b"check"),
+        HeaderFault::CountZero => page.write(writer, b"count=0"),
+        HeaderFault::NotAStart => page.write(writer, b"start"),
+        HeaderFault::Check => page.write(writer, b"check"),
     }
+}
+
+/// An offset, a label and a header.
+fn write_labelled<W: Sink>(
+    page: &mut Page,
+    writer: &mut W,
+    offset: u64,
+    label: &[u8],
+    header: &Header,
+)
+    ensures { HandsOver (output_of W.broken W.contents writer.old page.old)
+        (output_of W.broken W.contents writer.new page.new)
+        (decimal offset ++ label.now ++ header_text header.now) }
+{
+    write_number(page, writer, offset);
+    page.write(writer, label);
+    write_header(page, writer, header);
 }
 
 /// What an item is, without the data that it lends.
 #[tactic(auto, unfolding(crate::specs::Text::item_text))]
-fn put_item(page: &mut Page, item: &Item)
-    requires { length page.old + LINE ≤ PAGE }
-    ensures { page.new ≡ page.old ++ item_text item.now }
+fn write_item<W: Sink>(page: &mut Page, writer: &mut W, item: &Item)
+    ensures { HandsOver (output_of W.broken W.contents writer.old page.old)
+        (output_of W.broken W.contents writer.new page.new) (item_text item.now) }
 {
     match item {
-        Item::Good(offset, header) => put_labelled(page, *offset, b" ", header),
+        Item::Good(offset, header) => write_labelled(page, writer, *offset, b" ", header),
         Item::HeaderCheck(offset) => {
-            page.number(*offset);
-            page.text(b" header check");
+            write_number(page, writer, *offset);
+            page.write(writer, b" header check");
         }
-        Item::DataCheck(offset, header) => put_labelled(page, *offset, b" data check ", header),
-        Item::TooLong(offset, header) => put_labelled(page, *offset, b" too long ", header),
+        Item::DataCheck(offset, header) => {
+            write_labelled(page, writer, *offset, b" data check ", header);
+        }
+        Item::TooLong(offset, header) => {
+            write_labelled(page, writer, *offset, b" too long ", header);
+        }
         Item::Format(offset, fault) => {
-            page.number(*offset);
-            page.text(b" format ");
-            put_fault(page, fault);
+            write_number(page, writer, *offset);
+            page.write(writer, b" format ");
+            write_fault(page, writer, fault);
         }
     }
 }
 
-/// Sees to it that a page has this room.
-fn make_room<W: Sink>(page: &mut Page, writer: &mut W, room: usize) -> Result<(), WriteFailed>
-    requires whole { W.broken writer.old ≡ false }
-    requires fits { room ≤ PAGE }
-    ensures passes { Passes (W.contents writer.old) page.old (W.contents writer.new) page.new result [] }
-    ensures room { OnOk result (length page.new + room ≤ PAGE) }
-    ensures broken { W.broken writer.new ≡ is_err result }
+/// How many bytes of data are put into digits at once.
+const CHUNK: usize = 512;
+
+/// Some bytes in hexadecimal digits.
+fn write_chunk<W: Sink>(page: &mut Page, writer: &mut W, bytes: &[u8])
+    requires { length bytes.now ≤ CHUNK }
+    ensures { HandsOver (output_of W.broken W.contents writer.old page.old)
+        (output_of W.broken W.contents writer.new page.new) (encode_lower bytes.now) }
 {
-    if page.room() < room {
-        page.empty(writer)
-    } else {
-        Ok(())
+    let mut digits = [0; 2 * CHUNK];
+    let length = 2 * bytes.len();
+    match hex::encode_to_slice(bytes, &mut digits[..length]) {
+        Ok(()) => {}
+        Err(_other_length) => unreachable!(),
     }
+    page.write(writer, &digits[..length]);
 }
 
-/// A short text behind what a page holds.
-fn pass_text<W: Sink>(page: &mut Page, writer: &mut W, text: &[u8]) -> Result<(), WriteFailed>
-    requires whole { W.broken writer.old ≡ false }
-    requires fits { length text.now ≤ PAGE }
-    ensures passes { Passes (W.contents writer.old) page.old (W.contents writer.new) page.new result text.now }
-    ensures broken { W.broken writer.new ≡ is_err result }
-{
-    match make_room(page, writer, text.len()) {
-        Ok(()) => {
-            page.text(text);
-            Ok(())
-        }
-        Err(failed) => Err(failed),
-    }
-}
-
-/// How many bytes of data are written at once.
-const CHUNK: usize = 1024;
-
-/// A part of the data in hexadecimal behind what a page holds.
-fn pass_chunk<W: Sink>(page: &mut Page, writer: &mut W, data: &[u8]) -> Result<(), WriteFailed>
-    requires whole { W.broken writer.old ≡ false }
-    requires fits { length «data».now ≤ CHUNK }
-    ensures passes { Passes (W.contents writer.old) page.old (W.contents writer.new) page.new result (encode_lower «data».now) }
-    ensures broken { W.broken writer.new ≡ is_err result }
-{
-    match make_room(page, writer, 2 * data.len()) {
-        Ok(()) => {
-            page.hex(data);
-            Ok(())
-        }
-        Err(failed) => Err(failed),
-    }
-}
-
-/// All the data in hexadecimal behind what a page holds.
-fn pass_hex<W: Sink>(page: &mut Page, writer: &mut W, data: &[u8]) -> Result<(), WriteFailed>
-    requires { W.broken writer.old ≡ false }
-    ensures passes { Passes (W.contents writer.old) page.old (W.contents writer.new) page.new result (encode_lower «data».now) }
-    ensures broken { W.broken writer.new ≡ is_err result }
+/// All bytes in hexadecimal digits.
+fn write_hex<W: Sink>(page: &mut Page, writer: &mut W, bytes: &[u8])
+    ensures { HandsOver (output_of W.broken W.contents writer.old page.old)
+        (output_of W.broken W.contents writer.new page.new) (encode_lower bytes.now) }
 {
     let mut at = 0;
-    while at < data.len() {
-        let end = at + CHUNK.min(data.len() - at);
-        match pass_chunk(page, writer, &data[at..end]) {
-            Ok(()) => at = end,
-            Err(failed) => return Err(failed),
-        }
+    while at < bytes.len() {
+        let end = at + CHUNK.min(bytes.len() - at);
+        write_chunk(page, writer, &bytes[at..end]);
+        at = end;
     }
-    Ok(())
 }
 
-/// A space and all the data in hexadecimal behind what a page holds.
-fn pass_lent<W: Sink>(page: &mut Page, writer: &mut W, data: &[u8]) -> Result<(), WriteFailed>
-    requires { W.broken writer.old ≡ false }
-    ensures passes { Passes (W.contents writer.old) page.old (W.contents writer.new) page.new result (codes " " ++ encode_lower «data».now) }
-    ensures broken { W.broken writer.new ≡ is_err result }
+/// The data that a good frame with data lends.
+fn write_data<W: Sink>(page: &mut Page, writer: &mut W, item: &Item, data: &[u8])
+    ensures { HandsOver (output_of W.broken W.contents writer.old page.old)
+        (output_of W.broken W.contents writer.new page.new) (data_text item.now «data».now) }
 {
-    match pass_text(page, writer, b" ") {
-        Ok(()) => pass_hex(page, writer, data),
-        Err(failed) => Err(failed),
+    if let Item::Good(_, Header::Data(_) | Header::Maint(_)) = item {
+        page.write(writer, b" ");
+        write_hex(page, writer, data);
     }
 }
 
-/// The data of a good frame behind what a page holds; a control frame has none.
-fn pass_data<W: Sink>(
-    page: &mut Page,
-    writer: &mut W,
-    header: &Header,
-    data: &[u8],
-) -> Result<(), WriteFailed>
-    requires { W.broken writer.old ≡ false }
-    ensures passes { Passes (W.contents writer.old) page.old (W.contents writer.new) page.new result (data_behind header.now «data».now) }
-    ensures broken { W.broken writer.new ≡ is_err result }
-{
-    match header {
-        Header::Control(_) => pass_text(page, writer, b""),
-        Header::Data(_) => pass_lent(page, writer, data),
-        Header::Maint(_) => pass_lent(page, writer, data),
-    }
-}
-
-/// What an item is, behind what a page holds.
-fn pass_item<W: Sink>(page: &mut Page, writer: &mut W, item: &Item) -> Result<(), WriteFailed>
-    requires { W.broken writer.old ≡ false }
-    ensures passes { Passes (W.contents writer.old) page.old (W.contents writer.new) page.new result (item_text item.now) }
-    ensures broken { W.broken writer.new ≡ is_err result }
-{
-    match make_room(page, writer, LINE) {
-        Ok(()) => {
-            put_item(page, item);
-            Ok(())
-        }
-        Err(failed) => Err(failed),
-    }
-}
-
-/// The data that an item lends and the end of its line, behind what a page holds.
-fn pass_end<W: Sink>(
-    page: &mut Page,
-    writer: &mut W,
-    item: &Item,
-    data: &[u8],
-) -> Result<(), WriteFailed>
-    requires { W.broken writer.old ≡ false }
-    ensures passes { Passes (W.contents writer.old) page.old (W.contents writer.new) page.new result (data_text item.now «data».now ++ codes "\n") }
-    ensures broken { W.broken writer.new ≡ is_err result }
-{
-    match item {
-        Item::Good(_, header) => match pass_data(page, writer, header, data) {
-            Ok(()) => pass_text(page, writer, b"\n"),
-            Err(failed) => Err(failed),
-        },
-        Item::HeaderCheck(_) | Item::DataCheck(_, _) | Item::TooLong(_, _) | Item::Format(_, _) => {
-            pass_text(page, writer, b"\n")
-        }
-    }
-}
-
-/// The line of one item behind what a page holds.
+/// The line of an item, with the data that it lends.
 #[tactic(auto, unfolding(crate::specs::Text::line_of))]
-pub(crate) fn put_line<W: Sink>(
-    page: &mut Page,
-    writer: &mut W,
-    item: &Item,
-    data: &[u8],
-) -> Result<(), WriteFailed>
-    requires { W.broken writer.old ≡ false }
-    ensures passes { Passes (W.contents writer.old) page.old (W.contents writer.new) page.new result (line_of (item.now, «data».now)) }
-    ensures broken { W.broken writer.new ≡ is_err result }
+pub(crate) fn write_line<W: Sink>(page: &mut Page, writer: &mut W, item: &Item, data: &[u8])
+    ensures { HandsOver (output_of W.broken W.contents writer.old page.old)
+        (output_of W.broken W.contents writer.new page.new) (line_of (item.now, «data».now)) }
 {
-    match pass_item(page, writer, item) {
-        Ok(()) => pass_end(page, writer, item, data),
-        Err(failed) => Err(failed),
-    }
+    write_item(page, writer, item);
+    write_data(page, writer, item, data);
+    page.write(writer, b"\n");
 }
 
-fn put_numbers(page: &mut Page, items: u64, bytes: u64, left_open: u64)
-    requires { length page.old + LINE ≤ PAGE }
-    ensures { page.new ≡ page.old ++ totals items bytes left_open }
-{
-    page.text(b"items=");
-    page.number(items);
-    page.text(b" bytes=");
-    page.number(bytes);
-    page.text(b" open=");
-    page.number(left_open);
-    page.text(b"\n");
-}
-
-/// The last line behind what a page holds.
-pub(crate) fn put_totals<W: Sink>(
+/// The last line: how many items, how many bytes, and how many of these of an unfinished frame.
+pub(crate) fn write_totals<W: Sink>(
     page: &mut Page,
     writer: &mut W,
     items: u64,
     bytes: u64,
     left_open: u64,
-) -> Result<(), WriteFailed>
-    requires { W.broken writer.old ≡ false }
-    ensures passes { Passes (W.contents writer.old) page.old (W.contents writer.new) page.new result (totals items bytes left_open) }
-    ensures broken { W.broken writer.new ≡ is_err result }
+)
+    ensures { HandsOver (output_of W.broken W.contents writer.old page.old)
+        (output_of W.broken W.contents writer.new page.new) (totals items bytes left_open) }
 {
-    match make_room(page, writer, LINE) {
-        Ok(()) => {
-            put_numbers(page, items, bytes, left_open);
-            Ok(())
-        }
-        Err(failed) => Err(failed),
-    }
+    page.write(writer, b"items=");
+    write_number(page, writer, items);
+    page.write(writer, b" bytes=");
+    write_number(page, writer, bytes);
+    page.write(writer, b" open=");
+    write_number(page, writer, left_open);
+    page.write(writer, b"\n");
 }

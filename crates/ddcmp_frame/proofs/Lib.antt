@@ -7,3 +7,4 @@ pub mod WireLaws
 pub mod FrameLaws
 pub mod PutLaws
 pub mod TableLaws
+pub mod WrittenLaws

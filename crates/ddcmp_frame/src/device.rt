@@ -1,6 +1,7 @@
 //! Where bytes come from and where they go.
-ghost use Rattle.std.specs.Prelude.{◌≡◌, ◌≢◌, ◌<◌, length, false, true, is_none, List, ℕ, Option, Bool};
+ghost use Rattle.std.specs.Prelude.{◌≡◌, ◌≢◌, ◌<◌, length, false, true, is_none, List, ℕ, Option, Bool, is_err};
 ghost use Rattle.ddcmp_frame.specs.Device.{got_of_error as got_of_error_kind};
+ghost use Rattle.ddcmp_frame.specs.Written.{Writes};
 
 use std::io::{ErrorKind, Read, Write};
 
@@ -73,6 +74,26 @@ pub trait Sink {
     /// Whether a write has failed.
     fn failed(&self) -> bool
         ensures { result ≡ broken self.now };
+}
+
+/// A write to a sink failed.
+#[derive(Clone, Copy, Debug, PartialEq, Eq)]
+pub struct WriteFailed;
+
+/// Writes all of some bytes to a sink.
+pub fn write_all<W: Sink>(writer: &mut W, bytes: &[u8]) -> Result<(), WriteFailed>
+    requires { W.broken writer.old ≡ false }
+    ensures written { Writes (W.contents writer.old) (W.contents writer.new) result bytes.now }
+    ensures broken { W.broken writer.new ≡ is_err result }
+{
+    let mut at = 0;
+    while at < bytes.len() {
+        match writer.write(&bytes[at..]) {
+            Some(n) => at += n,
+            None => return Err(WriteFailed),
+        }
+    }
+    Ok(())
 }
 
 /// Any `Read` as a source. A read that would block, times out or is interrupted is idle; every

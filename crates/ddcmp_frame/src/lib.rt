@@ -8,13 +8,15 @@ pub mod header;
 pub mod item;
 pub mod laws;
 pub mod nak;
+pub mod page;
 pub mod reader;
 pub mod writer;
 
 pub use ddcmp_num::MAX_COUNT;
-pub use device::{FromRead, Got, Sink, Source, ToWrite, Worst};
+pub use device::{FromRead, Got, Sink, Source, ToWrite, Worst, WriteFailed, write_all};
 pub use header::{ControlType, Counted, Flags, Header, HeaderFault, Short};
 pub use item::Item;
 pub use nak::Nak;
+pub use page::Page;
 pub use reader::{Reader, ReaderRefusal};
 pub use writer::write_frame;

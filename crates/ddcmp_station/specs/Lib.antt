@@ -9,6 +9,7 @@ pub use Rattle.ddcmp_frame.specs.Device
 pub use Rattle.ddcmp_frame.specs.Reader
 pub use Rattle.ddcmp_frame.specs.Reading
 pub use Rattle.ddcmp_frame.specs.Wire
+pub use Rattle.ddcmp_frame.specs.Written
 pub use Rattle.ddcmp_window.specs.Inbox
 pub use Rattle.ddcmp_window.specs.Numbers
 pub use Rattle.ddcmp_window.specs.Sender

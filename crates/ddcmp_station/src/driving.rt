@@ -13,7 +13,7 @@ use crate::config::MAX_SYN;
 use crate::station::Station;
 use crate::user::{Clock, User};
 use ddcmp_core::{MAX_COUNT, Notice, State};
-use ddcmp_frame::{Got, Sink, Source, Worst};
+use ddcmp_frame::{Got, Sink, Source, Worst, write_all};
 use std::alloc::Global;
 
 /// What a call of `drive` did.
@@ -269,25 +269,11 @@ fn send_frame<W: Sink>(
 {
     match station.poll(buffer) {
         None => Ok(0),
-        Some(length) => write_whole(writer, &buffer[..length]),
+        Some(length) => match write_all(writer, &buffer[..length]) {
+            Ok(()) => Ok(length),
+            Err(_failed) => Err(LineFault::Write),
+        },
     }
-}
-
-/// Writes all bytes: how many there are.
-fn write_whole<W: Sink>(writer: &mut W, bytes: &[u8]) -> Result<usize, LineFault>
-    requires whole { W.broken writer.old ≡ false }
-    ensures writes { WritesFrame (W.contents writer.old) (W.contents writer.new) bytes.now result }
-    ensures whole { IfOk result (λ n. n ≡ length bytes.now) }
-    ensures broken { W.broken writer.new ≡ is_err result }
-{
-    let mut at = 0;
-    while at < bytes.len() {
-        match writer.write(&bytes[at..]) {
-            Some(n) => at += n,
-            None => return Err(LineFault::Write),
-        }
-    }
-    Ok(at)
 }
 
 /// Reads once, and takes what came: how many bytes were read. They stand at the front of `piece`.

@@ -274,3 +274,10 @@ fn refused_memory_for_a_ring_is_told(rt: HostRuntime) {
         Err(refused) => assert_eq!(rt; refused, Memory),
     }
 }
+
+/// Where no memory is refused, a run under refusals answers as any other.
+#[test]
+fn ample_memory_is_enough(rt: HostRuntime) {
+    assert!(rt; SlotStore::new(rt.alloc(), 3, 4).is_ok());
+    assert!(rt; RingStore::new(rt.alloc(), 3, 4).is_ok());
+}

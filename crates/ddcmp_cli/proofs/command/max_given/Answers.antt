@@ -1,11 +1,11 @@
 use Rattle.std.proofs.Common.{Some, None}
 use Rattle.std.specs.Str.Parse.{ParsesUnsigned, ExplainsUnsignedError, HasUnsignedDigitsIfOk}
-use Rattle.ddcmp_cli.proofs.MaximumLaws.{number_read, taken, out_of_range, left_out}
+use Rattle.ddcmp_cli.proofs.MaximumLaws.{number_read, in_range, out_of_range, left_out}
 use Rattle.ddcmp_cli.proofs.command.max_given.Goals as goal
 
 pub returns-then-is_maximum : goal.returns-then-is_maximum
 returns-then-is_maximum c =
-    taken _ c.in-Some.max (c.is_maximum.ensures.0 c.if-is_maximum.true) c.in-Some.ensures.none
+    in_range _ c.in-Some.max (c.is_maximum.ensures.0 c.if-is_maximum.true) c.in-Some.ensures.none
     (number_read (λ bs r. ParsesUnsigned 16 10 bs r × ExplainsUnsignedError 10 bs r × HasUnsignedDigitsIfOk bs r) (λ bs r g. g.0) _ (Some c.in-Some.max) c.in-Some.ensures.value)
 
 pub returns-else-is_maximum : goal.returns-else-is_maximum

@@ -1,17 +1,32 @@
-use Rattle.ddcmp_cli.proofs.CommandLaws.{explain-asked, plain-raw, plain-max, given-raw, given-max}
+use Rattle.std.proofs.Common.{refl}
+use Rattle.clap.proofs.OnLiterals.{clap_on_literals}
+use Rattle.ddcmp_cli.specs.Words.{named_by, option_in}
 use Rattle.ddcmp_cli.proofs.program.explain_is_asked.Goals as goal
 
 pub returns-clause-plain : goal.returns-clause-plain
-returns-clause-plain c = explain-asked
+unfolding clap_on_literals named_by
+returns-clause-plain c = record { in_order = refl; names = refl }
 
 pub returns-clause-not_raw : goal.returns-clause-not_raw
-returns-clause-not_raw c = plain-raw
+unfolding clap_on_literals option_in
+returns-clause-not_raw c = refl
 
 pub returns-clause-no_maximum : goal.returns-clause-no_maximum
-returns-clause-no_maximum c = plain-max
+unfolding clap_on_literals option_in
+returns-clause-no_maximum c = refl
 
 pub returns-clause-raw : goal.returns-clause-raw
-returns-clause-raw c = given-raw
+unfolding clap_on_literals option_in
+returns-clause-raw c = refl
 
 pub returns-clause-maximum : goal.returns-clause-maximum
-returns-clause-maximum c = given-max
+unfolding clap_on_literals option_in
+returns-clause-maximum c = refl
+
+pub returns-clause-help : goal.returns-clause-help
+unfolding clap_on_literals
+returns-clause-help c = refl
+
+pub returns-clause-version : goal.returns-clause-version
+unfolding clap_on_literals
+returns-clause-version c = refl

@@ -1,6 +1,8 @@
-use Rattle.std.proofs.Common.{◌≡◌, ◌∙◌, ap, sym, subst, List, ℕ, map, string_bytes, codes, Global}
+use Rattle.std.proofs.Common.{◌∙◌, ap, subst, List, ℕ, map, string_bytes, codes, Err, refl}
+use Rattle.std.proofs.KnownBytes.{Keeps-refl}
+use Rattle.ddcmp_cli.specs.declared.declined.Declined.TheVariants.{Memory}
 use Rattle.ddcmp_cli.specs.Words.{IsAsked}
-use Rattle.ddcmp_cli.specs.Endings.{ExplainsOrNoMemory}
+use Rattle.ddcmp_cli.specs.Endings.{Ends, ExplainsOrNoMemory}
 use Rattle.ddcmp_cli.proofs.program.run_args.Goals as goal
 
 pub returns-clause-explains : goal.returns-clause-explains
@@ -8,3 +10,11 @@ returns-clause-explains g c = λ input e. rw (c.in-Ok.is)
     (subst (λ (ws : List (List ℕ)). IsAsked ws (codes "explain") → ExplainsOrNoMemory ws input (g.R.Source.left c.run.new.reader) (g.W.Sink.contents c.args.writer.now) (g.W.Sink.contents c.run.new.writer) c.run.result)
     (ap (map (λ word. word.now)) c.as_slice-2.ensures.value ∙ c.in-Ok-texts.ensures ∙ ap (map string_bytes) c.as_slice.ensures.value)
     (c.run.ensures.explains input e))
+
+pub returns-clause-ends : goal.returns-clause-ends
+returns-clause-ends g c = rw (c.in-Ok.is)
+    (subst (λ (ws : List (List ℕ)). Ends ws (g.R.Source.left c.args.reader.now) (g.R.Source.left c.run.new.reader) (g.W.Sink.contents c.args.writer.now) (g.W.Sink.contents c.run.new.writer) c.run.result)
+    (ap (map (λ word. word.now)) c.as_slice-2.ensures.value ∙ c.in-Ok-texts.ensures ∙ ap (map string_bytes) c.as_slice.ensures.value) c.run.ensures.ends)
+
+pub returns-in_default-clause-ends : goal.returns-in_default-clause-ends
+returns-in_default-clause-ends g c = rw (c.in-Ok.is) (Err Memory, tt, (refl, Keeps-refl (g.W.Sink.contents c.args.writer.now), refl))

@@ -1,0 +1,53 @@
+//! How the program ended.
+ghost use Rattle.std.specs.Prelude.{◌≡◌};
+ghost use Rattle.ddcmp_cli.specs.Endings.{shown_of, status_of};
+
+use crate::explain_fault::ExplainFault;
+use std::fmt;
+
+/// How the program ended.
+#[derive(Debug, Drop)]
+pub enum Ending {
+    /// All was done, help and the version included.
+    Done,
+    /// The words are out of order; this says how.
+    Usage(String),
+    /// A word isn't text.
+    NotText,
+    /// A command met a fault.
+    Fault(ExplainFault),
+}
+
+impl Ending {
+    /// The exit status: 0 done, 1 input refused, 2 usage, 3 read, write or memory.
+    pub fn status(&self) -> u8
+        ensures { result ≡ status_of self.now }
+    {
+        match self {
+            Ending::Done => 0,
+            Ending::Usage(_) | Ending::NotText => 2,
+            Ending::Fault(fault) => match fault {
+                ExplainFault::Odd | ExplainFault::NotHex(_) => 1,
+                ExplainFault::Read | ExplainFault::Write | ExplainFault::Memory => 3,
+            },
+        }
+    }
+}
+
+/// What goes to standard error.
+impl fmt::Display for Ending {
+    ghost output = { shown_of };
+
+    fn fmt<W: fmt::Write>(&self, f: &mut fmt::Formatter<W>) -> fmt::Result {
+        match self {
+            Ending::Done => Ok(()),
+            Ending::Usage(text) => f.write_str(text.as_str()),
+            Ending::NotText => f.write_str("ddcmp: a word is not text\n"),
+            Ending::Fault(fault) => {
+                f.write_str("ddcmp: ")?;
+                fault.fmt(f)?;
+                f.write_str("\n")
+            }
+        }
+    }
+}

@@ -1,0 +1,18 @@
+//! Why an input wasn't explained to its end.
+use thiserror::Error;
+
+/// Why an input wasn't explained to its end.
+#[derive(Debug, Drop, Error, PartialEq, Eq)]
+pub enum ExplainFault {
+    #[error("odd number of digits")]
+    Odd,
+    /// The index of the first byte that is neither a digit nor blank, counted from 0.
+    #[error("not hexadecimal at {0}")]
+    NotHex(u64),
+    #[error("read")]
+    Read,
+    #[error("write")]
+    Write,
+    #[error("memory")]
+    Memory,
+}

@@ -1,0 +1,98 @@
+//! The lines of the items of bytes, and the last line.
+ghost use Rattle.std.specs.Prelude.{◌≡◌, ◌+◌, ◌<◌, ◌≤◌, ◌^◌, ◌++◌, ◌∷◌, [], Bool, List, ℕ};
+ghost use Rattle.std.specs.Prelude.{Option, is_err, length};
+ghost use Rattle.ddcmp_frame.specs.Reader.{StandsFor};
+ghost use Rattle.ddcmp_frame.specs.Written.{Writes};
+ghost use Rattle.ddcmp_cli.specs.Text.{lines, last_line};
+
+use crate::text::{write_line, write_totals};
+use ddcmp_frame::{Page, Reader, Sink, WriteFailed};
+
+/// What the bytes so far say, on its way to a sink.
+#[derive(Drop)]
+pub(crate) struct Lines {
+    pub(crate) frames: Reader,
+    pub(crate) items: u64,
+    pub(crate) page: Page,
+    ghost counted: { items ≤ frames.offset },
+}
+
+impl Lines {
+    ghost use Rattle.ddcmp_cli.specs.Progress.{HasTold};
+
+    /// No bytes so far, for a reader of none.
+    pub(crate) fn new(frames: Reader) -> Self
+        requires { StandsFor frames [] }
+        ensures max { result.frames.max ≡ frames.max }
+        ensures offset { result.frames.offset ≡ 0 }
+        ensures told { (broken : Bool) (start : Option (List ℕ))
+            → HasTold frames.max start [] result broken start }
+    {
+        Lines {
+            frames,
+            items: 0,
+            page: Page::new(),
+        }
+    }
+
+    /// Takes a byte, and hands over the line of the item that it completes.
+    fn push<W: Sink>(&mut self, writer: &mut W, byte: u8)
+        requires { self.old.frames.offset + 1 < 2 ^ 64 }
+        ensures max { self.new.frames.max ≡ self.old.frames.max }
+        ensures offset { self.new.frames.offset ≡ self.old.frames.offset + 1 }
+        ensures told { (max : ℕ) (start : Option (List ℕ)) (text : List ℕ)
+            → HasTold max start text self.old (W.broken writer.old) (W.contents writer.old)
+            → HasTold max start (text ++ byte ∷ []) self.new
+            (W.broken writer.new) (W.contents writer.new) }
+    {
+        match self.frames.push(byte) {
+            Some(item) => {
+                self.items += 1;
+                write_line(&mut self.page, writer, &item, self.frames.data());
+            }
+            None => {}
+        }
+    }
+
+    /// Takes bytes, and hands over the lines of the items that they complete.
+    pub(crate) fn push_all<W: Sink>(&mut self, writer: &mut W, bytes: &[u8])
+        requires { self.old.frames.offset + length bytes.now < 2 ^ 64 }
+        ensures max { self.new.frames.max ≡ self.old.frames.max }
+        ensures offset { self.new.frames.offset ≡ self.old.frames.offset + length bytes.now }
+        ensures told { (max : ℕ) (start : Option (List ℕ)) (text : List ℕ)
+            → HasTold max start text self.old (W.broken writer.old) (W.contents writer.old)
+            → HasTold max start (text ++ bytes.now) self.new
+            (W.broken writer.new) (W.contents writer.new) }
+    {
+        for byte in bytes {
+            self.push(writer, *byte);
+        }
+    }
+
+    /// Writes all lines that wait.
+    pub(crate) fn flush<W: Sink>(&mut self, writer: &mut W) -> Result<(), WriteFailed>
+        ensures max { self.new.frames.max ≡ self.old.frames.max }
+        ensures offset { self.new.frames.offset ≡ self.old.frames.offset }
+        ensures broken { W.broken writer.new ≡ is_err result }
+        ensures told { (max : ℕ) (start : Option (List ℕ)) (text : List ℕ)
+            → HasTold max start text self.old (W.broken writer.old) (W.contents writer.old)
+            → HasTold max start text self.new (W.broken writer.new) (W.contents writer.new)
+            × Writes start (W.contents writer.new) result (lines max text) }
+    {
+        self.page.flush(writer)
+    }
+
+    /// Writes the last line after all others.
+    pub(crate) fn finish<W: Sink>(&mut self, writer: &mut W) -> Result<(), WriteFailed>
+        ensures offset { self.new.frames.offset ≡ self.old.frames.offset }
+        ensures broken { W.broken writer.new ≡ is_err result }
+        ensures told { (max : ℕ) (start : Option (List ℕ)) (text : List ℕ)
+            → HasTold max start text self.old (W.broken writer.old) (W.contents writer.old)
+            → Writes start (W.contents writer.new) result (lines max text ++ last_line max text) }
+    {
+        let bytes = self.frames.offset();
+        let left_open = self.frames.open() as u64;
+        write_totals(&mut self.page, writer, self.items, bytes, left_open);
+        self.page.flush(writer)
+    }
+}
