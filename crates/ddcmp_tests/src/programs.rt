@@ -101,15 +101,54 @@ fn runs_end_as_their_commands(rt: HostRuntime) {
     let (ending, text) = ran(&rt, &["ddcmp", "explain"], b"050", 0);
     assert!(rt; matches!(ending, Ending::Fault(ExplainFault::Odd)));
     assert!(rt; text.bytes().is_empty());
-    let (ending, text) = ran(&rt, &["ddcmp", "--help"], b"", 0);
-    assert!(rt; matches!(ending, Ending::Done));
-    assert!(rt; !text.bytes().is_empty());
     // Help that can't be written is a write that failed.
     let (ending, _) = ran(&rt, &["ddcmp", "--help"], b"", 1);
     assert!(rt; matches!(ending, Ending::Fault(ExplainFault::Write)));
     let (ending, text) = ran(&rt, &["ddcmp"], b"", 0);
     assert!(rt; matches!(ending, Ending::Usage(_)));
     assert!(rt; text.bytes().is_empty());
+}
+
+const HELP: &[u8] = b"\
+DDCMP, the data link protocol of DECnet
+
+Usage: ddcmp <COMMAND>
+
+Commands:
+  explain  Says what the bytes of a line are, read from standard input
+  help     Print this message or the help of the given subcommand(s)
+
+Options:
+  -h, --help     Print help
+  -V, --version  Print version
+";
+
+const HELP_OF_EXPLAIN: &[u8] = b"\
+Says what the bytes of a line are, read from standard input
+
+Usage: ddcmp explain [OPTIONS]
+
+Options:
+      --raw      Read bytes as they are, not hexadecimal digits
+      --max <N>  The most bytes of data that a frame may have, 1 to 16383; 16383 by default
+  -h, --help     Print help
+";
+
+/// Help and the version go to the output whole, and nothing is read.
+#[test]
+fn help_and_the_version_are_shown(rt: HostRuntime) {
+    let rows: [(&[&str], &[u8]); 5] = [
+        (&["ddcmp", "--help"], HELP),
+        (&["ddcmp", "help"], HELP),
+        (&["ddcmp", "explain", "--help"], HELP_OF_EXPLAIN),
+        (&["ddcmp", "help", "explain"], HELP_OF_EXPLAIN),
+        (&["ddcmp", "--version"], b"ddcmp 0.1.0\n"),
+    ];
+    for (words, shown) in rows {
+        let (ending, text) = ran(&rt, words, b"05zz", 0);
+        assert!(rt; matches!(ending, Ending::Done));
+        assert_eq!(rt; text.bytes(), shown);
+    }
 }
 
 /// The options reach the reader of the line.
