@@ -14,7 +14,7 @@ BeginsRunning AStart (Good (Data resp num message)) = resp ≡ 0
 BeginsRunning _ _ = ⊥
 
 -- A message that is sent is one of those kept, at some place counted from 0. Its number is that
--- place and 1 behind the last one acknowledged, and at most one behind the last one sent.
+-- place and 1 after the last one acknowledged, and at most one after the last one sent.
 pub record IsSentInWindow (s : StationState) (num : ℕ) (message : List ℕ) : Type 0 where
   pub place : before_next s < length s.out
   pub message_at : message ≡ slice_index_or s.out (before_next s) []

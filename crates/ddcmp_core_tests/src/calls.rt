@@ -99,7 +99,7 @@ impl Bench {
     }
 
     /// A frame arrives, with data of one byte, or of three in maintenance.
-    fn hears(&mut self, header: Header) -> Option<Notice> {
+    fn receives(&mut self, header: Header) -> Option<Notice> {
         match header {
             Header::Control(_control) => self.core.on(&Input::Good(header, b"")),
             Header::Data(counted) if counted.count == 1 => self.core.on(&Input::Good(header, b"a")),
@@ -148,7 +148,7 @@ impl Bench {
     fn starts(&mut self, rt: &impl Abort) {
         assert_eq!(rt; self.core.start(), Ok(0));
         assert_eq!(rt; self.sends(), Some(strt()));
-        assert_eq!(rt; self.hears(stack()), Some(Notice::Running));
+        assert_eq!(rt; self.receives(stack()), Some(Notice::Running));
         assert_eq!(rt; self.sends(), Some(ack(0)));
         assert_eq!(rt; self.sends(), None);
     }
@@ -174,7 +174,7 @@ impl Bench {
     fn receives(&mut self, rt: &impl Abort) {
         self.starts(rt);
         for number in 1..6u8 {
-            assert_eq!(rt; self.hears(data(number, 0)), Some(Notice::HandedUp));
+            assert_eq!(rt; self.receives(data(number, 0)), Some(Notice::HandedUp));
         }
         assert_eq!(rt; self.core.numbers(), numbers(5, 0, 0, 1));
     }
@@ -199,7 +199,7 @@ impl Bench {
         assert_eq!(rt; self.sends(), Some(nak(16, 5)));
         assert_eq!(rt; self.hears_no_format(), None);
         assert_eq!(rt; self.sends(), Some(nak(17, 5)));
-        assert_eq!(rt; self.hears(data(6, 0)), None);
+        assert_eq!(rt; self.receives(data(6, 0)), None);
         assert_eq!(rt; self.sends(), Some(nak(8, 5)));
     }
 }
@@ -208,13 +208,13 @@ impl Bench {
 fn begins_on_an_answer_to_its_stack(rt: HostRuntime) -> Result<(), Fail> {
     let mut bench = Bench::new(rt.alloc(), 7, false)?;
     assert_eq!(rt; bench.core.start(), Ok(0));
-    assert_eq!(rt; bench.hears(strt()), None);
+    assert_eq!(rt; bench.receives(strt()), None);
     assert_eq!(rt; bench.sends(), Some(stack()));
     for stale in [ack(1), nak(1, 0), data(1, 1)] {
-        assert_eq!(rt; bench.hears(stale), None);
+        assert_eq!(rt; bench.receives(stale), None);
         assert_eq!(rt; bench.core.state(), State::AStart);
     }
-    assert_eq!(rt; bench.hears(data(1, 0)), Some(Notice::RunningAndHandedUp));
+    assert_eq!(rt; bench.receives(data(1, 0)), Some(Notice::RunningAndHandedUp));
     assert_eq!(rt; bench.core.numbers(), numbers(1, 0, 0, 1));
     assert_eq!(rt; bench.sends(), Some(ack(1)));
     Ok(())
@@ -224,7 +224,7 @@ fn begins_on_an_answer_to_its_stack(rt: HostRuntime) -> Result<(), Fail> {
 fn hears_refusals_and_acknowledgements(rt: HostRuntime) -> Result<(), Fail> {
     let mut refused = Bench::new(rt.alloc(), 7, false)?;
     refused.waits(&rt);
-    assert_eq!(rt; refused.hears(nak(3, 1)), Some(Notice::Acknowledged(1)));
+    assert_eq!(rt; refused.receives(nak(3, 1)), Some(Notice::Acknowledged(1)));
     assert_eq!(rt; refused.core.numbers(), numbers(0, 3, 1, 2));
     assert!(rt; !refused.core.timer_on());
     assert_eq!(rt; refused.sends(), Some(data(2, 0)));
@@ -232,7 +232,7 @@ fn hears_refusals_and_acknowledgements(rt: HostRuntime) -> Result<(), Fail> {
 
     let mut stale = Bench::new(rt.alloc(), 7, false)?;
     stale.waits(&rt);
-    assert_eq!(rt; stale.hears(nak(3, 7)), None);
+    assert_eq!(rt; stale.receives(nak(3, 7)), None);
     assert_eq!(rt; stale.core.numbers(), numbers(0, 3, 0, 4));
     assert_eq!(rt; stale.core.outgoing(), 3);
     assert_eq!(rt; stale.core.counters().nak_received.reply_to_rep, 1);
@@ -242,7 +242,7 @@ fn hears_refusals_and_acknowledgements(rt: HostRuntime) -> Result<(), Fail> {
     late.waits(&rt);
     assert!(rt; late.core.expire());
     assert!(rt; !late.core.expire());
-    assert_eq!(rt; late.hears(ack(1)), Some(Notice::Acknowledged(1)));
+    assert_eq!(rt; late.receives(ack(1)), Some(Notice::Acknowledged(1)));
     assert!(rt; late.core.take_arm());
     assert_eq!(rt; late.sends(), None);
     Ok(())
@@ -252,9 +252,9 @@ fn hears_refusals_and_acknowledgements(rt: HostRuntime) -> Result<(), Fail> {
 fn answers_what_it_missed(rt: HostRuntime) -> Result<(), Fail> {
     let mut bench = Bench::new(rt.alloc(), 7, false)?;
     bench.receives(&rt);
-    assert_eq!(rt; bench.hears(rep(5)), None);
+    assert_eq!(rt; bench.receives(rep(5)), None);
     assert_eq!(rt; bench.sends(), Some(ack(5)));
-    assert_eq!(rt; bench.hears(rep(4)), None);
+    assert_eq!(rt; bench.receives(rep(4)), None);
     assert_eq!(rt; bench.sends(), Some(nak(3, 5)));
     bench.asks_again(&rt);
     bench.refuses(&rt);
@@ -267,12 +267,12 @@ fn numbers_lie_in_the_widest_window(rt: HostRuntime) -> Result<(), Fail> {
     bench.starts(&rt);
     for number in 1..45u8 {
         bench.gives(&rt, number, 0);
-        assert_eq!(rt; bench.hears(ack(number)), Some(Notice::Acknowledged(1)));
+        assert_eq!(rt; bench.receives(ack(number)), Some(Notice::Acknowledged(1)));
     }
     let before = *bench.core.counters();
-    assert_eq!(rt; bench.hears(ack(45)), None);
+    assert_eq!(rt; bench.receives(ack(45)), None);
     assert_eq!(rt; *bench.core.counters(), before);
-    assert_eq!(rt; bench.hears(nak(2, 43)), None);
+    assert_eq!(rt; bench.receives(nak(2, 43)), None);
     assert_eq!(rt; bench.core.counters().nak_received.data_check, 1);
     assert_eq!(rt; bench.core.numbers(), numbers(0, 44, 44, 45));
     assert_eq!(rt; bench.core.state(), State::Running);
@@ -285,7 +285,7 @@ fn numbers_lie_in_the_widest_window(rt: HostRuntime) -> Result<(), Fail> {
 fn maintains(rt: HostRuntime) -> Result<(), Fail> {
     let mut bench = Bench::new(rt.alloc(), 1, false)?;
     bench.starts(&rt);
-    assert_eq!(rt; bench.hears(maintenance()), Some(Notice::MaintenanceSeen));
+    assert_eq!(rt; bench.receives(maintenance()), Some(Notice::MaintenanceSeen));
     assert_eq!(rt; bench.core.state(), State::Running);
     assert_eq!(rt;
         bench.core.enter_maintenance(),
@@ -294,7 +294,7 @@ fn maintains(rt: HostRuntime) -> Result<(), Fail> {
     bench.core.halt();
     assert_eq!(rt; bench.core.enter_maintenance(), Ok(0));
     assert_eq!(rt;
-        bench.hears(maintenance()),
+        bench.receives(maintenance()),
         Some(Notice::MaintenanceHandedUp)
     );
     bench.takes(&rt);
@@ -313,7 +313,7 @@ fn maintains(rt: HostRuntime) -> Result<(), Fail> {
 fn restarts_by_option(rt: HostRuntime) -> Result<(), Fail> {
     let mut anew = Bench::new(rt.alloc(), 7, true)?;
     anew.starts(&rt);
-    assert_eq!(rt; anew.hears(strt()), Some(Notice::Restarted(0)));
+    assert_eq!(rt; anew.receives(strt()), Some(Notice::Restarted(0)));
     assert_eq!(rt; anew.core.state(), State::AStart);
     assert_eq!(rt; anew.core.numbers(), numbers(0, 0, 0, 1));
     assert!(rt; !anew.core.timer_on());
@@ -321,8 +321,8 @@ fn restarts_by_option(rt: HostRuntime) -> Result<(), Fail> {
 
     let mut untaken = Bench::new(rt.alloc(), 7, true)?;
     untaken.starts(&rt);
-    assert_eq!(rt; untaken.hears(data(1, 0)), Some(Notice::HandedUp));
-    assert_eq!(rt; untaken.hears(strt()), Some(Notice::PeerRestarted));
+    assert_eq!(rt; untaken.receives(data(1, 0)), Some(Notice::HandedUp));
+    assert_eq!(rt; untaken.receives(strt()), Some(Notice::PeerRestarted));
     assert_eq!(rt; untaken.core.state(), State::Halted);
     assert_eq!(rt; untaken.core.numbers(), numbers(1, 0, 0, 1));
     assert_eq!(rt; untaken.core.outgoing(), 0);

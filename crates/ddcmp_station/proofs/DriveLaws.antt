@@ -19,7 +19,7 @@ use Rattle.ddcmp_frame.specs.Device.{Logs}
 use Rattle.ddcmp_frame.specs.declared.device.Got.{Got}
 use Rattle.ddcmp_station.specs.UserCalls.{UserCall, calls_of_offer, calls_of_notices, calls_of_mail, TellsPiece}
 use Rattle.ddcmp_station.specs.Turns.{WritesFrame, TakesTurn, BreaksTurn}
-use Rattle.ddcmp_station.proofs.FeedLaws.{fed-none, fed-append}
+use Rattle.ddcmp_station.proofs.FeedLaws.{after_piece-none, after_piece-append}
 
 pub Logs-nil : {A : Type 0} (a : Option (List A)) → Logs a a []
 Logs-nil None = tt
@@ -43,13 +43,13 @@ pub record FedTo (old : StationView) (part : List ℕ) (new : StationView) : Typ
 pub fed-to-nothing : (old : StationView) → FedTo old [] old
 fed-to-nothing old = record {
   stands = λ text s. subst (StandsFor old.line) (sym (append-nil text)) s;
-  state = λ text s. sym (fed-none text old.core);
+  state = λ text s. sym (after_piece-none text old.core);
 }
 
 pub fed-then : (old mid new : StationView) (u v : List ℕ) → FedTo old u mid → FedTo mid v new → FedTo old (u ++ v) new
 fed-then old mid new u v a b = record {
   stands = λ text s. subst (StandsFor new.line) (append_assoc text u v) (b.stands (text ++ u) (a.stands text s));
-  state = λ text s. b.state (text ++ u) (a.stands text s) ∙ ap (after_piece (text ++ u) v) (a.state text s) ∙ sym (fed-append text u v old.core);
+  state = λ text s. b.state (text ++ u) (a.stands text s) ∙ ap (after_piece (text ++ u) v) (a.state text s) ∙ sym (after_piece-append text u v old.core);
 }
 
 pub fed-more : (old mid new : StationView) (piece : List ℕ) (at used : ℕ) → FedTo old (take at piece) mid → FedTo mid (take used (drop at piece)) new
@@ -68,7 +68,7 @@ some-sent a b bytes Write w = (take w.0 bytes, (w.0, refl), w.1)
 some-sent a b bytes Ended w = absurd w
 some-sent a b bytes Memory w = absurd w
 
--- behind a whole frame
+-- after a whole frame
 pub all-sent : (fault : LineFault) (frame : List ℕ) → fault ≢ Write → fault ≢ Memory → IsSentPart fault frame frame
 all-sent Read frame w m = refl
 all-sent Write frame w m = absurd (w refl)

@@ -13,78 +13,78 @@ use Rattle.ddcmp_station.specs.Station.{StationView}
 use Rattle.ddcmp_station.specs.OneByte.{TakesByte}
 use Rattle.ddcmp_station.specs.Bytes.{after_item, notices_of_item, after_items, notices_of_items, items_added, after_piece, notices_of_piece}
 
-pub heard-append : (x y : List ReadItem) (k : CoreView) → after_items (x ++ y) k ≡ after_items y (after_items x k)
+pub after_items-append : (x y : List ReadItem) (k : CoreView) → after_items (x ++ y) k ≡ after_items y (after_items x k)
 unfolding after_items
-heard-append [] y k = refl
-heard-append (g ∷ x) y k = heard-append x y (after_item g k)
+after_items-append [] y k = refl
+after_items-append (g ∷ x) y k = after_items-append x y (after_item g k)
 
-pub told-append : (x y : List ReadItem) (k : CoreView) → notices_of_items (x ++ y) k ≡ notices_of_items x k ++ notices_of_items y (after_items x k)
+pub notices_of_items-append : (x y : List ReadItem) (k : CoreView) → notices_of_items (x ++ y) k ≡ notices_of_items x k ++ notices_of_items y (after_items x k)
 unfolding after_items notices_of_items
-told-append [] y k = refl
-told-append (g ∷ x) y k = ap (λ t. notices_of_item g k ++ t) (told-append x y (after_item g k)) ∙ sym (append_assoc (notices_of_item g k) _ _)
+notices_of_items-append [] y k = refl
+notices_of_items-append (g ∷ x) y k = ap (λ t. notices_of_item g k ++ t) (notices_of_items-append x y (after_item g k)) ∙ sym (append_assoc (notices_of_item g k) _ _)
 
-pub heard-limits : (x : List ReadItem) (k : CoreView) → (after_items x k).limits ≡ k.limits
+pub after_items-limits : (x : List ReadItem) (k : CoreView) → (after_items x k).limits ≡ k.limits
 unfolding after_items
-heard-limits [] k = refl
-heard-limits (g ∷ x) k = heard-limits x (after_item g k)
+after_items-limits [] k = refl
+after_items-limits (g ∷ x) k = after_items-limits x (after_item g k)
 
-pub heard-none : (k : CoreView) → after_items [] k ≡ k
+pub after_items-none : (k : CoreView) → after_items [] k ≡ k
 unfolding after_items
-heard-none k = refl
+after_items-none k = refl
 
-pub told-none : (k : CoreView) → notices_of_items [] k ≡ []
+pub notices_of_items-none : (k : CoreView) → notices_of_items [] k ≡ []
 unfolding notices_of_items
-told-none k = refl
+notices_of_items-none k = refl
 
-pub heard-single : (g : ReadItem) (k : CoreView) → after_items (g ∷ []) k ≡ after_item g k
+pub after_items-single : (g : ReadItem) (k : CoreView) → after_items (g ∷ []) k ≡ after_item g k
 unfolding after_items
-heard-single g k = refl
+after_items-single g k = refl
 
-pub told-single : (g : ReadItem) (k : CoreView) → notices_of_items (g ∷ []) k ≡ notices_of_item g k
+pub notices_of_items-single : (g : ReadItem) (k : CoreView) → notices_of_items (g ∷ []) k ≡ notices_of_item g k
 unfolding notices_of_items
-told-single g k = append-nil (notices_of_item g k)
+notices_of_items-single g k = append-nil (notices_of_item g k)
 
 -- the items that a piece adds are those that its text has behind the earlier ones
-pub added-is : (max : ℕ) (text u : List ℕ) (given : List ReadItem) → items max (text ++ u) ≡ items max text ++ given → items_added max text u ≡ given
-added-is max text u given e = ap (drop (length (items max text))) e ∙ drop-append_seam (items max text) given
+pub items_added-is : (max : ℕ) (text u : List ℕ) (given : List ReadItem) → items max (text ++ u) ≡ items max text ++ given → items_added max text u ≡ given
+items_added-is max text u given e = ap (drop (length (items max text))) e ∙ drop-append_seam (items max text) given
 
-pub added-all : (max : ℕ) (text u : List ℕ) → items max (text ++ u) ≡ items max text ++ items_added max text u
-added-all max text u = items-more max text u ∙ ap (λ x. items max text ++ x) (sym (added-is max text u _ (items-more max text u)))
+pub items_added-all : (max : ℕ) (text u : List ℕ) → items max (text ++ u) ≡ items max text ++ items_added max text u
+items_added-all max text u = items-more max text u ∙ ap (λ x. items max text ++ x) (sym (items_added-is max text u _ (items-more max text u)))
 
-pub added-append : (max : ℕ) (text u v : List ℕ) → items_added max text (u ++ v) ≡ items_added max text u ++ items_added max (text ++ u) v
-added-append max text u v =
-    added-is max text (u ++ v) _
-    (ap (items max) (sym (append_assoc text u v)) ∙ added-all max (text ++ u) v ∙ ap (λ x. x ++ items_added max (text ++ u) v) (added-all max text u)
+pub items_added-append : (max : ℕ) (text u v : List ℕ) → items_added max text (u ++ v) ≡ items_added max text u ++ items_added max (text ++ u) v
+items_added-append max text u v =
+    items_added-is max text (u ++ v) _
+    (ap (items max) (sym (append_assoc text u v)) ∙ items_added-all max (text ++ u) v ∙ ap (λ x. x ++ items_added max (text ++ u) v) (items_added-all max text u)
     ∙ append_assoc (items max text) _ _)
 
-pub added-none : (max : ℕ) (text : List ℕ) → items_added max text [] ≡ []
-added-none max text = ap (λ t. drop (length (items max text)) (items max t)) (append-nil text) ∙ drop-length (items max text)
+pub items_added-none : (max : ℕ) (text : List ℕ) → items_added max text [] ≡ []
+items_added-none max text = ap (λ t. drop (length (items max text)) (items max t)) (append-nil text) ∙ drop-length (items max text)
 
-pub fed-limits : (text u : List ℕ) (k : CoreView) → (after_piece text u k).limits ≡ k.limits
-fed-limits text u k = heard-limits (items_added k.limits.longest text u) k
+pub after_piece-limits : (text u : List ℕ) (k : CoreView) → (after_piece text u k).limits ≡ k.limits
+after_piece-limits text u k = after_items-limits (items_added k.limits.longest text u) k
 
-pub fed-none : (text : List ℕ) (k : CoreView) → after_piece text [] k ≡ k
-fed-none text k = ap (λ x. after_items x k) (added-none k.limits.longest text) ∙ heard-none k
+pub after_piece-none : (text : List ℕ) (k : CoreView) → after_piece text [] k ≡ k
+after_piece-none text k = ap (λ x. after_items x k) (items_added-none k.limits.longest text) ∙ after_items-none k
 
-pub told-of-none : (text : List ℕ) (k : CoreView) → notices_of_piece text [] k ≡ []
-told-of-none text k = ap (λ x. notices_of_items x k) (added-none k.limits.longest text) ∙ told-none k
+pub notices_of_piece-none : (text : List ℕ) (k : CoreView) → notices_of_piece text [] k ≡ []
+notices_of_piece-none text k = ap (λ x. notices_of_items x k) (items_added-none k.limits.longest text) ∙ notices_of_items-none k
 
-pub fed-append : (text u v : List ℕ) (k : CoreView) → after_piece text (u ++ v) k ≡ after_piece (text ++ u) v (after_piece text u k)
-fed-append text u v k =
-    ap (λ x. after_items x k) (added-append k.limits.longest text u v) ∙ heard-append _ _ k
-    ∙ ap (λ l. after_items (items_added l.longest (text ++ u) v) (after_piece text u k)) (sym (fed-limits text u k))
+pub after_piece-append : (text u v : List ℕ) (k : CoreView) → after_piece text (u ++ v) k ≡ after_piece (text ++ u) v (after_piece text u k)
+after_piece-append text u v k =
+    ap (λ x. after_items x k) (items_added-append k.limits.longest text u v) ∙ after_items-append _ _ k
+    ∙ ap (λ l. after_items (items_added l.longest (text ++ u) v) (after_piece text u k)) (sym (after_piece-limits text u k))
 
-pub told-of-append : (text u v : List ℕ) (k : CoreView) → notices_of_piece text (u ++ v) k ≡ notices_of_piece text u k ++ notices_of_piece (text ++ u) v (after_piece text u k)
-told-of-append text u v k =
-    ap (λ x. notices_of_items x k) (added-append k.limits.longest text u v) ∙ told-append _ _ k
-    ∙ ap (λ l. notices_of_piece text u k ++ notices_of_items (items_added l.longest (text ++ u) v) (after_piece text u k)) (sym (fed-limits text u k))
+pub notices_of_piece-append : (text u v : List ℕ) (k : CoreView) → notices_of_piece text (u ++ v) k ≡ notices_of_piece text u k ++ notices_of_piece (text ++ u) v (after_piece text u k)
+notices_of_piece-append text u v k =
+    ap (λ x. notices_of_items x k) (items_added-append k.limits.longest text u v) ∙ notices_of_items-append _ _ k
+    ∙ ap (λ l. notices_of_piece text u k ++ notices_of_items (items_added l.longest (text ++ u) v) (after_piece text u k)) (sym (after_piece-limits text u k))
 
 -- ---- one byte
 
-pub fed-given : (max : ℕ) (text u : List ℕ) (given : List ReadItem) (k : CoreView) → max ≡ k.limits.longest → items max (text ++ u) ≡ items max text ++ given
+pub after_piece-given : (max : ℕ) (text u : List ℕ) (given : List ReadItem) (k : CoreView) → max ≡ k.limits.longest → items max (text ++ u) ≡ items max text ++ given
     → (after_piece text u k ≡ after_items given k) × (notices_of_piece text u k ≡ notices_of_items given k)
-fed-given max text u given k e its =
-    let a : items_added k.limits.longest text u ≡ given = subst (λ m. items_added m text u ≡ given) e (added-is max text u given its) in
+after_piece-given max text u given k e its =
+    let a : items_added k.limits.longest text u ≡ given = subst (λ m. items_added m text u ≡ given) e (items_added-is max text u given its) in
     (ap (λ x. after_items x k) a, ap (λ x. notices_of_items x k) a)
 
 -- a reader took a byte
@@ -99,8 +99,8 @@ byte-none core syn line after b m p = record {
   given = [];
   stands = p.stands;
   items_are = p.item;
-  core = sym (heard-none core);
-  told = sym (told-none core);
+  core = sym (after_items-none core);
+  told = sym (notices_of_items-none core);
   offset = p.counted;
   longest = m;
   limits = refl;
@@ -117,8 +117,8 @@ byte-some core syn line after b item new notice m p e t =
       given = (item, after.lent) ∷ [];
       stands = p.stands;
       items_are = p.item;
-      core = sym (heard-single (item, after.lent) core);
-      told = t ∙ sym (told-single (item, after.lent) core);
+      core = sym (after_items-single (item, after.lent) core);
+      told = t ∙ sym (notices_of_items-single (item, after.lent) core);
       offset = p.counted;
       longest = m;
       limits = refl;
@@ -139,8 +139,8 @@ pub record FedPart (old : StationView) (piece : List ℕ) (i : ℕ) (new : Stati
 pub fed-nothing : (old : StationView) (piece : List ℕ) → FedPart old piece 0 old
 fed-nothing old piece = record {
   stands = λ text s. subst (StandsFor old.line) (sym (append-nil text)) s;
-  core = λ text s. sym (fed-none text old.core);
-  quiet = λ text n s few. subst (λ k. notices_of_piece text (take k piece) old.core ≡ []) (zero_only n few) (told-of-none text old.core);
+  core = λ text s. sym (after_piece-none text old.core);
+  quiet = λ text n s few. subst (λ k. notices_of_piece text (take k piece) old.core ≡ []) (zero_only n few) (notices_of_piece-none text old.core);
   offset = omega arith;
   limits = refl;
   syn = refl;
@@ -165,9 +165,9 @@ fed-next old mid new piece i b notice one h t = record {
   stands = λ text s. subst (StandsFor new.line) (append_assoc text (take i piece) (b ∷ []) ∙ ap (λ p. text ++ p) (sym one)) (t.stands (text ++ take i piece) (h.stands text s));
   core = λ text s.
       t.core ∙ sym (given text s).0 ∙ ap (λ k. after_piece (text ++ take i piece) (b ∷ []) k) (h.core text s)
-      ∙ sym (fed-append text (take i piece) (b ∷ []) old.core) ∙ ap (λ p. after_piece text p old.core) (sym one);
+      ∙ sym (after_piece-append text (take i piece) (b ∷ []) old.core) ∙ ap (λ p. after_piece text p old.core) (sym one);
   told = λ text s.
-      ap (λ p. notices_of_piece text p old.core) one ∙ told-of-append text (take i piece) (b ∷ []) old.core
+      ap (λ p. notices_of_piece text p old.core) one ∙ notices_of_piece-append text (take i piece) (b ∷ []) old.core
       ∙ ap (λ l. l ++ notices_of_piece (text ++ take i piece) (b ∷ []) (after_piece text (take i piece) old.core)) (h.quiet text i s (omega arith))
       ∙ ap (λ k. notices_of_piece (text ++ take i piece) (b ∷ []) k) (sym (h.core text s)) ∙ (given text s).1 ∙ sym t.told;
   first = λ text n s few. h.quiet text n s (omega (arith, few));
@@ -178,7 +178,7 @@ fed-next old mid new piece i b notice one h t = record {
   where
     given : (text : List ℕ) → StandsFor old.line text
         → (after_piece (text ++ take i piece) (b ∷ []) mid.core ≡ after_items t.given mid.core) × (notices_of_piece (text ++ take i piece) (b ∷ []) mid.core ≡ notices_of_items t.given mid.core)
-    given text s = fed-given mid.line.max (text ++ take i piece) (b ∷ []) t.given mid.core t.longest (t.items_are (text ++ take i piece) (h.stands text s))
+    given text s = after_piece-given mid.line.max (text ++ take i piece) (b ∷ []) t.given mid.core t.longest (t.items_are (text ++ take i piece) (h.stands text s))
 
 pub fed-quiet : (old new : StationView) (piece : List ℕ) (i : ℕ) → FedNext old piece (i + 1) new None → FedPart old piece (i + 1) new
 fed-quiet old new piece i h = record {

@@ -9,7 +9,7 @@ use Rattle.ddcmp_station.specs.Station.{StationView}
 use Rattle.ddcmp_frame.specs.Device.{Logs}
 use Rattle.ddcmp_window.specs.Store.{first_message, with_front}
 use Rattle.ddcmp_station.specs.UserCalls.{UserCall, Handed, Told, calls_of_notices, calls_of_mail, TellsNotices, TellsPiece}
-use Rattle.ddcmp_station.proofs.FeedLaws.{told-of-append}
+use Rattle.ddcmp_station.proofs.FeedLaws.{notices_of_piece-append}
 use Rattle.ddcmp_station.proofs.DriveLaws.{Logs-trans, FedTo, take_then}
 
 abbrev pub HandedSo : Option (List UserCall) → Option (List UserCall) → List (List ℕ) → List UserCall → Type 0
@@ -25,7 +25,7 @@ hands-one old mid new (m ∷ rest) all n before out h e w l =
     let is : take n out ≡ m = ap (take n) w ∙ take_at m (drop (length m) before) n size in
     (h.0 ++ Handed m ∷ [], Logs-trans old mid new h.0 (Handed m ∷ []) h.1 (subst (λ x. Logs mid new (Handed x ∷ [])) is l), append_assoc h.0 (Handed m ∷ []) (map Handed rest) ∙ h.2)
 
--- one part more of a piece is heard, and its notice, where it gave one, was told
+-- one part more of a piece is taken, and its notice, where it gave one, was told
 pub tells-more : (old mid : StationView) (piece : List ℕ) (at used : ℕ) (u v w : Option (List UserCall)) (r : Option Notice) → FedTo old (take at piece) mid
     → ((text : List ℕ) → StandsFor mid.line text → notices_of_piece text (take used (drop at piece)) mid.core ≡ option_to_list r)
     → TellsNotices old (take at piece) u v → Logs v w (calls_of_notices (option_to_list r)) → TellsNotices old (take (at + used) piece) u w
@@ -34,7 +34,7 @@ tells-more old mid piece at used u v w r fed-so told h l = (
   subst (Logs u w) (sym (map-append Told h.0 (option_to_list r))) (Logs-trans u v w _ _ h.1 l),
   λ text s.
       ap (λ p. notices_of_piece text p old.core) (sym (take_then piece at used))
-      ∙ told-of-append text (take at piece) (take used (drop at piece)) old.core
+      ∙ notices_of_piece-append text (take at piece) (take used (drop at piece)) old.core
       ∙ ap (λ xs. xs ++ notices_of_piece (text ++ take at piece) (take used (drop at piece)) (after_piece text (take at piece) old.core)) (h.2 text s)
       ∙ ap (λ k. h.0 ++ notices_of_piece (text ++ take at piece) (take used (drop at piece)) k) (sym (fed-so.state text s))
       ∙ ap (λ xs. h.0 ++ xs) (told (text ++ take at piece) (fed-so.stands text s)),
@@ -43,10 +43,10 @@ tells-more old mid piece at used u v w r fed-so told h l = (
 pub tells-whole : (old : StationView) (piece : List ℕ) (at : ℕ) (u v : Option (List UserCall)) → length piece ≤ at → TellsNotices old (take at piece) u v → TellsNotices old piece u v
 tells-whole old piece at u v all h = subst (λ p. TellsNotices old p u v) (take_all at piece all) h
 
--- what a read brought was heard, and then all mail handed up
-pub hears-all : (old mid : StationView) (came : List ℕ) (u v w : Option (List UserCall)) → TellsNotices old came u v → Logs v w (calls_of_mail mid.core)
+-- what a read brought was taken, and then all mail handed up
+pub receives-all : (old mid : StationView) (came : List ℕ) (u v w : Option (List UserCall)) → TellsNotices old came u v → Logs v w (calls_of_mail mid.core)
     → ((text : List ℕ) → StandsFor old.line text → mid.core ≡ after_piece text came old.core) → TellsPiece old came u w
-hears-all old mid came u v w told handed state = (
+receives-all old mid came u v w told handed state = (
   calls_of_notices told.0 ++ calls_of_mail mid.core,
   Logs-trans u v w _ _ told.1 handed,
   λ text s.

@@ -114,7 +114,7 @@ before_read milliseconds syn turn d = record d {
   seen = d.seen ++ calls_of_offer (before_offer milliseconds turn d) turn.offered;
 }
 
--- and the read: what came is heard, and all mail is handed up
+-- and the read: what came is taken, and all mail is handed up
 abbrev pub after_read : List ℕ → Driving → Driving
 after_read came d = record d {
   core = core_after_mail (after_piece d.text came d.core);

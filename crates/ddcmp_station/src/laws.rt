@@ -5,7 +5,7 @@ ghost use Rattle.ddcmp_station.specs.Bytes.{after_piece, notices_of_piece};
 
 use ddcmp_frame::laws::items_of_longer;
 
-/// A piece of the line is as good as its parts, one behind another: where a line is cut doesn't
+/// A piece of the line is as good as its parts, one after another: where a line is cut doesn't
 /// matter.
 pub fn pieces()
     ensures limits { (text u : List ℕ) (k : CoreView) → (after_piece text u k).limits ≡ k.limits }

@@ -60,14 +60,14 @@ impl Bench {
     fn running(rt: &impl Abort, alloc: Global) -> Bench {
         let mut bench = Bench::new(rt, alloc, 0);
         assert_eq!(rt; bench.station.start(), Ok(0));
-        bench.hears(rt, &STRT, 8, None);
+        bench.receives(rt, &STRT, 8, None);
         bench.writes(rt, &STACK);
-        bench.hears(rt, &ACK_0, 8, Some(Notice::Running));
+        bench.receives(rt, &ACK_0, 8, Some(Notice::Running));
         bench
     }
 
     /// What it makes of a piece.
-    fn hears(&mut self, rt: &impl Abort, piece: &[u8], used: usize, notice: Option<Notice>) {
+    fn receives(&mut self, rt: &impl Abort, piece: &[u8], used: usize, notice: Option<Notice>) {
         let offset = self.station.offset();
         assert!(rt; offset < 1000 && piece.len() < 1000);
         assert_eq!(rt; self.station.feed(piece), Fed { used, notice });
@@ -155,13 +155,13 @@ fn takes_pieces_up_to_a_notice(rt: HostRuntime) {
     let mut both = [0; 21];
     both[..8].copy_from_slice(&STACK);
     both[8..].copy_from_slice(&DATA);
-    bench.hears(&rt, &both, 8, Some(Notice::Running));
-    bench.hears(&rt, &both[8..], 13, Some(Notice::HandedUp));
+    bench.receives(&rt, &both, 8, Some(Notice::Running));
+    bench.receives(&rt, &both[8..], 13, Some(Notice::HandedUp));
     bench.hands_up(&rt, b"abc");
-    bench.hears(&rt, &DATA_2[..12], 12, None);
+    bench.receives(&rt, &DATA_2[..12], 12, None);
     assert_eq!(rt; bench.station.held(), 12);
     assert_eq!(rt; bench.station.open(), 12);
-    bench.hears(&rt, &DATA_2[12..], 1, Some(Notice::HandedUp));
+    bench.receives(&rt, &DATA_2[12..], 1, Some(Notice::HandedUp));
     assert_eq!(rt; bench.station.held(), 3);
     assert_eq!(rt; bench.station.waiting(), 1);
     bench.hands_up(&rt, b"abc");
@@ -188,11 +188,11 @@ fn damaged_and_too_long_data_are_refused(rt: HostRuntime) {
     let mut damaged = DATA;
     damaged[12] = 0x96;
     let mut bench = Bench::running(&rt, rt.alloc());
-    bench.hears(&rt, &damaged, 13, None);
+    bench.receives(&rt, &damaged, 13, None);
     bench.writes(&rt, &[0x05, 0x02, 0x02, 0x00, 0x00, 0x01, 0xB9, 0xED]);
     let mut bench = Bench::running(&rt, rt.alloc());
     let header = [0x81, 0xDD, 0x05, 0x00, 0x01, 0x01, 0x32, 0x9E];
-    bench.hears(&rt, &header, 8, None);
+    bench.receives(&rt, &header, 8, None);
     assert_eq!(rt; bench.station.open(), 8);
     assert_eq!(rt; bench.station.held(), 0);
     bench.writes(&rt, &[0x05, 0x02, 0x10, 0x00, 0x00, 0x01, 0xBC, 0x95]);
@@ -201,11 +201,11 @@ fn damaged_and_too_long_data_are_refused(rt: HostRuntime) {
 #[test]
 fn maintenance_has_a_state_of_its_own(rt: HostRuntime) {
     let mut bench = Bench::running(&rt, rt.alloc());
-    bench.hears(&rt, &MAINTENANCE, 13, Some(Notice::MaintenanceSeen));
+    bench.receives(&rt, &MAINTENANCE, 13, Some(Notice::MaintenanceSeen));
     assert_eq!(rt; bench.station.state(), State::Running);
     let mut bench = Bench::new(&rt, rt.alloc(), 0);
     assert_eq!(rt; bench.station.enter_maintenance(), Ok(0));
-    bench.hears(&rt, &MAINTENANCE, 13, Some(Notice::MaintenanceHandedUp));
+    bench.receives(&rt, &MAINTENANCE, 13, Some(Notice::MaintenanceHandedUp));
     bench.hands_up(&rt, b"abc");
     assert_eq!(rt; bench.station.send_maintenance(b"abc"), Ok(()));
     assert_eq!(rt; bench.station.send(b"abc"), Err(SendRefusal::WrongState));
@@ -234,10 +234,10 @@ fn messages_are_kept_and_the_line_is_cleared(rt: HostRuntime) {
             t: Seq(2)
         }
     );
-    bench.hears(&rt, &DATA[..5], 5, None);
+    bench.receives(&rt, &DATA[..5], 5, None);
     assert!(rt; !bench.station.clear_line());
     assert_eq!(rt; bench.station.open(), 5);
-    bench.hears(&rt, &DATA[5..], 8, Some(Notice::HandedUp));
+    bench.receives(&rt, &DATA[5..], 8, Some(Notice::HandedUp));
     let mut out = [0; 1500];
     assert!(rt; bench.station.waiting() > 0);
     assert_eq!(rt; bench.station.waiting_at(0, &mut out), 3);

@@ -14,7 +14,7 @@ pub enum Seen {
 }
 
 /// A user that offers these messages one after another, and then none. It keeps what it saw, and
-/// the bytes of all mail one behind another.
+/// the bytes of all mail one after another.
 #[derive(Drop)]
 pub struct Recorder<'a> {
     offers: &'a [&'a [u8]],

@@ -25,7 +25,7 @@ fn turns_read_what_comes(rt: HostRuntime) {
     for row in [
         nothing(),
         one_turn(),
-        // What comes behind an idle read is read too.
+        // What comes after an idle read is read too.
         Row {
             came: &[SILENCE, &STACK, SILENCE, &ACK],
             turns: 4,
@@ -42,7 +42,7 @@ fn turns_read_what_comes(rt: HostRuntime) {
 #[test]
 fn faults_end_the_turns(rt: HostRuntime) {
     for row in [
-        // An end is an end, also behind an idle read.
+        // An end is an end, also after an idle read.
         Row {
             turns: 2,
             answer: Err(LineFault::Ended),

@@ -107,15 +107,15 @@ impl End {
             Ok(station) => {
                 let mut end = End { station };
                 assert_eq!(rt; end.station.start(), Ok(0));
-                end.hears(rt, &STACK, Some(Notice::Running));
+                end.receives(rt, &STACK, Some(Notice::Running));
                 end
             }
             Err(refusal) => panic!(rt; "{refusal:?}"),
         }
     }
 
-    /// Hears a whole frame, which gives this notice.
-    fn hears(&mut self, rt: &impl Abort, frame: &[u8], notice: Option<Notice>) {
+    /// Receives a whole frame, which gives this notice.
+    fn receives(&mut self, rt: &impl Abort, frame: &[u8], notice: Option<Notice>) {
         assert!(rt; self.station.offset() < 1_000_000_000 && frame.len() < 20_000);
         let fed = self.station.feed(frame);
         assert_eq!(rt; fed.used, frame.len());
@@ -127,12 +127,12 @@ impl End {
         self.station.send(message).is_ok()
     }
 
-    /// Its next frame goes to the other end, behind 16 bytes of fill.
+    /// Its next frame goes to the other end, after 16 bytes of fill.
     fn sends(&mut self, rt: &impl Abort, len: usize, to: &mut End, notice: Option<Notice>) {
         let mut frame = [0; 16409];
         assert_eq!(rt; self.station.poll(&mut frame), Some(len));
         assert!(rt; len <= frame.len());
-        to.hears(rt, &frame[..len], notice);
+        to.receives(rt, &frame[..len], notice);
     }
 }
 

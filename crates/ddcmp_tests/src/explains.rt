@@ -196,7 +196,7 @@ fn worked_rows_with_data(rt: HostRuntime) {
 
 /// A too long frame is passed over unchecked, and what follows is read.
 #[test]
-fn behind_a_too_long_frame(rt: HostRuntime) {
+fn after_a_too_long_frame(rt: HostRuntime) {
     let header = [0x81, 0xDD, 5, 0, 1, 1, 0x32, 0x9E];
     let ack = [5, 1, 0, 0, 0, 1, 0xFC, 0x55];
     let mut input = [5; 1519];

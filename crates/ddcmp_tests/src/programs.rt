@@ -194,9 +194,9 @@ fn runs_take_options(rt: HostRuntime) {
     }
 }
 
-/// The first byte that is no digit is told, also far behind blanks.
+/// The first byte that is no digit is told, also far after blanks.
 #[test]
-fn strangers_are_told(rt: HostRuntime) {
+fn unexpected_bytes_are_told(rt: HostRuntime) {
     let mut far = [b' '; 70_000];
     far[69_999] = b'x';
     let rows: [(&[u8], u64); 4] = [(b"zz", 0), (b"05zz", 2), (b"05 0g", 4), (&far, 69_999)];
@@ -208,7 +208,7 @@ fn strangers_are_told(rt: HostRuntime) {
     }
 }
 
-/// Wrong words behind `explain` are told as usage, and nothing is written.
+/// Wrong words after `explain` are told as usage, and nothing is written.
 #[test]
 fn wrong_words_are_told(rt: HostRuntime) -> Result<(), Fail> {
     let rows: [&[&str]; 4] = [

@@ -19,11 +19,11 @@ fn writes(
     let answer = explain(rt.alloc(), &mut reader, &mut writer, form, max);
     assert_eq!(rt; answer, Ok(()));
     let text = writer.bytes();
-    let behind = front.len() + zeros;
-    assert_eq!(rt; text.len(), behind + end.len());
+    let after = front.len() + zeros;
+    assert_eq!(rt; text.len(), after + end.len());
     assert_eq!(rt; &text[..front.len()], front);
-    assert!(rt; text[front.len()..behind].iter().all(|digit| *digit == b'0'));
-    assert_eq!(rt; &text[behind..], end);
+    assert!(rt; text[front.len()..after].iter().all(|digit| *digit == b'0'));
+    assert_eq!(rt; &text[after..], end);
 }
 
 /// The largest data fill several pages of output. They are zeros, whose check is 0.

@@ -1,4 +1,4 @@
--- Messages that lie one behind the other, cut from their bytes by their lengths. The impl of
+-- Messages that lie one after another, cut from their bytes by their lengths. The impl of
 -- `Store` cites the lemmas for what holds of every store, and may take them from specs/ alone.
 use Rattle.std.proofs.Common.{◌≡◌, ℕ, zero, suc, ◌<◌, ◌≤◌, sum, sum_by, All, refl, arith}
 use Rattle.std.proofs.Common.{List, [], ◌∷◌, length, take, drop, get_or}
@@ -24,22 +24,22 @@ sum_by-cut (n ∷ lengths) bytes inside =
     let others = sum_by-cut lengths rest (omega (arith, length-drop n bytes)) in
     omega (arith, sum_by-cons length (take n bytes) (cut lengths rest))
 
--- a message lies behind those before it
+-- a message lies after those before it
 pub get_or-cut : (lengths bytes : List ℕ) (i : ℕ) (d : List ℕ) → i < length lengths
     → get_or (cut lengths bytes) i d ≡ take (get_or lengths i 0) (drop (sum (take i lengths)) bytes)
 get_or-cut [] bytes i d below = absurd (omega arith)
 get_or-cut (n ∷ lengths) bytes zero d below = refl
 get_or-cut (n ∷ lengths) bytes (suc i) d below =
     let others = get_or-cut lengths (drop n bytes) i d (omega arith) in
-    let behind = drop-drop (sum (take i lengths)) n bytes in
-    rw (others, behind, ← sum_by-cons (λ (k : ℕ). k) n (take i lengths)) refl
+    let after = drop-drop (sum (take i lengths)) n bytes in
+    rw (others, after, ← sum_by-cons (λ (k : ℕ). k) n (take i lengths)) refl
 
 pub length-get_or-cut : (lengths bytes : List ℕ) (i : ℕ) (d : List ℕ) → i < length lengths
     → sum lengths ≤ length bytes → length (get_or (cut lengths bytes) i d) ≡ get_or lengths i 0
 length-get_or-cut lengths bytes i d below inside =
     let rest = drop (sum (take i lengths)) bytes in
     let end = sum_by_more_le (λ (k : ℕ). k) lengths i 0 below in
-    let behind = length-drop (sum (take i lengths)) bytes in
+    let after = length-drop (sum (take i lengths)) bytes in
     rw (get_or-cut lengths bytes i d below) (length-take-le (get_or lengths i 0) rest (omega arith))
 
 -- lengths in a range are those of messages in that range

@@ -11,7 +11,7 @@ use std::alloc::Global;
 /// A store of one ring for the bytes of all messages.
 #[derive(Drop)]
 pub struct RingStore {
-    /// The messages, one behind the other.
+    /// The messages, one after another.
     ring: HeapCircularBuffer<u8>,
     /// The length of each.
     lengths: HeapCircularBuffer<u16>,

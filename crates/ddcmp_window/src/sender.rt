@@ -142,7 +142,7 @@ impl<S: Store> Sender<S> {
         newly
     }
 
-    /// The peer has all messages up to `number` and wants those behind it again: how many it
+    /// The peer has all messages up to `number` and wants those after it again: how many it
     /// hadn't acknowledged before, or None where `number` isn't one that it can have.
     pub fn refused(&mut self, number: Seq) -> Option<u8>
         ensures state { self.new

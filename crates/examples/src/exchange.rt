@@ -57,8 +57,8 @@ impl End {
         self.station.poll(out).unwrap_or(0)
     }
 
-    /// Hears a piece of the line. `feed` stops behind each notice, so the rest is fed again.
-    fn hear(&mut self, rt: &(impl Print + AllocGlobal), piece: &[u8]) -> io::Result<()> {
+    /// Receives a piece of the line. `feed` stops after each notice, so the rest is fed again.
+    fn receive(&mut self, rt: &(impl Print + AllocGlobal), piece: &[u8]) -> io::Result<()> {
         println!(rt; "to {}: {}", self.name, hex::encode(rt.alloc(), piece)?)?;
         let mut rest = piece;
         while !rest.is_empty() {
@@ -88,16 +88,16 @@ pub fn run(rt: &(impl Print + AllocGlobal)) -> io::Result<()> {
     b.start(rt)?;
     let mut piece = [0; 2 * FRAME];
     let n = a.write(&mut piece);
-    b.hear(rt, &piece[..n])?;
+    b.receive(rt, &piece[..n])?;
     let n = b.write(&mut piece);
-    a.hear(rt, &piece[..n])?;
+    a.receive(rt, &piece[..n])?;
 
     // A owes an ACK, and then has a message. Both frames go in one piece.
     let ack = a.write(&mut piece);
     a.send(rt, b"abc")?;
     let n = ack + a.write(&mut piece[ack..]);
-    b.hear(rt, &piece[..n])?;
+    b.receive(rt, &piece[..n])?;
     b.take(rt)?;
     let n = b.write(&mut piece);
-    a.hear(rt, &piece[..n])
+    a.receive(rt, &piece[..n])
 }

@@ -287,7 +287,7 @@ impl<S: Store> Core<S> {
         messages
     }
 
-    /// The peer has all messages up to a number, and wants those behind it again.
+    /// The peer has all messages up to a number, and wants those after it again.
     fn on_nak(&mut self, resp: Seq) -> Option<Notice>
         requires { self.old.station.state ≡ State.Running }
         ensures state { self.new ≡ record self.old { station = on_nak self.old.station resp.0 } }
