@@ -112,7 +112,8 @@ fn texts(alloc: Global, args: &[String]) -> Result<Vec<&str>, AllocError>
     Ok(all)
 }
 
-/// The same with the words as the system gives them.
+/// Runs the command that the words ask for, as the system gives them: they may be no text, or
+/// have found no memory.
 pub fn run_args<R: Source, W: Sink>(
     alloc: Global,
     args: io::Result<Vec<String>>,

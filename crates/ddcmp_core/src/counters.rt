@@ -4,7 +4,7 @@ ghost use Rattle.ddcmp_core.specs.Counting.{count_plus, nak_counts_after, counte
 ghost use Rattle.ddcmp_core.specs.Frames.{received};
 
 use crate::input::Input;
-use ddcmp_frame::Nak;
+use ddcmp_frame::{MAX_COUNT, Nak};
 
 /// NAKs by their reasons.
 #[derive(Clone, Copy, Debug, PartialEq, Eq)]
@@ -22,29 +22,35 @@ pub struct NakCounts {
 /// What was counted since the station was made. A counter that has come to 4294967295 stays there.
 #[derive(Clone, Copy, Debug, PartialEq, Eq)]
 pub struct Counters {
+    /// NAKs sent.
     pub nak_sent: NakCounts,
-    /// Those that came while running.
+    /// NAKs that came while running.
     pub nak_received: NakCounts,
+    /// REPs sent.
     pub rep_sent: u32,
-    /// Those that came while running.
+    /// REPs that came while running.
     pub rep_received: u32,
     /// Data messages sent for the first time, and maintenance messages sent.
     pub messages_sent: u32,
-    /// Their data.
+    /// Bytes of data in these.
     pub bytes_sent: u32,
     /// Data messages sent again.
     pub messages_again: u32,
-    /// Their data.
+    /// Bytes of data in messages sent again.
     pub bytes_again: u32,
     /// Messages put into the inbox.
     pub messages_up: u32,
-    /// Their data.
+    /// Bytes of data in messages put into the inbox.
     pub bytes_up: u32,
     /// Expiries of a timer that wasn't off.
     pub expiries: u32,
+    /// Losses of synchronism, in every state, as the next three are.
     pub header_checks: u32,
+    /// Frames whose data were damaged.
     pub data_checks: u32,
+    /// Frames longer than this end takes.
     pub too_longs: u32,
+    /// Headers of a form that there isn't.
     pub formats: u32,
 }
 
@@ -138,7 +144,7 @@ impl Counters {
 
     /// A message of this many bytes was sent for the first time.
     pub(crate) fn sent(&mut self, bytes: usize)
-        requires { bytes ≤ 16383 }
+        requires { bytes ≤ MAX_COUNT }
         ensures { self.new ≡ counters_after_sent bytes self.old }
     {
         add(&mut self.messages_sent, 1);
@@ -147,7 +153,7 @@ impl Counters {
 
     /// A message of this many bytes was sent again.
     pub(crate) fn again(&mut self, bytes: usize)
-        requires { bytes ≤ 16383 }
+        requires { bytes ≤ MAX_COUNT }
         ensures { self.new ≡ counters_after_again bytes self.old }
     {
         add(&mut self.messages_again, 1);
@@ -156,7 +162,7 @@ impl Counters {
 
     /// A message of this many bytes is in the inbox.
     pub(crate) fn up(&mut self, bytes: usize)
-        requires { bytes ≤ 16383 }
+        requires { bytes ≤ MAX_COUNT }
         ensures { self.new ≡ counters_after_up bytes self.old }
     {
         add(&mut self.messages_up, 1);

@@ -5,13 +5,13 @@
 pub enum Notice {
     /// Both ends have started.
     Running,
-    /// The same, by a message that is in the inbox now.
+    /// Both ends have started; the message by which this end knows is in the inbox.
     RunningAndHandedUp,
     /// The peer has this many messages more.
     Acknowledged(u8),
     /// A message is in the inbox.
     HandedUp,
-    /// Both.
+    /// A message is in the inbox, and the peer has this many messages more.
     HandedUpAndAcknowledged(u8),
     /// The peer asks this end, which isn't starting, to start.
     PeerStarts,

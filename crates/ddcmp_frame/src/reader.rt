@@ -17,7 +17,9 @@ use std::marker::Model;
 /// Why no reader was made.
 #[derive(Clone, Copy, Debug, PartialEq, Eq)]
 pub enum ReaderRefusal {
+    /// No frame has data of no bytes.
     MaxZero,
+    /// COUNT is at most 16383.
     MaxAbove16383,
     /// The memory for the bytes of one frame was refused.
     Memory,

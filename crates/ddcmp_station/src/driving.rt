@@ -94,7 +94,7 @@ pub fn drive<R: Source, W: Sink, U: User, C: Clock>(
     )
 }
 
-/// The same, with a buffer for a frame, for the message of the user, and for mail.
+/// Takes the turns, with a buffer for a frame, for the message of the user, and for mail.
 fn run<R: Source, W: Sink, U: User, C: Clock>(
     station: &mut Station,
     reader: &mut R,
