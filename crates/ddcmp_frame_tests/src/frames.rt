@@ -420,3 +420,14 @@ fn refused_memory(rt: HostRuntime) {
 fn ample_memory(rt: HostRuntime) {
     assert!(rt; !is_refused(&rt));
 }
+
+/// Every maximum in range has a reader.
+#[test]
+fn readers_of_every_size(rt: HostRuntime) {
+    for max in 1..=16383u16 {
+        match Reader::new(rt.alloc(), max) {
+            Ok(reader) => assert_eq!(rt; reader.offset(), 0),
+            Err(refusal) => panic!(rt; "{refusal:?} at {max}"),
+        }
+    }
+}

@@ -272,3 +272,27 @@ fn refused_memory_makes_no_station(rt: HostRuntime) {
 fn ample_memory_makes_a_station(rt: HostRuntime) {
     assert!(rt; !is_refused(&rt));
 }
+
+fn makes(rt: &(impl Abort + AllocGlobal), config: Config) {
+    match Station::new(rt.alloc(), config) {
+        Ok(station) => assert_eq!(rt; station.state(), State::Halted),
+        Err(refusal) => panic!(rt; "{refusal:?} of {config:?}"),
+    }
+}
+
+/// Every size in range makes a station.
+#[test]
+fn stations_of_every_size(rt: HostRuntime) {
+    for window in 1..=255u16 {
+        makes(&rt, sizes(window, 1, 1, 0));
+    }
+    for inbox in 1..=255u16 {
+        makes(&rt, sizes(1, inbox, 1, 0));
+    }
+    for max in 1..=16383u16 {
+        makes(&rt, sizes(1, 1, max, 0));
+    }
+    for syn in 0..=16u8 {
+        makes(&rt, sizes(1, 1, 1, syn));
+    }
+}

@@ -1,7 +1,7 @@
 //! Stations driven over memory.
 use crate::devices::{Moments, Recorder, Seen};
 use crate::rows::{
-    ACK, ANSWER, Row, SILENCE, STACK, STARTUP, STRT, driven, drives, nothing, started,
+    ACK, ANSWER, Row, SILENCE, STACK, STARTUP, STRT, driven, drives, halted, nothing, started,
 };
 use ddcmp_frame::failing::{Pieces, Taken};
 use ddcmp_station::{Config, LineFault, Notice, State, Station, drive};
@@ -273,4 +273,50 @@ fn refused_memory_leaves_a_station(rt: HostRuntime) {
 #[test]
 fn ample_memory_drives(rt: HostRuntime) {
     assert!(rt; !is_refused(&rt));
+}
+
+/// A call finds memory at every size of a message and any number of turns.
+#[test]
+fn calls_of_every_size(rt: HostRuntime) {
+    for max in 1..=16383u16 {
+        let config = Config {
+            window: 1,
+            inbox: 1,
+            max,
+            syn: 0,
+            restart: false,
+        };
+        let mut station = halted(&rt, rt.alloc(), config);
+        let row = Row {
+            state: State::Halted,
+            ..nothing()
+        };
+        drives(&rt, rt.alloc(), &mut station, &row);
+    }
+    for turns in 1..=300u32 {
+        let row = Row {
+            came: &[SILENCE; 300],
+            turns,
+            answer: Ok(driven(turns, 0, 8)),
+            written: &STRT,
+            ..nothing()
+        };
+        let mut station = started(&rt, rt.alloc(), 7, 1500, 0);
+        drives(&rt, rt.alloc(), &mut station, &row);
+    }
+}
+
+/// A read is asked for 256 bytes.
+#[test]
+fn reads_are_of_256_bytes(rt: HostRuntime) {
+    let fill = [0x96; 512];
+    let row = Row {
+        came: &[&fill],
+        turns: 2,
+        answer: Ok(driven(2, 512, 8)),
+        written: &STRT,
+        ..nothing()
+    };
+    let mut station = started(&rt, rt.alloc(), 7, 1500, 0);
+    drives(&rt, rt.alloc(), &mut station, &row);
 }

@@ -134,6 +134,14 @@ Options:
   -h, --help     Print help
 ";
 
+const USAGE: &str = "\
+error: unexpected argument '--wrong' found
+
+Usage: ddcmp explain [OPTIONS]
+
+For more information, try '--help'.
+";
+
 /// Help and the version go to the output whole, and nothing is read.
 #[test]
 fn help_and_the_version_are_shown(rt: HostRuntime) {
@@ -256,4 +264,50 @@ fn words_of_the_system_are_taken(rt: HostRuntime) -> Result<(), Fail> {
         assert!(rt; text.bytes().is_empty());
     }
     Ok(())
+}
+
+/// Help, the version and usage are told whole, as the parser of the words gives them.
+#[test]
+fn texts_are_told_whole(rt: HostRuntime) -> Result<(), Fail> {
+    let alloc = rt.alloc();
+    let rows: [&[&str]; 9] = [
+        &["ddcmp", "--help"],
+        &["ddcmp", "help"],
+        &["ddcmp", "explain", "--help"],
+        &["ddcmp", "--version"],
+        &["ddcmp"],
+        &["ddcmp", "explode"],
+        &["ddcmp", "explain", "--max", "16384"],
+        &["ddcmp", "explain", "--raw", "--max", "1", "more"],
+        &["ddcmp", "explain", "--raw", "--max", "1", "more", "words"],
+    ];
+    for words in rows {
+        let (ending, written) = ran(&rt, words, b"", 0);
+        match read_words(alloc, words) {
+            Err(Declined::Help(text)) | Err(Declined::Version(text)) => {
+                assert!(rt; matches!(ending, Ending::Done));
+                assert_eq!(rt; written.bytes(), text.as_bytes());
+            }
+            Err(Declined::Usage(text)) => {
+                assert!(rt; matches!(ending, Ending::Usage(_)));
+                assert_eq!(rt; ending.to_string(alloc)?.as_str(), text.as_str());
+                assert!(rt; written.bytes().is_empty());
+            }
+            _ => assert!(rt; false),
+        }
+    }
+    Ok(())
+}
+
+/// What wrong words are told, to the letter.
+#[test]
+fn usage_is_told(rt: HostRuntime) {
+    let (ending, written) = ran(&rt, &["ddcmp", "explain", "--wrong"], b"", 0);
+    assert!(rt; written.bytes().is_empty());
+    match ending {
+        Ending::Usage(text) => {
+            assert_eq!(rt; text.as_str(), USAGE);
+        }
+        _ => assert!(rt; false),
+    }
 }

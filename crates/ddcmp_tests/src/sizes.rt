@@ -84,3 +84,13 @@ fn data_above_the_maximum(rt: HostRuntime) {
     ];
     writes(&rt, &bytes, Form::Raw, 1, line, 0, end);
 }
+
+/// Every maximum in range has a reader, in both forms.
+#[test]
+fn nothing_at_every_maximum(rt: HostRuntime) {
+    for max in 1..=16383u16 {
+        for form in [Form::Hex, Form::Raw] {
+            writes(&rt, b"", form, max, b"", 0, b"items=0 bytes=0 open=0\n");
+        }
+    }
+}
