@@ -17,8 +17,8 @@ ghost use Rattle.ddcmp_core.specs.NextFrame.{SentFor};
 pub fn stays_sound()
     ensures new { (l : Limits) → IsStored l.window l.longest [] → IsStored l.room l.longest []
         → IsSound l new_station }
-    ensures receives { (l : Limits) (s : StationState) (h : Received) → IsReceivable l h → IsSound l s
-        → IsSound l (on l s h) }
+    ensures receives { (l : Limits) (s : StationState) (h : Received)
+        → IsReceivable l h → IsSound l s → IsSound l (on l s h) }
     ensures sends { (l : Limits) (s : StationState) → IsSound l s
         → IsSound l (after_next (next s) s) }
     ensures starts { (l : Limits) (s : StationState) → may_start s ≡ true → IsSound l s

@@ -1,4 +1,5 @@
-//! Devices over memory, for tests: they go in small steps, are idle, and fail when they are told to.
+//! Devices over memory, for tests: they go in small steps, are idle, and fail when they are told
+//! to.
 //! None takes memory. Run a call with a failure at 1, 2, .. until a device has met none.
 ghost use Rattle.std.specs.Prelude.{◌≡◌, ◌<◌, ◌≤◌, ◌++◌, [], false, flat_map};
 ghost use Rattle.ddcmp_frame.specs.declared.device.Worst.TheVariants.{Fine};

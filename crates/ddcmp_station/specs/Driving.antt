@@ -228,7 +228,8 @@ pub record BreaksOff (milliseconds : ℕ) (turns : List DriveTurn) (last : Drive
       → (after_turns milliseconds old.syn turns (driving_from old.core text)).written ≡ written
   pub frame_is : (text : List ℕ) → StandsFor old.line text
       → (before_read milliseconds old.syn last
-      (after_turns milliseconds old.syn turns (driving_from old.core text))).written ≡ written ++ frame
+      (after_turns milliseconds old.syn turns (driving_from old.core text))).written
+      ≡ written ++ frame
   pub seen_is : (text : List ℕ) → StandsFor old.line text
       → (before_read milliseconds old.syn last
       (after_turns milliseconds old.syn turns (driving_from old.core text))).seen ≡ seen

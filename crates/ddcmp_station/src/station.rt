@@ -166,7 +166,9 @@ impl Station {
 
     /// Sends and takes nothing more. Numbers and messages stay.
     pub fn halt(&mut self)
-        ensures { self.new ≡ record self.old { core = record self.old.core { station = after_halt self.old.core.station } } }
+        ensures { self.new ≡ record self.old {
+          core = record self.old.core { station = after_halt self.old.core.station };
+        } }
     {
         self.core.halt();
     }
@@ -234,7 +236,9 @@ impl Station {
     /// Moves the first message of the inbox to the front of `out`, and answers its length.
     pub fn take(&mut self, out: &mut [u8]) -> Option<usize>
         requires { self.old.core.limits.longest ≤ length out.old }
-        ensures state { self.new ≡ record self.old { core = record self.old.core { station = after_take self.old.core.station } } }
+        ensures state { self.new ≡ record self.old {
+          core = record self.old.core { station = after_take self.old.core.station };
+        } }
         ensures length { result ≡ option_map length (first_message self.old.core.station.inbox) }
         ensures out { out.new ≡ with_front (first_message self.old.core.station.inbox) out.old }
     {
@@ -256,7 +260,9 @@ impl Station {
 
     /// Whether the timer was started since this was last asked: the caller sets its deadline.
     pub fn take_arm(&mut self) -> bool
-        ensures state { self.new ≡ record self.old { core = record self.old.core { station = after_take_arm self.old.core.station } } }
+        ensures state { self.new ≡ record self.old {
+          core = record self.old.core { station = after_take_arm self.old.core.station };
+        } }
         ensures answer { result ≡ is_fresh self.old.core.station.timer }
     {
         self.core.take_arm()
@@ -350,7 +356,8 @@ impl Station {
     pub fn held(&self) -> usize
         ensures value { result ≡ held_of self.now }
         ensures text { (text : List ℕ) → StandsFor self.now.line text
-            → result ≡ message_bytes self.now.core.station + kept_at_end self.now.core.limits.longest text }
+            → result
+            ≡ message_bytes self.now.core.station + kept_at_end self.now.core.limits.longest text }
         ensures within { result ≤ held_at_most self.now.core.limits }
     {
         self.core.bytes() + self.reader.kept()

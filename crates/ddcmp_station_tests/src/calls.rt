@@ -27,7 +27,8 @@ const MAINTENANCE: [u8; 13] = [
 ];
 
 fn sizes(window: u16, inbox: u16, max: u16, syn: u8) -> Config
-    ensures { result ≡ record { window = window; inbox = inbox; max = max; syn = syn; restart = false } }
+    ensures { result
+        ≡ record { window = window; inbox = inbox; max = max; syn = syn; restart = false } }
 {
     Config {
         window,

@@ -1,4 +1,5 @@
-//! Turns worked by hand: what is offered, received, told and handed up, and when the timer runs out.
+//! Turns worked by hand: what is offered, received, told and handed up, and when the timer runs
+//! out.
 use crate::devices::Seen;
 use crate::rows::{
     ACK, ACK_0, ANSWER, Row, SILENCE, STACK, STRT, driven, drives, halted, nothing, running,

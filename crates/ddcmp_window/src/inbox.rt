@@ -74,7 +74,9 @@ impl<S: Store> Inbox<S> {
     pub fn offer(&mut self, number: Seq, message: &[u8]) -> Offer
         requires not_empty { 1 ≤ length message.now }
         requires not_too_long { length message.now ≤ self.old.longest }
-        ensures state { self.new ≡ record self.old { incoming = incoming_after_offer self.old.limit self.old.incoming number.0 message.now } }
+        ensures state { self.new ≡ record self.old {
+          incoming = incoming_after_offer self.old.limit self.old.incoming number.0 message.now;
+        } }
         ensures answer { result ≡ answer_to_offer self.old.limit self.old.incoming number.0 }
         ensures sound { IsSoundInbox self.new }
 
@@ -99,7 +101,9 @@ impl<S: Store> Inbox<S> {
     pub fn put(&mut self, message: &[u8]) -> bool
         requires not_empty { 1 ≤ length message.now }
         requires not_too_long { length message.now ≤ self.old.longest }
-        ensures state { self.new ≡ record self.old { incoming = incoming_after_put self.old.limit self.old.incoming message.now } }
+        ensures state { self.new ≡ record self.old {
+          incoming = incoming_after_put self.old.limit self.old.incoming message.now;
+        } }
         ensures room { IsTrue result ↔ (length self.old.incoming.inbox < self.old.limit) }
         ensures sound { IsSoundInbox self.new }
     {

@@ -94,7 +94,8 @@ impl<S: Store> Sender<S> {
     /// Keeps a message to be sent, and answers its number.
     pub fn accept(&mut self, message: &[u8]) -> Result<Seq, SendRefusal>
         ensures state { self.new ≡ record self.old {
-          outgoing = outgoing_after_accept self.old.limit self.old.longest self.old.outgoing message.now;
+          outgoing = outgoing_after_accept
+              self.old.limit self.old.longest self.old.outgoing message.now;
         } }
         ensures answer { result ≡ answer_unless
             (accept_refusal self.old.limit self.old.longest self.old.outgoing message.now)
