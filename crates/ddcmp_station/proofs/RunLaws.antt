@@ -10,7 +10,7 @@ use Rattle.ddcmp_station.specs.declared.driving.LineFault.{LineFault}
 use Rattle.ddcmp_station.specs.declared.driving.LineFault.TheVariants.{Read, Write, Ended, Memory}
 use Rattle.ddcmp_station.specs.declared.driving.Tally.{Tally}
 use Rattle.ddcmp_station.specs.Station.{StationView}
-use Rattle.ddcmp_station.specs.Driving.{DriveTurn, Driving, Devices, driving_from, core_after_halt, before_read, after_turn, after_turns, bytes_read, moments, read_answers, read_answer, ReadsInTurns, Ends, Drives}
+use Rattle.ddcmp_station.specs.Driving.{DriveTurn, Driving, Devices, driving_from, core_after_halt, before_read, after_turn, after_turns, bytes_read, moments, read_answers, read_answer, ReadsInTurns, EndsAtFault, Drives}
 use Rattle.ddcmp_station.proofs.DriveLaws.{Logs-nil, Logs-trans}
 use Rattle.ddcmp_frame.specs.Device.{Logs}
 use Rattle.ddcmp_frame.specs.declared.device.Got.{Got}
@@ -117,7 +117,7 @@ pub broke : (ms count turns : ℕ) (old mid new halted : StationView) (tally : T
     → TurnsSoFar ms count old mid tally (devices left left_mid worst_mid sink sink_mid told told_mid answers answers_mid seen seen_mid) → count < turns
     → BreaksTurn ms mid new tally worst_mid (devices left_mid left_after worst_after sink_mid sink_after told_mid told_after answers_mid answers_after seen_mid seen_after) fault
     → halted ≡ record new { core = core_after_halt new.core }
-    → Ends ms turns old halted (devices left left_after worst_after sink sink_after told told_after answers answers_after seen seen_after) fault
+    → EndsAtFault ms turns old halted (devices left left_after worst_after sink sink_after told told_after answers answers_after seen seen_after) fault
 broke ms count turns old mid new halted tally left left_mid left_after sink sink_mid sink_after told told_mid told_after answers answers_mid answers_after seen seen_mid seen_after worst_mid worst_after fault h few b e = (
   h.turns,
   b.last,
@@ -153,7 +153,7 @@ broke ms count turns old mid new halted tally left left_mid left_after sink sink
         ∙ ap (λ n. before_read ms n b.last (record { core = mid.core; text = text ++ bytes_read h.turns; deadline = tally.deadline; written = h.written; seen = h.seen })) (sym h.took.syn)
         ∙ b.before_is (text ++ bytes_read h.turns) h.written h.seen
 
-pub ends-so : (ms turns : ℕ) (old new : StationView) (dev : Devices) (fault : LineFault) → Ends ms turns old new dev fault → Drives ms turns old new dev (Err fault)
+pub ends-so : (ms turns : ℕ) (old new : StationView) (dev : Devices) (fault : LineFault) → EndsAtFault ms turns old new dev fault → Drives ms turns old new dev (Err fault)
 ends-so ms turns old new dev Read h = h
 ends-so ms turns old new dev Write h = h
 ends-so ms turns old new dev Ended h = h

@@ -241,8 +241,8 @@ IsSentPart Write sent frame = (n : ℕ) × (sent ≡ take n frame)
 IsSentPart Ended sent frame = sent ≡ frame
 IsSentPart Memory sent frame = ⊥
 
-abbrev pub Ends : ℕ → ℕ → StationView → StationView → Devices → LineFault → Type 0
-Ends milliseconds count old new devices fault =
+abbrev pub EndsAtFault : ℕ → ℕ → StationView → StationView → Devices → LineFault → Type 0
+EndsAtFault milliseconds count old new devices fault =
     (turns : List DriveTurn) × (last : DriveTurn) × (written frame sent : List ℕ)
     × (seen : List UserCall)
     × (length turns < count) × IsSentPart fault sent frame
@@ -255,9 +255,10 @@ Drives milliseconds count old new devices (Ok told) =
     × (length turns ≡ count)
     × (told ≡ record { turns = count; read = length (bytes_read turns); written = length written })
     × TakesTurns milliseconds turns written seen deadline old new devices
-Drives milliseconds count old new devices (Err Read) = Ends milliseconds count old new devices Read
+Drives milliseconds count old new devices (Err Read) =
+    EndsAtFault milliseconds count old new devices Read
 Drives milliseconds count old new devices (Err Write) =
-    Ends milliseconds count old new devices Write
+    EndsAtFault milliseconds count old new devices Write
 Drives milliseconds count old new devices (Err Ended) =
-    Ends milliseconds count old new devices Ended
+    EndsAtFault milliseconds count old new devices Ended
 Drives milliseconds count old new devices (Err Memory) = Unit {0}
