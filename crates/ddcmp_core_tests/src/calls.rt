@@ -110,19 +110,19 @@ impl Bench {
         }
     }
 
-    fn hears_damage(&mut self) -> Option<Notice> {
+    fn receives_damage(&mut self) -> Option<Notice> {
         self.core.on(&Input::HeaderCheck)
     }
 
-    fn hears_damaged_data(&mut self) -> Option<Notice> {
+    fn receives_damaged_data(&mut self) -> Option<Notice> {
         self.core.on(&Input::DataCheck(data(1, 0)))
     }
 
-    fn hears_too_long(&mut self) -> Option<Notice> {
+    fn receives_too_long(&mut self) -> Option<Notice> {
         self.core.on(&Input::TooLong(data(1, 0)))
     }
 
-    fn hears_no_format(&mut self) -> Option<Notice> {
+    fn receives_no_format(&mut self) -> Option<Notice> {
         self.core.on(&Input::Format)
     }
 
@@ -171,7 +171,7 @@ impl Bench {
     }
 
     /// It has received 1 to 5.
-    fn receives(&mut self, rt: &impl Abort) {
+    fn receives_five(&mut self, rt: &impl Abort) {
         self.starts(rt);
         for number in 1..6u8 {
             assert_eq!(rt; self.receives(data(number, 0)), Some(Notice::HandedUp));
@@ -184,7 +184,7 @@ impl Bench {
         self.gives(rt, 1, 5);
         assert_eq!(rt; self.core.send(b"a"), Ok(Seq(2)));
         assert!(rt; self.core.expire());
-        assert_eq!(rt; self.hears_damage(), None);
+        assert_eq!(rt; self.receives_damage(), None);
         assert_eq!(rt; self.sends(), Some(nak(1, 5)));
         assert_eq!(rt; self.sends(), Some(rep(1)));
         assert_eq!(rt; self.sends(), Some(data(2, 5)));
@@ -193,11 +193,11 @@ impl Bench {
 
     /// Each fault, and a message without room.
     fn refuses(&mut self, rt: &impl Abort) {
-        assert_eq!(rt; self.hears_damaged_data(), None);
+        assert_eq!(rt; self.receives_damaged_data(), None);
         assert_eq!(rt; self.sends(), Some(nak(2, 5)));
-        assert_eq!(rt; self.hears_too_long(), None);
+        assert_eq!(rt; self.receives_too_long(), None);
         assert_eq!(rt; self.sends(), Some(nak(16, 5)));
-        assert_eq!(rt; self.hears_no_format(), None);
+        assert_eq!(rt; self.receives_no_format(), None);
         assert_eq!(rt; self.sends(), Some(nak(17, 5)));
         assert_eq!(rt; self.receives(data(6, 0)), None);
         assert_eq!(rt; self.sends(), Some(nak(8, 5)));
@@ -214,14 +214,17 @@ fn begins_on_an_answer_to_its_stack(rt: HostRuntime) -> Result<(), Fail> {
         assert_eq!(rt; bench.receives(stale), None);
         assert_eq!(rt; bench.core.state(), State::AStart);
     }
-    assert_eq!(rt; bench.receives(data(1, 0)), Some(Notice::RunningAndHandedUp));
+    assert_eq!(rt;
+        bench.receives(data(1, 0)),
+        Some(Notice::RunningAndHandedUp)
+    );
     assert_eq!(rt; bench.core.numbers(), numbers(1, 0, 0, 1));
     assert_eq!(rt; bench.sends(), Some(ack(1)));
     Ok(())
 }
 
 #[test]
-fn hears_refusals_and_acknowledgements(rt: HostRuntime) -> Result<(), Fail> {
+fn receives_refusals_and_acknowledgements(rt: HostRuntime) -> Result<(), Fail> {
     let mut refused = Bench::new(rt.alloc(), 7, false)?;
     refused.waits(&rt);
     assert_eq!(rt; refused.receives(nak(3, 1)), Some(Notice::Acknowledged(1)));
@@ -251,7 +254,7 @@ fn hears_refusals_and_acknowledgements(rt: HostRuntime) -> Result<(), Fail> {
 #[test]
 fn answers_what_it_missed(rt: HostRuntime) -> Result<(), Fail> {
     let mut bench = Bench::new(rt.alloc(), 7, false)?;
-    bench.receives(&rt);
+    bench.receives_five(&rt);
     assert_eq!(rt; bench.receives(rep(5)), None);
     assert_eq!(rt; bench.sends(), Some(ack(5)));
     assert_eq!(rt; bench.receives(rep(4)), None);
@@ -285,7 +288,10 @@ fn numbers_lie_in_the_widest_window(rt: HostRuntime) -> Result<(), Fail> {
 fn maintains(rt: HostRuntime) -> Result<(), Fail> {
     let mut bench = Bench::new(rt.alloc(), 1, false)?;
     bench.starts(&rt);
-    assert_eq!(rt; bench.receives(maintenance()), Some(Notice::MaintenanceSeen));
+    assert_eq!(rt;
+        bench.receives(maintenance()),
+        Some(Notice::MaintenanceSeen)
+    );
     assert_eq!(rt; bench.core.state(), State::Running);
     assert_eq!(rt;
         bench.core.enter_maintenance(),

@@ -15,7 +15,7 @@ fn keeps_until_acknowledged<S: Store + Drop>(rt: &impl Abort, store: S)
     refuses_in_order(rt, &mut sender);
     sends_in_order(rt, &mut sender);
     acknowledges_in_window(rt, &mut sender);
-    hears_refusals(rt, &mut sender);
+    receives_refusals(rt, &mut sender);
     sends_again(rt, &mut sender);
     assert_eq!(rt; sender.accept(b"g"), Ok(Seq(4)));
     assert_eq!(rt; sender.reset(), 1);
@@ -65,7 +65,7 @@ fn acknowledges_in_window<S: Store>(rt: &impl Abort, sender: &mut Sender<S>)
     assert_eq!(rt; sender.acknowledged(Seq(4)), 0);
 }
 
-fn hears_refusals<S: Store>(rt: &impl Abort, sender: &mut Sender<S>)
+fn receives_refusals<S: Store>(rt: &impl Abort, sender: &mut Sender<S>)
     ensures { sender.new.longest ≡ sender.old.longest }
 {
     assert_eq!(rt; sender.refused(Seq(9)), None);
