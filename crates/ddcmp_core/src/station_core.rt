@@ -73,7 +73,7 @@ impl<S: Store> Model for Core<S> {
 impl<S: Store> Core<S> {
     ghost use Rattle.std.specs.Prelude.{◌≡◌, ◌≢◌, ◌↔◌, ◌+◌, ◌*◌, ◌<◌, ◌≤◌, [], length, sum_by, slice_index_or, IsTrue, Some, Ok, Err, OnErr, option_map, if◌then◌else◌};
     ghost use Rattle.ddcmp_window.specs.Store.{first_message, with_front};
-    ghost use Rattle.ddcmp_core.specs.Table.{new_station, may_start, answer_to_start, after_start, after_enter_maintenance, station_begun, after_halt, answer_to_send, may_send, after_accept, answer_to_send_maintenance, may_send_maintenance, after_take, after_expire, is_on, is_fresh, after_take_arm};
+    ghost use Rattle.ddcmp_core.specs.Table.{new_station, may_start, answer_to_start, after_start, after_enter_maintenance, station_begun, after_halt, send_refusal as send_refusal_of, answer_to_send, may_send, after_accept, answer_to_send_maintenance, may_send_maintenance, after_take, after_expire, is_on, is_fresh, after_take_arm};
     ghost use Rattle.ddcmp_core.specs.Counting.{no_counts, counters_after_expire};
     ghost use Rattle.ddcmp_core.specs.Core.{IsSound};
 
@@ -173,6 +173,16 @@ impl<S: Store> Core<S> {
         self.reply = Reply::Quiet;
         self.rep = false;
         self.timer = Timer::Off;
+    }
+
+    /// Why a message isn't sent: None where it is.
+    pub fn send_refusal(&self, message: &[u8]) -> Option<SendRefusal>
+        ensures { result ≡ send_refusal_of self.now.limits self.now.station message.now }
+    {
+        match self.state {
+            State::Running => self.sender.refusal(message),
+            _ => Some(SendRefusal::WrongState),
+        }
     }
 
     /// Keeps a message to be sent, and answers its number.
@@ -299,6 +309,14 @@ impl<S: Store> Core<S> {
         ensures { result ≡ length self.now.station.inbox }
     {
         self.inbox.len()
+    }
+
+    /// The length of message `i` of the inbox, counted from 0.
+    pub fn waiting_length(&self, i: u8) -> usize
+        requires { i < length self.now.station.inbox }
+        ensures { result ≡ length (slice_index_or self.now.station.inbox i []) }
+    {
+        self.inbox.length(i)
     }
 
     /// Copies message `i` of the inbox, counted from 0, to the front of `out`, and answers its

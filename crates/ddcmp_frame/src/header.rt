@@ -1,6 +1,7 @@
 //! Headers and their spelling.
 ghost use Rattle.std.specs.Prelude.{◌≡◌, ◌≢◌, ◌/◌, ◌%◌, ℕ, ◌<◌, ◌≤◌, ◌↔◌, IfOk, IfSome, IsSome, List, take, length, slice_index, true, false};
 ghost use Rattle.ddcmp_frame.specs.Spelling.{Spells, SpellsCounted, HasCheck, IsNoType, IsBytes, parsed, count_field, is_start as is_start_byte, kind_of as kind_of_code, is_check_right as check_holds_in, flags_of, short_of, counted_or_none, type_code as type_code_of};
+ghost use Rattle.ddcmp_frame.specs.Reader.{frame_length as length_of_frame};
 ghost use Rattle.ddcmp_frame.specs.Wire.{six_bytes, counted_bytes, eight_bytes, flag_bits as flag_bits_of};
 ghost use Rattle.ddcmp_frame.specs.declared.header.Header.{Header as HeaderValue};
 
@@ -306,6 +307,17 @@ impl Header {
         ensures exact { result ≡ eight_bytes self.now }
     {
         self.write_exactly()
+    }
+
+    /// The number of bytes of a frame with this header, its data and their check among them.
+    pub fn frame_length(&self) -> usize
+        ensures { result ≡ length_of_frame self.now }
+    {
+        match self {
+            Header::Data(h) => h.count as usize + 10,
+            Header::Maint(h) => h.count as usize + 10,
+            Header::Control(_h) => 8,
+        }
     }
 
     fn write_exactly(&self) -> [u8; 8]

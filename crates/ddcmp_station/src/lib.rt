@@ -10,8 +10,8 @@ mod user;
 
 pub use config::{Config, ConfigRefusal, MAX_INBOX, MAX_SYN};
 pub use ddcmp_core::{
-    Counters, MAX_COUNT, MAX_WINDOW, NakCounts, Notice, Numbers, SendRefusal, Seq, StartRefusal,
-    State,
+    Counters, Header, MAX_COUNT, MAX_WINDOW, NakCounts, Notice, Numbers, SendRefusal, Seq,
+    StartRefusal, State,
 };
 pub use ddcmp_frame::{Got, Sink, Source, Worst};
 pub use driving::{Driven, LineFault, drive};

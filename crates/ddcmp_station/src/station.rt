@@ -131,7 +131,8 @@ impl Station {
     ghost use Rattle.ddcmp_frame.specs.Reader.{StandsFor, open_of};
     ghost use Rattle.ddcmp_frame.specs.Reading.{open_at_end, kept_at_end};
     ghost use Rattle.ddcmp_window.specs.Store.{first_message, with_front};
-    ghost use Rattle.ddcmp_core.specs.Table.{may_start, answer_to_start, after_start, after_enter_maintenance, after_halt, answer_to_send, may_send, after_accept, answer_to_send_maintenance, may_send_maintenance, after_take, after_expire, is_on, is_fresh, is_halted, after_take_arm, next, next_frame};
+    ghost use Rattle.ddcmp_core.specs.Table.{may_start, answer_to_start, after_start, after_enter_maintenance, after_halt, send_refusal as send_refusal_of, answer_to_send, may_send, after_accept, answer_to_send_maintenance, may_send_maintenance, after_take, after_expire, is_on, is_fresh, is_halted, after_take_arm, next, next_frame};
+    ghost use Rattle.ddcmp_core.specs.Frames.{header_of};
     ghost use Rattle.ddcmp_core.specs.Counting.{counters_after_expire};
     ghost use Rattle.ddcmp_station.specs.Bytes.{frame_on_line, after_poll};
     ghost use Rattle.ddcmp_station.specs.Station.{IsSoundStation, held_of, held_at_most, message_bytes};
@@ -187,6 +188,14 @@ impl Station {
         true
     }
 
+    /// Why a message isn't sent: None where it is.
+    pub fn send_refusal(&self, message: &[u8]) -> Option<SendRefusal>
+        ensures { result
+            ≡ send_refusal_of self.now.core.limits self.now.core.station message.now }
+    {
+        self.core.send_refusal(message)
+    }
+
     /// Keeps a message to be sent, and answers its number.
     pub fn send(&mut self, message: &[u8]) -> Result<Seq, SendRefusal>
         ensures state { self.new ≡ record self.old {
@@ -231,6 +240,13 @@ impl Station {
         ensures within { IfSome result (λ n. n ≤ MAX_COUNT + 10 + MAX_SYN) }
     {
         write_next(&mut self.core, self.syn, &mut self.message, out)
+    }
+
+    /// The header of the frame that `poll` would write.
+    pub fn next_header(&self) -> Option<Header>
+        ensures { result ≡ option_map header_of (next_frame (next self.now.core.station)) }
+    {
+        self.core.next_header()
     }
 
     /// Moves the first message of the inbox to the front of `out`, and answers its length.
@@ -306,6 +322,14 @@ impl Station {
         ensures { result ≡ length self.now.core.station.inbox }
     {
         self.core.waiting()
+    }
+
+    /// The length of message `i` of the inbox, counted from 0.
+    pub fn waiting_length(&self, i: u8) -> usize
+        requires { i < length self.now.core.station.inbox }
+        ensures { result ≡ length (slice_index_or self.now.core.station.inbox i []) }
+    {
+        self.core.waiting_length(i)
     }
 
     /// Copies message `i` of the inbox, counted from 0, to the front of `out`, and answers its

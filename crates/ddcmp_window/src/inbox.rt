@@ -140,6 +140,14 @@ impl<S: Store> Inbox<S> {
         self.store.len()
     }
 
+    /// The length of message `i`, counted from 0.
+    pub fn length(&self, i: u8) -> usize
+        requires { i < length self.now.incoming.inbox }
+        ensures { result ≡ length (slice_index_or self.now.incoming.inbox i []) }
+    {
+        self.store.length(i)
+    }
+
     /// Copies message `i`, counted from 0, to the front of `out`, and answers its length.
     pub fn copy(&self, i: u8, out: &mut [u8]) -> usize
         requires there { i < length self.now.incoming.inbox }

@@ -126,6 +126,10 @@ impl Store for RingStore {
         drop_first(&mut self.lengths, n as usize);
     }
 
+    fn length(&self, i: u8) -> usize {
+        self.length_of(i)
+    }
+
     fn copy(&self, i: u8, out: &mut [u8]) -> usize {
         let length = self.length_of(i);
         let (front, back) = self.ring.as_slices();

@@ -91,6 +91,23 @@ impl<S: Store> Sender<S> {
         dropped
     }
 
+    /// Why a message isn't accepted: None where it is.
+    pub fn refusal(&self, message: &[u8]) -> Option<SendRefusal>
+        ensures { result
+            ≡ accept_refusal self.now.limit self.now.longest self.now.outgoing message.now }
+    {
+        if message.is_empty() {
+            return Some(SendRefusal::Empty);
+        }
+        if message.len() > self.store.longest() as usize {
+            return Some(SendRefusal::TooLong);
+        }
+        if !self.store.room() {
+            return Some(SendRefusal::WindowFull);
+        }
+        None
+    }
+
     /// Keeps a message to be sent, and answers its number.
     pub fn accept(&mut self, message: &[u8]) -> Result<Seq, SendRefusal>
         ensures state { self.new ≡ record self.old {
@@ -111,14 +128,8 @@ impl<S: Store> Sender<S> {
             × (length message.now ≤ self.old.longest)
             × (self.old.limit ≤ length self.old.outgoing.out)) }
     {
-        if message.is_empty() {
-            return Err(SendRefusal::Empty);
-        }
-        if message.len() > self.store.longest() as usize {
-            return Err(SendRefusal::TooLong);
-        }
-        if !self.store.room() {
-            return Err(SendRefusal::WindowFull);
+        if let Some(refusal) = self.refusal(message) {
+            return Err(refusal);
         }
         self.store.push(message);
         Ok(Seq(self.acknowledged.0.wrapping_add(self.store.len())))
@@ -161,6 +172,19 @@ impl<S: Store> Sender<S> {
         Some(newly)
     }
 
+    /// The number and the length of the next message to send, which stays the next.
+    pub fn peek(&self) -> Option<(Seq, usize)>
+        ensures { result
+            ≡ option_map (λ message. (record { 0 = self.now.outgoing.t }, length message))
+            (next_message self.now.outgoing) }
+    {
+        let before = self.before_next();
+        if before >= self.store.len() {
+            return None;
+        }
+        Some((self.next, self.store.length(before)))
+    }
+
     /// Writes the next message to send at the front of `out`: its number and its length.
     pub fn next(&mut self, out: &mut [u8]) -> Option<(Seq, usize)>
         requires { self.old.longest ≤ length out.old }
@@ -172,12 +196,8 @@ impl<S: Store> Sender<S> {
         ensures out { out.new ≡ with_front (next_message self.old.outgoing) out.old }
         ensures sound { IsSoundSender self.new }
     {
-        let before = self.before_next();
-        if before >= self.store.len() {
-            return None;
-        }
-        let length = self.store.copy(before, out);
-        let number = self.next;
+        let (number, length) = self.peek()?;
+        self.store.copy(self.before_next(), out);
         if number == self.sent.next() {
             self.sent = number;
         }
@@ -198,6 +218,16 @@ impl<S: Store> Sender<S> {
         ensures sound { IsSoundSender self.new }
     {
         take_first(&mut self.store, out)
+    }
+
+    /// The length of the first message, sent or not.
+    pub fn first_length(&self) -> Option<usize>
+        ensures { result ≡ option_map length (first_message self.now.outgoing.out) }
+    {
+        if self.store.len() == 0 {
+            return None;
+        }
+        Some(self.store.length(0))
     }
 
     /// How many messages were sent and aren't acknowledged.

@@ -88,6 +88,10 @@ impl Store for SlotStore {
         self.len -= n;
     }
 
+    fn length(&self, i: u8) -> usize {
+        self.slots[i as usize].len()
+    }
+
     fn copy(&self, i: u8, out: &mut [u8]) -> usize {
         let message = &self.slots[i as usize];
         let length = message.len();

@@ -57,6 +57,11 @@ pub trait Store {
         ensures limit { limit self.new ≡ limit self.old }
         ensures longest { longest self.new ≡ longest self.old };
 
+    /// The length of message `i`, counted from 0.
+    fn length(&self, i: u8) -> usize
+        requires { i < length (messages self.now) }
+        ensures { result ≡ length (slice_index_or (messages self.now) i []) };
+
     /// Copies message `i`, counted from 0, to the front of `out`, and answers its length.
     fn copy(&self, i: u8, out: &mut [u8]) -> usize
         requires there { i < length (messages self.now) }

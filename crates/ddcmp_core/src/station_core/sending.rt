@@ -6,7 +6,7 @@ ghost use Rattle.ddcmp_core.specs.Table.{Naked};
 
 use crate::state::{Reply, State, Timer};
 use crate::station_core::Core;
-use ddcmp_frame::{ControlType, Counted, Flags, Header, Nak, Short};
+use ddcmp_frame::{ControlType, Counted, Flags, Header, MAX_COUNT, Nak, Short};
 use ddcmp_window::{Seq, Store};
 
 /// The address that a station writes.
@@ -73,6 +73,48 @@ fn nak(reason: Nak, resp: u8) -> Header
     })
 }
 
+/// A data message of this many bytes.
+fn data(resp: u8, num: u8, length: usize) -> Header
+    requires { (1 ≤ length) × (length ≤ MAX_COUNT) }
+    ensures { result
+        ≡ Header.Data (record {
+          count = length;
+          flags = no_flags;
+          resp = resp;
+          num = num;
+          addr = 1;
+        }) }
+{
+    Header::Data(Counted {
+        count: length as u16,
+        flags: NO_FLAGS,
+        resp,
+        num,
+        addr: ADDRESS,
+    })
+}
+
+/// A maintenance message of this many bytes.
+fn maintenance(length: usize) -> Header
+    requires { (1 ≤ length) × (length ≤ MAX_COUNT) }
+    ensures { result
+        ≡ Header.Maint (record {
+          count = length;
+          flags = both_flags;
+          resp = 0;
+          num = 0;
+          addr = 1;
+        }) }
+{
+    Header::Maint(Counted {
+        count: length as u16,
+        flags: BOTH_FLAGS,
+        resp: 0,
+        num: 0,
+        addr: ADDRESS,
+    })
+}
+
 #[tactic(auto, unfolding(crate::specs::Table::next, crate::specs::Counting::counters_after_next))]
 impl<S: Store> Core<S> {
     ghost use Rattle.std.specs.Prelude.{◌≡◌, ◌≤◌, length, option_map};
@@ -109,6 +151,44 @@ impl<S: Store> Core<S> {
             State::Running => self.next_running(out),
             State::Maintenance => self.next_maintenance(out),
             _ => None,
+        }
+    }
+
+    /// The header of the frame that `next` would give.
+    pub fn next_header(&self) -> Option<Header>
+        ensures { result ≡ option_map header_of (next_frame (next self.now.station)) }
+    {
+        match self.state {
+            State::IStart if self.due => Some(startup(ControlType::Strt)),
+            State::AStart if self.due => Some(startup(ControlType::Stack)),
+            State::Running => self.running_header(),
+            State::Maintenance => {
+                let length = self.sender.first_length()?;
+                Some(maintenance(length))
+            }
+            _ => None,
+        }
+    }
+
+    fn running_header(&self) -> Option<Header>
+        requires { self.now.station.state ≡ State.Running }
+        ensures { let s = self.now.station in
+            result ≡ option_map header_of (next_frame (next_running s.reply s)) }
+    {
+        if let Reply::Nak(reason) = self.reply {
+            return Some(nak(reason, self.inbox.last().0));
+        }
+        if self.rep {
+            return Some(control(ControlType::Rep, 0, self.sender.last_sent().0));
+        }
+        match self.sender.peek() {
+            Some((number, length)) => Some(data(self.inbox.last().0, number.0, length)),
+            None if self.reply == Reply::Ack => Some(control(
+                ControlType::Ack,
+                self.inbox.last().0,
+                0,
+            )),
+            None => None,
         }
     }
 
@@ -173,14 +253,7 @@ impl<S: Store> Core<S> {
         } else {
             self.counters.again(length);
         }
-        let header = Counted {
-            count: length as u16,
-            flags: NO_FLAGS,
-            resp: self.inbox.last().0,
-            num: number.0,
-            addr: ADDRESS,
-        };
-        Some((Header::Data(header), length))
+        Some((data(self.inbox.last().0, number.0, length), length))
     }
 
     /// The first of the maintenance messages.
@@ -202,13 +275,6 @@ impl<S: Store> Core<S> {
     {
         let length = self.sender.pop(out)?;
         self.counters.sent(length);
-        let header = Counted {
-            count: length as u16,
-            flags: BOTH_FLAGS,
-            resp: 0,
-            num: 0,
-            addr: ADDRESS,
-        };
-        Some((Header::Maint(header), length))
+        Some((maintenance(length), length))
     }
 }
