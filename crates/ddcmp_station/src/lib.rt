@@ -14,6 +14,7 @@ pub use ddcmp_core::{
     StartRefusal, State,
 };
 pub use ddcmp_frame::{Got, Sink, Source, Worst};
+pub use ddcmp_window::Memory;
 pub use driving::{Driven, LineFault, drive};
 pub use station::{Fed, Station};
 pub use user::{Clock, User};
