@@ -1,5 +1,5 @@
 -- What is told acknowledged.
-use Rattle.std.proofs.Common.{◌≡◌, ℕ, ◌+◌, ◌<◌, ◌≤◌, Bool, true, false, cond, List, length, drop, refl, sym, ◌∙◌, ap, arith, length-drop, Some, None}
+use Rattle.std.proofs.Common.{◌≡◌, ℕ, ◌+◌, ◌<◌, ◌≤◌, Bool, true, false, cond, List, length, drop, refl, sym, ◌∙◌, ap, arith, length-drop, subst, Some, None}
 use Rattle.std.specs.Prelude.{◌==◌}
 use Rattle.ddcmp_num.specs.Sequence.{distance}
 use Rattle.ddcmp_window.specs.Numbers.{is_within, next_number}
@@ -8,7 +8,7 @@ use Rattle.ddcmp_core.specs.declared.state.State.TheVariants.{Halted, IStart, AS
 use Rattle.ddcmp_core.specs.declared.state.Timer.TheVariants.{Off}
 use Rattle.ddcmp_core.specs.declared.notice.Notice.{Notice}
 use Rattle.ddcmp_core.specs.declared.notice.Notice.TheVariants as notice
-use Rattle.ddcmp_core.specs.Table.{StationState, Limits, Data, Acked, Naked, Rep, Strt, Stack, Maint, Received, Good, BadHeader, BadData, TooLong, BadFormat, newly_acknowledged, after_ack, takes_data, has_room, on_data, on_nak, on_by, on, after_startup, after_halt, after_restart, may_restart, on_strt, acknowledged_notice, data_notice, strt_notice, notice_by, notice_of, acknowledged_by}
+use Rattle.ddcmp_core.specs.Table.{StationState, Limits, Data, Acked, Naked, Rep, Strt, Stack, Maint, Received, Good, BadHeader, BadData, TooLong, BadFormat, newly_acknowledged, after_ack, takes_data, has_room, on_data, on_nak, on_by, on, after_startup, after_halt, after_restart, may_restart, on_strt, on_running, acknowledged_notice, data_notice, strt_notice, running_notice, notice_by, notice_of, acknowledged_by}
 use Rattle.ddcmp_core.specs.Core.{IsSound}
 
 number_told : (m : ℕ) → acknowledged_by (acknowledged_notice m) ≡ m
@@ -147,3 +147,10 @@ told_and_left l s h k = (told_row l s h k.in_window.sent_kept).1
 
 pub told_within : (l : Limits) (s : StationState) (h : Received) → IsSound l s → acknowledged_by (notice_of l s h) ≤ distance s.a s.n
 told_within l s h k = (told_row l s h k.in_window.sent_kept).0
+
+-- in the state of Running, by its own row
+pub running_left : (l : Limits) (s : StationState) (h : Received) → s.state ≡ Running → distance s.a s.n ≤ length s.out
+    → acknowledged_by (running_notice l s h) + length (on_running l s h).out ≤ length s.out
+unfolding on notice_of
+running_left l s h running kept =
+    subst (λ p. acknowledged_by (notice_by p l s h) + length (on_by p l s h).out ≤ length s.out) running (told_row l s h kept).1

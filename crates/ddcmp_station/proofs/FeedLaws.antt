@@ -9,6 +9,7 @@ use Rattle.ddcmp_frame.specs.declared.item.Item.{Item}
 use Rattle.ddcmp_frame.specs.Reader.{ReaderView, StandsFor}
 use Rattle.ddcmp_core.specs.declared.notice.Notice.{Notice}
 use Rattle.ddcmp_core.specs.Core.{CoreView}
+use Rattle.ddcmp_core.specs.Table.{acknowledged_by}
 use Rattle.ddcmp_station.specs.Station.{StationView}
 use Rattle.ddcmp_station.specs.OneByte.{TakesByte}
 use Rattle.ddcmp_station.specs.Bytes.{after_item, notices_of_item, after_items, notices_of_items, items_added, after_piece, notices_of_piece}
@@ -101,6 +102,7 @@ byte-none core syn line after b m p = record {
   items_are = p.item;
   core = sym (after_items-none core);
   told = sym (notices_of_items-none core);
+  leaves = omega arith;
   offset = p.counted;
   longest = m;
   limits = refl;
@@ -111,14 +113,16 @@ pub byte-some : (core : CoreView) (syn : ℕ) (line after : ReaderView) (b : ℕ
     → line.max ≡ core.limits.longest → Pushed line after b ((item, after.lent) ∷ [])
     → new ≡ record { core = after_item (item, after.lent) core; syn = syn; line = after }
     → option_to_list notice ≡ notices_of_item (item, after.lent) core
+    → acknowledged_by notice + length new.core.station.out ≤ length core.station.out
     → TakesByte (record { core = core; syn = syn; line = line }) b new notice
-byte-some core syn line after b item new notice m p e t =
+byte-some core syn line after b item new notice m p e t left =
     subst (λ v. TakesByte (record { core = core; syn = syn; line = line }) b v notice) (sym e) (record {
       given = (item, after.lent) ∷ [];
       stands = p.stands;
       items_are = p.item;
       core = sym (after_items-single (item, after.lent) core);
       told = t ∙ sym (notices_of_items-single (item, after.lent) core);
+      leaves = subst (λ v. acknowledged_by notice + length v.core.station.out ≤ length core.station.out) e left;
       offset = p.counted;
       longest = m;
       limits = refl;
@@ -132,6 +136,7 @@ pub record FedPart (old : StationView) (piece : List ℕ) (i : ℕ) (new : Stati
   pub stands : (text : List ℕ) → StandsFor old.line text → StandsFor new.line (text ++ take i piece)
   pub core : (text : List ℕ) → StandsFor old.line text → new.core ≡ after_piece text (take i piece) old.core
   pub quiet : (text : List ℕ) (n : ℕ) → StandsFor old.line text → n ≤ i → notices_of_piece text (take n piece) old.core ≡ []
+  pub leaves : length new.core.station.out ≤ length old.core.station.out
   pub offset : new.line.offset ≡ old.line.offset + i
   pub limits : new.core.limits ≡ old.core.limits
   pub syn : new.syn ≡ old.syn
@@ -141,6 +146,7 @@ fed-nothing old piece = record {
   stands = λ text s. subst (StandsFor old.line) (sym (append-nil text)) s;
   core = λ text s. sym (after_piece-none text old.core);
   quiet = λ text n s few. subst (λ k. notices_of_piece text (take k piece) old.core ≡ []) (zero_only n few) (notices_of_piece-none text old.core);
+  leaves = omega arith;
   offset = omega arith;
   limits = refl;
   syn = refl;
@@ -155,6 +161,7 @@ pub record FedNext (old : StationView) (piece : List ℕ) (i : ℕ) (new : Stati
   pub core : (text : List ℕ) → StandsFor old.line text → new.core ≡ after_piece text (take i piece) old.core
   pub told : (text : List ℕ) → StandsFor old.line text → notices_of_piece text (take i piece) old.core ≡ option_to_list notice
   pub first : (text : List ℕ) (n : ℕ) → StandsFor old.line text → n < i → notices_of_piece text (take n piece) old.core ≡ []
+  pub leaves : acknowledged_by notice + length new.core.station.out ≤ length old.core.station.out
   pub offset : new.line.offset ≡ old.line.offset + i
   pub limits : new.core.limits ≡ old.core.limits
   pub syn : new.syn ≡ old.syn
@@ -171,6 +178,7 @@ fed-next old mid new piece i b notice one h t = record {
       ∙ ap (λ l. l ++ notices_of_piece (text ++ take i piece) (b ∷ []) (after_piece text (take i piece) old.core)) (h.quiet text i s (omega arith))
       ∙ ap (λ k. notices_of_piece (text ++ take i piece) (b ∷ []) k) (sym (h.core text s)) ∙ (given text s).1 ∙ sym t.told;
   first = λ text n s few. h.quiet text n s (omega (arith, few));
+  leaves = omega (arith, t.leaves, h.leaves);
   offset = omega (arith, t.offset, h.offset);
   limits = t.limits ∙ h.limits;
   syn = t.syn ∙ h.syn;
@@ -185,6 +193,7 @@ fed-quiet old new piece i h = record {
   stands = h.stands;
   core = h.core;
   quiet = λ text n s few. by text n s (cases_lt n (i + 1)) few;
+  leaves = omega (arith, h.leaves);
   offset = h.offset;
   limits = h.limits;
   syn = h.syn;

@@ -1,8 +1,9 @@
 -- One byte of the line, as its part of `feed` is proved.
-use Rattle.std.specs.Prelude.{◌≡◌, ℕ, ◌+◌, List, [], ◌∷◌, ◌++◌, option_to_list, Option}
+use Rattle.std.specs.Prelude.{◌≡◌, ℕ, ◌+◌, ◌≤◌, List, [], ◌∷◌, ◌++◌, length, option_to_list, Option}
 use Rattle.ddcmp_frame.specs.Reader.{StandsFor}
 use Rattle.ddcmp_frame.specs.Reading.{ReadItem, items}
 use Rattle.ddcmp_core.specs.declared.notice.Notice.{Notice}
+use Rattle.ddcmp_core.specs.Table.{acknowledged_by}
 use Rattle.ddcmp_station.specs.Bytes.{after_items, notices_of_items}
 use Rattle.ddcmp_station.specs.Station.{StationView}
 
@@ -16,6 +17,7 @@ pub record TakesByte (old : StationView) (byte : ℕ) (new : StationView)
       → items old.line.max (text ++ byte ∷ []) ≡ items old.line.max text ++ given
   pub core : new.core ≡ after_items given old.core
   pub told : option_to_list notice ≡ notices_of_items given old.core
+  pub leaves : acknowledged_by notice + length new.core.station.out ≤ length old.core.station.out
   pub offset : new.line.offset ≡ old.line.offset + 1
   pub longest : old.line.max ≡ old.core.limits.longest
   pub limits : new.core.limits ≡ old.core.limits

@@ -31,8 +31,8 @@ fn is_data(header: &Header) -> bool
 }
 
 impl<S: Store> Core<S> {
-    ghost use Rattle.std.specs.Prelude.{◌≡◌, ◌≤◌, length, true, None, if◌then◌else◌};
-    ghost use Rattle.ddcmp_core.specs.Table.{newly_acknowledged, after_ack, after_offer, takes_data, on_data, data_notice, on_nak, on_rep, acknowledged_notice, after_startup, on_strt, strt_notice, on_running, running_notice, on_istart, istart_notice, on_astart, astart_notice, halted_notice, on_maintenance, maintenance_notice, on, notice_of, with_incoming, incoming, has_room, Good};
+    ghost use Rattle.std.specs.Prelude.{◌≡◌, ◌+◌, ◌≤◌, length, true, None, if◌then◌else◌};
+    ghost use Rattle.ddcmp_core.specs.Table.{newly_acknowledged, after_ack, after_offer, takes_data, on_data, data_notice, on_nak, on_rep, acknowledged_notice, after_startup, on_strt, strt_notice, on_running, running_notice, on_istart, istart_notice, on_astart, astart_notice, halted_notice, on_maintenance, maintenance_notice, on, notice_of, acknowledged_by, with_incoming, incoming, has_room, Good};
     ghost use Rattle.ddcmp_window.specs.Inbox.{incoming_after_put as put_unnumbered};
     ghost use Rattle.ddcmp_core.specs.Frames.{received, frame_of_control, FitsHeader};
     ghost use Rattle.ddcmp_core.specs.Core.{is_sent_reply};
@@ -48,6 +48,9 @@ impl<S: Store> Core<S> {
               (received input.now) self.old.counters;
         } }
         ensures told { result ≡ notice_of self.old.limits self.old.station (received input.now) }
+        // What is told acknowledged has left.
+        ensures leaves { acknowledged_by result + length self.new.station.out
+            ≤ length self.old.station.out }
     {
         self.counters.fault(input);
         match self.state {

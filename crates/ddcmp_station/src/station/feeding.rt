@@ -17,6 +17,7 @@ pub struct Fed {
 impl Station {
     ghost use Rattle.std.specs.Prelude.{◌≡◌, ℕ, ◌+◌, ◌<◌, ◌≤◌, ◌^◌, List, [], ◌++◌, length, take, option_to_list, Some, None};
     ghost use Rattle.ddcmp_frame.specs.Reader.{StandsFor, LentBeside};
+    ghost use Rattle.ddcmp_core.specs.Table.{acknowledged_by};
     ghost use Rattle.ddcmp_station.specs.Bytes.{after_piece, notices_of_piece, after_item, notices_of_item};
     ghost use Rattle.ddcmp_station.specs.OneByte.{TakesByte};
 
@@ -37,6 +38,9 @@ impl Station {
         ensures used { result.used ≤ length piece.now }
         ensures whole { result.notice ≡ None → result.used ≡ length piece.now }
         ensures some { 0 < length piece.now → 0 < result.used }
+        // What is told acknowledged has left.
+        ensures leaves { acknowledged_by result.notice + length self.new.core.station.out
+            ≤ length self.old.core.station.out }
         // Without a text.
         ensures offset { self.new.line.offset ≡ self.old.line.offset + result.used }
         ensures limits { self.new.core.limits ≡ self.old.core.limits }
@@ -78,6 +82,8 @@ impl Station {
             ≡ record self.old { core = after_item (item, self.old.line.lent) self.old.core } }
         ensures told { option_to_list result
             ≡ notices_of_item (item, self.old.line.lent) self.old.core }
+        ensures leaves { acknowledged_by result + length self.new.core.station.out
+            ≤ length self.old.core.station.out }
     {
         match item {
             Item::Good(_at, header) => self.core.on(&Input::Good(header, self.reader.data())),

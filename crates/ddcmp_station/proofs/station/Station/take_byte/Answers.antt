@@ -15,4 +15,4 @@ returns-in-Some c =
     let i = c.self.inside in
     let e = c.in-Some.ensures in
     subst (λ v. TakesByte v c.args.byte c.take_item.new.self c.take_item.result) c.self.view_is
-    (byte-some i.core i.syn i.reader c.push.new.self c.args.byte c.in-Some.item c.take_item.new.self c.take_item.result c.self.invariant.0 (record { stands = e.stands; item = e.item; counted = e.counted }) c.take_item.ensures.state c.take_item.ensures.told)
+    (byte-some i.core i.syn i.reader c.push.new.self c.args.byte c.in-Some.item c.take_item.new.self c.take_item.result c.self.invariant.0 (record { stands = e.stands; item = e.item; counted = e.counted }) c.take_item.ensures.state c.take_item.ensures.told c.take_item.ensures.leaves)
