@@ -314,7 +314,8 @@ impl<S: Store> Core<S> {
     /// The length of message `i` of the inbox, counted from 0.
     pub fn waiting_length(&self, i: u8) -> usize
         requires { i < length self.now.station.inbox }
-        ensures { result ≡ length (slice_index_or self.now.station.inbox i []) }
+        ensures length { result ≡ length (slice_index_or self.now.station.inbox i []) }
+        ensures most { result ≤ self.now.limits.longest }
     {
         self.inbox.length(i)
     }

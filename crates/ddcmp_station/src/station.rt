@@ -244,7 +244,8 @@ impl Station {
 
     /// The header of the frame that `poll` would write.
     pub fn next_header(&self) -> Option<Header>
-        ensures { result ≡ option_map header_of (next_frame (next self.now.core.station)) }
+        ensures header { result ≡ option_map header_of (next_frame (next self.now.core.station)) }
+        ensures sound { IsSoundStation self.now }
     {
         self.core.next_header()
     }
@@ -327,7 +328,8 @@ impl Station {
     /// The length of message `i` of the inbox, counted from 0.
     pub fn waiting_length(&self, i: u8) -> usize
         requires { i < length self.now.core.station.inbox }
-        ensures { result ≡ length (slice_index_or self.now.core.station.inbox i []) }
+        ensures length { result ≡ length (slice_index_or self.now.core.station.inbox i []) }
+        ensures most { result ≤ self.now.core.limits.longest }
     {
         self.core.waiting_length(i)
     }

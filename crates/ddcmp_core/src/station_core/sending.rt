@@ -156,7 +156,8 @@ impl<S: Store> Core<S> {
 
     /// The header of the frame that `next` would give.
     pub fn next_header(&self) -> Option<Header>
-        ensures { result ≡ option_map header_of (next_frame (next self.now.station)) }
+        ensures header { result ≡ option_map header_of (next_frame (next self.now.station)) }
+        ensures sound { IsSound self.now.limits self.now.station }
     {
         match self.state {
             State::IStart if self.due => Some(startup(ControlType::Strt)),
