@@ -1,0 +1,6 @@
+pub mod Feeding
+pub mod Frames
+pub mod Lines
+pub mod Places
+pub mod Runs
+pub mod Settles

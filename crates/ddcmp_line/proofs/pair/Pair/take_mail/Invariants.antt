@@ -1,0 +1,10 @@
+use Rattle.std.proofs.Common.{◌≡◌, replicate, length}
+use Rattle.ddcmp_line.specs.declared.event.Event.TheVariants.{Take}
+use Rattle.ddcmp_line.specs.Run.{at, run}
+use Rattle.ddcmp_line.proofs.pair.Pair.take_mail.Given as goal
+
+abbrev pub invariant-loop-taken : goal.invariant-loop-taken
+invariant-loop-taken l = record {
+  state : l.self ≡ run (replicate l._taken (Take l.end)) l.initial.self;
+  count : l._taken-end ≡ length (at l.end l.initial.self).core.station.inbox;
+}

@@ -1,0 +1,4 @@
+pub mod Place
+pub mod Run
+pub mod Settle
+pub mod Sides

@@ -1,0 +1,76 @@
+//! Lists that events and answers own.
+use ddcmp_core::Notice;
+use std::marker::Model;
+use std::ops::Deref;
+
+/// Bytes of a message or of a line. They are made of a `Vec` and give it back as it is.
+#[derive(Drop)]
+pub struct Bytes {
+    bytes: Vec<u8>,
+}
+
+impl Model for Bytes {
+    ghost use Rattle.std.specs.Prelude.{List, ℕ};
+
+    ghost Value = { List ℕ };
+
+    ghost view = { λ b. b.bytes.items };
+}
+
+impl Bytes {
+    ghost use Rattle.std.specs.Prelude.{◌≡◌};
+
+    /// These bytes.
+    pub fn new(bytes: Vec<u8>) -> Self
+        ensures { result ≡ bytes.items }
+    {
+        Bytes { bytes }
+    }
+
+    /// All of them, to be read.
+    pub fn as_slice(&self) -> &[u8]
+        ensures { result.now ≡ self.now }
+    {
+        &self.bytes
+    }
+
+    /// The `Vec` that they were made of.
+    pub fn into_vec(self) -> Vec<u8>
+        ensures { result.items ≡ self }
+    {
+        self.bytes
+    }
+}
+
+/// What an arrival told, in its order.
+#[derive(Drop)]
+pub struct Notices {
+    notices: Vec<Notice>,
+}
+
+impl Model for Notices {
+    ghost use Rattle.std.specs.Prelude.{List};
+    ghost use Rattle.ddcmp_core.specs.declared.notice.Notice.{Notice as NoticeValue};
+
+    ghost Value = { List NoticeValue };
+
+    ghost view = { λ n. n.notices.items };
+}
+
+impl Notices {
+    ghost use Rattle.std.specs.Prelude.{◌≡◌};
+
+    /// These notices.
+    pub fn new(notices: Vec<Notice>) -> Self
+        ensures { result ≡ notices.items }
+    {
+        Notices { notices }
+    }
+
+    /// All of them, to be read.
+    pub fn as_slice(&self) -> &[Notice]
+        ensures { result.now ≡ self.now }
+    {
+        &self.notices
+    }
+}

@@ -1,0 +1,19 @@
+//! Two stations on a line: what happens between them, event by event.
+#![tactic(auto)]
+
+mod bytes;
+mod ends;
+mod event;
+mod pair;
+mod running;
+mod settling;
+mod side;
+
+pub use bytes::{Bytes, Notices};
+pub use ddcmp_station::{
+    Config, ConfigRefusal, Memory, Notice, SendRefusal, Seq, StartRefusal, State, Station,
+};
+pub use event::{End, Event, Reply};
+pub use pair::{Pair, PairRefusal};
+pub use running::{RunRefusal, run};
+pub use settling::Settled;
