@@ -1,5 +1,5 @@
 -- Frames as the table reads them, and as a station writes them.
-use Rattle.std.specs.Prelude.{ℕ, ◌≤◌, Bool, true, false, List, [], length}
+use Rattle.std.specs.Prelude.{ℕ, ◌≤◌, Bool, true, false, List, [], length, Option, Some, None}
 use Rattle.ddcmp_frame.specs.declared.header.Flags.{Flags}
 use Rattle.ddcmp_frame.specs.declared.header.ControlType.{ControlType}
 use Rattle.ddcmp_frame.specs.declared.header.ControlType.TheVariants as control
@@ -52,73 +52,44 @@ no_flags = record { q = false; s = false }
 abbrev pub both_flags : Flags
 both_flags = record { q = true; s = true }
 
+-- the headers that a station writes, all with the address 1
+abbrev pub data_header : ℕ → ℕ → ℕ → Header
+data_header count resp num =
+    header.Data (record { count = count; flags = no_flags; resp = resp; num = num; addr = 1 })
+
+abbrev pub maint_header : ℕ → Header
+maint_header count =
+    header.Maint (record { count = count; flags = both_flags; resp = 0; num = 0; addr = 1 })
+
+abbrev pub control_header : ControlType → ℕ → Flags → ℕ → ℕ → Header
+control_header kind sub flags resp num =
+    header.Control (record {
+      kind = kind;
+      sub = sub;
+      flags = flags;
+      resp = resp;
+      num = num;
+      addr = 1;
+    })
+
 abbrev pub header_of : Frame → Header
-header_of (Data resp num message) =
-    header.Data (record {
-      count = length message;
-      flags = no_flags;
-      resp = resp;
-      num = num;
-      addr = 1;
-    })
-header_of (Acked resp) =
-    header.Control (record {
-      kind = control.Ack;
-      sub = 0;
-      flags = no_flags;
-      resp = resp;
-      num = 0;
-      addr = 1;
-    })
-header_of (Naked why resp) =
-    header.Control (record {
-      kind = control.Nak;
-      sub = subtype_of why;
-      flags = no_flags;
-      resp = resp;
-      num = 0;
-      addr = 1;
-    })
-header_of (Rep num) =
-    header.Control (record {
-      kind = control.Rep;
-      sub = 0;
-      flags = no_flags;
-      resp = 0;
-      num = num;
-      addr = 1;
-    })
-header_of Strt =
-    header.Control (record {
-      kind = control.Strt;
-      sub = 0;
-      flags = both_flags;
-      resp = 0;
-      num = 0;
-      addr = 1;
-    })
-header_of Stack =
-    header.Control (record {
-      kind = control.Stack;
-      sub = 0;
-      flags = both_flags;
-      resp = 0;
-      num = 0;
-      addr = 1;
-    })
-header_of (Maint message) =
-    header.Maint (record {
-      count = length message;
-      flags = both_flags;
-      resp = 0;
-      num = 0;
-      addr = 1;
-    })
+header_of (Data resp num message) = data_header (length message) resp num
+header_of (Acked resp) = control_header control.Ack 0 no_flags resp 0
+header_of (Naked why resp) = control_header control.Nak (subtype_of why) no_flags resp 0
+header_of (Rep num) = control_header control.Rep 0 no_flags 0 num
+header_of Strt = control_header control.Strt 0 both_flags 0 0
+header_of Stack = control_header control.Stack 0 both_flags 0 0
+header_of (Maint message) = maint_header (length message)
 
 abbrev pub message_of : Frame → List ℕ
 message_of (Data resp num message) = message
 message_of (Maint message) = message
 message_of _ = []
+
+-- the length of the data, where there is a frame
+abbrev pub data_length : Option Frame → ℕ
+data_length None = 0
+data_length (Some f) = length (message_of f)
 
 -- the header, and the length of the data
 abbrev pub header_and_length : Frame → Header × ℕ

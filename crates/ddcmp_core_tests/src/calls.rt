@@ -136,6 +136,7 @@ impl Bench {
     fn takes(&mut self, rt: &impl Abort) {
         let mut out = [0; 4];
         assert_eq!(rt; self.core.waiting(), 1);
+        assert_eq!(rt; self.core.waiting_length(0), 3);
         assert_eq!(rt; self.core.waiting_at(0, &mut out), 3);
         assert_eq!(rt; out, [b'a', b'b', b'c', 0]);
         out = [0; 4];
@@ -147,7 +148,9 @@ impl Bench {
     /// Startup, at the end that asked for it, with the ACK that it owes sent.
     fn starts(&mut self, rt: &impl Abort) {
         assert_eq!(rt; self.core.start(), Ok(0));
+        assert_eq!(rt; self.core.next_header(), Some(strt()));
         assert_eq!(rt; self.sends(), Some(strt()));
+        assert_eq!(rt; self.core.next_header(), None);
         assert_eq!(rt; self.receives(stack()), Some(Notice::Running));
         assert_eq!(rt; self.sends(), Some(ack(0)));
         assert_eq!(rt; self.sends(), None);
@@ -155,6 +158,7 @@ impl Bench {
 
     /// A message is kept and sent.
     fn gives(&mut self, rt: &impl Abort, number: u8, resp: u8) {
+        assert_eq!(rt; self.core.send_refusal(b"a"), None);
         assert_eq!(rt; self.core.send(b"a"), Ok(Seq(number)));
         assert_eq!(rt; self.sends(), Some(data(number, resp)));
     }
@@ -185,8 +189,11 @@ impl Bench {
         assert_eq!(rt; self.core.send(b"a"), Ok(Seq(2)));
         assert!(rt; self.core.expire());
         assert_eq!(rt; self.receives_damage(), None);
+        assert_eq!(rt; self.core.next_header(), Some(nak(1, 5)));
         assert_eq!(rt; self.sends(), Some(nak(1, 5)));
+        assert_eq!(rt; self.core.next_header(), Some(rep(1)));
         assert_eq!(rt; self.sends(), Some(rep(1)));
+        assert_eq!(rt; self.core.next_header(), Some(data(2, 5)));
         assert_eq!(rt; self.sends(), Some(data(2, 5)));
         assert_eq!(rt; self.core.numbers(), numbers(5, 2, 0, 3));
     }
@@ -209,6 +216,7 @@ fn begins_on_an_answer_to_its_stack(rt: HostRuntime) -> Result<(), Fail> {
     let mut bench = Bench::new(rt.alloc(), 7, false)?;
     assert_eq!(rt; bench.core.start(), Ok(0));
     assert_eq!(rt; bench.receives(strt()), None);
+    assert_eq!(rt; bench.core.next_header(), Some(stack()));
     assert_eq!(rt; bench.sends(), Some(stack()));
     for stale in [ack(1), nak(1, 0), data(1, 1)] {
         assert_eq!(rt; bench.receives(stale), None);
@@ -219,6 +227,11 @@ fn begins_on_an_answer_to_its_stack(rt: HostRuntime) -> Result<(), Fail> {
         Some(Notice::RunningAndHandedUp)
     );
     assert_eq!(rt; bench.core.numbers(), numbers(1, 0, 0, 1));
+    assert_eq!(rt;
+        bench.core.send_refusal(b"fives"),
+        Some(SendRefusal::TooLong)
+    );
+    assert_eq!(rt; bench.core.next_header(), Some(ack(1)));
     assert_eq!(rt; bench.sends(), Some(ack(1)));
     Ok(())
 }
@@ -309,7 +322,12 @@ fn maintains(rt: HostRuntime) -> Result<(), Fail> {
         bench.core.send_maintenance(b"abc"),
         Err(SendRefusal::WindowFull)
     );
+    assert_eq!(rt;
+        bench.core.send_refusal(b"a"),
+        Some(SendRefusal::WrongState)
+    );
     assert_eq!(rt; bench.core.send(b"a"), Err(SendRefusal::WrongState));
+    assert_eq!(rt; bench.core.next_header(), Some(maintenance()));
     assert_eq!(rt; bench.sends(), Some(maintenance()));
     assert_eq!(rt; bench.sends(), None);
     Ok(())

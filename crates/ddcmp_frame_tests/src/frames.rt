@@ -176,6 +176,7 @@ fn both_ways(
     let mut out = [0xEE; 20];
     let end = write_frame(&header, data, &mut out);
     assert_eq!(rt; &out[..end], bytes);
+    assert_eq!(rt; header.frame_length(), bytes.len());
     for rest in &out[end..] {
         assert_eq!(rt; *rest, 0xEE);
     }

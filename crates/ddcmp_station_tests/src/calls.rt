@@ -1,8 +1,10 @@
 //! Rows worked by hand, as calls of a station, and each call once.
 ghost use Rattle.std.specs.Prelude.{◌≡◌, ◌≤◌, ◌<◌, ◌+◌, ◌^◌, length, false};
 
+use ddcmp_frame::{Counted, Flags};
 use ddcmp_station::{
-    Config, ConfigRefusal, Fed, Notice, Numbers, SendRefusal, Seq, StartRefusal, State, Station,
+    Config, ConfigRefusal, Fed, Header, Notice, Numbers, SendRefusal, Seq, StartRefusal, State,
+    Station,
 };
 use std::alloc::Global;
 use std::process::Abort;
@@ -217,6 +219,9 @@ fn maintenance_has_a_state_of_its_own(rt: HostRuntime) {
 #[test]
 fn messages_are_kept_and_the_line_is_cleared(rt: HostRuntime) {
     let mut bench = Bench::running(&rt, rt.alloc());
+    assert_eq!(rt; bench.station.next_header(), None);
+    assert_eq!(rt; bench.station.send_refusal(b"abc"), None);
+    assert_eq!(rt; bench.station.send_refusal(b""), Some(SendRefusal::Empty));
     assert_eq!(rt; bench.station.send(b"abc"), Ok(Seq(1)));
     assert_eq!(rt;
         bench.station.send_maintenance(b"abc"),
@@ -225,6 +230,14 @@ fn messages_are_kept_and_the_line_is_cleared(rt: HostRuntime) {
     assert_eq!(rt; bench.station.outgoing(), 1);
     assert!(rt; bench.station.room());
     assert_eq!(rt; bench.station.held(), 3);
+    let data = Counted {
+        count: 3,
+        flags: Flags { q: false, s: false },
+        resp: 0,
+        num: 1,
+        addr: 1,
+    };
+    assert_eq!(rt; bench.station.next_header(), Some(Header::Data(data)));
     bench.writes(&rt, &DATA);
     assert_eq!(rt;
         bench.station.numbers(),
@@ -241,6 +254,7 @@ fn messages_are_kept_and_the_line_is_cleared(rt: HostRuntime) {
     bench.receives(&rt, &DATA[5..], 8, Some(Notice::HandedUp));
     let mut out = [0; 1500];
     assert!(rt; bench.station.waiting() > 0);
+    assert_eq!(rt; bench.station.waiting_length(0), 3);
     assert_eq!(rt; bench.station.waiting_at(0, &mut out), 3);
     assert_eq!(rt; &out[..3], b"abc".as_slice());
     bench.station.halt();

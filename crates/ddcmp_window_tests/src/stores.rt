@@ -38,6 +38,7 @@ fn refuses_in_order<S: Store>(rt: &impl Abort, sender: &mut Sender<S>)
         (b"", Err(SendRefusal::Empty)),
     ];
     for (message, answer) in rows {
+        assert_eq!(rt; sender.refusal(message), answer.err());
         assert_eq!(rt; sender.accept(message), answer);
     }
     assert!(rt; !sender.room());
@@ -49,11 +50,14 @@ fn sends_in_order<S: Store>(rt: &impl Abort, sender: &mut Sender<S>)
     ensures { sender.new.longest ≡ sender.old.longest }
 {
     let mut out = [0; 4];
+    assert_eq!(rt; sender.peek(), Some((Seq(1), 1)));
     assert_eq!(rt; sender.next(&mut out), Some((Seq(1), 1)));
+    assert_eq!(rt; sender.peek(), Some((Seq(2), 3)));
     assert_eq!(rt; sender.next(&mut out), Some((Seq(2), 3)));
     assert_eq!(rt; out, [b'b', b'c', b'd', 0]);
     assert_eq!(rt; sender.next(&mut out), Some((Seq(3), 1)));
     assert_eq!(rt; out, [b'e', b'c', b'd', 0]);
+    assert_eq!(rt; sender.peek(), None);
     assert_eq!(rt; sender.next(&mut out), None);
     assert_eq!(rt; sender.outstanding(), 3);
 }
@@ -91,10 +95,13 @@ fn gives_without_numbers<S: Store + Drop>(rt: &impl Abort, store: S)
 {
     let mut out = [0; 4];
     let mut sender = Sender::new(store);
+    assert_eq!(rt; sender.first_length(), None);
     assert_eq!(rt; sender.pop(&mut out), None);
     assert_eq!(rt; sender.accept(b"ab"), Ok(Seq(1)));
     assert_eq!(rt; sender.accept(b"c"), Ok(Seq(2)));
+    assert_eq!(rt; sender.first_length(), Some(2));
     assert_eq!(rt; sender.pop(&mut out), Some(2));
+    assert_eq!(rt; sender.first_length(), Some(1));
     assert_eq!(rt; sender.pop(&mut out), Some(1));
     assert_eq!(rt; out, [b'c', b'b', 0, 0]);
     assert_eq!(rt; sender.last_sent(), Seq(0));
@@ -169,6 +176,7 @@ fn gives_mail<S: Store>(rt: &impl Abort, inbox: &mut Inbox<S>)
     let mut out = [0; 4];
     inbox.holds();
     assert_eq!(rt; inbox.len(), 1);
+    assert_eq!(rt; inbox.length(0), 2);
     assert_eq!(rt; inbox.copy(0, &mut out), 2);
     assert_eq!(rt; out, [b'a', b'b', 0, 0]);
     assert_eq!(rt; inbox.take(&mut out), Some(2));
@@ -204,6 +212,8 @@ fn keeps_in_order<S: Store + Drop>(rt: &impl Abort, mut store: S)
     assert_eq!(rt; store.bytes(), 4);
     store.drop_front(1);
     store.push(b"efg");
+    assert_eq!(rt; store.length(0), 1);
+    assert_eq!(rt; store.length(1), 3);
     assert_eq!(rt; store.copy(0, &mut out), 1);
     assert_eq!(rt; out, [b'd', 0, 0, 0]);
     assert_eq!(rt; store.copy(1, &mut out), 3);

@@ -1,12 +1,10 @@
 //! What a station sends.
 ghost use Rattle.std.specs.Prelude.{◌≡◌, ◌<◌, ◌≤◌};
-ghost use Rattle.ddcmp_core.specs.Frames.{no_flags, both_flags, header_of};
-ghost use Rattle.ddcmp_frame.specs.Naks.{subtype_of};
-ghost use Rattle.ddcmp_core.specs.Table.{Naked};
+ghost use Rattle.ddcmp_core.specs.Frames.{control_header, data_header, maint_header};
 
 use crate::state::{Reply, State, Timer};
 use crate::station_core::Core;
-use ddcmp_frame::{ControlType, Counted, Flags, Header, MAX_COUNT, Nak, Short};
+use ddcmp_frame::{ControlType, Counted, Flags, Header, MAX_COUNT, Short};
 use ddcmp_window::{Seq, Store};
 
 /// The address that a station writes.
@@ -16,77 +14,28 @@ const NO_FLAGS: Flags = Flags { q: false, s: false };
 
 const BOTH_FLAGS: Flags = Flags { q: true, s: true };
 
-fn control(kind: ControlType, resp: u8, num: u8) -> Header
-    ensures { result
-        ≡ Header.Control (record {
-          kind = kind;
-          sub = 0;
-          flags = no_flags;
-          resp = resp;
-          num = num;
-          addr = 1;
-        }) }
+/// A control message.
+fn control(kind: ControlType, sub: u8, flags: Flags, resp: u8, num: u8) -> Header
+    requires { sub < 64 }
+    ensures { result ≡ control_header kind sub flags resp num }
 {
     Header::Control(Short {
         kind,
-        sub: 0,
-        flags: NO_FLAGS,
+        sub,
+        flags,
         resp,
         num,
         addr: ADDRESS,
     })
 }
 
-/// A STRT or a STACK.
-fn startup(kind: ControlType) -> Header
-    ensures { result
-        ≡ Header.Control (record {
-          kind = kind;
-          sub = 0;
-          flags = both_flags;
-          resp = 0;
-          num = 0;
-          addr = 1;
-        }) }
-{
-    Header::Control(Short {
-        kind,
-        sub: 0,
-        flags: BOTH_FLAGS,
-        resp: 0,
-        num: 0,
-        addr: ADDRESS,
-    })
-}
-
-fn nak(reason: Nak, resp: u8) -> Header
-    requires { subtype_of reason < 64 }
-    ensures { result ≡ header_of (Naked reason resp) }
-{
-    Header::Control(Short {
-        kind: ControlType::Nak,
-        sub: reason.sub(),
-        flags: NO_FLAGS,
-        resp,
-        num: 0,
-        addr: ADDRESS,
-    })
-}
-
 /// A data message of this many bytes.
-fn data(resp: u8, num: u8, length: usize) -> Header
-    requires { (1 ≤ length) × (length ≤ MAX_COUNT) }
-    ensures { result
-        ≡ Header.Data (record {
-          count = length;
-          flags = no_flags;
-          resp = resp;
-          num = num;
-          addr = 1;
-        }) }
+fn data(count: usize, resp: u8, num: u8) -> Header
+    requires { (1 ≤ count) × (count ≤ MAX_COUNT) }
+    ensures { result ≡ data_header count resp num }
 {
     Header::Data(Counted {
-        count: length as u16,
+        count: count as u16,
         flags: NO_FLAGS,
         resp,
         num,
@@ -95,19 +44,12 @@ fn data(resp: u8, num: u8, length: usize) -> Header
 }
 
 /// A maintenance message of this many bytes.
-fn maintenance(length: usize) -> Header
-    requires { (1 ≤ length) × (length ≤ MAX_COUNT) }
-    ensures { result
-        ≡ Header.Maint (record {
-          count = length;
-          flags = both_flags;
-          resp = 0;
-          num = 0;
-          addr = 1;
-        }) }
+fn maintenance(count: usize) -> Header
+    requires { (1 ≤ count) × (count ≤ MAX_COUNT) }
+    ensures { result ≡ maint_header count }
 {
     Header::Maint(Counted {
-        count: length as u16,
+        count: count as u16,
         flags: BOTH_FLAGS,
         resp: 0,
         num: 0,
@@ -121,7 +63,7 @@ impl<S: Store> Core<S> {
     ghost use Rattle.ddcmp_window.specs.Store.{with_front};
     ghost use Rattle.ddcmp_core.specs.Table.{next, next_running, next_maintenance, next_frame, after_next};
     ghost use Rattle.ddcmp_core.specs.NextFrame.{next_data};
-    ghost use Rattle.ddcmp_core.specs.Frames.{message_of, header_and_length};
+    ghost use Rattle.ddcmp_core.specs.Frames.{header_of, message_of, data_length, header_and_length};
     ghost use Rattle.ddcmp_core.specs.Counting.{counters_after_next};
     ghost use Rattle.ddcmp_core.specs.Core.{IsSound};
 
@@ -137,21 +79,9 @@ impl<S: Store> Core<S> {
             ≡ with_front (option_map message_of (next_frame (next self.old.station))) out.old }
         ensures sound { IsSound self.old.limits self.old.station }
     {
-        match self.state {
-            State::IStart if self.due => {
-                self.due = false;
-                self.timer = Timer::Fresh;
-                Some((startup(ControlType::Strt), 0))
-            }
-            State::AStart if self.due => {
-                self.due = false;
-                self.timer = Timer::Fresh;
-                Some((startup(ControlType::Stack), 0))
-            }
-            State::Running => self.next_running(out),
-            State::Maintenance => self.next_maintenance(out),
-            _ => None,
-        }
+        let header = self.next_header();
+        let length = self.advance(out);
+        header.map(|header| (header, length))
     }
 
     /// The header of the frame that `next` would give.
@@ -160,8 +90,8 @@ impl<S: Store> Core<S> {
         ensures sound { IsSound self.now.limits self.now.station }
     {
         match self.state {
-            State::IStart if self.due => Some(startup(ControlType::Strt)),
-            State::AStart if self.due => Some(startup(ControlType::Stack)),
+            State::IStart if self.due => Some(control(ControlType::Strt, 0, BOTH_FLAGS, 0, 0)),
+            State::AStart if self.due => Some(control(ControlType::Stack, 0, BOTH_FLAGS, 0, 0)),
             State::Running => self.running_header(),
             State::Maintenance => {
                 let length = self.sender.first_length()?;
@@ -176,24 +106,47 @@ impl<S: Store> Core<S> {
         ensures { let s = self.now.station in
             result ≡ option_map header_of (next_frame (next_running s.reply s)) }
     {
+        let r = self.inbox.last().0;
         if let Reply::Nak(reason) = self.reply {
-            return Some(nak(reason, self.inbox.last().0));
+            return Some(control(ControlType::Nak, reason.sub(), NO_FLAGS, r, 0));
         }
         if self.rep {
-            return Some(control(ControlType::Rep, 0, self.sender.last_sent().0));
+            let n = self.sender.last_sent().0;
+            return Some(control(ControlType::Rep, 0, NO_FLAGS, 0, n));
         }
         match self.sender.peek() {
-            Some((number, length)) => Some(data(self.inbox.last().0, number.0, length)),
-            None if self.reply == Reply::Ack => Some(control(
-                ControlType::Ack,
-                self.inbox.last().0,
-                0,
-            )),
+            Some((number, length)) => Some(data(length, r, number.0)),
+            None if self.reply == Reply::Ack => Some(control(ControlType::Ack, 0, NO_FLAGS, r, 0)),
             None => None,
         }
     }
 
-    fn next_running(&mut self, out: &mut [u8]) -> Option<(Header, usize)>
+    /// Goes on as after the next frame: its data are at the front of `out`, and their length is
+    /// answered, 0 where there is no frame.
+    fn advance(&mut self, out: &mut [u8]) -> usize
+        requires { self.old.limits.longest ≤ length out.old }
+        ensures state { self.new ≡ record self.old {
+          station = after_next (next self.old.station) self.old.station;
+          counters = counters_after_next self.old.station (next self.old.station) self.old.counters;
+        } }
+        ensures length { result ≡ data_length (next_frame (next self.old.station)) }
+        ensures out { out.new
+            ≡ with_front (option_map message_of (next_frame (next self.old.station))) out.old }
+        ensures sound { IsSound self.old.limits self.old.station }
+    {
+        match self.state {
+            State::IStart | State::AStart if self.due => {
+                self.due = false;
+                self.timer = Timer::Fresh;
+                0
+            }
+            State::Running => self.advance_running(out),
+            State::Maintenance => self.advance_maintenance(out),
+            _ => 0,
+        }
+    }
+
+    fn advance_running(&mut self, out: &mut [u8]) -> usize
         requires running { self.old.station.state ≡ State.Running }
         requires longest { self.old.limits.longest ≤ length out.old }
         ensures state { self.new ≡ record self.old {
@@ -203,8 +156,8 @@ impl<S: Store> Core<S> {
               (next_running self.old.station.reply self.old.station)
               self.old.counters;
         } }
-        ensures frame { let s = self.old.station in
-            result ≡ option_map header_and_length (next_frame (next_running s.reply s)) }
+        ensures length { let s = self.old.station in
+            result ≡ data_length (next_frame (next_running s.reply s)) }
         ensures out { let s = self.old.station in
             out.new ≡ with_front (option_map message_of (next_frame
             (next_running s.reply s))) out.old }
@@ -212,53 +165,52 @@ impl<S: Store> Core<S> {
         if let Reply::Nak(reason) = self.reply {
             self.reply = Reply::Quiet;
             self.counters.nak_sent(reason);
-            return Some((nak(reason, self.inbox.last().0), 0));
+            return 0;
         }
         if self.rep {
             self.rep = false;
             self.timer = Timer::Fresh;
             self.counters.rep_sent();
-            return Some((control(ControlType::Rep, 0, self.sender.last_sent().0), 0));
+            return 0;
         }
-        let owed = self.reply == Reply::Ack;
-        let sent = self.next_data(out);
-        if sent.is_none() && owed {
-            self.reply = Reply::Quiet;
-            return Some((control(ControlType::Ack, self.inbox.last().0, 0), 0));
-        }
-        sent
+        // An ACK that is owed goes by itself or with data.
+        self.reply = Reply::Quiet;
+        self.advance_data(out)
     }
 
-    /// The next message of the window.
-    fn next_data(&mut self, out: &mut [u8]) -> Option<(Header, usize)>
+    /// Goes past the next message of the window.
+    fn advance_data(&mut self, out: &mut [u8]) -> usize
         requires running { self.old.station.state ≡ State.Running }
+        requires quiet { self.old.station.reply ≡ Reply.Quiet }
         requires longest { self.old.limits.longest ≤ length out.old }
         ensures state { self.new ≡ record self.old {
           station = after_next (next_data self.old.station) self.old.station;
           counters = counters_after_next self.old.station
               (next_data self.old.station) self.old.counters;
         } }
-        ensures frame { result
-            ≡ option_map header_and_length (next_frame (next_data self.old.station)) }
+        ensures length { result ≡ data_length (next_frame (next_data self.old.station)) }
         ensures out { out.new
             ≡ with_front (option_map message_of (next_frame (next_data self.old.station))) out.old }
     {
         let first = self.sender.last_sent().next();
-        let (number, length) = self.sender.next(out)?;
-        self.reply = Reply::Quiet;
-        if self.timer == Timer::Off {
-            self.timer = Timer::Fresh;
+        match self.sender.next(out) {
+            None => 0,
+            Some((number, length)) => {
+                if self.timer == Timer::Off {
+                    self.timer = Timer::Fresh;
+                }
+                if number == first {
+                    self.counters.sent(length);
+                } else {
+                    self.counters.again(length);
+                }
+                length
+            }
         }
-        if number == first {
-            self.counters.sent(length);
-        } else {
-            self.counters.again(length);
-        }
-        Some((data(self.inbox.last().0, number.0, length), length))
     }
 
-    /// The first of the maintenance messages.
-    fn next_maintenance(&mut self, out: &mut [u8]) -> Option<(Header, usize)>
+    /// The first of the maintenance messages leaves.
+    fn advance_maintenance(&mut self, out: &mut [u8]) -> usize
         requires maintenance { self.old.station.state ≡ State.Maintenance }
         requires longest { self.old.limits.longest ≤ length out.old }
         ensures state { self.new ≡ record self.old {
@@ -268,14 +220,18 @@ impl<S: Store> Core<S> {
               (next_maintenance self.old.station.out self.old.station)
               self.old.counters;
         } }
-        ensures frame { let s = self.old.station in
-            result ≡ option_map header_and_length (next_frame (next_maintenance s.out s)) }
+        ensures length { let s = self.old.station in
+            result ≡ data_length (next_frame (next_maintenance s.out s)) }
         ensures out { let s = self.old.station in
             out.new ≡ with_front (option_map message_of (next_frame
             (next_maintenance s.out s))) out.old }
     {
-        let length = self.sender.pop(out)?;
-        self.counters.sent(length);
-        Some((maintenance(length), length))
+        match self.sender.pop(out) {
+            None => 0,
+            Some(length) => {
+                self.counters.sent(length);
+                length
+            }
+        }
     }
 }
