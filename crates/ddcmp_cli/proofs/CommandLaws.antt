@@ -1,13 +1,13 @@
 -- What a parse says of the command that the words name.
 use Rattle.ddcmp_cli.specs.Endings.{CanRun, Performs, ExplainsOrNoMemory}
 use Rattle.ddcmp_cli.specs.declared.ending.Ending.{Ending}
-use Rattle.clap.specs.Words.{IsAmong, fault_of, Kinds, is_simple_and_free}
+use Rattle.clap.specs.Words.{IsAmong, fault_of, is_simple_and_free}
 use Rattle.clap.specs.declared.error.kind.ErrorKind.{ErrorKind}
 use Rattle.clap.specs.declared.error.kind.ErrorKind.TheVariants.{DisplayHelp, DisplayVersion, OutOfMemory}
 use Rattle.ddcmp_cli.specs.declared.declined.Declined.{Declined}
 use Rattle.ddcmp_cli.specs.declared.declined.Declined.TheVariants.{Help, Version, Usage, Memory}
-use Rattle.ddcmp_cli.specs.Words.{IsOutOfOrder, IsMistaken, Declines, Reads, is_usage, is_help, is_version}
-use Rattle.std.proofs.Common.{inl, inr, ◌≢◌, ◌⊎◌, Err, ℕ, codes, [], ◌∷◌, ◌≡◌, ◌∙◌, ap, sym, subst, refl, true, List, Option, Some, None}
+use Rattle.ddcmp_cli.specs.Words.{Declines, Reads}
+use Rattle.std.proofs.Common.{inl, inr, ◌≢◌, ◌⊎◌, Err, ℕ, codes, ◌≡◌, ◌∙◌, ap, sym, subst, refl, true, List, Option, Some, None}
 use Rattle.std.specs.Option.{option_map, option_and_then}
 use Rattle.clap.specs.Words.{App, Text, HasMatchesOf, is_simple, subcommand_of, subcommand_name_of, subcommand_rows_of, one_text, one_of, takes, Row}
 use Rattle.clap.specs.Walk.{rows_of}
@@ -94,30 +94,3 @@ reads-fault words kind (Version t) h a = among words kind DisplayVersion h (λ e
 reads-fault words kind (Usage t) h (inl oom) = absurd (h.2 oom)
 reads-fault words kind (Usage t) h (inr a) = inr (kind, a, h.0, h.1)
 reads-fault words kind Memory h a = tt
-
-pub reads-usage : (words : List Text) (d : Declined) → Reads words (Err d) → IsOutOfOrder words → is_usage (Err d) ≡ true
-reads-usage words (Help t) r o = absurd (o.no_help r)
-reads-usage words (Version t) r o = absurd (o.no_version r)
-reads-usage words (Usage t) r o = refl
-reads-usage words Memory r o = refl
-
--- a lone kind of error is the one that is met
-lone : (words : List Text) (kind known : ErrorKind) → fault_of program words ≡ known ∷ [] → IsAmong kind (fault_of program words) → kind ≡ known
-lone words kind known e a = elim (subst (IsAmong kind) e a) [ inl same ↦ same | inr none ↦ absurd none ]
-
-mistaken-not : (words : List Text) (known : ErrorKind) (P : Type 0) → fault_of program words ≡ known ∷ [] → ((fault_of program words ≡ []) × (named_by words ≢ Some (codes "explain"))) ⊎ IsMistaken words → (known ≡ DisplayHelp) ⊎ (known ≡ DisplayVersion) → P
-mistaken-not words known P e (inl none) k = let bad : ◌≡◌ {A = Kinds} [] (known ∷ []) = sym none.0 ∙ e in cc
-mistaken-not words known P e (inr m) (inl k) = absurd (m.2 (lone words m.0 known e m.1 ∙ k))
-mistaken-not words known P e (inr m) (inr k) = absurd (m.3 (lone words m.0 known e m.1 ∙ k))
-
-pub reads-help : (words : List Text) (d : Declined) → Reads words (Err d) → fault_of program words ≡ DisplayHelp ∷ [] → is_help (Err d) ≡ true
-reads-help words (Help t) r e = refl
-reads-help words (Version t) r e = let bad : DisplayVersion ≡ DisplayHelp = lone words DisplayVersion DisplayHelp e r in cc
-reads-help words (Usage t) r e = mistaken-not words DisplayHelp (is_help (Err (Usage t)) ≡ true) e r (inl refl)
-reads-help words Memory r e = refl
-
-pub reads-version : (words : List Text) (d : Declined) → Reads words (Err d) → fault_of program words ≡ DisplayVersion ∷ [] → is_version (Err d) ≡ true
-reads-version words (Help t) r e = let bad : DisplayHelp ≡ DisplayVersion = lone words DisplayHelp DisplayVersion e r in cc
-reads-version words (Version t) r e = refl
-reads-version words (Usage t) r e = mistaken-not words DisplayVersion (is_version (Err (Usage t)) ≡ true) e r (inr refl)
-reads-version words Memory r e = refl

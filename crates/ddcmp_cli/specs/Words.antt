@@ -1,5 +1,5 @@
 -- The command line, as `clap` reads it.
-use Rattle.std.specs.Prelude.{ℕ, pos, ◌≡◌, ◌≢◌, ◌⊎◌, ◌<◌, ◌≤◌, Bool, true, false, List, [], codes, decimal, Option, Some, None, Result, Ok, Err, ⊤}
+use Rattle.std.specs.Prelude.{ℕ, pos, ◌≡◌, ◌≢◌, ◌⊎◌, ◌<◌, ◌≤◌, true, List, [], codes, decimal, Option, Some, None, Result, Ok, Err, ⊤}
 use Rattle.std.specs.Option.{option_map, option_and_then}
 use Rattle.ddcmp_cli.specs.declared.form.Form.{Form}
 use Rattle.ddcmp_cli.specs.declared.form.Form.TheVariants.{Hex, Raw}
@@ -78,30 +78,6 @@ pub record IsOutOfOrder (words : List Text) : Type 0 where
   pub some : fault_of program words ≢ []
   pub no_help : ¬ IsAmong DisplayHelp (fault_of program words)
   pub no_version : ¬ IsAmong DisplayVersion (fault_of program words)
-
--- words that were declined as out of order, or for want of memory
-abbrev pub is_usage : Result Command Declined → Bool
-is_usage (Ok c) = false
-is_usage (Err (Help t)) = false
-is_usage (Err (Version t)) = false
-is_usage (Err (Usage t)) = true
-is_usage (Err Memory) = true
-
--- words that were answered with help, or declined for want of memory
-abbrev pub is_help : Result Command Declined → Bool
-is_help (Ok c) = false
-is_help (Err (Help t)) = true
-is_help (Err (Version t)) = false
-is_help (Err (Usage t)) = false
-is_help (Err Memory) = true
-
--- words that were answered with the version, or declined for want of memory
-abbrev pub is_version : Result Command Declined → Bool
-is_version (Ok c) = false
-is_version (Err (Help t)) = false
-is_version (Err (Version t)) = true
-is_version (Err (Usage t)) = false
-is_version (Err Memory) = true
 
 -- how words are declined for an error of this kind; for want of memory for any
 abbrev pub Declines : ErrorKind → Declined → Type 0

@@ -1,9 +1,8 @@
 //! The words of the command line.
-ghost use Rattle.std.specs.Prelude.{[], ◌∷◌, ◌≡◌, ◌⊎◌, ◌↔◌, IsTrue, IfOk, IsOk, Some, codes, map, false};
+ghost use Rattle.std.specs.Prelude.{◌≡◌, ◌⊎◌, ◌↔◌, IsTrue, IfOk, IsOk, codes, map, false};
 ghost use Rattle.ddcmp_cli.specs.Words.{IsAsked, HasForm, HasMaximum, HasOptions, IsMaximum};
-ghost use Rattle.ddcmp_cli.specs.Words.{named_by, option_in, program, explain_app, raw_rule, max_rule};
-ghost use Rattle.ddcmp_cli.specs.Words.{IsOutOfOrder, is_usage, is_help, is_version, Declines, Reads};
-ghost use Rattle.clap.specs.Words.{fault_of, kind_of, app_of, rule_of, found_of, one_text};
+ghost use Rattle.ddcmp_cli.specs.Words.{program, explain_app, raw_rule, max_rule, Declines, Reads};
+ghost use Rattle.clap.specs.Words.{kind_of, app_of, rule_of, found_of, one_text};
 ghost use Rattle.clap.specs.declared.builder.command.Command.TheViews.{out-Command as fields_of};
 
 use crate::declined::Declined;
@@ -118,18 +117,6 @@ fn explain_with(options: &ArgMatches<'_>) -> Command
 pub fn read_words<'a>(alloc: Global, words: &'a [&'a str]) -> Result<Command, Declined>
     ensures asked { IsAsked (map (λ word. word.now) words.entry.now) (codes "explain")
         → IsOk result ⊎ (result ≡ Err Declined.Memory) }
-    ensures options { IfOk result
-        (HasOptions (option_in (map (λ word. word.now) words.entry.now))) }
-    ensures only { IfOk result (λ _. named_by (map (λ word. word.now) words.entry.now)
-        ≡ Some (codes "explain")) }
-    ensures in_order { IfOk result (λ _.
-        fault_of program (map (λ word. word.now) words.entry.now) ≡ []) }
-    ensures usage { IsOutOfOrder (map (λ word. word.now) words.entry.now)
-        → IsTrue (is_usage result) }
-    ensures help { fault_of program (map (λ word. word.now) words.entry.now)
-        ≡ ErrorKind.DisplayHelp ∷ [] → IsTrue (is_help result) }
-    ensures version { fault_of program (map (λ word. word.now) words.entry.now)
-        ≡ ErrorKind.DisplayVersion ∷ [] → IsTrue (is_version result) }
     // What the words ask for, whatever they are.
     ensures reads { Reads (map (λ word. word.now) words.entry.now) result }
 {

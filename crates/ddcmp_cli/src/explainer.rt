@@ -115,10 +115,7 @@ impl Explainer {
         while self.seen < u64::MAX {
             match read_within(reader, &mut piece, u64::MAX - self.seen) {
                 Got::Bytes(0) => return self.finish(writer),
-                Got::Bytes(n) => match self.take(writer, &piece[..n]) {
-                    Ok(()) => {}
-                    Err(fault) => return Err(fault),
-                },
+                Got::Bytes(n) => self.take(writer, &piece[..n])?,
                 Got::Idle | Got::Failed => return Err(ExplainFault::Read),
             }
         }

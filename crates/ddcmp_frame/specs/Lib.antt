@@ -9,6 +9,7 @@ pub mod Reader
 pub mod Step
 pub mod Room
 pub mod Device
+pub mod Failing
 pub mod Written
 pub use Rattle.ddcmp_num.specs.Check
 pub use Rattle.ddcmp_num.specs.declared.limits.TheConstants as Limits

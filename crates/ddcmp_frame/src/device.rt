@@ -152,7 +152,7 @@ impl<R: Read> Source for FromRead<R> {
     }
 }
 
-/// Any `Write` as a sink. An error, or a write that takes no byte of some, is a failure.
+/// Any `Write` as a sink. An error, or a write that takes no byte, is a failure.
 #[derive(Drop)]
 pub struct ToWrite<W> {
     inner: W,
@@ -187,15 +187,11 @@ impl<W: Write> Sink for ToWrite<W> {
 
     fn write(&mut self, bytes: &[u8]) -> Option<usize> {
         match self.inner.write(bytes) {
-            Ok(0) if !bytes.is_empty() => {
+            Ok(0) | Err(_) => {
                 self.failed = true;
                 None
             }
             Ok(n) => Some(n),
-            Err(_) => {
-                self.failed = true;
-                None
-            }
         }
     }
 

@@ -178,6 +178,27 @@ pub record Devices : Type 0 where
   pub seen : Option (List UserCall)
   pub seen_after : Option (List UserCall)
 
+-- The same out of the devices themselves, before and after: first come what a source, a sink, a user
+-- and a clock show to contracts.
+abbrev pub devices_of : {R W U C : Type 0}
+    → (R → Option (List ℕ)) → (R → Worst) → (R → Option (List Got)) → (W → Option (List ℕ))
+    → (U → Option (List UserCall)) → (C → Option (List ℕ))
+    → R → R → W → W → U → U → C → C → Devices
+devices_of left worst answers contents seen told
+    reader reader_after writer writer_after user user_after clock clock_after = record {
+      left = left reader;
+      left_after = left reader_after;
+      worst = worst reader_after;
+      sink = contents writer;
+      sink_after = contents writer_after;
+      told = told clock;
+      told_after = told clock_after;
+      answers = answers reader;
+      answers_after = answers reader_after;
+      seen = seen user;
+      seen_after = seen user_after;
+    }
+
 -- These turns were taken: the source lost the bytes that came, the sink holds the bytes written,
 -- and the station is the driven one, whichever text it stands for.
 pub record TakesTurns (milliseconds : ℕ) (turns : List DriveTurn) (written : List ℕ)

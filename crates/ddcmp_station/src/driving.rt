@@ -4,7 +4,7 @@ ghost use Rattle.std.specs.Io.KnownBytes.{Consumes, Keeps, IsAtEnd};
 ghost use Rattle.ddcmp_frame.specs.Reader.{StandsFor};
 ghost use Rattle.ddcmp_core.specs.Table.{next_frame, next};
 ghost use Rattle.ddcmp_station.specs.Bytes.{after_poll, after_piece};
-ghost use Rattle.ddcmp_station.specs.Driving.{Drives, deadline_at, core_after_take_arm, core_at_deadline, core_after_message, frame_bytes, core_after_mail};
+ghost use Rattle.ddcmp_station.specs.Driving.{Drives, devices_of, deadline_at, core_after_take_arm, core_at_deadline, core_after_message, frame_bytes, core_after_mail};
 ghost use Rattle.ddcmp_station.specs.Turns.{TurnEnds, WritesFrame, read_answers_of};
 ghost use Rattle.ddcmp_frame.specs.Device.{Logs};
 ghost use Rattle.ddcmp_station.specs.UserCalls.{calls_of_offer, calls_of_mail, TellsNotices, TellsPiece};
@@ -64,19 +64,9 @@ pub fn drive<R: Source, W: Sink, U: User, C: Clock>(
     requires fine { R.state reader.old ≢ Worst.Failed }
     requires whole { W.broken writer.old ≡ false }
     requires offset { station.old.line.offset + 256 * turns < 2 ^ 64 }
-    ensures drives { Drives timer_ms turns station.old station.new (record {
-      left = R.left reader.old;
-      left_after = R.left reader.new;
-      worst = R.state reader.new;
-      sink = W.contents writer.old;
-      sink_after = W.contents writer.new;
-      told = C.told clock.old;
-      told_after = C.told clock.new;
-      answers = R.answers reader.old;
-      answers_after = R.answers reader.new;
-      seen = U.seen user.old;
-      seen_after = U.seen user.new;
-    }) result }
+    ensures drives { Drives timer_ms turns station.old station.new
+        (devices_of R.left R.state R.answers W.contents U.seen C.told reader.old reader.new
+        writer.old writer.new user.old user.new clock.old clock.new) result }
 
     // When each fault comes.
     ensures read { (result ≡ Err LineFault.Read) ↔ (R.state reader.new ≡ Worst.Failed) }
@@ -109,19 +99,9 @@ fn run<R: Source, W: Sink, U: User, C: Clock>(
     requires whole { W.broken writer.old ≡ false }
     requires offset { station.old.line.offset + 256 * turns < 2 ^ 64 }
     requires room { station.old.syn + station.old.core.limits.longest + 10 ≤ length frame.old }
-    ensures drives { Drives timer_ms turns station.old station.new (record {
-      left = R.left reader.old;
-      left_after = R.left reader.new;
-      worst = R.state reader.new;
-      sink = W.contents writer.old;
-      sink_after = W.contents writer.new;
-      told = C.told clock.old;
-      told_after = C.told clock.new;
-      answers = R.answers reader.old;
-      answers_after = R.answers reader.new;
-      seen = U.seen user.old;
-      seen_after = U.seen user.new;
-    }) result }
+    ensures drives { Drives timer_ms turns station.old station.new
+        (devices_of R.left R.state R.answers W.contents U.seen C.told reader.old reader.new
+        writer.old writer.new user.old user.new clock.old clock.new) result }
     ensures read { (result ≡ Err LineFault.Read) ↔ (R.state reader.new ≡ Worst.Failed) }
     ensures write { (result ≡ Err LineFault.Write) ↔ (W.broken writer.new ≡ true) }
     ensures ended { result ≡ Err LineFault.Ended → IsAtEnd (R.left reader.new) }
@@ -170,19 +150,9 @@ fn turn<R: Source, W: Sink, U: User, C: Clock>(
     requires read { tally.old.read + 256 < 2 ^ 64 }
     requires written { tally.old.written + MAX_COUNT + 10 + MAX_SYN < 2 ^ 64 }
     ensures takes { TurnEnds timer_ms station.old station.new tally.old tally.new
-        (R.state reader.old) (record {
-          left = R.left reader.old;
-          left_after = R.left reader.new;
-          worst = R.state reader.new;
-          sink = W.contents writer.old;
-          sink_after = W.contents writer.new;
-          told = C.told clock.old;
-          told_after = C.told clock.new;
-          answers = R.answers reader.old;
-          answers_after = R.answers reader.new;
-          seen = U.seen user.old;
-          seen_after = U.seen user.new;
-        }) result }
+        (R.state reader.old)
+        (devices_of R.left R.state R.answers W.contents U.seen C.told reader.old reader.new
+        writer.old writer.new user.old user.new clock.old clock.new) result }
     ensures read { (result ≡ Err LineFault.Read) ↔ (R.state reader.new ≡ Worst.Failed) }
     ensures write { (result ≡ Err LineFault.Write) ↔ (W.broken writer.new ≡ true) }
     ensures ended { result ≡ Err LineFault.Ended → IsAtEnd (R.left reader.new) }
@@ -192,14 +162,8 @@ fn turn<R: Source, W: Sink, U: User, C: Clock>(
 {
     keep_time(station, clock.now(), timer_ms, &mut tally.deadline);
     let _offered = offer_message(station, user, frame);
-    let written = match send_frame(station, writer, frame) {
-        Ok(written) => written,
-        Err(fault) => return Err(fault),
-    };
-    let read = match receive(station, reader, user, frame, piece) {
-        Ok(read) => read,
-        Err(fault) => return Err(fault),
-    };
+    let written = send_frame(station, writer, frame)?;
+    let read = receive(station, reader, user, frame, piece)?;
     tally.written += written as u64;
     tally.read += read as u64;
     Ok(())

@@ -26,8 +26,9 @@ type Row<'a> = (&'a [u8], Result<(), ExplainFault>, &'a [u8]);
 
 const STARTUP: &[u8] = b"0506c00000017595 9696ff 0507c00000014855";
 
-const STARTUP_TEXT: &[u8] =
-    b"0 STRT sub=0 q=1 s=1 resp=0 num=0 addr=1\n11 STACK sub=0 q=1 s=1 resp=0 num=0 addr=1\nitems=2 bytes=19 open=0\n";
+const STARTUP_TEXT: &[u8] = b"0 STRT sub=0 q=1 s=1 resp=0 num=0 addr=1\n\
+    11 STACK sub=0 q=1 s=1 resp=0 num=0 addr=1\n\
+    items=2 bytes=19 open=0\n";
 
 const ACK_TEXT: &[u8] = b"0 ACK sub=0 q=0 s=0 resp=0 num=0 addr=1\nitems=1 bytes=8 open=0\n";
 
@@ -147,8 +148,10 @@ fn each_write_fails(rt: HostRuntime) {
     }
 }
 
-const FORMATS_TEXT: &[u8] =
-    b"0 format count=0\n8 format type=4\n16 ACK sub=0 q=0 s=0 resp=0 num=0 addr=1\nitems=3 bytes=24 open=0\n";
+const FORMATS_TEXT: &[u8] = b"0 format count=0\n\
+    8 format type=4\n\
+    16 ACK sub=0 q=0 s=0 resp=0 num=0 addr=1\n\
+    items=3 bytes=24 open=0\n";
 
 /// Frames with data, and headers that can't stand.
 #[test]
@@ -204,8 +207,9 @@ fn after_a_too_long_frame(rt: HostRuntime) {
     input[1511..].copy_from_slice(&ack);
     let (answer, text) = told(&rt, &input, Form::Raw, 1500, 4096, 8192);
     assert_eq!(rt; answer, Ok(()));
-    let want =
-        b"0 too long DATA count=1501 q=0 s=0 resp=0 num=1 addr=1\n1511 ACK sub=0 q=0 s=0 resp=0 num=0 addr=1\nitems=2 bytes=1519 open=0\n";
+    let want = b"0 too long DATA count=1501 q=0 s=0 resp=0 num=1 addr=1\n\
+        1511 ACK sub=0 q=0 s=0 resp=0 num=0 addr=1\n\
+        items=2 bytes=1519 open=0\n";
     assert_eq!(rt; text.bytes(), want.as_slice());
 }
 

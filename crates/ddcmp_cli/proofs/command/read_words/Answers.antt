@@ -1,6 +1,6 @@
 use Rattle.std.proofs.Common.{◌≡◌, ◌∙◌, [], List, ℕ, Bor, map, sym, ap, inl, inr, Err, Bool, true, false, refl}
 use Rattle.clap.specs.Words.{HasKind, fault_of, found_of}
-use Rattle.ddcmp_cli.proofs.CommandLaws.{named, in_order, has_options, at-program, declined-memory, reads-fault, reads-usage, reads-help, reads-version}
+use Rattle.ddcmp_cli.proofs.CommandLaws.{named, in_order, has_options, at-program, declined-memory, reads-fault}
 use Rattle.ddcmp_cli.proofs.command.read_words.Goals as goal
 
 abbrev words_of : List (Bor (List ℕ)) → List (List ℕ)
@@ -9,19 +9,11 @@ words_of words = map (λ word. word.now) words
 false-true : ◌≡◌ {A = Bool} false true → ⊥
 false-true e = cc
 
-pub returns-in-Some-clause-only : goal.returns-in-Some-clause-only
-returns-in-Some-clause-only c =
-    named _ _ c.in-Ok-try_get_matches_from.matches c.in-Ok.ensures c.in-Ok-try_get_matches_from.ensures.matches ∙ c.in-Some.ensures.found.0 refl
-
-pub returns-in-Some-clause-options : goal.returns-in-Some-clause-options
-returns-in-Some-clause-options c =
-    has_options _ _ c.in-Ok-try_get_matches_from.matches (found_of c.in-Some.options.now) c.explain_with.result c.in-Ok.ensures c.in-Ok-try_get_matches_from.ensures.matches c.in-Some.ensures.rows c.explain_with.ensures
-
 pub returns-in-Some-clause-reads : goal.returns-in-Some-clause-reads
 returns-in-Some-clause-reads c = (
   at-program (λ app. fault_of app (words_of c.args.words.now) ≡ []) _ c.in-Ok.ensures c.in-Ok-try_get_matches_from.ensures.kinds,
-  returns-in-Some-clause-only c,
-  returns-in-Some-clause-options c,
+  named _ _ c.in-Ok-try_get_matches_from.matches c.in-Ok.ensures c.in-Ok-try_get_matches_from.ensures.matches ∙ c.in-Some.ensures.found.0 refl,
+  has_options _ _ c.in-Ok-try_get_matches_from.matches (found_of c.in-Some.options.now) c.explain_with.result c.in-Ok.ensures c.in-Ok-try_get_matches_from.ensures.matches c.in-Some.ensures.rows c.explain_with.ensures,
 )
 
 pub returns-in-Ok-try_get_matches_from-clause-asked :
@@ -43,12 +35,3 @@ returns-clause-reads c =
 pub returns-clause-asked : goal.returns-clause-asked
 returns-clause-asked c = λ asked.
     inr (ap Err (declined-memory _ c.decline.result c.decline.ensures (c.in-Err-try_get_matches_from.ensures.passes (in_order _ _ _ c.in-Ok.ensures asked))))
-
-pub returns-clause-usage : goal.returns-clause-usage
-returns-clause-usage c = reads-usage (words_of c.args.words.now) c.decline.result (returns-clause-reads c)
-
-pub returns-clause-help : goal.returns-clause-help
-returns-clause-help c = reads-help (words_of c.args.words.now) c.decline.result (returns-clause-reads c)
-
-pub returns-clause-version : goal.returns-clause-version
-returns-clause-version c = reads-version (words_of c.args.words.now) c.decline.result (returns-clause-reads c)

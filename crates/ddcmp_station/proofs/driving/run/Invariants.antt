@@ -1,5 +1,6 @@
 use Rattle.std.proofs.Common.{◌≡◌, ◌≢◌, ◌+◌, ◌*◌, ◌≤◌, false}
 use Rattle.ddcmp_frame.specs.declared.device.Worst.TheVariants.{Failed}
+use Rattle.ddcmp_station.specs.Driving.{devices_of}
 use Rattle.ddcmp_station.specs.Turns.{TurnsSoFar}
 use Rattle.ddcmp_station.proofs.driving.run.Given as goal
 
@@ -12,17 +13,7 @@ invariant-loop-done g l = record {
   offset : l.station.line.offset ≡ l.initial.station.line.offset + l.tally.read;
   read : l.tally.read ≤ 256 * l._done;
   written : l.tally.written ≤ 16409 * l._done;
-  taken : TurnsSoFar l.timer_ms l._done l.initial.station l.station l.tally (record {
-    left = g.R.Source.left l.initial.reader;
-    left_after = g.R.Source.left l.reader;
-    worst = g.R.Source.state l.reader;
-    sink = g.W.Sink.contents l.initial.writer;
-    sink_after = g.W.Sink.contents l.writer;
-    told = g.C.Clock.told l.initial.clock;
-    told_after = g.C.Clock.told l.clock;
-    answers = g.R.Source.answers l.initial.reader;
-    answers_after = g.R.Source.answers l.reader;
-    seen = g.U.User.seen l.initial.user;
-    seen_after = g.U.User.seen l.user;
-  });
+  taken : TurnsSoFar l.timer_ms l._done l.initial.station l.station l.tally (devices_of
+      g.R.Source.left g.R.Source.state g.R.Source.answers g.W.Sink.contents g.U.User.seen g.C.Clock.told
+      l.initial.reader l.reader l.initial.writer l.writer l.initial.user l.user l.initial.clock l.clock);
 }
