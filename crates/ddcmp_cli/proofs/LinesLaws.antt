@@ -1,5 +1,6 @@
 -- What a byte, the flush of the page and the last line add to what was told.
-use Rattle.std.proofs.Common.{◌≡◌, ℕ, ◌+◌, Bool, true, false, List, [], ◌∷◌, ◌++◌, length, sym, ◌∙◌, ap, subst, Option, Result, Ok, Err, length-append}
+use Rattle.std.proofs.Common.{◌≡◌, ℕ, ◌+◌, ◌-◌, Bool, true, false, List, [], ◌++◌, length, take, take_all, drop, sym, ◌∙◌, ap, subst, arith, Option, Result, Ok, Err, append_assoc, length-append, length-drop}
+use Rattle.std.proofs.Math.Seq.{take-add}
 use Rattle.std.specs.Prelude.{is_err}
 use Rattle.std.specs.List.{flat_map}
 use Rattle.std.specs.Io.KnownBytes.{Appends}
@@ -35,19 +36,27 @@ lines-given : (max : ℕ) (text more : List ℕ) (given : List ReadItem) → ite
 unfolding lines
 lines-given max text more given e = ap (flat_map line_of) e ∙ flat_map-append line_of (items max text) given
 
--- a byte was pushed, and the lines of what it gave were handed over
-pub told-more : (max : ℕ) (start sink new : Option (List ℕ)) (text : List ℕ) (byte : ℕ) (given : List ReadItem) (was at : Lines) (broken after : Bool) → HasTold max start text was broken sink
-    → at.frames.max ≡ was.frames.max → StandsFor at.frames (text ++ byte ∷ []) → items was.frames.max (text ++ byte ∷ []) ≡ items was.frames.max text ++ given → at.items ≡ was.items + length given
+-- bytes were pushed, and the lines of what they gave were handed over
+pub told-more : (max : ℕ) (start sink new : Option (List ℕ)) (text more : List ℕ) (given : List ReadItem) (was at : Lines) (broken after : Bool) → HasTold max start text was broken sink
+    → at.frames.max ≡ was.frames.max → StandsFor at.frames (text ++ more) → items was.frames.max (text ++ more) ≡ items was.frames.max text ++ given → at.items ≡ was.items + length given
     → HandsOver (record { broken = broken; sink = sink; waiting = was.page }) (record { broken = after; sink = new; waiting = at.page }) (flat_map line_of given)
-    → HasTold max start (text ++ byte ∷ []) at after new
-told-more max start sink new text byte given was at broken after h m stands gave count sent =
-    let grown : items max (text ++ byte ∷ []) ≡ items max text ++ given = subst (λ n. items n (text ++ byte ∷ []) ≡ items n text ++ given) h.max_is gave in
+    → HasTold max start (text ++ more) at after new
+told-more max start sink new text more given was at broken after h m stands gave count sent =
+    let grown : items max (text ++ more) ≡ items max text ++ given = subst (λ n. items n (text ++ more) ≡ items n text ++ given) h.max_is gave in
     record {
       stands = stands;
       max_is = m ∙ h.max_is;
       counted = count ∙ ap (λ n. n + length given) h.counted ∙ sym (length-append (items max text) given) ∙ ap length (sym grown);
-      holds = subst (λ t. Holds start t (record { broken = after; sink = new; waiting = at.page })) (sym (lines-given max text (byte ∷ []) given grown)) (sent.holds start (lines max text) h.holds);
+      holds = subst (λ t. Holds start t (record { broken = after; sink = new; waiting = at.page })) (sym (lines-given max text more given grown)) (sent.holds start (lines max text) h.holds);
     }
+
+-- a part of a piece, and then more of it
+pub taken-more : (text piece : List ℕ) (n k : ℕ) → (text ++ take n piece) ++ take k (take (length piece - n) (drop n piece)) ≡ text ++ take (n + k) piece
+taken-more text piece n k =
+    let rest = take_all (length piece - n) (drop n piece) (omega (arith, length-drop n piece)) in
+    append_assoc text (take n piece) (take k (take (length piece - n) (drop n piece)))
+    ∙ ap (λ t. text ++ (take n piece ++ take k t)) rest
+    ∙ ap (λ t. text ++ t) (sym (take-add n k piece))
 
 -- where nothing waits all was written, or a beginning of it
 pub written : (start sink : Option (List ℕ)) (text waiting : List ℕ) (broken : Bool) (result : Result (Unit {0}) WriteFailed) → HoldsBy broken start sink waiting text → waiting ≡ [] → broken ≡ is_err result → Writes start sink result text

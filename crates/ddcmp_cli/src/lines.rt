@@ -1,12 +1,12 @@
 //! The lines of the items of bytes, and the last line.
-ghost use Rattle.std.specs.Prelude.{◌≡◌, ◌+◌, ◌<◌, ◌≤◌, ◌^◌, ◌++◌, ◌∷◌, [], Bool, List, ℕ};
-ghost use Rattle.std.specs.Prelude.{Option, is_err, length};
+ghost use Rattle.std.specs.Prelude.{◌≡◌, ◌+◌, ◌<◌, ◌≤◌, ◌^◌, ◌++◌, [], Bool, List, ℕ};
+ghost use Rattle.std.specs.Prelude.{Option, is_err, length, take};
 ghost use Rattle.ddcmp_frame.specs.Reader.{StandsFor};
 ghost use Rattle.ddcmp_frame.specs.Written.{Writes};
 ghost use Rattle.ddcmp_cli.specs.Text.{lines, last_line};
 
 use crate::text::{write_line, write_totals};
-use ddcmp_frame::{Page, Reader, Sink, WriteFailed};
+use ddcmp_frame::{Page, Reader, Sink, Taken, WriteFailed};
 
 /// What the bytes so far say, on its way to a sink.
 #[derive(Drop)]
@@ -35,23 +35,28 @@ impl Lines {
         }
     }
 
-    /// Takes a byte, and hands over the line of the item that it completes.
-    fn push<W: Sink>(&mut self, writer: &mut W, byte: u8)
-        requires { self.old.frames.offset + 1 < 2 ^ 64 }
+    /// Takes bytes up to the first that completes an item, and hands over its line. It tells how many.
+    fn push<W: Sink>(&mut self, writer: &mut W, bytes: &[u8]) -> usize
+        requires some { 0 < length bytes.now }
+        requires fits { self.old.frames.offset + length bytes.now < 2 ^ 64 }
+        ensures used { result ≤ length bytes.now }
+        ensures some { 0 < result }
         ensures max { self.new.frames.max ≡ self.old.frames.max }
-        ensures offset { self.new.frames.offset ≡ self.old.frames.offset + 1 }
+        ensures offset { self.new.frames.offset ≡ self.old.frames.offset + result }
         ensures told { (max : ℕ) (start : Option (List ℕ)) (text : List ℕ)
             → HasTold max start text self.old (W.broken writer.old) (W.contents writer.old)
-            → HasTold max start (text ++ byte ∷ []) self.new
+            → HasTold max start (text ++ take result bytes.now) self.new
             (W.broken writer.new) (W.contents writer.new) }
     {
-        match self.frames.push(byte) {
+        let Taken { used, item } = self.frames.push_all(bytes);
+        match item {
             Some(item) => {
                 self.items += 1;
                 write_line(&mut self.page, writer, &item, self.frames.data());
             }
             None => {}
         }
+        used
     }
 
     /// Takes bytes, and hands over the lines of the items that they complete.
@@ -64,8 +69,9 @@ impl Lines {
             → HasTold max start (text ++ bytes.now) self.new
             (W.broken writer.new) (W.contents writer.new) }
     {
-        for byte in bytes {
-            self.push(writer, *byte);
+        let mut used = 0;
+        while used < bytes.len() {
+            used += self.push(writer, &bytes[used..]);
         }
     }
 

@@ -269,7 +269,7 @@ resumes max text discarded d b h e r f fits free =
 
 -- ---- what a push gave by it
 
-append-cancel : {A : Type 0} (s t u : List A) → s ++ t ≡ s ++ u → t ≡ u
+pub append-cancel : {A : Type 0} (s t u : List A) → s ++ t ≡ s ++ u → t ≡ u
 append-cancel [] t u e = e
 append-cancel (a ∷ s) t u e = append-cancel s t u cc
 

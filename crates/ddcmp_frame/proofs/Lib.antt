@@ -3,6 +3,7 @@ pub mod SpellingLaws
 pub mod RowsLaws
 pub mod ReadingLaws
 pub mod PushLaws
+pub mod ScanLaws
 pub mod WireLaws
 pub mod FrameLaws
 pub mod PutLaws

@@ -11,7 +11,7 @@ use Rattle.ddcmp_frame.specs.Spelling.{parsed}
 use Rattle.ddcmp_frame.specs.Reading.{Place, place_after, is_start, count_of, data_after_header, by_length, by_count, by_verdict, row, read, items, ending, with_more}
 use Rattle.ddcmp_frame.specs.Resume.{from_start}
 use Rattle.ddcmp_frame.specs.Reader.{ReaderView, Summarises, StandsFor, Grows, EndsWith, items_given, frame_length, candidate_length, bytes_to_come}
-use Rattle.ddcmp_frame.specs.declared.reader.Step.TheVariants.{Gives}
+use Rattle.ddcmp_frame.specs.declared.plain.Step.TheVariants.{Gives}
 use Rattle.ddcmp_frame.specs.Step.{item_length, row_of_step, Found}
 use Rattle.ddcmp_frame.proofs.WireLaws.{frame_length-counted}
 use Rattle.ddcmp_frame.proofs.Tests.{ok-inj, some-inj, ltb-is, ltb-isnt, false-true}
@@ -54,7 +54,7 @@ unless b x y e = rw e refl
 -- ---- a too long frame goes on
 
 -- a header that is there stays when the text goes on
-counts-more : (t u : List ℕ) → Counts t → Counts (t ++ u)
+unfoldable pub counts-more : (t u : List ℕ) → Counts t → Counts (t ++ u)
 counts-more t u k = record {
   full = omega (arith, length-append t u, k.full);
   start = ap is_start (first t k.full) ∙ k.start;
@@ -68,33 +68,33 @@ counts-more t u k = record {
     first [] l = absurd (omega arith)
     first (b ∷ t) l = refl
 
-row-counts : (max : ℕ) (q : Place) (k : Counts q.rest) → row max q ≡ by_length q k.header k.count (nat_lt max k.count) q.told
+pub row-counts : (max : ℕ) (q : Place) (k : Counts q.rest) → row max q ≡ by_length q k.header k.count (nat_lt max k.count) q.told
 row-counts max q k =
     row-full max q k.start k.full ∙ ap (by_verdict max q) k.is ∙ ap (by_count max q k.header) k.counted
 
-row-told : (max : ℕ) (q : Place) (k : Counts q.rest) → max < k.count → q.told ≡ true → row max q ≡ (if nat_lt (length q.rest) (k.count + 10) then None else Some ([], place_after (k.count + 10) false q))
+pub row-told : (max : ℕ) (q : Place) (k : Counts q.rest) → max < k.count → q.told ≡ true → row max q ≡ (if nat_lt (length q.rest) (k.count + 10) then None else Some ([], place_after (k.count + 10) false q))
 row-told max q k above told =
     row-counts max q k
     ∙ ap (λ x. by_length q k.header k.count x q.told) (ltb-is max k.count above)
     ∙ ap (λ x. by_length q k.header k.count true x) told
 
-length_by-counts : (t : List ℕ) (k : Counts t) → candidate_length (parsed (take 8 t)) ≡ k.count + 10
+pub length_by-counts : (t : List ℕ) (k : Counts t) → candidate_length (parsed (take 8 t)) ≡ k.count + 10
 length_by-counts t k = ap candidate_length k.is ∙ frame_length-counted k.header k.count k.counted
 
 -- a reader to which bytes of a too long frame are still to come
-record Passing (v : ReaderView) (text : List ℕ) : Type 0 where
-  counts : Counts (ending v.max text).rest
-  above : v.max < counts.count
-  told : (ending v.max text).told ≡ true
-  left : v.left + length (ending v.max text).rest ≡ counts.count + 10
-  skipped : v.skipped ≡ length (ending v.max text).rest
-  bytes : v.bytes ≡ []
+pub record Passing (v : ReaderView) (text : List ℕ) : Type 0 where
+  pub counts : Counts (ending v.max text).rest
+  pub above : v.max < counts.count
+  pub told : (ending v.max text).told ≡ true
+  pub left : v.left + length (ending v.max text).rest ≡ counts.count + 10
+  pub skipped : v.skipped ≡ length (ending v.max text).rest
+  pub bytes : v.bytes ≡ []
 
-is_true : (b : Bool) → (b ≡ false → ⊥) → b ≡ true
+pub is_true : (b : Bool) → (b ≡ false → ⊥) → b ≡ true
 is_true true h = refl
 is_true false h = absurd (h refl)
 
-passing : (v : ReaderView) (text : List ℕ) → StandsFor v text → 0 < v.left → Passing v text
+unfoldable pub passing : (v : ReaderView) (text : List ℕ) → StandsFor v text → 0 < v.left → Passing v text
 passing v text s some =
     let p = ending v.max text in
     let l = s.place.left in
@@ -155,18 +155,18 @@ exit_passed max o lost finished buffer skipped left lent b text one s =
 -- ---- the bytes held and one more
 
 -- a reader to which no bytes of a too long frame are to come
-record Holding (v : ReaderView) (text : List ℕ) (p : Place) : Type 0 where
-  place : ending v.max text ≡ p
-  stuck : Stuck v.max p
-  skipped : v.skipped ≡ 0
+pub record Holding (v : ReaderView) (text : List ℕ) (p : Place) : Type 0 where
+  pub place : ending v.max text ≡ p
+  pub stuck : Stuck v.max p
+  pub skipped : v.skipped ≡ 0
 
-abbrev place_of : ReaderView → Place
+abbrev pub place_of : ReaderView → Place
 place_of v = record { offset = v.offset - length v.bytes; lost = v.lost; told = false; rest = v.bytes }
 
 same_count : (t : List ℕ) (x y : Counts t) → x.count ≡ y.count
 same_count t x y = let a = length_by-counts t x in let b = length_by-counts t y in omega arith
 
-holding : (v : ReaderView) (text : List ℕ) → StandsFor v text → v.left ≡ 0 → Holding v text (place_of v)
+pub holding : (v : ReaderView) (text : List ℕ) → StandsFor v text → v.left ≡ 0 → Holding v text (place_of v)
 holding v text s none =
     let p = ending v.max text in
     let told : p.told ≡ false = not_told p.told refl in
@@ -294,15 +294,15 @@ candidate v b u is stuck full other =
       ]
     ]
 
-ok-err : {h : Header} {f : HeaderFault} → ◌≡◌ {A = Result Header HeaderFault} (Ok h) (Err f) → ⊥
+pub ok-err : {h : Header} {f : HeaderFault} → ◌≡◌ {A = Result Header HeaderFault} (Ok h) (Err f) → ⊥
 ok-err e = cc
 
 -- behind a failed candidate there is no room for a whole one: reading passes on to the next start byte
-record Passed (max o : ℕ) (before : Bool) (t u : List ℕ) : Type 0 where
-  items : (read max (next_place o before t)).items ≡ []
-  lost : (read max (next_place o before t)).place.lost ≡ before
-  told : (read max (next_place o before t)).place.told ≡ false
-  rest : (read max (next_place o before t)).place.rest ≡ u
+pub record Passed (max o : ℕ) (before : Bool) (t u : List ℕ) : Type 0 where
+  pub items : (read max (next_place o before t)).items ≡ []
+  pub lost : (read max (next_place o before t)).place.lost ≡ before
+  pub told : (read max (next_place o before t)).place.told ≡ false
+  pub rest : (read max (next_place o before t)).place.rest ≡ u
 
 passed-at : (max o : ℕ) (lost : Bool) (b : ℕ) (t : List ℕ) (x : Bool) → is_start b ≡ x → length (b ∷ t) < 8 → Passed max (o + 1) lost t (from_start t) → Passed max o lost (b ∷ t) (if x then b ∷ t else from_start t)
 passed-at max o lost b t true e l ih =
@@ -312,7 +312,7 @@ passed-at max o lost b t false e l ih =
     let s = read-some max (next_place o lost (b ∷ t)) ([], next_place (o + 1) lost t) (row-passes max _ b t refl e) in
     record { items = ap (λ r. r.items) s ∙ ih.items; lost = ap (λ r. r.place.lost) s ∙ ih.lost; told = ap (λ r. r.place.told) s ∙ ih.told; rest = ap (λ r. r.place.rest) s ∙ ih.rest }
 
-passed : (max o : ℕ) (lost : Bool) (t : List ℕ) → length t < 8 → Passed max o lost t (from_start t)
+pub passed : (max o : ℕ) (lost : Bool) (t : List ℕ) → length t < 8 → Passed max o lost t (from_start t)
 passed max o lost [] l =
     let n = read-nothing max (next_place o lost []) refl in
     record { items = ap (λ r. r.items) n; lost = ap (λ r. r.place.lost) n; told = ap (λ r. r.place.told) n; rest = ap (λ r. r.place.rest) n }

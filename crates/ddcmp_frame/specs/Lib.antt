@@ -7,7 +7,8 @@ pub mod Reading
 pub mod Resume
 pub mod Reader
 pub mod Step
-pub mod Room
+pub mod PlainRoom
+pub mod Scan
 pub mod Device
 pub mod Failing
 pub mod Written

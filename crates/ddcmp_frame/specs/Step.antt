@@ -4,8 +4,8 @@ use Rattle.ddcmp_num.specs.declared.limits.TheConstants.{MAX_COUNT}
 use Rattle.ddcmp_frame.specs.declared.header.HeaderFault.TheVariants.{Check}
 use Rattle.ddcmp_frame.specs.declared.item.Item.{Item}
 use Rattle.ddcmp_frame.specs.declared.item.Item.TheVariants.{Good, HeaderCheck, DataCheck, TooLong, Format}
-use Rattle.ddcmp_frame.specs.declared.reader.Step.{Step}
-use Rattle.ddcmp_frame.specs.declared.reader.Step.TheVariants.{Unfinished, Skips, Fails, Announces, Gives}
+use Rattle.ddcmp_frame.specs.declared.plain.Step.{Step}
+use Rattle.ddcmp_frame.specs.declared.plain.Step.TheVariants.{Unfinished, Skips, Fails, Announces, Gives}
 use Rattle.ddcmp_frame.specs.Spelling.{is_start, parsed}
 use Rattle.ddcmp_frame.specs.Wire.{wire, IsFrame}
 use Rattle.ddcmp_frame.specs.Reading.{ReadItem, Place, place_after, count_of, data_after_header}

@@ -15,3 +15,12 @@ pub enum Item {
     /// A header whose check is right and that is no header.
     Format(u64, HeaderFault),
 }
+
+/// What a reader made of a piece of its line.
+#[derive(Clone, Copy, Debug, PartialEq, Eq)]
+pub struct Taken {
+    /// How many bytes were used. The caller hands over the rest.
+    pub used: usize,
+    /// The item that the last of these bytes gave. Without one all bytes were used.
+    pub item: Option<Item>,
+}

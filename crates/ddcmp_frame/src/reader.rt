@@ -1,16 +1,15 @@
-//! A reader that keeps the bytes of the unfinished frame and reads them again with each byte.
-ghost use Rattle.std.specs.Prelude.{◌≡◌, ◌+◌, ◌-◌, ◌<◌, ◌≤◌, ◌^◌, ◌↔◌, ℕ, Bool, true, false, List, [], ◌∷◌, ◌++◌, length, take, drop, IfOk, Some, None, vec_len, vec_capacity, if◌then◌else◌};
-ghost use Rattle.ddcmp_frame.specs.Spelling.{IsInRange, parsed};
+//! A reader of frames that takes the bytes of a line in pieces.
+ghost use Rattle.std.specs.Prelude.{◌≡◌, ◌+◌, ◌<◌, ◌≤◌, ◌^◌, ◌↔◌, ℕ, List, [], ◌∷◌, ◌++◌, length, take, IfOk, Some, None};
+ghost use Rattle.ddcmp_frame.specs.Spelling.{IsInRange};
 ghost use Rattle.ddcmp_frame.specs.Wire.{wire, IsFrame};
-ghost use Rattle.ddcmp_frame.specs.Reading.{row as row_at, items, count_of as count_in, is_data_right as data_right_in, by_count, open_at_end, kept_at_end};
-ghost use Rattle.ddcmp_frame.specs.Resume.{from_start, NoneBegins, AtMostALoss};
-ghost use Rattle.ddcmp_frame.specs.Reader.{StandsFor, Grows, items_given, LentBeside, EndsWith, open_of, kept_of};
-ghost use Rattle.ddcmp_frame.specs.Step.{place_untold, row_of_step, Found};
+ghost use Rattle.ddcmp_frame.specs.Reading.{items, open_at_end, kept_at_end};
+ghost use Rattle.ddcmp_frame.specs.Resume.{NoneBegins, AtMostALoss};
+ghost use Rattle.ddcmp_frame.specs.Reader.{StandsFor, items_given, LentBeside, EndsWith, open_of, kept_of};
 ghost use Rattle.ddcmp_frame.specs.declared.header.Header.{Header as HeaderValue};
 
-use crate::header::{Header, HeaderFault, is_start};
-use crate::item::Item;
-use ddcmp_num::{MAX_COUNT, check, check_bytes};
+use crate::item::{Item, Taken};
+use crate::scan::{Phase, Scan};
+use ddcmp_num::MAX_COUNT;
 use std::alloc::Global;
 use std::marker::Model;
 
@@ -25,57 +24,21 @@ pub enum ReaderRefusal {
     Memory,
 }
 
-/// A reader of frames that takes one byte at a time. After it is made it takes no memory.
+/// A reader of frames that takes bytes in pieces. After it is made it takes no memory.
 #[derive(Drop)]
 pub struct Reader {
-    max: u16,
-    offset: u64,
-    lost: bool,
-    // The bytes from the start byte of the last frame on, and whether they were read whole.
-    buffer: Vec<u8>,
-    finished: bool,
-    // Of a too long frame, how many bytes have come and how many are to come.
-    skipped: usize,
-    left: usize,
-    // How many bytes of data after the header are lent.
-    lent: usize,
+    scan: Scan,
 }
 
 impl Model for Reader {
-    ghost use Rattle.std.specs.Prelude.{◌≡◌, ◌+◌, ◌<◌, ◌≤◌, take, drop, [], if◌then◌else◌, vec_len, vec_capacity, false};
     ghost use Rattle.ddcmp_frame.specs.Reader.{ReaderView};
+    ghost use Rattle.ddcmp_frame.specs.Scan.{IsSound, view_of};
 
     ghost Value = { ReaderView };
 
-    ghost view = { λ r. record {
-      max = r.max;
-      offset = r.offset;
-      lost = r.lost;
-      bytes = (if r.finished then []
-          else r.buffer.items);
-      skipped = r.skipped;
-      left = r.left;
-      lent = take r.lent (drop 8 r.buffer.items);
-    } };
+    ghost view = { λ r. view_of r.scan };
 
-    ghost use Rattle.ddcmp_frame.specs.Room.{HasRoom};
-
-    ghost invariant = { HasRoom };
-}
-
-/// One row of the table, as it is found at the front of the bytes held.
-#[derive(Clone, Copy)]
-enum Step {
-    /// The frame that begins here is unfinished.
-    Unfinished,
-    /// No header begins with the first byte.
-    Skips,
-    /// The check of the header is wrong.
-    Fails,
-    /// A header with more data than the reader takes, this many bytes.
-    Announces(Header, usize),
-    /// An item, and how many bytes of data are lent beside it.
-    Gives(Item, usize),
+    ghost invariant = { λ r. IsSound r.scan };
 }
 
 impl Reader {
@@ -96,14 +59,14 @@ impl Reader {
         }
         match Vec::with_capacity(alloc, max as usize + 10) {
             Ok(buffer) => Ok(Reader {
-                max,
-                offset: 0,
-                lost: false,
-                buffer,
-                finished: true,
-                skipped: 0,
-                left: 0,
-                lent: 0,
+                scan: Scan {
+                    max,
+                    offset: 0,
+                    lost: false,
+                    buffer,
+                    phase: Phase::Seeking,
+                    lent: 0,
+                },
             }),
             Err(_) => Err(ReaderRefusal::Memory),
         }
@@ -133,69 +96,46 @@ impl Reader {
             → (result ≡ Some (Item.Good (length discarded) h)) × (self.new.lent ≡ message)
             × AtMostALoss (items self.old.max text) }
     {
-        self.take(byte)
+        self.scan.lent = 0;
+        let taken = self.scan.take(&[byte]);
+        taken.item
     }
 
-    fn take(&mut self, byte: u8) -> Option<Item>
-        requires { self.old.offset + 1 < 2 ^ 64 }
-        ensures counted { self.new.offset ≡ self.old.offset + 1 }
+    /// Takes the bytes of a piece, up to and with the first that gives an item.
+    pub fn push_all(&mut self, piece: &[u8]) -> Taken
+        requires { self.old.offset + length piece.now < 2 ^ 64 }
+        ensures counted { self.new.offset ≡ self.old.offset + result.used }
         ensures max { self.new.max ≡ self.old.max }
-        ensures lent { LentBeside result self.new.lent }
+        // The reader stands for the bytes so far, and has given their items.
+        ensures stands { (text : List ℕ) → StandsFor self.old text
+            → StandsFor self.new (text ++ take result.used piece.now) }
+        ensures item { (text : List ℕ) → StandsFor self.old text
+            → items self.old.max (text ++ take result.used piece.now) ≡ items self.old.max text
+            ++ items_given result.item self.new.lent }
+        // No byte before the last one used gave an item.
+        ensures first { (text : List ℕ) (n : ℕ) → StandsFor self.old text → n < result.used
+            → items self.old.max (text ++ take n piece.now) ≡ items self.old.max text }
+        ensures used { result.used ≤ length piece.now }
+        ensures whole { result.item ≡ None → result.used ≡ length piece.now }
+        ensures some { 0 < length piece.now → 0 < result.used }
+        // Beside a good item its data are lent, which with the header are the last bytes.
+        ensures lent { LentBeside result.item self.new.lent }
         ensures within { length self.new.lent ≤ self.old.max }
-        ensures grows { (text : List ℕ) → StandsFor self.old text
-            → Grows self.old byte result self.new text }
+        ensures wire { (text : List ℕ) → StandsFor self.old text
+            → EndsWith result.item self.new.lent (text ++ take result.used piece.now) }
     {
-        self.offset += 1;
-        self.lent = 0;
-        if self.left > 1 {
-            self.left -= 1;
-            self.skipped += 1;
-            return None;
-        }
-        if self.left == 1 {
-            self.left = 0;
-            self.skipped = 0;
-            self.lost = false;
-            return None;
-        }
-        store(&mut self.buffer, self.finished, byte);
-        self.finished = false;
-        let at = self.offset - self.buffer.len() as u64;
-        match row(&self.buffer, self.max, at) {
-            Step::Unfinished => None,
-            Step::Skips => {
-                self.finished = true;
-                None
-            }
-            Step::Fails => {
-                let item = loss(self.lost, at);
-                resume(&mut self.buffer);
-                self.lost = true;
-                item
-            }
-            Step::Announces(header, count) => {
-                self.finished = true;
-                self.skipped = 8;
-                self.left = count + 2;
-                Some(Item::TooLong(at, header))
-            }
-            Step::Gives(item, lent) => {
-                self.finished = true;
-                self.lost = false;
-                self.lent = lent;
-                Some(item)
-            }
-        }
+        self.scan.lent = 0;
+        self.scan.take_all(piece)
     }
 
     /// The data of the good item that the last push gave, else none.
     pub fn data(&self) -> &[u8]
         ensures { result.now ≡ self.now.lent }
     {
-        if self.lent == 0 {
+        if self.scan.lent == 0 {
             return &[];
         }
-        &self.buffer[8..8 + self.lent]
+        &self.scan.buffer[8..8 + self.scan.lent]
     }
 
     /// The number of bytes so far.
@@ -203,7 +143,7 @@ impl Reader {
         ensures value { result ≡ self.now.offset }
         ensures text { (text : List ℕ) → StandsFor self.now text → result ≡ length text }
     {
-        self.offset
+        self.scan.offset
     }
 
     /// The number of bytes from the start byte of the unfinished frame on.
@@ -212,7 +152,7 @@ impl Reader {
         ensures text { (text : List ℕ) → StandsFor self.now text → result
             ≡ open_at_end self.now.max text }
     {
-        self.kept() + self.skipped
+        self.scan.open()
     }
 
     /// The number of bytes of the unfinished frame that are kept.
@@ -222,7 +162,7 @@ impl Reader {
             ≡ kept_at_end self.now.max text }
         ensures within { result ≤ self.now.max + 10 }
     {
-        if self.finished { 0 } else { self.buffer.len() }
+        self.scan.kept()
     }
 
     /// Begins anew.
@@ -231,127 +171,9 @@ impl Reader {
         ensures max { self.new.max ≡ self.old.max }
         ensures lent { self.new.lent ≡ [] }
     {
-        self.offset = 0;
-        self.lost = false;
-        self.finished = true;
-        self.skipped = 0;
-        self.left = 0;
-        self.lent = 0;
+        self.scan.offset = 0;
+        self.scan.lost = false;
+        self.scan.phase = Phase::Seeking;
+        self.scan.lent = 0;
     }
-}
-
-/// Appends a byte to the bytes held, or puts it in their place where they were read whole.
-fn store(buffer: &mut Vec<u8>, finished: bool, byte: u8)
-    requires some { 0 < vec_capacity buffer.old }
-    requires room { finished ≡ false → vec_len buffer.old < vec_capacity buffer.old }
-    ensures items { buffer.new.items ≡ (if finished then [] else buffer.old.items) ++ byte ∷ [] }
-    ensures room { vec_capacity buffer.old ≤ vec_capacity buffer.new }
-{
-    if finished {
-        buffer.clear();
-    }
-    match buffer.push(byte) {
-        Ok(()) => {}
-        Err(_) => unreachable!(),
-    }
-}
-
-/// The item of a candidate that fails: the first of a loss of synchronism is told.
-fn loss(lost: bool, at: u64) -> Option<Item>
-    ensures { result ≡ (if lost then None else Some (Item.HeaderCheck at)) }
-{
-    if lost {
-        None
-    } else {
-        Some(Item::HeaderCheck(at))
-    }
-}
-
-/// Gives up the first byte, and what follows it up to the next start byte.
-fn resume(buffer: &mut Vec<u8>)
-    requires { 0 < vec_len buffer.old }
-    ensures items { buffer.new.items ≡ from_start (drop 1 buffer.old.items) }
-    ensures shorter { vec_len buffer.new < vec_len buffer.old }
-    ensures room { vec_capacity buffer.new ≡ vec_capacity buffer.old }
-{
-    let mut from = 1;
-    while from < buffer.len() && !is_start(buffer[from]) {
-        from += 1;
-    }
-    let kept = buffer.len() - from;
-    buffer.rotate_left(from);
-    buffer.truncate(kept);
-}
-
-/// The row that fits at the front of the bytes, which begin at the offset `at`.
-fn row(bytes: &[u8], max: u16, at: u64) -> Step
-    ensures row { (lost : Bool) → row_at max (place_untold at lost bytes.now)
-        ≡ row_of_step result (place_untold at lost bytes.now) }
-    ensures found { Found max at bytes.now result }
-{
-    if bytes.is_empty() {
-        return Step::Unfinished;
-    }
-    if !is_start(bytes[0]) {
-        return Step::Skips;
-    }
-    let Some(front) = bytes.first_chunk::<8>() else {
-        return Step::Unfinished;
-    };
-    match Header::parse(front) {
-        Ok(header) => row_after_header(bytes, max, at, header),
-        Err(HeaderFault::NotAStart) => Step::Skips,
-        Err(HeaderFault::Check) => Step::Fails,
-        Err(HeaderFault::BadType(code)) => {
-            Step::Gives(Item::Format(at, HeaderFault::BadType(code)), 0)
-        }
-        Err(HeaderFault::CountZero) => Step::Gives(Item::Format(at, HeaderFault::CountZero), 0),
-    }
-}
-
-/// The row that fits after a right header.
-fn row_after_header(bytes: &[u8], max: u16, at: u64, header: Header) -> Step
-    requires front { 8 ≤ length bytes.now }
-    requires header { parsed (take 8 bytes.now) ≡ Ok header }
-    ensures row { (lost : Bool)
-        → by_count max (place_untold at lost bytes.now) header (count_in header)
-        ≡ row_of_step result (place_untold at lost bytes.now) }
-    ensures found { Found max at bytes.now result }
-{
-    let Some(count) = count_of(&header) else {
-        return Step::Gives(Item::Good(at, header), 0);
-    };
-    if count > max as usize {
-        return Step::Announces(header, count);
-    }
-    if bytes.len() < count + 10 {
-        return Step::Unfinished;
-    }
-    if data_right(bytes, count) {
-        Step::Gives(Item::Good(at, header), count)
-    } else {
-        Step::Gives(Item::DataCheck(at, header), 0)
-    }
-}
-
-/// COUNT, where the header has one.
-fn count_of(header: &Header) -> Option<usize>
-    ensures value { result ≡ count_in header.now }
-    ensures small { (n : ℕ) → result ≡ Some n → (0 < n) × (n ≤ MAX_COUNT) }
-{
-    match header {
-        Header::Data(fields) => Some(fields.count as usize),
-        Header::Maint(fields) => Some(fields.count as usize),
-        Header::Control(_) => None,
-    }
-}
-
-/// Whether the check after `count` bytes of data is theirs.
-#[tactic(auto, unfolding(crate::specs::Reading::is_data_right))]
-fn data_right(bytes: &[u8], count: usize) -> bool
-    requires { count + 10 ≤ length bytes.now }
-    ensures { result ≡ data_right_in count bytes.now }
-{
-    let right = check_bytes(check(&bytes[8..8 + count]));
-    bytes[count + 8] == right[0] && bytes[count + 9] == right[1]
 }

@@ -17,7 +17,7 @@ const NO_FLAGS: Flags = Flags { q: false, s: false };
 const BOTH_FLAGS: Flags = Flags { q: true, s: true };
 
 /// The frames of the published layouts and their bytes.
-const CONTROLS: [(ControlType, u8, Flags, u8, u8, &[u8]); 12] = [
+pub(crate) const CONTROLS: [(ControlType, u8, Flags, u8, u8, &[u8]); 12] = [
     (
         ControlType::Strt,
         0,
@@ -116,23 +116,23 @@ const CONTROLS: [(ControlType, u8, Flags, u8, u8, &[u8]); 12] = [
     ),
 ];
 
-const ABC_1: [u8; 13] = [
+pub(crate) const ABC_1: [u8; 13] = [
     0x81, 0x03, 0x00, 0x00, 0x01, 0x01, 0x9A, 0x41, 0x61, 0x62, 0x63, 0x38, 0x97,
 ];
 
-const ABC_2: [u8; 13] = [
+pub(crate) const ABC_2: [u8; 13] = [
     0x81, 0x03, 0x00, 0x00, 0x02, 0x01, 0x9A, 0xB1, 0x61, 0x62, 0x63, 0x38, 0x97,
 ];
 
-const A_1: [u8; 11] = [
+pub(crate) const A_1: [u8; 11] = [
     0x81, 0x01, 0x00, 0x00, 0x01, 0x01, 0xE3, 0x81, 0x61, 0xC1, 0xE8,
 ];
 
-const B_2: [u8; 11] = [
+pub(crate) const B_2: [u8; 11] = [
     0x81, 0x01, 0x00, 0x00, 0x02, 0x01, 0xE3, 0x71, 0x62, 0x81, 0xE9,
 ];
 
-const ABC_MAINT: [u8; 13] = [
+pub(crate) const ABC_MAINT: [u8; 13] = [
     0x90, 0x03, 0xC0, 0x00, 0x00, 0x01, 0xA4, 0x90, 0x61, 0x62, 0x63, 0x38, 0x97,
 ];
 

@@ -7,3 +7,5 @@ mod devices;
 mod failing;
 #[cfg(test)]
 mod frames;
+#[cfg(test)]
+mod readers;

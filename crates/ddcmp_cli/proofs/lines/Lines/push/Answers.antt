@@ -1,5 +1,7 @@
-use Rattle.std.proofs.Common.{[], ◌∷◌, ap, refl, sym, ◌∙◌, arith}
+use Rattle.std.proofs.Common.{[], ◌∷◌, ◌++◌, ap, refl, sym, ◌∙◌, arith, take}
 use Rattle.std.proofs.lemmas.List.{append-nil}
+use Rattle.ddcmp_frame.specs.Reader.{items_given}
+use Rattle.ddcmp_frame.specs.Reading.{items}
 use Rattle.ddcmp_cli.specs.Text.{line_of}
 use Rattle.ddcmp_cli.proofs.TextLaws.{sends-as, sends-nothing}
 use Rattle.ddcmp_cli.proofs.LinesLaws.{told-more}
@@ -7,9 +9,15 @@ use Rattle.ddcmp_cli.proofs.lines.Lines.push.Goals as goal
 
 pub returns-in-Some-clause-told : goal.returns-in-Some-clause-told
 returns-in-Some-clause-told g c = λ max start text h.
-    let line = ap (λ d. line_of (c.in-Some.item, d)) c.data.ensures ∙ sym (append-nil (line_of (c.in-Some.item, c.push.new.self.lent))) in
-    told-more max start _ _ text c.args.byte ((c.in-Some.item, c.push.new.self.lent) ∷ []) c.args.self.now _ _ _ h c.in-Some.ensures.max (c.in-Some.ensures.stands text h.stands) (c.in-Some.ensures.item text h.stands) refl (sends-as line c.write_line.ensures)
+    let p = c.push_all-used in
+    let was = c.args.self.now in
+    let lent = p.new.self.lent in
+    let given = (c.in-Some.item, lent) ∷ [] in
+    let line = ap (λ d. line_of (c.in-Some.item, d)) c.data.ensures ∙ sym (append-nil (line_of (c.in-Some.item, lent))) in
+    told-more max start _ _ text (take p.result.used c.args.bytes.now) given was _ _ _ h p.ensures.max (p.ensures.stands text h.stands) (p.ensures.item text h.stands ∙ ap (λ i. items was.frames.max text ++ items_given i lent) c.in-Some.is) refl (sends-as line c.write_line.ensures)
 
 pub returns-in-None-clause-told : goal.returns-in-None-clause-told
 returns-in-None-clause-told g c = λ max start text h.
-    told-more max start _ _ text c.args.byte [] c.args.self.now _ _ _ h c.in-None.ensures.max (c.in-None.ensures.stands text h.stands) (c.in-None.ensures.item text h.stands) (omega arith) (sends-nothing _)
+    let p = c.push_all-used in
+    let was = c.args.self.now in
+    told-more max start _ _ text (take p.result.used c.args.bytes.now) [] was _ _ _ h p.ensures.max (p.ensures.stands text h.stands) (p.ensures.item text h.stands ∙ ap (λ i. items was.frames.max text ++ items_given i p.new.self.lent) c.in-None.is) (omega arith) (sends-nothing _)

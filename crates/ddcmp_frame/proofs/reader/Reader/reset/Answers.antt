@@ -3,4 +3,4 @@ use Rattle.ddcmp_frame.proofs.PushLaws.{stands_anew}
 use Rattle.ddcmp_frame.proofs.reader.Reader.reset.Goals as goal
 
 pub returns-clause-stands : goal.returns-clause-stands
-returns-clause-stands c = stands_anew c.self.inside.max c.self.inside.buffer.items 0 refl
+returns-clause-stands c = stands_anew c.self.inside.scan.max c.self.inside.scan.buffer.items 0 refl

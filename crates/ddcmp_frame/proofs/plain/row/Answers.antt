@@ -1,7 +1,7 @@
 use Rattle.std.proofs.Common.{◌∙◌, rules, Ok, Err, false}
 use Rattle.ddcmp_frame.specs.declared.header.HeaderFault.TheVariants.{Check, BadType, CountZero}
 use Rattle.ddcmp_frame.proofs.ReadingLaws.{row-empty, row-skips, row-waits, row-by}
-use Rattle.ddcmp_frame.proofs.reader.row.Goals as goal
+use Rattle.ddcmp_frame.proofs.plain.row.Goals as goal
 
 pub returns-then-is_empty-clause-row : goal.returns-then-is_empty-clause-row
 returns-then-is_empty-clause-row c = λ lost. row-empty c.args.max _ (search rules)

@@ -2,7 +2,7 @@ use Rattle.std.proofs.Common.{◌≡◌, ◌+◌, ◌≤◌, sym, ap, arith, rul
 use Rattle.ddcmp_frame.specs.Reader.{candidate_length}
 use Rattle.ddcmp_frame.specs.Reading.{count_of}
 use Rattle.ddcmp_frame.proofs.WireLaws.{control-whole, counted-whole, frame_length-control, frame_length-counted}
-use Rattle.ddcmp_frame.proofs.reader.row_after_header.Goals as goal
+use Rattle.ddcmp_frame.proofs.plain.row_after_header.Goals as goal
 
 pub returns-in_default-clause-found : goal.returns-in_default-clause-found
 returns-in_default-clause-found c =

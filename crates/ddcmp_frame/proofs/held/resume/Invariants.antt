@@ -1,6 +1,6 @@
 use Rattle.std.proofs.Common.{◌≡◌, ◌≤◌, ◌-◌, drop, length}
 use Rattle.ddcmp_frame.specs.Resume.{from_start}
-use Rattle.ddcmp_frame.proofs.reader.resume.Given as goal
+use Rattle.ddcmp_frame.proofs.held.resume.Given as goal
 
 abbrev pub invariant-loop-from : goal.invariant-loop-from
 invariant-loop-from l = record {

@@ -1,12 +1,12 @@
 use Rattle.std.proofs.Common.{◌≡◌, ℕ, ◌+◌, ◌-◌, sym, ◌∙◌, ap, subst, List, length, arith, Bool, true, false, Some, None}
 use Rattle.ddcmp_frame.specs.declared.item.Item.TheVariants.{TooLong}
-use Rattle.ddcmp_frame.specs.declared.reader.Step.{Step}
-use Rattle.ddcmp_frame.specs.declared.reader.Step.TheVariants.{Unfinished, Skips, Fails, Announces, Gives}
+use Rattle.ddcmp_frame.specs.declared.plain.Step.{Step}
+use Rattle.ddcmp_frame.specs.declared.plain.Step.TheVariants.{Unfinished, Skips, Fails, Announces, Gives}
 use Rattle.ddcmp_frame.specs.Reader.{StandsFor, Grows}
 use Rattle.ddcmp_frame.specs.Reading.{row}
 use Rattle.ddcmp_frame.specs.Step.{row_of_step, Found}
 use Rattle.ddcmp_frame.proofs.PushLaws.{held, next_place, loss_told, exit_passes, exit_passed, exit_unfinished, exit_skips, exit_fails, exit_announces, exit_gives}
-use Rattle.ddcmp_frame.proofs.reader.Reader.take.Goals as goal
+use Rattle.ddcmp_frame.proofs.plain.PlainReader.take.Goals as goal
 
 -- the row of the bytes, as the code told it
 row_is : (max at : ℕ) (lost : Bool) (t u : List ℕ) (r s : Step) → t ≡ u → r ≡ s → row max (next_place at lost t) ≡ row_of_step r (next_place at lost t) → row max (next_place at lost u) ≡ row_of_step s (next_place at lost u)

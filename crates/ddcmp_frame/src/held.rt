@@ -1,0 +1,59 @@
+//! What both readers do with the bytes of a frame that they hold.
+ghost use Rattle.std.specs.Prelude.{◌≡◌, ◌+◌, ◌<◌, ◌≤◌, ℕ, length, drop, Some, None, vec_len, vec_capacity, if◌then◌else◌};
+ghost use Rattle.ddcmp_frame.specs.Reading.{count_of as count_in, is_data_right as data_right_in};
+ghost use Rattle.ddcmp_frame.specs.Resume.{from_start};
+ghost use Rattle.ddcmp_frame.specs.Spelling.{IsBytes};
+
+use crate::header::{Header, is_start};
+use crate::item::Item;
+use ddcmp_num::{MAX_COUNT, check, check_bytes};
+
+/// The item of a candidate that fails: the first of a loss of synchronism is told.
+pub(crate) fn loss(lost: bool, at: u64) -> Option<Item>
+    ensures { result ≡ (if lost then None else Some (Item.HeaderCheck at)) }
+{
+    if lost {
+        None
+    } else {
+        Some(Item::HeaderCheck(at))
+    }
+}
+
+/// Gives up the first byte, and what follows it up to the next start byte.
+pub(crate) fn resume(buffer: &mut Vec<u8>)
+    requires { 0 < vec_len buffer.old }
+    ensures items { buffer.new.items ≡ from_start (drop 1 buffer.old.items) }
+    ensures shorter { vec_len buffer.new < vec_len buffer.old }
+    ensures room { vec_capacity buffer.new ≡ vec_capacity buffer.old }
+{
+    let mut from = 1;
+    while from < buffer.len() && !is_start(buffer[from]) {
+        from += 1;
+    }
+    let kept = buffer.len() - from;
+    buffer.rotate_left(from);
+    buffer.truncate(kept);
+}
+
+/// COUNT, where the header has one.
+pub(crate) fn count_of(header: &Header) -> Option<usize>
+    ensures value { result ≡ count_in header.now }
+    ensures small { (n : ℕ) → result ≡ Some n → (0 < n) × (n ≤ MAX_COUNT) }
+{
+    match header {
+        Header::Data(fields) => Some(fields.count as usize),
+        Header::Maint(fields) => Some(fields.count as usize),
+        Header::Control(_) => None,
+    }
+}
+
+/// Whether the check after `count` bytes of data is theirs.
+#[tactic(auto, unfolding(crate::specs::Reading::is_data_right))]
+pub(crate) fn data_right(bytes: &[u8], count: usize) -> bool
+    requires { count + 10 ≤ length bytes.now }
+    ensures right { result ≡ data_right_in count bytes.now }
+    ensures bytes { IsBytes bytes.now }
+{
+    let right = check_bytes(check(&bytes[8..8 + count]));
+    bytes[count + 8] == right[0] && bytes[count + 9] == right[1]
+}

@@ -1,0 +1,300 @@
+//! The plain reader, which keeps the bytes of the unfinished frame and reads their front again with
+//! each byte: the yardstick for `Reader`, whose contract it has.
+ghost use Rattle.std.specs.Prelude.{◌≡◌, ◌+◌, ◌-◌, ◌<◌, ◌≤◌, ◌^◌, ◌↔◌, ℕ, Bool, true, false, List, [], ◌∷◌, ◌++◌, length, take, drop, IfOk, Some, None, vec_len, vec_capacity, if◌then◌else◌};
+ghost use Rattle.ddcmp_frame.specs.Spelling.{IsInRange, parsed};
+ghost use Rattle.ddcmp_frame.specs.Wire.{wire, IsFrame};
+ghost use Rattle.ddcmp_frame.specs.Reading.{row as row_at, items, count_of as count_in, by_count, open_at_end, kept_at_end};
+ghost use Rattle.ddcmp_frame.specs.Resume.{NoneBegins, AtMostALoss};
+ghost use Rattle.ddcmp_frame.specs.Reader.{StandsFor, Grows, items_given, LentBeside, EndsWith, open_of, kept_of};
+ghost use Rattle.ddcmp_frame.specs.Step.{place_untold, row_of_step, Found};
+ghost use Rattle.ddcmp_frame.specs.declared.header.Header.{Header as HeaderValue};
+
+use crate::header::{Header, HeaderFault, is_start};
+use crate::held::{count_of, data_right, loss, resume};
+use crate::item::Item;
+use crate::reader::ReaderRefusal;
+use ddcmp_num::MAX_COUNT;
+use std::alloc::Global;
+use std::marker::Model;
+
+/// A reader of frames that takes one byte at a time. After it is made it takes no memory.
+#[derive(Drop)]
+pub struct PlainReader {
+    max: u16,
+    offset: u64,
+    lost: bool,
+    // The bytes from the start byte of the last frame on, and whether they were read whole.
+    buffer: Vec<u8>,
+    finished: bool,
+    // Of a too long frame, how many bytes have come and how many are to come.
+    skipped: usize,
+    left: usize,
+    // How many bytes of data after the header are lent.
+    lent: usize,
+}
+
+impl Model for PlainReader {
+    ghost use Rattle.std.specs.Prelude.{◌≡◌, ◌+◌, ◌<◌, ◌≤◌, take, drop, [], if◌then◌else◌, vec_len, vec_capacity, false};
+    ghost use Rattle.ddcmp_frame.specs.Reader.{ReaderView};
+
+    ghost Value = { ReaderView };
+
+    ghost view = { λ r. record {
+      max = r.max;
+      offset = r.offset;
+      lost = r.lost;
+      bytes = (if r.finished then []
+          else r.buffer.items);
+      skipped = r.skipped;
+      left = r.left;
+      lent = take r.lent (drop 8 r.buffer.items);
+    } };
+
+    ghost use Rattle.ddcmp_frame.specs.PlainRoom.{HasPlainRoom};
+
+    ghost invariant = { HasPlainRoom };
+}
+
+/// One row of the table, as it is found at the front of the bytes held.
+#[derive(Clone, Copy)]
+enum Step {
+    /// The frame that begins here is unfinished.
+    Unfinished,
+    /// No header begins with the first byte.
+    Skips,
+    /// The check of the header is wrong.
+    Fails,
+    /// A header with more data than the reader takes, this many bytes.
+    Announces(Header, usize),
+    /// An item, and how many bytes of data are lent beside it.
+    Gives(Item, usize),
+}
+
+impl PlainReader {
+    /// A reader of frames with at most `max` bytes of data. It takes memory for one frame.
+    pub fn new(alloc: Global, max: u16) -> Result<PlainReader, ReaderRefusal>
+        ensures zero { (result ≡ Err ReaderRefusal.MaxZero) ↔ (max ≡ 0) }
+        ensures above { (result ≡ Err ReaderRefusal.MaxAbove16383) ↔ (MAX_COUNT < max) }
+        ensures memory { result ≡ Err ReaderRefusal.Memory → (0 < max) × (max ≤ MAX_COUNT) }
+        ensures stands { IfOk result (λ reader. StandsFor reader []) }
+        ensures max { IfOk result (λ reader. reader.max ≡ max) }
+        ensures lent { IfOk result (λ reader. reader.lent ≡ []) }
+    {
+        if max == 0 {
+            return Err(ReaderRefusal::MaxZero);
+        }
+        if max > MAX_COUNT {
+            return Err(ReaderRefusal::MaxAbove16383);
+        }
+        match Vec::with_capacity(alloc, max as usize + 10) {
+            Ok(buffer) => Ok(PlainReader {
+                max,
+                offset: 0,
+                lost: false,
+                buffer,
+                finished: true,
+                skipped: 0,
+                left: 0,
+                lent: 0,
+            }),
+            Err(_) => Err(ReaderRefusal::Memory),
+        }
+    }
+
+    /// Takes one byte, and gives the item that it completes.
+    pub fn push(&mut self, byte: u8) -> Option<Item>
+        requires { self.old.offset + 1 < 2 ^ 64 }
+        ensures counted { self.new.offset ≡ self.old.offset + 1 }
+        ensures max { self.new.max ≡ self.old.max }
+        // The reader stands for the bytes so far, and has given their items.
+        ensures stands { (text : List ℕ) → StandsFor self.old text
+            → StandsFor self.new (text ++ byte ∷ []) }
+        ensures item { (text : List ℕ) → StandsFor self.old text
+            → items self.old.max (text ++ byte ∷ []) ≡ items self.old.max text
+            ++ items_given result self.new.lent }
+        // Beside a good item its data are lent, which with the header are the last bytes.
+        ensures lent { LentBeside result self.new.lent }
+        ensures within { length self.new.lent ≤ self.old.max }
+        ensures wire { (text : List ℕ) → StandsFor self.old text
+            → EndsWith result self.new.lent (text ++ byte ∷ []) }
+        // A frame after discarded bytes is found, and these cost at most one item.
+        ensures resynchronises { (text discarded message : List ℕ) (h : HeaderValue)
+            → StandsFor self.old text → text ++ byte ∷ [] ≡ discarded ++ wire h message
+            → IsInRange h → IsFrame h message → length message ≤ self.old.max
+            → NoneBegins discarded (wire h message)
+            → (result ≡ Some (Item.Good (length discarded) h)) × (self.new.lent ≡ message)
+            × AtMostALoss (items self.old.max text) }
+    {
+        self.take(byte)
+    }
+
+    fn take(&mut self, byte: u8) -> Option<Item>
+        requires { self.old.offset + 1 < 2 ^ 64 }
+        ensures counted { self.new.offset ≡ self.old.offset + 1 }
+        ensures max { self.new.max ≡ self.old.max }
+        ensures lent { LentBeside result self.new.lent }
+        ensures within { length self.new.lent ≤ self.old.max }
+        ensures grows { (text : List ℕ) → StandsFor self.old text
+            → Grows self.old byte result self.new text }
+    {
+        self.offset += 1;
+        self.lent = 0;
+        if self.left > 1 {
+            self.left -= 1;
+            self.skipped += 1;
+            return None;
+        }
+        if self.left == 1 {
+            self.left = 0;
+            self.skipped = 0;
+            self.lost = false;
+            return None;
+        }
+        store(&mut self.buffer, self.finished, byte);
+        self.finished = false;
+        let at = self.offset - self.buffer.len() as u64;
+        match row(&self.buffer, self.max, at) {
+            Step::Unfinished => None,
+            Step::Skips => {
+                self.finished = true;
+                None
+            }
+            Step::Fails => {
+                let item = loss(self.lost, at);
+                resume(&mut self.buffer);
+                self.lost = true;
+                item
+            }
+            Step::Announces(header, count) => {
+                self.finished = true;
+                self.skipped = 8;
+                self.left = count + 2;
+                Some(Item::TooLong(at, header))
+            }
+            Step::Gives(item, lent) => {
+                self.finished = true;
+                self.lost = false;
+                self.lent = lent;
+                Some(item)
+            }
+        }
+    }
+
+    /// The data of the good item that the last push gave, else none.
+    pub fn data(&self) -> &[u8]
+        ensures { result.now ≡ self.now.lent }
+    {
+        if self.lent == 0 {
+            return &[];
+        }
+        &self.buffer[8..8 + self.lent]
+    }
+
+    /// The number of bytes so far.
+    pub fn offset(&self) -> u64
+        ensures value { result ≡ self.now.offset }
+        ensures text { (text : List ℕ) → StandsFor self.now text → result ≡ length text }
+    {
+        self.offset
+    }
+
+    /// The number of bytes from the start byte of the unfinished frame on.
+    pub fn open(&self) -> usize
+        ensures value { result ≡ open_of self.now }
+        ensures text { (text : List ℕ) → StandsFor self.now text → result
+            ≡ open_at_end self.now.max text }
+    {
+        self.kept() + self.skipped
+    }
+
+    /// The number of bytes of the unfinished frame that are kept.
+    pub fn kept(&self) -> usize
+        ensures value { result ≡ kept_of self.now }
+        ensures text { (text : List ℕ) → StandsFor self.now text → result
+            ≡ kept_at_end self.now.max text }
+        ensures within { result ≤ self.now.max + 10 }
+    {
+        if self.finished { 0 } else { self.buffer.len() }
+    }
+
+    /// Begins anew.
+    pub fn reset(&mut self)
+        ensures stands { StandsFor self.new [] }
+        ensures max { self.new.max ≡ self.old.max }
+        ensures lent { self.new.lent ≡ [] }
+    {
+        self.offset = 0;
+        self.lost = false;
+        self.finished = true;
+        self.skipped = 0;
+        self.left = 0;
+        self.lent = 0;
+    }
+}
+
+/// Appends a byte to the bytes held, or puts it in their place where they were read whole.
+fn store(buffer: &mut Vec<u8>, finished: bool, byte: u8)
+    requires some { 0 < vec_capacity buffer.old }
+    requires room { finished ≡ false → vec_len buffer.old < vec_capacity buffer.old }
+    ensures items { buffer.new.items ≡ (if finished then [] else buffer.old.items) ++ byte ∷ [] }
+    ensures room { vec_capacity buffer.old ≤ vec_capacity buffer.new }
+{
+    if finished {
+        buffer.clear();
+    }
+    match buffer.push(byte) {
+        Ok(()) => {}
+        Err(_) => unreachable!(),
+    }
+}
+
+/// The row that fits at the front of the bytes, which begin at the offset `at`.
+fn row(bytes: &[u8], max: u16, at: u64) -> Step
+    ensures row { (lost : Bool) → row_at max (place_untold at lost bytes.now)
+        ≡ row_of_step result (place_untold at lost bytes.now) }
+    ensures found { Found max at bytes.now result }
+{
+    if bytes.is_empty() {
+        return Step::Unfinished;
+    }
+    if !is_start(bytes[0]) {
+        return Step::Skips;
+    }
+    let Some(front) = bytes.first_chunk::<8>() else {
+        return Step::Unfinished;
+    };
+    match Header::parse(front) {
+        Ok(header) => row_after_header(bytes, max, at, header),
+        Err(HeaderFault::NotAStart) => Step::Skips,
+        Err(HeaderFault::Check) => Step::Fails,
+        Err(HeaderFault::BadType(code)) => {
+            Step::Gives(Item::Format(at, HeaderFault::BadType(code)), 0)
+        }
+        Err(HeaderFault::CountZero) => Step::Gives(Item::Format(at, HeaderFault::CountZero), 0),
+    }
+}
+
+/// The row that fits after a right header.
+fn row_after_header(bytes: &[u8], max: u16, at: u64, header: Header) -> Step
+    requires front { 8 ≤ length bytes.now }
+    requires header { parsed (take 8 bytes.now) ≡ Ok header }
+    ensures row { (lost : Bool)
+        → by_count max (place_untold at lost bytes.now) header (count_in header)
+        ≡ row_of_step result (place_untold at lost bytes.now) }
+    ensures found { Found max at bytes.now result }
+{
+    let Some(count) = count_of(&header) else {
+        return Step::Gives(Item::Good(at, header), 0);
+    };
+    if count > max as usize {
+        return Step::Announces(header, count);
+    }
+    if bytes.len() < count + 10 {
+        return Step::Unfinished;
+    }
+    if data_right(bytes, count) {
+        Step::Gives(Item::Good(at, header), count)
+    } else {
+        Step::Gives(Item::DataCheck(at, header), 0)
+    }
+}

@@ -1,0 +1,317 @@
+//! A scan of a line for frames, step by step. `Reader` is what callers see of it.
+ghost use Rattle.std.specs.Prelude.{◌≡◌, ◌+◌, ◌<◌, ◌≤◌, ◌^◌, ◌++◌, ℕ, true, false, length, slice_index, None, vec_len, vec_capacity};
+ghost use Rattle.ddcmp_frame.specs.Spelling.{is_start as is_start_byte};
+ghost use Rattle.ddcmp_frame.specs.Reader.{open_of, kept_of};
+ghost use Rattle.ddcmp_frame.specs.Scan.{IsSound, IsCandidate, Takes, TakesAll, view_of};
+
+use crate::header::{Header, HeaderFault, is_start};
+use crate::held::{count_of, data_right, loss, resume};
+use crate::item::{Item, Taken};
+
+/// What the next byte belongs to.
+#[derive(Clone, Copy)]
+pub(crate) enum Phase {
+    /// A header, if it is a start byte. The frame in the buffer was read whole.
+    Seeking,
+    /// The header that begins in the buffer.
+    Header,
+    /// The data, or their check, of the frame that begins in the buffer with this header.
+    Frame { header: Header, count: usize },
+    /// A too long frame: how many of its bytes have come, and how many are to come.
+    TooLong { skipped: usize, left: usize },
+}
+
+/// What eight bytes from a start byte on are.
+#[derive(Clone, Copy)]
+enum Candidate {
+    /// Their check is wrong.
+    Fails,
+    /// A whole frame, or a header that none is.
+    Gives(Item),
+    /// The header of a frame with this COUNT.
+    Begins(Header, usize),
+    /// The header of a frame with this COUNT, which is more than the reader takes.
+    Announces(Header, usize),
+}
+
+/// The bytes of the last frame so far, and where the scan stands.
+#[derive(Drop)]
+pub(crate) struct Scan {
+    pub(crate) max: u16,
+    pub(crate) offset: u64,
+    pub(crate) lost: bool,
+    pub(crate) buffer: Vec<u8>,
+    pub(crate) phase: Phase,
+    // How many bytes of data after the header are lent.
+    pub(crate) lent: usize,
+}
+
+impl Scan {
+    /// Takes bytes of a piece, up to the first that gives an item.
+    pub(crate) fn take_all(&mut self, piece: &[u8]) -> Taken
+        requires sound { IsSound self.old }
+        requires fits { self.old.offset + length piece.now < 2 ^ 64 }
+        requires lent { self.old.lent ≡ 0 }
+        ensures sound { IsSound self.new }
+        ensures takes { TakesAll (view_of self.old) piece.now result.used result.item
+            (view_of self.new) }
+    {
+        let mut used = 0;
+        while used < piece.len() {
+            let taken = self.take(&piece[used..]);
+            used += taken.used;
+            match taken.item {
+                None => {}
+                Some(_) => {
+                    return Taken {
+                        used,
+                        item: taken.item,
+                    };
+                }
+            }
+        }
+        Taken { used, item: None }
+    }
+
+    /// Takes at least one byte of a piece, and at most those that belong to the same phase.
+    pub(crate) fn take(&mut self, piece: &[u8]) -> Taken
+        requires sound { IsSound self.old }
+        requires some { 0 < length piece.now }
+        requires fits { self.old.offset + length piece.now < 2 ^ 64 }
+        requires lent { self.old.lent ≡ 0 }
+        ensures sound { IsSound self.new }
+        ensures lent { result.item ≡ None → self.new.lent ≡ 0 }
+        ensures takes { Takes (view_of self.old) piece.now result.used result.item
+            (view_of self.new) }
+    {
+        match self.phase {
+            Phase::Seeking => self.seek(piece),
+            Phase::Header => self.take_header(piece),
+            Phase::Frame { header, count } => self.take_data(piece, header, count),
+            Phase::TooLong { skipped, left } => self.pass(piece, skipped, left),
+        }
+    }
+
+    /// Passes over bytes up to the next start byte, which is the first of a header.
+    fn seek(&mut self, piece: &[u8]) -> Taken
+        requires sound { IsSound self.old }
+        requires phase { self.old.phase ≡ Phase.Seeking }
+        requires some { 0 < length piece.now }
+        requires fits { self.old.offset + length piece.now < 2 ^ 64 }
+        requires lent { self.old.lent ≡ 0 }
+        ensures sound { IsSound self.new }
+        ensures lent { self.new.lent ≡ 0 }
+        ensures takes { Takes (view_of self.old) piece.now result.used result.item
+            (view_of self.new) }
+    {
+        let other = before_start(piece);
+        if other == piece.len() {
+            self.offset += other as u64;
+            return Taken {
+                used: other,
+                item: None,
+            };
+        }
+        self.buffer.clear();
+        keep(&mut self.buffer, &piece[other..other + 1]);
+        self.offset += other as u64 + 1;
+        self.phase = Phase::Header;
+        Taken {
+            used: other + 1,
+            item: None,
+        }
+    }
+
+    /// Takes bytes of a header. The eighth decides what follows.
+    fn take_header(&mut self, piece: &[u8]) -> Taken
+        requires sound { IsSound self.old }
+        requires phase { self.old.phase ≡ Phase.Header }
+        requires some { 0 < length piece.now }
+        requires fits { self.old.offset + length piece.now < 2 ^ 64 }
+        requires lent { self.old.lent ≡ 0 }
+        ensures sound { IsSound self.new }
+        ensures lent { self.new.lent ≡ 0 }
+        ensures takes { Takes (view_of self.old) piece.now result.used result.item
+            (view_of self.new) }
+    {
+        let used = piece.len().min(8 - self.buffer.len());
+        keep(&mut self.buffer, &piece[..used]);
+        self.offset += used as u64;
+        let Some(front) = self.buffer.first_chunk::<8>() else {
+            return Taken { used, item: None };
+        };
+        let at = self.offset - 8;
+        match candidate_at(front, self.max, at) {
+            Candidate::Fails => {
+                let item = loss(self.lost, at);
+                self.lost = true;
+                resume(&mut self.buffer);
+                self.phase = phase_of(&self.buffer);
+                Taken { used, item }
+            }
+            Candidate::Gives(item) => {
+                self.lost = false;
+                self.phase = Phase::Seeking;
+                Taken {
+                    used,
+                    item: Some(item),
+                }
+            }
+            Candidate::Begins(header, count) => {
+                self.phase = Phase::Frame { header, count };
+                Taken { used, item: None }
+            }
+            Candidate::Announces(header, count) => {
+                self.phase = Phase::TooLong {
+                    skipped: 8,
+                    left: count + 2,
+                };
+                Taken {
+                    used,
+                    item: Some(Item::TooLong(at, header)),
+                }
+            }
+        }
+    }
+
+    /// Takes bytes of the data and their check. The last one gives the item of the frame.
+    fn take_data(&mut self, piece: &[u8], header: Header, count: usize) -> Taken
+        requires sound { IsSound self.old }
+        requires phase { self.old.phase ≡ Phase.Frame header count }
+        requires some { 0 < length piece.now }
+        requires fits { self.old.offset + length piece.now < 2 ^ 64 }
+        requires lent { self.old.lent ≡ 0 }
+        ensures sound { IsSound self.new }
+        ensures lent { result.item ≡ None → self.new.lent ≡ 0 }
+        ensures takes { Takes (view_of self.old) piece.now result.used result.item
+            (view_of self.new) }
+    {
+        let used = piece.len().min(count + 10 - self.buffer.len());
+        keep(&mut self.buffer, &piece[..used]);
+        self.offset += used as u64;
+        if self.buffer.len() < count + 10 {
+            return Taken { used, item: None };
+        }
+        self.lost = false;
+        self.phase = Phase::Seeking;
+        let at = self.offset - self.buffer.len() as u64;
+        if !data_right(&self.buffer, count) {
+            return Taken {
+                used,
+                item: Some(Item::DataCheck(at, header)),
+            };
+        }
+        self.lent = count;
+        Taken {
+            used,
+            item: Some(Item::Good(at, header)),
+        }
+    }
+
+    /// Passes over bytes of a too long frame.
+    fn pass(&mut self, piece: &[u8], skipped: usize, left: usize) -> Taken
+        requires sound { IsSound self.old }
+        requires phase { self.old.phase ≡ Phase.TooLong skipped left }
+        requires some { 0 < length piece.now }
+        requires fits { self.old.offset + length piece.now < 2 ^ 64 }
+        requires lent { self.old.lent ≡ 0 }
+        ensures sound { IsSound self.new }
+        ensures lent { self.new.lent ≡ 0 }
+        ensures takes { Takes (view_of self.old) piece.now result.used result.item
+            (view_of self.new) }
+    {
+        let used = piece.len().min(left);
+        self.offset += used as u64;
+        if used < left {
+            self.phase = Phase::TooLong {
+                skipped: skipped + used,
+                left: left - used,
+            };
+            return Taken { used, item: None };
+        }
+        self.lost = false;
+        self.phase = Phase::Seeking;
+        Taken { used, item: None }
+    }
+
+    /// The number of bytes of the unfinished frame that are kept.
+    pub(crate) fn kept(&self) -> usize
+        requires sound { IsSound self.now }
+        ensures value { result ≡ kept_of (view_of self.now) }
+        ensures within { result ≤ self.now.max + 10 }
+    {
+        match self.phase {
+            Phase::Header | Phase::Frame { .. } => self.buffer.len(),
+            Phase::Seeking | Phase::TooLong { .. } => 0,
+        }
+    }
+
+    /// The number of bytes of the unfinished frame.
+    pub(crate) fn open(&self) -> usize
+        requires sound { IsSound self.now }
+        ensures value { result ≡ open_of (view_of self.now) }
+    {
+        match self.phase {
+            Phase::TooLong { skipped, .. } => skipped,
+            Phase::Seeking | Phase::Header | Phase::Frame { .. } => self.kept(),
+        }
+    }
+}
+
+/// How many bytes stand before the first start byte.
+fn before_start(piece: &[u8]) -> usize
+    ensures within { result ≤ length piece.now }
+    ensures other { (i : ℕ) → i < result → is_start_byte (slice_index piece.now i) ≡ false }
+    ensures start { result < length piece.now
+        → is_start_byte (slice_index piece.now result) ≡ true }
+{
+    let mut n = 0;
+    while n < piece.len() && !is_start(piece[n]) {
+        n += 1;
+    }
+    n
+}
+
+/// What the next byte belongs to where these are held, which begin with a start byte.
+fn phase_of(held: &[u8]) -> Phase
+    ensures none { length held.now ≡ 0 → result ≡ Phase.Seeking }
+    ensures some { 0 < length held.now → result ≡ Phase.Header }
+{
+    if held.is_empty() {
+        Phase::Seeking
+    } else {
+        Phase::Header
+    }
+}
+
+/// Appends bytes for which there is room.
+fn keep(buffer: &mut Vec<u8>, bytes: &[u8])
+    requires room { vec_len buffer.old + length bytes.now ≤ vec_capacity buffer.old }
+    ensures items { buffer.new.items ≡ buffer.old.items ++ bytes.now }
+    ensures room { vec_capacity buffer.old ≤ vec_capacity buffer.new }
+{
+    match buffer.extend_from_slice(bytes) {
+        Ok(()) => {}
+        Err(_) => unreachable!(),
+    }
+}
+
+/// What eight bytes are that begin with a start byte, at the offset `at`.
+fn candidate_at(front: &[u8; 8], max: u16, at: u64) -> Candidate
+    requires start { is_start_byte (slice_index front.now 0) ≡ true }
+    ensures { IsCandidate max at front.now result }
+{
+    match Header::parse(front) {
+        Ok(header) => match count_of(&header) {
+            None => Candidate::Gives(Item::Good(at, header)),
+            Some(count) if count > max as usize => Candidate::Announces(header, count),
+            Some(count) => Candidate::Begins(header, count),
+        },
+        Err(HeaderFault::Check) => Candidate::Fails,
+        Err(HeaderFault::BadType(code)) => {
+            Candidate::Gives(Item::Format(at, HeaderFault::BadType(code)))
+        }
+        Err(HeaderFault::CountZero) => Candidate::Gives(Item::Format(at, HeaderFault::CountZero)),
+        Err(HeaderFault::NotAStart) => unreachable!(),
+    }
+}
