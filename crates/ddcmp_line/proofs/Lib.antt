@@ -1,5 +1,6 @@
 pub mod Feeding
 pub mod Frames
+pub mod Limits
 pub mod Lines
 pub mod Places
 pub mod Runs

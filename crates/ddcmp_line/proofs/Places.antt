@@ -155,7 +155,7 @@ unfolding place_from
 place_from-none [] sent = refl
 place_from-none (f ∷ fs) sent = place_from-none fs sent
 
-place-stays : (fs sent more : List WholeFrame) (place : Option ℕ) (n : ℕ) → place_from place fs sent ≡ Some n → place_from place fs (sent ++ more) ≡ Some n
+pub place-stays : (fs sent more : List WholeFrame) (place : Option ℕ) (n : ℕ) → place_from place fs sent ≡ Some n → place_from place fs (sent ++ more) ≡ Some n
 unfolding place_from
 place-stays [] sent more place n e = e
 place-stays (f ∷ fs) sent more None n e = absurd (let z = sym (place_from-none fs sent) ∙ e in cc)

@@ -4,6 +4,7 @@
 mod bytes;
 mod ends;
 mod event;
+pub mod laws;
 mod pair;
 mod running;
 mod settling;

@@ -34,6 +34,7 @@ impl Pair {
     ghost use Rattle.ddcmp_frame.specs.Reader.{StandsFor};
     ghost use Rattle.ddcmp_core.specs.Store.{with_front};
     ghost use Rattle.ddcmp_station.specs.Config.{first_refusal};
+    ghost use Rattle.ddcmp_line.specs.declared.event.End.{End as EndValue};
     ghost use Rattle.ddcmp_line.specs.Run.{new_pair, after_event, reply_to, asks_memory, at, handed_up, is_clean};
 
     /// Two stations begun over an empty line.
@@ -71,6 +72,8 @@ impl Pair {
         // Want of memory leaves all as it was, and is answered to no event that asks for none.
         ensures memory { OnErr result (self.new ≡ self.old) }
         ensures asks { asks_memory event self.old ≡ false → IsOk result }
+        ensures limits { (end : EndValue) → (at end self.new).core.limits
+            ≡ (at end self.old).core.limits }
     {
         self.ends.apply(&event)
     }
@@ -82,6 +85,8 @@ impl Pair {
         // Want of memory leaves all as it was, and is answered to no event that asks for none.
         ensures memory { OnErr result (self.new ≡ self.old) }
         ensures asks { asks_memory event.now self.old ≡ false → IsOk result }
+        ensures limits { (end : EndValue) → (at end self.new).core.limits
+            ≡ (at end self.old).core.limits }
     {
         self.ends.apply(event)
     }

@@ -47,7 +47,7 @@ pub fn run(
         ⊎ ((refusal ≡ ConfigRefusal.Memory) × (first_refusal second ≡ None))) }
 {
     let mut pair = match Pair::new(alloc, first, second) {
-        Ok(pair) => pair,
+        Ok(made) => made,
         Err(PairRefusal::First(refusal)) => return Err(RunRefusal::First(refusal)),
         Err(PairRefusal::Second(refusal)) => return Err(RunRefusal::Second(refusal)),
     };

@@ -14,7 +14,8 @@ pub struct Settled {
 
 impl Pair {
     ghost use Rattle.std.specs.Prelude.{◌≡◌, IsOk, IfOk, OnErr};
-    ghost use Rattle.ddcmp_line.specs.Run.{run};
+    ghost use Rattle.ddcmp_line.specs.declared.event.End.{End as EndValue};
+    ghost use Rattle.ddcmp_line.specs.Run.{at, run};
     ghost use Rattle.ddcmp_line.specs.Settle.{settling, settled, exchange, either_writes, crossing, writes, mail_events, StoppedAmong};
 
     /// Takes all mail, and then carries frames to and fro until neither end writes one. What was
@@ -24,6 +25,17 @@ impl Pair {
         ensures exchanges { IfOk result (λ s. s.exchanges ≡ (settling self.old).exchanges) }
         ensures quiet { IfOk result (λ s. s.quiet ≡ (settling self.old).quiet) }
         // On want of memory some of its events were done, each of them whole.
+        ensures memory { OnErr result (StoppedAmong (settling self.old).events self.old self.new) }
+        ensures limits { (end : EndValue) → (at end self.new).core.limits
+            ≡ (at end self.old).core.limits }
+    {
+        self.settle_all()
+    }
+
+    fn settle_all(&mut self) -> Result<Settled, Memory>
+        ensures state { IsOk result → self.new ≡ settled self.old }
+        ensures exchanges { IfOk result (λ s. s.exchanges ≡ (settling self.old).exchanges) }
+        ensures quiet { IfOk result (λ s. s.quiet ≡ (settling self.old).quiet) }
         ensures memory { OnErr result (StoppedAmong (settling self.old).events self.old self.new) }
     {
         let most = 16 * (self.window() as u32 + 4);

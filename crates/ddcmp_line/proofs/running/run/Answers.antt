@@ -10,4 +10,4 @@ loop-done-init c = sym (run-none _)
 pub loop-done-preserved : goal.loop-done-preserved
 loop-done-preserved c =
     c.in-Ok-apply.ensures.state refl ∙ ap (λ (e : Event). after_event e c.loop-done.pair) c.index-events-done.is ∙ ap (after_event _) c.loop-done.invariant
-    ∙ sym (run-next c.args.events.now c.loop-done.done c.index-events-done.result c.in-Ok.pair (omega arith))
+    ∙ sym (run-next c.args.events.now c.loop-done.done c.index-events-done.result c.in-Ok.made (omega arith))

@@ -2,7 +2,7 @@ use Rattle.std.proofs.Common.{◌≡◌}
 use Rattle.ddcmp_line.specs.Run.{run}
 use Rattle.ddcmp_line.specs.Settle.{all_mail, most_exchanges}
 use Rattle.ddcmp_line.proofs.Settles.{LeftToSettle}
-use Rattle.ddcmp_line.proofs.pair.Pair.settle.Given as goal
+use Rattle.ddcmp_line.proofs.pair.Pair.settle_all.Given as goal
 
 abbrev pub invariant-loop-exchanges : goal.invariant-loop-exchanges
 invariant-loop-exchanges l = record {
