@@ -1,7 +1,7 @@
 pub mod Config
 pub mod Bytes
 pub mod Station
-pub mod OneByte
+pub mod OnePart
 pub mod UserCalls
 pub mod Driving
 pub mod Turns

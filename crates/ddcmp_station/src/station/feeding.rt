@@ -3,7 +3,7 @@ ghost use Rattle.std.specs.Prelude.{◌≡◌};
 
 use crate::station::Station;
 use ddcmp_core::{Input, Notice};
-use ddcmp_frame::Item;
+use ddcmp_frame::{Item, Taken};
 
 /// What a station made of a piece of its line.
 #[derive(Clone, Copy, Debug, PartialEq, Eq)]
@@ -19,7 +19,7 @@ impl Station {
     ghost use Rattle.ddcmp_frame.specs.Reader.{StandsFor, LentBeside};
     ghost use Rattle.ddcmp_core.specs.Table.{acknowledged_by};
     ghost use Rattle.ddcmp_station.specs.Bytes.{after_piece, notices_of_piece, after_item, notices_of_item};
-    ghost use Rattle.ddcmp_station.specs.OneByte.{TakesByte};
+    ghost use Rattle.ddcmp_station.specs.OnePart.{TakesPart};
 
     /// Takes bytes of the line, up to the first that gives a notice.
     pub fn feed(&mut self, piece: &[u8]) -> Fed
@@ -46,31 +46,31 @@ impl Station {
         ensures limits { self.new.core.limits ≡ self.old.core.limits }
         ensures syn { self.new.syn ≡ self.old.syn }
     {
-        for (i, byte) in piece.iter().enumerate() {
-            match self.take_byte(*byte) {
+        let mut used = 0;
+        while used < piece.len() {
+            let (part, notice) = self.take_part(&piece[used..]);
+            used += part;
+            match notice {
                 None => {}
-                Some(notice) => {
-                    return Fed {
-                        used: i + 1,
-                        notice: Some(notice),
-                    };
-                }
+                Some(_) => return Fed { used, notice },
             }
         }
-        Fed {
-            used: piece.len(),
-            notice: None,
-        }
+        Fed { used, notice: None }
     }
 
-    /// Takes one byte of the line: the notice that it gives.
-    fn take_byte(&mut self, byte: u8) -> Option<Notice>
-        requires { self.old.line.offset + 1 < 2 ^ 64 }
-        ensures { TakesByte self.old byte self.new result }
+    /// Takes bytes of the line up to the first that completes an item: how many they are, and the
+    /// notice that the item gives.
+    fn take_part(&mut self, piece: &[u8]) -> (usize, Option<Notice>)
+        requires some { 0 < length piece.now }
+        requires fits { self.old.line.offset + length piece.now < 2 ^ 64 }
+        ensures used { result.0 ≤ length piece.now }
+        ensures some { 0 < result.0 }
+        ensures takes { TakesPart self.old (take result.0 piece.now) self.new result.1 }
     {
-        match self.reader.push(byte) {
-            None => None,
-            Some(item) => self.take_item(item),
+        let Taken { used, item } = self.reader.push_all(piece);
+        match item {
+            None => (used, None),
+            Some(item) => (used, self.take_item(item)),
         }
     }
 

@@ -1,5 +1,12 @@
+use Rattle.std.proofs.Common.{◌-◌, ◌≤◌, length}
 use Rattle.ddcmp_station.proofs.FeedLaws.{FedPart}
 use Rattle.ddcmp_station.proofs.station.Station.feed.Given as goal
 
-abbrev pub invariant-loop-i : goal.invariant-loop-i
-invariant-loop-i l = FedPart l.initial.self l.piece l.i l.self
+abbrev pub invariant-loop-used : goal.invariant-loop-used
+invariant-loop-used l = record {
+  within : l.used ≤ length l.piece;
+  fed : FedPart l.initial.self l.piece l.used l.self;
+}
+
+abbrev pub decreases-loop-used : goal.decreases-loop-used
+decreases-loop-used l = length l.piece - l.used
