@@ -5,3 +5,4 @@ pub mod Lines
 pub mod Places
 pub mod Runs
 pub mod Settles
+pub mod Subsequences

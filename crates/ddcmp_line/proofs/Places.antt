@@ -150,7 +150,7 @@ after-stays f sent more place n e = by (first_index f (drop place sent)) refl e
     by (Some i) h p = ap (λ t. option_map (λ j. place + j + 1) (first_index f t)) (inside i h)
         ∙ ap (option_map (λ j. place + j + 1)) (first-stays f (drop place sent) more i h) ∙ p
 
-place_from-none : (fs sent : List WholeFrame) → place_from None fs sent ≡ None
+pub place_from-none : (fs sent : List WholeFrame) → place_from None fs sent ≡ None
 unfolding place_from
 place_from-none [] sent = refl
 place_from-none (f ∷ fs) sent = place_from-none fs sent

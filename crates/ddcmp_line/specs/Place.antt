@@ -1,5 +1,5 @@
 -- Where the frames that arrived stand among those that were sent.
-use Rattle.std.specs.Prelude.{ℕ, ◌+◌, Bool, true, false, ◌&&◌, ◌==◌, List, [], ◌∷◌, drop, if◌then◌else◌, Option, Some, None, option_map, option_and_then}
+use Rattle.std.specs.Prelude.{◌≡◌, ℕ, ◌+◌, ◌⊎◌, Bool, true, false, ◌&&◌, ◌==◌, List, [], ◌∷◌, drop, if◌then◌else◌, Option, Some, None, option_map, option_and_then}
 use Rattle.ddcmp_frame.specs.Fields.{ShortFields, CountedFields}
 use Rattle.ddcmp_frame.specs.Spelling.{type_code}
 use Rattle.ddcmp_frame.specs.declared.item.Item.{Item}
@@ -77,3 +77,10 @@ place_next (Some (item.HeaderCheck o)) lent sent place = place
 place_next (Some (item.DataCheck o h)) lent sent place = place
 place_next (Some (item.TooLong o h)) lent sent place = place
 place_next (Some (item.Format o f)) lent sent place = place
+
+-- frames stand among others in their order, not necessarily side by side
+abbrev pub IsSubsequence : List WholeFrame → List WholeFrame → Type 0
+IsSubsequence [] sent = Unit {0}
+IsSubsequence (f ∷ fs) [] = ⊥
+IsSubsequence (f ∷ fs) (g ∷ sent) =
+    ((f ≡ g) × IsSubsequence fs sent) ⊎ IsSubsequence (f ∷ fs) sent

@@ -1,6 +1,6 @@
 //! Laws of a line: functions that do nothing, whose contracts are the laws.
-ghost use Rattle.std.specs.Prelude.{◌≡◌, ◌↔◌, ℕ, List, [], ◌∷◌, ◌++◌, IsTrue, Some, option_and_then};
-ghost use Rattle.ddcmp_line.specs.Place.{WholeFrame, same_frame, place_after, place_of};
+ghost use Rattle.std.specs.Prelude.{◌≡◌, ◌↔◌, ℕ, List, [], ◌∷◌, ◌++◌, IsTrue, Some, is_some, option_and_then};
+ghost use Rattle.ddcmp_line.specs.Place.{WholeFrame, same_frame, place_after, place_of, IsSubsequence};
 ghost use Rattle.ddcmp_line.specs.declared.event.Event.{Event as EventValue};
 ghost use Rattle.ddcmp_line.specs.declared.event.End.{End as EndValue};
 ghost use Rattle.ddcmp_line.specs.Run.{PairState, at, run};
@@ -18,6 +18,12 @@ pub fn place_goes_on()
     ensures arrived { (arrived sent : List WholeFrame) (f : WholeFrame)
         → place_of (arrived ++ f ∷ []) sent
         ≡ option_and_then (place_after f sent) (place_of arrived sent) }
+{}
+
+/// Frames have a place among those that were sent exactly where they are a subsequence of them.
+pub fn place_is_of_a_subsequence()
+    ensures { (arrived sent : List WholeFrame) → IsTrue (is_some (place_of arrived sent))
+        ↔ IsSubsequence arrived sent }
 {}
 
 /// A list of events is as good as its parts, one after another, and no event changes the limits of
