@@ -1,4 +1,5 @@
 pub mod TextLaws
+mod ValueLaws
 pub mod DigitLaws
 pub mod DecodingLaws
 pub mod LinesLaws
