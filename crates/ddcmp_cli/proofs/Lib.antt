@@ -1,4 +1,5 @@
 pub mod TextLaws
+pub mod HexValues
 pub mod DigitLaws
 pub mod DecodingLaws
 pub mod LinesLaws

@@ -1,10 +1,11 @@
 //! The bytes that an input spells, piece by piece.
 ghost use Rattle.std.specs.Prelude.{◌≡◌, ◌≤◌, ◌<◌, IfSome, List, ℕ, None, length, option_to_list};
 ghost use Rattle.std.specs.Option.{ForSome};
-ghost use Rattle.ddcmp_cli.specs.Digits.{hex_value as value_of, is_blank as is_blank_byte};
+ghost use Rattle.ddcmp_cli.specs.Digits.{is_blank as is_blank_byte};
 ghost use Rattle.ddcmp_cli.specs.Digits.{left_in, unexpected_in};
 
 use crate::form::Form;
+use crate::hex_digits::hex_value;
 
 /// Turns an input in either form into bytes, and keeps the digit that is left over.
 #[derive(Drop)]
@@ -90,17 +91,6 @@ impl Decoder {
             count,
             unexpected: None,
         }
-    }
-}
-
-/// The value of a hexadecimal digit of either case.
-fn hex_value(byte: u8) -> Option<u8>
-    ensures value { result ≡ value_of byte }
-    ensures small { IfSome result (λ v. v < 16) }
-{
-    match char::from(byte).to_digit(16) {
-        Some(value) => Some(value as u8),
-        None => None,
     }
 }
 
