@@ -1,5 +1,5 @@
 pub mod TextLaws
-mod ValueLaws
+pub mod HexValues
 pub mod DigitLaws
 pub mod DecodingLaws
 pub mod LinesLaws

@@ -10,6 +10,7 @@ pub mod explain_fault;
 mod explainer;
 pub mod explaining;
 pub mod form;
+mod hex_digits;
 mod lines;
 pub mod program;
 mod text;

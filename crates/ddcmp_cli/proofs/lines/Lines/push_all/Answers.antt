@@ -1,4 +1,4 @@
-use Rattle.std.proofs.Common.{◌≡◌, ◌+◌, ◌-◌, subst, arith, ◌∙◌, length, take, drop, length-drop}
+use Rattle.std.proofs.Common.{◌-◌, subst, arith, ◌∙◌, length, drop, length-drop}
 use Rattle.std.proofs.lemmas.List.{length-take}
 use Rattle.ddcmp_cli.specs.Progress.{HasTold}
 use Rattle.ddcmp_cli.proofs.LinesLaws.{taken-more}
