@@ -2,7 +2,10 @@ pub mod Feeding
 pub mod Frames
 pub mod Limits
 pub mod Lines
+pub mod Links
+pub mod Modulo
 pub mod Places
+pub mod Reached
 pub mod Runs
 pub mod Settles
 pub mod Subsequences

@@ -1,4 +1,6 @@
+pub mod Link
 pub mod Place
+pub mod Prefix
 pub mod Run
 pub mod Settle
 pub mod Sides

@@ -1,9 +1,13 @@
 //! Laws of a line: functions that do nothing, whose contracts are the laws.
-ghost use Rattle.std.specs.Prelude.{◌≡◌, ◌↔◌, ℕ, List, [], ◌∷◌, ◌++◌, IsTrue, Some, is_some, option_and_then};
+ghost use Rattle.std.specs.Prelude.{◌≡◌, ◌↔◌, ℕ, ◌+◌, ◌-◌, ◌%◌, ◌≤◌, List, [], ◌∷◌, ◌++◌, length, IsTrue, Some, is_some, option_and_then};
+ghost use Rattle.ddcmp_core.specs.Sequence.{distance, Within};
+ghost use Rattle.ddcmp_core.specs.Numbers.{next_number};
 ghost use Rattle.ddcmp_line.specs.Place.{WholeFrame, same_frame, place_after, place_of, IsSubsequence};
 ghost use Rattle.ddcmp_line.specs.declared.event.Event.{Event as EventValue};
 ghost use Rattle.ddcmp_line.specs.declared.event.End.{End as EndValue};
 ghost use Rattle.ddcmp_line.specs.Run.{PairState, at, run};
+ghost use Rattle.ddcmp_line.specs.Prefix.{IsPrefixOf};
+ghost use Rattle.ddcmp_line.specs.Link.{Link, IsReached};
 
 /// The test of two frames passes exactly where header and data are equal.
 pub fn frames_are_compared_whole()
@@ -33,4 +37,38 @@ pub fn runs()
         → run (first ++ second) p ≡ run second (run first p) }
     ensures limits { (events : List EventValue) (p : PairState) (end : EndValue)
         → (at end (run events p)).core.limits ≡ (at end p).core.limits }
+{}
+
+/// In every run of one direction of a link, whatever is lost and whatever the window, the messages
+/// handed up are a beginning of those given, and no more is acknowledged than was handed up. What
+/// was handed up was sent, what was sent was given, and at most a window of it isn't acknowledged.
+pub fn in_order_on_a_link()
+    ensures order { (window : ℕ) (l : Link) → IsReached window l
+        → IsPrefixOf l.handed_up l.given }
+    ensures counts { (window : ℕ) (l : Link) → IsReached window l
+        → (l.acknowledged ≤ length l.handed_up) × (length l.handed_up ≤ l.sent)
+        × (l.sent ≤ length l.given) }
+    ensures outstanding { (window : ℕ) (l : Link) → IsReached window l
+        → l.sent ≤ l.acknowledged + window }
+{}
+
+/// With a window of at most 255, numbers modulo 256 tell what numbers without bound would. The
+/// position that arrives first differs from the next one by at most the window, so it is the next
+/// one exactly where its number is the next number. (With a window of 256 the first message, sent
+/// again, would be taken for message 257.) The count that comes back first lies, by its number too,
+/// between what is acknowledged and what was sent, and tells how many messages it newly
+/// acknowledges.
+pub fn numbers_tell_positions()
+    ensures near { (window k : ℕ) (later : List ℕ) (l : Link) → IsReached window l
+        → l.forward ≡ k ∷ later
+        → (length l.handed_up + 1 ≤ k + window) × (k ≤ length l.handed_up + window) }
+    ensures next { (window k : ℕ) (later : List ℕ) (l : Link) → window ≤ 255
+        → IsReached window l → l.forward ≡ k ∷ later
+        → (k % 256 ≡ next_number (length l.handed_up % 256)) ↔ (k ≡ length l.handed_up + 1) }
+    ensures within { (window q : ℕ) (later : List ℕ) (l : Link) → window ≤ 255
+        → IsReached window l → l.back ≡ q ∷ later
+        → Within (l.acknowledged % 256) (q % 256) (l.sent % 256) }
+    ensures newly { (window q : ℕ) (later : List ℕ) (l : Link) → window ≤ 255
+        → IsReached window l → l.back ≡ q ∷ later
+        → distance (l.acknowledged % 256) (q % 256) ≡ q - l.acknowledged }
 {}

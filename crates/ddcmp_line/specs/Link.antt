@@ -1,0 +1,93 @@
+-- One direction of a link: what is left of a line once its frames, timers and startup are put aside
+-- and numbers have no bound. The messages given are numbered from 1; such a number is a position.
+use Rattle.std.specs.Prelude.{◌≡◌, ℕ, ◌+◌, ◌-◌, max, Bool, ◌&&◌, if◌then◌else◌, nat_le, nat_lt, ◌==◌, List, [], ◌∷◌, ◌++◌, length, remove, slice_index_or}
+
+-- The messages given at one end, how many of them were acknowledged to it, and the highest position
+-- that it sent; the messages handed up at the other end; and what is on its way, in the order in
+-- which it arrives: positions forward, and back the counts of messages handed up.
+pub record Link : Type 0 where
+  pub given : List (List ℕ)
+  pub acknowledged : ℕ
+  pub sent : ℕ
+  pub handed_up : List (List ℕ)
+  pub forward : List ℕ
+  pub back : List ℕ
+
+-- A link by its parts, in that order.
+abbrev pub link_of : List (List ℕ) → ℕ → ℕ → List (List ℕ) → List ℕ → List ℕ → Link
+link_of given acknowledged sent handed_up forward back = record {
+  given = given;
+  acknowledged = acknowledged;
+  sent = sent;
+  handed_up = handed_up;
+  forward = forward;
+  back = back;
+}
+
+-- nothing is given, sent or on its way
+abbrev pub new_link : Link
+new_link = link_of [] 0 0 [] [] []
+
+-- What happens on a link, in any order: a message is given; a position is sent; the count of
+-- messages handed up is sent back; the position or the count at some place on its way, counted from
+-- 0, is lost; the first position or the first count arrives. A message that finds no room, or comes
+-- before its end runs, is a loss too.
+pub data Move : Type 0 where
+  Give : List ℕ → Move
+  Send : ℕ → Move
+  Answer : Move
+  LoseForward : ℕ → Move
+  LoseBack : ℕ → Move
+  ForwardComes : Move
+  BackComes : Move
+
+-- Position k may be sent, and sent again, where it isn't acknowledged, it leaves no gap behind the
+-- highest one sent, its message was given, and the window allows it.
+abbrev pub may_send_position : ℕ → ℕ → Link → Bool
+may_send_position window k l =
+    nat_lt l.acknowledged k && (nat_le k (l.sent + 1)
+    && (nat_le k (length l.given) && nat_le k (l.acknowledged + window)))
+
+-- it goes last on its way
+abbrev pub after_send_position : ℕ → Link → Link
+after_send_position k l = record l { sent = max l.sent k; forward = l.forward ++ k ∷ [] }
+
+-- message k of those given; a position that was sent has one
+abbrev pub message_at : ℕ → List (List ℕ) → List ℕ
+message_at k given = slice_index_or given (k - 1) []
+
+-- A position that arrives hands its message up where it is the next one, and else does nothing.
+abbrev pub handed_up_by : ℕ → Link → List (List ℕ)
+handed_up_by k l =
+    if k == length l.handed_up + 1 then l.handed_up ++ message_at k l.given ∷ []
+    else l.handed_up
+
+abbrev pub after_forward_comes : List ℕ → Link → Link
+after_forward_comes [] l = l
+after_forward_comes (k ∷ later) l = record l { handed_up = handed_up_by k l; forward = later }
+
+-- A count that arrives acknowledges as many messages, where fewer are acknowledged.
+abbrev pub after_back_comes : List ℕ → Link → Link
+after_back_comes [] l = l
+after_back_comes (q ∷ later) l = record l { acknowledged = max l.acknowledged q; back = later }
+
+-- A link after a move. A position that may not be sent is passed over.
+abbrev pub after_move : ℕ → Move → Link → Link
+after_move window (Give message) l = record l { given = l.given ++ message ∷ [] }
+after_move window (Send k) l =
+    if may_send_position window k l then after_send_position k l else l
+after_move window Answer l = record l { back = l.back ++ length l.handed_up ∷ [] }
+after_move window (LoseForward i) l = record l { forward = remove l.forward i }
+after_move window (LoseBack i) l = record l { back = remove l.back i }
+after_move window ForwardComes l = after_forward_comes l.forward l
+after_move window BackComes l = after_back_comes l.back l
+
+-- one move after another
+unfoldable pub after_moves : ℕ → List Move → Link → Link
+after_moves window [] l = l
+after_moves window (m ∷ later) l = after_moves window later (after_move window m l)
+
+-- a link to which some run leads from the beginning
+pub record IsReached (window : ℕ) (l : Link) : Type 0 where
+  pub moves : List Move
+  pub leads : after_moves window moves new_link ≡ l
