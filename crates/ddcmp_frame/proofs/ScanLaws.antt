@@ -427,6 +427,36 @@ header-taken s piece used x sound phase within eight is =
       more = λ at front. header-more s (take used piece) x at sound phase is (omega arith) front;
     }
 
+-- the eighth byte of a header came
+pub record EightTaken (s : Scan) (piece : List ℕ) (used : ℕ) (x : List ℕ) : Type 0 where
+  pub within : used ≤ length piece
+  pub taken : length (take used piece) ≡ used
+  pub eight : length x ≡ 8
+  pub before : 8 ≤ s.offset + used
+  pub more : HeaderMore s (take used piece) x (s.offset + used - 8)
+
+pub eight-taken : (s : Scan) (piece : List ℕ) (used : ℕ) (x : List ℕ) → IsSound s → s.phase ≡ phase.Header → used ≤ length piece → length s.buffer.items + used ≤ 8 → x ≡ s.buffer.items ++ take used piece → 8 ≤ length x → EightTaken s piece used x
+eight-taken s piece used x sound phase within few is full =
+    let t = header-taken s piece used x sound phase within few is in
+    record {
+      within = within;
+      taken = t.taken;
+      eight = omega (arith, t.len);
+      before = omega (arith, t.before, t.len);
+      more = t.more (s.offset + used - 8) (omega (arith, t.before, t.len));
+    }
+
+-- what a scan has after it took bytes, as its fields say
+pub after-taking : (v w : ReaderView) (piece : List ℕ) (used : ℕ) → length (take used piece) ≡ used → w.max ≡ v.max → w.offset ≡ v.offset + used → After v w (take used piece) w.lost w.bytes w.skipped w.left
+after-taking v w piece used taken same counted = record {
+  max = same;
+  counted = counted ∙ ap (λ n. v.offset + n) (sym taken);
+  lost = refl;
+  bytes = refl;
+  skipped = refl;
+  left = refl;
+}
+
 pub frame-short : (s : Scan) (h : Header) (n : ℕ) → IsSound s → s.phase ≡ phase.Frame h n → length s.buffer.items < n + 10
 frame-short s h n sound phase =
     let fits : HasFrame s.max h n s.buffer.items = subst (λ p. Fits s.max p s.buffer.items) phase sound.fits in
@@ -469,28 +499,41 @@ from-start-begins (b ∷ t) some = by (is_start b) refl (from-start-begins t) so
 
 -- what is held then
 pub record Resumed (max : ℕ) (p : Phase) (y : List ℕ) : Type 0 where
+  pub few : length y < 8
   pub bytes : bytes_in p y ≡ y
   pub skipped : skipped_in p ≡ 0
   pub left : left_in p ≡ 0
   pub fits : Fits max p y
 
-pub resumed : (max : ℕ) (p : Phase) (x y : List ℕ) → length x ≡ 8 → y ≡ from_start (drop 1 x) → (length y ≡ 0 → p ≡ phase.Seeking) → (0 < length y → p ≡ phase.Header) → Resumed max p y
-resumed max p x y eight is none some =
+pub resumed : (max : ℕ) (p : Phase) (x y seen : List ℕ) → length x ≡ 8 → y ≡ from_start (drop 1 x) → seen ≡ y → (length seen ≡ 0 → p ≡ phase.Seeking) → (0 < length seen → p ≡ phase.Header) → Resumed max p y
+resumed max p x y seen eight is same none some =
     let ly = ap length is in
     let short = from-start-short (drop 1 x) in
     let few : length y < 8 = omega (arith, length-drop 1 x) in
-    by y none some few (λ more. ap (λ t. is_start (slice_index t 0)) is ∙ from-start-begins (drop 1 x) (omega arith))
+    by y (subst (λ t. length t ≡ 0 → p ≡ phase.Seeking) same none) (subst (λ t. 0 < length t → p ≡ phase.Header) same some) few (λ more. ap (λ t. is_start (slice_index t 0)) is ∙ from-start-begins (drop 1 x) (omega arith))
   where
     by : (y : List ℕ) → (length y ≡ 0 → p ≡ phase.Seeking) → (0 < length y → p ≡ phase.Header) → length y < 8 → (0 < length y → is_start (slice_index y 0) ≡ true) → Resumed max p y
     by [] none some few start =
-        subst (λ q. Resumed max q []) (sym (none refl)) (record { bytes = refl; skipped = refl; left = refl; fits = tt })
+        subst (λ q. Resumed max q []) (sym (none refl)) (record { few = few; bytes = refl; skipped = refl; left = refl; fits = tt })
     by (b ∷ t) none some few start =
         let more : 0 < length (b ∷ t) = omega arith in
-        subst (λ q. Resumed max q (b ∷ t)) (sym (some more)) (record { bytes = refl; skipped = refl; left = refl; fits = record { some = more; few = few; start = start more } })
+        subst (λ q. Resumed max q (b ∷ t)) (sym (some more)) (record { few = few; bytes = refl; skipped = refl; left = refl; fits = record { some = more; few = few; start = start more } })
 
 pub loss-lends : (at : ℕ) (lost : Bool) (given : Option Item) (lent : List ℕ) → LossTold at lost given → lent ≡ [] → LentBeside given lent
 loss-lends at lost given lent told none =
     elim told [ inl yes_lost ↦ subst (λ g. LentBeside g lent) (sym yes_lost.1) none | inr not_lost ↦ subst (λ g. LentBeside g lent) (sym not_lost.1) none ]
+
+-- a step that gives an item
+pub takes-item : (v w : ReaderView) (piece : List ℕ) (used : ℕ) (given : Option Item) → used ≤ length piece → 0 < used → w.offset ≡ v.offset + used → w.max ≡ v.max → LentBeside given w.lent → length w.lent ≤ v.max → ((text : List ℕ) → StandsFor v text → GrowsBy v (take used piece) given w text) → Takes v piece used given w
+takes-item v w piece used given within some counted same lent lent_within grows = record {
+  within = within;
+  some = some;
+  counted = counted;
+  max = same;
+  lent = lent;
+  lent_within = lent_within;
+  grows = grows;
+}
 
 -- ---- step after step
 

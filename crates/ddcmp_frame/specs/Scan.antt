@@ -1,5 +1,5 @@
 -- What a scan of a line holds, and what its steps do.
-use Rattle.std.specs.Prelude.{◌≡◌, ℕ, ◌+◌, ◌<◌, ◌≤◌, Bool, true, false, List, [], ◌∷◌, ◌++◌, length, take, drop, slice_index, Option, Some, None, Ok, Err, vec_len, vec_capacity}
+use Rattle.std.specs.Prelude.{◌≡◌, ℕ, ◌+◌, ◌<◌, ◌≤◌, ◌^◌, Bool, true, false, List, [], ◌∷◌, ◌++◌, length, take, drop, slice_index, Option, Some, None, Ok, Err, vec_len, vec_capacity}
 use Rattle.ddcmp_num.specs.declared.limits.TheConstants.{MAX_COUNT}
 use Rattle.ddcmp_frame.specs.declared.header.Header.{Header as HeaderValue}
 use Rattle.ddcmp_frame.specs.declared.header.HeaderFault.TheVariants.{Check}
@@ -79,6 +79,13 @@ pub record IsSound (s : Scan) : Type 0 where
   pub fits : Fits s.max s.phase s.buffer.items
   pub lent : 0 < s.lent → 8 + s.lent ≤ vec_len s.buffer
   pub lent_within : s.lent ≤ s.max
+
+-- It lends nothing, and there is a piece to take from.
+pub record IsReady (s : Scan) (piece : List ℕ) : Type 0 where
+  pub sound : IsSound s
+  pub lent : s.lent ≡ 0
+  pub some : 0 < length piece
+  pub fits : s.offset + length piece < 2 ^ 64
 
 -- ---- what eight bytes are
 

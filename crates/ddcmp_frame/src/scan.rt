@@ -2,7 +2,7 @@
 ghost use Rattle.std.specs.Prelude.{◌≡◌, ◌+◌, ◌<◌, ◌≤◌, ◌^◌, ◌++◌, ℕ, true, false, length, slice_index, None, vec_len, vec_capacity};
 ghost use Rattle.ddcmp_frame.specs.Spelling.{is_start as is_start_byte};
 ghost use Rattle.ddcmp_frame.specs.Reader.{open_of, kept_of};
-ghost use Rattle.ddcmp_frame.specs.Scan.{IsSound, IsCandidate, Takes, TakesAll, view_of};
+ghost use Rattle.ddcmp_frame.specs.Scan.{IsSound, IsReady, IsCandidate, Takes, TakesAll, view_of};
 
 use crate::header::{Header, HeaderFault, is_start};
 use crate::held::{count_of, data_right, loss, resume};
@@ -75,10 +75,7 @@ impl Scan {
 
     /// Takes at least one byte of a piece, and at most those that belong to the same phase.
     pub(crate) fn take(&mut self, piece: &[u8]) -> Taken
-        requires sound { IsSound self.old }
-        requires some { 0 < length piece.now }
-        requires fits { self.old.offset + length piece.now < 2 ^ 64 }
-        requires lent { self.old.lent ≡ 0 }
+        requires ready { IsReady self.old piece.now }
         ensures sound { IsSound self.new }
         ensures lent { result.item ≡ None → self.new.lent ≡ 0 }
         ensures takes { Takes (view_of self.old) piece.now result.used result.item
@@ -94,11 +91,8 @@ impl Scan {
 
     /// Passes over bytes up to the next start byte, which is the first of a header.
     fn seek(&mut self, piece: &[u8]) -> Taken
-        requires sound { IsSound self.old }
+        requires ready { IsReady self.old piece.now }
         requires phase { self.old.phase ≡ Phase.Seeking }
-        requires some { 0 < length piece.now }
-        requires fits { self.old.offset + length piece.now < 2 ^ 64 }
-        requires lent { self.old.lent ≡ 0 }
         ensures sound { IsSound self.new }
         ensures lent { self.new.lent ≡ 0 }
         ensures takes { Takes (view_of self.old) piece.now result.used result.item
@@ -124,11 +118,8 @@ impl Scan {
 
     /// Takes bytes of a header. The eighth decides what follows.
     fn take_header(&mut self, piece: &[u8]) -> Taken
-        requires sound { IsSound self.old }
+        requires ready { IsReady self.old piece.now }
         requires phase { self.old.phase ≡ Phase.Header }
-        requires some { 0 < length piece.now }
-        requires fits { self.old.offset + length piece.now < 2 ^ 64 }
-        requires lent { self.old.lent ≡ 0 }
         ensures sound { IsSound self.new }
         ensures lent { self.new.lent ≡ 0 }
         ensures takes { Takes (view_of self.old) piece.now result.used result.item
@@ -176,11 +167,8 @@ impl Scan {
 
     /// Takes bytes of the data and their check. The last one gives the item of the frame.
     fn take_data(&mut self, piece: &[u8], header: Header, count: usize) -> Taken
-        requires sound { IsSound self.old }
+        requires ready { IsReady self.old piece.now }
         requires phase { self.old.phase ≡ Phase.Frame header count }
-        requires some { 0 < length piece.now }
-        requires fits { self.old.offset + length piece.now < 2 ^ 64 }
-        requires lent { self.old.lent ≡ 0 }
         ensures sound { IsSound self.new }
         ensures lent { result.item ≡ None → self.new.lent ≡ 0 }
         ensures takes { Takes (view_of self.old) piece.now result.used result.item
@@ -210,11 +198,8 @@ impl Scan {
 
     /// Passes over bytes of a too long frame.
     fn pass(&mut self, piece: &[u8], skipped: usize, left: usize) -> Taken
-        requires sound { IsSound self.old }
+        requires ready { IsReady self.old piece.now }
         requires phase { self.old.phase ≡ Phase.TooLong skipped left }
-        requires some { 0 < length piece.now }
-        requires fits { self.old.offset + length piece.now < 2 ^ 64 }
-        requires lent { self.old.lent ≡ 0 }
         ensures sound { IsSound self.new }
         ensures lent { self.new.lent ≡ 0 }
         ensures takes { Takes (view_of self.old) piece.now result.used result.item
