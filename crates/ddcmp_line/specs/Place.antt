@@ -72,7 +72,8 @@ place_of arrived sent = place_from (Some 0) arrived sent
 -- the place after what a byte gave
 abbrev pub place_next : Option Item → List ℕ → List WholeFrame → Option ℕ → Option ℕ
 place_next None lent sent place = place
-place_next (Some (item.Good o h)) lent sent place = option_and_then (place_after (h, lent) sent) place
+place_next (Some (item.Good o h)) lent sent place =
+    option_and_then (place_after (h, lent) sent) place
 place_next (Some (item.HeaderCheck o)) lent sent place = place
 place_next (Some (item.DataCheck o h)) lent sent place = place
 place_next (Some (item.TooLong o h)) lent sent place = place

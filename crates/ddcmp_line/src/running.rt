@@ -31,8 +31,7 @@ pub fn run(
         → result ≡ Err (RunRefusal.Memory done pair) → (done < length events.now)
         × (pair ≡ run_of (take done events.now) (new_pair first second)) }
 
-    // The first size that is out of range is refused, and no station is refused else but for want of
-    // memory.
+    // The first size that is out of range is refused; else no station is, but for want of memory.
     ensures first_size { (refusal : ConfigRefusal) → first_refusal first ≡ Some refusal → result
         ≡ Err (RunRefusal.First refusal) }
     ensures second_size { (refusal : ConfigRefusal) → first_refusal first ≡ None
