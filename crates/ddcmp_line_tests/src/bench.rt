@@ -1,7 +1,10 @@
 //! A pair to which things are done one after another: what is answered, and what has been done in
 //! the end.
+ghost use Rattle.std.specs.Prelude.{◌≤◌};
+
 use ddcmp_line::{
-    Bytes, Config, End, Event, Notice, Pair, Reply, SendRefusal, Seq, StartRefusal, State, Station,
+    Bytes, Config, End, Event, Memory, Notice, Pair, Reply, SendRefusal, Seq, Settled,
+    StartRefusal, State, Station,
 };
 use std::alloc::{AllocError, Global};
 use std::process::Abort;
@@ -79,7 +82,8 @@ pub enum Answer<'a> {
     ClearRefused(StartRefusal),
     /// The exchanges that were counted, and whether the line is quiet.
     Settled(u32, bool),
-    /// The numbers R, N, A, T, the messages kept and those in the inbox, and whether the timer is on.
+    /// The numbers R, N, A, T; how many messages are kept, and how many wait in the inbox; whether
+    /// the timer is on.
     Station(State, [u8; 4], u8, u8, bool),
 }
 
@@ -164,14 +168,20 @@ pub fn look(station: &Station) -> Answer<'static> {
     )
 }
 
+/// The most bytes of a message at any end.
+const LONGEST: usize = 16383;
+
 /// A pair of which each step finds memory.
 #[derive(Drop)]
 pub struct Bench {
     pub pair: Pair,
+    ghost longest_a: { pair.a.core.limits.longest ≤ 16383 },
+    ghost longest_b: { pair.b.core.limits.longest ≤ 16383 },
 }
 
 impl Bench {
     pub fn new(rt: &(impl Abort + AllocGlobal), first: Config, second: Config) -> Bench {
+        assert!(rt; first.max <= 16383 && second.max <= 16383);
         match Pair::new(rt.alloc(), first, second) {
             Ok(pair) => Bench { pair },
             Err(refusal) => panic!(rt; "{refusal:?} of {first:?} and {second:?}"),
@@ -189,7 +199,7 @@ impl Bench {
     pub fn plays(&mut self, rt: &(impl Abort + AllocGlobal), steps: &[Step]) {
         for (i, (action, answer)) in steps.iter().enumerate() {
             match action {
-                Action::Settle => match self.pair.settle() {
+                Action::Settle => match self.settle() {
                     Ok(s) => assert_eq!(rt; Answer::Settled(s.exchanges, s.quiet), *answer, "{i}"),
                     Err(refused) => panic!(rt; "{refused:?} at {i}"),
                 },
@@ -199,12 +209,22 @@ impl Bench {
         }
     }
 
+    /// An event, which may find no memory.
+    pub fn step(&mut self, event: Event) -> Result<Reply, Memory> {
+        self.pair.step(event)
+    }
+
+    /// A settle, which may find no memory.
+    pub fn settle(&mut self) -> Result<Settled, Memory> {
+        self.pair.settle()
+    }
+
     /// The reply to an event.
     fn does(&mut self, rt: &(impl Abort + AllocGlobal), action: Action) -> Reply {
         let Ok(Some(event)) = event_of(rt.alloc(), action) else {
             panic!(rt; "no event of {action:?}");
         };
-        match self.pair.step(event) {
+        match self.step(event) {
             Ok(reply) => reply,
             Err(refused) => panic!(rt; "{refused:?}"),
         }
@@ -226,7 +246,7 @@ impl Bench {
 
     /// These bytes arrive, with this answer.
     pub fn arrives(&mut self, rt: &impl Abort, to: End, bytes: Bytes, answer: Answer<'_>) {
-        match self.pair.step(Event::Arrive(to, bytes)) {
+        match self.step(Event::Arrive(to, bytes)) {
             Ok(reply) => assert_eq!(rt; answer_of(&reply), answer),
             Err(refused) => panic!(rt; "{refused:?}"),
         }
@@ -246,8 +266,11 @@ impl Bench {
         );
         assert_eq!(rt; self.pair.acknowledged(End::A), times as u64);
         assert_eq!(rt; self.pair.acknowledged(End::B), 0);
-        for i in 0..self.pair.given(End::A) {
+        let mut out = [0; LONGEST];
+        for i in 0..times {
+            assert!(rt; i < self.pair.given(End::A));
             assert_eq!(rt; self.pair.given_at(End::A, i), message, "{i}");
+            assert_eq!(rt; self.handed_up_at(rt, End::B, i, &mut out), message, "{i}");
         }
     }
 
@@ -275,7 +298,32 @@ impl Bench {
     }
 
     fn has_handed_up(&self, rt: &impl Abort, end: End, messages: &[&[u8]]) {
+        let mut out = [0; LONGEST];
         assert_eq!(rt; self.pair.handed_up(end), messages.len(), "{end:?}");
+        for (i, message) in messages.iter().enumerate() {
+            assert_eq!(rt;
+                self.handed_up_at(rt, end, i, &mut out),
+                *message,
+                "{end:?} {i}"
+            );
+        }
+    }
+
+    /// Message `i` of those handed up at an end, in `out`.
+    fn handed_up_at<'a>(
+        &self,
+        rt: &impl Abort,
+        end: End,
+        i: usize,
+        out: &'a mut [u8; LONGEST],
+    ) -> &'a [u8] {
+        assert!(rt; i < self.pair.handed_up(end));
+        let length = match end {
+            End::A => self.pair.handed_up_at(End::A, i, out),
+            End::B => self.pair.handed_up_at(End::B, i, out),
+        };
+        assert!(rt; length <= LONGEST);
+        &out[..length]
     }
 }
 

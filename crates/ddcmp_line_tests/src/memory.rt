@@ -107,7 +107,7 @@ impl Patient {
         for (action, answer) in steps {
             let event = self.event(rt, *action);
             let before = tells(&self.bench.pair);
-            match self.bench.pair.step(event) {
+            match self.bench.step(event) {
                 Ok(reply) => assert_eq!(rt; answer_of(&reply), *answer, "{action:?}"),
                 Err(_memory) => {
                     self.refused = true;
@@ -120,7 +120,7 @@ impl Patient {
 
     /// The settle is done, or some of its steps are.
     fn settles(&mut self, rt: &(impl Abort + AllocGlobal)) {
-        match self.bench.pair.settle() {
+        match self.bench.settle() {
             Ok(settled) => {
                 let exchanges = 1;
                 assert_eq!(rt;
@@ -134,7 +134,7 @@ impl Patient {
             Err(_memory) => {
                 self.refused = true;
                 assert!(rt; is_among_settling(rt, &tells(&self.bench.pair)));
-                match self.bench.pair.settle() {
+                match self.bench.settle() {
                     Ok(settled) => assert!(rt; settled.quiet),
                     Err(_memory) => panic!(rt; "memory is refused twice"),
                 }
@@ -205,6 +205,13 @@ fn is_refused_to_a_settle(rt: &(impl Abort + AllocGlobal)) -> bool {
     patient.refused
 }
 
+/// The pair tells what one tells after these steps.
+fn is_after(rt: &(impl Abort + AllocGlobal), pair: &Pair, steps: &[Step]) {
+    let mut bench = Bench::new(rt, USUAL, USUAL);
+    bench.plays(rt, steps);
+    assert_eq!(rt; tells(pair), tells(&bench.pair));
+}
+
 /// Whether memory is refused to a run, or to its events.
 fn is_refused_to_a_run(rt: &(impl Abort + AllocGlobal)) -> bool {
     let path = path_of_one_message();
@@ -213,7 +220,7 @@ fn is_refused_to_a_run(rt: &(impl Abort + AllocGlobal)) -> bool {
     };
     match run(rt.alloc(), USUAL, USUAL, &events) {
         Ok(pair) => {
-            (Bench { pair }).has(rt, &ARRIVED);
+            is_after(rt, &pair, &path);
             false
         }
         Err(RunRefusal::First(refusal)) | Err(RunRefusal::Second(refusal)) => {
@@ -222,9 +229,7 @@ fn is_refused_to_a_run(rt: &(impl Abort + AllocGlobal)) -> bool {
         }
         Err(RunRefusal::Memory { done, pair }) => {
             assert!(rt; done < path.len());
-            let mut bench = Bench::new(rt, USUAL, USUAL);
-            bench.plays(rt, &path[..done]);
-            assert_eq!(rt; tells(&pair), tells(&bench.pair), "{done} events");
+            is_after(rt, &pair, &path[..done]);
             true
         }
     }
