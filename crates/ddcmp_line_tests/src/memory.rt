@@ -1,0 +1,266 @@
+//! One allocation is refused, wherever it comes. Run outside the gate, with one allocation refused
+//! after another; in the gate none is.
+use crate::bench::{
+    ACK_2, Action, Answer, Bench, DATA_1, DATA_2, EMPTY, HANDED_UP, Histories, STARTUP, Step,
+    USUAL, answer_of, event_of,
+};
+use crate::calls::{ARRIVED, events_of, path_of_one_message};
+use ddcmp_line::{
+    ConfigRefusal, End, Event, Notice, Pair, PairRefusal, RunRefusal, Seq, Settled, run,
+};
+use ddcmp_station::{Counters, Header, Numbers, State};
+use std::process::Abort;
+
+/// What an end of a pair tells.
+#[derive(Clone, Copy, Debug, PartialEq, Eq)]
+struct ToldByEnd {
+    given: usize,
+    handed_up: usize,
+    acknowledged: u64,
+    state: State,
+    numbers: Numbers,
+    outgoing: u8,
+    waiting: u8,
+    timer_on: bool,
+    counters: Counters,
+    next_header: Option<Header>,
+    held: usize,
+    open: usize,
+    offset: u64,
+}
+
+/// What a pair tells.
+#[derive(Clone, Copy, Debug, PartialEq, Eq)]
+struct Told {
+    honest: bool,
+    clean: bool,
+    a: ToldByEnd,
+    b: ToldByEnd,
+}
+
+fn told_by(pair: &Pair, end: End) -> ToldByEnd {
+    let station = pair.station(end);
+    ToldByEnd {
+        given: pair.given(end),
+        handed_up: pair.handed_up(end),
+        acknowledged: pair.acknowledged(end),
+        state: station.state(),
+        numbers: station.numbers(),
+        outgoing: station.outgoing(),
+        waiting: station.waiting(),
+        timer_on: station.timer_on(),
+        counters: *station.counters(),
+        next_header: station.next_header(),
+        held: station.held(),
+        open: station.open(),
+        offset: station.offset(),
+    }
+}
+
+fn tells(pair: &Pair) -> Told {
+    Told {
+        honest: pair.honest(),
+        clean: pair.clean(),
+        a: told_by(pair, End::A),
+        b: told_by(pair, End::B),
+    }
+}
+
+/// A pair that does again what was refused for want of memory, and whether any was.
+#[derive(Drop)]
+struct Patient {
+    bench: Bench,
+    refused: bool,
+}
+
+impl Patient {
+    fn new(rt: &(impl Abort + AllocGlobal)) -> Patient {
+        match Pair::new(rt.alloc(), USUAL, USUAL) {
+            Ok(pair) => Patient {
+                bench: Bench { pair },
+                refused: false,
+            },
+            Err(PairRefusal::First(refusal)) | Err(PairRefusal::Second(refusal)) => {
+                assert_eq!(rt; refusal, ConfigRefusal::Memory);
+                Patient {
+                    bench: Bench::new(rt, USUAL, USUAL),
+                    refused: true,
+                }
+            }
+        }
+    }
+
+    /// An event of the test's own.
+    fn event(&mut self, rt: &(impl Abort + AllocGlobal), action: Action) -> Event {
+        let event = match event_of(rt.alloc(), action) {
+            Ok(event) => event,
+            Err(_refused) => {
+                self.refused = true;
+                event_of(rt.alloc(), action).expect(rt, "memory is refused twice")
+            }
+        };
+        event.expect(rt, "no event")
+    }
+
+    /// Each step is answered, or nothing has changed.
+    fn plays(&mut self, rt: &(impl Abort + AllocGlobal), steps: &[Step]) {
+        for (action, answer) in steps {
+            let event = self.event(rt, *action);
+            let before = tells(&self.bench.pair);
+            match self.bench.step(event) {
+                Ok(reply) => assert_eq!(rt; answer_of(&reply), *answer, "{action:?}"),
+                Err(_memory) => {
+                    self.refused = true;
+                    assert_eq!(rt; tells(&self.bench.pair), before, "{action:?}");
+                    self.bench.plays(rt, &[(*action, *answer)]);
+                }
+            }
+        }
+    }
+
+    /// The settle is done, or some of its steps are.
+    fn settles(&mut self, rt: &(impl Abort + AllocGlobal)) {
+        match self.bench.settle() {
+            Ok(settled) => {
+                let exchanges = 1;
+                assert_eq!(rt;
+                    settled,
+                    Settled {
+                        exchanges,
+                        quiet: true
+                    }
+                );
+            }
+            Err(_memory) => {
+                self.refused = true;
+                assert!(rt; is_among_settling(rt, &tells(&self.bench.pair)));
+                match self.bench.settle() {
+                    Ok(settled) => assert!(rt; settled.quiet),
+                    Err(_memory) => panic!(rt; "memory is refused twice"),
+                }
+            }
+        }
+    }
+}
+
+/// A message waits in B's inbox, and A is to send another.
+const TO_SETTLE: [Step; 4] = [
+    (Action::Send(End::A, b"abc"), Answer::Accepted(Seq(1))),
+    (Action::Poll(End::A), Answer::Wrote(DATA_1)),
+    (Action::Arrive(End::B, DATA_1), HANDED_UP),
+    (Action::Send(End::A, b"abc"), Answer::Accepted(Seq(2))),
+];
+
+/// What a settle does then.
+const SETTLING: [Step; 8] = [
+    (Action::Take(End::B), Answer::Took(b"abc")),
+    (Action::Poll(End::A), Answer::Wrote(DATA_2)),
+    (Action::Arrive(End::B, DATA_2), HANDED_UP),
+    (Action::Take(End::B), Answer::Took(b"abc")),
+    (Action::Poll(End::B), Answer::Wrote(ACK_2)),
+    (
+        Action::Arrive(End::A, ACK_2),
+        Answer::Notices(&[Notice::Acknowledged(2)]),
+    ),
+    (Action::Poll(End::A), Answer::Idle),
+    (Action::Poll(End::B), Answer::Idle),
+];
+
+/// Whether a pair that was to settle tells this between two of the settle's steps.
+fn is_among_settling(rt: &(impl Abort + AllocGlobal), seen: &Told) -> bool {
+    let mut bench = Bench::running(rt, USUAL);
+    bench.plays(rt, &TO_SETTLE);
+    for step in &SETTLING {
+        if tells(&bench.pair) == *seen {
+            return true;
+        }
+        bench.plays(rt, &[*step]);
+    }
+    tells(&bench.pair) == *seen
+}
+
+/// Whether memory is refused on the path of one message.
+fn is_refused_to_steps(rt: &(impl Abort + AllocGlobal)) -> bool {
+    let mut patient = Patient::new(rt);
+    patient.plays(rt, &path_of_one_message());
+    patient.bench.has(rt, &ARRIVED);
+    patient.refused
+}
+
+/// Whether memory is refused on the way to a settle, or to it.
+fn is_refused_to_a_settle(rt: &(impl Abort + AllocGlobal)) -> bool {
+    let mut patient = Patient::new(rt);
+    patient.plays(rt, &STARTUP);
+    patient.plays(rt, &TO_SETTLE);
+    patient.settles(rt);
+    patient.bench.has(
+        rt,
+        &Histories {
+            given: [&[b"abc", b"abc"], &[]],
+            handed_up: [&[], &[b"abc", b"abc"]],
+            acknowledged: [2, 0],
+            ..EMPTY
+        },
+    );
+    patient.refused
+}
+
+/// The pair tells what one tells after these steps.
+fn is_after(rt: &(impl Abort + AllocGlobal), pair: &Pair, steps: &[Step]) {
+    let mut bench = Bench::new(rt, USUAL, USUAL);
+    bench.plays(rt, steps);
+    assert_eq!(rt; tells(pair), tells(&bench.pair));
+}
+
+/// Whether memory is refused to a run, or to its events.
+fn is_refused_to_a_run(rt: &(impl Abort + AllocGlobal)) -> bool {
+    let path = path_of_one_message();
+    let Ok(events) = events_of(rt.alloc(), &path) else {
+        return true;
+    };
+    match run(rt.alloc(), USUAL, USUAL, &events) {
+        Ok(pair) => {
+            is_after(rt, &pair, &path);
+            false
+        }
+        Err(RunRefusal::First(refusal)) | Err(RunRefusal::Second(refusal)) => {
+            assert_eq!(rt; refusal, ConfigRefusal::Memory);
+            true
+        }
+        Err(RunRefusal::Memory { done, pair }) => {
+            assert!(rt; done < path.len());
+            is_after(rt, &pair, &path[..done]);
+            true
+        }
+    }
+}
+
+#[test]
+fn refused_memory_leaves_a_pair(rt: HostRuntime) {
+    let _either = is_refused_to_steps(&rt);
+}
+
+#[test]
+fn refused_memory_stops_a_settle(rt: HostRuntime) {
+    let _either = is_refused_to_a_settle(&rt);
+}
+
+#[test]
+fn refused_memory_stops_a_run(rt: HostRuntime) {
+    let _either = is_refused_to_a_run(&rt);
+}
+
+#[test]
+fn ample_memory_steps(rt: HostRuntime) {
+    assert!(rt; !is_refused_to_steps(&rt));
+}
+
+#[test]
+fn ample_memory_settles(rt: HostRuntime) {
+    assert!(rt; !is_refused_to_a_settle(&rt));
+}
+
+#[test]
+fn ample_memory_runs(rt: HostRuntime) {
+    assert!(rt; !is_refused_to_a_run(&rt));
+}
