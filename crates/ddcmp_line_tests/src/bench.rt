@@ -2,9 +2,10 @@
 //! the end.
 ghost use Rattle.std.specs.Prelude.{◌≤◌};
 
+use ddcmp_line::laws::runs;
 use ddcmp_line::{
-    Bytes, Config, End, Event, Memory, Notice, Pair, Reply, SendRefusal, Seq, Settled,
-    StartRefusal, State, Station,
+    Bytes, Config, End, Event, Memory, Notice, Pair, Reply, RunRefusal, SendRefusal, Seq, Settled,
+    StartRefusal, State, Station, run,
 };
 use std::alloc::{AllocError, Global};
 use std::process::Abort;
@@ -185,6 +186,15 @@ impl Bench {
         match Pair::new(rt.alloc(), first, second) {
             Ok(pair) => Bench { pair },
             Err(refusal) => panic!(rt; "{refusal:?} of {first:?} and {second:?}"),
+        }
+    }
+
+    /// The pair of a run between ends of the usual sizes.
+    pub fn of_run(alloc: Global, events: &[Event]) -> Result<Bench, RunRefusal> {
+        runs();
+        match run(alloc, USUAL, USUAL, events) {
+            Ok(pair) => Ok(Bench { pair }),
+            Err(refusal) => Err(refusal),
         }
     }
 

@@ -157,10 +157,10 @@ pub const ARRIVED: Histories = Histories {
     ..EMPTY
 };
 
-/// The pair of a run of the usual sizes.
-fn runs(rt: &(impl Abort + AllocGlobal), events: &[Event]) -> Pair {
-    match run(rt.alloc(), USUAL, USUAL, events) {
-        Ok(pair) => pair,
+/// A run of these events is done, and then this has been done.
+fn runs(rt: &(impl Abort + AllocGlobal), events: &[Event], histories: &Histories) {
+    match Bench::of_run(rt.alloc(), events) {
+        Ok(bench) => bench.has(rt, histories),
         Err(RunRefusal::First(refusal)) | Err(RunRefusal::Second(refusal)) => {
             panic!(rt; "{refusal:?}")
         }
@@ -172,20 +172,10 @@ fn runs(rt: &(impl Abort + AllocGlobal), events: &[Event]) -> Pair {
 fn a_run_is_its_steps(rt: HostRuntime) -> Result<(), Fail> {
     let events = events_of(rt.alloc(), &path_of_one_message())?;
     assert_eq!(rt; events.len(), 14);
-    let pair = runs(&rt, &events);
-    assert_eq!(rt; (pair.given(End::A), pair.handed_up(End::B)), (1, 1));
-    assert_eq!(rt; pair.acknowledged(End::A), 1);
-    assert!(rt; pair.honest() && pair.clean());
+    runs(&rt, &events, &ARRIVED);
     holds(&rt, USUAL, 0, &path_of_one_message(), &ARRIVED);
+    runs(&rt, &[], &EMPTY);
     Ok(())
-}
-
-#[test]
-fn a_run_of_no_events(rt: HostRuntime) {
-    let pair = runs(&rt, &[]);
-    assert_eq!(rt; (pair.given(End::A), pair.handed_up(End::B)), (0, 0));
-    assert!(rt; pair.honest() && pair.clean());
-    assert_eq!(rt; pair.station(End::A).state(), State::Halted);
 }
 
 /// STRT, ACK 0 and NAK 16 with RESP 0, each after two bytes of fill.

@@ -5,9 +5,7 @@ use crate::bench::{
     USUAL, answer_of, event_of,
 };
 use crate::calls::{ARRIVED, events_of, path_of_one_message};
-use ddcmp_line::{
-    ConfigRefusal, End, Event, Notice, Pair, PairRefusal, RunRefusal, Seq, Settled, run,
-};
+use ddcmp_line::{ConfigRefusal, End, Event, Notice, Pair, PairRefusal, RunRefusal, Seq, Settled};
 use ddcmp_station::{Counters, Header, Numbers, State};
 use std::process::Abort;
 
@@ -218,9 +216,9 @@ fn is_refused_to_a_run(rt: &(impl Abort + AllocGlobal)) -> bool {
     let Ok(events) = events_of(rt.alloc(), &path) else {
         return true;
     };
-    match run(rt.alloc(), USUAL, USUAL, &events) {
-        Ok(pair) => {
-            is_after(rt, &pair, &path);
+    match Bench::of_run(rt.alloc(), &events) {
+        Ok(bench) => {
+            bench.has(rt, &ARRIVED);
             false
         }
         Err(RunRefusal::First(refusal)) | Err(RunRefusal::Second(refusal)) => {
