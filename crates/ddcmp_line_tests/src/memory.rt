@@ -116,7 +116,8 @@ impl Patient {
         }
     }
 
-    /// The settle is done, or some of its steps are.
+    /// The settle is done, or some of its steps are. A frame that was polled then and didn't arrive
+    /// is lost, so the line settles again, and twice more when the timers have run out.
     fn settles(&mut self, rt: &(impl Abort + AllocGlobal)) {
         match self.bench.settle() {
             Ok(settled) => {
@@ -132,12 +133,25 @@ impl Patient {
             Err(_memory) => {
                 self.refused = true;
                 assert!(rt; is_among_settling(rt, &tells(&self.bench.pair)));
-                match self.bench.settle() {
-                    Ok(settled) => assert!(rt; settled.quiet),
-                    Err(_memory) => panic!(rt; "memory is refused twice"),
-                }
+                self.settles_again(rt);
+                self.expires(rt);
+                self.settles_again(rt);
+                self.expires(rt);
+                self.settles_again(rt);
             }
         }
+    }
+
+    fn settles_again(&mut self, rt: &impl Abort) {
+        match self.bench.settle() {
+            Ok(settled) => assert!(rt; settled.quiet),
+            Err(_memory) => panic!(rt; "memory is refused twice"),
+        }
+    }
+
+    fn expires(&mut self, rt: &impl Abort) {
+        assert!(rt; self.bench.step(Event::Expire(End::A)).is_ok());
+        assert!(rt; self.bench.step(Event::Expire(End::B)).is_ok());
     }
 }
 
