@@ -140,6 +140,7 @@ fn the_widest_window_is_sent_again(rt: HostRuntime) {
     }
     bench.plays(&rt, &WINDOW_LOST);
     bench.has_many(&rt, b"a", 255);
+    assert!(rt; bench.pair.ready() && bench.pair.done());
 }
 
 /// Data message 2, `b`.
@@ -171,8 +172,10 @@ fn a_full_inbox_refuses(rt: HostRuntime) {
         acknowledged: [2, 0],
         ..EMPTY
     };
-    let config = Config { inbox: 1, ..USUAL };
-    holds(&rt, config, 8, &NO_ROOM, &histories);
+    let mut bench = Bench::running(&rt, Config { inbox: 1, ..USUAL });
+    bench.plays(&rt, &NO_ROOM);
+    bench.has(&rt, &histories);
+    assert!(rt; bench.pair.ready() && bench.pair.done());
 }
 
 /// A message that is an ACK 1, as its frame is written and as it comes with its header damaged.
