@@ -6,3 +6,4 @@ pub mod Sound
 pub mod TimedLaws
 pub mod StartLaws
 pub mod ToldLaws
+pub mod RestartLaws

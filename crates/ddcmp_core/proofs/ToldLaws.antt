@@ -11,14 +11,14 @@ use Rattle.ddcmp_core.specs.declared.notice.Notice.TheVariants as notice
 use Rattle.ddcmp_core.specs.Table.{StationState, Limits, Data, Acked, Naked, Rep, Strt, Stack, Maint, Received, Good, BadHeader, BadData, TooLong, BadFormat, newly_acknowledged, after_ack, takes_data, has_room, on_data, on_nak, on_by, on, after_startup, after_halt, after_restart, may_restart, on_strt, on_running, acknowledged_notice, data_notice, strt_notice, running_notice, notice_by, notice_of, acknowledged_by}
 use Rattle.ddcmp_core.specs.Core.{IsSound}
 
-number_told : (m : ℕ) → acknowledged_by (acknowledged_notice m) ≡ m
+pub number_told : (m : ℕ) → acknowledged_by (acknowledged_notice m) ≡ m
 number_told m = by (m == 0) refl
   where
     by : (b : Bool) → (m == 0) ≡ b → acknowledged_by (cond b None (Some (notice.Acknowledged m))) ≡ m
     by true e = let z : m ≡ 0 = grind (arith) in sym z
     by false e = refl
 
-number_told_data : (l : Limits) (s : StationState) (resp num : ℕ) → acknowledged_by (data_notice l s resp num) ≡ newly_acknowledged s resp
+pub number_told_data : (l : Limits) (s : StationState) (resp num : ℕ) → acknowledged_by (data_notice l s resp num) ≡ newly_acknowledged s resp
 number_told_data l s resp num = by (takes_data l s num)
   where
     one : (m : ℕ) (b : Bool) → (m == 0) ≡ b → acknowledged_by (Some (cond b notice.HandedUp (notice.HandedUpAndAcknowledged m))) ≡ m

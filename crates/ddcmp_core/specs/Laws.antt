@@ -1,8 +1,10 @@
 -- What the laws of one station say.
-use Rattle.std.specs.Prelude.{◌≡◌, ℕ, ◌+◌, ◌%◌, ◌<◌, ◌≤◌, List, [], length, slice_index_or}
+use Rattle.std.specs.Prelude.{◌≡◌, ℕ, ◌+◌, ◌%◌, ◌<◌, ◌≤◌, Bool, true, false, List, [], length, slice_index_or}
 use Rattle.ddcmp_num.specs.Sequence.{distance}
 use Rattle.ddcmp_core.specs.declared.state.State.{State}
 use Rattle.ddcmp_core.specs.declared.state.State.TheVariants.{IStart, AStart}
+use Rattle.ddcmp_core.specs.declared.notice.Notice.{Notice}
+use Rattle.ddcmp_core.specs.declared.notice.Notice.TheVariants as notice
 use Rattle.ddcmp_core.specs.Table.{StationState, Data, Acked, Stack, Received, Good, before_next}
 
 -- what makes a station run: a STACK, or, where it answered a STRT, an ACK or data with RESP 0
@@ -29,3 +31,14 @@ pub record HasNothing (s : StationState) : Type 0 where
   pub t : s.t ≡ 1
   pub out : s.out ≡ []
   pub inbox : s.inbox ≡ []
+
+-- that the peer began anew: this end halted, or it began anew too
+abbrev pub tells_restart : Notice → Bool
+tells_restart notice.PeerRestarted = true
+tells_restart (notice.Restarted dropped) = true
+tells_restart _ = false
+
+-- what comes is no good frame
+abbrev pub is_fault : Received → Bool
+is_fault (Good frame) = false
+is_fault _ = true

@@ -1,12 +1,13 @@
 //! Laws of the station's table. They hold whatever comes from the line.
-ghost use Rattle.std.specs.Prelude.{◌≡◌, ◌≢◌, ℕ, ◌+◌, ◌<◌, ◌≤◌, List, [], length, true};
+ghost use Rattle.std.specs.Prelude.{◌≡◌, ◌≢◌, ℕ, ◌+◌, ◌<◌, ◌≤◌, List, [], length, true, Some};
 ghost use Rattle.ddcmp_num.specs.Sequence.{distance};
 ghost use Rattle.ddcmp_window.specs.Store.{IsStored};
 ghost use Rattle.ddcmp_window.specs.Numbers.{next_number};
 ghost use Rattle.ddcmp_core.specs.declared.state.State.TheVariants.{Halted, IStart, AStart, Running, Maintenance};
-ghost use Rattle.ddcmp_core.specs.Table.{Limits, StationState, Frame, Data, Strt, Stack, Received, Next, Sends, new_station, on, notice_of, acknowledged_by, next, after_next, after_ack, newly_acknowledged, may_start, after_start, after_enter_maintenance, after_halt, may_send, may_send_maintenance, after_accept, after_take, after_expire, after_take_arm, is_starting};
+ghost use Rattle.ddcmp_core.specs.Table.{Limits, StationState, Frame, Data, Strt, Stack, Received, Good, Next, Sends, new_station, on, notice_of, acknowledged_by, next, after_next, after_ack, newly_acknowledged, may_start, after_start, after_enter_maintenance, after_halt, may_send, may_send_maintenance, after_accept, after_take, after_expire, after_take_arm, is_starting};
 ghost use Rattle.ddcmp_core.specs.Frames.{frame_of, header_of, message_of};
-ghost use Rattle.ddcmp_core.specs.Laws.{BeginsRunning, IsSentInWindow, HasNothing};
+ghost use Rattle.ddcmp_core.specs.declared.notice.Notice.{Notice as NoticeValue};
+ghost use Rattle.ddcmp_core.specs.Laws.{BeginsRunning, IsSentInWindow, HasNothing, tells_restart, is_fault};
 ghost use Rattle.ddcmp_frame.specs.Wire.{IsFrame};
 ghost use Rattle.ddcmp_frame.specs.Spelling.{IsInRange};
 ghost use Rattle.ddcmp_core.specs.Core.{IsSound, IsReceivable, IsTimed};
@@ -66,6 +67,17 @@ pub fn leaves_istart_for_good()
 pub fn runs_after_startup()
     ensures { (l : Limits) (s : StationState) (h : Received)
         → s.state ≢ Running → (on l s h).state ≡ Running → BeginsRunning s.state h }
+{}
+
+/// Only a STRT that comes to a running station tells that the peer began anew; no station runs
+/// after a STRT; and what is no good frame changes no state.
+pub fn stops_at_a_strt()
+    ensures told { (l : Limits) (s : StationState) (h : Received) (n : NoticeValue)
+        → notice_of l s h ≡ Some n → tells_restart n ≡ true → (s.state ≡ Running)
+        × (h ≡ Good Strt) }
+    ensures stops { (l : Limits) (s : StationState) → (on l s (Good Strt)).state ≢ Running }
+    ensures faults { (l : Limits) (s : StationState) (h : Received) → is_fault h ≡ true
+        → (on l s h).state ≡ s.state }
 {}
 
 /// A data message that is sent carries R, and is one of those kept, with a number from A + 1 to

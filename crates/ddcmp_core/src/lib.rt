@@ -15,7 +15,7 @@ pub use input::Input;
 pub use laws::{
     acknowledges_what_was_sent, begins_with_nothing, leaves_istart_for_good, runs_after_startup,
     sends_for_a_reason, sends_in_window, sends_what_is_read, starts_in_state, stays_sound,
-    stays_timed, tells_what_leaves,
+    stays_timed, stops_at_a_strt, tells_what_leaves,
 };
 pub use notice::Notice;
 pub use state::{Reply, State, Timer};

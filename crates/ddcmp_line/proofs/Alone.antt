@@ -1,19 +1,17 @@
 -- What holds of each end by itself, whatever comes from the line: its timer, and that an end which
 -- begins for the first time since the line was cleared has handed up nothing.
-use Rattle.std.proofs.Common.{◌≡◌, ◌≢◌, ℕ, ◌+◌, ◌<◌, ◌≤◌, min, Bool, true, false, cond, List, [], ◌∷◌, ◌++◌, length, drop, Option, Some, None, refl, sym, ap, ◌∙◌, subst, arith}
+use Rattle.std.proofs.Common.{◌≡◌, ℕ, ◌+◌, ◌≤◌, Bool, true, false, cond, List, [], ◌∷◌, ◌++◌, length, drop, Option, Some, None, refl, sym, ap, ◌∙◌, subst, arith}
 use Rattle.std.specs.Prelude.{◌&&◌, ◌==◌, is_none, option_to_list, if◌then◌else◌}
 use Rattle.std.proofs.lemmas.List.Sums.{sum_by-append}
 use Rattle.ddcmp_frame.specs.Reading.{ReadItem}
-use Rattle.ddcmp_core.specs.declared.notice.Notice.{Notice}
 use Rattle.ddcmp_core.specs.declared.notice.Notice.TheVariants as notice
 use Rattle.ddcmp_core.specs.declared.state.State.{State}
 use Rattle.ddcmp_core.specs.declared.state.State.TheVariants.{Halted, IStart, AStart, Running, Maintenance}
 use Rattle.ddcmp_core.specs.declared.state.Timer.TheVariants.{Off}
-use Rattle.ddcmp_core.specs.declared.station_core.StartRefusal.{StartRefusal}
 use Rattle.ddcmp_core.specs.declared.station_core.StartRefusal.TheVariants.{NotHalted, Untaken}
 use Rattle.ddcmp_core.specs.Numbers.{next_number, is_within}
 use Rattle.ddcmp_core.specs.Store.{first_message}
-use Rattle.ddcmp_core.specs.Table.{Limits, StationState, Data, Acked, Naked, Rep, Strt, Stack, Maint, Received, Good, BadHeader, BadData, TooLong, BadFormat, on_by, on, notice_by, notice_of, may_restart, after_restart, after_halt, after_ack, after_startup, on_data, start_refusal, may_start, after_start, may_send, after_accept, is_starting, is_halted, next, after_next, after_expire}
+use Rattle.ddcmp_core.specs.Table.{Limits, StationState, Data, Acked, Naked, Strt, Stack, Maint, Received, Good, on_by, on, notice_by, notice_of, may_restart, after_restart, after_halt, after_ack, after_startup, on_data, may_start, after_start, may_send, after_accept, is_starting, is_halted, next}
 use Rattle.ddcmp_core.specs.Counting.{count_plus}
 use Rattle.ddcmp_core.specs.Core.{CoreView, IsTimed}
 use Rattle.ddcmp_core.proofs.StartLaws.{next_state, expired_state}

@@ -1,10 +1,10 @@
 -- Half an exchange of a settle: a frame crosses, both ends stay as a settle finds them, and their
 -- numbers see that frame.
-use Rattle.std.proofs.Common.{◌≡◌, ◌≢◌, ◌⊎◌, inl, inr, ℕ, ◌+◌, ◌-◌, ◌%◌, ◌<◌, ◌≤◌, max, Bool, true, false, List, [], ◌∷◌, ◌++◌, length, Option, Some, None, refl, sym, ap, ◌∙◌, subst, arith, append-nil}
-use Rattle.std.specs.Prelude.{◌&&◌, ◌==◌, nat_le, is_some, option_map, option_to_list}
+use Rattle.std.proofs.Common.{◌≡◌, ◌⊎◌, ℕ, ◌+◌, ◌-◌, ◌%◌, ◌<◌, ◌≤◌, Bool, true, false, List, [], ◌∷◌, ◌++◌, length, refl, sym, ap, ◌∙◌, subst, arith, append-nil}
+use Rattle.std.specs.Prelude.{◌&&◌, nat_le, is_some, option_map, option_to_list}
 use Rattle.ddcmp_frame.specs.Reading.{good_frames}
 use Rattle.ddcmp_core.specs.Sequence.{distance}
-use Rattle.ddcmp_core.specs.declared.state.State.TheVariants.{Halted, IStart, AStart, Running, Maintenance}
+use Rattle.ddcmp_core.specs.declared.state.State.TheVariants.{AStart, Running}
 use Rattle.ddcmp_core.specs.Table.{Limits, StationState, Frame, Data, Acked, Naked, Rep, Strt, Stack, Good, Next, Idle, Sends, next, next_frame, after_next, before_next, message_at_next, on, on_by, notice_of, notice_by, acknowledged_by, is_starting}
 use Rattle.ddcmp_core.specs.NextFrame.{SentFor, sends_strt, sends_stack, sends_nak, sends_rep, sends_data, sends_ack, sends_maint, halted_idles, starting_idles, running_idles, maintenance_idles}
 use Rattle.ddcmp_core.proofs.Sent.{sending}
@@ -16,13 +16,13 @@ use Rattle.ddcmp_station.specs.Bytes.{frame_on_line}
 use Rattle.ddcmp_line.specs.declared.event.End.TheVariants.{B}
 use Rattle.ddcmp_line.specs.declared.event.Event.TheVariants.{Arrive}
 use Rattle.ddcmp_line.specs.Place.{place_of, WholeFrame}
-use Rattle.ddcmp_line.specs.Run.{EndState, PairState, handed_up, after_poll_here, is_honest_here, line_bytes, whole_frame, is_clean}
+use Rattle.ddcmp_line.specs.Run.{EndState, PairState, handed_up, after_poll_here, is_honest_here, line_bytes, whole_frame}
 use Rattle.ddcmp_line.proofs.WholeArrivals.{hears, arrives-as, still-closed, honest-arrival, no-restart, stays-awake}
-use Rattle.ddcmp_line.proofs.Crossings.{emptied, turned, crossed_by, crossed, half}
+use Rattle.ddcmp_line.proofs.Crossings.{emptied, turned, crossed_by, half}
 use Rattle.ddcmp_line.proofs.Numbering.{StandsForNumbers, sent_is, next_is, out_length}
 use Rattle.ddcmp_line.proofs.Views.{View, Ordered, Crossing, c_strt, c_stack, c_nak, c_rep, c_data, c_ack, c_waits, c_rests}
 use Rattle.ddcmp_line.proofs.Sees.{looks, same_test, sees_sent, sees_strt, sees_stack, sees_nak, sees_rep, sees_data, sees_ack}
-use Rattle.ddcmp_line.proofs.Steady.{Shows, IsKept, Settles, Steady, steady-turned, steady-shows, half-kept, inbox-sent, starts-same}
+use Rattle.ddcmp_line.proofs.Steady.{Shows, IsKept, Steady, steady-turned, steady-shows, half-kept, inbox-sent, starts-same}
 
 -- ---- one end
 

@@ -1,5 +1,5 @@
 -- The limits of both ends stay whatever happens.
-use Rattle.std.proofs.Common.{◌≡◌, List, [], ◌∷◌, refl, sym, ◌∙◌, ap, Option, Some, None}
+use Rattle.std.proofs.Common.{◌≡◌, List, [], ◌∷◌, refl, ◌∙◌, ap, Option, Some, None}
 use Rattle.std.specs.Prelude.{Result, Ok, Err, IsOk, OnErr}
 use Rattle.ddcmp_core.specs.declared.station_core.StartRefusal.{StartRefusal}
 use Rattle.ddcmp_station.proofs.FeedLaws.{after_piece-limits}

@@ -35,7 +35,7 @@ forward-next w k later l small r f =
     let n = forward-near w k later l r f in
     (λ e. next-near w (length l.handed_up) k small n.0 n.1 e, λ e. next-number (length l.handed_up) k e)
 
-back-between : (w q : ℕ) (later : List ℕ) (l : Link) → IsReached w l → l.back ≡ q ∷ later
+pub back-between : (w q : ℕ) (later : List ℕ) (l : Link) → IsReached w l → l.back ≡ q ∷ later
     → (l.acknowledged ≤ q) × (q ≤ l.sent) × (l.sent ≤ l.acknowledged + w)
 back-between w q later l r f =
     let h = reached-keeps w l r in

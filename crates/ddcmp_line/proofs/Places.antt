@@ -23,6 +23,12 @@ unfolding place_from
 place_from-last place [] sent f = refl
 place_from-last place (g ∷ fs) sent f = place_from-last (option_and_then (place_after g sent) place) fs sent f
 
+-- more frames that arrived
+pub place_from-append : (place : Option ℕ) (fs gs sent : List WholeFrame) → place_from place (fs ++ gs) sent ≡ place_from (place_from place fs sent) gs sent
+unfolding place_from
+place_from-append place [] gs sent = refl
+place_from-append place (f ∷ fs) gs sent = place_from-append (option_and_then (place_after f sent) place) fs gs sent
+
 pub place_of-none : (sent : List WholeFrame) → place_of [] sent ≡ Some 0
 unfolding place_from
 place_of-none sent = refl
@@ -69,7 +75,7 @@ pub record IsFollowed (first now : Option ℕ) (fs sent : List WholeFrame) : Typ
   pub lost : is_some first ≡ false → now ≡ None
   pub found : is_some first ≡ true → now ≡ place_of fs sent
 
-good_frames_in-append : (x y : List ReadItem) → good_frames_in (x ++ y) ≡ good_frames_in x ++ good_frames_in y
+pub good_frames_in-append : (x y : List ReadItem) → good_frames_in (x ++ y) ≡ good_frames_in x ++ good_frames_in y
 unfolding good_frames_in
 good_frames_in-append [] y = refl
 good_frames_in-append (g ∷ x) y = ap (λ t. good_frame_of g ++ t) (good_frames_in-append x y) ∙ sym (append_assoc (good_frame_of g) _ _)

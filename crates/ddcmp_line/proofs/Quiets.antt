@@ -1,7 +1,6 @@
 -- A settle is quiet within its count, since each frame costs something.
-use Rattle.std.proofs.Common.{◌≡◌, ℕ, zero, suc, ◌+◌, ◌*◌, ◌<◌, ◌≤◌, max, Bool, true, false, List, ◌++◌, Option, Some, None, refl, sym, ap, ◌∙◌, subst, arith}
+use Rattle.std.proofs.Common.{◌≡◌, ℕ, zero, suc, ◌+◌, ◌*◌, ◌<◌, ◌≤◌, max, Bool, true, false, List, Option, Some, None, refl, sym, ap, ◌∙◌, subst, arith}
 use Rattle.std.specs.Prelude.{◌||◌, is_some}
-use Rattle.ddcmp_line.specs.declared.event.Event.{Event}
 use Rattle.ddcmp_line.specs.Run.{PairState, line_bytes, run}
 use Rattle.ddcmp_line.specs.Settle.{Settling, counted, exchange, either_writes, exchanges_within, all_mail, most_exchanges, settling, settled}
 use Rattle.ddcmp_line.proofs.Runs.{run-append}

@@ -1,5 +1,5 @@
 -- Where a pair is ready, a recovery repairs it.
-use Rattle.std.proofs.Common.{◌≡◌, ◌≢◌, inl, ℕ, zero, suc, ◌+◌, ◌*◌, ◌<◌, ◌≤◌, max, Bool, true, false, List, [], ◌∷◌, length, refl, sym, ap, ◌∙◌, subst, arith}
+use Rattle.std.proofs.Common.{◌≡◌, ◌≢◌, inl, ℕ, zero, suc, ◌+◌, ◌*◌, ◌≤◌, Bool, true, false, [], ◌∷◌, refl, sym, ap, ◌∙◌, subst, arith}
 use Rattle.std.specs.Prelude.{◌&&◌, ◌==◌, not}
 use Rattle.std.specs.List.{All}
 use Rattle.ddcmp_frame.specs.Reading.{open_at_end}
@@ -9,7 +9,7 @@ use Rattle.ddcmp_core.specs.Table.{is_halted}
 use Rattle.ddcmp_core.specs.Core.{IsSound}
 use Rattle.ddcmp_line.specs.Run.{EndState, PairState, is_clean}
 use Rattle.ddcmp_line.specs.Settle.{most_exchanges}
-use Rattle.ddcmp_line.specs.Recovery.{in_turn, recovering, is_ready_here, is_ready, larger_window, IsRepaired}
+use Rattle.ddcmp_line.specs.Recovery.{is_ready_here, is_ready, larger_window, IsRepaired}
 use Rattle.ddcmp_line.proofs.Recoveries.{recovering-is}
 use Rattle.ddcmp_line.proofs.Alone.{Alone, BothAlone}
 use Rattle.ddcmp_line.proofs.Steady.{IsKept}

@@ -23,7 +23,7 @@ use Rattle.ddcmp_line.proofs.Crossings.{emptied, mailed, all-mail, turned, half}
 use Rattle.ddcmp_line.proofs.Views.{View, Ordered, Crossing, c_waits, c_rests}
 use Rattle.ddcmp_line.proofs.Sees.{looks}
 use Rattle.ddcmp_line.proofs.Waking.{Learns, Wakes, Resends, learns_there, learns_here, wakes_there, wakes_here, resends_there, resends_here, runs_there, woken, learnt, resent}
-use Rattle.ddcmp_line.proofs.Steady.{Shows, IsKept, run-keeps, expired-inbox, Settles, Steady, steady-turned, steady-shows}
+use Rattle.ddcmp_line.proofs.Steady.{IsKept, run-keeps, expired-inbox, Settles, Steady, steady-turned, steady-shows}
 use Rattle.ddcmp_line.proofs.Halves.{sound-emptied, timed-inbox, view, view-emptied, steady-ordered, steady-half, steady-crossing}
 use Rattle.ddcmp_line.proofs.Quiets.{Rests, Quiets, settles-quiet}
 

@@ -1,31 +1,23 @@
 -- A settle is a run: what holds of two ends at any time of it, and each frame as their numbers see it.
-use Rattle.std.proofs.Common.{◌≡◌, ◌≢◌, ◌⊎◌, inl, inr, ℕ, ◌+◌, ◌-◌, ◌%◌, ◌<◌, ◌≤◌, max, Bool, true, false, List, [], ◌∷◌, ◌++◌, length, Option, Some, None, refl, sym, ap, ◌∙◌, subst, arith, append-nil}
-use Rattle.std.specs.Prelude.{◌&&◌, ◌==◌, nat_le, is_some, option_map, slice_index_or}
+use Rattle.std.proofs.Common.{◌≡◌, ◌≢◌, ◌⊎◌, inl, inr, ℕ, ◌≤◌, max, Bool, true, false, List, [], ◌∷◌, length, refl, sym, subst, arith}
+use Rattle.std.specs.Prelude.{◌&&◌, nat_le, is_some}
 use Rattle.ddcmp_frame.specs.Reading.{open_at_end, good_frames}
-use Rattle.ddcmp_core.specs.Sequence.{distance}
 use Rattle.ddcmp_core.specs.declared.state.State.{State}
 use Rattle.ddcmp_core.specs.declared.state.State.TheVariants.{Halted, IStart, AStart, Running, Maintenance}
-use Rattle.ddcmp_core.specs.Table.{Limits, StationState, Frame, Data, Acked, Naked, Rep, Strt, Stack, Maint, Good, Next, Idle, Sends, next, next_frame, after_next, after_expire_in, after_expire_with, after_expire, before_next, message_at_next, on, on_by, notice_of, notice_by, acknowledged_by, is_starting}
+use Rattle.ddcmp_core.specs.Table.{StationState, Next, after_next, after_expire_in, after_expire_with, after_expire, is_starting}
 use Rattle.ddcmp_core.specs.declared.state.Timer.{Timer}
 use Rattle.ddcmp_core.specs.declared.state.Timer.TheVariants.{Off, Fresh, On}
 use Rattle.ddcmp_core.specs.Counting.{count_plus}
 use Rattle.ddcmp_core.specs.Core.{IsSound, IsTimed}
 use Rattle.ddcmp_core.specs.NextFrame.{SentFor, sends_strt, sends_stack, sends_nak, sends_rep, sends_data, sends_ack, sends_maint, halted_idles, starting_idles, running_idles, maintenance_idles}
-use Rattle.ddcmp_core.proofs.Sent.{sending}
-use Rattle.ddcmp_core.proofs.StartLaws.{next_state, sent_in_state}
-use Rattle.ddcmp_station.specs.Bytes.{frame_on_line}
 use Rattle.ddcmp_line.specs.declared.event.End.TheVariants.{A, B}
 use Rattle.ddcmp_line.specs.declared.event.Event.{Event}
-use Rattle.ddcmp_line.specs.declared.event.Event.TheVariants as event
 use Rattle.ddcmp_line.specs.Place.{place_of}
 use Rattle.ddcmp_line.specs.Prefix.{IsPrefixOf}
-use Rattle.ddcmp_line.specs.Run.{EndState, PairState, handed_up, after_poll_here, after_arrival_here, is_honest_here, line_bytes, whole_frame, after_event, run, is_clean}
+use Rattle.ddcmp_line.specs.Run.{EndState, PairState, handed_up, after_event, run, is_clean}
 use Rattle.ddcmp_line.specs.Settle.{crossing}
-use Rattle.ddcmp_line.proofs.WholeArrivals.{hears, arrives-as, still-closed, honest-arrival, no-restart, stays-awake, restarts_told}
-use Rattle.ddcmp_line.proofs.Crossings.{emptied, turned, crossed_by, crossed, half, crossing-a, crossing-b}
-use Rattle.ddcmp_line.proofs.Numbering.{StandsForNumbers, sent_is, next_is, out_length}
-use Rattle.ddcmp_line.proofs.Views.{View, Ordered, Crossing, c_strt, c_stack, c_nak, c_rep, c_data, c_ack, c_waits, c_rests}
-use Rattle.ddcmp_line.proofs.Sees.{looks, same_test, sees_sent, sees_strt, sees_stack, sees_nak, sees_rep, sees_data, sees_ack}
+use Rattle.ddcmp_line.proofs.Crossings.{turned, half, crossing-a, crossing-b}
+use Rattle.ddcmp_line.proofs.Numbering.{StandsForNumbers}
 
 -- ---- what a recovery needs to know of two ends that have begun, at any time of an honest and
 -- clean run: of the direction from x to y

@@ -1,10 +1,10 @@
 -- Frames have a place among those that were sent exactly where they are a subsequence of them.
-use Rattle.std.proofs.Common.{◌≡◌, ◌↔◌, ◌⊎◌, inl, inr, ℕ, zero, suc, ◌+◌, Bool, true, false, IsTrue, List, [], ◌∷◌, drop, refl, sym, ◌∙◌, ap, subst, arith, add-one, Option, Some, None, if◌then◌else◌}
+use Rattle.std.proofs.Common.{◌≡◌, ◌↔◌, ◌⊎◌, inl, inr, ℕ, ◌+◌, Bool, true, false, IsTrue, List, [], ◌∷◌, drop, refl, sym, ◌∙◌, ap, subst, arith, add-one, Option, Some, None, if◌then◌else◌}
 use Rattle.std.specs.Prelude.{option_map, is_some}
 use Rattle.std.proofs.lemmas.List.{drop-drop}
 use Rattle.ddcmp_line.proofs.Frames.{same-equal, same-refl}
 use Rattle.ddcmp_line.proofs.Places.{place_from-none}
-use Rattle.ddcmp_line.specs.Place.{WholeFrame, same_frame, first_index, place_after, place_from, place_of, IsSubsequence}
+use Rattle.ddcmp_line.specs.Place.{WholeFrame, same_frame, first_index, place_from, place_of, IsSubsequence}
 
 -- one frame more to choose from
 one-more : (fs sent : List WholeFrame) (g : WholeFrame) → IsSubsequence fs sent → IsSubsequence fs (g ∷ sent)

@@ -1,3 +1,4 @@
+pub mod InOrder
 pub mod Link
 pub mod Place
 pub mod Prefix

@@ -1,13 +1,53 @@
 //! Laws of a line: functions that do nothing, whose contracts are the laws.
-ghost use Rattle.std.specs.Prelude.{◌≡◌, ◌↔◌, ℕ, ◌+◌, ◌-◌, ◌%◌, ◌≤◌, List, [], ◌∷◌, ◌++◌, length, IsTrue, Some, is_some, option_and_then};
+ghost use Rattle.std.specs.Prelude.{◌≡◌, ◌↔◌, ℕ, ◌+◌, ◌-◌, ◌%◌, ◌≤◌, List, [], ◌∷◌, ◌++◌, length, true, IsTrue, Some, None, is_some, option_and_then};
 ghost use Rattle.ddcmp_core.specs.Sequence.{distance, Within};
 ghost use Rattle.ddcmp_core.specs.Numbers.{next_number};
 ghost use Rattle.ddcmp_line.specs.Place.{WholeFrame, same_frame, place_after, place_of, IsSubsequence};
 ghost use Rattle.ddcmp_line.specs.declared.event.Event.{Event as EventValue};
 ghost use Rattle.ddcmp_line.specs.declared.event.End.{End as EndValue};
-ghost use Rattle.ddcmp_line.specs.Run.{PairState, at, run};
+ghost use Rattle.ddcmp_line.specs.Run.{PairState, at, after_event, reply_to, run, new_pair, is_clean};
+ghost use Rattle.ddcmp_line.specs.InOrder.{IsInOrder, IsLink, NoRestart};
+ghost use Rattle.ddcmp_station.specs.Config.{first_refusal};
+ghost use Rattle.ddcmp_station.specs.declared.config.Config.{Config as ConfigValue};
+ghost use Rattle.ddcmp_core.specs.Core.{IsSound};
+ghost use Rattle.ddcmp_line.specs.Recovery.{is_ready, recovering, recovered, IsRepaired};
 ghost use Rattle.ddcmp_line.specs.Prefix.{IsPrefixOf};
 ghost use Rattle.ddcmp_line.specs.Link.{Link, IsReached};
+
+/// The headline. For two new stations of any sizes in range, whether they restart or not, after
+/// every list of events that is honest and clean: the messages handed up at each end are the first
+/// of those that the other accepted, in their order, each once and unchanged; and no more was told
+/// acknowledged than was handed up. What was given at one end and handed up at the other is a run of
+/// a link without bounds. And where a clean pair comes to an arrival that is honest, no end is told
+/// that its peer began anew.
+pub fn in_order()
+    ensures order { (first second : ConfigValue) (events : List EventValue)
+        → first_refusal first ≡ None → first_refusal second ≡ None
+        → IsInOrder (run events (new_pair first second)) }
+    ensures links { (first second : ConfigValue) (events : List EventValue)
+        → first_refusal first ≡ None → first_refusal second ≡ None
+        → (run events (new_pair first second)).honest ≡ true
+        → is_clean (run events (new_pair first second)) ≡ true
+        → IsLink (run events (new_pair first second)).a (run events (new_pair first second)).b
+        × IsLink (run events (new_pair first second)).b (run events (new_pair first second)).a }
+    ensures no_restart { (first second : ConfigValue) (events : List EventValue) (e : EventValue)
+        → first_refusal first ≡ None → first_refusal second ≡ None
+        → is_clean (run events (new_pair first second)) ≡ true
+        → (after_event e (run events (new_pair first second))).honest ≡ true
+        → NoRestart (reply_to e (run events (new_pair first second))) }
+{}
+
+/// Recovery. For two new stations of any sizes in range, after every list of events: where the pair
+/// is ready, a recovery repairs it. The two stations are sound, as every station is to which bytes
+/// came. And a recovery is the run of its events.
+pub fn recovery()
+    ensures repaired { (first second : ConfigValue) (events : List EventValue) (p : PairState)
+        → first_refusal first ≡ None → first_refusal second ≡ None
+        → run events (new_pair first second) ≡ p
+        → IsSound p.a.core.limits p.a.core.station → IsSound p.b.core.limits p.b.core.station
+        → is_ready p ≡ true → IsRepaired p }
+    ensures events { (p : PairState) → run (recovering p).events p ≡ recovered p }
+{}
 
 /// The test of two frames passes exactly where header and data are equal.
 pub fn frames_are_compared_whole()

@@ -23,19 +23,24 @@ pub struct Pair {
 
 impl Model for Pair {
     ghost use Rattle.ddcmp_line.specs.Run.{PairState};
+    ghost use Rattle.ddcmp_line.specs.InOrder.{IsRun};
 
     ghost Value = { PairState };
 
     ghost view = { λ p. p.ends };
+
+    // All that holds of honest and clean runs follows from this alone.
+    ghost invariant = { λ p. IsRun p.ends };
 }
 
 impl Pair {
-    ghost use Rattle.std.specs.Prelude.{◌≡◌, ◌⊎◌, ◌<◌, ◌≤◌, false, [], length, slice_index_or, max, Some, None, Err, IsOk, IfOk, OnErr};
+    ghost use Rattle.std.specs.Prelude.{◌≡◌, ◌⊎◌, ◌<◌, ◌≤◌, true, false, [], length, slice_index_or, max, Some, None, Err, IsOk, IfOk, OnErr};
     ghost use Rattle.ddcmp_frame.specs.Reader.{StandsFor};
     ghost use Rattle.ddcmp_core.specs.Store.{with_front};
     ghost use Rattle.ddcmp_station.specs.Config.{first_refusal};
     ghost use Rattle.ddcmp_line.specs.declared.event.End.{End as EndValue};
     ghost use Rattle.ddcmp_line.specs.Run.{new_pair, after_event, reply_to, asks_memory, at, handed_up, is_clean};
+    ghost use Rattle.ddcmp_line.specs.InOrder.{IsRun, IsInOrder, NoRestart};
 
     /// Two stations begun over an empty line.
     pub fn new(alloc: Global, first: Config, second: Config) -> Result<Pair, PairRefusal>
@@ -72,6 +77,11 @@ impl Pair {
         // Want of memory leaves all as it was, and is answered to no event that asks for none.
         ensures memory { OnErr result (self.new ≡ self.old) }
         ensures asks { asks_memory event self.old ≡ false → IsOk result }
+        // Messages are handed up in order, once, unchanged, or not at all; and no end that was
+        // clean before an honest arrival is told by it that its peer began anew.
+        ensures order { IsInOrder self.new }
+        ensures no_restart { is_clean self.old ≡ true → self.new.honest ≡ true
+            → IfOk result NoRestart }
         ensures limits { (end : EndValue) → (at end self.new).core.limits
             ≡ (at end self.old).core.limits }
     {
@@ -89,6 +99,14 @@ impl Pair {
             ≡ (at end self.old).core.limits }
     {
         self.ends.apply(event)
+    }
+
+    /// A pair comes from two new stations by a list of events, so that its messages are in order.
+    pub fn is_run(&self)
+        ensures run { IsRun self.now }
+        ensures order { IsInOrder self.now }
+    {
+        let _ends = &self.ends;
     }
 
     /// The number of messages that an end accepted.

@@ -41,11 +41,13 @@ impl Recovered {
 }
 
 impl Pair {
-    ghost use Rattle.std.specs.Prelude.{◌≡◌, IsOk, IfOk, OnErr};
+    ghost use Rattle.std.specs.Prelude.{◌≡◌, ◌+◌, ◌*◌, ◌≤◌, true, IsOk, IfOk, OnErr};
+    ghost use Rattle.std.specs.List.{All};
     ghost use Rattle.ddcmp_line.specs.declared.event.End.{End as EndValue};
     ghost use Rattle.ddcmp_line.specs.Run.{at};
-    ghost use Rattle.ddcmp_line.specs.Settle.{StoppedAmong};
-    ghost use Rattle.ddcmp_line.specs.Recovery.{rounding, rounded, recovering, recovered};
+    ghost use Rattle.ddcmp_line.specs.InOrder.{IsInOrder};
+    ghost use Rattle.ddcmp_line.specs.Settle.{StoppedAmong, most_exchanges};
+    ghost use Rattle.ddcmp_line.specs.Recovery.{rounding, rounded, recovering, recovered, is_ready, larger_window, IsDone, IsRepaired};
 
     /// Both timers run out, where they are on, and then the line settles.
     pub fn round(&mut self) -> Result<Settled, Memory>
@@ -56,6 +58,7 @@ impl Pair {
         ensures memory { OnErr result (StoppedAmong (rounding self.old).events self.old self.new) }
         ensures limits { (end : EndValue) → (at end self.new).core.limits
             ≡ (at end self.old).core.limits }
+        ensures order { IsInOrder self.new }
     {
         let _first = self.step(Event::Expire(End::A))?;
         let _second = self.step(Event::Expire(End::B))?;
@@ -71,11 +74,31 @@ impl Pair {
         ensures memory { OnErr result (StoppedAmong (recovering self.old).events self.old self.new) }
         ensures limits { (end : EndValue) → (at end self.new).core.limits
             ≡ (at end self.old).core.limits }
+        ensures order { IsInOrder self.new }
+
+        // Where the pair was ready it is repaired: the line is quiet after each settle, which counts
+        // at most so many exchanges by the larger window, and in the end nothing is left to be done.
+        ensures repaired { is_ready self.old ≡ true → IfOk result (λ r. r.quiet ≡ true) }
+        ensures within { is_ready self.old ≡ true
+            → IfOk result (λ r. All (λ n. n ≤ most_exchanges self.old) r.exchanges) }
+        ensures fewer { is_ready self.old ≡ true
+            → IfOk result (λ r. All (λ n. n ≤ 12 * larger_window self.old + 12) r.exchanges) }
+        ensures done { is_ready self.old ≡ true → IsOk result → IsDone self.new }
     {
+        self.is_repaired();
         let first = self.settle()?;
         let second = self.round()?;
         let third = self.round()?;
         Ok(Recovered::of(first, second, third))
+    }
+
+    /// A recovery repairs every pair that is ready: a law, for those who have one. It does nothing.
+    pub fn is_repaired(&self)
+        ensures { is_ready self.now ≡ true → IsRepaired self.now }
+    {
+        self.is_run();
+        self.station(End::A).holds();
+        self.station(End::B).holds();
     }
 }
 

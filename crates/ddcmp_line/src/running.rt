@@ -2,6 +2,7 @@
 ghost use Rattle.std.specs.Prelude.{◌≡◌, ◌⊎◌, ◌<◌, ℕ, length, take, Some, None, Err, IsOk, IfOk};
 ghost use Rattle.ddcmp_station.specs.Config.{first_refusal};
 ghost use Rattle.ddcmp_line.specs.Run.{PairState, new_pair, run as run_of};
+ghost use Rattle.ddcmp_line.specs.InOrder.{IsInOrder};
 
 use crate::event::Event;
 use crate::pair::{Pair, PairRefusal};
@@ -29,7 +30,8 @@ pub fn run(
     ensures done { IfOk result (λ pair. pair ≡ run_of events.now (new_pair first second)) }
     ensures memory { (done : ℕ) (pair : PairState)
         → result ≡ Err (RunRefusal.Memory done pair) → (done < length events.now)
-        × (pair ≡ run_of (take done events.now) (new_pair first second)) }
+        × (pair ≡ run_of (take done events.now) (new_pair first second)) × IsInOrder pair }
+    ensures order { IfOk result IsInOrder }
 
     // The first size that is out of range is refused; else no station is, but for want of memory.
     ensures first_size { (refusal : ConfigRefusal) → first_refusal first ≡ Some refusal → result
@@ -53,8 +55,12 @@ pub fn run(
     for (done, event) in events.iter().enumerate() {
         match pair.apply(event) {
             Ok(_reply) => {}
-            Err(_refused) => return Err(RunRefusal::Memory { done, pair }),
+            Err(_refused) => {
+                pair.is_run();
+                return Err(RunRefusal::Memory { done, pair });
+            }
         }
     }
+    pair.is_run();
     Ok(pair)
 }

@@ -16,6 +16,7 @@ impl Pair {
     ghost use Rattle.std.specs.Prelude.{◌≡◌, IsOk, IfOk, OnErr};
     ghost use Rattle.ddcmp_line.specs.declared.event.End.{End as EndValue};
     ghost use Rattle.ddcmp_line.specs.Run.{at, run};
+    ghost use Rattle.ddcmp_line.specs.InOrder.{IsInOrder};
     ghost use Rattle.ddcmp_line.specs.Settle.{settling, settled, exchange, either_writes, crossing, writes, mail_events, StoppedAmong};
 
     /// Takes all mail, and then carries frames to and fro until neither end writes one. What was
@@ -28,8 +29,12 @@ impl Pair {
         ensures memory { OnErr result (StoppedAmong (settling self.old).events self.old self.new) }
         ensures limits { (end : EndValue) → (at end self.new).core.limits
             ≡ (at end self.old).core.limits }
+        // On want of memory too, messages are in order.
+        ensures order { IsInOrder self.new }
     {
-        self.settle_all()
+        let settled = self.settle_all();
+        self.is_run();
+        settled
     }
 
     fn settle_all(&mut self) -> Result<Settled, Memory>

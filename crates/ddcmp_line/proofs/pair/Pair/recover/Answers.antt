@@ -1,4 +1,8 @@
-use Rattle.std.proofs.Common.{◌∙◌, refl}
+use Rattle.std.specs.Prelude.{ℕ, ◌+◌, ◌*◌, ◌≤◌, List}
+use Rattle.std.specs.List.{All}
+use Rattle.ddcmp_line.specs.Settle.{most_exchanges}
+use Rattle.ddcmp_line.specs.Recovery.{larger_window, IsDone}
+use Rattle.std.proofs.Common.{subst, sym, ◌∙◌, refl}
 use Rattle.ddcmp_line.proofs.Runs.{on-err}
 use Rattle.ddcmp_line.proofs.Recoveries.{stopped-at-first, stopped-at-second, stopped-at-third, recovered-is, recovering-exchanges, recovering-quiet}
 use Rattle.ddcmp_line.proofs.pair.Pair.recover.Goals as goal
@@ -27,3 +31,17 @@ pub returns-clause-quiet : goal.returns-clause-quiet
 returns-clause-quiet c =
     c.of.ensures.quiet
     ∙ recovering-quiet c.args.self.now c.settle.new.self c.round.new.self _ _ _ (c.in_ok-first.ensures.state refl) (c.in_ok-second.ensures.state refl) c.in_ok-first.ensures.quiet c.in_ok-second.ensures.quiet c.in_ok-third.ensures.quiet
+
+pub returns-clause-repaired : goal.returns-clause-repaired
+returns-clause-repaired c = λ ready. returns-clause-quiet c ∙ (c.is_repaired.ensures ready).quiet
+
+pub returns-clause-within : goal.returns-clause-within
+returns-clause-within c = λ ready.
+    subst (λ (t : List ℕ). All (λ n. n ≤ most_exchanges c.args.self.now) t) (sym (returns-clause-exchanges c)) (c.is_repaired.ensures ready).within
+
+pub returns-clause-fewer : goal.returns-clause-fewer
+returns-clause-fewer c = λ ready.
+    subst (λ (t : List ℕ). All (λ n. n ≤ 12 * larger_window c.args.self.now + 12) t) (sym (returns-clause-exchanges c)) (c.is_repaired.ensures ready).fewer
+
+pub returns-clause-done : goal.returns-clause-done
+returns-clause-done c = λ ready ok. subst IsDone (sym (returns-clause-state c ok)) (c.is_repaired.ensures ready).done
