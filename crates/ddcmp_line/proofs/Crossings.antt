@@ -1,7 +1,6 @@
 -- What the events of a crossing do to both ends: a frame goes whole from one to the other.
-use Rattle.std.proofs.Common.{◌≡◌, ℕ, List, [], ◌∷◌, ◌++◌, length, drop, replicate, Option, Some, None, refl, sym, ap, ◌∙◌, append-nil, append_assoc}
-use Rattle.std.specs.Prelude.{◌&&◌, ◌||◌, is_some, option_map, option_to_list}
-use Rattle.ddcmp_core.specs.Store.{first_message}
+use Rattle.std.proofs.Common.{◌≡◌, ℕ, List, [], ◌∷◌, ◌++◌, length, drop, replicate, Option, Some, None, refl, sym, ap, ◌∙◌, append-nil}
+use Rattle.std.specs.Prelude.{◌&&◌, ◌||◌, is_some, option_map}
 use Rattle.ddcmp_line.specs.declared.event.End.TheVariants.{A, B}
 use Rattle.ddcmp_line.specs.declared.event.Event.TheVariants as event
 use Rattle.ddcmp_core.specs.Table.{Frame, next_frame, next}
@@ -9,6 +8,7 @@ use Rattle.ddcmp_core.specs.Frames.{header_of}
 use Rattle.ddcmp_station.specs.Bytes.{frame_on_line}
 use Rattle.ddcmp_line.specs.Run.{EndState, PairState, with_station, after_poll_here, after_arrival_here, after_take_here, is_honest_here, line_bytes, after_event, run}
 use Rattle.ddcmp_line.specs.Settle.{mail_events, carried, crossing, exchange, either_writes, all_mail}
+use Rattle.ddcmp_line.proofs.Calls.{take-up}
 use Rattle.ddcmp_line.proofs.Lines.{nothing-polled}
 use Rattle.ddcmp_line.proofs.Runs.{run-append, crossing-writes, crossing-idles}
 
@@ -20,12 +20,8 @@ emptied x =
       taken = x.taken ++ x.core.station.inbox;
     }
 
-take-first : (taken inbox : List (List ℕ)) → (taken ++ option_to_list (first_message inbox)) ++ drop 1 inbox ≡ taken ++ inbox
-take-first taken [] = append-nil (taken ++ [])
-take-first taken (m ∷ rest) = append_assoc taken (m ∷ []) rest
-
 emptied-after-take : (x : EndState) → emptied (after_take_here x) ≡ emptied x
-emptied-after-take x = ap (λ t. record (emptied x) { taken = t }) (take-first x.taken x.core.station.inbox)
+emptied-after-take x = ap (λ t. record (emptied x) { taken = t }) (take-up x.taken x.core.station.inbox)
 
 pub emptied-none : (x : EndState) → x.core.station.inbox ≡ [] → emptied x ≡ x
 emptied-none x e =

@@ -19,7 +19,8 @@ use Rattle.ddcmp_line.specs.Place.{place_of, WholeFrame}
 use Rattle.ddcmp_line.specs.Run.{EndState, PairState, handed_up, after_poll_here, is_honest_here, line_bytes, whole_frame}
 use Rattle.ddcmp_line.proofs.WholeArrivals.{hears, arrives-as, still-closed, honest-arrival, no-restart, stays-awake}
 use Rattle.ddcmp_line.proofs.Crossings.{emptied, turned, crossed_by, half}
-use Rattle.ddcmp_line.proofs.Numbering.{StandsForNumbers, sent_is, next_is, out_length}
+use Rattle.ddcmp_line.proofs.Relation.{Counts}
+use Rattle.ddcmp_line.proofs.Numbering.{sent_is, next_is, out_length}
 use Rattle.ddcmp_line.proofs.Views.{View, Ordered, Crossing, c_strt, c_stack, c_nak, c_rep, c_data, c_ack, c_waits, c_rests}
 use Rattle.ddcmp_line.proofs.Sees.{looks, same_test, sees_sent, sees_strt, sees_stack, sees_nak, sees_rep, sees_data, sees_ack}
 use Rattle.ddcmp_line.proofs.Steady.{Shows, IsKept, Steady, steady-turned, steady-shows, half-kept, inbox-sent, starts-same}
@@ -224,10 +225,10 @@ module _ (Holds : PairState → Type 0) (k : IsKept Holds) (W : ℕ) (p : PairSt
   abbrev up : ℕ
   up = length (handed_up p.a)
 
-  c : StandsForNumbers p.a.core.station p.a.core.limits.window p.a.given p.a.acknowledged here.sent here.next (length (handed_up p.a))
+  c : Counts p.a.core.station p.a.core.limits.window p.a.given p.a.acknowledged here.sent here.next (length (handed_up p.a))
   c = here.numbers
 
-  c' : StandsForNumbers p.b.core.station p.b.core.limits.window p.b.given p.b.acknowledged there.sent there.next (length (handed_up p.b))
+  c' : Counts p.b.core.station p.b.core.limits.window p.b.given p.b.acknowledged there.sent there.next (length (handed_up p.b))
   c' = there.numbers
 
   sent : p.a.acknowledged + distance p.a.core.station.a p.a.core.station.n ≡ here.sent

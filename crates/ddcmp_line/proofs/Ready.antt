@@ -1,5 +1,5 @@
 -- Every pair that a run leads to is repaired where it is ready.
-use Rattle.std.proofs.Common.{◌≡◌, ◌≢◌, ℕ, ◌≤◌, true, List, [], ◌++◌, length, refl, ap, subst, arith}
+use Rattle.std.proofs.Common.{◌≡◌, ◌≢◌, ℕ, ◌≤◌, true, List, [], ◌++◌, refl, ap, subst, arith}
 use Rattle.std.specs.Prelude.{◌&&◌, nat_le, is_some}
 use Rattle.ddcmp_core.specs.declared.state.State.{State}
 use Rattle.ddcmp_core.specs.declared.state.State.TheVariants.{Halted, IStart, AStart, Running, Maintenance}
@@ -9,17 +9,13 @@ use Rattle.ddcmp_line.specs.InOrder.{IsRun}
 use Rattle.ddcmp_line.specs.Recovery.{is_ready, IsRepaired}
 use Rattle.ddcmp_line.specs.Run.{EndState, PairState, after_event, new_pair}
 use Rattle.ddcmp_line.proofs.Reached.{reached-in-order, reached-counts}
-use Rattle.ddcmp_line.proofs.Relation.{Face, face, up, Counts, StateFits, Stands, not_begun, begun}
+use Rattle.ddcmp_line.proofs.Relation.{face, StateFits}
+use Rattle.ddcmp_line.proofs.Sendings.{awake}
 use Rattle.ddcmp_line.proofs.Linked.{Linked, linked-turned}
 use Rattle.ddcmp_line.proofs.Ordered.{run-holds, run-event}
 use Rattle.ddcmp_line.proofs.Alone.{Alone, BothAlone, alone-run, alone-begun}
 use Rattle.ddcmp_line.proofs.Steady.{Shows, IsKept}
 use Rattle.ddcmp_line.proofs.Repairs.{ready-repaired}
-
-live : (x : Face) (n t : ℕ) → x.station.state ≢ Halted → Stands x n t
-    → Counts x.station x.limits.window x.given x.acknowledged n t (length (up x)) × StateFits x.station.state x.given
-live x n t w (not_begun s p g u) = absurd (w p)
-live x n t w (begun s c f) = (c, f)
 
 nothing-given : (p : State) (given : List (List ℕ)) → is_starting p ≡ true → StateFits p given → given ≡ []
 nothing-given Halted given e f = absurd (cc e)
@@ -34,31 +30,18 @@ never-maintenance p given f e = let z = subst (λ q. StateFits q given) e f in z
 shows-of : (x y : EndState) → Linked x y → Alone x → x.starts ≤ 1 → x.core.station.state ≢ Halted → Shows x y
 shows-of x y l a once w =
     let f = l.related.fits in
-    let g = live (face x) f.sent f.next w f.stands in
-    let c = g.0 in
+    let g = awake (face x) f.sent f.next w f.stands in
     let u = reached-counts _ _ f.reached in
     record {
       sent = f.sent;
       next = f.next;
-      numbers = record {
-        a_is = c.a_is;
-        n_is = c.n_is;
-        t_is = c.t_is;
-        r_is = c.r_is;
-        out_is = c.out_is;
-        t_low = c.t_low;
-        t_high = c.t_high;
-        window = c.window;
-        small = c.small;
-        acked_sent = c.acked_given;
-        sent_given = c.sent_given;
-      };
+      numbers = g.counts;
       low = u.0;
       high = u.1;
       prefix = reached-in-order _ _ f.reached;
-      fresh = λ e. nothing-given x.core.station.state x.given e g.1;
+      fresh = λ e. nothing-given x.core.station.state x.given e g.state;
       young = λ e. (let z = a.young once e in λ i. z.0 i ++ z.1 i);
-      no_maintenance = never-maintenance x.core.station.state x.given g.1;
+      no_maintenance = never-maintenance x.core.station.state x.given g.state;
       apart = λ e. (l.related.here.runs e).1;
       placed = ap is_some l.there_is;
     }

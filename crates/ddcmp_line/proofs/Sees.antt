@@ -12,8 +12,12 @@ use Rattle.ddcmp_core.specs.declared.state.Reply.{Reply}
 use Rattle.ddcmp_core.specs.declared.state.Reply.TheVariants.{Quiet, Ack, Nak}
 use Rattle.ddcmp_core.specs.declared.state.Timer.TheVariants.{Off}
 use Rattle.ddcmp_core.specs.declared.notice.Notice.TheVariants as notice
-use Rattle.ddcmp_core.specs.Table.{StationState, Limits, Frame, Data, Acked, Naked, Rep, Strt, Stack, Good, incoming, before_next, newly_acknowledged, after_ack, after_offer, reply_to_offer, takes_data, on_nak, on_data, on_by, notice_by, acknowledged_by, acknowledged_notice, data_notice, after_startup, after_data}
-use Rattle.ddcmp_line.proofs.Numbering.{StandsForNumbers, sent_is, next_is, newly_is, numbers_after_ack, numbers_after_data}
+use Rattle.ddcmp_core.specs.Table.{StationState, Limits, Frame, Data, Acked, Naked, Rep, Strt, Stack, Good, incoming, before_next, newly_acknowledged, after_ack, after_offer, reply_to_offer, takes_data, on_nak, on_data, on_by, notice_by, acknowledged_by, after_startup, after_data}
+use Rattle.ddcmp_core.proofs.ToldLaws.{number_told, number_told_data}
+use Rattle.ddcmp_line.proofs.Relation.{Counts}
+use Rattle.ddcmp_line.proofs.Numbers.{newly-is, counts-after-ack}
+use Rattle.ddcmp_line.proofs.Sendings.{counts_sent}
+use Rattle.ddcmp_line.proofs.Numbering.{sent_is, next_is}
 use Rattle.ddcmp_line.proofs.Views.{View, tells, back, comes_up, hears_strt, hears_stack, hears_nak, hears_rep, hears_ack, hears_data}
 
 -- a station as its numbers show it, where so many messages were acknowledged, taken and given
@@ -32,25 +36,7 @@ looks s acked taken given = record {
 
 -- ---- how many messages a notice tells acknowledged
 
-pub number_told : (m : ℕ) → acknowledged_by (acknowledged_notice m) ≡ m
-number_told m = by (m == 0) refl
-  where
-    by : (b : Bool) → (m == 0) ≡ b → acknowledged_by (cond b None (Some (notice.Acknowledged m))) ≡ m
-    by true e = grind (arith)
-    by false e = refl
-
-pub number_told_data : (l : Limits) (s : StationState) (resp num : ℕ) → acknowledged_by (data_notice l s resp num) ≡ newly_acknowledged s resp
-number_told_data l s resp num = by (takes_data l s num)
-  where
-    up : (b : Bool) → (newly_acknowledged s resp == 0) ≡ b → acknowledged_by (Some (cond b notice.HandedUp (notice.HandedUpAndAcknowledged (newly_acknowledged s resp)))) ≡ newly_acknowledged s resp
-    up true e = grind (arith)
-    up false e = refl
-
-    by : (b : Bool) → acknowledged_by (cond b (Some (cond (newly_acknowledged s resp == 0) notice.HandedUp (notice.HandedUpAndAcknowledged (newly_acknowledged s resp)))) (acknowledged_notice (newly_acknowledged s resp))) ≡ newly_acknowledged s resp
-    by true = up (newly_acknowledged s resp == 0) refl
-    by false = number_told (newly_acknowledged s resp)
-
-pub number_none : (b : Bool) → acknowledged_by (Some (cond b notice.RunningAndHandedUp notice.Running)) ≡ 0
+number_none : (b : Bool) → acknowledged_by (Some (cond b notice.RunningAndHandedUp notice.Running)) ≡ 0
 number_none true = refl
 number_none false = refl
 
@@ -75,7 +61,7 @@ same_test x y a b e f h g = by (x == y) refl (a == b) refl
     by true p false q = let i : x ≡ y = grind (arith) in let j : a ≡ b = omega (arith, i, e, f, h, g) in absurd (grind (arith, j))
     by false p true q = let j : a ≡ b = grind (arith) in let i : x ≡ y = omega (arith, j, e, f) in absurd (grind (arith, i))
 
-module _ (s : StationState) (w : ℕ) (given : List (List ℕ)) (acked sent next up : ℕ) (c : StandsForNumbers s w given acked sent next up) (taken : List (List ℕ)) where
+module _ (s : StationState) (w : ℕ) (given : List (List ℕ)) (acked sent next up : ℕ) (c : Counts s w given acked sent next up) (taken : List (List ℕ)) where
   pub sees_tells : (q : ℕ) → acked ≤ q → q ≤ sent → looks (after_ack s (q % 256)) q taken given ≡ tells (looks s acked taken given) q
   sees_tells q lo hi = λ i.
       record {
@@ -91,10 +77,10 @@ module _ (s : StationState) (w : ℕ) (given : List (List ℕ)) (acked sent next
       }
     where
       r : (after_ack s (q % 256)).rep ≡ cond (q == acked) s.rep false
-      r = rep_after_ack s.rep (newly_acknowledged s (q % 256)) acked q (newly_is s w given acked sent next up c q lo hi) lo
+      r = rep_after_ack s.rep (newly_acknowledged s (q % 256)) acked q (newly-is s w given acked sent next up q c lo hi) lo
 
-      c' : StandsForNumbers (after_ack s (q % 256)) w given q sent (max next (q + 1)) up
-      c' = numbers_after_ack s w given acked sent next up q c lo hi
+      c' : Counts (after_ack s (q % 256)) w given q sent (max next (q + 1)) up
+      c' = counts-after-ack s w given acked sent next up q c lo hi
 
       n : q + distance (after_ack s (q % 256)).a (after_ack s (q % 256)).n ≡ acked + distance s.a s.n
       n = sent_is (after_ack s (q % 256)) w given q sent (max next (q + 1)) up c' ∙ sym (sent_is s w given acked sent next up c)
@@ -105,7 +91,7 @@ module _ (s : StationState) (w : ℕ) (given : List (List ℕ)) (acked sent next
   pub sees_back : (q : ℕ) → acked ≤ q → q ≤ sent → looks (on_nak s (q % 256)) q taken given ≡ back (tells (looks s acked taken given) q)
   sees_back q lo hi =
       let u = after_ack s (q % 256) in
-      let c' = numbers_after_ack s w given acked sent next up q c lo hi in
+      let c' = counts-after-ack s w given acked sent next up q c lo hi in
       let h = within_bytes in
       let t : is_within s.a (q % 256) s.n ≡ true = grind (arith, h) in
       let z : q + 1 + (next_number u.a + 511 - u.a) % 256 ≡ q + 1 = omega (arith, c'.a_is) in
@@ -149,10 +135,10 @@ sees_up l u q num k message taken given e room same =
         ap (λ b. record (looks u q taken given) { up = cond b k (length (taken ++ u.inbox)); reply = cond b Ack u.reply }) (sym t)
 
 -- the end that sends data
-pub sees_sent : (s : StationState) (w : ℕ) (given : List (List ℕ)) (acked sent next up : ℕ) (taken : List (List ℕ)) → before_next s < length s.out → StandsForNumbers s w given acked sent next up
+pub sees_sent : (s : StationState) (w : ℕ) (given : List (List ℕ)) (acked sent next up : ℕ) (taken : List (List ℕ)) → before_next s < length s.out → Counts s w given acked sent next up
     → looks (after_data s) acked taken given ≡ (let v = looks s acked taken given in record v { sent = max v.sent v.next; next = v.next + 1; reply = Quiet })
 sees_sent s w given acked sent next up taken room c =
-    let c' = numbers_after_data s w given acked sent next up room c in
+    let c' = counts_sent s w given acked sent next up room c in
     let n = sent_is (after_data s) w given acked (max sent next) (next + 1) up c' in
     let t = next_is (after_data s) w given acked (max sent next) (next + 1) up c' in
     let n' = sent_is s w given acked sent next up c in
@@ -163,18 +149,18 @@ sees_sent s w given acked sent next up taken room c =
     λ i. record v { sent = e i; next = f i; reply = Quiet }
 
 -- a message comes
-data_up : (l : Limits) (s : StationState) (w : ℕ) (given : List (List ℕ)) (acked sent next up : ℕ) (taken : List (List ℕ)) (q num k : ℕ) (message : List ℕ) → StandsForNumbers s w given acked sent next up
+data_up : (l : Limits) (s : StationState) (w : ℕ) (given : List (List ℕ)) (acked sent next up : ℕ) (taken : List (List ℕ)) (q num k : ℕ) (message : List ℕ) → Counts s w given acked sent next up
     → s.inbox ≡ [] → 0 < l.room → up ≡ length (taken ++ s.inbox) → num ≡ k % 256 → k ≤ up + 256 → up ≤ k + 254 → acked ≤ q → q ≤ sent
     → looks (on_data l s (q % 256) num message) q taken given ≡ comes_up (tells (looks s acked taken given) q) k
 data_up l s w given acked sent next up taken q num k message c e room u n hi' lo' lo hi =
     let a = after_ack s (q % 256) in
-    let c' = numbers_after_ack s w given acked sent next up q c lo hi in
+    let c' = counts-after-ack s w given acked sent next up q c lo hi in
     let m : next_number a.r ≡ (length (taken ++ s.inbox) + 1) % 256 = omega (arith, c'.r_is, u) in
     sees_up l a q num k message taken given e room (same_test num (next_number a.r) k (length (taken ++ s.inbox) + 1) n m (omega (arith, u, hi')) (omega (arith, u, lo')))
     ∙ ap (λ v. comes_up v k) (sees_tells s w given acked sent next up c taken q lo hi)
 
 -- the end that hears, in each state
-module _ (l : Limits) (s : StationState) (w : ℕ) (given : List (List ℕ)) (acked sent next up : ℕ) (c : StandsForNumbers s w given acked sent next up) (taken : List (List ℕ)) where
+module _ (l : Limits) (s : StationState) (w : ℕ) (given : List (List ℕ)) (acked sent next up : ℕ) (c : Counts s w given acked sent next up) (taken : List (List ℕ)) where
   none : (u : StationState) → looks u (acked + 0) taken given ≡ looks u acked taken given
   none u = let z : acked + 0 ≡ acked = omega arith in ap (λ n. looks u n taken given) z
 
@@ -203,7 +189,7 @@ module _ (l : Limits) (s : StationState) (w : ℕ) (given : List (List ℕ)) (ac
   sees_rep Maintenance num n e = none s
 
   told_all : (q : ℕ) → acked ≤ q → q ≤ sent → acked + newly_acknowledged s (q % 256) ≡ q
-  told_all q lo hi = omega (arith, newly_is s w given acked sent next up c q lo hi, lo)
+  told_all q lo hi = omega (arith, newly-is s w given acked sent next up q c lo hi, lo)
 
   pub sees_nak : (p : State) (why : Reason) (q : ℕ) → acked ≤ q → q ≤ sent → sees p (Naked why (q % 256)) ≡ hears_nak p (looks s acked taken given) q
   sees_nak Halted why q lo hi = none s

@@ -86,7 +86,7 @@ fits_idle x y fs fs' h = subst (λ l. Fits x y l fs') (sym (append-nil fs)) h
 
 -- ---- a data message
 
-counts_sent : (s : StationState) (w : ℕ) (given : List (List ℕ)) (acked sent next up : ℕ) → before_next s < length s.out
+pub counts_sent : (s : StationState) (w : ℕ) (given : List (List ℕ)) (acked sent next up : ℕ) → before_next s < length s.out
     → Counts s w given acked sent next up
     → Numbers s.a (cond (s.t == next_number s.n) s.t s.n) (next_number s.t) s.r s.out w given acked (max sent next) (next + 1) up
 counts_sent s w given acked sent next up room c =

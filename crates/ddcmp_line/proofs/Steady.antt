@@ -17,7 +17,7 @@ use Rattle.ddcmp_line.specs.Prefix.{IsPrefixOf}
 use Rattle.ddcmp_line.specs.Run.{EndState, PairState, handed_up, after_event, run, is_clean}
 use Rattle.ddcmp_line.specs.Settle.{crossing}
 use Rattle.ddcmp_line.proofs.Crossings.{turned, half, crossing-a, crossing-b}
-use Rattle.ddcmp_line.proofs.Numbering.{StandsForNumbers}
+use Rattle.ddcmp_line.proofs.Relation.{Counts}
 
 -- ---- what a recovery needs to know of two ends that have begun, at any time of an honest and
 -- clean run: of the direction from x to y
@@ -25,7 +25,7 @@ use Rattle.ddcmp_line.proofs.Numbering.{StandsForNumbers}
 pub record Shows (x y : EndState) : Type 0 where
   pub sent : ℕ
   pub next : ℕ
-  pub numbers : StandsForNumbers x.core.station x.core.limits.window x.given x.acknowledged sent next (length (handed_up x))
+  pub numbers : Counts x.core.station x.core.limits.window x.given x.acknowledged sent next (length (handed_up x))
   pub low : x.acknowledged ≤ length (handed_up y)
   pub high : length (handed_up y) ≤ sent
   pub prefix : IsPrefixOf (handed_up y) x.given
