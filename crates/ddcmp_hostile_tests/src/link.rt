@@ -1,0 +1,223 @@
+//! A pair, and the frames that its ends wrote: they wait on the line, and arrive whole, damaged, in
+//! pieces or not at all.
+ghost use Rattle.std.specs.Prelude.{◌≤◌};
+
+use ddcmp_line::{Bytes, Config, End, Event, Memory, Pair, Reply, Settled, State};
+use std::collections::VecDeque;
+use std::process::Abort;
+
+/// The most bytes of a message at any end.
+pub const LONGEST: usize = 1500;
+
+/// The frames that an end wrote and that haven't arrived, the front first.
+type Line = VecDeque<Vec<u8>>;
+
+/// What each end wrote.
+#[derive(Drop)]
+struct Lines {
+    of_a: Line,
+    of_b: Line,
+}
+
+impl Lines {
+    fn of(&mut self, from: End) -> &mut Line {
+        match from {
+            End::A => &mut self.of_a,
+            End::B => &mut self.of_b,
+        }
+    }
+}
+
+#[derive(Drop)]
+pub struct Link {
+    pub pair: Pair,
+    lines: Lines,
+    ghost longest_a: { pair.a.core.limits.longest ≤ 1500 },
+    ghost longest_b: { pair.b.core.limits.longest ≤ 1500 },
+}
+
+impl Link {
+    pub fn new(rt: &(impl Abort + AllocGlobal), first: Config, second: Config) -> Link {
+        assert!(rt; first.max <= 1500 && second.max <= 1500);
+        match Pair::new(rt.alloc(), first, second) {
+            Ok(pair) => Link {
+                pair,
+                lines: Lines {
+                    of_a: VecDeque::new(rt.alloc()),
+                    of_b: VecDeque::new(rt.alloc()),
+                },
+            },
+            Err(refusal) => panic!(rt; "{refusal:?} of {first:?} and {second:?}"),
+        }
+    }
+
+    fn step(&mut self, event: Event) -> Result<Reply, Memory> {
+        self.pair.step(event)
+    }
+
+    fn settle(&mut self) -> Result<Settled, Memory> {
+        self.pair.settle()
+    }
+
+    /// The reply to an event. Memory is ample.
+    pub fn does(&mut self, rt: &impl Abort, event: Event) -> Reply {
+        match self.step(event) {
+            Ok(reply) => reply,
+            Err(refused) => panic!(rt; "{refused:?}"),
+        }
+    }
+
+    /// Whether the end takes this message.
+    pub fn sends(&mut self, rt: &(impl Abort + AllocGlobal), end: End, message: &[u8]) -> bool {
+        let bytes = copy_of(rt, message);
+        matches!(self.does(rt, Event::Send(end, bytes)), Reply::Accepted(_))
+    }
+
+    /// The end's next frame, if there is one, goes on the line.
+    pub fn polls(&mut self, rt: &impl Abort, from: End) {
+        if let Reply::Wrote(frame) = self.does(rt, Event::Poll(from)) {
+            let kept = self.lines.of(from).push_back(frame.into_vec());
+            assert!(rt; kept.is_ok());
+        }
+    }
+
+    /// These bytes arrive.
+    pub fn arrives(&mut self, rt: &impl Abort, to: End, bytes: Bytes) {
+        let Reply::Notices(_told) = self.does(rt, Event::Arrive(to, bytes)) else {
+            panic!(rt; "an arrival tells notices");
+        };
+    }
+
+    /// The front of the line arrives, if there is one.
+    pub fn passes(&mut self, rt: &impl Abort, from: End) {
+        if let Some(front) = self.lines.of(from).pop_front() {
+            self.arrives(rt, from.other(), Bytes::new(front));
+        }
+    }
+
+    /// So many bytes of the front arrive, and the rest stays on the line.
+    pub fn cuts(&mut self, rt: &(impl Abort + AllocGlobal), from: End, count: usize) {
+        if let Some(front) = self.lines.of(from).pop_front() {
+            let count = count.min(front.len());
+            let bytes = copy_of(rt, &front[..count]);
+            if count < front.len() {
+                let rest = copy_of(rt, &front[count..]).into_vec();
+                assert!(rt; self.lines.of(from).push_front(rest).is_ok());
+            }
+            self.arrives(rt, from.other(), bytes);
+        }
+    }
+
+    /// The front arrives, and is still to arrive.
+    pub fn doubles(&mut self, rt: &(impl Abort + AllocGlobal), from: End) {
+        if let Some(front) = self.lines.of(from).front() {
+            let bytes = copy_of(rt, front);
+            self.arrives(rt, from.other(), bytes);
+        }
+    }
+
+    /// The front is lost.
+    pub fn loses(&mut self, from: End) {
+        let _lost = self.lines.of(from).pop_front();
+    }
+
+    /// A byte of the front is changed.
+    pub fn damages(&mut self, from: End, at: usize, change: u8) {
+        if let Some(front) = self.lines.of(from).front_mut() {
+            if let Some(byte) = front.get_mut(at) {
+                *byte ^= change;
+            }
+        }
+    }
+
+    /// A byte of the front is left out.
+    pub fn leaves_out(&mut self, from: End, at: usize) {
+        if let Some(front) = self.lines.of(from).front_mut() {
+            if at < front.len() {
+                let _left_out = front.remove(at);
+            }
+        }
+    }
+
+    /// How many bytes the front has.
+    pub fn front(&mut self, from: End) -> usize {
+        match self.lines.of(from).front() {
+            Some(front) => front.len(),
+            None => 0,
+        }
+    }
+
+    /// All that is on the line is lost.
+    pub fn loses_all(&mut self) {
+        self.lines.of_a.clear();
+        self.lines.of_b.clear();
+    }
+
+    /// All that is on the line is lost, and then frames go to and fro.
+    pub fn settles(&mut self, rt: &impl Abort) -> Settled {
+        self.loses_all();
+        match self.settle() {
+            Ok(settled) => settled,
+            Err(refused) => panic!(rt; "{refused:?}"),
+        }
+    }
+
+    /// Both timers run out, and the line settles.
+    pub fn rounds(&mut self, rt: &impl Abort) -> Settled {
+        let _a = self.does(rt, Event::Expire(End::A));
+        let _b = self.does(rt, Event::Expire(End::B));
+        self.settles(rt)
+    }
+
+    /// On an honest line and in a clean run what was handed up is a beginning of what was given at
+    /// the other end, and no more is told acknowledged than was handed up.
+    pub fn keeps_its_promise(&self, rt: &impl Abort) {
+        if self.pair.honest() && self.pair.clean() {
+            self.is_in_order(rt, End::A);
+            self.is_in_order(rt, End::B);
+            self.acknowledges_what_came(rt, End::A);
+            self.acknowledges_what_came(rt, End::B);
+        }
+    }
+
+    fn acknowledges_what_came(&self, rt: &impl Abort, end: End) {
+        assert!(rt; self.pair.acknowledged(end) <= self.pair.handed_up(end.other()) as u64);
+    }
+
+    /// What was handed up at an end is a beginning of what was given at the other.
+    pub fn is_in_order(&self, rt: &impl Abort, to: End) {
+        let from = to.other();
+        let mut out = [0; LONGEST];
+        assert!(rt; self.pair.handed_up(to) <= self.pair.given(from));
+        for i in 0..self.pair.handed_up(to) {
+            assert!(rt; i < self.pair.given(from) && i < self.pair.handed_up(to));
+            let length = match to {
+                End::A => self.pair.handed_up_at(End::A, i, &mut out),
+                End::B => self.pair.handed_up_at(End::B, i, &mut out),
+            };
+            assert!(rt; length <= LONGEST);
+            assert_eq!(rt; &out[..length], self.pair.given_at(from, i), "{to:?} {i}");
+        }
+    }
+
+    /// Both ends run, and all that was given at each was handed up at the other and is told
+    /// acknowledged.
+    pub fn is_done(&self, rt: &impl Abort) {
+        for end in [End::A, End::B] {
+            assert_eq!(rt; self.pair.station(end).state(), State::Running, "{end:?}");
+            let given = self.pair.given(end);
+            assert_eq!(rt; self.pair.handed_up(end.other()), given, "{end:?}");
+            assert_eq!(rt; self.pair.acknowledged(end), given as u64, "{end:?}");
+        }
+        assert!(rt; self.pair.honest() && self.pair.clean());
+        self.keeps_its_promise(rt);
+    }
+}
+
+/// Bytes of the test's own.
+pub fn copy_of(rt: &(impl Abort + AllocGlobal), bytes: &[u8]) -> Bytes {
+    match Vec::from_slice(rt.alloc(), bytes) {
+        Ok(copied) => Bytes::new(copied),
+        Err(_refused) => panic!(rt; "no memory"),
+    }
+}
