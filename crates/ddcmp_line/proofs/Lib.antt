@@ -6,6 +6,10 @@ pub mod Links
 pub mod Modulo
 pub mod Places
 pub mod Reached
+pub mod Inputs
 pub mod Runs
+pub mod Scenes
 pub mod Settles
+pub mod Cutting
 pub mod Subsequences
+pub mod TextLaws

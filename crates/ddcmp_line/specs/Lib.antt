@@ -1,6 +1,11 @@
+pub mod Input
 pub mod Link
 pub mod Place
 pub mod Prefix
 pub mod Run
+pub mod Script
+pub mod ScriptSteps
+pub mod ScriptText
+pub mod ScriptWords
 pub mod Settle
 pub mod Sides
