@@ -4,9 +4,11 @@ pub mod Calls
 pub mod Comings
 pub mod Costs
 pub mod Crossings
+pub mod Cutting
 pub mod Feeding
 pub mod Frames
 pub mod Halves
+pub mod Inputs
 pub mod Limits
 pub mod Lines
 pub mod Linked
@@ -25,12 +27,14 @@ pub mod Relation
 pub mod Repairs
 pub mod Rounds
 pub mod Runs
+pub mod Scenes
 pub mod Sees
 pub mod Sendings
 pub mod Settles
 pub mod Startups
 pub mod Steady
 pub mod Subsequences
+pub mod TextLaws
 pub mod Views
 pub mod Waking
 pub mod WholeArrivals

@@ -1,0 +1,10 @@
+use Rattle.std.proofs.Common.{◌≡◌, ◌+◌, ◌≤◌, false}
+use Rattle.ddcmp_line.proofs.scripting.Player.take.Given as goal
+
+abbrev pub invariant-loop-i : goal.invariant-loop-i
+invariant-loop-i g l = record {
+  whole : g.C.Carrier.broken l.carrier ≡ false;
+  seen : l.self.seen ≡ l.initial.self.seen;
+  number : l.self.number ≤ l.initial.self.number + l.i;
+  direct : g.C.Carrier.direct l.carrier ≡ g.C.Carrier.direct l.initial.carrier;
+}

@@ -1,0 +1,141 @@
+-- What a script writes of answers, and its last line.
+use Rattle.std.specs.Prelude.{ℕ, Bool, true, false, if◌then◌else◌, List, [], ◌∷◌, ◌++◌, length, codes, decimal, Option, Some, None}
+use Rattle.std.specs.List.{flat_map}
+use Rattle.hex.specs.Hex.{encode_lower}
+use Rattle.ddcmp_core.specs.declared.notice.Notice.{Notice}
+use Rattle.ddcmp_core.specs.declared.notice.Notice.TheVariants as notice
+use Rattle.ddcmp_core.specs.declared.station_core.StartRefusal.{StartRefusal}
+use Rattle.ddcmp_core.specs.declared.station_core.StartRefusal.TheVariants.{NotHalted, Untaken}
+use Rattle.ddcmp_core.specs.SendRefusal.{SendRefusal}
+use Rattle.ddcmp_core.specs.SendRefusal.TheVariants.{WrongState, Empty, TooLong, WindowFull}
+use Rattle.ddcmp_core.specs.declared.state.State.{State}
+use Rattle.ddcmp_core.specs.declared.state.State.TheVariants.{Halted, IStart, AStart, Running, Maintenance}
+use Rattle.ddcmp_core.specs.Table.{StationState, is_on}
+use Rattle.ddcmp_line.specs.declared.event.End.{End}
+use Rattle.ddcmp_line.specs.declared.event.End.TheVariants.{A, B}
+use Rattle.ddcmp_line.specs.declared.event.Reply.{Reply}
+use Rattle.ddcmp_line.specs.declared.event.Reply.TheVariants as reply
+use Rattle.ddcmp_line.specs.Run.{PairState, handed_up, is_clean}
+
+-- who answers, before the words of the answer
+abbrev pub name_of : End → List ℕ
+name_of A = codes "A "
+name_of B = codes "B "
+
+-- the same; nobody, where both ends are meant
+abbrev pub name_before : Option End → List ℕ
+name_before (Some e) = name_of e
+name_before None = []
+
+abbrev pub start_refusal_text : StartRefusal → List ℕ
+start_refusal_text NotHalted = codes "start refused NotHalted\n"
+start_refusal_text Untaken = codes "start refused Untaken\n"
+
+abbrev pub clear_refusal_text : StartRefusal → List ℕ
+clear_refusal_text NotHalted = codes "not halted\n"
+clear_refusal_text Untaken = codes "untaken\n"
+
+abbrev pub send_refusal_text : SendRefusal → List ℕ
+send_refusal_text WrongState = codes "send refused WrongState\n"
+send_refusal_text Empty = codes "send refused Empty\n"
+send_refusal_text TooLong = codes "send refused TooLong\n"
+send_refusal_text WindowFull = codes "send refused WindowFull\n"
+
+abbrev pub expired_text : Bool → List ℕ
+expired_text was_on = if was_on then codes "expired\n" else codes "timer off\n"
+
+-- the name of a notice, and its number where it has one
+abbrev pub notice_word : Notice → List ℕ
+notice_word notice.Running = codes "Running"
+notice_word notice.RunningAndHandedUp = codes "RunningAndHandedUp"
+notice_word (notice.Acknowledged n) = codes "Acknowledged "
+notice_word notice.HandedUp = codes "HandedUp"
+notice_word (notice.HandedUpAndAcknowledged n) = codes "HandedUpAndAcknowledged "
+notice_word notice.PeerStarts = codes "PeerStarts"
+notice_word notice.PeerRestarted = codes "PeerRestarted"
+notice_word (notice.Restarted n) = codes "Restarted "
+notice_word notice.MaintenanceSeen = codes "MaintenanceSeen"
+notice_word notice.MaintenanceHandedUp = codes "MaintenanceHandedUp"
+notice_word notice.MaintenanceDropped = codes "MaintenanceDropped"
+
+abbrev pub notice_number : Notice → Option ℕ
+notice_number (notice.Acknowledged n) = Some n
+notice_number (notice.HandedUpAndAcknowledged n) = Some n
+notice_number (notice.Restarted n) = Some n
+notice_number _ = None
+
+abbrev pub number_text : Option ℕ → List ℕ
+number_text None = []
+number_text (Some n) = decimal n
+
+abbrev pub notice_line : List ℕ → Notice → List ℕ
+notice_line who n =
+    who ++ codes "notice " ++ notice_word n ++ number_text (notice_number n) ++ codes "\n"
+
+-- a line with a number, or with bytes, behind its words
+abbrev pub counted_line : List ℕ → List ℕ → ℕ → List ℕ
+counted_line who words n = who ++ words ++ decimal n ++ codes "\n"
+
+abbrev pub bytes_line : List ℕ → List ℕ → List ℕ → List ℕ
+bytes_line who words bytes = who ++ words ++ encode_lower bytes ++ codes "\n"
+
+-- the text of an answer
+unfoldable pub reply_text : List ℕ → Reply → List ℕ
+reply_text who (reply.Started dropped) = counted_line who (codes "started dropped=") dropped
+reply_text who (reply.StartRefused refusal) = who ++ start_refusal_text refusal
+reply_text who reply.Halted = who ++ codes "halted\n"
+reply_text who (reply.Accepted number) = counted_line who (codes "accepted ") number.0
+reply_text who (reply.SendRefused refusal) = who ++ send_refusal_text refusal
+reply_text who (reply.Wrote bytes) = bytes_line who (codes "wrote ") bytes
+reply_text who reply.Idle = who ++ codes "idle\n"
+reply_text who (reply.Notices notices) = flat_map (notice_line who) notices
+reply_text who (reply.Expired was_on) = who ++ expired_text was_on
+reply_text who (reply.Took message) = bytes_line who (codes "took ") message
+reply_text who reply.Nothing = who ++ codes "nothing\n"
+reply_text who reply.Cleared = who ++ codes "cleared\n"
+reply_text who (reply.ClearRefused refusal) = who ++ clear_refusal_text refusal
+
+abbrev pub state_text : State → List ℕ
+state_text Halted = codes "Halted R="
+state_text IStart = codes "IStart R="
+state_text AStart = codes "AStart R="
+state_text Running = codes "Running R="
+state_text Maintenance = codes "Maintenance R="
+
+abbrev pub timer_text : Bool → List ℕ
+timer_text on = if on then codes " timer=on\n" else codes " timer=off\n"
+
+abbrev pub numbers_text : StationState → List ℕ
+numbers_text s =
+    state_text s.state ++ decimal s.r ++ codes " N=" ++ decimal s.n ++ codes " A=" ++ decimal s.a
+    ++ codes " T=" ++ decimal s.t
+
+-- the line of a station
+abbrev pub station_line : List ℕ → StationState → List ℕ
+station_line who s =
+    who ++ numbers_text s ++ codes " out=" ++ decimal (length s.out) ++ codes " in="
+    ++ decimal (length s.inbox) ++ timer_text (is_on s.timer)
+
+abbrev pub quiet_text : Bool → List ℕ
+quiet_text quiet = if quiet then codes " quiet\n" else codes " busy\n"
+
+-- the line of a settle
+abbrev pub settled_text : ℕ → Bool → List ℕ
+settled_text exchanges quiet = codes "settled " ++ decimal exchanges ++ quiet_text quiet
+
+-- what became of a byte that was to be changed
+abbrev pub damage_text : Bool → Bool → List ℕ
+damage_text is_empty is_there =
+    if is_empty then codes "empty\n"
+    else if is_there then codes "damaged\n" else codes "no byte\n"
+
+abbrev pub yes_or_no : Bool → List ℕ
+yes_or_no is = if is then codes "yes" else codes "no"
+
+-- what has been done since the line was cleared: the last line
+abbrev pub last_line : PairState → List ℕ
+last_line p =
+    codes "honest " ++ yes_or_no p.honest ++ codes " clean " ++ yes_or_no (is_clean p)
+    ++ codes " up A=" ++ decimal (length (handed_up p.a)) ++ codes " B="
+    ++ decimal (length (handed_up p.b)) ++ codes " acked A=" ++ decimal p.a.acknowledged
+    ++ codes " B=" ++ decimal p.b.acknowledged ++ codes "\n"

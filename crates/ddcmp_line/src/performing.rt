@@ -1,0 +1,310 @@
+//! Doing what the lines of a script ask for.
+ghost use Rattle.std.specs.Prelude.{◌≡◌, ◌≢◌, ◌↔◌, ◌++◌, ◌∷◌, [], true, false, length, Some, None, Ok, Err, IsOk, OnOk, OnErr, List, ℕ, IsTrue, codes};
+ghost use Rattle.ddcmp_frame.specs.Device.{Logs};
+ghost use Rattle.ddcmp_frame.specs.Written.{HandsOver, output_of};
+ghost use Rattle.ddcmp_line.specs.Run.{PairState, at, end_of, after_event, reply_to, run};
+ghost use Rattle.ddcmp_line.specs.Settle.{other, settling, StoppedAmong};
+ghost use Rattle.ddcmp_line.specs.ScriptWords.{reading_of};
+ghost use Rattle.ddcmp_line.specs.ScriptText.{name_of, reply_text};
+ghost use Rattle.ddcmp_line.specs.Script.{Between, lines_after, nothing_between, frames_after, frames_of, with_frames, part_of, outcome_of, outcome_of_event, outcome_of_carry, outcome_of_lose, outcome_of_damage, outcome_of_settle, arrival_text, after_outcome, events_by, HasCarried};
+ghost use Rattle.ddcmp_line.specs.ScriptSteps.{scene_of, stopped_of, Comes, Carries, LineEnds};
+ghost use Rattle.ddcmp_line.specs.declared.command.Reading.{Reading as ReadingValue};
+ghost use Rattle.ddcmp_line.specs.declared.event.Event.TheVariants as event_value;
+ghost use Rattle.ddcmp_line.specs.declared.event.Reply.{Reply as ReplyValue};
+
+use crate::bytes::Bytes;
+use crate::carrier::Carrier;
+use crate::command::{Command, Reading, read_line};
+use crate::event::{End, Event, Reply};
+use crate::frame_lines::{FrameLeft, FrameLines};
+use crate::pair::Pair;
+use crate::reply_text::{
+    damage_name, end_name, write_bytes, write_counted, write_plain, write_reply, write_settled,
+    write_station,
+};
+use ddcmp_frame::{Page, Sink};
+use ddcmp_station::Memory;
+use std::alloc::Global;
+use std::collections::VecDeque;
+
+/// Why a line wasn't done.
+#[derive(Clone, Copy, Debug, PartialEq, Eq)]
+pub(crate) enum Stop {
+    NoCommand,
+    NotHex,
+    Write,
+    Memory,
+    Carrier,
+}
+
+/// The lines between the ends, and the text that waits to be written.
+#[derive(Drop)]
+pub(crate) struct Stage {
+    pub(crate) alloc: Global,
+    pub(crate) lines: FrameLines,
+    pub(crate) page: Page,
+}
+
+/// An end writes its next frame, which goes last on its line.
+fn poll<W: Sink>(
+    pair: &mut Pair,
+    frames: &mut VecDeque<FrameLeft>,
+    page: &mut Page,
+    writer: &mut W,
+    end: End,
+) -> Result<(), Memory>
+    ensures pair { IsOk result → pair.new ≡ after_event (event_value.Poll end) pair.old }
+    ensures frames { IsOk result → frames.new.items
+        ≡ frames_after (reply_to (event_value.Poll end) pair.old) frames.old.items }
+    ensures text { IsOk result → HandsOver (output_of W.broken W.contents writer.old page.old)
+        (output_of W.broken W.contents writer.new page.new)
+        (reply_text (name_of end) (reply_to (event_value.Poll end) pair.old)) }
+    ensures memory { OnErr result ((pair.new ≡ pair.old) × (frames.new.items ≡ frames.old.items)
+        × (page.new ≡ page.old) × (writer.new ≡ writer.old)) }
+{
+    frames.reserve(1)?;
+    let Reply::Wrote(bytes) = pair.step(Event::Poll(end))? else {
+        write_plain(page, writer, end_name(end), b"idle\n");
+        return Ok(());
+    };
+    write_bytes(page, writer, end_name(end), b"wrote ", bytes.as_slice());
+    frames.push_back_reserved(FrameLeft::new(bytes));
+    Ok(())
+}
+
+/// At most so many bytes from the front of some, or all.
+fn first_of(bytes: &[u8], most: Option<u32>) -> &[u8]
+    ensures { result.now ≡ part_of most bytes.now }
+{
+    match most {
+        Some(n) if (n as usize) < bytes.len() => &bytes[..n as usize],
+        _ => bytes,
+    }
+}
+
+/// Want of memory stops a line.
+fn stopped(done: Result<(), Memory>) -> Result<(), Stop>
+    ensures { result ≡ stopped_of done }
+{
+    match done {
+        Ok(()) => Ok(()),
+        Err(_refused) => Err(Stop::Memory),
+    }
+}
+
+impl Stage {
+    /// Empty lines, and no text.
+    pub(crate) fn new(alloc: Global) -> Self
+        ensures lines { result.lines ≡ nothing_between }
+        ensures page { result.page ≡ [] }
+    {
+        Stage {
+            alloc,
+            lines: FrameLines::new(alloc),
+            page: Page::new(),
+        }
+    }
+
+    /// An end writes its next frame.
+    fn poll<W: Sink>(&mut self, pair: &mut Pair, writer: &mut W, end: End) -> Result<(), Memory> {
+        match end {
+            End::A => poll(pair, &mut self.lines.a, &mut self.page, writer, end),
+            End::B => poll(pair, &mut self.lines.b, &mut self.page, writer, end),
+        }
+    }
+
+    /// The line is cleared, and where it is both lines are emptied.
+    fn clear<W: Sink>(&mut self, pair: &mut Pair, writer: &mut W) -> Result<(), Memory> {
+        let reply = pair.step(Event::Clear)?;
+        write_reply(&mut self.page, writer, b"", &reply);
+        self.lines.clear_after(&reply);
+        Ok(())
+    }
+
+    /// An event happens that writes and clears nothing.
+    fn tell<W: Sink>(
+        &mut self,
+        pair: &mut Pair,
+        writer: &mut W,
+        end: End,
+        event: Event,
+    ) -> Result<(), Memory> {
+        let reply = pair.step(event)?;
+        write_reply(&mut self.page, writer, end_name(end), &reply);
+        Ok(())
+    }
+
+    /// An event happens.
+    fn happen<W: Sink>(
+        &mut self,
+        pair: &mut Pair,
+        writer: &mut W,
+        event: Event,
+    ) -> Result<(), Memory> {
+        match event {
+            Event::Poll(end) => self.poll(pair, writer, end),
+            Event::Clear => self.clear(pair, writer),
+            Event::Start(end) => self.tell(pair, writer, end, Event::Start(end)),
+            Event::Halt(end) => self.tell(pair, writer, end, Event::Halt(end)),
+            Event::Expire(end) => self.tell(pair, writer, end, Event::Expire(end)),
+            Event::Take(end) => self.tell(pair, writer, end, Event::Take(end)),
+            Event::Send(end, bytes) => self.tell(pair, writer, end, Event::Send(end, bytes)),
+            Event::Arrive(end, bytes) => self.tell(pair, writer, end, Event::Arrive(end, bytes)),
+        }
+    }
+
+    /// Bytes arrive at an end: a line with these words and their number, and then the notices.
+    fn arrive<W: Sink>(
+        &mut self,
+        pair: &mut Pair,
+        writer: &mut W,
+        who: End,
+        words: &[u8],
+        to: End,
+        bytes: Bytes,
+    ) -> Result<(), Memory>
+        ensures pair { IsOk result → pair.new ≡ after_event (event_value.Arrive to bytes) pair.old }
+        ensures lines { self.new.lines ≡ self.old.lines }
+        ensures text { IsOk result → HandsOver (output_of W.broken W.contents writer.old self.old.page)
+            (output_of W.broken W.contents writer.new self.new.page) (arrival_text who words.now to bytes pair.old) }
+    {
+        let length = bytes.as_slice().len();
+        let reply = pair.step(Event::Arrive(to, bytes))?;
+        write_counted(&mut self.page, writer, end_name(who), words, length as u64);
+        write_reply(&mut self.page, writer, end_name(to), &reply);
+        Ok(())
+    }
+
+    /// The front of an end's line arrives at the other end, as the carrier gives it.
+    fn carry<W: Sink, C: Carrier>(
+        &mut self,
+        pair: &mut Pair,
+        writer: &mut W,
+        carrier: &mut C,
+        from: End,
+        most: Option<u32>,
+    ) -> Result<(), Stop>
+        requires whole { C.broken carrier.old ≡ false }
+        ensures write { result ≡ Err Stop.Write → IsTrue (W.broken writer.new) }
+        ensures one { result ≡ Err Stop.Carrier → (W.broken writer.new ≡ false)
+            × (self.new.page ≡ []) }
+        ensures carrier { (result ≡ Err Stop.Carrier) ↔ IsTrue (C.broken carrier.new) }
+        ensures direct { C.direct carrier.new ≡ C.direct carrier.old }
+    {
+        let Some(front) = self.lines.front(from) else {
+            write_plain(&mut self.page, writer, end_name(from), b"empty\n");
+            return Ok(());
+        };
+        let bytes = first_of(front, most);
+        let length = bytes.len();
+        let Ok(mut out) = Vec::from_elem(self.alloc, 0u8, length) else {
+            return Err(Stop::Memory);
+        };
+        // One device has failed at most.
+        if self.page.flush(writer).is_err() {
+            return Err(Stop::Write);
+        }
+        match carrier.carry(from, bytes, &mut out) {
+            Ok(came) => out.truncate(came),
+            Err(_fault) => return Err(Stop::Carrier),
+        }
+        let came = Bytes::new(out);
+        match self.arrive(pair, writer, from, b"passed ", from.other(), came) {
+            Ok(()) => {
+                self.lines.take_off(from, length);
+                Ok(())
+            }
+            Err(_refused) => Err(Stop::Memory),
+        }
+    }
+
+    /// The front of an end's line is dropped.
+    fn lose<W: Sink>(&mut self, writer: &mut W, from: End) {
+        match self.lines.pop(from) {
+            Some(front) => {
+                let length = front.as_slice().len() as u64;
+                write_counted(&mut self.page, writer, end_name(from), b"lost ", length);
+            }
+            None => write_plain(&mut self.page, writer, end_name(from), b"empty\n"),
+        }
+    }
+
+    /// A byte of the front of an end's line is changed.
+    fn damage<W: Sink>(&mut self, writer: &mut W, from: End, at: u32, by: u8) {
+        let is_empty = self.lines.is_empty(from);
+        let is_there = self.lines.change_front(from, at as usize, by);
+        write_plain(
+            &mut self.page,
+            writer,
+            end_name(from),
+            damage_name(is_empty, is_there),
+        );
+    }
+
+    /// All frames on both lines are lost, and then both ends settle.
+    fn settle<W: Sink>(&mut self, pair: &mut Pair, writer: &mut W) -> Result<(), Memory> {
+        let settled = pair.settle()?;
+        self.lines.clear();
+        write_settled(&mut self.page, writer, settled.exchanges, settled.quiet);
+        Ok(())
+    }
+
+    /// Does what a command asks for, and hands over its text.
+    fn perform<W: Sink, C: Carrier>(
+        &mut self,
+        pair: &mut Pair,
+        writer: &mut W,
+        carrier: &mut C,
+        command: Command,
+    ) -> Result<(), Stop>
+        requires whole { C.broken carrier.old ≡ false }
+        ensures write { result ≡ Err Stop.Write → IsTrue (W.broken writer.new) }
+        ensures one { result ≡ Err Stop.Carrier → (W.broken writer.new ≡ false)
+            × (self.new.page ≡ []) }
+        ensures carrier { (result ≡ Err Stop.Carrier) ↔ IsTrue (C.broken carrier.new) }
+        ensures direct { C.direct carrier.new ≡ C.direct carrier.old }
+    {
+        match command {
+            Command::Carry(from, most) => self.carry(pair, writer, carrier, from, most),
+            Command::Happens(event) => stopped(self.happen(pair, writer, event)),
+            Command::Lose(from) => {
+                self.lose(writer, from);
+                Ok(())
+            }
+            Command::Damage(from, at, by) => {
+                self.damage(writer, from, at, by);
+                Ok(())
+            }
+            Command::Raw(to, bytes) => stopped(self.arrive(pair, writer, to, b"got ", to, bytes)),
+            Command::Settle => stopped(self.settle(pair, writer)),
+            Command::State(end) => {
+                write_station(&mut self.page, writer, end_name(end), pair.station(end));
+                Ok(())
+            }
+        }
+    }
+
+    /// Does what a line asks for.
+    pub(crate) fn do_line<W: Sink, C: Carrier>(
+        &mut self,
+        pair: &mut Pair,
+        writer: &mut W,
+        carrier: &mut C,
+        line: &[u8],
+    ) -> Result<(), Stop>
+        requires whole { C.broken carrier.old ≡ false }
+        ensures write { result ≡ Err Stop.Write → IsTrue (W.broken writer.new) }
+        ensures one { result ≡ Err Stop.Carrier → (W.broken writer.new ≡ false)
+            × (self.new.page ≡ []) }
+        ensures carrier { (result ≡ Err Stop.Carrier) ↔ IsTrue (C.broken carrier.new) }
+        ensures direct { C.direct carrier.new ≡ C.direct carrier.old }
+    {
+        match read_line(self.alloc, line) {
+            Ok(Reading::Skipped) => Ok(()),
+            Ok(Reading::Asks(command)) => self.perform(pair, writer, carrier, command),
+            Ok(Reading::NoCommand) => Err(Stop::NoCommand),
+            Ok(Reading::NotHex) => Err(Stop::NotHex),
+            Err(_refused) => Err(Stop::Memory),
+        }
+    }
+}
