@@ -15,11 +15,11 @@ within-false : (b : Bool) (x y : Settling) → b ≡ false → (if b then x else
 within-false false x y e = refl
 within-false true x y e = absurd (cc)
 
-exchanged : (more : ℕ) (p : PairState) → either_writes p ≡ true → exchanges_within (suc more) p ≡ counted (exchange p) (exchanges_within more (run (exchange p) p))
+pub exchanged : (more : ℕ) (p : PairState) → either_writes p ≡ true → exchanges_within (suc more) p ≡ counted (exchange p) (exchanges_within more (run (exchange p) p))
 unfolding exchanges_within
 exchanged more p e = within-true (either_writes p) _ _ e
 
-quieted : (more : ℕ) (p : PairState) → either_writes p ≡ false → exchanges_within (suc more) p ≡ record { events = exchange p; exchanges = 0; quiet = true }
+pub quieted : (more : ℕ) (p : PairState) → either_writes p ≡ false → exchanges_within (suc more) p ≡ record { events = exchange p; exchanges = 0; quiet = true }
 unfolding exchanges_within
 quieted more p e = within-false (either_writes p) _ _ e
 

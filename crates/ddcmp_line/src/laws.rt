@@ -9,6 +9,8 @@ ghost use Rattle.ddcmp_line.specs.Run.{PairState, at, after_event, reply_to, run
 ghost use Rattle.ddcmp_line.specs.InOrder.{IsInOrder, IsLink, NoRestart};
 ghost use Rattle.ddcmp_station.specs.Config.{first_refusal};
 ghost use Rattle.ddcmp_station.specs.declared.config.Config.{Config as ConfigValue};
+ghost use Rattle.ddcmp_core.specs.Core.{IsSound};
+ghost use Rattle.ddcmp_line.specs.Recovery.{is_ready, recovering, recovered, IsRepaired};
 ghost use Rattle.ddcmp_line.specs.Prefix.{IsPrefixOf};
 ghost use Rattle.ddcmp_line.specs.Link.{Link, IsReached};
 
@@ -33,6 +35,18 @@ pub fn in_order()
         → is_clean (run events (new_pair first second)) ≡ true
         → (after_event e (run events (new_pair first second))).honest ≡ true
         → NoRestart (reply_to e (run events (new_pair first second))) }
+{}
+
+/// Recovery. For two new stations of any sizes in range, after every list of events: where the pair
+/// is ready, a recovery repairs it. The two stations are sound, as every station is to which bytes
+/// came. And a recovery is the run of its events.
+pub fn recovery()
+    ensures repaired { (first second : ConfigValue) (events : List EventValue) (p : PairState)
+        → first_refusal first ≡ None → first_refusal second ≡ None
+        → run events (new_pair first second) ≡ p
+        → IsSound p.a.core.limits p.a.core.station → IsSound p.b.core.limits p.b.core.station
+        → is_ready p ≡ true → IsRepaired p }
+    ensures events { (p : PairState) → run (recovering p).events p ≡ recovered p }
 {}
 
 /// The test of two frames passes exactly where header and data are equal.

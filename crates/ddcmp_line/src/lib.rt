@@ -6,6 +6,7 @@ mod ends;
 mod event;
 pub mod laws;
 mod pair;
+mod recovering;
 mod running;
 mod settling;
 mod side;
@@ -16,5 +17,6 @@ pub use ddcmp_station::{
 };
 pub use event::{End, Event, Reply};
 pub use pair::{Pair, PairRefusal};
+pub use recovering::Recovered;
 pub use running::{RunRefusal, run};
 pub use settling::Settled;

@@ -183,4 +183,11 @@ impl Pair {
             .window()
             .max(self.ends.side(End::B).window())
     }
+
+    /// The largest length of a message at an end.
+    pub(crate) fn longest(&self, end: End) -> usize
+        ensures { result ≡ (at end self.now).core.limits.longest }
+    {
+        self.ends.side(end).longest()
+    }
 }

@@ -250,4 +250,11 @@ impl Side {
     {
         self.window
     }
+
+    /// The largest length of a message: there is room for a frame with one, and its fill.
+    pub(crate) fn longest(&self) -> usize
+        ensures { result ≡ self.now.state.core.limits.longest }
+    {
+        self.buffer.len() - self.syn as usize - 10
+    }
 }

@@ -4,8 +4,8 @@ ghost use Rattle.std.specs.Prelude.{◌≤◌};
 
 use ddcmp_line::laws::runs;
 use ddcmp_line::{
-    Bytes, Config, End, Event, Memory, Notice, Pair, Reply, RunRefusal, SendRefusal, Seq, Settled,
-    StartRefusal, State, Station, run,
+    Bytes, Config, End, Event, Memory, Notice, Pair, Recovered, Reply, RunRefusal, SendRefusal,
+    Seq, Settled, StartRefusal, State, Station, run,
 };
 use std::alloc::{AllocError, Global};
 use std::process::Abort;
@@ -50,7 +50,7 @@ pub const USUAL: Config = Config {
     restart: false,
 };
 
-/// What is done: an event, a settle, or a look at an end's station.
+/// What is done: an event, a settle, a round, a recovery, or a look at an end's station.
 #[derive(Clone, Copy, Debug)]
 pub enum Action {
     Start(End),
@@ -62,6 +62,8 @@ pub enum Action {
     Take(End),
     Clear,
     Settle,
+    Round,
+    Recover,
     Look(End),
 }
 
@@ -83,6 +85,8 @@ pub enum Answer<'a> {
     ClearRefused(StartRefusal),
     /// The exchanges that were counted, and whether the line is quiet.
     Settled(u32, bool),
+    /// The same of each settle of a recovery.
+    Recovered([u32; 3], bool),
     /// The numbers R, N, A, T; how many messages are kept, and how many wait in the inbox; whether
     /// the timer is on.
     Station(State, [u8; 4], u8, u8, bool),
@@ -122,7 +126,7 @@ pub const EMPTY: Histories = Histories {
     acknowledged: [0, 0],
 };
 
-/// The event that it is; none of a settle and of a look.
+/// The event that it is, if it is one.
 pub fn event_of(alloc: Global, action: Action) -> Result<Option<Event>, AllocError> {
     let event = match action {
         Action::Start(end) => Event::Start(end),
@@ -135,7 +139,7 @@ pub fn event_of(alloc: Global, action: Action) -> Result<Option<Event>, AllocErr
         Action::Expire(end) => Event::Expire(end),
         Action::Take(end) => Event::Take(end),
         Action::Clear => Event::Clear,
-        Action::Settle | Action::Look(_) => return Ok(None),
+        Action::Settle | Action::Round | Action::Recover | Action::Look(_) => return Ok(None),
     };
     Ok(Some(event))
 }
@@ -213,6 +217,16 @@ impl Bench {
                     Ok(s) => assert_eq!(rt; Answer::Settled(s.exchanges, s.quiet), *answer, "{i}"),
                     Err(refused) => panic!(rt; "{refused:?} at {i}"),
                 },
+                Action::Round => match self.round() {
+                    Ok(s) => assert_eq!(rt; Answer::Settled(s.exchanges, s.quiet), *answer, "{i}"),
+                    Err(refused) => panic!(rt; "{refused:?} at {i}"),
+                },
+                Action::Recover => match self.recover() {
+                    Ok(r) => {
+                        assert_eq!(rt; Answer::Recovered(r.exchanges, r.quiet), *answer, "{i}")
+                    }
+                    Err(refused) => panic!(rt; "{refused:?} at {i}"),
+                },
                 Action::Look(end) => assert_eq!(rt; look(self.pair.station(*end)), *answer, "{i}"),
                 _ => assert_eq!(rt; answer_of(&self.does(rt, *action)), *answer, "{i}"),
             }
@@ -227,6 +241,16 @@ impl Bench {
     /// A settle, which may find no memory.
     pub fn settle(&mut self) -> Result<Settled, Memory> {
         self.pair.settle()
+    }
+
+    /// A round, which may find no memory.
+    pub fn round(&mut self) -> Result<Settled, Memory> {
+        self.pair.round()
+    }
+
+    /// A recovery, which may find no memory.
+    pub fn recover(&mut self) -> Result<Recovered, Memory> {
+        self.pair.recover()
     }
 
     /// The reply to an event.

@@ -12,6 +12,8 @@ mod memory;
 #[cfg(test)]
 mod order;
 #[cfg(test)]
+mod recoveries;
+#[cfg(test)]
 mod rows;
 #[cfg(test)]
 mod settles;

@@ -5,7 +5,9 @@ use crate::bench::{
     USUAL, answer_of, event_of,
 };
 use crate::calls::{ARRIVED, events_of, path_of_one_message};
-use ddcmp_line::{ConfigRefusal, End, Event, Notice, Pair, PairRefusal, RunRefusal, Seq, Settled};
+use ddcmp_line::{
+    ConfigRefusal, End, Event, Notice, Pair, PairRefusal, Recovered, RunRefusal, Seq, Settled,
+};
 use ddcmp_station::{Counters, Header, Numbers, State};
 use std::process::Abort;
 
@@ -132,7 +134,7 @@ impl Patient {
             }
             Err(_memory) => {
                 self.refused = true;
-                assert!(rt; is_among_settling(rt, &tells(&self.bench.pair)));
+                assert!(rt; is_among(rt, &SETTLING, &tells(&self.bench.pair)));
                 self.settles_again(rt);
                 self.expires(rt);
                 self.settles_again(rt);
@@ -140,6 +142,31 @@ impl Patient {
                 self.settles_again(rt);
             }
         }
+    }
+
+    /// The recovery is done, or some of its steps are, and the next one is.
+    fn recovers(&mut self, rt: &(impl Abort + AllocGlobal)) {
+        match self.bench.recover() {
+            Ok(recovered) => {
+                let exchanges = [1, 0, 0];
+                assert_eq!(rt;
+                    recovered,
+                    Recovered {
+                        exchanges,
+                        quiet: true
+                    }
+                );
+            }
+            Err(_memory) => {
+                self.refused = true;
+                assert!(rt; is_among(rt, &recovering(), &tells(&self.bench.pair)));
+                match self.bench.recover() {
+                    Ok(recovered) => assert!(rt; recovered.quiet),
+                    Err(_memory) => panic!(rt; "memory is refused twice"),
+                }
+            }
+        }
+        assert!(rt; self.bench.pair.done());
     }
 
     fn settles_again(&mut self, rt: &impl Abort) {
@@ -178,17 +205,34 @@ const SETTLING: [Step; 8] = [
     (Action::Poll(End::B), Answer::Idle),
 ];
 
-/// Whether a pair that was to settle tells this between two of the settle's steps.
-fn is_among_settling(rt: &(impl Abort + AllocGlobal), seen: &Told) -> bool {
+/// What each round does after it.
+const ROUND: [Step; 4] = [
+    (Action::Expire(End::A), Answer::Expired(false)),
+    (Action::Expire(End::B), Answer::Expired(false)),
+    (Action::Poll(End::A), Answer::Idle),
+    (Action::Poll(End::B), Answer::Idle),
+];
+
+/// Whether a pair that was to do these steps tells this between two of them.
+fn is_among(rt: &(impl Abort + AllocGlobal), steps: &[Step], seen: &Told) -> bool {
     let mut bench = Bench::running(rt, USUAL);
     bench.plays(rt, &TO_SETTLE);
-    for step in &SETTLING {
+    for step in steps {
         if tells(&bench.pair) == *seen {
             return true;
         }
         bench.plays(rt, &[*step]);
     }
     tells(&bench.pair) == *seen
+}
+
+/// What a recovery does then.
+fn recovering() -> [Step; 16] {
+    let mut steps = [ROUND[0]; 16];
+    steps[..8].copy_from_slice(&SETTLING);
+    steps[8..12].copy_from_slice(&ROUND);
+    steps[12..].copy_from_slice(&ROUND);
+    steps
 }
 
 /// Whether memory is refused on the path of one message.
@@ -205,15 +249,25 @@ fn is_refused_to_a_settle(rt: &(impl Abort + AllocGlobal)) -> bool {
     patient.plays(rt, &STARTUP);
     patient.plays(rt, &TO_SETTLE);
     patient.settles(rt);
-    patient.bench.has(
-        rt,
-        &Histories {
-            given: [&[b"abc", b"abc"], &[]],
-            handed_up: [&[], &[b"abc", b"abc"]],
-            acknowledged: [2, 0],
-            ..EMPTY
-        },
-    );
+    patient.bench.has(rt, &SETTLED);
+    patient.refused
+}
+
+/// After a settle.
+const SETTLED: Histories = Histories {
+    given: [&[b"abc", b"abc"], &[]],
+    handed_up: [&[], &[b"abc", b"abc"]],
+    acknowledged: [2, 0],
+    ..EMPTY
+};
+
+/// Whether memory is refused on the way to a recovery, or to it.
+fn is_refused_to_a_recovery(rt: &(impl Abort + AllocGlobal)) -> bool {
+    let mut patient = Patient::new(rt);
+    patient.plays(rt, &STARTUP);
+    patient.plays(rt, &TO_SETTLE);
+    patient.recovers(rt);
+    patient.bench.has(rt, &SETTLED);
     patient.refused
 }
 
@@ -258,6 +312,11 @@ fn refused_memory_stops_a_settle(rt: HostRuntime) {
 }
 
 #[test]
+fn refused_memory_stops_a_recovery(rt: HostRuntime) {
+    let _either = is_refused_to_a_recovery(&rt);
+}
+
+#[test]
 fn refused_memory_stops_a_run(rt: HostRuntime) {
     let _either = is_refused_to_a_run(&rt);
 }
@@ -270,6 +329,11 @@ fn ample_memory_steps(rt: HostRuntime) {
 #[test]
 fn ample_memory_settles(rt: HostRuntime) {
     assert!(rt; !is_refused_to_a_settle(&rt));
+}
+
+#[test]
+fn ample_memory_recovers(rt: HostRuntime) {
+    assert!(rt; !is_refused_to_a_recovery(&rt));
 }
 
 #[test]

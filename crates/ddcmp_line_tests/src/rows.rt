@@ -140,6 +140,7 @@ fn the_widest_window_is_sent_again(rt: HostRuntime) {
     }
     bench.plays(&rt, &WINDOW_LOST);
     bench.has_many(&rt, b"a", 255);
+    assert!(rt; bench.pair.ready() && bench.pair.done());
 }
 
 /// Data message 2, `b`.
@@ -203,7 +204,10 @@ fn a_full_inbox_refuses(rt: HostRuntime) {
             inbox: 1,
             ..USUAL
         };
-        holds(&rt, config, 8, steps, &histories);
+        let mut bench = Bench::running(&rt, config);
+        bench.plays(&rt, steps);
+        bench.has(&rt, &histories);
+        assert!(rt; bench.pair.ready() && bench.pair.done());
     }
 }
 

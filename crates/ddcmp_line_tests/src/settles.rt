@@ -20,18 +20,18 @@ const SHORT_2: &[u8] = &[
 
 /// A line that loses frames is repaired: the timers of both ends run out, or not, and all settles.
 #[derive(Clone, Copy)]
-struct Repair {
-    shows: &'static str,
+pub struct Repair {
+    pub shows: &'static str,
     /// How many steps of the startup come before.
-    startup: usize,
-    steps: &'static [Step],
-    settled: u32,
-    expired: [[bool; 2]; 2],
-    rounds: [u32; 2],
-    histories: Histories,
+    pub startup: usize,
+    pub steps: &'static [Step],
+    pub settled: u32,
+    pub expired: [[bool; 2]; 2],
+    pub rounds: [u32; 2],
+    pub histories: Histories,
 }
 
-const NOTHING_BEGUN: Repair = Repair {
+pub const NOTHING_BEGUN: Repair = Repair {
     shows: "nothing has begun",
     startup: 0,
     steps: &[],
@@ -41,14 +41,14 @@ const NOTHING_BEGUN: Repair = Repair {
     histories: EMPTY,
 };
 
-const START_LOST: Repair = Repair {
+pub const START_LOST: Repair = Repair {
     shows: "a STRT is lost",
     startup: 3,
     settled: 2,
     ..NOTHING_BEGUN
 };
 
-const MESSAGES_LOST: Repair = Repair {
+pub const MESSAGES_LOST: Repair = Repair {
     shows: "two messages are lost",
     startup: 8,
     steps: &[
@@ -69,7 +69,7 @@ const MESSAGES_LOST: Repair = Repair {
 };
 
 /// The first REP is ignored by an end that starts.
-const STARTUP_LOST: Repair = Repair {
+pub const STARTUP_LOST: Repair = Repair {
     shows: "the end of the startup and a message are lost",
     startup: 7,
     steps: &[
@@ -88,7 +88,7 @@ const STARTUP_LOST: Repair = Repair {
 };
 
 /// Between two running ends with a window of two messages and an inbox of one.
-const BOTH_LOSE: Repair = Repair {
+pub const BOTH_LOSE: Repair = Repair {
     shows: "both ends lose messages",
     startup: 0,
     steps: &[
@@ -120,19 +120,21 @@ const BOTH_LOSE: Repair = Repair {
     },
 };
 
+/// Ends with little room.
+pub const SMALL: Config = Config {
+    window: 2,
+    inbox: 1,
+    ..USUAL
+};
+
 #[test]
 fn a_repaired_line_settles(rt: HostRuntime) {
-    let small = Config {
-        window: 2,
-        inbox: 1,
-        ..USUAL
-    };
     for (config, repair) in [
         (USUAL, NOTHING_BEGUN),
         (USUAL, START_LOST),
         (USUAL, MESSAGES_LOST),
         (USUAL, STARTUP_LOST),
-        (small, BOTH_LOSE),
+        (SMALL, BOTH_LOSE),
     ] {
         let mut bench = Bench::new(&rt, config, config);
         assert!(rt; repair.startup <= 8, "{}", repair.shows);
