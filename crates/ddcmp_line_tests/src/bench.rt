@@ -174,7 +174,7 @@ pub fn look(station: &Station) -> Answer<'static> {
 }
 
 /// The most bytes of a message at any end.
-const LONGEST: usize = 16383;
+pub const LONGEST: usize = 16383;
 
 /// A pair of which each step finds memory.
 #[derive(Drop)]
@@ -344,7 +344,7 @@ impl Bench {
     }
 
     /// Message `i` of those handed up at an end, in `out`.
-    fn handed_up_at<'a>(
+    pub fn handed_up_at<'a>(
         &self,
         rt: &impl Abort,
         end: End,

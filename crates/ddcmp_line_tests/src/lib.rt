@@ -10,6 +10,8 @@ mod honesty;
 #[cfg(test)]
 mod memory;
 #[cfg(test)]
+mod order;
+#[cfg(test)]
 mod recoveries;
 #[cfg(test)]
 mod rows;

@@ -81,7 +81,7 @@ fn lost_messages_are_sent_again(rt: HostRuntime) {
         acknowledged: [2, 0],
         ..EMPTY
     };
-    for window in [7, 255] {
+    for window in [7, 127, 255] {
         let config = Config { window, ..USUAL };
         holds(&rt, config, 8, &SENT_AGAIN, &histories);
     }
@@ -102,7 +102,7 @@ const AFTER_300: [Step; 2] = [
 /// Message 256 has number 0.
 #[test]
 fn numbers_go_round(rt: HostRuntime) {
-    for window in [7, 255] {
+    for window in [1, 7, 127, 255] {
         let mut bench = Bench::running(&rt, Config { window, ..USUAL });
         for number in 1..=300u16 {
             let accepted = Answer::Accepted(Seq((number % 256) as u8));
@@ -164,6 +164,26 @@ const NO_ROOM: [Step; 10] = [
     (Action::Settle, Answer::Settled(1, true)),
 ];
 
+/// The same where a window of one message lets the second out once the first is acknowledged.
+const NO_ROOM_FOR_ONE: [Step; 13] = [
+    (Action::Send(End::A, b"a"), Answer::Accepted(Seq(1))),
+    (
+        Action::Send(End::A, b"b"),
+        Answer::SendRefused(SendRefusal::WindowFull),
+    ),
+    (Action::Poll(End::A), Answer::Wrote(SHORT_1)),
+    (Action::Arrive(End::B, SHORT_1), HANDED_UP),
+    (Action::Poll(End::B), Answer::Wrote(ACK_1)),
+    (Action::Arrive(End::A, ACK_1), ACKNOWLEDGED),
+    (Action::Send(End::A, b"b"), Answer::Accepted(Seq(2))),
+    (Action::Poll(End::A), Answer::Wrote(SHORT_2)),
+    (Action::Arrive(End::B, SHORT_2), NO_NOTICE),
+    (Action::Poll(End::B), Answer::Wrote(NAK_8)),
+    (Action::Arrive(End::A, NAK_8), NO_NOTICE),
+    (Action::Take(End::B), Answer::Took(b"a")),
+    (Action::Settle, Answer::Settled(1, true)),
+];
+
 #[test]
 fn a_full_inbox_refuses(rt: HostRuntime) {
     let histories = Histories {
@@ -172,10 +192,23 @@ fn a_full_inbox_refuses(rt: HostRuntime) {
         acknowledged: [2, 0],
         ..EMPTY
     };
-    let mut bench = Bench::running(&rt, Config { inbox: 1, ..USUAL });
-    bench.plays(&rt, &NO_ROOM);
-    bench.has(&rt, &histories);
-    assert!(rt; bench.pair.ready() && bench.pair.done());
+    let cases: [(u16, &[Step]); 4] = [
+        (1, &NO_ROOM_FOR_ONE),
+        (7, &NO_ROOM),
+        (127, &NO_ROOM),
+        (255, &NO_ROOM),
+    ];
+    for (window, steps) in cases {
+        let config = Config {
+            window,
+            inbox: 1,
+            ..USUAL
+        };
+        let mut bench = Bench::running(&rt, config);
+        bench.plays(&rt, steps);
+        bench.has(&rt, &histories);
+        assert!(rt; bench.pair.ready() && bench.pair.done());
+    }
 }
 
 /// A message that is an ACK 1, as its frame is written and as it comes with its header damaged.
@@ -228,19 +261,21 @@ const CLEARED: [Step; 5] = [
 
 #[test]
 fn a_cleared_line_begins_anew(rt: HostRuntime) {
-    let mut bench = Bench::running(&rt, USUAL);
-    bench.plays(&rt, &SECOND_START);
-    bench.has(
-        &rt,
-        &Histories {
-            clean: false,
-            given: [&[b"abc"], &[]],
-            handed_up: [&[], &[b"abc"]],
-            ..EMPTY
-        },
-    );
-    bench.plays(&rt, &CLEARED);
-    bench.has(&rt, &EMPTY);
+    for window in [1, 7, 127, 255] {
+        let mut bench = Bench::running(&rt, Config { window, ..USUAL });
+        bench.plays(&rt, &SECOND_START);
+        bench.has(
+            &rt,
+            &Histories {
+                clean: false,
+                given: [&[b"abc"], &[]],
+                handed_up: [&[], &[b"abc"]],
+                ..EMPTY
+            },
+        );
+        bench.plays(&rt, &CLEARED);
+        bench.has(&rt, &EMPTY);
+    }
 }
 
 /// The maintenance message `abc`.
