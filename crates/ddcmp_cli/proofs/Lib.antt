@@ -7,3 +7,4 @@ pub mod ExplainLaws
 pub mod TakeLaws
 pub mod CommandLaws
 pub mod MaximumLaws
+pub mod ServingLaws

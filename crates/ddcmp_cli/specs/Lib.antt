@@ -5,3 +5,4 @@ pub mod Explains
 pub mod Progress
 pub mod Words
 pub mod Endings
+pub mod Serving

@@ -13,6 +13,9 @@ pub mod form;
 mod hex_digits;
 mod lines;
 pub mod program;
+mod reporter;
+pub mod serve_fault;
+pub mod serving;
 mod text;
 
 pub use command::{Command, read_words};
@@ -22,3 +25,5 @@ pub use explain_fault::ExplainFault;
 pub use explaining::explain;
 pub use form::Form;
 pub use program::{explain_is_asked, run, run_args};
+pub use serve_fault::ServeFault;
+pub use serving::{SERVED_MAX, serve};

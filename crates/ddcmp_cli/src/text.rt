@@ -34,7 +34,7 @@ fn flags_name(flags: Flags) -> &'static [u8]
 }
 
 /// A number in decimal digits.
-fn write_number<W: Sink, I: Integer>(page: &mut Page, writer: &mut W, number: I)
+pub(crate) fn write_number<W: Sink, I: Integer>(page: &mut Page, writer: &mut W, number: I)
     ensures { HandsOver (output_of W.broken W.contents writer.old page.old)
         (output_of W.broken W.contents writer.new page.new) (I.text number) }
 {
@@ -169,7 +169,7 @@ fn write_chunk<W: Sink>(page: &mut Page, writer: &mut W, bytes: &[u8])
 }
 
 /// All bytes in hexadecimal digits.
-fn write_hex<W: Sink>(page: &mut Page, writer: &mut W, bytes: &[u8])
+pub(crate) fn write_hex<W: Sink>(page: &mut Page, writer: &mut W, bytes: &[u8])
     ensures { HandsOver (output_of W.broken W.contents writer.old page.old)
         (output_of W.broken W.contents writer.new page.new) (encode_lower bytes.now) }
 {
