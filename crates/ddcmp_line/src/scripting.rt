@@ -3,6 +3,7 @@ ghost use Rattle.std.specs.Prelude.{◌≡◌, ◌≢◌, ◌⊎◌, ◌↔◌, 
 ghost use Rattle.std.specs.Io.KnownBytes.{Appends, Consumes, IsAtEnd};
 ghost use Rattle.ddcmp_frame.specs.Written.{AppendsPart, HandsOver, output_of};
 ghost use Rattle.ddcmp_line.specs.Run.{PairState};
+ghost use Rattle.ddcmp_line.specs.InOrder.{IsInOrder};
 ghost use Rattle.ddcmp_line.specs.Input.{GaveMost};
 ghost use Rattle.ddcmp_line.specs.ScriptWords.{without_cr as without_cr_of};
 ghost use Rattle.ddcmp_line.specs.ScriptText.{yes_or_no as yes_or_no_text, last_line};
@@ -259,7 +260,11 @@ pub fn script<R: Source, W: Sink, C: Carrier>(
         → length input ≡ length rest + (2 ^ 64 - 1) → result ≡ Err ScriptFault.Read }
     ensures write { (result ≡ Err ScriptFault.Write) ↔ IsTrue (W.broken writer.new) }
     ensures carried { (result ≡ Err ScriptFault.Carrier) ↔ IsTrue (C.broken carrier.new) }
+    // Whatever is answered, messages are in order.
+    ensures order { IsInOrder pair.new }
 {
     let mut player = Player::new(alloc);
-    player.take_all(pair, reader, writer, carrier)
+    let done = player.take_all(pair, reader, writer, carrier);
+    pair.is_run();
+    done
 }
