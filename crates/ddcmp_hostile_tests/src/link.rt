@@ -2,7 +2,7 @@
 //! pieces or not at all.
 ghost use Rattle.std.specs.Prelude.{◌≤◌};
 
-use ddcmp_line::{Bytes, Config, End, Event, Memory, Pair, Reply, Settled, State};
+use ddcmp_line::{Bytes, Config, End, Event, Memory, Pair, Recovered, Reply, Settled, State};
 use std::collections::VecDeque;
 use std::process::Abort;
 
@@ -57,6 +57,10 @@ impl Link {
 
     fn settle(&mut self) -> Result<Settled, Memory> {
         self.pair.settle()
+    }
+
+    fn recover(&mut self) -> Result<Recovered, Memory> {
+        self.pair.recover()
     }
 
     /// The reply to an event. Memory is ample.
@@ -158,6 +162,15 @@ impl Link {
         self.loses_all();
         match self.settle() {
             Ok(settled) => settled,
+            Err(refused) => panic!(rt; "{refused:?}"),
+        }
+    }
+
+    /// A settle and two rounds.
+    pub fn recovers(&mut self, rt: &impl Abort) -> Recovered {
+        self.loses_all();
+        match self.recover() {
+            Ok(recovered) => recovered,
             Err(refused) => panic!(rt; "{refused:?}"),
         }
     }

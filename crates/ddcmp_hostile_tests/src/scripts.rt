@@ -4,7 +4,7 @@ ghost use Rattle.std.specs.Prelude.{◌<◌};
 
 use crate::draws::Draws;
 use crate::link::{Link, copy_of};
-use ddcmp_line::{Config, End, Event, State};
+use ddcmp_line::{Config, End, Event};
 use std::process::Abort;
 
 /// The sizes of one end.
@@ -153,23 +153,12 @@ fn happens(
     }
 }
 
-/// Whether nothing is unfinished at an end, and it isn't halted.
-fn is_ready(link: &Link, end: End) -> bool {
-    let station = link.pair.station(end);
-    station.state() != State::Halted && station.open() == 0
-}
-
-/// Where the line is honest, the run clean and nothing unfinished, a settle and two rounds repair
-/// the line whatever was lost: all that was given was handed up, and is told acknowledged.
+/// Where the pair is ready, a recovery repairs the line whatever was lost: all that was given was
+/// handed up, and is told acknowledged.
 fn recovers(rt: &impl Abort, link: &mut Link, tally: &mut Tally) {
-    let ready = link.pair.honest()
-        && link.pair.clean()
-        && is_ready(link, End::A)
-        && is_ready(link, End::B);
-    if ready {
-        assert!(rt; link.settles(rt).quiet);
-        assert!(rt; link.rounds(rt).quiet);
-        assert!(rt; link.rounds(rt).quiet);
+    if link.pair.ready() {
+        assert!(rt; link.recovers(rt).quiet);
+        assert!(rt; link.pair.done());
         link.is_done(rt);
         tally.repaired = tally.repaired.saturating_add(1);
     }
