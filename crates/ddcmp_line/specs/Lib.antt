@@ -1,13 +1,5 @@
-pub mod InOrder
 pub mod Input
-pub mod Link
-pub mod Place
-pub mod Prefix
-pub mod Recovery
-pub mod Run
 pub mod Script
 pub mod ScriptSteps
 pub mod ScriptText
 pub mod ScriptWords
-pub mod Settle
-pub mod Sides

@@ -1,18 +1,18 @@
 -- Scripts: what their lines do to two ends and to the frames between them.
 use Rattle.std.specs.Prelude.{◌≡◌, ◌≢◌, ◌⊎◌, ℕ, ◌+◌, ◌-◌, ◌<◌, ◌^◌, Bool, true, false, if◌then◌else◌, nat_lt, ◌==◌, List, [], ◌∷◌, ◌++◌, length, take, drop, map, slice_set, slice_index_or, bit_xor, codes, decimal, Option, Some, None, option_map, Result, Ok, Err, ⊤}
 use Rattle.ddcmp_frame.specs.Device.{Logs}
-use Rattle.ddcmp_line.specs.declared.event.End.{End}
-use Rattle.ddcmp_line.specs.declared.event.End.TheVariants.{A, B}
-use Rattle.ddcmp_line.specs.declared.event.Event.{Event}
-use Rattle.ddcmp_line.specs.declared.event.Event.TheVariants as event
-use Rattle.ddcmp_line.specs.declared.event.Reply.{Reply}
-use Rattle.ddcmp_line.specs.declared.event.Reply.TheVariants as reply
+use Rattle.ddcmp_pair.specs.declared.event.End.{End}
+use Rattle.ddcmp_pair.specs.declared.event.End.TheVariants.{A, B}
+use Rattle.ddcmp_pair.specs.declared.event.Event.{Event}
+use Rattle.ddcmp_pair.specs.declared.event.Event.TheVariants as event
+use Rattle.ddcmp_pair.specs.declared.event.Reply.{Reply}
+use Rattle.ddcmp_pair.specs.declared.event.Reply.TheVariants as reply
 use Rattle.ddcmp_line.specs.declared.command.Command.{Command}
 use Rattle.ddcmp_line.specs.declared.command.Command.TheVariants.{Happens, Carry, Lose, Damage, Raw, Settle, State}
 use Rattle.ddcmp_line.specs.declared.command.Reading.{Reading}
 use Rattle.ddcmp_line.specs.declared.command.Reading.TheVariants.{Skipped, Asks, NoCommand, NotHex}
-use Rattle.ddcmp_line.specs.Run.{PairState, at, reply_to, end_of, run}
-use Rattle.ddcmp_line.specs.Settle.{other, settling}
+use Rattle.ddcmp_pair.specs.Run.{PairState, at, reply_to, end_of, run}
+use Rattle.ddcmp_pair.specs.Settle.{other, settling}
 use Rattle.ddcmp_line.specs.ScriptWords.{reading_of}
 use Rattle.ddcmp_line.specs.ScriptText.{name_of, name_before, counted_line, reply_text, settled_text, damage_text, station_line}
 

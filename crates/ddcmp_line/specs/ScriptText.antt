@@ -11,11 +11,11 @@ use Rattle.ddcmp_core.specs.SendRefusal.TheVariants.{WrongState, Empty, TooLong,
 use Rattle.ddcmp_core.specs.declared.state.State.{State}
 use Rattle.ddcmp_core.specs.declared.state.State.TheVariants.{Halted, IStart, AStart, Running, Maintenance}
 use Rattle.ddcmp_core.specs.Table.{StationState, is_on}
-use Rattle.ddcmp_line.specs.declared.event.End.{End}
-use Rattle.ddcmp_line.specs.declared.event.End.TheVariants.{A, B}
-use Rattle.ddcmp_line.specs.declared.event.Reply.{Reply}
-use Rattle.ddcmp_line.specs.declared.event.Reply.TheVariants as reply
-use Rattle.ddcmp_line.specs.Run.{PairState, handed_up, is_clean}
+use Rattle.ddcmp_pair.specs.declared.event.End.{End}
+use Rattle.ddcmp_pair.specs.declared.event.End.TheVariants.{A, B}
+use Rattle.ddcmp_pair.specs.declared.event.Reply.{Reply}
+use Rattle.ddcmp_pair.specs.declared.event.Reply.TheVariants as reply
+use Rattle.ddcmp_pair.specs.Run.{PairState, handed_up, is_clean}
 
 -- who answers, before the words of the answer
 abbrev pub name_of : End → List ℕ

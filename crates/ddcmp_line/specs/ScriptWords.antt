@@ -3,14 +3,14 @@ use Rattle.std.specs.Prelude.{ℕ, ◌+◌, ◌-◌, ◌*◌, Bool, true, false,
 use Rattle.std.specs.List.{slice_split}
 use Rattle.hex.specs.Hex.{decode_of, decode_sized}
 use Rattle.hex.specs.declared.error.FromHexError.{FromHexError}
-use Rattle.ddcmp_line.specs.declared.event.End.{End}
-use Rattle.ddcmp_line.specs.declared.event.End.TheVariants.{A, B}
-use Rattle.ddcmp_line.specs.declared.event.Event.TheVariants as event
+use Rattle.ddcmp_pair.specs.declared.event.End.{End}
+use Rattle.ddcmp_pair.specs.declared.event.End.TheVariants.{A, B}
+use Rattle.ddcmp_pair.specs.declared.event.Event.TheVariants as event
 use Rattle.ddcmp_line.specs.declared.command.Command.{Command}
 use Rattle.ddcmp_line.specs.declared.command.Command.TheVariants.{Happens, Carry, Lose, Damage, Raw, Settle, State}
 use Rattle.ddcmp_line.specs.declared.command.Reading.{Reading}
 use Rattle.ddcmp_line.specs.declared.command.Reading.TheVariants.{Skipped, Asks, NoCommand, NotHex}
-use Rattle.ddcmp_line.specs.Place.{same_bytes}
+use Rattle.ddcmp_pair.specs.Place.{same_bytes}
 
 -- ---- words
 

@@ -1,7 +1,7 @@
 //! What carries the bytes of frames from one end to the other.
 ghost use Rattle.std.specs.Prelude.{◌≡◌, ◌∷◌, [], length, take, true, false, None, Some, is_err, IfOk, OnErr, Bool, List, ℕ, Option};
 
-use crate::event::End;
+use ddcmp_pair::End;
 use ddcmp_station::LineFault;
 
 /// What carries bytes from one end of a line to the other.

@@ -2,11 +2,10 @@
 ghost use Rattle.std.specs.Prelude.{◌≡◌, ◌∷◌, ◌*◌, ◌^◌, ◌<◌, ◌==◌, [], length, take, Some, None, is_some, IfSome, IfOk, codes};
 ghost use Rattle.std.specs.Option.{option_map_or};
 ghost use Rattle.std.specs.List.{slice_split};
-ghost use Rattle.ddcmp_line.specs.Place.{same_bytes};
+ghost use Rattle.ddcmp_pair.specs.Place.{same_bytes};
 ghost use Rattle.ddcmp_line.specs.ScriptWords.{is_digit as is_digit_byte, end_named as end_of_word, number_in as number_of_word, bytes_in as bytes_of_word, byte_in as byte_of_word, alone, command_at as command_of, asked_at, cut_of, asked_with, asked_damage, asked_by, asked_in, words as words_of, reading_of};
 
-use crate::bytes::Bytes;
-use crate::event::{End, Event};
+use ddcmp_pair::{Bytes, End, Event};
 use ddcmp_station::Memory;
 use hex::FromHexError;
 use std::alloc::Global;

@@ -2,8 +2,7 @@
 ghost use Rattle.std.specs.Prelude.{◌≡◌, ◌∷◌, ◌+◌, ◌<◌, ◌≤◌, ◌==◌, [], length, drop, slice_set, slice_index_or, bit_xor, true, false, IfSome, MatchOption, List, ℕ};
 ghost use Rattle.ddcmp_line.specs.Script.{changed, taken_off, with_change, has_byte};
 
-use crate::bytes::Bytes;
-use crate::event::{End, Reply};
+use ddcmp_pair::{Bytes, End, Reply};
 use std::alloc::Global;
 use std::collections::VecDeque;
 use std::marker::Model;

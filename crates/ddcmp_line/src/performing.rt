@@ -2,27 +2,25 @@
 ghost use Rattle.std.specs.Prelude.{◌≡◌, ◌≢◌, ◌↔◌, ◌++◌, ◌∷◌, [], true, false, length, Some, None, Ok, Err, IsOk, OnOk, OnErr, List, ℕ, IsTrue, codes};
 ghost use Rattle.ddcmp_frame.specs.Device.{Logs};
 ghost use Rattle.ddcmp_frame.specs.Written.{HandsOver, output_of};
-ghost use Rattle.ddcmp_line.specs.Run.{PairState, at, end_of, after_event, reply_to, run};
-ghost use Rattle.ddcmp_line.specs.Settle.{other, settling, StoppedAmong};
+ghost use Rattle.ddcmp_pair.specs.Run.{PairState, at, end_of, after_event, reply_to, run};
+ghost use Rattle.ddcmp_pair.specs.Settle.{other, settling, StoppedAmong};
 ghost use Rattle.ddcmp_line.specs.ScriptWords.{reading_of};
 ghost use Rattle.ddcmp_line.specs.ScriptText.{name_of, reply_text};
 ghost use Rattle.ddcmp_line.specs.Script.{Between, lines_after, nothing_between, frames_after, frames_of, with_frames, part_of, outcome_of, outcome_of_event, outcome_of_carry, outcome_of_lose, outcome_of_damage, outcome_of_settle, arrival_text, after_outcome, events_by, HasCarried};
 ghost use Rattle.ddcmp_line.specs.ScriptSteps.{scene_of, stopped_of, Comes, Carries, LineEnds};
 ghost use Rattle.ddcmp_line.specs.declared.command.Reading.{Reading as ReadingValue};
-ghost use Rattle.ddcmp_line.specs.declared.event.Event.TheVariants as event_value;
-ghost use Rattle.ddcmp_line.specs.declared.event.Reply.{Reply as ReplyValue};
+ghost use Rattle.ddcmp_pair.specs.declared.event.Event.TheVariants as event_value;
+ghost use Rattle.ddcmp_pair.specs.declared.event.Reply.{Reply as ReplyValue};
 
-use crate::bytes::Bytes;
 use crate::carrier::Carrier;
 use crate::command::{Command, Reading, read_line};
-use crate::event::{End, Event, Reply};
 use crate::frame_lines::{FrameLeft, FrameLines};
-use crate::pair::Pair;
 use crate::reply_text::{
     damage_name, end_name, write_bytes, write_counted, write_plain, write_reply, write_settled,
     write_station,
 };
 use ddcmp_frame::{Page, Sink};
+use ddcmp_pair::{Bytes, End, Event, Pair, Reply};
 use ddcmp_station::Memory;
 use std::alloc::Global;
 use std::collections::VecDeque;

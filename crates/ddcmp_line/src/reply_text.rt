@@ -4,9 +4,9 @@ ghost use Rattle.std.specs.List.{flat_map};
 ghost use Rattle.ddcmp_frame.specs.Written.{HandsOver, output_of};
 ghost use Rattle.ddcmp_line.specs.ScriptText.{name_of, start_refusal_text, clear_refusal_text, send_refusal_text, expired_text, notice_word, notice_number as notice_number_of, notice_line, counted_line, bytes_line, reply_text, state_text, timer_text, numbers_text, station_line, quiet_text, settled_text, damage_text};
 
-use crate::event::{End, Reply};
 use crate::text::{write_hex, write_number};
 use ddcmp_frame::{Page, Sink};
+use ddcmp_pair::{End, Reply};
 use ddcmp_station::{Notice, SendRefusal, StartRefusal, State, Station};
 
 /// Who answers, before the words of the answer.

@@ -2,21 +2,20 @@
 ghost use Rattle.std.specs.Prelude.{◌≡◌, ◌≢◌, ◌⊎◌, ◌↔◌, ◌+◌, ◌-◌, ◌<◌, ◌≤◌, ◌^◌, ◌∷◌, ◌++◌, [], false, Bool, List, ℕ, Option, Some, Err, IsOk, OnErr, IsTrue, length};
 ghost use Rattle.std.specs.Io.KnownBytes.{Appends, Consumes, IsAtEnd};
 ghost use Rattle.ddcmp_frame.specs.Written.{AppendsPart, HandsOver, output_of};
-ghost use Rattle.ddcmp_line.specs.Run.{PairState};
-ghost use Rattle.ddcmp_line.specs.InOrder.{IsInOrder};
+ghost use Rattle.ddcmp_pair.specs.Run.{PairState};
+ghost use Rattle.ddcmp_pair.specs.InOrder.{IsInOrder};
 ghost use Rattle.ddcmp_line.specs.Input.{GaveMost};
 ghost use Rattle.ddcmp_line.specs.ScriptWords.{without_cr as without_cr_of};
 ghost use Rattle.ddcmp_line.specs.ScriptText.{yes_or_no as yes_or_no_text, last_line};
 ghost use Rattle.ddcmp_line.specs.Script.{Carriage};
 
 use crate::carrier::Carrier;
-use crate::event::End;
 use crate::input::read_within;
-use crate::pair::Pair;
 use crate::performing::{Stage, Stop};
 use crate::script_fault::ScriptFault;
 use crate::text::write_number;
 use ddcmp_frame::{Got, Page, Sink, Source, Worst};
+use ddcmp_pair::{End, Pair};
 use std::alloc::Global;
 
 /// How many bytes of a script are read at once.

@@ -1,7 +1,0 @@
-use Rattle.std.proofs.Common.{◌≡◌}
-use Rattle.ddcmp_line.specs.Place.{place_after}
-use Rattle.ddcmp_line.proofs.side.hearing.place_after.Given as goal
-
--- what is looked for from here on is what was looked for at first
-abbrev pub invariant-loop-i : goal.invariant-loop-i
-invariant-loop-i l = place_after (l.header, l.data) l.sent l.i ≡ place_after (l.header, l.data) l.sent l.place

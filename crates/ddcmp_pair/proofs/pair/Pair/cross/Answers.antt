@@ -1,0 +1,59 @@
+use Rattle.std.proofs.Common.{◌∙◌, ap, sym, subst, refl}
+use Rattle.std.specs.Prelude.{is_some}
+use Rattle.ddcmp_pair.specs.declared.event.End.{End}
+use Rattle.ddcmp_pair.specs.declared.event.Event.TheVariants as event
+use Rattle.ddcmp_pair.specs.Run.{after_event, run}
+use Rattle.ddcmp_pair.specs.Settle.{carried, crossing, mail_events, other, StoppedAmong}
+use Rattle.ddcmp_pair.proofs.Runs.{on-err, polled-some, polled-none, crossing-writes, crossing-idles, run-append, run-one, run-carried, stopped-none, stopped-first, stopped-later, stopped-polled}
+use Rattle.ddcmp_pair.proofs.pair.Pair.cross.Goals as goal
+
+pub returns-in_err-bytes-clause-memory : goal.returns-in_err-bytes-clause-memory
+returns-in_err-bytes-clause-memory c =
+    on-err _ (subst (StoppedAmong (crossing c.args.from c.args.self.now) c.args.self.now) (sym c.in_err-bytes.ensures.memory) (stopped-none _ c.args.self.now))
+
+pub returns-in_default : goal.returns-in_default
+returns-in_default c =
+    let none = polled-none c.args.from c.args.self.now (λ bytes e. c.in_default.not-Wrote bytes (c.in_ok-bytes.ensures.reply ∙ e)) in
+    record {
+      state = λ ok. c.in_ok-bytes.ensures.state refl ∙ sym (run-one (event.Poll c.args.from) c.args.self.now)
+          ∙ ap (λ t. run t c.args.self.now) (sym (crossing-idles c.args.from c.args.self.now none));
+      wrote = sym (ap is_some none);
+      memory = tt;
+    }
+
+pub returns-in_err-_notices-clause-memory : goal.returns-in_err-_notices-clause-memory
+returns-in_err-_notices-clause-memory c =
+    let p = c.args.self.now in
+    let from = c.args.from in
+    let bytes = c.in-Wrote.bytes in
+    let some = polled-some from p bytes (sym c.in_ok-bytes.ensures.reply ∙ c.in-Wrote.is) in
+    let q = c.in_err-_notices.ensures.memory ∙ c.in_ok-bytes.ensures.state refl in
+    on-err _ (subst (λ t. StoppedAmong t p c.step-2.new.self) (sym (crossing-writes from p bytes some))
+    (stopped-first (carried from bytes) _ p c.step-2.new.self (stopped-polled from bytes p c.step-2.new.self q)))
+
+pub returns-in_err-take_mail-clause-memory : goal.returns-in_err-take_mail-clause-memory
+returns-in_err-take_mail-clause-memory c =
+    let p = c.args.self.now in
+    let from = c.args.from in
+    let bytes = c.in-Wrote.bytes in
+    let some = polled-some from p bytes (sym c.in_ok-bytes.ensures.reply ∙ c.in-Wrote.is) in
+    let arrived = c.in_ok-_notices.ensures.state refl ∙ ap (λ (e : End). after_event (event.Arrive e bytes) c.step.new.self) c.other-to.ensures in
+    let carried = run-carried from bytes p c.step.new.self c.step-2.new.self (c.in_ok-bytes.ensures.state refl) arrived in
+    let mail = subst (λ (e : End). StoppedAmong (mail_events e c.step-2.new.self) c.step-2.new.self c.take_mail.new.self) c.other-to.ensures c.in_err-take_mail.ensures.memory in
+    on-err _ (subst (λ t. StoppedAmong t p c.take_mail.new.self) (sym (crossing-writes from p bytes some))
+    (stopped-later _ _ p c.take_mail.new.self (subst (λ q. StoppedAmong (mail_events (other from) q) q c.take_mail.new.self) carried mail)))
+
+pub returns-clause-state : goal.returns-clause-state
+returns-clause-state c = λ ok.
+    let p = c.args.self.now in
+    let from = c.args.from in
+    let bytes = c.in-Wrote.bytes in
+    let some = polled-some from p bytes (sym c.in_ok-bytes.ensures.reply ∙ c.in-Wrote.is) in
+    let arrived = c.in_ok-_notices.ensures.state refl ∙ ap (λ (e : End). after_event (event.Arrive e bytes) c.step.new.self) c.other-to.ensures in
+    let through = run-carried from bytes p c.step.new.self c.step-2.new.self (c.in_ok-bytes.ensures.state refl) arrived in
+    c.in_ok-take_mail.ensures.state refl ∙ ap (λ (e : End). run (mail_events e c.step-2.new.self) c.step-2.new.self) c.other-to.ensures
+    ∙ ap (λ q. run (mail_events (other from) q) q) through ∙ sym (run-append (carried from bytes) _ p)
+    ∙ ap (λ t. run t p) (sym (crossing-writes from p bytes some))
+
+pub returns-clause-wrote : goal.returns-clause-wrote
+returns-clause-wrote c = sym (ap is_some (polled-some c.args.from c.args.self.now c.in-Wrote.bytes (sym c.in_ok-bytes.ensures.reply ∙ c.in-Wrote.is)))

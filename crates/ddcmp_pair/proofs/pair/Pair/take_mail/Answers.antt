@@ -1,0 +1,27 @@
+use Rattle.std.proofs.Common.{◌∙◌, ap, sym, refl, arith, length}
+use Rattle.ddcmp_pair.specs.declared.event.Event.TheVariants.{Take}
+use Rattle.ddcmp_pair.specs.Run.{at, after_event}
+use Rattle.ddcmp_pair.proofs.Runs.{run-again, run-none, stopped-again, on-err}
+use Rattle.ddcmp_pair.proofs.pair.Pair.take_mail.Goals as goal
+
+pub loop-taken-init : goal.loop-taken-init
+loop-taken-init c = record {
+  state = sym (run-none c.args.self.now);
+  count = c.waiting-taken-end.ensures ∙ ap (λ k. length k.station.inbox) c.station.ensures.core;
+}
+
+pub returns-in_err-_message-clause-memory : goal.returns-in_err-_message-clause-memory
+returns-in_err-_message-clause-memory c =
+    let i = c.loop-taken.invariant in
+    let count = i.count in
+    on-err _ (stopped-again (length (at c.args.end c.args.self.now).core.station.inbox) c.loop-taken._taken (Take c.args.end) c.args.self.now c.step.new.self
+    (omega (arith, count)) (c.in_err-_message.ensures.memory ∙ i.state))
+
+pub loop-taken-preserved : goal.loop-taken-preserved
+loop-taken-preserved c =
+    let i = c.loop-taken.invariant in
+    let e = Take c.args.end in
+    record {
+      state = c.in_ok-_message.ensures.state refl ∙ ap (after_event e) i.state ∙ sym (run-again c.loop-taken._taken e c.args.self.now);
+      count = i.count;
+    }

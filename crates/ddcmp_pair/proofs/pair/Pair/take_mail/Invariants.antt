@@ -1,0 +1,10 @@
+use Rattle.std.proofs.Common.{◌≡◌, replicate, length}
+use Rattle.ddcmp_pair.specs.declared.event.Event.TheVariants.{Take}
+use Rattle.ddcmp_pair.specs.Run.{at, run}
+use Rattle.ddcmp_pair.proofs.pair.Pair.take_mail.Given as goal
+
+abbrev pub invariant-loop-taken : goal.invariant-loop-taken
+invariant-loop-taken l = record {
+  state : l.self ≡ run (replicate l._taken (Take l.end)) l.initial.self;
+  count : l._taken-end ≡ length (at l.end l.initial.self).core.station.inbox;
+}

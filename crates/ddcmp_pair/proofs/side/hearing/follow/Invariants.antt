@@ -1,0 +1,14 @@
+use Rattle.std.proofs.Common.{◌≡◌, ◌≤◌, ℕ, take, length}
+use Rattle.std.specs.Prelude.{Some}
+use Rattle.ddcmp_frame.specs.Reader.{StandsFor}
+use Rattle.ddcmp_frame.specs.Reading.{good_frames}
+use Rattle.ddcmp_pair.proofs.Places.{IsFollowed}
+use Rattle.ddcmp_pair.proofs.side.hearing.follow.Given as goal
+
+abbrev pub invariant-loop-at : goal.invariant-loop-at
+invariant-loop-at l = record {
+  stands : StandsFor l.reader (take l.at l.arrived);
+  max : l.reader.max ≡ l.initial.reader.max;
+  within : (n : ℕ) → l.place ≡ Some n → n ≤ length l.sent;
+  followed : IsFollowed l.initial.place l.place (good_frames l.reader.max (take l.at l.arrived)) l.sent;
+}

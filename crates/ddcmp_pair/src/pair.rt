@@ -1,0 +1,193 @@
+//! Two stations on a line.
+use crate::ends::Ends;
+use crate::event::{End, Event, Reply};
+use crate::side::Side;
+use ddcmp_station::{Config, ConfigRefusal, Memory, Station};
+use std::alloc::Global;
+use std::marker::Model;
+
+/// Why no pair is made.
+#[derive(Clone, Copy, Debug, PartialEq, Eq)]
+pub enum PairRefusal {
+    /// Why the station at A isn't made.
+    First(ConfigRefusal),
+    /// Why the station at B isn't made.
+    Second(ConfigRefusal),
+}
+
+/// Two stations, and what was done at each end since the line was cleared.
+#[derive(Drop)]
+pub struct Pair {
+    ends: Ends,
+}
+
+impl Model for Pair {
+    ghost use Rattle.ddcmp_pair.specs.Run.{PairState};
+    ghost use Rattle.ddcmp_pair.specs.InOrder.{IsRun};
+
+    ghost Value = { PairState };
+
+    ghost view = { λ p. p.ends };
+
+    // All that holds of honest and clean runs follows from this alone.
+    ghost invariant = { λ p. IsRun p.ends };
+}
+
+impl Pair {
+    ghost use Rattle.std.specs.Prelude.{◌≡◌, ◌⊎◌, ◌<◌, ◌≤◌, true, false, [], length, slice_index_or, max, Some, None, Err, IsOk, IfOk, OnErr};
+    ghost use Rattle.ddcmp_frame.specs.Reader.{StandsFor};
+    ghost use Rattle.ddcmp_core.specs.Store.{with_front};
+    ghost use Rattle.ddcmp_station.specs.Config.{first_refusal};
+    ghost use Rattle.ddcmp_pair.specs.declared.event.End.{End as EndValue};
+    ghost use Rattle.ddcmp_pair.specs.Run.{new_pair, after_event, reply_to, asks_memory, at, handed_up, is_clean};
+    ghost use Rattle.ddcmp_pair.specs.InOrder.{IsRun, IsInOrder, NoRestart};
+
+    /// Two stations begun over an empty line.
+    pub fn new(alloc: Global, first: Config, second: Config) -> Result<Pair, PairRefusal>
+        ensures made { IfOk result (λ pair. pair ≡ new_pair first second) }
+
+        // The first size that is out of range is refused; where none is, want of memory alone.
+        ensures first { (refusal : ConfigRefusal) → first_refusal first ≡ Some refusal → result
+            ≡ Err (PairRefusal.First refusal) }
+        ensures second { (refusal : ConfigRefusal) → first_refusal first ≡ None
+            → first_refusal second ≡ Some refusal
+            → (result ≡ Err (PairRefusal.Second refusal))
+            ⊎ (result ≡ Err (PairRefusal.First ConfigRefusal.Memory)) }
+        ensures only { first_refusal first ≡ None → first_refusal second ≡ None → IsOk result
+            ⊎ ((result ≡ Err (PairRefusal.First ConfigRefusal.Memory))
+            ⊎ (result ≡ Err (PairRefusal.Second ConfigRefusal.Memory))) }
+    {
+        let a = match Side::new(alloc, first) {
+            Ok(side) => side,
+            Err(refusal) => return Err(PairRefusal::First(refusal)),
+        };
+        let b = match Side::new(alloc, second) {
+            Ok(side) => side,
+            Err(refusal) => return Err(PairRefusal::Second(refusal)),
+        };
+        Ok(Pair {
+            ends: Ends { a, b },
+        })
+    }
+
+    /// Does what happens, and answers it.
+    pub fn step(&mut self, event: Event) -> Result<Reply, Memory>
+        ensures state { IsOk result → self.new ≡ after_event event self.old }
+        ensures reply { IfOk result (λ reply. reply ≡ reply_to event self.old) }
+        // Want of memory leaves all as it was, and is answered to no event that asks for none.
+        ensures memory { OnErr result (self.new ≡ self.old) }
+        ensures asks { asks_memory event self.old ≡ false → IsOk result }
+        // Messages are handed up in order, once, unchanged, or not at all; and no end that was
+        // clean before an honest arrival is told by it that its peer began anew.
+        ensures order { IsInOrder self.new }
+        ensures no_restart { is_clean self.old ≡ true → self.new.honest ≡ true
+            → IfOk result NoRestart }
+        ensures limits { (end : EndValue) → (at end self.new).core.limits
+            ≡ (at end self.old).core.limits }
+    {
+        self.ends.apply(&event)
+    }
+
+    /// The same of an event that is kept.
+    pub(crate) fn apply(&mut self, event: &Event) -> Result<Reply, Memory>
+        ensures state { IsOk result → self.new ≡ after_event event.now self.old }
+        ensures reply { IfOk result (λ reply. reply ≡ reply_to event.now self.old) }
+        // Want of memory leaves all as it was, and is answered to no event that asks for none.
+        ensures memory { OnErr result (self.new ≡ self.old) }
+        ensures asks { asks_memory event.now self.old ≡ false → IsOk result }
+        ensures limits { (end : EndValue) → (at end self.new).core.limits
+            ≡ (at end self.old).core.limits }
+    {
+        self.ends.apply(event)
+    }
+
+    /// A pair comes from two new stations by a list of events, so that its messages are in order.
+    pub fn is_run(&self)
+        ensures run { IsRun self.now }
+        ensures order { IsInOrder self.now }
+    {
+        let _ends = &self.ends;
+    }
+
+    /// The number of messages that an end accepted.
+    pub fn given(&self, end: End) -> usize
+        ensures { result ≡ length (at end self.now).given }
+    {
+        self.ends.side(end).given()
+    }
+
+    /// Message `i` of those that an end accepted, counted from 0.
+    pub fn given_at(&self, end: End, i: usize) -> &[u8]
+        requires { i < length (at end self.now).given }
+        ensures { result.now ≡ slice_index_or (at end self.now).given i [] }
+    {
+        self.ends.side(end).given_at(i)
+    }
+
+    /// The number of messages handed up at an end: those taken, and those in the inbox.
+    pub fn handed_up(&self, end: End) -> usize
+        ensures { result ≡ length (handed_up (at end self.now)) }
+    {
+        self.ends.side(end).handed_up()
+    }
+
+    /// Copies message `i` of those handed up at an end, counted from 0, to the front of `out`, and
+    /// answers its length.
+    pub fn handed_up_at(&self, end: End, i: usize, out: &mut [u8]) -> usize
+        requires there { i < length (handed_up (at end self.now)) }
+        requires longest { (at end self.now).core.limits.longest ≤ length out.old }
+        ensures length { result ≡ length (slice_index_or (handed_up (at end self.now)) i []) }
+        ensures out { out.new
+            ≡ with_front (Some (slice_index_or (handed_up (at end self.now)) i [])) out.old }
+    {
+        self.ends.side(end).handed_up_at(i, out)
+    }
+
+    /// How many messages an end told acknowledged.
+    pub fn acknowledged(&self, end: End) -> u64
+        ensures { result ≡ (at end self.now).acknowledged }
+    {
+        self.ends.side(end).acknowledged()
+    }
+
+    /// The station at an end.
+    pub fn station(&self, end: End) -> &Station
+        ensures core { result.now.core ≡ (at end self.now).core }
+        ensures syn { result.now.syn ≡ (at end self.now).syn }
+        ensures line { StandsFor result.now.line (at end self.now).arrived }
+    {
+        self.ends.side(end).station()
+    }
+
+    /// Whether all good frames that arrived at an end were sent by the other before, in this
+    /// order and none twice.
+    pub fn honest(&self) -> bool
+        ensures { result ≡ self.now.honest }
+    {
+        self.ends.honest()
+    }
+
+    /// Whether neither end began twice.
+    pub fn clean(&self) -> bool
+        ensures { result ≡ is_clean self.now }
+    {
+        self.ends.clean()
+    }
+
+    /// The larger window.
+    pub(crate) fn window(&self) -> u16
+        ensures { result ≡ max self.now.a.core.limits.window self.now.b.core.limits.window }
+    {
+        self.ends
+            .side(End::A)
+            .window()
+            .max(self.ends.side(End::B).window())
+    }
+
+    /// The largest length of a message at an end.
+    pub(crate) fn longest(&self, end: End) -> usize
+        ensures { result ≡ (at end self.now).core.limits.longest }
+    {
+        self.ends.side(end).longest()
+    }
+}

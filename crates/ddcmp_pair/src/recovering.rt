@@ -1,0 +1,174 @@
+//! A line that may have lost frames is repaired: it settles, and then twice both timers run out and
+//! it settles again.
+ghost use Rattle.std.specs.Prelude.{◌≡◌, ◌↔◌, IsTrue};
+
+use crate::event::{End, Event};
+use crate::pair::Pair;
+use crate::settling::Settled;
+use ddcmp_core::MAX_COUNT;
+use ddcmp_station::{Memory, State};
+
+/// Whether two messages have the same bytes.
+fn is_same(message: &[u8], other: &[u8]) -> bool
+    ensures { IsTrue result ↔ (message.now ≡ other.now) }
+{
+    message == other
+}
+
+/// How a recovery ended.
+#[derive(Clone, Copy, Debug, PartialEq, Eq)]
+pub struct Recovered {
+    /// How many exchanges were counted in each of its settles.
+    pub exchanges: [u32; 3],
+    /// Whether neither end had anything more to send after each of them.
+    pub quiet: bool,
+}
+
+impl Recovered {
+    ghost use Rattle.std.specs.Prelude.{◌≡◌, ◌&&◌, [], ◌∷◌};
+
+    /// Of three settles, one after another.
+    fn of(first: Settled, second: Settled, third: Settled) -> Recovered
+        ensures exchanges { result.exchanges
+            ≡ first.exchanges ∷ second.exchanges ∷ third.exchanges ∷ [] }
+        ensures quiet { result.quiet ≡ (first.quiet && (second.quiet && third.quiet)) }
+    {
+        Recovered {
+            exchanges: [first.exchanges, second.exchanges, third.exchanges],
+            quiet: first.quiet && second.quiet && third.quiet,
+        }
+    }
+}
+
+impl Pair {
+    ghost use Rattle.std.specs.Prelude.{◌≡◌, ◌+◌, ◌*◌, ◌≤◌, true, IsOk, IfOk, OnErr};
+    ghost use Rattle.std.specs.List.{All};
+    ghost use Rattle.ddcmp_pair.specs.declared.event.End.{End as EndValue};
+    ghost use Rattle.ddcmp_pair.specs.Run.{at};
+    ghost use Rattle.ddcmp_pair.specs.InOrder.{IsInOrder};
+    ghost use Rattle.ddcmp_pair.specs.Settle.{StoppedAmong, most_exchanges};
+    ghost use Rattle.ddcmp_pair.specs.Recovery.{rounding, rounded, recovering, recovered, is_ready, larger_window, IsDone, IsRepaired};
+
+    /// Both timers run out, where they are on, and then the line settles.
+    pub fn round(&mut self) -> Result<Settled, Memory>
+        ensures state { IsOk result → self.new ≡ rounded self.old }
+        ensures exchanges { IfOk result (λ s. s.exchanges ≡ (rounding self.old).exchanges) }
+        ensures quiet { IfOk result (λ s. s.quiet ≡ (rounding self.old).quiet) }
+        // On want of memory some of its events were done, each of them whole.
+        ensures memory { OnErr result (StoppedAmong (rounding self.old).events self.old self.new) }
+        ensures limits { (end : EndValue) → (at end self.new).core.limits
+            ≡ (at end self.old).core.limits }
+        ensures order { IsInOrder self.new }
+    {
+        let _first = self.step(Event::Expire(End::A))?;
+        let _second = self.step(Event::Expire(End::B))?;
+        self.settle()
+    }
+
+    /// A settle and two rounds. What was sent before and hasn't arrived never arrives.
+    pub fn recover(&mut self) -> Result<Recovered, Memory>
+        ensures state { IsOk result → self.new ≡ recovered self.old }
+        ensures exchanges { IfOk result (λ r. r.exchanges ≡ (recovering self.old).exchanges) }
+        ensures quiet { IfOk result (λ r. r.quiet ≡ (recovering self.old).quiet) }
+        // On want of memory some of its events were done, each of them whole.
+        ensures memory { OnErr result (StoppedAmong (recovering self.old).events self.old self.new) }
+        ensures limits { (end : EndValue) → (at end self.new).core.limits
+            ≡ (at end self.old).core.limits }
+        ensures order { IsInOrder self.new }
+
+        // Where the pair was ready it is repaired: the line is quiet after each settle, which counts
+        // at most so many exchanges by the larger window, and in the end nothing is left to be done.
+        ensures repaired { is_ready self.old ≡ true → IfOk result (λ r. r.quiet ≡ true) }
+        ensures within { is_ready self.old ≡ true
+            → IfOk result (λ r. All (λ n. n ≤ most_exchanges self.old) r.exchanges) }
+        ensures fewer { is_ready self.old ≡ true
+            → IfOk result (λ r. All (λ n. n ≤ 12 * larger_window self.old + 12) r.exchanges) }
+        ensures done { is_ready self.old ≡ true → IsOk result → IsDone self.new }
+    {
+        self.is_repaired();
+        let first = self.settle()?;
+        let second = self.round()?;
+        let third = self.round()?;
+        Ok(Recovered::of(first, second, third))
+    }
+
+    /// A recovery repairs every pair that is ready: a law, for those who have one. It does nothing.
+    pub fn is_repaired(&self)
+        ensures { is_ready self.now ≡ true → IsRepaired self.now }
+    {
+        self.is_run();
+        self.station(End::A).holds();
+        self.station(End::B).holds();
+    }
+}
+
+impl Pair {
+    ghost use Rattle.std.specs.Prelude.{◌≡◌, ◌↔◌, ◌≤◌, ◌<◌, [], length, slice_index_or, IsTrue};
+    ghost use Rattle.ddcmp_pair.specs.Run.{at, handed_up};
+    ghost use Rattle.ddcmp_pair.specs.Settle.{other};
+    ghost use Rattle.ddcmp_pair.specs.Recovery.{is_ready, is_ready_here, IsDelivered, IsDone};
+
+    /// Whether an honest and clean run has led here, both ends have begun, no frame is unfinished,
+    /// and both ends have one `max`: from here a recovery repairs the line.
+    pub fn ready(&self) -> bool
+        ensures { result ≡ is_ready self.now }
+    {
+        self.honest()
+            && self.clean()
+            && self.is_ready_at(End::A)
+            && self.is_ready_at(End::B)
+            && self.longest(End::A) == self.longest(End::B)
+    }
+
+    fn is_ready_at(&self, end: End) -> bool
+        ensures { result ≡ is_ready_here (at end self.now) }
+    {
+        let station = self.station(end);
+        station.state() != State::Halted && station.open() == 0
+    }
+
+    /// Whether both ends run, and all that each accepted was handed up at the other and told
+    /// acknowledged.
+    pub fn done(&self) -> bool
+        ensures { IsTrue result ↔ IsDone self.now }
+    {
+        self.is_delivered(End::A) && self.is_delivered(End::B)
+    }
+
+    fn is_delivered(&self, from: End) -> bool
+        ensures { IsTrue result ↔ IsDelivered (at from self.now) (at (other from) self.now) }
+    {
+        self.station(from).state() == State::Running
+            && self.acknowledged(from) == self.given(from) as u64
+            && self.is_handed_up(from)
+    }
+
+    /// Whether all that an end accepted was handed up at the other.
+    fn is_handed_up(&self, from: End) -> bool
+        ensures { IsTrue result ↔ ((at from self.now).given
+            ≡ handed_up (at (other from) self.now)) }
+    {
+        let to = from.other();
+        if self.handed_up(to) != self.given(from) {
+            return false;
+        }
+        for i in 0..self.given(from) {
+            if !self.is_handed_up_at(to, i, self.given_at(from, i)) {
+                return false;
+            }
+        }
+        true
+    }
+
+    /// Whether message `i` of those handed up at an end, counted from 0, is this one.
+    fn is_handed_up_at(&self, end: End, i: usize, message: &[u8]) -> bool
+        requires { i < length (handed_up (at end self.now)) }
+        ensures { IsTrue result ↔ (slice_index_or (handed_up (at end self.now)) i []
+            ≡ message.now) }
+    {
+        self.station(end).holds();
+        let mut out = [0; MAX_COUNT as usize];
+        let length = self.handed_up_at(end, i, &mut out);
+        is_same(&out[..length], message)
+    }
+}

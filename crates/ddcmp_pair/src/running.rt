@@ -1,0 +1,66 @@
+//! A run from its beginning.
+ghost use Rattle.std.specs.Prelude.{◌≡◌, ◌⊎◌, ◌<◌, ℕ, length, take, Some, None, Err, IsOk, IfOk};
+ghost use Rattle.ddcmp_station.specs.Config.{first_refusal};
+ghost use Rattle.ddcmp_pair.specs.Run.{PairState, new_pair, run as run_of};
+ghost use Rattle.ddcmp_pair.specs.InOrder.{IsInOrder};
+
+use crate::event::Event;
+use crate::pair::{Pair, PairRefusal};
+use ddcmp_station::{Config, ConfigRefusal};
+use std::alloc::Global;
+
+/// Why a run wasn't done whole.
+#[derive(Drop)]
+pub enum RunRefusal {
+    /// Why the station at A isn't made.
+    First(ConfigRefusal),
+    /// Why the station at B isn't made.
+    Second(ConfigRefusal),
+    /// Memory was refused: the pair is as after the first `done` events.
+    Memory { done: usize, pair: Pair },
+}
+
+/// The pair after a list of events.
+pub fn run(
+    alloc: Global,
+    first: Config,
+    second: Config,
+    events: &[Event],
+) -> Result<Pair, RunRefusal>
+    ensures done { IfOk result (λ pair. pair ≡ run_of events.now (new_pair first second)) }
+    ensures memory { (done : ℕ) (pair : PairState)
+        → result ≡ Err (RunRefusal.Memory done pair) → (done < length events.now)
+        × (pair ≡ run_of (take done events.now) (new_pair first second)) × IsInOrder pair }
+    ensures order { IfOk result IsInOrder }
+
+    // The first size that is out of range is refused; else no station is, but for want of memory.
+    ensures first_size { (refusal : ConfigRefusal) → first_refusal first ≡ Some refusal → result
+        ≡ Err (RunRefusal.First refusal) }
+    ensures second_size { (refusal : ConfigRefusal) → first_refusal first ≡ None
+        → first_refusal second ≡ Some refusal
+        → (result ≡ Err (RunRefusal.Second refusal))
+        ⊎ (result ≡ Err (RunRefusal.First ConfigRefusal.Memory)) }
+    ensures first { (refusal : ConfigRefusal) → result ≡ Err (RunRefusal.First refusal)
+        → (first_refusal first ≡ Some refusal)
+        ⊎ ((refusal ≡ ConfigRefusal.Memory) × (first_refusal first ≡ None)) }
+    ensures second { (refusal : ConfigRefusal) → result ≡ Err (RunRefusal.Second refusal)
+        → (first_refusal first ≡ None) × ((first_refusal second ≡ Some refusal)
+        ⊎ ((refusal ≡ ConfigRefusal.Memory) × (first_refusal second ≡ None))) }
+{
+    let mut pair = match Pair::new(alloc, first, second) {
+        Ok(made) => made,
+        Err(PairRefusal::First(refusal)) => return Err(RunRefusal::First(refusal)),
+        Err(PairRefusal::Second(refusal)) => return Err(RunRefusal::Second(refusal)),
+    };
+    for (done, event) in events.iter().enumerate() {
+        match pair.apply(event) {
+            Ok(_reply) => {}
+            Err(_refused) => {
+                pair.is_run();
+                return Err(RunRefusal::Memory { done, pair });
+            }
+        }
+    }
+    pair.is_run();
+    Ok(pair)
+}

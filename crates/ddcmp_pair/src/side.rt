@@ -1,0 +1,260 @@
+//! One end of a pair: its station, and what it has done since the line was cleared.
+mod hearing;
+mod speaking;
+
+use crate::bytes::Bytes;
+use crate::event::{Event, Reply};
+use ddcmp_frame::{Header, Reader};
+use ddcmp_station::{Config, ConfigRefusal, Memory, Station};
+use std::alloc::Global;
+use std::marker::Model;
+
+/// One end of a pair. It keeps the allocator for its histories.
+#[derive(Drop)]
+pub(crate) struct Side {
+    alloc: Global,
+    station: Station,
+    /// Reads what arrives a second time, for the place of its good frames.
+    reader: Reader,
+    syn: u8,
+    /// The largest number of messages sent and not acknowledged.
+    window: u16,
+    given: Vec<Bytes>,
+    taken: Vec<Bytes>,
+    sent: Vec<(Header, Bytes)>,
+    arrived: Vec<u8>,
+    acknowledged: u64,
+    starts: u32,
+    place: Option<usize>,
+    /// Room for a frame with its fill, or for a message.
+    buffer: Vec<u8>,
+}
+
+impl Model for Side {
+    ghost use Rattle.std.specs.Prelude.{◌≡◌, ◌+◌, vec_len};
+    ghost use Rattle.ddcmp_pair.specs.Sides.{SideView, IsSoundEnd, HasRead};
+
+    ghost Value = { SideView };
+
+    ghost view = { λ s. record {
+      state = record {
+        core = s.station.core;
+        syn = s.station.syn;
+        given = s.given.items;
+        taken = s.taken.items;
+        sent = s.sent.items;
+        arrived = s.arrived.items;
+        acknowledged = s.acknowledged;
+        starts = s.starts;
+      };
+      place = s.place;
+    } };
+
+    ghost invariant = { λ s. HasRead s.station s.reader s.arrived.items
+        × IsSoundEnd (record {
+          core = s.station.core;
+          syn = s.station.syn;
+          given = s.given.items;
+          taken = s.taken.items;
+          sent = s.sent.items;
+          arrived = s.arrived.items;
+          acknowledged = s.acknowledged;
+          starts = s.starts;
+        })
+        × (s.syn ≡ s.station.syn) × (s.window ≡ s.station.core.limits.window)
+        × (vec_len s.buffer ≡ s.station.syn + s.station.core.limits.longest + 10) };
+}
+
+impl Side {
+    ghost use Rattle.std.specs.Prelude.{◌≡◌, ◌⊎◌, ◌<◌, ◌≤◌, true, false, ◌&&◌, nat_le, [], length, slice_index_or, Some, None, is_some, Err, IsOk, IfOk, OnErr};
+    ghost use Rattle.ddcmp_station.specs.Config.{first_refusal};
+    ghost use Rattle.ddcmp_frame.specs.Reader.{StandsFor};
+    ghost use Rattle.ddcmp_core.specs.Store.{with_front};
+    ghost use Rattle.ddcmp_core.specs.Table.{is_halted, answer_to_start};
+    ghost use Rattle.ddcmp_pair.specs.Run.{new_end, after_start_here, after_event_here, started, reply_here, is_honest_here, cleared, handed_up, asks_here};
+    ghost use Rattle.ddcmp_pair.specs.Sides.{IsPlaced};
+
+    /// An end with nothing done.
+    pub(crate) fn new(alloc: Global, config: Config) -> Result<Side, ConfigRefusal>
+        ensures made { IfOk result (λ s. s.state ≡ new_end config) }
+        ensures place { IfOk result (λ s. s.place ≡ Some 0) }
+        ensures refused { (refusal : ConfigRefusal) → first_refusal config ≡ Some refusal → result
+            ≡ Err refusal }
+        ensures only { first_refusal config ≡ None → IsOk result
+            ⊎ (result ≡ Err ConfigRefusal.Memory) }
+    {
+        let station = match Station::new(alloc, config) {
+            Ok(station) => station,
+            Err(refusal) => return Err(refusal),
+        };
+        let room = config.syn as usize + config.max as usize + 10;
+        let Ok(reader) = Reader::new(alloc, config.max) else {
+            return Err(ConfigRefusal::Memory);
+        };
+        let Ok(buffer) = Vec::from_elem(alloc, 0u8, room) else {
+            return Err(ConfigRefusal::Memory);
+        };
+        Ok(Side {
+            alloc,
+            station,
+            reader,
+            syn: config.syn,
+            window: config.window,
+            given: Vec::new(alloc),
+            taken: Vec::new(alloc),
+            sent: Vec::new(alloc),
+            arrived: Vec::new(alloc),
+            acknowledged: 0,
+            starts: 0,
+            place: Some(0),
+            buffer,
+        })
+    }
+
+    /// Does what happens at this end; `sent` is what the other end has sent.
+    pub(crate) fn apply(&mut self, event: &Event, sent: &[(Header, Bytes)]) -> Result<Reply, Memory>
+        requires { IsPlaced self.old sent.now }
+        ensures state { IsOk result → self.new.state ≡ after_event_here event.now self.old.state }
+        ensures reply { IfOk result (λ reply. reply ≡ reply_here event.now self.old.state) }
+        ensures placed { IsPlaced self.new sent.now }
+        ensures honest { IsOk result → is_some self.new.place
+            ≡ (is_honest_here event.now self.old.state sent.now && is_some self.old.place) }
+        ensures memory { OnErr result (self.new ≡ self.old) }
+        ensures asks { asks_here event.now self.old.state ≡ false → IsOk result }
+    {
+        match event {
+            Event::Start(_here) => Ok(self.start()),
+            Event::Halt(_here) => {
+                self.station.halt();
+                Ok(Reply::Halted)
+            }
+            Event::Send(_here, message) => self.send(message.as_slice()),
+            Event::Poll(_here) => self.poll(),
+            Event::Arrive(_here, bytes) => self.arrive(bytes.as_slice(), sent),
+            Event::Expire(_here) => Ok(Reply::Expired(self.station.expire())),
+            Event::Take(_here) => self.take(),
+            Event::Clear => Ok(Reply::Nothing),
+        }
+    }
+
+    fn start(&mut self) -> Reply
+        ensures state { self.new ≡ record self.old { state = after_start_here self.old.state } }
+        ensures reply { result ≡ started (answer_to_start self.old.state.core.station) }
+    {
+        match self.station.start() {
+            Ok(dropped) => {
+                self.starts = self.starts.saturating_add(1);
+                Reply::Started(dropped)
+            }
+            Err(refusal) => Reply::StartRefused(refusal),
+        }
+    }
+
+    /// Forgets all that was done. This end is halted.
+    pub(crate) fn clear(&mut self)
+        requires { is_halted self.old.state.core.station.state ≡ true }
+        ensures state { self.new.state ≡ cleared self.old.state }
+        ensures place { self.new.place ≡ Some 0 }
+    {
+        self.station.clear_line();
+        self.reader.reset();
+        self.given.clear();
+        self.taken.clear();
+        self.sent.clear();
+        self.arrived.clear();
+        self.acknowledged = 0;
+        self.starts = 0;
+        self.place = Some(0);
+    }
+
+    /// The number of messages accepted.
+    pub(crate) fn given(&self) -> usize
+        ensures { result ≡ length self.now.state.given }
+    {
+        self.given.len()
+    }
+
+    /// Message `i` of those accepted, counted from 0.
+    pub(crate) fn given_at(&self, i: usize) -> &[u8]
+        requires { i < length self.now.state.given }
+        ensures { result.now ≡ slice_index_or self.now.state.given i [] }
+    {
+        self.given[i].as_slice()
+    }
+
+    /// The number of messages handed up.
+    pub(crate) fn handed_up(&self) -> usize
+        ensures { result ≡ length (handed_up self.now.state) }
+    {
+        self.taken.len() + self.station.waiting() as usize
+    }
+
+    /// Copies message `i` of those handed up, counted from 0, to the front of `out`, and answers
+    /// its length.
+    pub(crate) fn handed_up_at(&self, i: usize, out: &mut [u8]) -> usize
+        requires there { i < length (handed_up self.now.state) }
+        requires longest { self.now.state.core.limits.longest ≤ length out.old }
+        ensures length { result ≡ length (slice_index_or (handed_up self.now.state) i []) }
+        ensures out { out.new
+            ≡ with_front (Some (slice_index_or (handed_up self.now.state) i [])) out.old }
+    {
+        // The last of those handed up wait in the inbox.
+        let waiting = self.station.waiting() as usize;
+        let left = self.taken.len() + waiting - i;
+        if left <= waiting {
+            return self.station.waiting_at((waiting - left) as u8, out);
+        }
+        let message = self.taken[i].as_slice();
+        out[..message.len()].copy_from_slice(message);
+        message.len()
+    }
+
+    /// How many messages were told acknowledged.
+    pub(crate) fn acknowledged(&self) -> u64
+        ensures { result ≡ self.now.state.acknowledged }
+    {
+        self.acknowledged
+    }
+
+    /// Whether this end began at most once.
+    pub(crate) fn began_once(&self) -> bool
+        ensures { result ≡ nat_le self.now.state.starts 1 }
+    {
+        self.starts <= 1
+    }
+
+    /// Whether all arrivals here were honest.
+    pub(crate) fn is_placed(&self) -> bool
+        ensures { result ≡ is_some self.now.place }
+    {
+        self.place.is_some()
+    }
+
+    /// The frames sent.
+    pub(crate) fn sent(&self) -> &[(Header, Bytes)]
+        ensures { result.now ≡ self.now.state.sent }
+    {
+        &self.sent
+    }
+
+    pub(crate) fn station(&self) -> &Station
+        ensures core { result.now.core ≡ self.now.state.core }
+        ensures syn { result.now.syn ≡ self.now.state.syn }
+        ensures line { StandsFor result.now.line self.now.state.arrived }
+    {
+        &self.station
+    }
+
+    pub(crate) fn window(&self) -> u16
+        ensures { result ≡ self.now.state.core.limits.window }
+    {
+        self.window
+    }
+
+    /// The largest length of a message: there is room for a frame with one, and its fill.
+    pub(crate) fn longest(&self) -> usize
+        ensures { result ≡ self.now.state.core.limits.longest }
+    {
+        self.buffer.len() - self.syn as usize - 10
+    }
+}

@@ -1,0 +1,191 @@
+//! What arrives at an end.
+ghost use Rattle.std.specs.Prelude.{◌≡◌, ◌↔◌, IsTrue, ◌+◌, ◌-◌, ◌<◌, ◌≤◌, ◌^◌, ℕ, ◌&&◌, true, false, [], ◌∷◌, ◌++◌, length, take, drop, Some, is_some, IfSome, vec_len, vec_capacity};
+ghost use Rattle.ddcmp_frame.specs.Reader.{StandsFor};
+ghost use Rattle.ddcmp_frame.specs.Reading.{good_frames};
+ghost use Rattle.ddcmp_core.specs.Table.{is_halted, acknowledged_by};
+ghost use Rattle.ddcmp_core.specs.Counting.{count_plus};
+ghost use Rattle.ddcmp_station.specs.Bytes.{after_piece, notices_of_piece};
+ghost use Rattle.ddcmp_pair.specs.Place.{same_frame, place_after as place_after_of, place_next, place_of};
+ghost use Rattle.ddcmp_pair.specs.Run.{acknowledged_in, restarts_by, restarts_in};
+
+use crate::bytes::{Bytes, Notices};
+use crate::event::Reply;
+use crate::side::Side;
+use ddcmp_core::Notice;
+use ddcmp_frame::{Header, Item, Reader};
+use ddcmp_station::{Memory, Station};
+
+/// What was told, and what of it is counted.
+#[derive(Drop)]
+struct Heard {
+    notices: Vec<Notice>,
+    acknowledged: u64,
+    starts: u32,
+}
+
+impl Heard {
+    /// One more notice. There is room for it.
+    fn hear(&mut self, notice: Notice)
+        requires room { vec_len self.old.notices < vec_capacity self.old.notices }
+        requires small { 0 < acknowledged_by (Some notice)
+            → self.old.acknowledged + acknowledged_by (Some notice) < 2 ^ 64 }
+        ensures notices { self.new.notices.items ≡ self.old.notices.items ++ notice ∷ [] }
+        ensures acknowledged { self.new.acknowledged
+            ≡ self.old.acknowledged + acknowledged_by (Some notice) }
+        ensures starts { self.new.starts ≡ count_plus self.old.starts (restarts_by notice) }
+        ensures len { vec_len self.new.notices ≡ vec_len self.old.notices + 1 }
+        ensures capacity { vec_capacity self.new.notices ≡ vec_capacity self.old.notices }
+    {
+        self.notices.push_reserved(notice);
+        match notice {
+            Notice::Acknowledged(messages) | Notice::HandedUpAndAcknowledged(messages) => {
+                self.acknowledged += messages as u64;
+            }
+            Notice::Restarted(_dropped) => self.starts = self.starts.saturating_add(1),
+            _ => {}
+        }
+    }
+}
+
+/// Feeds the bytes from `from` on.
+fn feed_all(station: &mut Station, arrived: &[u8], from: usize, heard: &mut Heard)
+    requires from { from ≤ length arrived.now }
+    requires stands { StandsFor station.old.line (take from arrived.now) }
+    requires room { vec_len heard.old.notices + (length arrived.now - from)
+        ≤ vec_capacity heard.old.notices }
+    requires small { is_halted station.old.core.station.state ≡ false
+        → heard.old.acknowledged + length station.old.core.station.out < 2 ^ 64 }
+    ensures stands { StandsFor station.new.line arrived.now }
+    ensures state { station.new.core
+        ≡ after_piece (take from arrived.now) (drop from arrived.now) station.old.core }
+    ensures syn { station.new.syn ≡ station.old.syn }
+    ensures notices { heard.new.notices.items ≡ heard.old.notices.items
+        ++ notices_of_piece (take from arrived.now) (drop from arrived.now) station.old.core }
+    ensures acknowledged { heard.new.acknowledged ≡ heard.old.acknowledged + acknowledged_in
+        (notices_of_piece (take from arrived.now) (drop from arrived.now) station.old.core) }
+    ensures starts { heard.new.starts ≡ count_plus heard.old.starts (restarts_in
+        (notices_of_piece (take from arrived.now) (drop from arrived.now) station.old.core)) }
+    // What was told acknowledged has left.
+    ensures leaves { heard.new.acknowledged + length station.new.core.station.out
+        ≤ heard.old.acknowledged + length station.old.core.station.out }
+    // A halted station stays halted, and tells nothing acknowledged.
+    ensures halted { is_halted station.old.core.station.state ≡ true
+        → (is_halted station.new.core.station.state ≡ true)
+        × (heard.new.acknowledged ≡ heard.old.acknowledged) }
+{
+    let mut at = from;
+    while at < arrived.len() {
+        let fed = station.feed(&arrived[at..]);
+        at += fed.used;
+        if let Some(notice) = fed.notice {
+            heard.hear(notice);
+        }
+    }
+}
+
+/// Whether a frame that was sent is this one.
+fn is_frame(sent: &(Header, Bytes), header: &Header, data: &[u8]) -> bool
+    ensures { IsTrue result ↔ ((header.now ≡ sent.now.0) × («data».now ≡ sent.now.1)) }
+{
+    sent.0 == *header && sent.1.as_slice() == data
+}
+
+/// One past the first frame, from `place` on, that is this one.
+fn place_after(
+    sent: &[(Header, Bytes)],
+    place: usize,
+    header: &Header,
+    data: &[u8],
+) -> Option<usize>
+    requires { place ≤ length sent.now }
+    ensures value { result ≡ place_after_of (header.now, «data».now) sent.now place }
+    ensures within { IfSome result (λ n. n ≤ length sent.now) }
+{
+    for i in place..sent.len() {
+        if is_frame(&sent[i], header, data) {
+            return Some(i + 1);
+        }
+    }
+    None
+}
+
+/// The place after what a byte gave: a good frame is looked for behind the one before it.
+fn next_place(
+    item: Option<Item>,
+    data: &[u8],
+    sent: &[(Header, Bytes)],
+    place: Option<usize>,
+) -> Option<usize>
+    requires { IfSome place (λ n. n ≤ length sent.now) }
+    ensures value { result ≡ place_next item «data».now sent.now place }
+    ensures within { IfSome result (λ n. n ≤ length sent.now) }
+{
+    match item {
+        Some(Item::Good(_at, header)) => place_after(sent, place?, &header, data),
+        _ => place,
+    }
+}
+
+/// Reads the bytes from `from` on, and follows the place of the good frames.
+fn follow(
+    reader: &mut Reader,
+    arrived: &[u8],
+    from: usize,
+    sent: &[(Header, Bytes)],
+    place: Option<usize>,
+) -> Option<usize>
+    requires from { from ≤ length arrived.now }
+    requires stands { StandsFor reader.old (take from arrived.now) }
+    requires placed { (n : ℕ) → place ≡ Some n
+        → (place_of (good_frames reader.old.max (take from arrived.now)) sent.now ≡ Some n)
+        × (n ≤ length sent.now) }
+    ensures stands { StandsFor reader.new arrived.now }
+    ensures max { reader.new.max ≡ reader.old.max }
+    ensures placed { (n : ℕ) → result ≡ Some n
+        → (place_of (good_frames reader.old.max arrived.now) sent.now ≡ Some n)
+        × (n ≤ length sent.now) }
+    ensures known { is_some result ≡ (is_some
+        (place_of (good_frames reader.old.max arrived.now) sent.now) && is_some place) }
+{
+    let mut place = place;
+    for at in from..arrived.len() {
+        let item = reader.push(arrived[at]);
+        place = next_place(item, reader.data(), sent, place);
+    }
+    place
+}
+
+impl Side {
+    ghost use Rattle.std.specs.Prelude.{◌≡◌, IsOk, IfOk, OnErr};
+    ghost use Rattle.ddcmp_pair.specs.Run.{after_arrival_here, notices_at};
+    ghost use Rattle.ddcmp_pair.specs.Sides.{IsPlaced};
+
+    /// Bytes arrive.
+    pub(super) fn arrive(&mut self, bytes: &[u8], sent: &[(Header, Bytes)]) -> Result<Reply, Memory>
+        requires { IsPlaced self.old sent.now }
+        ensures state { IsOk result → self.new.state
+            ≡ after_arrival_here bytes.now self.old.state }
+        ensures reply { IfOk result (λ reply. reply
+            ≡ Reply.Notices (notices_at bytes.now self.old.state)) }
+        ensures placed { IsPlaced self.new sent.now }
+        ensures honest { IsOk result → is_some self.new.place ≡ (is_some (place_of
+            (good_frames self.old.state.core.limits.longest
+            (self.old.state.arrived ++ bytes.now)) sent.now) && is_some self.old.place) }
+        ensures memory { OnErr result (self.new ≡ self.old) }
+        ensures asks { length bytes.now ≡ 0 → IsOk result }
+    {
+        let notices = Vec::with_capacity(self.alloc, bytes.len())?;
+        let from = self.arrived.len();
+        self.arrived.extend_from_slice(bytes)?;
+        let mut heard = Heard {
+            notices,
+            acknowledged: self.acknowledged,
+            starts: self.starts,
+        };
+        self.place = follow(&mut self.reader, &self.arrived, from, sent, self.place);
+        feed_all(&mut self.station, &self.arrived, from, &mut heard);
+        self.acknowledged = heard.acknowledged;
+        self.starts = heard.starts;
+        Ok(Reply::Notices(Notices::new(heard.notices)))
+    }
+}
