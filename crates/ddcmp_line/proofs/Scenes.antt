@@ -7,18 +7,18 @@ use Rattle.ddcmp_frame.specs.Written.{Output, HandsOver, output_of}
 use Rattle.ddcmp_line.specs.declared.command.Command.{Command}
 use Rattle.ddcmp_line.specs.declared.command.Command.TheVariants.{Happens, Carry, Lose, Damage, Raw, Settle, State}
 use Rattle.ddcmp_line.specs.declared.command.Reading.TheVariants.{Asks}
-use Rattle.ddcmp_pair.specs.declared.event.End.{End}
-use Rattle.ddcmp_pair.specs.declared.event.End.TheVariants.{A, B}
-use Rattle.ddcmp_pair.specs.declared.event.Event.{Event}
-use Rattle.ddcmp_pair.specs.declared.event.Event.TheVariants as event
-use Rattle.ddcmp_pair.specs.declared.event.Reply.TheVariants as reply
+use Rattle.ddcmp_run.specs.declared.event.End.{End}
+use Rattle.ddcmp_run.specs.declared.event.End.TheVariants.{A, B}
+use Rattle.ddcmp_run.specs.declared.event.Event.{Event}
+use Rattle.ddcmp_run.specs.declared.event.Event.TheVariants as event
+use Rattle.ddcmp_run.specs.declared.event.Reply.TheVariants as reply
 use Rattle.ddcmp_line.specs.declared.performing.Stop.TheVariants.{Memory}
-use Rattle.ddcmp_pair.specs.Run.{PairState, at, end_of, line_bytes, wrote, reply_to, after_event, run}
-use Rattle.ddcmp_pair.specs.Settle.{other, settling, StoppedAmong}
+use Rattle.ddcmp_run.specs.Run.{PairState, at, end_of, line_bytes, wrote, reply_to, after_event, run}
+use Rattle.ddcmp_run.specs.Settle.{other, settling, StoppedAmong}
 use Rattle.ddcmp_line.specs.ScriptText.{name_of, name_before, reply_text, bytes_line, counted_line, station_line}
 use Rattle.ddcmp_line.specs.Script.{Between, Scene, Outcome, Carriage, AreDirect, HasCarried, frames_of, with_frames, taken_off, part_of, lines_after, outcome_of_event, outcome_of_carry, outcome_of_lose, outcome_of_damage, outcome_of_settle, outcome_of, arrival_text, after_outcome, carriages_from, carriages_of}
 use Rattle.ddcmp_line.specs.ScriptSteps.{scene_of, Comes, Carries, StopsInside, stopped_of, LineEnds}
-use Rattle.ddcmp_pair.proofs.Runs.{run-one, run-none, stopped-none}
+use Rattle.ddcmp_run.proofs.Runs.{run-one, run-none, stopped-none}
 use Rattle.ddcmp_line.proofs.TextLaws.{sends-nothing}
 
 idle-or-wrote : (o : Option (List ℕ)) → ((bytes : List ℕ) → wrote o ≡ reply.Wrote bytes → ⊥) → wrote o ≡ reply.Idle

@@ -1,20 +1,21 @@
 -- Scripts: what their lines do to two ends and to the frames between them.
 use Rattle.std.specs.Prelude.{◌≡◌, ◌≢◌, ◌⊎◌, ℕ, ◌+◌, ◌-◌, ◌<◌, ◌^◌, Bool, true, false, if◌then◌else◌, nat_lt, ◌==◌, List, [], ◌∷◌, ◌++◌, length, take, drop, map, slice_set, slice_index_or, bit_xor, codes, decimal, Option, Some, None, option_map, Result, Ok, Err, ⊤}
 use Rattle.ddcmp_frame.specs.Device.{Logs}
-use Rattle.ddcmp_pair.specs.declared.event.End.{End}
-use Rattle.ddcmp_pair.specs.declared.event.End.TheVariants.{A, B}
-use Rattle.ddcmp_pair.specs.declared.event.Event.{Event}
-use Rattle.ddcmp_pair.specs.declared.event.Event.TheVariants as event
-use Rattle.ddcmp_pair.specs.declared.event.Reply.{Reply}
-use Rattle.ddcmp_pair.specs.declared.event.Reply.TheVariants as reply
+use Rattle.ddcmp_run.specs.declared.event.End.{End}
+use Rattle.ddcmp_run.specs.declared.event.End.TheVariants.{A, B}
+use Rattle.ddcmp_run.specs.declared.event.Event.{Event}
+use Rattle.ddcmp_run.specs.declared.event.Event.TheVariants as event
+use Rattle.ddcmp_run.specs.declared.event.Reply.{Reply}
+use Rattle.ddcmp_run.specs.declared.event.Reply.TheVariants as reply
 use Rattle.ddcmp_line.specs.declared.command.Command.{Command}
-use Rattle.ddcmp_line.specs.declared.command.Command.TheVariants.{Happens, Carry, Lose, Damage, Raw, Settle, State}
+use Rattle.ddcmp_line.specs.declared.command.Command.TheVariants.{Happens, Carry, Lose, Damage, Raw, Settle, Recover, State}
 use Rattle.ddcmp_line.specs.declared.command.Reading.{Reading}
 use Rattle.ddcmp_line.specs.declared.command.Reading.TheVariants.{Skipped, Asks, NoCommand, NotHex}
-use Rattle.ddcmp_pair.specs.Run.{PairState, at, reply_to, end_of, run}
-use Rattle.ddcmp_pair.specs.Settle.{other, settling}
+use Rattle.ddcmp_run.specs.Run.{PairState, at, reply_to, end_of, run}
+use Rattle.ddcmp_run.specs.Settle.{other, settling}
+use Rattle.ddcmp_run.specs.Recovery.{recovering, recovered, is_done}
 use Rattle.ddcmp_line.specs.ScriptWords.{reading_of}
-use Rattle.ddcmp_line.specs.ScriptText.{name_of, name_before, counted_line, reply_text, settled_text, damage_text, station_line}
+use Rattle.ddcmp_line.specs.ScriptText.{name_of, name_before, counted_line, reply_text, settled_text, recovered_text, damage_text, station_line}
 
 -- ---- both ends, and what is between them
 
@@ -141,6 +142,14 @@ outcome_of_settle s = record {
   text = settled_text (settling s.pair).exchanges (settling s.pair).quiet;
 }
 
+-- all frames on both lines are lost, and then the line recovers
+abbrev pub outcome_of_recover : Scene → Outcome
+outcome_of_recover s = record {
+  events = (recovering s.pair).events;
+  lines = nothing_between;
+  text = recovered_text (recovering s.pair).exchanges (is_done (recovered s.pair));
+}
+
 -- what a command does, where the carrier gives these bytes if it is asked
 unfoldable pub outcome_of : Command → List ℕ → Scene → Outcome
 outcome_of (Happens happened) came s = outcome_of_event happened s
@@ -155,6 +164,7 @@ outcome_of (Raw to bytes) came s = record {
   text = arrival_text to (codes "got ") to bytes s.pair;
 }
 outcome_of Settle came s = outcome_of_settle s
+outcome_of Recover came s = outcome_of_recover s
 outcome_of (State e) came s =
     outcome_between s.lines (station_line (name_of e) (at e s.pair).core.station)
 

@@ -2,14 +2,14 @@
 use Rattle.std.specs.Prelude.{◌≡◌, ◌⊎◌, ℕ, Bool, true, false, List, [], Option, Result, Ok, Err, ⊤}
 use Rattle.ddcmp_frame.specs.Device.{Logs}
 use Rattle.ddcmp_frame.specs.Written.{Output, HandsOver}
-use Rattle.ddcmp_pair.specs.declared.event.End.{End}
+use Rattle.ddcmp_run.specs.declared.event.End.{End}
 use Rattle.ddcmp_line.specs.declared.command.Command.TheVariants.{Carry}
 use Rattle.ddcmp_line.specs.declared.command.Reading.{Reading}
 use Rattle.ddcmp_line.specs.declared.command.Reading.TheVariants as reading
 use Rattle.ddcmp_line.specs.declared.performing.Stop.{Stop}
 use Rattle.ddcmp_line.specs.declared.performing.Stop.TheVariants.{NoCommand, NotHex, Write, Memory, Carrier}
-use Rattle.ddcmp_pair.specs.Run.{PairState}
-use Rattle.ddcmp_pair.specs.Settle.{StoppedAmong}
+use Rattle.ddcmp_run.specs.Run.{PairState}
+use Rattle.ddcmp_run.specs.Settle.{StoppedAmong}
 use Rattle.ddcmp_line.specs.Script.{events_by, Between, Scene, Outcome, Carriage, AreDirect, after_outcome, scene_after, text_of, carriages_by}
 
 abbrev pub scene_of : PairState → Between → Scene

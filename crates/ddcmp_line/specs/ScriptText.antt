@@ -11,11 +11,11 @@ use Rattle.ddcmp_core.specs.SendRefusal.TheVariants.{WrongState, Empty, TooLong,
 use Rattle.ddcmp_core.specs.declared.state.State.{State}
 use Rattle.ddcmp_core.specs.declared.state.State.TheVariants.{Halted, IStart, AStart, Running, Maintenance}
 use Rattle.ddcmp_core.specs.Table.{StationState, is_on}
-use Rattle.ddcmp_pair.specs.declared.event.End.{End}
-use Rattle.ddcmp_pair.specs.declared.event.End.TheVariants.{A, B}
-use Rattle.ddcmp_pair.specs.declared.event.Reply.{Reply}
-use Rattle.ddcmp_pair.specs.declared.event.Reply.TheVariants as reply
-use Rattle.ddcmp_pair.specs.Run.{PairState, handed_up, is_clean}
+use Rattle.ddcmp_run.specs.declared.event.End.{End}
+use Rattle.ddcmp_run.specs.declared.event.End.TheVariants.{A, B}
+use Rattle.ddcmp_run.specs.declared.event.Reply.{Reply}
+use Rattle.ddcmp_run.specs.declared.event.Reply.TheVariants as reply
+use Rattle.ddcmp_run.specs.Run.{PairState, handed_up, is_clean}
 
 -- who answers, before the words of the answer
 abbrev pub name_of : End → List ℕ
@@ -122,6 +122,17 @@ quiet_text quiet = if quiet then codes " quiet\n" else codes " busy\n"
 -- the line of a settle
 abbrev pub settled_text : ℕ → Bool → List ℕ
 settled_text exchanges quiet = codes "settled " ++ decimal exchanges ++ quiet_text quiet
+
+-- the line of a recovery: the exchanges of each of its settles, and whether all was done
+abbrev pub done_text : Bool → List ℕ
+done_text is_done = if is_done then codes "done\n" else codes "unfinished\n"
+
+abbrev pub count_text : ℕ → List ℕ
+count_text exchanges = decimal exchanges ++ codes " "
+
+abbrev pub recovered_text : List ℕ → Bool → List ℕ
+recovered_text exchanges is_done =
+    codes "recovered " ++ flat_map count_text exchanges ++ done_text is_done
 
 -- what became of a byte that was to be changed
 abbrev pub damage_text : Bool → Bool → List ℕ

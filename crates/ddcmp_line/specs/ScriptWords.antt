@@ -3,14 +3,14 @@ use Rattle.std.specs.Prelude.{ℕ, ◌+◌, ◌-◌, ◌*◌, Bool, true, false,
 use Rattle.std.specs.List.{slice_split}
 use Rattle.hex.specs.Hex.{decode_of, decode_sized}
 use Rattle.hex.specs.declared.error.FromHexError.{FromHexError}
-use Rattle.ddcmp_pair.specs.declared.event.End.{End}
-use Rattle.ddcmp_pair.specs.declared.event.End.TheVariants.{A, B}
-use Rattle.ddcmp_pair.specs.declared.event.Event.TheVariants as event
+use Rattle.ddcmp_run.specs.declared.event.End.{End}
+use Rattle.ddcmp_run.specs.declared.event.End.TheVariants.{A, B}
+use Rattle.ddcmp_run.specs.declared.event.Event.TheVariants as event
 use Rattle.ddcmp_line.specs.declared.command.Command.{Command}
-use Rattle.ddcmp_line.specs.declared.command.Command.TheVariants.{Happens, Carry, Lose, Damage, Raw, Settle, State}
+use Rattle.ddcmp_line.specs.declared.command.Command.TheVariants.{Happens, Carry, Lose, Damage, Raw, Settle, Recover, State}
 use Rattle.ddcmp_line.specs.declared.command.Reading.{Reading}
 use Rattle.ddcmp_line.specs.declared.command.Reading.TheVariants.{Skipped, Asks, NoCommand, NotHex}
-use Rattle.ddcmp_pair.specs.Place.{same_bytes}
+use Rattle.ddcmp_run.specs.Place.{same_bytes}
 
 -- ---- words
 
@@ -68,6 +68,7 @@ unfoldable pub alone : List ℕ → Reading
 alone verb =
     if is_word verb (codes "clear") then Asks (Happens event.Clear)
     else if is_word verb (codes "settle") then Asks Settle
+    else if is_word verb (codes "recover") then Asks Recover
     else NoCommand
 
 unfoldable pub command_at : List ℕ → End → Option Command

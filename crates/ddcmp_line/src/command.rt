@@ -2,7 +2,7 @@
 ghost use Rattle.std.specs.Prelude.{◌≡◌, ◌∷◌, ◌*◌, ◌^◌, ◌<◌, ◌==◌, [], length, take, Some, None, is_some, IfSome, IfOk, codes};
 ghost use Rattle.std.specs.Option.{option_map_or};
 ghost use Rattle.std.specs.List.{slice_split};
-ghost use Rattle.ddcmp_pair.specs.Place.{same_bytes};
+ghost use Rattle.ddcmp_run.specs.Place.{same_bytes};
 ghost use Rattle.ddcmp_line.specs.ScriptWords.{is_digit as is_digit_byte, end_named as end_of_word, number_in as number_of_word, bytes_in as bytes_of_word, byte_in as byte_of_word, alone, command_at as command_of, asked_at, cut_of, asked_with, asked_damage, asked_by, asked_in, words as words_of, reading_of};
 
 use ddcmp_pair::{Bytes, End, Event};
@@ -23,7 +23,10 @@ pub enum Command {
     Damage(End, u32, u8),
     /// These bytes arrive at an end.
     Raw(End, Bytes),
+    /// All frames on both lines are lost, and both ends settle.
     Settle,
+    /// The same, and then the line is repaired by two rounds.
+    Recover,
     /// An end is looked at.
     State(End),
 }
@@ -133,6 +136,8 @@ fn read_alone(verb: &[u8]) -> Reading
         Reading::Asks(Command::Happens(Event::Clear))
     } else if is_word(verb, b"settle") {
         Reading::Asks(Command::Settle)
+    } else if is_word(verb, b"recover") {
+        Reading::Asks(Command::Recover)
     } else {
         Reading::NoCommand
     }

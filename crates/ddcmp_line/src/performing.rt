@@ -2,22 +2,22 @@
 ghost use Rattle.std.specs.Prelude.{◌≡◌, ◌≢◌, ◌↔◌, ◌++◌, ◌∷◌, [], true, false, length, Some, None, Ok, Err, IsOk, OnOk, OnErr, List, ℕ, IsTrue, codes};
 ghost use Rattle.ddcmp_frame.specs.Device.{Logs};
 ghost use Rattle.ddcmp_frame.specs.Written.{HandsOver, output_of};
-ghost use Rattle.ddcmp_pair.specs.Run.{PairState, at, end_of, after_event, reply_to, run};
-ghost use Rattle.ddcmp_pair.specs.Settle.{other, settling, StoppedAmong};
+ghost use Rattle.ddcmp_run.specs.Run.{PairState, at, end_of, after_event, reply_to, run};
+ghost use Rattle.ddcmp_run.specs.Settle.{other, settling, StoppedAmong};
 ghost use Rattle.ddcmp_line.specs.ScriptWords.{reading_of};
 ghost use Rattle.ddcmp_line.specs.ScriptText.{name_of, reply_text};
 ghost use Rattle.ddcmp_line.specs.Script.{Between, lines_after, nothing_between, frames_after, frames_of, with_frames, part_of, outcome_of, outcome_of_event, outcome_of_carry, outcome_of_lose, outcome_of_damage, outcome_of_settle, arrival_text, after_outcome, events_by, HasCarried};
 ghost use Rattle.ddcmp_line.specs.ScriptSteps.{scene_of, stopped_of, Comes, Carries, LineEnds};
 ghost use Rattle.ddcmp_line.specs.declared.command.Reading.{Reading as ReadingValue};
-ghost use Rattle.ddcmp_pair.specs.declared.event.Event.TheVariants as event_value;
-ghost use Rattle.ddcmp_pair.specs.declared.event.Reply.{Reply as ReplyValue};
+ghost use Rattle.ddcmp_run.specs.declared.event.Event.TheVariants as event_value;
+ghost use Rattle.ddcmp_run.specs.declared.event.Reply.{Reply as ReplyValue};
 
 use crate::carrier::Carrier;
 use crate::command::{Command, Reading, read_line};
 use crate::frame_lines::{FrameLeft, FrameLines};
 use crate::reply_text::{
-    damage_name, end_name, write_bytes, write_counted, write_plain, write_reply, write_settled,
-    write_station,
+    damage_name, end_name, write_bytes, write_counted, write_plain, write_recovered, write_reply,
+    write_settled, write_station,
 };
 use ddcmp_frame::{Page, Sink};
 use ddcmp_pair::{Bytes, End, Event, Pair, Reply};
@@ -247,6 +247,14 @@ impl Stage {
         Ok(())
     }
 
+    /// All frames on both lines are lost, and then the line recovers.
+    fn recover<W: Sink>(&mut self, pair: &mut Pair, writer: &mut W) -> Result<(), Memory> {
+        let recovered = pair.recover()?;
+        self.lines.clear();
+        write_recovered(&mut self.page, writer, &recovered.exchanges, pair.done());
+        Ok(())
+    }
+
     /// Does what a command asks for, and hands over its text.
     fn perform<W: Sink, C: Carrier>(
         &mut self,
@@ -275,6 +283,7 @@ impl Stage {
             }
             Command::Raw(to, bytes) => stopped(self.arrive(pair, writer, to, b"got ", to, bytes)),
             Command::Settle => stopped(self.settle(pair, writer)),
+            Command::Recover => stopped(self.recover(pair, writer)),
             Command::State(end) => {
                 write_station(&mut self.page, writer, end_name(end), pair.station(end));
                 Ok(())

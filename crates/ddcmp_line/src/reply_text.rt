@@ -2,7 +2,7 @@
 ghost use Rattle.std.specs.Prelude.{◌≡◌, ◌++◌};
 ghost use Rattle.std.specs.List.{flat_map};
 ghost use Rattle.ddcmp_frame.specs.Written.{HandsOver, output_of};
-ghost use Rattle.ddcmp_line.specs.ScriptText.{name_of, start_refusal_text, clear_refusal_text, send_refusal_text, expired_text, notice_word, notice_number as notice_number_of, notice_line, counted_line, bytes_line, reply_text, state_text, timer_text, numbers_text, station_line, quiet_text, settled_text, damage_text};
+ghost use Rattle.ddcmp_line.specs.ScriptText.{name_of, start_refusal_text, clear_refusal_text, send_refusal_text, expired_text, notice_word, notice_number as notice_number_of, notice_line, counted_line, bytes_line, reply_text, state_text, timer_text, numbers_text, station_line, quiet_text, settled_text, done_text, count_text, recovered_text, damage_text};
 
 use crate::text::{write_hex, write_number};
 use ddcmp_frame::{Page, Sink};
@@ -243,6 +243,47 @@ pub(crate) fn write_settled<W: Sink>(page: &mut Page, writer: &mut W, exchanges:
     page.write(writer, b"settled ");
     write_number(page, writer, exchanges);
     page.write(writer, settled_name(quiet));
+}
+
+/// How a recovery ended, behind its exchanges.
+fn done_name(is_done: bool) -> &'static [u8]
+    ensures { result.now ≡ done_text is_done }
+{
+    if is_done { b"done\n" } else { b"unfinished\n" }
+}
+
+fn write_count<W: Sink>(page: &mut Page, writer: &mut W, exchanges: u32)
+    ensures { HandsOver (output_of W.broken W.contents writer.old page.old)
+        (output_of W.broken W.contents writer.new page.new) (count_text exchanges) }
+{
+    write_number(page, writer, exchanges);
+    page.write(writer, b" ");
+}
+
+/// The exchanges of each settle of a recovery.
+fn write_counts<W: Sink>(page: &mut Page, writer: &mut W, counts: &[u32])
+    ensures { HandsOver (output_of W.broken W.contents writer.old page.old)
+        (output_of W.broken W.contents writer.new page.new) (flat_map count_text counts.now) }
+{
+    for exchanges in counts {
+        write_count(page, writer, *exchanges);
+    }
+}
+
+/// The line of a recovery.
+pub(crate) fn write_recovered<W: Sink>(
+    page: &mut Page,
+    writer: &mut W,
+    exchanges: &[u32],
+    is_done: bool,
+)
+    ensures { HandsOver (output_of W.broken W.contents writer.old page.old)
+        (output_of W.broken W.contents writer.new page.new)
+        (recovered_text exchanges.now is_done) }
+{
+    page.write(writer, b"recovered ");
+    write_counts(page, writer, exchanges);
+    page.write(writer, done_name(is_done));
 }
 
 /// What became of a byte that was to be changed.

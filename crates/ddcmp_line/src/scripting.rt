@@ -2,8 +2,8 @@
 ghost use Rattle.std.specs.Prelude.{◌≡◌, ◌≢◌, ◌⊎◌, ◌↔◌, ◌+◌, ◌-◌, ◌<◌, ◌≤◌, ◌^◌, ◌∷◌, ◌++◌, [], false, Bool, List, ℕ, Option, Some, Err, IsOk, OnErr, IsTrue, length};
 ghost use Rattle.std.specs.Io.KnownBytes.{Appends, Consumes, IsAtEnd};
 ghost use Rattle.ddcmp_frame.specs.Written.{AppendsPart, HandsOver, output_of};
-ghost use Rattle.ddcmp_pair.specs.Run.{PairState};
-ghost use Rattle.ddcmp_pair.specs.InOrder.{IsInOrder};
+ghost use Rattle.ddcmp_run.specs.Run.{PairState};
+ghost use Rattle.ddcmp_run.specs.InOrder.{IsInOrder};
 ghost use Rattle.ddcmp_line.specs.Input.{GaveMost};
 ghost use Rattle.ddcmp_line.specs.ScriptWords.{without_cr as without_cr_of};
 ghost use Rattle.ddcmp_line.specs.ScriptText.{yes_or_no as yes_or_no_text, last_line};

@@ -14,7 +14,7 @@ use Rattle.ddcmp_frame.specs.Reading.{ReadItem}
 use Rattle.ddcmp_station.specs.Bytes.{received_of, after_item, after_items, notices_of_item, notices_of_items, items_added, after_piece, notices_of_piece}
 use Rattle.ddcmp_station.proofs.FeedLaws.{after_piece-append, notices_of_piece-append, after_piece-none, notices_of_piece-none}
 use Rattle.ddcmp_pair.specs.declared.side.hearing.Heard.{Heard}
-use Rattle.ddcmp_pair.specs.Run.{acknowledged_in, restarts_by, restarts_in}
+use Rattle.ddcmp_run.specs.Run.{acknowledged_in, restarts_by, restarts_in}
 
 -- what is to be done from `at` on is what was to be done from `from` on
 pub record LeftToFeed (arrived : List ℕ) (from : ℕ) (k0 : CoreView) (h0 : Heard) (at : ℕ)

@@ -1,7 +1,7 @@
 //! Two stations on a line.
 use crate::ends::Ends;
-use crate::event::{End, Event, Reply};
 use crate::side::Side;
+use ddcmp_run::{End, Event, Reply};
 use ddcmp_station::{Config, ConfigRefusal, Memory, Station};
 use std::alloc::Global;
 use std::marker::Model;
@@ -22,8 +22,8 @@ pub struct Pair {
 }
 
 impl Model for Pair {
-    ghost use Rattle.ddcmp_pair.specs.Run.{PairState};
-    ghost use Rattle.ddcmp_pair.specs.InOrder.{IsRun};
+    ghost use Rattle.ddcmp_run.specs.Run.{PairState};
+    ghost use Rattle.ddcmp_run.specs.InOrder.{IsRun};
 
     ghost Value = { PairState };
 
@@ -38,9 +38,9 @@ impl Pair {
     ghost use Rattle.ddcmp_frame.specs.Reader.{StandsFor};
     ghost use Rattle.ddcmp_core.specs.Store.{with_front};
     ghost use Rattle.ddcmp_station.specs.Config.{first_refusal};
-    ghost use Rattle.ddcmp_pair.specs.declared.event.End.{End as EndValue};
-    ghost use Rattle.ddcmp_pair.specs.Run.{new_pair, after_event, reply_to, asks_memory, at, handed_up, is_clean};
-    ghost use Rattle.ddcmp_pair.specs.InOrder.{IsRun, IsInOrder, NoRestart};
+    ghost use Rattle.ddcmp_run.specs.declared.event.End.{End as EndValue};
+    ghost use Rattle.ddcmp_run.specs.Run.{new_pair, after_event, reply_to, asks_memory, at, handed_up, is_clean};
+    ghost use Rattle.ddcmp_run.specs.InOrder.{IsRun, IsInOrder, NoRestart};
 
     /// Two stations begun over an empty line.
     pub fn new(alloc: Global, first: Config, second: Config) -> Result<Pair, PairRefusal>

@@ -2,10 +2,10 @@
 //! it settles again.
 ghost use Rattle.std.specs.Prelude.{◌≡◌, ◌↔◌, IsTrue};
 
-use crate::event::{End, Event};
 use crate::pair::Pair;
 use crate::settling::Settled;
 use ddcmp_core::MAX_COUNT;
+use ddcmp_run::{End, Event};
 use ddcmp_station::{Memory, State};
 
 /// Whether two messages have the same bytes.
@@ -43,11 +43,11 @@ impl Recovered {
 impl Pair {
     ghost use Rattle.std.specs.Prelude.{◌≡◌, ◌+◌, ◌*◌, ◌≤◌, true, IsOk, IfOk, OnErr};
     ghost use Rattle.std.specs.List.{All};
-    ghost use Rattle.ddcmp_pair.specs.declared.event.End.{End as EndValue};
-    ghost use Rattle.ddcmp_pair.specs.Run.{at};
-    ghost use Rattle.ddcmp_pair.specs.InOrder.{IsInOrder};
-    ghost use Rattle.ddcmp_pair.specs.Settle.{StoppedAmong, most_exchanges};
-    ghost use Rattle.ddcmp_pair.specs.Recovery.{rounding, rounded, recovering, recovered, is_ready, larger_window, IsDone, IsRepaired};
+    ghost use Rattle.ddcmp_run.specs.declared.event.End.{End as EndValue};
+    ghost use Rattle.ddcmp_run.specs.Run.{at};
+    ghost use Rattle.ddcmp_run.specs.InOrder.{IsInOrder};
+    ghost use Rattle.ddcmp_run.specs.Settle.{StoppedAmong, most_exchanges};
+    ghost use Rattle.ddcmp_run.specs.Recovery.{rounding, rounded, recovering, recovered, is_ready, larger_window, IsDone, IsRepaired};
 
     /// Both timers run out, where they are on, and then the line settles.
     pub fn round(&mut self) -> Result<Settled, Memory>
@@ -104,9 +104,9 @@ impl Pair {
 
 impl Pair {
     ghost use Rattle.std.specs.Prelude.{◌≡◌, ◌↔◌, ◌≤◌, ◌<◌, [], length, slice_index_or, IsTrue};
-    ghost use Rattle.ddcmp_pair.specs.Run.{at, handed_up};
-    ghost use Rattle.ddcmp_pair.specs.Settle.{other};
-    ghost use Rattle.ddcmp_pair.specs.Recovery.{is_ready, is_ready_here, IsDelivered, IsDone};
+    ghost use Rattle.ddcmp_run.specs.Run.{at, handed_up};
+    ghost use Rattle.ddcmp_run.specs.Settle.{other};
+    ghost use Rattle.ddcmp_run.specs.Recovery.{is_ready, is_ready_here, is_done, IsDelivered, IsDone};
 
     /// Whether an honest and clean run has led here, both ends have begun, no frame is unfinished,
     /// and both ends have one `max`: from here a recovery repairs the line.
@@ -130,7 +130,8 @@ impl Pair {
     /// Whether both ends run, and all that each accepted was handed up at the other and told
     /// acknowledged.
     pub fn done(&self) -> bool
-        ensures { IsTrue result ↔ IsDone self.now }
+        ensures meaning { IsTrue result ↔ IsDone self.now }
+        ensures answer { result ≡ is_done self.now }
     {
         self.is_delivered(End::A) && self.is_delivered(End::B)
     }

@@ -1,11 +1,11 @@
 //! A run from its beginning.
 ghost use Rattle.std.specs.Prelude.{◌≡◌, ◌⊎◌, ◌<◌, ℕ, length, take, Some, None, Err, IsOk, IfOk};
 ghost use Rattle.ddcmp_station.specs.Config.{first_refusal};
-ghost use Rattle.ddcmp_pair.specs.Run.{PairState, new_pair, run as run_of};
-ghost use Rattle.ddcmp_pair.specs.InOrder.{IsInOrder};
+ghost use Rattle.ddcmp_run.specs.Run.{PairState, new_pair, run as run_of};
+ghost use Rattle.ddcmp_run.specs.InOrder.{IsInOrder};
 
-use crate::event::Event;
 use crate::pair::{Pair, PairRefusal};
+use ddcmp_run::Event;
 use ddcmp_station::{Config, ConfigRefusal};
 use std::alloc::Global;
 

@@ -1,6 +1,6 @@
 //! Frames arrive whole, one after another, until neither end sends any more.
-use crate::event::{End, Event, Reply};
 use crate::pair::Pair;
+use ddcmp_run::{End, Event, Reply};
 use ddcmp_station::Memory;
 
 /// How a settle ended.
@@ -14,10 +14,10 @@ pub struct Settled {
 
 impl Pair {
     ghost use Rattle.std.specs.Prelude.{◌≡◌, IsOk, IfOk, OnErr};
-    ghost use Rattle.ddcmp_pair.specs.declared.event.End.{End as EndValue};
-    ghost use Rattle.ddcmp_pair.specs.Run.{at, run};
-    ghost use Rattle.ddcmp_pair.specs.InOrder.{IsInOrder};
-    ghost use Rattle.ddcmp_pair.specs.Settle.{settling, settled, exchange, either_writes, crossing, writes, mail_events, StoppedAmong};
+    ghost use Rattle.ddcmp_run.specs.declared.event.End.{End as EndValue};
+    ghost use Rattle.ddcmp_run.specs.Run.{at, run};
+    ghost use Rattle.ddcmp_run.specs.InOrder.{IsInOrder};
+    ghost use Rattle.ddcmp_run.specs.Settle.{settling, settled, exchange, either_writes, crossing, writes, mail_events, StoppedAmong};
 
     /// Takes all mail, and then carries frames to and fro until neither end writes one. What was
     /// sent before and hasn't arrived never arrives.

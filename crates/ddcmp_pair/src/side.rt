@@ -2,9 +2,8 @@
 mod hearing;
 mod speaking;
 
-use crate::bytes::Bytes;
-use crate::event::{Event, Reply};
 use ddcmp_frame::{Header, Reader};
+use ddcmp_run::{Bytes, Event, Reply};
 use ddcmp_station::{Config, ConfigRefusal, Memory, Station};
 use std::alloc::Global;
 use std::marker::Model;
@@ -71,7 +70,7 @@ impl Side {
     ghost use Rattle.ddcmp_frame.specs.Reader.{StandsFor};
     ghost use Rattle.ddcmp_core.specs.Store.{with_front};
     ghost use Rattle.ddcmp_core.specs.Table.{is_halted, answer_to_start};
-    ghost use Rattle.ddcmp_pair.specs.Run.{new_end, after_start_here, after_event_here, started, reply_here, is_honest_here, cleared, handed_up, asks_here};
+    ghost use Rattle.ddcmp_run.specs.Run.{new_end, after_start_here, after_event_here, started, reply_here, is_honest_here, cleared, handed_up, asks_here};
     ghost use Rattle.ddcmp_pair.specs.Sides.{IsPlaced};
 
     /// An end with nothing done.

@@ -5,14 +5,13 @@ ghost use Rattle.ddcmp_frame.specs.Reading.{good_frames};
 ghost use Rattle.ddcmp_core.specs.Table.{is_halted, acknowledged_by};
 ghost use Rattle.ddcmp_core.specs.Counting.{count_plus};
 ghost use Rattle.ddcmp_station.specs.Bytes.{after_piece, notices_of_piece};
-ghost use Rattle.ddcmp_pair.specs.Place.{same_frame, place_after as place_after_of, place_next, place_of};
-ghost use Rattle.ddcmp_pair.specs.Run.{acknowledged_in, restarts_by, restarts_in};
+ghost use Rattle.ddcmp_run.specs.Place.{same_frame, place_after as place_after_of, place_next, place_of};
+ghost use Rattle.ddcmp_run.specs.Run.{acknowledged_in, restarts_by, restarts_in};
 
-use crate::bytes::{Bytes, Notices};
-use crate::event::Reply;
 use crate::side::Side;
 use ddcmp_core::Notice;
 use ddcmp_frame::{Header, Item, Reader};
+use ddcmp_run::{Bytes, Notices, Reply};
 use ddcmp_station::{Memory, Station};
 
 /// What was told, and what of it is counted.
@@ -157,7 +156,7 @@ fn follow(
 
 impl Side {
     ghost use Rattle.std.specs.Prelude.{◌≡◌, IsOk, IfOk, OnErr};
-    ghost use Rattle.ddcmp_pair.specs.Run.{after_arrival_here, notices_at};
+    ghost use Rattle.ddcmp_run.specs.Run.{after_arrival_here, notices_at};
     ghost use Rattle.ddcmp_pair.specs.Sides.{IsPlaced};
 
     /// Bytes arrive.

@@ -8,10 +8,9 @@ ghost use Rattle.ddcmp_core.specs.Frames.{header_of, message_of};
 ghost use Rattle.ddcmp_core.specs.Core.{IsSound};
 ghost use Rattle.ddcmp_station.specs.Bytes.{frame_on_line, after_poll};
 
-use crate::bytes::Bytes;
-use crate::event::Reply;
 use crate::side::Side;
 use ddcmp_frame::Header;
+use ddcmp_run::{Bytes, Reply};
 use ddcmp_station::{Memory, Station};
 
 /// The bytes before the data of a frame: its header and the header's check.
@@ -75,7 +74,7 @@ impl Side {
     ghost use Rattle.std.specs.Prelude.{false, nat_lt, is_some, IsOk, IfOk, OnErr};
     ghost use Rattle.ddcmp_core.specs.Store.{first_message};
     ghost use Rattle.ddcmp_core.specs.Table.{answer_to_send, may_send};
-    ghost use Rattle.ddcmp_pair.specs.Run.{after_send_here, accepted, after_poll_here, wrote, line_bytes, after_take_here, took};
+    ghost use Rattle.ddcmp_run.specs.Run.{after_send_here, accepted, after_poll_here, wrote, line_bytes, after_take_here, took};
 
     /// The user sends a message.
     pub(super) fn send(&mut self, message: &[u8]) -> Result<Reply, Memory>

@@ -1,4 +1,4 @@
-use Rattle.ddcmp_pair.specs.declared.event.End.TheVariants.{A, B}
+use Rattle.ddcmp_run.specs.declared.event.End.TheVariants.{A, B}
 use Rattle.ddcmp_hostile_tests.proofs.link.Link.settle.Goals as goal
 
 pub invariant_of-self : goal.invariant_of-self

@@ -1,6 +1,6 @@
 use Rattle.std.proofs.Common.{subst}
 use Rattle.ddcmp_pair.specs.Sides.{IsPlaced}
-use Rattle.ddcmp_pair.proofs.Places.{placed-after}
+use Rattle.ddcmp_pair.proofs.Placed.{placed-after}
 use Rattle.ddcmp_pair.proofs.ends.Ends.apply_at_a.Goals as goal
 
 pub invariant_of-self : goal.invariant_of-self

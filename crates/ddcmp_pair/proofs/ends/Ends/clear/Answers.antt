@@ -1,5 +1,5 @@
 use Rattle.std.proofs.Common.{ap}
-use Rattle.ddcmp_pair.proofs.Places.{placed-nothing}
+use Rattle.ddcmp_pair.proofs.Placed.{placed-nothing}
 use Rattle.ddcmp_pair.proofs.ends.Ends.clear.Goals as goal
 
 pub invariant_of-self : goal.invariant_of-self

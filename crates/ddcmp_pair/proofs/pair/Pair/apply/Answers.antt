@@ -1,7 +1,7 @@
 use Rattle.std.proofs.Common.{◌∙◌, ap}
-use Rattle.ddcmp_pair.specs.Run.{at}
-use Rattle.ddcmp_pair.proofs.Limits.{step-limits}
-use Rattle.ddcmp_pair.proofs.Ordered.{stepped}
+use Rattle.ddcmp_run.specs.Run.{at}
+use Rattle.ddcmp_run.proofs.Limits.{step-limits}
+use Rattle.ddcmp_run.proofs.Ordered.{stepped}
 use Rattle.ddcmp_pair.proofs.pair.Pair.apply.Goals as goal
 
 pub returns-clause-limits : goal.returns-clause-limits

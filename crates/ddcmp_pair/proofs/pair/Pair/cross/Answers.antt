@@ -1,10 +1,10 @@
 use Rattle.std.proofs.Common.{◌∙◌, ap, sym, subst, refl}
 use Rattle.std.specs.Prelude.{is_some}
-use Rattle.ddcmp_pair.specs.declared.event.End.{End}
-use Rattle.ddcmp_pair.specs.declared.event.Event.TheVariants as event
-use Rattle.ddcmp_pair.specs.Run.{after_event, run}
-use Rattle.ddcmp_pair.specs.Settle.{carried, crossing, mail_events, other, StoppedAmong}
-use Rattle.ddcmp_pair.proofs.Runs.{on-err, polled-some, polled-none, crossing-writes, crossing-idles, run-append, run-one, run-carried, stopped-none, stopped-first, stopped-later, stopped-polled}
+use Rattle.ddcmp_run.specs.declared.event.End.{End}
+use Rattle.ddcmp_run.specs.declared.event.Event.TheVariants as event
+use Rattle.ddcmp_run.specs.Run.{after_event, run}
+use Rattle.ddcmp_run.specs.Settle.{carried, crossing, mail_events, other, StoppedAmong}
+use Rattle.ddcmp_run.proofs.Runs.{on-err, polled-some, polled-none, crossing-writes, crossing-idles, run-append, run-one, run-carried, stopped-none, stopped-first, stopped-later, stopped-polled}
 use Rattle.ddcmp_pair.proofs.pair.Pair.cross.Goals as goal
 
 pub returns-in_err-bytes-clause-memory : goal.returns-in_err-bytes-clause-memory

@@ -1,8 +1,8 @@
 use Rattle.std.proofs.Common.{ap}
 use Rattle.std.specs.Prelude.{◌&&◌, is_some}
 use Rattle.ddcmp_station.specs.Config.{first_refusal}
-use Rattle.ddcmp_pair.proofs.Ordered.{made, run-new}
-use Rattle.ddcmp_pair.proofs.Places.{placed-nothing}
+use Rattle.ddcmp_run.proofs.Ordered.{made, run-new}
+use Rattle.ddcmp_pair.proofs.Placed.{placed-nothing}
 use Rattle.ddcmp_pair.proofs.pair.Pair.new.Goals as goal
 
 pub invariant_of-result : goal.invariant_of-result

@@ -1,10 +1,10 @@
 use Rattle.std.specs.Prelude.{ℕ, ◌+◌, ◌*◌, ◌≤◌, List}
 use Rattle.std.specs.List.{All}
-use Rattle.ddcmp_pair.specs.Settle.{most_exchanges}
-use Rattle.ddcmp_pair.specs.Recovery.{larger_window, IsDone}
+use Rattle.ddcmp_run.specs.Settle.{most_exchanges}
+use Rattle.ddcmp_run.specs.Recovery.{larger_window, IsDone}
 use Rattle.std.proofs.Common.{subst, sym, ◌∙◌, refl}
-use Rattle.ddcmp_pair.proofs.Runs.{on-err}
-use Rattle.ddcmp_pair.proofs.Recoveries.{stopped-at-first, stopped-at-second, stopped-at-third, recovered-is, recovering-exchanges, recovering-quiet}
+use Rattle.ddcmp_run.proofs.Runs.{on-err}
+use Rattle.ddcmp_run.proofs.Recoveries.{stopped-at-first, stopped-at-second, stopped-at-third, recovered-is, recovering-exchanges, recovering-quiet}
 use Rattle.ddcmp_pair.proofs.pair.Pair.recover.Goals as goal
 
 pub returns-in_err-first-clause-memory : goal.returns-in_err-first-clause-memory

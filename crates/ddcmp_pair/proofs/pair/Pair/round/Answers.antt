@@ -1,10 +1,10 @@
 use Rattle.std.proofs.Common.{◌≡◌, ◌∙◌, ap, sym, subst, refl}
 use Rattle.std.specs.Prelude.{ℕ, Bool, IfOk}
-use Rattle.ddcmp_pair.specs.Run.{PairState}
-use Rattle.ddcmp_pair.specs.Settle.{settling, settled, StoppedAmong}
-use Rattle.ddcmp_pair.specs.Recovery.{rounding}
-use Rattle.ddcmp_pair.proofs.Runs.{on-err, stopped-none}
-use Rattle.ddcmp_pair.proofs.Recoveries.{on-err-by, rounding-exchanges, rounding-quiet, rounded-is, both-expired, stopped-between, stopped-in-round}
+use Rattle.ddcmp_run.specs.Run.{PairState}
+use Rattle.ddcmp_run.specs.Settle.{settling, settled, StoppedAmong}
+use Rattle.ddcmp_run.specs.Recovery.{rounding}
+use Rattle.ddcmp_run.proofs.Runs.{on-err, stopped-none}
+use Rattle.ddcmp_run.proofs.Recoveries.{on-err-by, rounding-exchanges, rounding-quiet, rounded-is, both-expired, stopped-between, stopped-in-round}
 use Rattle.ddcmp_pair.proofs.pair.Pair.round.Goals as goal
 
 pub returns-in_err-_first-clause-memory : goal.returns-in_err-_first-clause-memory

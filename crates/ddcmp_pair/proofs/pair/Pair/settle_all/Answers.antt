@@ -1,8 +1,8 @@
 use Rattle.std.proofs.Common.{◌≡◌, ◌∙◌, ◌+◌, ◌*◌, ap, sym, subst, refl, arith}
-use Rattle.ddcmp_pair.specs.Run.{run}
-use Rattle.ddcmp_pair.specs.Settle.{all_mail, most_exchanges}
-use Rattle.ddcmp_pair.proofs.Runs.{on-err, stopped-first}
-use Rattle.ddcmp_pair.proofs.Settles.{LeftToSettle, left-more, left-quiet, left-busy, left-stopped, settle-begun, settled-is, settling-exchanges, settling-quiet, stopped-in-mail, stopped-second, stopped-after-mail}
+use Rattle.ddcmp_run.specs.Run.{run}
+use Rattle.ddcmp_run.specs.Settle.{all_mail, most_exchanges}
+use Rattle.ddcmp_run.proofs.Runs.{on-err, stopped-first}
+use Rattle.ddcmp_run.proofs.Settles.{LeftToSettle, left-more, left-quiet, left-busy, left-stopped, settle-begun, settled-is, settling-exchanges, settling-quiet, stopped-in-mail, stopped-second, stopped-after-mail}
 use Rattle.ddcmp_pair.proofs.pair.Pair.settle_all.Goals as goal
 
 pub returns-in_err-take_mail-clause-memory : goal.returns-in_err-take_mail-clause-memory

@@ -1,7 +1,7 @@
 use Rattle.std.proofs.Common.{◌∙◌, ap, sym, refl, arith, length}
-use Rattle.ddcmp_pair.specs.declared.event.Event.TheVariants.{Take}
-use Rattle.ddcmp_pair.specs.Run.{at, after_event}
-use Rattle.ddcmp_pair.proofs.Runs.{run-again, run-none, stopped-again, on-err}
+use Rattle.ddcmp_run.specs.declared.event.Event.TheVariants.{Take}
+use Rattle.ddcmp_run.specs.Run.{at, after_event}
+use Rattle.ddcmp_run.proofs.Runs.{run-again, run-none, stopped-again, on-err}
 use Rattle.ddcmp_pair.proofs.pair.Pair.take_mail.Goals as goal
 
 pub loop-taken-init : goal.loop-taken-init

@@ -1,6 +1,6 @@
 use Rattle.std.proofs.Common.{◌≡◌, replicate, length}
-use Rattle.ddcmp_pair.specs.declared.event.Event.TheVariants.{Take}
-use Rattle.ddcmp_pair.specs.Run.{at, run}
+use Rattle.ddcmp_run.specs.declared.event.Event.TheVariants.{Take}
+use Rattle.ddcmp_run.specs.Run.{at, run}
 use Rattle.ddcmp_pair.proofs.pair.Pair.take_mail.Given as goal
 
 abbrev pub invariant-loop-taken : goal.invariant-loop-taken

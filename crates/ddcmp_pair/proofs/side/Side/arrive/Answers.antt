@@ -3,7 +3,7 @@ use Rattle.ddcmp_frame.specs.Reader.{StandsFor}
 use Rattle.ddcmp_frame.specs.Reading.{good_frames}
 use Rattle.ddcmp_core.specs.Table.{is_halted}
 use Rattle.ddcmp_station.proofs.FeedLaws.{after_piece-limits}
-use Rattle.ddcmp_pair.specs.Place.{place_of}
+use Rattle.ddcmp_run.specs.Place.{place_of}
 use Rattle.ddcmp_pair.proofs.Feeding.{told-after, kept-after}
 use Rattle.ddcmp_pair.proofs.side.Side.arrive.Goals as goal
 

@@ -1,8 +1,8 @@
 use Rattle.std.proofs.Common.{◌∙◌, length, ap, sym, subst, arith}
 use Rattle.ddcmp_frame.specs.Reader.{StandsFor}
 use Rattle.ddcmp_core.specs.Table.{is_halted}
-use Rattle.ddcmp_pair.specs.Run.{EndState}
-use Rattle.ddcmp_pair.proofs.Lines.{nothing-polled, sending-keeps}
+use Rattle.ddcmp_run.specs.Run.{EndState}
+use Rattle.ddcmp_run.proofs.Lines.{nothing-polled, sending-keeps}
 use Rattle.ddcmp_pair.proofs.side.Side.poll.Goals as goal
 
 pub returns-in_default-clause-state : goal.returns-in_default-clause-state

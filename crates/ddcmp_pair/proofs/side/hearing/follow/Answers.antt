@@ -1,8 +1,8 @@
 use Rattle.std.proofs.Common.{◌+◌, sym, ◌∙◌, ap, subst, arith, take}
 use Rattle.ddcmp_frame.specs.Reader.{StandsFor}
 use Rattle.ddcmp_frame.specs.Reading.{items}
-use Rattle.ddcmp_pair.specs.Place.{place_next}
-use Rattle.ddcmp_pair.proofs.Places.{followed-next, one_more, within-option}
+use Rattle.ddcmp_run.specs.Place.{place_next}
+use Rattle.ddcmp_pair.proofs.Placed.{followed-next, one_more, within-option}
 use Rattle.ddcmp_pair.proofs.side.hearing.follow.Goals as goal
 
 pub loop-at-preserved : goal.loop-at-preserved

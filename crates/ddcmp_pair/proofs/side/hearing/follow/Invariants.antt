@@ -2,7 +2,7 @@ use Rattle.std.proofs.Common.{◌≡◌, ◌≤◌, ℕ, take, length}
 use Rattle.std.specs.Prelude.{Some}
 use Rattle.ddcmp_frame.specs.Reader.{StandsFor}
 use Rattle.ddcmp_frame.specs.Reading.{good_frames}
-use Rattle.ddcmp_pair.proofs.Places.{IsFollowed}
+use Rattle.ddcmp_pair.proofs.Placed.{IsFollowed}
 use Rattle.ddcmp_pair.proofs.side.hearing.follow.Given as goal
 
 abbrev pub invariant-loop-at : goal.invariant-loop-at

@@ -1,5 +1,5 @@
 use Rattle.std.proofs.Common.{length, ap, arith}
-use Rattle.ddcmp_pair.proofs.Lines.{polled, at-front}
+use Rattle.ddcmp_run.proofs.Lines.{polled, at-front}
 use Rattle.ddcmp_pair.proofs.side.speaking.poll_into.Goals as goal
 
 pub append-requires : goal.append-requires

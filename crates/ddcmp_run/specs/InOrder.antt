@@ -1,0 +1,47 @@
+-- The headline: in order, once, unchanged, or not at all.
+use Rattle.std.specs.Prelude.{◌≡◌, ℕ, ◌≤◌, true, false, List, length, None}
+use Rattle.std.specs.List.{All}
+use Rattle.ddcmp_core.specs.Laws.{tells_restart}
+use Rattle.ddcmp_station.specs.Config.{first_refusal}
+use Rattle.ddcmp_station.specs.declared.config.Config.{Config}
+use Rattle.ddcmp_run.specs.declared.event.Event.{Event}
+use Rattle.ddcmp_run.specs.declared.event.Reply.{Reply}
+use Rattle.ddcmp_run.specs.declared.event.Reply.TheVariants as reply
+use Rattle.ddcmp_run.specs.Link.{IsReached, link_of}
+use Rattle.ddcmp_run.specs.Prefix.{IsPrefixOf}
+use Rattle.ddcmp_run.specs.Run.{EndState, PairState, handed_up, is_clean, new_pair, run}
+
+-- The messages handed up at `to` are the first of those that `from` accepted, and no more of them
+-- was told acknowledged than was handed up.
+pub record Delivers (from to : EndState) : Type 0 where
+  pub order : IsPrefixOf (handed_up to) from.given
+  pub acknowledged : from.acknowledged ≤ length (handed_up to)
+
+-- In every honest and clean run, messages are handed up at each end in the order in which the other
+-- end accepted them, each once and unchanged, or not at all.
+pub record IsInOrder (p : PairState) : Type 0 where
+  pub a_to_b : p.honest ≡ true → is_clean p ≡ true → Delivers p.a p.b
+  pub b_to_a : p.honest ≡ true → is_clean p ≡ true → Delivers p.b p.a
+
+-- A pair that some list of events leads to, from two new stations of any sizes in range.
+pub record IsRun (p : PairState) : Type 0 where
+  pub first : Config
+  pub second : Config
+  pub first_made : first_refusal first ≡ None
+  pub second_made : first_refusal second ≡ None
+  pub events : List Event
+  pub leads : run events (new_pair first second) ≡ p
+
+-- What one end gave and the other handed up is a run of an abstract link, whose window is that of
+-- the end that gave.
+pub record IsLink (from to : EndState) : Type 0 where
+  pub sent : ℕ
+  pub forward : List ℕ
+  pub back : List ℕ
+  pub is_reached : IsReached from.core.limits.window
+      (link_of from.given from.acknowledged sent (handed_up to) forward back)
+
+-- no notice tells that the peer began anew
+abbrev pub NoRestart : Reply → Type 0
+NoRestart (reply.Notices notices) = All (λ n. tells_restart n ≡ false) notices
+NoRestart _ = Unit {0}
