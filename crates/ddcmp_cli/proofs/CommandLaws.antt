@@ -7,7 +7,8 @@ use Rattle.clap.specs.declared.error.kind.ErrorKind.TheVariants.{DisplayHelp, Di
 use Rattle.ddcmp_cli.specs.declared.declined.Declined.{Declined}
 use Rattle.ddcmp_cli.specs.declared.declined.Declined.TheVariants.{Help, Version, Usage, Memory}
 use Rattle.ddcmp_cli.specs.Words.{Declines, Reads}
-use Rattle.std.proofs.Common.{inl, inr, ◌≢◌, ◌⊎◌, Err, ℕ, codes, ◌≡◌, ◌∙◌, ap, sym, subst, refl, true, List, Option, Some, None}
+use Rattle.std.proofs.Common.{inl, inr, ◌≤◌, ◌≢◌, ◌⊎◌, Err, ℕ, codes, ◌≡◌, ◌∙◌, ap, sym, subst, refl, true, List, Option, Some, None}
+use Rattle.std.proofs.lemmas.Bool.{le-leb}
 use Rattle.std.specs.Option.{option_map, option_and_then}
 use Rattle.clap.specs.Words.{App, Text, HasMatchesOf, is_simple, subcommand_of, subcommand_name_of, subcommand_rows_of, one_text, one_of, takes, Row}
 use Rattle.clap.specs.Walk.{rows_of}
@@ -16,9 +17,13 @@ use Rattle.clap.proofs.WalkLemmas.{one_text-rows}
 use Rattle.clap.specs.declared.parser.matches.ArgMatches.{ArgMatches}
 use Rattle.clap.specs.declared.parser.matches.ArgMatches.TheViews.{out-ArgMatches}
 use Rattle.clap.proofs.OnLiterals.{clap_on_literals}
-use Rattle.ddcmp_cli.specs.Words.{program, named_by, option_in, HasForm, HasMaximum, HasOptions, IsAsked}
+use Rattle.ddcmp_cli.specs.Words.{program, named_by, name_of, option_in, HasFlag, HasForm, HasNumber, HasSizes, HasOptions, IsAsked}
+use Rattle.ddcmp_core.specs.Limits.{MAX_COUNT, MAX_WINDOW}
+use Rattle.ddcmp_station.specs.declared.config.Config.{Config}
+use Rattle.ddcmp_station.specs.declared.config.TheConstants.{MAX_INBOX, MAX_SYN}
+use Rattle.ddcmp_station.specs.Config.{first_refusal}
 use Rattle.ddcmp_cli.specs.declared.command.Command.{Command}
-use Rattle.ddcmp_cli.specs.declared.command.Command.TheVariants.{Explain}
+use Rattle.ddcmp_cli.specs.declared.command.Command.TheVariants.{Explain, Simulate}
 
 pub program-simple : is_simple program ≡ true
 unfolding clap_on_literals
@@ -45,29 +50,61 @@ and_then-map : {A B C : Type 0} (g : A → Option C) (f : A → B) (h : B → Op
 and_then-map g f h None b k e = let e' : ◌≡◌ None (Some b) = e in cc
 and_then-map g f h (Some x) b k e = let i : f x ≡ b = cc in k x ∙ ap h i
 
--- an option of the command that a parse met is the one that the words give
-pub option_met : (app : App) (words : List Text) (m : ArgMatches) (f : Found) (id : Text) → app ≡ program → HasMatchesOf app words m
-    → option_map (λ p. p.1) (subcommand_rows_of m) ≡ Some (rows_of f) → one_text f id ≡ option_in words id
-unfolding option_in
-option_met app words m f id e h rows =
-    let found = h (ap is_simple e ∙ program-simple) in
-    let named_rows : subcommand_rows_of m ≡ subcommand_of program words = found.1 ∙ ap (λ (a : App). subcommand_of a words) e in
+-- an option of the command that a parse met
+abbrev pub option_met : Option (Text × List Row) → Text → Option Text
+option_met rows id = option_and_then (λ named. one_of id named.1) rows
+
+pub met : (rows : Option (Text × List Row)) (f : Found) → option_map (λ p. p.1) rows ≡ Some (rows_of f)
+    → (id : Text) → one_text f id ≡ option_met rows id
+met rows f e id =
     one_text-rows f id
-    ∙ sym (and_then-map (λ (p : Text × List Row). one_of id p.1) (λ p. p.1) (λ r. one_of id r) (subcommand_of program words) (rows_of f) (λ _. refl) (ap (option_map (λ p. p.1)) (sym named_rows) ∙ rows))
+    ∙ sym (and_then-map (λ (p : Text × List Row). one_of id p.1) (λ p. p.1) (λ r. one_of id r) rows (rows_of f) (λ _. refl) e)
+
+pub has_options_as : (o p : Text → Option Text) (made : Command) → ((id : Text) → o id ≡ p id) → HasOptions o made → HasOptions p made
+has_options_as o p (Explain form max) e h = (
+  subst (λ t. HasForm t form) (e (codes "raw")) h.0,
+  subst (λ t. HasNumber 1 MAX_COUNT MAX_COUNT t max) (e (codes "max")) h.1,
+)
+has_options_as o p (Simulate config) e h = record {
+  window = subst (λ t. HasNumber 1 MAX_WINDOW 7 t config.window) (e (codes "window")) h.window;
+  inbox = subst (λ t. HasNumber 1 MAX_INBOX 8 t config.inbox) (e (codes "inbox")) h.inbox;
+  max = subst (λ t. HasNumber 1 MAX_COUNT 1500 t config.max) (e (codes "max")) h.max;
+  syn = subst (λ t. HasNumber 0 MAX_SYN 0 t config.syn) (e (codes "syn")) h.syn;
+  restart = subst (λ t. HasFlag t config.restart) (e (codes "restart")) h.restart;
+}
 
 -- a command has the options that the words give
-pub has_options : (app : App) (words : List Text) (m : ArgMatches) (f : Found) (made : Command) → app ≡ program → HasMatchesOf app words m
-    → option_map (λ p. p.1) (subcommand_rows_of m) ≡ Some (rows_of f) → HasOptions (one_text f) made → HasOptions (option_in words) made
-has_options app words m f (Explain form max) e h rows o = (
-  subst (λ t. HasForm t form) (option_met app words m f (codes "raw") e h rows) o.0,
-  subst (λ t. HasMaximum t max) (option_met app words m f (codes "max") e h rows) o.1,
-)
+pub has_options : (app : App) (words : List Text) (m : ArgMatches) (made : Command) → app ≡ program → HasMatchesOf app words m
+    → HasOptions (option_met (subcommand_rows_of m)) made → HasOptions (option_in words) made
+unfolding option_in
+has_options app words m made e h o =
+    let found = h (ap is_simple e ∙ program-simple) in
+    let named_rows : subcommand_rows_of m ≡ subcommand_of program words = found.1 ∙ ap (λ (a : App). subcommand_of a words) e in
+    subst (λ rows. HasOptions (option_met rows) made) named_rows o
 
 pub can_run : (o : Text → Option Text) (command : Command) → HasOptions o command → CanRun command
 can_run o (Explain form max) h = h.1.in_range
+can_run o (Simulate config) h = sized config h.window.in_range h.inbox.in_range h.max.in_range h.syn.in_range
+  where
+    sized : (config : Config) → (1 ≤ config.window) × (config.window ≤ MAX_WINDOW) → (1 ≤ config.inbox) × (config.inbox ≤ MAX_INBOX)
+        → (1 ≤ config.max) × (config.max ≤ MAX_COUNT) → (0 ≤ config.syn) × (config.syn ≤ MAX_SYN) → first_refusal config ≡ None
+    sized config w i m s =
+        rw (
+          le-leb 1 config.window w.0,
+          le-leb config.window MAX_WINDOW w.1,
+          le-leb 1 config.inbox i.0,
+          le-leb config.inbox MAX_INBOX i.1,
+          le-leb 1 config.max m.0,
+          le-leb config.max MAX_COUNT m.1,
+          le-leb config.syn MAX_SYN s.1,
+        ) refl
 
-pub performed : (words : List Text) (command : Command) (input : List ℕ) (left old new : Option (List ℕ)) (ending : Ending) → HasOptions (option_in words) command → Performs command input left old new ending → ExplainsOrNoMemory words input left old new ending
-performed words (Explain form max) input left old new ending h p = inr (form, max, p.0, h, p.1, p.2)
+pub performed : (words : List Text) (command : Command) (input : List ℕ) (left old new : Option (List ℕ)) (ending : Ending) → IsAsked words (codes "explain") → named_by words ≡ Some (name_of command) → HasOptions (option_in words) command → Performs command input left old new ending → ExplainsOrNoMemory words input left old new ending
+performed words (Explain form max) input left old new ending a n h p = inr (form, max, p.0, h, p.1, p.2)
+performed words (Simulate config) input left old new ending a n h p = absurd (names-differ (sym a.names ∙ n))
+  where
+    names-differ : ◌≡◌ {A = Option Text} (Some (codes "explain")) (Some (codes "simulate")) → ⊥
+    names-differ e = cc
 
 -- ---- words that clap finds a fault with
 

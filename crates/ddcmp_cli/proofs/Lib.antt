@@ -6,5 +6,6 @@ pub mod LinesLaws
 pub mod ExplainLaws
 pub mod TakeLaws
 pub mod CommandLaws
-pub mod MaximumLaws
+pub mod NumberLaws
 pub mod ServingLaws
+pub mod ScriptLaws

@@ -1,45 +1,72 @@
 -- How the program ends.
-use Rattle.std.specs.Prelude.{None, codes, string_bytes, Bool, true, false, ◌≡◌, ◌⊎◌, ℕ, List, [], Option, Some, Result, Ok, Err}
+use Rattle.std.specs.Prelude.{None, codes, string_bytes, Bool, true, false, ◌≡◌, ◌≢◌, ◌⊎◌, ◌≤◌, ℕ, List, [], Option, Some, Result, Ok, Err}
 use Rattle.std.specs.Io.KnownBytes.{Appends, Keeps}
 use Rattle.ddcmp_cli.specs.declared.explain_fault.ExplainFault.{ExplainFault}
-use Rattle.ddcmp_cli.specs.declared.explain_fault.ExplainFault.TheVariants.{Odd, NotHex, Read, Write, Memory as NoMemory}
+use Rattle.ddcmp_cli.specs.declared.explain_fault.ExplainFault.TheVariants as explaining
+use Rattle.ddcmp_line.specs.declared.script_fault.ScriptFault.{ScriptFault}
+use Rattle.ddcmp_line.specs.declared.script_fault.ScriptFault.TheVariants as scripting
+use Rattle.ddcmp_cli.specs.declared.fault.Fault.{Fault}
+use Rattle.ddcmp_cli.specs.declared.fault.Fault.TheVariants.{Odd, NotHex, Line, Hex as NotHexIn, Read, Write, Memory as NoMemory, Carrier}
+use Rattle.ddcmp_station.specs.declared.config.Config.{Config}
+use Rattle.ddcmp_station.specs.Config.{first_refusal}
 use Rattle.ddcmp_cli.specs.declared.ending.Ending.{Ending}
-use Rattle.ddcmp_cli.specs.declared.ending.Ending.TheVariants.{Done, Usage as Misused, NotText, Fault}
+use Rattle.ddcmp_cli.specs.declared.ending.Ending.TheVariants.{Done, Usage as Misused, NotText, Fault as Faulted}
 use Rattle.ddcmp_cli.specs.declared.form.Form.{Form}
 use Rattle.clap.specs.Words.{Text}
 use Rattle.ddcmp_cli.specs.declared.command.Command.{Command}
-use Rattle.ddcmp_cli.specs.declared.command.Command.TheVariants.{Explain}
+use Rattle.ddcmp_cli.specs.declared.command.Command.TheVariants.{Explain, Simulate}
 use Rattle.ddcmp_cli.specs.declared.declined.Declined.{Declined}
 use Rattle.ddcmp_cli.specs.declared.declined.Declined.TheVariants.{Help, Version, Usage, Memory}
 use Rattle.ddcmp_frame.specs.Written.{AppendsPart, Known}
-use Rattle.ddcmp_cli.specs.Words.{IsMaximum, HasOptions, Reads, option_in}
+use Rattle.ddcmp_cli.specs.Words.{HasOptions, Reads, option_in}
+use Rattle.ddcmp_core.specs.Limits.{MAX_COUNT}
 use Rattle.ddcmp_cli.specs.Explains.{Explains}
 
+-- what the program calls a fault of `explain`
+abbrev pub explain_fault : ExplainFault → Fault
+explain_fault explaining.Odd = Odd
+explain_fault (explaining.NotHex index) = NotHex index
+explain_fault explaining.Read = Read
+explain_fault explaining.Write = Write
+explain_fault explaining.Memory = NoMemory
+
+-- and one of a script
+abbrev pub script_fault : ScriptFault → Fault
+script_fault (scripting.Line line) = Line line
+script_fault (scripting.Hex line) = NotHexIn line
+script_fault scripting.Read = Read
+script_fault scripting.Write = Write
+script_fault scripting.Memory = NoMemory
+script_fault scripting.Carrier = Carrier
+
 -- 1 where the input was refused, 3 where a device failed or memory was refused
-abbrev pub fault_status : ExplainFault → ℕ
+abbrev pub fault_status : Fault → ℕ
 fault_status Odd = 1
 fault_status (NotHex index) = 1
+fault_status (Line line) = 1
+fault_status (NotHexIn line) = 1
 fault_status Read = 3
 fault_status Write = 3
 fault_status NoMemory = 3
+fault_status Carrier = 3
 
 abbrev pub status_of : Ending → ℕ
 status_of Done = 0
 status_of (Misused text) = 2
 status_of NotText = 2
-status_of (Fault fault) = fault_status fault
+status_of (Faulted fault) = fault_status fault
 
-abbrev pub ending_of : Result (Unit {0}) ExplainFault → Ending
-ending_of (Ok u) = Done
-ending_of (Err fault) = Fault fault
+abbrev pub ending_of : {F : Type 0} → (F → Fault) → Result (Unit {0}) F → Ending
+ending_of name (Ok u) = Done
+ending_of name (Err fault) = Faulted (name fault)
 
 -- the input was explained with the options that the words give, and the ending tells the answer;
 -- or there was no memory for the words
 abbrev pub ExplainsOrNoMemory : List Text → List ℕ → Known → Known → Known → Ending → Type 0
 ExplainsOrNoMemory words input left old new ending =
-    ((ending ≡ Fault NoMemory) × (left ≡ Some input) × Appends old new [])
+    ((ending ≡ Faulted NoMemory) × (left ≡ Some input) × Appends old new [])
     ⊎ ((form : Form) × (max : ℕ) × (result : Result (Unit {0}) ExplainFault)
-    × HasOptions (option_in words) (Explain form max) × (ending ≡ ending_of result)
+    × HasOptions (option_in words) (Explain form max) × (ending ≡ ending_of explain_fault result)
     × Explains form max input left old new result)
 
 -- the words were refused, or there was no memory for them
@@ -47,32 +74,46 @@ abbrev pub is_refusal : Ending → Bool
 is_refusal Done = false
 is_refusal (Misused text) = true
 is_refusal NotText = false
-is_refusal (Fault Odd) = false
-is_refusal (Fault (NotHex index)) = false
-is_refusal (Fault Read) = false
-is_refusal (Fault Write) = false
-is_refusal (Fault NoMemory) = true
+is_refusal (Faulted Odd) = false
+is_refusal (Faulted (NotHex index)) = false
+is_refusal (Faulted Read) = false
+is_refusal (Faulted Write) = false
+is_refusal (Faulted (Line line)) = false
+is_refusal (Faulted (NotHexIn line)) = false
+is_refusal (Faulted Carrier) = false
+is_refusal (Faulted NoMemory) = true
 
 -- what goes to standard error, but for faults
 abbrev pub shown_of : Ending → Option (List ℕ)
 shown_of Done = Some []
 shown_of (Misused text) = Some (string_bytes text)
 shown_of NotText = Some (codes "ddcmp: a word is not text\n")
-shown_of (Fault fault) = None
+shown_of (Faulted fault) = None
 
 abbrev pub CanRun : Command → Type 0
-CanRun (Explain form max) = IsMaximum max
+CanRun (Explain form max) = (1 ≤ max) × (max ≤ MAX_COUNT)
+CanRun (Simulate config) = first_refusal config ≡ None
+
+-- A script was run between two ends of these sizes over a line that doesn't fail, and the ending
+-- tells the answer; or there was no memory for the ends.
+abbrev pub Simulates : Config → List ℕ → Known → Known → Known → Ending → Type 0
+Simulates config input left old new ending =
+    ((ending ≡ Faulted NoMemory) × (left ≡ Some input) × Appends old new [])
+    ⊎ ((result : Result (Unit {0}) ScriptFault) × (ending ≡ ending_of script_fault result)
+    × (result ≢ Err scripting.Carrier))
 
 -- a command was run, and the ending tells its answer
 abbrev pub Performs : Command → List ℕ → Known → Known → Known → Ending → Type 0
 Performs (Explain form max) input left old new ending =
-    (result : Result (Unit {0}) ExplainFault) × (ending ≡ ending_of result)
+    (result : Result (Unit {0}) ExplainFault) × (ending ≡ ending_of explain_fault result)
     × Explains form max input left old new result
+Performs (Simulate config) input left old new ending =
+    Simulates config input left old new ending
 
 -- a text was written whole, or a write failed
 abbrev pub Shows : List ℕ → Known → Known → Ending → Type 0
 Shows text old new ending =
-    ((ending ≡ Done) × Appends old new text) ⊎ ((ending ≡ Fault Write) × AppendsPart old new text)
+    ((ending ≡ Done) × Appends old new text) ⊎ ((ending ≡ Faulted Write) × AppendsPart old new text)
 
 -- What became of words that were read: `before` and `left` are what the source had and has left,
 -- old and new what the sink held and holds. Only a command reads, and usage writes nothing here.
@@ -86,7 +127,7 @@ Answers (Err (Version text)) before left old new ending =
 Answers (Err (Usage text)) before left old new ending =
     (left ≡ before) × Keeps old new × (ending ≡ Misused text)
 Answers (Err Memory) before left old new ending =
-    (left ≡ before) × Keeps old new × (ending ≡ Fault NoMemory)
+    (left ≡ before) × Keeps old new × (ending ≡ Faulted NoMemory)
 
 -- the ending that words come to, whatever they are
 abbrev pub Ends : List Text → Known → Known → Known → Known → Ending → Type 0

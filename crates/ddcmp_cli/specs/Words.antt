@@ -1,34 +1,52 @@
 -- The command line, as `clap` reads it.
-use Rattle.std.specs.Prelude.{ℕ, pos, ◌≡◌, ◌≢◌, ◌⊎◌, ◌<◌, ◌≤◌, true, List, [], codes, decimal, Option, Some, None, Result, Ok, Err, ⊤}
+use Rattle.std.specs.Prelude.{ℕ, pos, ◌≡◌, ◌≢◌, ◌⊎◌, ◌≤◌, Bool, true, false, List, [], codes, decimal, Option, Some, None, Result, Ok, Err, ⊤}
 use Rattle.std.specs.Option.{option_map, option_and_then}
 use Rattle.ddcmp_cli.specs.declared.form.Form.{Form}
 use Rattle.ddcmp_cli.specs.declared.form.Form.TheVariants.{Hex, Raw}
 use Rattle.ddcmp_cli.specs.declared.command.Command.{Command}
-use Rattle.ddcmp_cli.specs.declared.command.Command.TheVariants.{Explain}
+use Rattle.ddcmp_cli.specs.declared.command.Command.TheVariants.{Explain, Simulate}
 use Rattle.ddcmp_cli.specs.declared.declined.Declined.{Declined}
 use Rattle.ddcmp_cli.specs.declared.declined.Declined.TheVariants.{Help, Version, Usage, Memory}
 use Rattle.clap.specs.declared.error.kind.ErrorKind.{ErrorKind}
 use Rattle.clap.specs.declared.error.kind.ErrorKind.TheVariants.{DisplayHelp, DisplayVersion, OutOfMemory}
-use Rattle.ddcmp_frame.specs.Limits.{MAX_COUNT}
+use Rattle.ddcmp_core.specs.Limits.{MAX_COUNT, MAX_WINDOW}
+use Rattle.ddcmp_station.specs.declared.config.Config.{Config}
+use Rattle.ddcmp_station.specs.declared.config.TheConstants.{MAX_INBOX, MAX_SYN}
 use Rattle.clap.specs.Words.{IsAmong, fault_of, App, Rule, Text, new_app, new_rule, one_of, subcommand_of, takes, with_rule, with_subcommand}
 use Rattle.clap.specs.declared.builder.ArgAction.TheVariants.{SetTrue}
 use Rattle.clap.specs.declared.builder.value_parser.ValueParser.TheVariants.{Signed}
 
--- `--raw`, a flag
-abbrev pub raw_rule : Rule
-raw_rule = record (new_rule (codes "raw")) { long = Some (codes "raw"); action = Some SetTrue }
+-- an option that stands alone
+abbrev pub flag_rule : Text → Rule
+flag_rule name = record (new_rule name) { long = Some name; action = Some SetTrue }
 
--- `--max N`, N being 1 to 16383
-abbrev pub max_rule : Rule
-max_rule = record (new_rule (codes "max")) {
-  long = Some (codes "max");
+-- an option that takes a number in a range
+abbrev pub number_rule : Text → ℕ → ℕ → Rule
+number_rule name low high = record (new_rule name) {
+  long = Some name;
   value_names = 1;
-  parser = Some (Signed (pos 1) (pos MAX_COUNT));
+  parser = Some (Signed (pos low) (pos high));
 }
 
 -- `ddcmp explain`
 abbrev pub explain_app : App
-explain_app = with_rule (with_rule (new_app (codes "explain")) raw_rule) max_rule
+explain_app =
+    with_rule (with_rule (new_app (codes "explain")) (flag_rule (codes "raw")))
+    (number_rule (codes "max") 1 MAX_COUNT)
+
+-- the sizes of both ends, and whether they begin anew by themselves
+abbrev pub with_sizes : App → App
+with_sizes app =
+    with_rule (with_rule (with_rule (with_rule (with_rule app
+    (number_rule (codes "window") 1 MAX_WINDOW))
+    (number_rule (codes "inbox") 1 MAX_INBOX))
+    (number_rule (codes "max") 1 MAX_COUNT))
+    (number_rule (codes "syn") 0 MAX_SYN))
+    (flag_rule (codes "restart"))
+
+-- `ddcmp simulate`
+abbrev pub simulate_app : App
+simulate_app = with_sizes (new_app (codes "simulate"))
 
 -- `ddcmp`, which wants a command
 abbrev pub bare_app : App
@@ -37,7 +55,15 @@ bare_app =
     record { top = record a.top { has_version = true; subcommand_required = true }; subs = a.subs }
 
 abbrev pub program : App
-program = with_subcommand bare_app explain_app.top
+program = with_subcommand (with_subcommand bare_app explain_app.top) simulate_app.top
+
+-- the word that names a command
+abbrev pub name_of : Command → Text
+name_of (Explain form max) = codes "explain"
+name_of (Simulate config) = codes "simulate"
+
+abbrev pub IsName : Text → Type 0
+IsName name = (name ≡ codes "explain") ⊎ (name ≡ codes "simulate")
 
 -- the command that the words name
 unfoldable pub named_by : List Text → Option Text
@@ -47,10 +73,6 @@ named_by words = option_map (λ named. named.0) (subcommand_of program words)
 pub record IsAsked (words : List Text) (name : Text) : Type 0 where
   pub in_order : takes program words ≡ true
   pub names : named_by words ≡ Some name
-
--- a COUNT that a reader may be made for
-abbrev pub IsMaximum : ℕ → Type 0
-IsMaximum max = (0 < max) × (max ≤ MAX_COUNT)
 
 -- the text of an option, as the words give it to the command that they name
 unfoldable pub option_in : List Text → Text → Option Text
@@ -62,16 +84,32 @@ pub record HasForm (raw : Option Text) (form : Form) : Type 0 where
   pub left_out : raw ≡ Some (codes "false") → form ≡ Hex
   pub absent : raw ≡ None → form ≡ Hex
 
--- the number after `--max`, else the largest
-pub record HasMaximum (most : Option Text) (max : ℕ) : Type 0 where
-  pub in_range : IsMaximum max
-  pub given : (n : ℕ) → most ≡ Some (decimal n) → IsMaximum n → max ≡ n
-  pub absent : most ≡ None → max ≡ MAX_COUNT
+-- whether an option that stands alone was given
+pub record HasFlag (text : Option Text) (is_given : Bool) : Type 0 where
+  pub given : text ≡ Some (codes "true") → is_given ≡ true
+  pub left_out : text ≡ Some (codes "false") → is_given ≡ false
+  pub absent : text ≡ None → is_given ≡ false
+
+-- a number in its range: the one that was given, else the usual one
+pub record HasNumber (low high usual : ℕ) (text : Option Text) (n : ℕ) : Type 0 where
+  pub in_range : (low ≤ n) × (n ≤ high)
+  pub given : (m : ℕ) → text ≡ Some (decimal m) → (low ≤ m) × (m ≤ high) → n ≡ m
+  pub absent : text ≡ None → n ≡ usual
+
+-- the options of both ends
+pub record HasSizes (option : Text → Option Text) (config : Config) : Type 0 where
+  pub window : HasNumber 1 MAX_WINDOW 7 (option (codes "window")) config.window
+  pub inbox : HasNumber 1 MAX_INBOX 8 (option (codes "inbox")) config.inbox
+  pub max : HasNumber 1 MAX_COUNT 1500 (option (codes "max")) config.max
+  pub syn : HasNumber 0 MAX_SYN 0 (option (codes "syn")) config.syn
+  pub restart : HasFlag (option (codes "restart")) config.restart
 
 -- a command with the options that were given
 abbrev pub HasOptions : (Text → Option Text) → Command → Type 0
 HasOptions option (Explain form max) =
-    HasForm (option (codes "raw")) form × HasMaximum (option (codes "max")) max
+    HasForm (option (codes "raw")) form
+    × HasNumber 1 MAX_COUNT MAX_COUNT (option (codes "max")) max
+HasOptions option (Simulate config) = HasSizes option config
 
 -- the words are out of order, and ask for no help
 pub record IsOutOfOrder (words : List Text) : Type 0 where
@@ -92,15 +130,16 @@ IsMistaken words =
     (kind : ErrorKind) × IsAmong kind (fault_of program words)
     × (kind ≢ DisplayHelp) × (kind ≢ DisplayVersion)
 
--- What words ask for: where clap finds no fault the command that they name, which `explain` alone
--- is, and else help, the version or usage as its kinds of error are. For want of memory any words
+-- What words ask for: where clap finds no fault the command that they name, with its options, and
+-- else help, the version or usage as its kinds of error are. For want of memory any words
 -- are declined.
 abbrev pub Reads : List Text → Result Command Declined → Type 0
 Reads words (Ok command) =
-    (fault_of program words ≡ []) × (named_by words ≡ Some (codes "explain"))
+    (fault_of program words ≡ []) × (named_by words ≡ Some (name_of command))
     × HasOptions (option_in words) command
 Reads words (Err (Help text)) = IsAmong DisplayHelp (fault_of program words)
 Reads words (Err (Version text)) = IsAmong DisplayVersion (fault_of program words)
 Reads words (Err (Usage text)) =
-    ((fault_of program words ≡ []) × (named_by words ≢ Some (codes "explain"))) ⊎ IsMistaken words
+    ((fault_of program words ≡ []) × ((name : Text) → IsName name → named_by words ≢ Some name))
+    ⊎ IsMistaken words
 Reads words (Err Memory) = ⊤

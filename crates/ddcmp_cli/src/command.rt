@@ -1,15 +1,21 @@
 //! The words of the command line.
-ghost use Rattle.std.specs.Prelude.{◌≡◌, ◌⊎◌, ◌↔◌, IsTrue, IfOk, IsOk, codes, map, false};
-ghost use Rattle.ddcmp_cli.specs.Words.{IsAsked, HasForm, HasMaximum, HasOptions, IsMaximum};
-ghost use Rattle.ddcmp_cli.specs.Words.{program, explain_app, raw_rule, max_rule, Declines, Reads};
-ghost use Rattle.clap.specs.Words.{kind_of, app_of, rule_of, found_of, one_text};
+ghost use Rattle.std.specs.Prelude.{◌≡◌, ◌≢◌, ◌⊎◌, ◌↔◌, ◌≤◌, IsTrue, IfOk, IfSome, IsOk, None, Some};
+ghost use Rattle.std.specs.Prelude.{codes, map, false, List, ℕ};
+ghost use Rattle.std.specs.Option.{option_and_then};
+ghost use Rattle.ddcmp_cli.specs.Words.{Declines, IsAsked, IsName, Reads, name_of, program};
+ghost use Rattle.ddcmp_cli.specs.Words.{HasFlag, HasForm, HasNumber, HasOptions, HasSizes};
+ghost use Rattle.ddcmp_cli.specs.Words.{explain_app, simulate_app, flag_rule, number_rule};
+ghost use Rattle.ddcmp_cli.specs.Words.{with_sizes as with_sizes_of};
+ghost use Rattle.clap.specs.Words.{kind_of, app_of, rule_of, found_of, one_of, one_text};
+ghost use Rattle.clap.specs.Words.{subcommand_name_of, subcommand_rows_of};
 ghost use Rattle.clap.specs.declared.builder.command.Command.TheViews.{out-Command as fields_of};
 
 use crate::declined::Declined;
 use crate::form::Form;
 use clap::error::ErrorKind;
 use clap::{Arg, ArgAction, ArgMatches, Error};
-use ddcmp_frame::MAX_COUNT;
+use ddcmp_core::{MAX_COUNT, MAX_WINDOW};
+use ddcmp_station::{Config, MAX_INBOX, MAX_SYN};
 use std::alloc::{AllocError, Global};
 
 /// What the words ask for.
@@ -17,27 +23,29 @@ use std::alloc::{AllocError, Global};
 pub enum Command {
     /// Explain the input in this form, for a reader of at most `max` bytes of data.
     Explain { form: Form, max: u16 },
+    /// Run a script between two ends of these sizes.
+    Simulate(Config),
 }
 
-fn raw_arg<'a>(alloc: Global) -> Arg<'a>
-    ensures rule { rule_of result ≡ raw_rule }
+fn flag<'a>(alloc: Global, name: &'a str, help: &'a str) -> Arg<'a>
+    ensures rule { rule_of result ≡ flag_rule name.entry.now }
     ensures local { result.global ≡ false }
 {
-    Arg::new(alloc, "raw")
-        .long("raw")
+    Arg::new(alloc, name)
+        .long(name)
         .action(ArgAction::SetTrue)
-        .help("Read bytes as they are, not hexadecimal digits")
+        .help(help)
 }
 
-fn max_arg<'a>(alloc: Global) -> Arg<'a>
-    ensures rule { rule_of result ≡ max_rule }
+fn number<'a>(alloc: Global, name: &'a str, low: u16, high: u16, help: &'a str) -> Arg<'a>
+    ensures rule { rule_of result ≡ number_rule name.entry.now low high }
     ensures local { result.global ≡ false }
 {
-    Arg::new(alloc, "max")
-        .long("max")
+    Arg::new(alloc, name)
+        .long(name)
         .value_name("N")
-        .value_parser(clap::value_parser!(u16).range(1..=MAX_COUNT as i64))
-        .help("The most bytes of data that a frame may have, 1 to 16383; 16383 by default")
+        .value_parser(clap::value_parser!(u16).range(low as i64..=high as i64))
+        .help(help)
 }
 
 fn explain_parser<'a>(alloc: Global) -> Result<clap::Command<'a>, AllocError>
@@ -46,8 +54,73 @@ fn explain_parser<'a>(alloc: Global) -> Result<clap::Command<'a>, AllocError>
 {
     clap::Command::new(alloc, "explain")
         .about("Says what the bytes of a line are, read from standard input")
-        .arg(raw_arg(alloc))?
-        .arg(max_arg(alloc))
+        .arg(flag(
+            alloc,
+            "raw",
+            "Read bytes as they are, not hexadecimal digits",
+        ))?
+        .arg(number(
+            alloc,
+            "max",
+            1,
+            MAX_COUNT,
+            "The most bytes of data that a frame may have, 1 to 16383; 16383 by default",
+        ))
+}
+
+/// The options of two ends.
+fn with_sizes<'a>(
+    alloc: Global,
+    command: clap::Command<'a>,
+) -> Result<clap::Command<'a>, AllocError>
+    ensures app { IfOk result (λ made. app_of made ≡ with_sizes_of (app_of command.entry)) }
+    ensures local { (fields_of command.entry).has_globals ≡ false
+        → IfOk result (λ made. (fields_of made).has_globals ≡ false) }
+{
+    command
+        .arg(number(
+            alloc,
+            "window",
+            1,
+            MAX_WINDOW,
+            "The most messages sent and not yet acknowledged, 1 to 255; 7 by default",
+        ))?
+        .arg(number(
+            alloc,
+            "inbox",
+            1,
+            MAX_INBOX,
+            "The most messages that came and were not yet taken, 1 to 255; 8 by default",
+        ))?
+        .arg(number(
+            alloc,
+            "max",
+            1,
+            MAX_COUNT,
+            "The most bytes of a message, 1 to 16383; 1500 by default",
+        ))?
+        .arg(number(
+            alloc,
+            "syn",
+            0,
+            MAX_SYN as u16,
+            "How many SYN bytes go before each frame, 0 to 16; 0 by default",
+        ))?
+        .arg(flag(
+            alloc,
+            "restart",
+            "An end that runs begins anew where its peer does, if no message waits to be taken",
+        ))
+}
+
+fn simulate_parser<'a>(alloc: Global) -> Result<clap::Command<'a>, AllocError>
+    ensures app { IfOk result (λ made. app_of made ≡ simulate_app) }
+    ensures local { IfOk result (λ made. (fields_of made).has_globals ≡ false) }
+{
+    let command = clap::Command::new(alloc, "simulate").about(
+        "Runs a script between two stations A and B, read from standard input",
+    );
+    with_sizes(alloc, command)
 }
 
 fn parser<'a>(alloc: Global) -> Result<clap::Command<'a>, AllocError>
@@ -57,7 +130,8 @@ fn parser<'a>(alloc: Global) -> Result<clap::Command<'a>, AllocError>
         .version("0.1.0")
         .about("DDCMP, the data link protocol of DECnet")
         .subcommand_required(true)
-        .subcommand(explain_parser(alloc)?)
+        .subcommand(explain_parser(alloc)?)?
+        .subcommand(simulate_parser(alloc)?)
 }
 
 /// A fault of the words as this crate tells it.
@@ -86,36 +160,85 @@ fn form_given(options: &ArgMatches<'_>) -> Form
     }
 }
 
-/// The most data that a frame may have. The parser of the words has tested the range.
-fn max_given(options: &ArgMatches<'_>) -> u16
-    ensures { HasMaximum (one_text (found_of options.now) (codes "max")) result }
+/// Whether an option that stands alone was given.
+fn flag_given(options: &ArgMatches<'_>, name: &str) -> bool
+    ensures { HasFlag (one_text (found_of options.now) name.now) result }
 {
-    match options.get_one::<u16>("max") {
-        Some(max) => { if is_maximum(max) { max } else { MAX_COUNT } }
-        None => MAX_COUNT,
+    options.get_flag(name)
+}
+
+/// A number that was given, or the usual one. The parser of the words has tested the range.
+fn number_given(options: &ArgMatches<'_>, name: &str, low: u16, high: u16, usual: u16) -> u16
+    requires usual { (low ≤ usual) × (usual ≤ high) }
+    requires most { high ≤ MAX_COUNT }
+    ensures { HasNumber low high usual (one_text (found_of options.now) name.now) result }
+{
+    match options.get_one::<u16>(name) {
+        Some(number) => {
+            if is_within(low, number, high) {
+                number
+            } else {
+                usual
+            }
+        }
+        None => usual,
     }
 }
 
-/// A COUNT that a reader may be made for.
-fn is_maximum(max: u16) -> bool
-    ensures { IsTrue result ↔ IsMaximum max }
+fn is_within(low: u16, number: u16, high: u16) -> bool
+    ensures { IsTrue result ↔ (low ≤ number) × (number ≤ high) }
 {
-    0 < max && max <= MAX_COUNT
+    low <= number && number <= high
 }
 
 /// The options of `explain`, as they were given or as they are without.
 fn explain_with(options: &ArgMatches<'_>) -> Command
-    ensures { HasOptions (one_text (found_of options.now)) result }
+    ensures options { HasOptions (one_text (found_of options.now)) result }
+    ensures name { name_of result ≡ codes "explain" }
 {
     Command::Explain {
         form: form_given(options),
-        max: max_given(options),
+        max: number_given(options, "max", 1, MAX_COUNT, MAX_COUNT),
+    }
+}
+
+/// The sizes of both ends, as they were given or as they are without.
+fn sizes_given(options: &ArgMatches<'_>) -> Config
+    ensures { HasSizes (one_text (found_of options.now)) result }
+{
+    Config {
+        window: number_given(options, "window", 1, MAX_WINDOW, 7),
+        inbox: number_given(options, "inbox", 1, MAX_INBOX, 8),
+        max: number_given(options, "max", 1, MAX_COUNT, 1500),
+        syn: number_given(options, "syn", 0, MAX_SYN as u16, 0) as u8,
+        restart: flag_given(options, "restart"),
+    }
+}
+
+/// The command of words that are in order.
+fn asked(matches: &ArgMatches<'_>) -> Option<Command>
+    ensures named { IfSome result (λ command. subcommand_name_of matches.now
+        ≡ Some (name_of command)) }
+    ensures options { IfSome result (λ command. HasOptions
+        (λ id. option_and_then (λ named. one_of id named.1) (subcommand_rows_of matches.now))
+        command) }
+    ensures unnamed { result ≡ None → (name : List ℕ) → IsName name
+        → subcommand_name_of matches.now ≢ Some name }
+{
+    match matches.subcommand_matches("explain") {
+        Some(options) => Some(explain_with(options)),
+        None => match matches.subcommand_matches("simulate") {
+            Some(options) => Some(Command::Simulate(sizes_given(options))),
+            None => None,
+        },
     }
 }
 
 /// Reads the words of a command line, of which the first is the program's name.
 pub fn read_words<'a>(alloc: Global, words: &'a [&'a str]) -> Result<Command, Declined>
     ensures asked { IsAsked (map (λ word. word.now) words.entry.now) (codes "explain")
+        → IsOk result ⊎ (result ≡ Err Declined.Memory) }
+    ensures script_asked { IsAsked (map (λ word. word.now) words.entry.now) (codes "simulate")
         → IsOk result ⊎ (result ≡ Err Declined.Memory) }
     // What the words ask for, whatever they are.
     ensures reads { Reads (map (λ word. word.now) words.entry.now) result }
@@ -125,8 +248,8 @@ pub fn read_words<'a>(alloc: Global, words: &'a [&'a str]) -> Result<Command, De
         Err(_refused) => return Err(Declined::Memory),
     };
     match command.try_get_matches_from(words) {
-        Ok(matches) => match matches.subcommand_matches("explain") {
-            Some(options) => Ok(explain_with(options)),
+        Ok(matches) => match asked(&matches) {
+            Some(command) => Ok(command),
             None => Err(Declined::Usage(String::new(alloc))),
         },
         Err(error) => Err(decline(alloc, &error)),

@@ -2,7 +2,7 @@
 ghost use Rattle.std.specs.Prelude.{◌≡◌};
 ghost use Rattle.ddcmp_cli.specs.Endings.{shown_of, status_of};
 
-use crate::explain_fault::ExplainFault;
+use crate::fault::Fault;
 use std::fmt;
 
 /// How the program ended.
@@ -15,11 +15,12 @@ pub enum Ending {
     /// A word isn't text.
     NotText,
     /// A command met a fault.
-    Fault(ExplainFault),
+    Fault(Fault),
 }
 
 impl Ending {
-    /// The exit status: 0 done, 1 input refused, 2 usage, 3 read, write or memory.
+    /// The exit status: 0 done, 1 input refused, 2 usage, 3 read, write, carrier or
+    /// memory.
     pub fn status(&self) -> u8
         ensures { result ≡ status_of self.now }
     {
@@ -27,8 +28,8 @@ impl Ending {
             Ending::Done => 0,
             Ending::Usage(_) | Ending::NotText => 2,
             Ending::Fault(fault) => match fault {
-                ExplainFault::Odd | ExplainFault::NotHex(_) => 1,
-                ExplainFault::Read | ExplainFault::Write | ExplainFault::Memory => 3,
+                Fault::Odd | Fault::NotHex(_) | Fault::Line(_) | Fault::Hex(_) => 1,
+                Fault::Read | Fault::Write | Fault::Memory | Fault::Carrier => 3,
             },
         }
     }

@@ -1,5 +1,5 @@
-//! The command `ddcmp`: explaining the bytes of a line, and turning words into commands and faults
-//! into statuses.
+//! The command `ddcmp`: explaining the bytes of a line, running scripts between two ends, and
+//! turning words into commands and faults into statuses.
 #![tactic(auto)]
 
 pub mod command;
@@ -9,6 +9,7 @@ pub mod ending;
 pub mod explain_fault;
 mod explainer;
 pub mod explaining;
+pub mod fault;
 pub mod form;
 mod hex_digits;
 mod lines;
@@ -16,6 +17,7 @@ pub mod program;
 mod reporter;
 pub mod serve_fault;
 pub mod serving;
+mod simulating;
 mod text;
 
 pub use command::{Command, read_words};
@@ -23,7 +25,8 @@ pub use declined::Declined;
 pub use ending::Ending;
 pub use explain_fault::ExplainFault;
 pub use explaining::explain;
+pub use fault::Fault;
 pub use form::Form;
-pub use program::{explain_is_asked, run, run_args};
+pub use program::{explain_is_asked, run, run_args, simulate_is_asked};
 pub use serve_fault::ServeFault;
 pub use serving::{SERVED_MAX, serve};

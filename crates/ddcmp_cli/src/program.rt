@@ -10,8 +10,9 @@ ghost use Rattle.ddcmp_cli.specs.Endings.{is_refusal};
 use crate::command::{Command, read_words};
 use crate::declined::Declined;
 use crate::ending::Ending;
-use crate::explain_fault::ExplainFault;
 use crate::explaining::explain;
+use crate::fault::Fault;
+use crate::simulating::simulate;
 use clap::error::ErrorKind as WordsFault;
 use ddcmp_frame::{Sink, Source, Worst, write_all};
 use std::alloc::{AllocError, Global};
@@ -31,14 +32,15 @@ fn perform<R: Source, W: Sink>(
     ensures performs { (input : List ℕ) → R.left reader.old ≡ Some input
         → Performs command input (R.left reader.new) (W.contents writer.old)
         (W.contents writer.new) result }
-    ensures read { R.state reader.new ≢ Worst.Fine → result ≡ Ending.Fault ExplainFault.Read }
-    ensures write { (result ≡ Ending.Fault ExplainFault.Write) ↔ IsTrue (W.broken writer.new) }
+    ensures read { R.state reader.new ≢ Worst.Fine → result ≡ Ending.Fault Fault.Read }
+    ensures write { (result ≡ Ending.Fault Fault.Write) ↔ IsTrue (W.broken writer.new) }
 {
     match command {
         Command::Explain { form, max } => match explain(alloc, reader, writer, form, max) {
             Ok(()) => Ending::Done,
-            Err(fault) => Ending::Fault(fault),
+            Err(fault) => Ending::Fault(Fault::from(fault)),
         },
+        Command::Simulate(config) => simulate(alloc, config, reader, writer),
     }
 }
 
@@ -46,11 +48,11 @@ fn perform<R: Source, W: Sink>(
 fn show<W: Sink>(writer: &mut W, text: &str) -> Ending
     requires { W.broken writer.old ≡ false }
     ensures shows { Shows text.now (W.contents writer.old) (W.contents writer.new) result }
-    ensures write { (result ≡ Ending.Fault ExplainFault.Write) ↔ IsTrue (W.broken writer.new) }
+    ensures write { (result ≡ Ending.Fault Fault.Write) ↔ IsTrue (W.broken writer.new) }
 {
     match write_all(writer, text.as_bytes()) {
         Ok(()) => Ending::Done,
-        Err(_failed) => Ending::Fault(ExplainFault::Write),
+        Err(_failed) => Ending::Fault(Fault::Write),
     }
 }
 
@@ -72,15 +74,15 @@ pub fn run<R: Source, W: Sink>(
         (W.contents writer.old) (W.contents writer.new) result }
     ensures refused { IsOutOfOrder (map (λ word. word.now) words.now)
         → IsTrue (is_refusal result) × (reader.new ≡ reader.old) × (writer.new ≡ writer.old) }
-    ensures read { R.state reader.new ≢ Worst.Fine → result ≡ Ending.Fault ExplainFault.Read }
-    ensures write { (result ≡ Ending.Fault ExplainFault.Write) ↔ IsTrue (W.broken writer.new) }
+    ensures read { R.state reader.new ≢ Worst.Fine → result ≡ Ending.Fault Fault.Read }
+    ensures write { (result ≡ Ending.Fault Fault.Write) ↔ IsTrue (W.broken writer.new) }
 {
     match read_words(alloc, words) {
         Ok(command) => perform(alloc, command, reader, writer),
         Err(Declined::Help(text)) => show(writer, text.as_str()),
         Err(Declined::Version(text)) => show(writer, text.as_str()),
         Err(Declined::Usage(text)) => Ending::Usage(text),
-        Err(Declined::Memory) => Ending::Fault(ExplainFault::Memory),
+        Err(Declined::Memory) => Ending::Fault(Fault::Memory),
     }
 }
 
@@ -100,6 +102,21 @@ pub fn explain_is_asked()
         ≡ WordsFault.DisplayHelp ∷ [] }
     ensures version { fault_of program (codes "ddcmp" ∷ codes "--version" ∷ [])
         ≡ WordsFault.DisplayVersion ∷ [] }
+{}
+
+/// The words `ddcmp simulate` ask for the command that runs a script, without its options; `--window
+/// 255`, `--syn=16` and `--restart` are read.
+pub fn simulate_is_asked()
+    ensures plain { IsAsked (codes "ddcmp" ∷ codes "simulate" ∷ []) (codes "simulate") }
+    ensures no_window { option_in (codes "ddcmp" ∷ codes "simulate" ∷ []) (codes "window") ≡ None }
+    ensures no_restart { option_in (codes "ddcmp" ∷ codes "simulate" ∷ []) (codes "restart")
+        ≡ Some (codes "false") }
+    ensures window { option_in (codes "ddcmp" ∷ codes "simulate" ∷ codes "--window" ∷ codes "255"
+        ∷ []) (codes "window") ≡ Some (codes "255") }
+    ensures syn { option_in (codes "ddcmp" ∷ codes "simulate" ∷ codes "--syn=16" ∷ [])
+        (codes "syn") ≡ Some (codes "16") }
+    ensures restart { option_in (codes "ddcmp" ∷ codes "simulate" ∷ codes "--restart" ∷ [])
+        (codes "restart") ≡ Some (codes "true") }
 {}
 
 fn texts(alloc: Global, args: &[String]) -> Result<Vec<&str>, AllocError>
@@ -131,25 +148,25 @@ pub fn run_args<R: Source, W: Sink>(
     ensures refused { IfOk args (λ words. IsOutOfOrder (map string_bytes words.items)
         → IsTrue (is_refusal result) × (reader.new ≡ reader.old) × (writer.new ≡ writer.old)) }
     ensures no_memory { IfErr args (λ error. error_kind error ≡ ErrorKind.OutOfMemory
-        → result ≡ Ending.Fault ExplainFault.Memory) }
+        → result ≡ Ending.Fault Fault.Memory) }
     ensures not_text { IfErr args (λ error. error_kind error ≢ ErrorKind.OutOfMemory
         → result ≡ Ending.NotText) }
     ensures untouched { OnErr args ((reader.new ≡ reader.old) × (writer.new ≡ writer.old)) }
-    ensures read { R.state reader.new ≢ Worst.Fine → result ≡ Ending.Fault ExplainFault.Read }
-    ensures write { (result ≡ Ending.Fault ExplainFault.Write) ↔ IsTrue (W.broken writer.new) }
+    ensures read { R.state reader.new ≢ Worst.Fine → result ≡ Ending.Fault Fault.Read }
+    ensures write { (result ≡ Ending.Fault Fault.Write) ↔ IsTrue (W.broken writer.new) }
 {
     let args = match args {
         Ok(args) => args,
         Err(error) => {
             return if error.kind() == io::ErrorKind::OutOfMemory {
-                Ending::Fault(ExplainFault::Memory)
+                Ending::Fault(Fault::Memory)
             } else {
                 Ending::NotText
             };
         }
     };
     let Ok(words) = texts(alloc, args.as_slice()) else {
-        return Ending::Fault(ExplainFault::Memory);
+        return Ending::Fault(Fault::Memory);
     };
     run(alloc, words.as_slice(), reader, writer)
 }

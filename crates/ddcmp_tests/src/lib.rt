@@ -6,6 +6,8 @@ mod explains;
 #[cfg(test)]
 mod programs;
 #[cfg(test)]
+mod simulates;
+#[cfg(test)]
 mod sizes;
 #[cfg(test)]
 mod streams;

@@ -1,6 +1,6 @@
 // Words, endings, and the program as a whole but for the system's streams.
 use ddcmp_cli::command::read_words;
-use ddcmp_cli::{Command, Declined, Ending, ExplainFault, Form, run, run_args};
+use ddcmp_cli::{Command, Declined, Ending, Fault, Form, run, run_args};
 use ddcmp_frame::failing::{Pieces, Taken};
 use std::io::{self, ErrorKind};
 use std::process::Abort;
@@ -22,7 +22,7 @@ fn words_name_a_command(rt: HostRuntime) {
             Ok(Command::Explain { form, max }) => {
                 assert_eq!(rt; (form, max), (want, most));
             }
-            Err(_) => assert!(rt; false),
+            _ => assert!(rt; false),
         }
     }
     let refused: [&[&str]; 10] = [
@@ -57,18 +57,29 @@ fn endings_have_a_status_and_a_line(rt: HostRuntime) -> Result<(), Fail> {
         (Ending::Done, 0, ""),
         (Ending::NotText, 2, "ddcmp: a word is not text\n"),
         (
-            Ending::Fault(ExplainFault::Odd),
+            Ending::Fault(Fault::Odd),
             1,
             "ddcmp: odd number of digits\n",
         ),
         (
-            Ending::Fault(ExplainFault::NotHex(16)),
+            Ending::Fault(Fault::NotHex(16)),
             1,
             "ddcmp: not hexadecimal at 16\n",
         ),
-        (Ending::Fault(ExplainFault::Read), 3, "ddcmp: read\n"),
-        (Ending::Fault(ExplainFault::Write), 3, "ddcmp: write\n"),
-        (Ending::Fault(ExplainFault::Memory), 3, "ddcmp: memory\n"),
+        (
+            Ending::Fault(Fault::Line(3)),
+            1,
+            "ddcmp: line 3: not a command\n",
+        ),
+        (
+            Ending::Fault(Fault::Hex(1)),
+            1,
+            "ddcmp: line 1: not hexadecimal\n",
+        ),
+        (Ending::Fault(Fault::Carrier), 3, "ddcmp: carrier\n"),
+        (Ending::Fault(Fault::Read), 3, "ddcmp: read\n"),
+        (Ending::Fault(Fault::Write), 3, "ddcmp: write\n"),
+        (Ending::Fault(Fault::Memory), 3, "ddcmp: memory\n"),
     ];
     for (ending, status, line) in rows {
         assert_eq!(rt; ending.status(), status);
@@ -99,11 +110,11 @@ fn runs_end_as_their_commands(rt: HostRuntime) {
         b"0 ACK sub=0 q=0 s=0 resp=0 num=0 addr=1\nitems=1 bytes=8 open=0\n".as_slice()
     );
     let (ending, text) = ran(&rt, &["ddcmp", "explain"], b"050", 0);
-    assert!(rt; matches!(ending, Ending::Fault(ExplainFault::Odd)));
+    assert!(rt; matches!(ending, Ending::Fault(Fault::Odd)));
     assert!(rt; text.bytes().is_empty());
     // Help that can't be written is a write that failed.
     let (ending, _) = ran(&rt, &["ddcmp", "--help"], b"", 1);
-    assert!(rt; matches!(ending, Ending::Fault(ExplainFault::Write)));
+    assert!(rt; matches!(ending, Ending::Fault(Fault::Write)));
     let (ending, text) = ran(&rt, &["ddcmp"], b"", 0);
     assert!(rt; matches!(ending, Ending::Usage(_)));
     assert!(rt; text.bytes().is_empty());
@@ -115,8 +126,9 @@ DDCMP, the data link protocol of DECnet
 Usage: ddcmp <COMMAND>
 
 Commands:
-  explain  Says what the bytes of a line are, read from standard input
-  help     Print this message or the help of the given subcommand(s)
+  explain   Says what the bytes of a line are, read from standard input
+  simulate  Runs a script between two stations A and B, read from standard input
+  help      Print this message or the help of the given subcommand(s)
 
 Options:
   -h, --help     Print help
@@ -211,7 +223,7 @@ fn unexpected_bytes_are_told(rt: HostRuntime) {
     for (input, index) in rows {
         let (ending, text) = ran(&rt, &["ddcmp", "explain"], input, 0);
         assert_eq!(rt; ending.status(), 1);
-        assert!(rt; matches!(ending, Ending::Fault(ExplainFault::NotHex(at)) if at == index));
+        assert!(rt; matches!(ending, Ending::Fault(Fault::NotHex(at)) if at == index));
         assert!(rt; text.bytes().is_empty());
     }
 }

@@ -1,11 +1,11 @@
 use Rattle.std.proofs.Common.{rules, ◌≡◌, ◌∙◌, ap₂, codes}
 use Rattle.std.proofs.lemmas.Result.{IfOk-weaker}
 use Rattle.clap.specs.Words.{app_of, new_app, with_rule}
-use Rattle.ddcmp_cli.specs.Words.{raw_rule}
+use Rattle.ddcmp_cli.specs.Words.{flag_rule}
 use Rattle.ddcmp_cli.proofs.command.explain_parser.Goals as goal
 
 pub returns-clause-app : goal.returns-clause-app
 returns-clause-app c =
     let about : app_of c.about.result ≡ new_app (codes "explain") = search rules in
-    let first : app_of c.in_ok-arg.field-0 ≡ with_rule (new_app (codes "explain")) raw_rule = c.in_ok-arg.ensures.shape c.raw_arg.ensures.local ∙ ap₂ with_rule about c.raw_arg.ensures.rule in
-    IfOk-weaker c.arg-2.result _ _ (λ made h. h.shape c.max_arg.ensures.local ∙ ap₂ with_rule first c.max_arg.ensures.rule) c.arg-2.ensures
+    let first : app_of c.in_ok-arg.field-0 ≡ with_rule (new_app (codes "explain")) (flag_rule (codes "raw")) = c.in_ok-arg.ensures.shape c.flag.ensures.local ∙ ap₂ with_rule about c.flag.ensures.rule in
+    IfOk-weaker c.arg-2.result _ _ (λ made h. h.shape c.number.ensures.local ∙ ap₂ with_rule first c.number.ensures.rule) c.arg-2.ensures

@@ -1,31 +1,33 @@
-use Rattle.std.proofs.Common.{◌≡◌, ◌∙◌, [], List, ℕ, Bor, map, sym, ap, inl, inr, Err, Bool, true, false, refl}
-use Rattle.clap.specs.Words.{HasKind, fault_of, found_of}
-use Rattle.ddcmp_cli.proofs.CommandLaws.{named, in_order, has_options, at-program, declined-memory, reads-fault}
+use Rattle.std.proofs.Common.{◌≡◌, ◌∙◌, [], List, ℕ, Bor, map, sym, ap, inl, inr, Err, refl}
+use Rattle.clap.specs.Words.{HasKind, fault_of}
+use Rattle.ddcmp_cli.proofs.CommandLaws.{named, has_options, in_order, at-program, declined-memory, reads-fault}
 use Rattle.ddcmp_cli.proofs.command.read_words.Goals as goal
 
 abbrev words_of : List (Bor (List ℕ)) → List (List ℕ)
 words_of words = map (λ word. word.now) words
 
-false-true : ◌≡◌ {A = Bool} false true → ⊥
-false-true e = cc
-
 pub returns-in-Some-clause-reads : goal.returns-in-Some-clause-reads
 returns-in-Some-clause-reads c = (
   at-program (λ app. fault_of app (words_of c.args.words.now) ≡ []) _ c.in-Ok.ensures c.in-Ok-try_get_matches_from.ensures.kinds,
-  named _ _ c.in-Ok-try_get_matches_from.matches c.in-Ok.ensures c.in-Ok-try_get_matches_from.ensures.matches ∙ c.in-Some.ensures.found.0 refl,
-  has_options _ _ c.in-Ok-try_get_matches_from.matches (found_of c.in-Some.options.now) c.explain_with.result c.in-Ok.ensures c.in-Ok-try_get_matches_from.ensures.matches c.in-Some.ensures.rows c.explain_with.ensures,
+  named _ _ c.in-Ok-try_get_matches_from.matches c.in-Ok.ensures c.in-Ok-try_get_matches_from.ensures.matches ∙ c.in-Some.ensures.named,
+  has_options _ _ c.in-Ok-try_get_matches_from.matches c.in-Some.command c.in-Ok.ensures c.in-Ok-try_get_matches_from.ensures.matches c.in-Some.ensures.options,
 )
 
 pub returns-in-Ok-try_get_matches_from-clause-asked :
     goal.returns-in-Ok-try_get_matches_from-clause-asked
 returns-in-Ok-try_get_matches_from-clause-asked c = λ asked.
-    absurd (false-true (c.in-None.ensures.found.1 (sym (named _ _ c.in-Ok-try_get_matches_from.matches c.in-Ok.ensures c.in-Ok-try_get_matches_from.ensures.matches) ∙ asked.names)))
+    absurd (c.in-None.ensures.unnamed refl _ (inl refl) (sym (named _ _ c.in-Ok-try_get_matches_from.matches c.in-Ok.ensures c.in-Ok-try_get_matches_from.ensures.matches) ∙ asked.names))
+
+pub returns-in-Ok-try_get_matches_from-clause-script_asked :
+    goal.returns-in-Ok-try_get_matches_from-clause-script_asked
+returns-in-Ok-try_get_matches_from-clause-script_asked c = λ asked.
+    absurd (c.in-None.ensures.unnamed refl _ (inr refl) (sym (named _ _ c.in-Ok-try_get_matches_from.matches c.in-Ok.ensures c.in-Ok-try_get_matches_from.ensures.matches) ∙ asked.names))
 
 pub returns-in-Ok-try_get_matches_from-clause-reads :
     goal.returns-in-Ok-try_get_matches_from-clause-reads
 returns-in-Ok-try_get_matches_from-clause-reads c = inl (
   at-program (λ app. fault_of app (words_of c.args.words.now) ≡ []) _ c.in-Ok.ensures c.in-Ok-try_get_matches_from.ensures.kinds,
-  λ names. false-true (c.in-None.ensures.found.1 (sym (named _ _ c.in-Ok-try_get_matches_from.matches c.in-Ok.ensures c.in-Ok-try_get_matches_from.ensures.matches) ∙ names)),
+  λ name is names. c.in-None.ensures.unnamed refl name is (sym (named _ _ c.in-Ok-try_get_matches_from.matches c.in-Ok.ensures c.in-Ok-try_get_matches_from.ensures.matches) ∙ names),
 )
 
 pub returns-clause-reads : goal.returns-clause-reads
@@ -34,4 +36,8 @@ returns-clause-reads c =
 
 pub returns-clause-asked : goal.returns-clause-asked
 returns-clause-asked c = λ asked.
+    inr (ap Err (declined-memory _ c.decline.result c.decline.ensures (c.in-Err-try_get_matches_from.ensures.passes (in_order _ _ _ c.in-Ok.ensures asked))))
+
+pub returns-clause-script_asked : goal.returns-clause-script_asked
+returns-clause-script_asked c = λ asked.
     inr (ap Err (declined-memory _ c.decline.result c.decline.ensures (c.in-Err-try_get_matches_from.ensures.passes (in_order _ _ _ c.in-Ok.ensures asked))))

@@ -2,4 +2,4 @@ use Rattle.ddcmp_cli.proofs.CommandLaws.{performed}
 use Rattle.ddcmp_cli.proofs.program.run.Goals as goal
 
 pub returns-in-Ok-clause-explains : goal.returns-in-Ok-clause-explains
-returns-in-Ok-clause-explains g c = λ input e asked. performed _ c.in-Ok.command input _ _ _ _ c.in-Ok.ensures.reads.2 (c.perform.ensures.performs input e)
+returns-in-Ok-clause-explains g c = λ input e asked. performed _ c.in-Ok.command input _ _ _ _ asked c.in-Ok.ensures.reads.1 c.in-Ok.ensures.reads.2 (c.perform.ensures.performs input e)

@@ -1,0 +1,31 @@
+-- What the program calls the faults of a script.
+use Rattle.std.proofs.Common.{◌≡◌, ◌≢◌, ◌∙◌, sym, ap, Result, Err, refl}
+use Rattle.ddcmp_line.specs.declared.script_fault.ScriptFault.{ScriptFault}
+use Rattle.ddcmp_line.specs.declared.script_fault.ScriptFault.TheVariants as scripting
+use Rattle.ddcmp_cli.specs.declared.fault.Fault.{Fault}
+use Rattle.ddcmp_cli.specs.declared.fault.Fault.TheVariants.{Write}
+use Rattle.ddcmp_cli.specs.declared.ending.Ending.{Ending}
+use Rattle.ddcmp_cli.specs.declared.ending.Ending.TheVariants.{Fault as Faulted}
+use Rattle.ddcmp_cli.specs.Endings.{script_fault}
+
+-- a fault that the script answered is the one that the program tells
+pub told : (r : Result (Unit {0}) ScriptFault) (fault known : ScriptFault) (made : Fault) → r ≡ Err fault → made ≡ script_fault fault → r ≡ Err known → Faulted made ≡ Faulted (script_fault known)
+told r fault known made e m k =
+    let both : ◌≡◌ {A = Result (Unit {0}) ScriptFault} (Err fault) (Err known) = sym e ∙ k in
+    let same : fault ≡ known = cc in
+    ap Faulted (m ∙ ap script_fault same)
+
+faulted : (a b : Fault) → Faulted a ≡ Faulted b → a ≡ b
+faulted a b e = cc
+
+-- a write that the program tells is one of the script
+pub wrote : (fault : ScriptFault) → script_fault fault ≡ Write → fault ≡ scripting.Write
+wrote (scripting.Line n) e = cc
+wrote (scripting.Hex n) e = cc
+wrote scripting.Read e = cc
+wrote scripting.Write e = refl
+wrote scripting.Memory e = cc
+wrote scripting.Carrier e = cc
+
+pub told-write : (r : Result (Unit {0}) ScriptFault) (fault : ScriptFault) (made : Fault) → r ≡ Err fault → made ≡ script_fault fault → Faulted made ≡ Faulted Write → r ≡ Err scripting.Write
+told-write r fault made e m k = e ∙ ap Err (wrote fault (sym m ∙ faulted made Write k))

@@ -1,0 +1,69 @@
+//! Why a command wasn't done to its end.
+ghost use Rattle.std.specs.Prelude.{◌≡◌};
+ghost use Rattle.ddcmp_cli.specs.Endings.{explain_fault, script_fault};
+
+use crate::explain_fault::ExplainFault;
+use ddcmp_line::ScriptFault;
+use std::fmt;
+
+/// Why a command wasn't done to its end.
+#[derive(Clone, Copy, Debug, PartialEq, Eq)]
+pub enum Fault {
+    /// The digits to be explained are odd in number.
+    Odd,
+    /// The index of the first byte that is neither a digit nor blank, counted from 0.
+    NotHex(u64),
+    /// This line of a script is no command.
+    Line(u64),
+    /// A word of this line has digits that aren't hexadecimal, or too few or too many of them.
+    Hex(u64),
+    Read,
+    Write,
+    Memory,
+    Carrier,
+}
+
+impl From<ExplainFault> for Fault {
+    ghost from_gives = { λ fault made. made ≡ explain_fault fault };
+
+    fn from(fault: ExplainFault) -> Fault {
+        match fault {
+            ExplainFault::Odd => Fault::Odd,
+            ExplainFault::NotHex(index) => Fault::NotHex(index),
+            ExplainFault::Read => Fault::Read,
+            ExplainFault::Write => Fault::Write,
+            ExplainFault::Memory => Fault::Memory,
+        }
+    }
+}
+
+impl From<ScriptFault> for Fault {
+    ghost from_gives = { λ fault made. made ≡ script_fault fault };
+
+    fn from(fault: ScriptFault) -> Fault {
+        match fault {
+            ScriptFault::Line(line) => Fault::Line(line),
+            ScriptFault::Hex(line) => Fault::Hex(line),
+            ScriptFault::Read => Fault::Read,
+            ScriptFault::Write => Fault::Write,
+            ScriptFault::Memory => Fault::Memory,
+            ScriptFault::Carrier => Fault::Carrier,
+        }
+    }
+}
+
+/// The text that the command itself has for it.
+impl fmt::Display for Fault {
+    fn fmt<W: fmt::Write>(&self, f: &mut fmt::Formatter<W>) -> fmt::Result {
+        match self {
+            Fault::Odd => ExplainFault::Odd.fmt(f),
+            Fault::NotHex(index) => ExplainFault::NotHex(*index).fmt(f),
+            Fault::Line(line) => ScriptFault::Line(*line).fmt(f),
+            Fault::Hex(line) => ScriptFault::Hex(*line).fmt(f),
+            Fault::Read => ScriptFault::Read.fmt(f),
+            Fault::Write => ScriptFault::Write.fmt(f),
+            Fault::Memory => ScriptFault::Memory.fmt(f),
+            Fault::Carrier => ScriptFault::Carrier.fmt(f),
+        }
+    }
+}
