@@ -159,10 +159,14 @@ module _ (input line : List ℕ) (behind : List (List ℕ)) (done : List DoneLin
         done = done;
         behind = line ∷ behind;
         begins = begins;
-        stopped = (inside.1.came, inside.1.stopped, elim inside.1.carried [
-          | inl nothing ↦ inl (carried_kept nothing.told)
-          | inr more ↦ inr (carries-then d log told now (carriages_then p done) _ did.carried more)
-        ]);
+        stopped = (
+          inside.1.came,
+          inside.1.stopped,
+          elim inside.1.carried [
+            | inl nothing ↦ inl (carried_kept nothing.told)
+            | inr more ↦ inr (carries-then d log told now (carriages_then p done) _ did.carried more)
+          ],
+        );
         written = sends-more (text_then p done) did.written inside.0;
       }
 
