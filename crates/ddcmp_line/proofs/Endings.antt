@@ -3,7 +3,7 @@ use Rattle.std.proofs.Common.{◌≡◌, ℕ, ◌+◌, ◌<◌, Bool, true, fals
 use Rattle.std.specs.Prelude.{◌⊎◌}
 use Rattle.std.specs.Io.KnownBytes.{Appends, Consumes, IsAtEnd}
 use Rattle.std.proofs.KnownBytes.{Appends-nil}
-use Rattle.std.proofs.lemmas.List.{append-nil, take_left}
+use Rattle.std.proofs.lemmas.List.{append-nil}
 use Rattle.ddcmp_frame.specs.Written.{Known, Output, HoldsBy, Holds, HandsOver, AppendsPart}
 use Rattle.ddcmp_frame.proofs.WrittenLaws.{sends-then, part-append}
 use Rattle.ddcmp_pair.specs.Run.{PairState}

@@ -16,7 +16,7 @@ use Rattle.ddcmp_line.specs.ScriptWords.{reading_of, without_cr, lines_between, 
 use Rattle.ddcmp_line.specs.Script.{Between, Scene, Carriage, AreDirect, DoneLine, after_line, text_of, carriages_by, events_by, after_lines, text_of_lines, carriages_of_lines, Fits, AllFit, lines_done}
 use Rattle.ddcmp_line.specs.ScriptSteps.{scene_of, Carries, LineEnds}
 use Rattle.ddcmp_line.specs.ScriptEnds.{scene_with, scene_then, text_then, carriages_then, Around, around, Begins, Did, StoppedAt, StoppedBefore, Broken, AsksCarrier}
-use Rattle.ddcmp_line.specs.ScriptProgress.{HasNoLf, HasDone, HasDoneAll, Stops, Takes}
+use Rattle.ddcmp_line.specs.ScriptProgress.{HasNoLf, HasDone, HasDoneAll, Stops, Takes, Ends}
 use Rattle.ddcmp_line.proofs.Cutting.{HasPart, has-part}
 use Rattle.ddcmp_line.proofs.TextLaws.{sends-as}
 
@@ -82,7 +82,7 @@ pub record NextDone (input : List ℕ) (behind : List (List ℕ)) (number : ℕ)
   pub lines_are : lines ≡ (scene_then x.pair done).lines
   pub number_is : number ≡ length done
 
-sends-more : {a b c : Output} (t : List ℕ) → HandsOver a b t → HandsOver b c [] → HandsOver a c t
+pub sends-more : {a b c : Output} (t : List ℕ) → HandsOver a b t → HandsOver b c [] → HandsOver a c t
 sends-more t p q = sends-as (append-nil t) (sends-then p q)
 
 module _ (input line : List ℕ) (behind : List (List ℕ)) (done : List DoneLine) (p q r : PairState) (lines later : Between) (d : Bool) (log told now : Option (List Carriage)) (start before after : Output) (begins : Begins done (line ∷ behind) input) (did : Did done (around p q d log told) (HandsOver start before)) (lines_are : lines ≡ (scene_then p done).lines) where
@@ -207,7 +207,9 @@ last-none (c ∷ line) e = absurd (omega arith)
 
 last-some : (line : List ℕ) → 0 < length line → lines_between (line ∷ []) ≡ line ∷ []
 last-some [] h = absurd (omega arith)
-last-some (c ∷ line) h = refl
+last-some (c ∷ line) h =
+    let test : (length (c ∷ line) == 0) ≡ false = grind (arith, nat_tests) in
+    ap (λ b. cond b [] ((c ∷ line) ∷ [])) test
 
 -- nothing of the next line was done
 pub nothing-of-next : (behind : List (List ℕ)) (done : List DoneLine) (x : Around) (W : List ℕ → Type 0) → Did done x W → StoppedBefore behind done x
@@ -278,3 +280,7 @@ module _ (input line : List ℕ) (number : ℕ) (lines later : Between) (p q r :
   pub end-stopped : 0 < length line → (why : Stop) → LineEnds d told now (reading_of line) (scene_of q lines) (scene_of r later) before after (Err why) → Stops input number start after (around p r d log now) why
   end-stopped some why ends =
       line-stops input line [] h.done p q r lines later d log told now start before after (begins-last some) h.did h.lines_are number h.number_is why ends
+
+  pub end-any : 0 < length line → (result : Result (Unit {0}) Stop) → LineEnds d told now (reading_of line) (scene_of q lines) (scene_of r later) before after result → Ends input number start after (around p r d log now) result
+  end-any some (Ok u) ends = end-line some ends
+  end-any some (Err why) ends = end-stopped some why ends

@@ -190,7 +190,10 @@ impl Player {
             (around p pair.new d log (C.told carrier.new)) result }
     {
         for i in 0..piece.len() {
-            self.take_byte(pair, writer, carrier, piece[i])?;
+            match self.take_byte(pair, writer, carrier, piece[i]) {
+                Ok(()) => {}
+                Err(stop) => return Err(stop),
+            }
         }
         Ok(())
     }
