@@ -169,3 +169,15 @@ module _ (input : List ℕ) (x : Around) where
   pub plays-unwritten : (rest line : List ℕ) (number : ℕ) (lines : Between) (sink : Known) (o : Output) → HasDone input rest line number lines (fresh sink) o x → Plays input x (Appends sink o.sink) (AppendsPart sink o.sink) (Err Write)
   plays-unwritten rest line number lines sink o h =
       broken-part sink o (has-broken rest line number lines (fresh sink) o h)
+
+-- ---- what is left of an input
+
+pub left-after : (left later : Known) (rest bytes : List ℕ) → left ≡ Some rest → Consumes left later bytes → (x : List ℕ) × (later ≡ Some x) × (rest ≡ bytes ++ x)
+left-after None later rest bytes e h = let bad : ◌≡◌ {A = Option (List ℕ)} None (Some rest) = e in absurd (cc)
+left-after (Some xs) None rest bytes e h = absurd h
+left-after (Some xs) (Some ys) rest bytes e h = let same : rest ≡ xs = cc in (ys, refl, same ∙ h)
+
+pub none-left : (left later : Known) (rest : List ℕ) → left ≡ Some rest → Consumes left later [] → IsAtEnd later → rest ≡ []
+none-left None later rest e h end = let bad : ◌≡◌ {A = Option (List ℕ)} None (Some rest) = e in absurd (cc)
+none-left (Some xs) None rest e h end = absurd h
+none-left (Some xs) (Some ys) rest e h end = let same : rest ≡ xs = cc in same ∙ h ∙ end
