@@ -15,10 +15,11 @@ use Rattle.ddcmp_line.specs.declared.performing.Stop.TheVariants as stop
 use Rattle.ddcmp_line.specs.declared.script_fault.ScriptFault.TheVariants.{Line, Hex, Read, Write, Memory, Carrier}
 use Rattle.ddcmp_line.specs.ScriptWords.{reading_of, lines_of}
 use Rattle.ddcmp_line.specs.ScriptText.{last_line}
-use Rattle.ddcmp_line.specs.Script.{Between, DoneLine, events_by}
+use Rattle.ddcmp_line.specs.Script.{Between, Carriage, DoneLine, AllFit, nothing_between, events_by, after_lines, text_of_lines, carriages_of_lines}
 use Rattle.ddcmp_line.specs.ScriptEnds.{scene_then, text_then, Around, around, Begins, Did, Finished, Paused, StoppedAt, StoppedBefore, Broken, AsksCarrier, text_behind, Plays}
 use Rattle.ddcmp_line.specs.ScriptProgress.{fresh, HasNoLf, HasDone, HasDoneAll, IsPlaying, Stops, Takes}
-use Rattle.ddcmp_line.proofs.TextLaws.{sends-as}
+use Rattle.ddcmp_line.proofs.TextLaws.{sends-as, sends-nothing}
+use Rattle.ddcmp_line.proofs.Scenes.{carries-nothing}
 use Rattle.ddcmp_line.proofs.Playing.{sends-more, nothing-of-next}
 
 -- ---- what was written since the sink was fresh
@@ -177,7 +178,32 @@ left-after None later rest bytes e h = let bad : ◌≡◌ {A = Option (List ℕ
 left-after (Some xs) None rest bytes e h = absurd h
 left-after (Some xs) (Some ys) rest bytes e h = let same : rest ≡ xs = cc in (ys, refl, same ∙ h)
 
-pub none-left : (left later : Known) (rest : List ℕ) → left ≡ Some rest → Consumes left later [] → IsAtEnd later → rest ≡ []
-none-left None later rest e h end = let bad : ◌≡◌ {A = Option (List ℕ)} None (Some rest) = e in absurd (cc)
-none-left (Some xs) None rest e h end = absurd h
-none-left (Some xs) (Some ys) rest e h end = let same : rest ≡ xs = cc in same ∙ h ∙ end
+take-nothing : (buf : List ℕ) → take 0 buf ≡ []
+take-nothing [] = refl
+take-nothing (x ∷ xs) = refl
+
+pub none-left : (left later : Known) (rest buf : List ℕ) (n : ℕ) → n ≡ 0 → left ≡ Some rest → Consumes left later (take n buf) → IsAtEnd later → rest ≡ []
+none-left None later rest buf n z e h end = let bad : ◌≡◌ {A = Option (List ℕ)} None (Some rest) = e in absurd (cc)
+none-left (Some xs) None rest buf n z e h end = absurd h
+none-left (Some xs) (Some ys) rest buf n z e h end =
+    let same : rest ≡ xs = cc in
+    same ∙ h ∙ ap (λ t. t ++ ys) (ap (λ k. take k buf) z ∙ take-nothing buf) ∙ end
+
+-- ---- the beginning
+
+pub begun-has : (input : List ℕ) (p : PairState) (d : Bool) (log : Option (List Carriage)) (sink : Known) (b : Bool) (line : List ℕ) (number : ℕ) (lines : Between) (page : List ℕ)
+    → line ≡ [] → number ≡ 0 → lines ≡ nothing_between → page ≡ [] → b ≡ false
+    → HasDone input input line number lines (fresh sink) (record { broken = b; sink = sink; waiting = page }) (around p p d log log)
+unfolding after_lines text_of_lines carriages_of_lines AllFit
+begun-has input p d log sink b line number lines page el en es ep eb =
+    let first : HasDone input input [] number lines (fresh sink) (fresh sink) (around p p d log log) = record {
+      done = [];
+      begins = record { lines = refl; fit = tt };
+      did = record { pair = refl; carried = carries-nothing d log; written = sends-nothing (fresh sink) };
+      lines_are = es;
+      number_is = en;
+      begun = tt;
+    } in
+    let out : fresh sink ≡ record { broken = b; sink = sink; waiting = page } = λ i. record { broken = sym eb i; sink = sink; waiting = sym ep i } in
+    subst (λ l. HasDone input input l number lines (fresh sink) (record { broken = b; sink = sink; waiting = page }) (around p p d log log)) (sym el)
+    (subst (λ o. HasDone input input [] number lines (fresh sink) o (around p p d log log)) out first)

@@ -95,4 +95,3 @@ returns-in-State-clause-ends g c =
     let after = output_of g.W.Sink.broken g.W.Sink.contents c.write_station.new.writer c.write_station.new.page in
     subst (λ r. LineEnds d log log r s t before after (Ok tt)) (sym (ap Asks c.in-State.is)) (ends-well (State c.in-State.end) s t before after d log (none-state s c.in-State.end) (subst (λ o. Comes o s t before after) (sym (state-is c.in-State.end s)) (comes-between _ p lines lines before after refl refl
     (sends-as (ap (λ w. station_line w c.station.result.now.core.station) c.end_name.ensures ∙ ap (λ (k : CoreView). station_line (name_of c.in-State.end) k.station) c.station.ensures.core) c.write_station.ensures))))
-

@@ -38,4 +38,3 @@ returns-in-Memory-clause-plays g c = λ input x sink s.
     let number = c.args.self.now.number in
     let whole : out.broken ≡ false = search rules in
     plays-memory input x number sink out whole c.flush.ensures.empty (subst (Stops input number (fresh sink) out x) c.in-Memory.is (stops-flushed input x number (fresh sink) _ out c.args.stop s c.flush.ensures.sends))
-

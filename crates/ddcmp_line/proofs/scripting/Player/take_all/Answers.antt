@@ -57,9 +57,11 @@ returns-in-Bytes-eq0-clause-plays g c = λ input p d log sink de h.
     let far = c.loop-self.invariant.so_far input p d log sink de h in
     let now = has-flushed input x far.0 player.line.items player.number lines (fresh sink) a far.2 out c.flush.ensures.sends in
     let bytes = c.in-Bytes-eq0.ensures.bytes in
-    let b : ⊥ = bytes in
-    let n : ⊥ = c.in-Bytes-eq0.field-0-test in
-    ?
+    let buf = c.read_within.new.buf in
+    let zero : c.in-Bytes-eq0.field-0 ≡ 0 = search rules in
+    let room : 0 < length buf = omega (arith, c.read_within.auto.buf, c.loop-self.invariant.room) in
+    let none = none-left (g.R.Source.left c.loop-self.reader) (g.R.Source.left c.read_within.new.reader) far.0 buf c.in-Bytes-eq0.field-0 zero far.1 bytes.1 (bytes.2 zero room) in
+    c.finish.ensures.plays input p d log sink (c.loop-self.invariant.direct ∙ de) (subst (λ t. HasDone input t player.line.items player.number lines (fresh sink) out x) none now)
 
 pub returns-in-Idle-clause-plays : goal.returns-in-Idle-clause-plays
 returns-in-Idle-clause-plays g c = λ input p d log sink de h.
