@@ -1,24 +1,21 @@
 -- What the answers to a script say.
-use Rattle.std.proofs.Common.{◌≡◌, ℕ, ◌+◌, ◌<◌, Bool, true, false, List, [], ◌∷◌, ◌++◌, length, take, refl, sym, ap, subst, ◌∙◌, arith, Option, Some, None, Result, Ok, Err, inl, inr, append_assoc}
-use Rattle.std.specs.Prelude.{◌⊎◌}
+use Rattle.std.proofs.Common.{◌≡◌, ℕ, ◌+◌, Bool, true, false, List, [], ◌∷◌, ◌++◌, length, take, refl, sym, ap, subst, ◌∙◌, Option, Some, None, Ok, Err}
 use Rattle.std.specs.Io.KnownBytes.{Appends, Consumes, IsAtEnd}
 use Rattle.std.proofs.KnownBytes.{Appends-nil}
 use Rattle.std.proofs.lemmas.List.{append-nil}
 use Rattle.ddcmp_frame.specs.Written.{Known, Output, HoldsBy, Holds, HandsOver, AppendsPart}
 use Rattle.ddcmp_frame.proofs.WrittenLaws.{sends-then, part-append}
 use Rattle.ddcmp_pair.specs.Run.{PairState}
-use Rattle.ddcmp_pair.specs.Settle.{StoppedAmong}
-use Rattle.ddcmp_pair.proofs.Runs.{stopped-none}
 use Rattle.ddcmp_line.specs.declared.command.Reading.{Reading}
 use Rattle.ddcmp_line.specs.declared.performing.Stop.{Stop}
 use Rattle.ddcmp_line.specs.declared.performing.Stop.TheVariants as stop
 use Rattle.ddcmp_line.specs.declared.script_fault.ScriptFault.TheVariants.{Line, Hex, Read, Write, Memory, Carrier}
-use Rattle.ddcmp_line.specs.ScriptWords.{reading_of, lines_of}
+use Rattle.ddcmp_line.specs.ScriptWords.{lines_of}
 use Rattle.ddcmp_line.specs.ScriptText.{last_line}
-use Rattle.ddcmp_line.specs.Script.{Between, Carriage, DoneLine, AllFit, nothing_between, events_by, after_lines, text_of_lines, carriages_of_lines}
-use Rattle.ddcmp_line.specs.ScriptEnds.{scene_then, text_then, Around, around, Begins, Did, Finished, Paused, StoppedAt, StoppedBefore, Broken, AsksCarrier, text_behind, Plays}
-use Rattle.ddcmp_line.specs.ScriptProgress.{fresh, HasNoLf, HasDone, HasDoneAll, IsPlaying, Stops, Takes}
-use Rattle.ddcmp_line.proofs.TextLaws.{sends-as, sends-nothing}
+use Rattle.ddcmp_line.specs.Script.{Between, Carriage, AllFit, nothing_between, after_lines, text_of_lines, carriages_of_lines}
+use Rattle.ddcmp_line.specs.ScriptEnds.{text_then, Around, around, StoppedAt, Broken, text_behind, Plays}
+use Rattle.ddcmp_line.specs.ScriptProgress.{fresh, HasDone, HasDoneAll, Stops}
+use Rattle.ddcmp_line.proofs.TextLaws.{sends-nothing}
 use Rattle.ddcmp_line.proofs.Scenes.{carries-nothing}
 use Rattle.ddcmp_line.proofs.Playing.{sends-more, nothing-of-next}
 

@@ -1,11 +1,10 @@
 -- Lines of a script, one after another.
-use Rattle.std.proofs.Common.{◌≡◌, ◌≢◌, ℕ, ◌+◌, ◌<◌, Bool, true, false, cond, ◌==◌, List, [], ◌∷◌, ◌++◌, length, refl, sym, ap, subst, ◌∙◌, arith, Option, Some, None, Result, Ok, Err, inl, inr, append_assoc, length-append}
-use Rattle.std.specs.Prelude.{◌⊎◌}
-use Rattle.std.specs.List.{slice_split, onto_first}
+use Rattle.std.proofs.Common.{◌≡◌, ◌≢◌, ℕ, ◌+◌, ◌<◌, Bool, false, cond, ◌==◌, List, [], ◌∷◌, ◌++◌, length, refl, sym, ap, subst, ◌∙◌, arith, Option, Some, None, Result, Ok, Err, inl, inr, append_assoc, length-append}
+use Rattle.std.specs.List.{slice_split}
 use Rattle.std.proofs.lemmas.List.{append-nil}
 use Rattle.std.proofs.lemmas.Bool.Decides.{nat_tests}
 use Rattle.ddcmp_frame.specs.Device.{Logs}
-use Rattle.ddcmp_frame.specs.Written.{Output, HandsOver, Known}
+use Rattle.ddcmp_frame.specs.Written.{Output, HandsOver}
 use Rattle.ddcmp_frame.proofs.WrittenLaws.{sends-then}
 use Rattle.ddcmp_pair.specs.Run.{PairState}
 use Rattle.ddcmp_pair.specs.Settle.{StoppedAmong}
@@ -15,8 +14,8 @@ use Rattle.ddcmp_line.specs.declared.performing.Stop.TheVariants.{NoCommand, Not
 use Rattle.ddcmp_line.specs.ScriptWords.{reading_of, without_cr, lines_between, between_lf, lines_of}
 use Rattle.ddcmp_line.specs.Script.{Between, Scene, Carriage, AreDirect, DoneLine, after_line, text_of, carriages_by, events_by, after_lines, text_of_lines, carriages_of_lines, Fits, AllFit, lines_done}
 use Rattle.ddcmp_line.specs.ScriptSteps.{scene_of, Carries, LineEnds}
-use Rattle.ddcmp_line.specs.ScriptEnds.{scene_with, scene_then, text_then, carriages_then, Around, around, Begins, Did, StoppedAt, StoppedBefore, Broken, AsksCarrier}
-use Rattle.ddcmp_line.specs.ScriptProgress.{HasNoLf, HasDone, HasDoneAll, Stops, Takes, Ends}
+use Rattle.ddcmp_line.specs.ScriptEnds.{scene_with, scene_then, text_then, carriages_then, Around, around, Begins, Did, StoppedBefore}
+use Rattle.ddcmp_line.specs.ScriptProgress.{HasNoLf, HasDone, HasDoneAll, Stops, Ends}
 use Rattle.ddcmp_line.proofs.Cutting.{HasPart, has-part}
 use Rattle.ddcmp_line.proofs.TextLaws.{sends-as}
 

@@ -1,6 +1,6 @@
 -- What commands come to.
-use Rattle.std.proofs.Common.{◌≡◌, ℕ, Bool, true, false, List, [], ◌∷◌, ◌++◌, length, drop, refl, sym, ap, subst, ◌∙◌, Option, Some, None, Result, Ok, Err, inl, inr}
-use Rattle.std.specs.Prelude.{codes, IsOk, OnErr, IsTrue, MatchOption, ◌⊎◌}
+use Rattle.std.proofs.Common.{◌≡◌, ℕ, Bool, List, [], ◌∷◌, ◌++◌, length, drop, refl, sym, ap, subst, ◌∙◌, Option, Some, None, Result, Ok, Err, inl, inr}
+use Rattle.std.specs.Prelude.{codes, IsOk, OnErr, MatchOption}
 use Rattle.std.specs.Borrow.{Bor}
 use Rattle.ddcmp_core.specs.Store.{first_message}
 use Rattle.std.proofs.lemmas.List.{append-nil}
@@ -17,10 +17,10 @@ use Rattle.ddcmp_pair.specs.declared.event.Reply.{Reply}
 use Rattle.ddcmp_pair.specs.declared.event.Reply.TheVariants as reply
 use Rattle.ddcmp_line.specs.declared.performing.Stop.TheVariants.{Memory}
 use Rattle.ddcmp_pair.specs.Run.{PairState, at, end_of, line_bytes, wrote, reply_to, after_event, run}
-use Rattle.ddcmp_pair.specs.Settle.{other, settling, StoppedAmong}
+use Rattle.ddcmp_pair.specs.Settle.{other, StoppedAmong}
 use Rattle.ddcmp_line.specs.ScriptText.{name_of, name_before, reply_text, bytes_line, counted_line, station_line}
 use Rattle.ddcmp_line.specs.Script.{Between, Scene, Outcome, Carriage, AreDirect, HasCarried, frames_of, with_frames, taken_off, part_of, frames_after, lines_after, outcome_of_event, outcome_of_carry, outcome_of_lose, outcome_of_damage, outcome_of_settle, outcome_of, arrival_text, after_outcome, carriages_from, carriages_of}
-use Rattle.ddcmp_line.specs.ScriptSteps.{scene_of, Comes, Carries, StopsInside, stopped_of, LineEnds}
+use Rattle.ddcmp_line.specs.ScriptSteps.{scene_of, Comes, Carries, stopped_of, LineEnds}
 use Rattle.ddcmp_pair.proofs.Runs.{run-one, run-none, stopped-none}
 use Rattle.ddcmp_line.proofs.TextLaws.{sends-as, sends-nothing}
 

@@ -1,5 +1,5 @@
 -- How far a script has been played.
-use Rattle.std.specs.Prelude.{◌≡◌, ◌≢◌, ℕ, ◌+◌, false, List, [], ◌∷◌, ◌++◌, length, Option, Some, Result, Ok, Err, ⊤}
+use Rattle.std.specs.Prelude.{◌≡◌, ◌≢◌, ℕ, ◌+◌, false, List, [], ◌∷◌, ◌++◌, length, Some, Result, Ok, Err, ⊤}
 use Rattle.ddcmp_frame.specs.Written.{Known, Output, HandsOver}
 use Rattle.ddcmp_line.specs.declared.command.Reading.TheVariants as reading
 use Rattle.ddcmp_line.specs.declared.performing.Stop.{Stop}

@@ -1,4 +1,4 @@
-use Rattle.std.proofs.Common.{[], ◌≡◌, ◌++◌, ◌∷◌, ap, sym, refl, subst, ◌∙◌, length, drop, take, arith}
+use Rattle.std.proofs.Common.{◌≡◌, ◌++◌, ap, sym, refl, subst, ◌∙◌, length, drop, take, arith}
 use Rattle.std.proofs.Math.Seq.{take-append_seam}
 use Rattle.ddcmp_frame.specs.Written.{output_of}
 use Rattle.ddcmp_frame.proofs.WrittenLaws.{sends-then}
@@ -6,7 +6,6 @@ use Rattle.ddcmp_pair.specs.declared.event.Event.TheVariants as event
 use Rattle.ddcmp_pair.specs.Run.{after_event}
 use Rattle.std.specs.Prelude.{codes}
 use Rattle.ddcmp_line.specs.Script.{Between, frames_of, with_frames, taken_off, HasCarried, arrival_text}
-use Rattle.ddcmp_line.specs.ScriptText.{name_of}
 use Rattle.ddcmp_line.proofs.Scenes.{carry-empty, carry-refused, carry-well, carry-lost, front-none, no-frames, outputs-same}
 use Rattle.ddcmp_line.proofs.TextLaws.{sends-as, sends-nothing}
 use Rattle.ddcmp_line.proofs.performing.Stage.carry.Goals as goal

@@ -1,5 +1,5 @@
 use Rattle.std.proofs.Common.{◌==◌, ◌++◌, length, ap, refl, ◌∙◌}
-use Rattle.ddcmp_line.specs.Script.{frames_of, has_byte, outcome_of_damage}
+use Rattle.ddcmp_line.specs.Script.{frames_of, outcome_of_damage}
 use Rattle.ddcmp_line.specs.ScriptText.{name_of, damage_text}
 use Rattle.ddcmp_line.specs.ScriptSteps.{scene_of}
 use Rattle.ddcmp_line.proofs.Scenes.{comes-between}

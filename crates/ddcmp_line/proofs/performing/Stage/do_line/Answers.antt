@@ -1,8 +1,6 @@
-use Rattle.std.proofs.Common.{[], sym, ap, subst, refl, ◌∙◌, Ok, inl}
+use Rattle.std.proofs.Common.{[], subst, refl, Ok, inl}
 use Rattle.ddcmp_frame.specs.Written.{output_of}
-use Rattle.ddcmp_line.specs.ScriptWords.{reading_of}
 use Rattle.ddcmp_line.specs.ScriptSteps.{scene_of, LineEnds}
-use Rattle.ddcmp_line.specs.declared.command.Reading.TheVariants.{Skipped}
 use Rattle.ddcmp_pair.proofs.Runs.{stopped-none}
 use Rattle.ddcmp_line.proofs.Scenes.{carries-nothing}
 use Rattle.ddcmp_line.proofs.TextLaws.{sends-nothing}

@@ -1,9 +1,7 @@
-use Rattle.std.proofs.Common.{[], ◌∷◌, sym, ap, subst, refl, ◌∙◌, Ok, Err}
+use Rattle.std.proofs.Common.{[], sym, ap, subst, refl, ◌∙◌, Ok}
 use Rattle.std.specs.Prelude.{codes, OnErr}
 use Rattle.ddcmp_frame.specs.Written.{HandsOver, output_of}
-use Rattle.ddcmp_pair.specs.declared.event.Event.TheVariants as event
 use Rattle.ddcmp_core.specs.Core.{CoreView}
-use Rattle.ddcmp_pair.specs.Run.{at, reply_to}
 use Rattle.ddcmp_pair.specs.Settle.{settling, StoppedAmong}
 use Rattle.ddcmp_line.specs.declared.command.Command.TheVariants.{Happens, Lose, Damage, Raw, Settle, State}
 use Rattle.ddcmp_line.specs.declared.command.Reading.TheVariants.{Asks}

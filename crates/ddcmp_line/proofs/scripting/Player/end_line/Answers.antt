@@ -1,4 +1,4 @@
-use Rattle.std.proofs.Common.{[], ap, sym, subst, ◌∙◌, ◌+◌, Ok, Err}
+use Rattle.std.proofs.Common.{ap, sym, subst, ◌∙◌, ◌+◌, Ok, Err}
 use Rattle.ddcmp_frame.specs.Written.{output_of}
 use Rattle.ddcmp_line.specs.ScriptWords.{reading_of, without_cr}
 use Rattle.ddcmp_line.specs.ScriptSteps.{scene_of, LineEnds}

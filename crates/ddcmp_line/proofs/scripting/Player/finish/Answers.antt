@@ -1,4 +1,3 @@
-use Rattle.std.proofs.Common.{◌≡◌, false, rules}
 use Rattle.ddcmp_frame.specs.Written.{output_of}
 use Rattle.ddcmp_line.specs.ScriptEnds.{around}
 use Rattle.ddcmp_line.specs.ScriptProgress.{fresh}

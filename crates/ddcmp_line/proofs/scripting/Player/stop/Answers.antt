@@ -1,6 +1,6 @@
-use Rattle.std.proofs.Common.{◌≡◌, false, sym, subst, ◌∙◌, rules}
+use Rattle.std.proofs.Common.{◌≡◌, false, subst, rules}
 use Rattle.ddcmp_frame.specs.Written.{output_of}
-use Rattle.ddcmp_line.specs.declared.performing.Stop.TheVariants.{NoCommand, NotHex, Memory, Carrier}
+use Rattle.ddcmp_line.specs.declared.performing.Stop.TheVariants.{Carrier}
 use Rattle.ddcmp_line.specs.ScriptProgress.{fresh, Stops}
 use Rattle.ddcmp_line.proofs.Endings.{stops-flushed, plays-write, plays-line, plays-hex, plays-memory, plays-carrier}
 use Rattle.ddcmp_line.proofs.scripting.Player.stop.Goals as goal
