@@ -1,5 +1,6 @@
 -- What the answers to a script say.
-use Rattle.std.proofs.Common.{◌≡◌, ℕ, ◌+◌, Bool, true, false, List, [], ◌∷◌, ◌++◌, length, take, refl, sym, ap, subst, ◌∙◌, Option, Some, None, Ok, Err}
+use Rattle.std.proofs.Common.{◌≡◌, ◌≢◌, ℕ, ◌+◌, Bool, true, false, List, [], ◌∷◌, ◌++◌, length, take, refl, sym, ap, subst, ◌∙◌, Option, Some, None, Result, Ok, Err}
+use Rattle.std.specs.Prelude.{◌↔◌, IsOk}
 use Rattle.std.specs.Io.KnownBytes.{Appends, Consumes, IsAtEnd}
 use Rattle.std.proofs.KnownBytes.{Appends-nil}
 use Rattle.std.proofs.lemmas.List.{append-nil}
@@ -9,10 +10,11 @@ use Rattle.ddcmp_pair.specs.Run.{PairState}
 use Rattle.ddcmp_line.specs.declared.command.Reading.{Reading}
 use Rattle.ddcmp_line.specs.declared.performing.Stop.{Stop}
 use Rattle.ddcmp_line.specs.declared.performing.Stop.TheVariants as stop
+use Rattle.ddcmp_line.specs.declared.script_fault.ScriptFault.{ScriptFault}
 use Rattle.ddcmp_line.specs.declared.script_fault.ScriptFault.TheVariants.{Line, Hex, Read, Write, Memory, Carrier}
 use Rattle.ddcmp_line.specs.ScriptWords.{lines_of}
 use Rattle.ddcmp_line.specs.ScriptText.{last_line}
-use Rattle.ddcmp_line.specs.Script.{Between, Carriage, AllFit, nothing_between, after_lines, text_of_lines, carriages_of_lines}
+use Rattle.ddcmp_line.specs.Script.{Between, Carriage, AllFit, nothing_between, after_lines, text_of_lines, carriages_of_lines, Fits, lines_done}
 use Rattle.ddcmp_line.specs.ScriptEnds.{text_then, Around, around, StoppedAt, Broken, text_behind, Plays}
 use Rattle.ddcmp_line.specs.ScriptProgress.{fresh, HasDone, HasDoneAll, Stops}
 use Rattle.ddcmp_line.proofs.TextLaws.{sends-nothing}
@@ -204,3 +206,36 @@ begun-has input p d log sink b line number lines page el en es ep eb =
     let out : fresh sink ≡ record { broken = b; sink = sink; waiting = page } = λ i. record { broken = sym eb i; sink = sink; waiting = sym ep i } in
     subst (λ l. HasDone input input l number lines (fresh sink) (record { broken = b; sink = sink; waiting = page }) (around p p d log log)) (sym el)
     (subst (λ o. HasDone input input [] number lines (fresh sink) o (around p p d log log)) out first)
+
+-- ---- exactly where every line fits and nothing fails
+
+fit-at : (a : List (List ℕ)) (line : List ℕ) (b : List (List ℕ)) → AllFit (a ++ line ∷ b) → Fits line
+unfolding AllFit
+fit-at [] line b h = h.0
+fit-at (x ∷ a) line b h = fit-at a line b h.1
+
+abbrev pub Answer : Type 0
+Answer = Result (Unit {0}) ScriptFault
+
+module _ (input : List ℕ) (x : Around) (W V : List ℕ → Type 0) where
+  abbrev pub Succeeds : Answer → Type 0
+  Succeeds result = AllFit (lines_of input) × (result ≢ Err Read) × (result ≢ Err Write) × (result ≢ Err Memory) × (result ≢ Err Carrier)
+
+  fits-there : (Reads : Reading → Type 0) (n : ℕ) (s : StoppedAt Reads n input x W) → AllFit (lines_of input) → Fits s.line
+  fits-there Reads n s h = fit-at (lines_done s.done) s.line s.behind (subst AllFit (sym s.begins.lines) h)
+
+  then-fits : (result : Answer) → Plays input x W V result → IsOk result → Succeeds result
+  then-fits (Ok u) s ok = (subst AllFit (sym (append-nil (lines_done s.done)) ∙ s.begins.lines) s.begins.fit, λ e. cc, λ e. cc, λ e. cc, λ e. cc)
+  then-fits (Err fault) s ok = let bad : ◌≡◌ {A = Bool} false true = ok in absurd (cc)
+
+  only-then : (result : Answer) → Plays input x W V result → Succeeds result → IsOk result
+  only-then (Ok u) s h = refl
+  only-then (Err (Line n)) s h = absurd ((fits-there _ n s h.0).0 s.reads)
+  only-then (Err (Hex n)) s h = absurd ((fits-there _ n s h.0).1 s.reads)
+  only-then (Err Read) s h = absurd (h.1 refl)
+  only-then (Err Write) s h = absurd (h.2 refl)
+  only-then (Err Memory) s h = absurd (h.3 refl)
+  only-then (Err Carrier) s h = absurd (h.4 refl)
+
+  pub ok-exactly : (result : Answer) → Plays input x W V result → IsOk result ↔ Succeeds result
+  ok-exactly result s = (then-fits result s, only-then result s)

@@ -105,7 +105,8 @@ impl Stage {
 
     /// An end writes its next frame.
     fn poll<W: Sink>(&mut self, pair: &mut Pair, writer: &mut W, end: End) -> Result<(), Memory>
-        ensures comes { IsOk result → Comes (outcome_of_event (event_value.Poll end) (scene_of pair.old self.old.lines))
+        ensures comes { IsOk result
+            → Comes (outcome_of_event (event_value.Poll end) (scene_of pair.old self.old.lines))
             (scene_of pair.old self.old.lines) (scene_of pair.new self.new.lines)
             (output_of W.broken W.contents writer.old self.old.page)
             (output_of W.broken W.contents writer.new self.new.page) }
@@ -120,7 +121,8 @@ impl Stage {
 
     /// The line is cleared, and where it is both lines are emptied.
     fn clear<W: Sink>(&mut self, pair: &mut Pair, writer: &mut W) -> Result<(), Memory>
-        ensures comes { IsOk result → Comes (outcome_of_event event_value.Clear (scene_of pair.old self.old.lines))
+        ensures comes { IsOk result
+            → Comes (outcome_of_event event_value.Clear (scene_of pair.old self.old.lines))
             (scene_of pair.old self.old.lines) (scene_of pair.new self.new.lines)
             (output_of W.broken W.contents writer.old self.old.page)
             (output_of W.broken W.contents writer.new self.new.page) }
@@ -137,7 +139,8 @@ impl Stage {
     fn tell<W: Sink>(&mut self, pair: &mut Pair, writer: &mut W, event: Event) -> Result<(), Memory>
         ensures pair { IsOk result → pair.new ≡ after_event event pair.old }
         ensures lines { self.new.lines ≡ self.old.lines }
-        ensures text { IsOk result → HandsOver (output_of W.broken W.contents writer.old self.old.page)
+        ensures text { IsOk result
+            → HandsOver (output_of W.broken W.contents writer.old self.old.page)
             (output_of W.broken W.contents writer.new self.new.page)
             (reply_text (name_before (end_of event)) (reply_to event pair.old)) }
         ensures memory { OnErr result ((pair.new ≡ pair.old)
@@ -156,7 +159,8 @@ impl Stage {
         writer: &mut W,
         event: Event,
     ) -> Result<(), Memory>
-        ensures comes { IsOk result → Comes (outcome_of_event event (scene_of pair.old self.old.lines))
+        ensures comes { IsOk result
+            → Comes (outcome_of_event event (scene_of pair.old self.old.lines))
             (scene_of pair.old self.old.lines) (scene_of pair.new self.new.lines)
             (output_of W.broken W.contents writer.old self.old.page)
             (output_of W.broken W.contents writer.new self.new.page) }
@@ -182,8 +186,10 @@ impl Stage {
     ) -> Result<(), Memory>
         ensures pair { IsOk result → pair.new ≡ after_event (event_value.Arrive to bytes) pair.old }
         ensures lines { self.new.lines ≡ self.old.lines }
-        ensures text { IsOk result → HandsOver (output_of W.broken W.contents writer.old self.old.page)
-            (output_of W.broken W.contents writer.new self.new.page) (arrival_text who words.now to bytes pair.old) }
+        ensures text { IsOk result
+            → HandsOver (output_of W.broken W.contents writer.old self.old.page)
+            (output_of W.broken W.contents writer.new self.new.page)
+            (arrival_text who words.now to bytes pair.old) }
         ensures memory { OnErr result ((pair.new ≡ pair.old)
             × (self.new.page ≡ self.old.page) × (writer.new ≡ writer.old)) }
     {
@@ -209,7 +215,8 @@ impl Stage {
             × (self.new.page ≡ []) }
         ensures carrier { (result ≡ Err Stop.Carrier) ↔ IsTrue (C.broken carrier.new) }
         ensures ends { LineEnds (C.direct carrier.old) (C.told carrier.old) (C.told carrier.new)
-            (Reading.Asks (Command.Carry from most)) (scene_of pair.old self.old.lines) (scene_of pair.new self.new.lines)
+            (Reading.Asks (Command.Carry from most)) (scene_of pair.old self.old.lines)
+            (scene_of pair.new self.new.lines)
             (output_of W.broken W.contents writer.old self.old.page)
             (output_of W.broken W.contents writer.new self.new.page) result }
         ensures direct { C.direct carrier.new ≡ C.direct carrier.old }
@@ -304,7 +311,8 @@ impl Stage {
             × (self.new.page ≡ []) }
         ensures carrier { (result ≡ Err Stop.Carrier) ↔ IsTrue (C.broken carrier.new) }
         ensures ends { LineEnds (C.direct carrier.old) (C.told carrier.old) (C.told carrier.new)
-            (Reading.Asks command) (scene_of pair.old self.old.lines) (scene_of pair.new self.new.lines)
+            (Reading.Asks command) (scene_of pair.old self.old.lines)
+            (scene_of pair.new self.new.lines)
             (output_of W.broken W.contents writer.old self.old.page)
             (output_of W.broken W.contents writer.new self.new.page) result }
         ensures direct { C.direct carrier.new ≡ C.direct carrier.old }
@@ -343,7 +351,8 @@ impl Stage {
             × (self.new.page ≡ []) }
         ensures carrier { (result ≡ Err Stop.Carrier) ↔ IsTrue (C.broken carrier.new) }
         ensures ends { LineEnds (C.direct carrier.old) (C.told carrier.old) (C.told carrier.new)
-            (reading_of line.now) (scene_of pair.old self.old.lines) (scene_of pair.new self.new.lines)
+            (reading_of line.now) (scene_of pair.old self.old.lines)
+            (scene_of pair.new self.new.lines)
             (output_of W.broken W.contents writer.old self.old.page)
             (output_of W.broken W.contents writer.new self.new.page) result }
         ensures direct { C.direct carrier.new ≡ C.direct carrier.old }

@@ -5,9 +5,9 @@ ghost use Rattle.ddcmp_frame.specs.Written.{AppendsPart, HandsOver, Output, outp
 ghost use Rattle.ddcmp_pair.specs.Run.{PairState};
 ghost use Rattle.ddcmp_pair.specs.InOrder.{IsInOrder};
 ghost use Rattle.ddcmp_line.specs.Input.{GaveMost};
-ghost use Rattle.ddcmp_line.specs.ScriptWords.{without_cr as without_cr_of};
+ghost use Rattle.ddcmp_line.specs.ScriptWords.{lines_of, without_cr as without_cr_of};
 ghost use Rattle.ddcmp_line.specs.ScriptText.{yes_or_no as yes_or_no_text, last_line};
-ghost use Rattle.ddcmp_line.specs.Script.{Carriage, nothing_between};
+ghost use Rattle.ddcmp_line.specs.Script.{AllFit, Carriage, nothing_between};
 ghost use Rattle.ddcmp_line.specs.ScriptEnds.{Around, around, Plays};
 ghost use Rattle.ddcmp_line.specs.ScriptProgress.{fresh, Ends, HasDone, IsPlaying, Stops, Takes};
 
@@ -182,7 +182,8 @@ impl Player {
         ensures direct { C.direct carrier.new ≡ C.direct carrier.old }
         ensures takes { (input rest : List ℕ) (p : PairState) (d : Bool)
             (log : Option (List Carriage)) (start : Output) → C.direct carrier.old ≡ d
-            → HasDone input (piece.now ++ rest) self.old.line.items self.old.number self.old.stage.lines
+            → HasDone input (piece.now ++ rest) self.old.line.items self.old.number
+            self.old.stage.lines
             start (output_of W.broken W.contents writer.old self.old.stage.page)
             (around p pair.old d log (C.told carrier.old))
             → Takes input rest self.new.line.items self.new.number self.new.stage.lines
@@ -313,7 +314,8 @@ impl Player {
         ensures carrier { (result ≡ Err ScriptFault.Carrier) ↔ IsTrue (C.broken carrier.new) }
         ensures plays { (input : List ℕ) (p : PairState) (d : Bool)
             (log : Option (List Carriage)) (sink : Option (List ℕ)) → C.direct carrier.old ≡ d
-            → IsPlaying input (R.left reader.old) self.old.line.items self.old.number self.old.stage.lines
+            → IsPlaying input (R.left reader.old) self.old.line.items self.old.number
+            self.old.stage.lines
             (fresh sink) (output_of W.broken W.contents writer.old self.old.stage.page)
             (around p pair.old d log (C.told carrier.old))
             → Plays input (around p pair.new d log (C.told carrier.new))
@@ -363,6 +365,12 @@ pub fn script<R: Source, W: Sink, C: Carrier>(
         (C.told carrier.old) (C.told carrier.new))
         (Appends (W.contents writer.old) (W.contents writer.new))
         (AppendsPart (W.contents writer.old) (W.contents writer.new)) result }
+
+    // Ok exactly where every line is a command or skipped, no device failed and memory was had.
+    ensures ok { (input : List ℕ) → R.left reader.old ≡ Some input
+        → IsOk result ↔ (AllFit (lines_of input) × (result ≢ Err ScriptFault.Read)
+        × (result ≢ Err ScriptFault.Write) × (result ≢ Err ScriptFault.Memory)
+        × (result ≢ Err ScriptFault.Carrier)) }
 
     // Read exactly where the reader isn't fine, or has given 2^64 - 1 bytes.
     ensures read { R.state reader.new ≢ Worst.Fine → result ≡ Err ScriptFault.Read }
