@@ -1,4 +1,6 @@
 pub mod Cutting
+pub mod Endings
 pub mod Inputs
+pub mod Playing
 pub mod Scenes
 pub mod TextLaws

@@ -1,25 +1,28 @@
 -- What commands come to.
-use Rattle.std.proofs.Common.{◌≡◌, ℕ, Bool, true, false, List, [], ◌∷◌, ◌++◌, length, drop, refl, sym, ap, subst, ◌∙◌, Option, Some, None, Result, Ok, Err, inl, inr}
-use Rattle.std.specs.Prelude.{codes, IsOk, OnErr, IsTrue, ◌⊎◌}
+use Rattle.std.proofs.Common.{◌≡◌, ℕ, Bool, List, [], ◌∷◌, ◌++◌, length, drop, refl, sym, ap, subst, ◌∙◌, Option, Some, None, Result, Ok, Err, inl, inr}
+use Rattle.std.specs.Prelude.{codes, IsOk, OnErr, MatchOption}
+use Rattle.std.specs.Borrow.{Bor}
+use Rattle.ddcmp_core.specs.Store.{first_message}
 use Rattle.std.proofs.lemmas.List.{append-nil}
 use Rattle.ddcmp_frame.specs.Device.{Logs}
 use Rattle.ddcmp_frame.specs.Written.{Output, HandsOver, output_of}
 use Rattle.ddcmp_line.specs.declared.command.Command.{Command}
-use Rattle.ddcmp_line.specs.declared.command.Command.TheVariants.{Happens, Carry, Lose, Damage, Raw, Settle, State}
+use Rattle.ddcmp_line.specs.declared.command.Command.TheVariants.{Happens, Carry, Lose, Damage, Raw, Settle, Recover, State}
 use Rattle.ddcmp_line.specs.declared.command.Reading.TheVariants.{Asks}
 use Rattle.ddcmp_run.specs.declared.event.End.{End}
 use Rattle.ddcmp_run.specs.declared.event.End.TheVariants.{A, B}
 use Rattle.ddcmp_run.specs.declared.event.Event.{Event}
 use Rattle.ddcmp_run.specs.declared.event.Event.TheVariants as event
+use Rattle.ddcmp_run.specs.declared.event.Reply.{Reply}
 use Rattle.ddcmp_run.specs.declared.event.Reply.TheVariants as reply
 use Rattle.ddcmp_line.specs.declared.performing.Stop.TheVariants.{Memory}
 use Rattle.ddcmp_run.specs.Run.{PairState, at, end_of, line_bytes, wrote, reply_to, after_event, run}
-use Rattle.ddcmp_run.specs.Settle.{other, settling, StoppedAmong}
+use Rattle.ddcmp_run.specs.Settle.{other, StoppedAmong}
 use Rattle.ddcmp_line.specs.ScriptText.{name_of, name_before, reply_text, bytes_line, counted_line, station_line}
-use Rattle.ddcmp_line.specs.Script.{Between, Scene, Outcome, Carriage, AreDirect, HasCarried, frames_of, with_frames, taken_off, part_of, lines_after, outcome_of_event, outcome_of_carry, outcome_of_lose, outcome_of_damage, outcome_of_settle, outcome_of, arrival_text, after_outcome, carriages_from, carriages_of}
-use Rattle.ddcmp_line.specs.ScriptSteps.{scene_of, Comes, Carries, StopsInside, stopped_of, LineEnds}
+use Rattle.ddcmp_line.specs.Script.{Between, Scene, Outcome, Carriage, AreDirect, HasCarried, frames_of, with_frames, taken_off, part_of, frames_after, lines_after, outcome_of_event, outcome_of_carry, outcome_of_lose, outcome_of_damage, outcome_of_settle, outcome_of_recover, outcome_of, arrival_text, after_outcome, carriages_from, carriages_of}
+use Rattle.ddcmp_line.specs.ScriptSteps.{scene_of, Comes, Carries, stopped_of, LineEnds}
 use Rattle.ddcmp_run.proofs.Runs.{run-one, run-none, stopped-none}
-use Rattle.ddcmp_line.proofs.TextLaws.{sends-nothing}
+use Rattle.ddcmp_line.proofs.TextLaws.{sends-as, sends-nothing}
 
 idle-or-wrote : (o : Option (List ℕ)) → ((bytes : List ℕ) → wrote o ≡ reply.Wrote bytes → ⊥) → wrote o ≡ reply.Idle
 idle-or-wrote None n = refl
@@ -60,6 +63,36 @@ comes-event ev p q lines after before now e l t = record {
   text = t;
 }
 
+-- an event that neither writes a frame nor clears the line leaves the lines
+pub lines-stay : (ev : Event) → ((e : End) → ev ≡ event.Poll e → ⊥) → (ev ≡ event.Clear → ⊥) → (r : Reply) (lines : Between) → lines_after ev r lines ≡ lines
+lines-stay (event.Poll e) np nc r lines = absurd (np e refl)
+lines-stay event.Clear np nc r lines = absurd (nc refl)
+lines-stay (event.Start e) np nc r lines = refl
+lines-stay (event.Halt e) np nc r lines = refl
+lines-stay (event.Send e message) np nc r lines = refl
+lines-stay (event.Arrive e bytes) np nc r lines = refl
+lines-stay (event.Expire e) np nc r lines = refl
+lines-stay (event.Take e) np nc r lines = refl
+
+pub no-frames : (e : End) (lines : Between) → frames_of e lines ≡ [] → with_frames e [] lines ≡ lines
+no-frames A lines none = λ i. record { a = sym none i; b = lines.b }
+no-frames B lines none = λ i. record { a = lines.a; b = sym none i }
+
+-- a poll came, whose frame went on the line of its end
+pub poll-comes-a : (e : End) → e ≡ A → (p q : PairState) (lines : Between) (fa fb after : List (List ℕ)) (before now : Output) → record { a = fa; b = fb } ≡ lines
+    → q ≡ after_event (event.Poll e) p → after ≡ frames_after (reply_to (event.Poll e) p) fa → HandsOver before now (reply_text (name_of e) (reply_to (event.Poll e) p))
+    → Comes (outcome_of_event (event.Poll e) (scene_of p lines)) (scene_of p lines) (scene_of q (record { a = after; b = fb })) before now
+poll-comes-a B is p q lines fa fb after before now v eq f t = absurd (cc)
+poll-comes-a A is p q lines fa fb after before now v eq f t =
+    comes-event (event.Poll A) p q lines (record { a = after; b = fb }) before now eq (λ i. record { a = (f ∙ ap (λ (l : Between). frames_after (reply_to (event.Poll A) p) l.a) v) i; b = ap (λ (l : Between). l.b) v i }) t
+
+pub poll-comes-b : (e : End) → e ≡ B → (p q : PairState) (lines : Between) (fa fb after : List (List ℕ)) (before now : Output) → record { a = fa; b = fb } ≡ lines
+    → q ≡ after_event (event.Poll e) p → after ≡ frames_after (reply_to (event.Poll e) p) fb → HandsOver before now (reply_text (name_of e) (reply_to (event.Poll e) p))
+    → Comes (outcome_of_event (event.Poll e) (scene_of p lines)) (scene_of p lines) (scene_of q (record { a = fa; b = after })) before now
+poll-comes-b A is p q lines fa fb after before now v eq f t = absurd (cc)
+poll-comes-b B is p q lines fa fb after before now v eq f t =
+    comes-event (event.Poll B) p q lines (record { a = fa; b = after }) before now eq (λ i. record { a = ap (λ (l : Between). l.a) v i; b = (f ∙ ap (λ (l : Between). frames_after (reply_to (event.Poll B) p) l.b) v) i }) t
+
 -- nothing happened to the ends
 pub comes-between : (o : Outcome) (p : PairState) (lines after : Between) (before now : Output) → o.events ≡ [] → after ≡ o.lines → HandsOver before now o.text
     → Comes o (scene_of p lines) (scene_of p after) before now
@@ -67,6 +100,24 @@ comes-between o p lines after before now e l t = record {
   scene = λ i. record { pair = (sym (run-none p) ∙ ap (λ es. run es p) (sym e)) i; lines = l i };
   text = t;
 }
+
+-- a frame was lost, or there was none
+pub lose-comes : (from : End) (front : List ℕ) (frames : List (List ℕ)) (p : PairState) (lines after : Between) (before now : Output) → first_message frames ≡ Some front → after ≡ with_frames from (drop 1 frames) lines
+    → HandsOver before now (counted_line (name_of from) (codes "lost ") (length front)) → Comes (outcome_of_lose from frames (scene_of p lines)) (scene_of p lines) (scene_of p after) before now
+lose-comes from front [] p lines after before now e l t = let bad : ◌≡◌ {A = Option (List ℕ)} None (Some front) = e in cc
+lose-comes from front (f ∷ later) p lines after before now e l t =
+    let same : front ≡ f = cc in
+    comes-between (outcome_of_lose from (f ∷ later) (scene_of p lines)) p lines after before now refl l (sends-as (ap (λ x. counted_line (name_of from) (codes "lost ") (length x)) same) t)
+
+pub lose-nothing : (from : End) (frames : List (List ℕ)) (p : PairState) (lines after : Between) (before now : Output) → first_message frames ≡ None → after ≡ with_frames from (drop 1 frames) lines
+    → HandsOver before now (name_of from ++ codes "empty\n") → Comes (outcome_of_lose from frames (scene_of p lines)) (scene_of p lines) (scene_of p after) before now
+lose-nothing from [] p lines after before now e l t =
+    comes-between (outcome_of_lose from [] (scene_of p lines)) p lines after before now refl l t
+lose-nothing from (f ∷ later) p lines after before now e l t = let bad : ◌≡◌ {A = Option (List ℕ)} (Some f) None = e in cc
+
+pub front-none : (o : Option (Bor (List ℕ))) (frames : List (List ℕ)) → MatchOption o (frames ≡ []) (λ front. frames ≡ front.now ∷ drop 1 frames) → ((x : Bor (List ℕ)) → o ≡ Some x → ⊥) → frames ≡ []
+front-none None frames m n = m
+front-none (Some x) frames m n = absurd (n x refl)
 
 -- nothing was handed over
 pub outputs-same : {W : Type 0} (broken : W → Bool) (contents : W → Option (List ℕ)) (w v : W) (page later : List ℕ) → later ≡ page → v ≡ w → HandsOver (output_of broken contents w page) (output_of broken contents v later) []
@@ -112,6 +163,38 @@ module _ (command : Command) (s t : Scene) (before after : Output) (d : Bool) (l
   ends-by (Ok u) ok err = ends-well (ok refl)
   ends-by (Err m) ok err = ends-stopped err.0 err.1
 
+-- memory was refused for an event, or for one of several
+refused-alone : {W : Type 0} (events : List Event) (broken : W → Bool) (contents : W → Option (List ℕ)) (p q : PairState) (w v : W) (page later : List ℕ) → (q ≡ p) × (later ≡ page) × (v ≡ w)
+    → StoppedAmong events p q × HandsOver (output_of broken contents w page) (output_of broken contents v later) []
+refused-alone events broken contents p q w v page later e = (
+  subst (StoppedAmong events p) (sym e.0) (stopped-none events p),
+  outputs-same broken contents w v page later e.1 e.2,
+)
+
+refused-among : {W : Type 0} (events : List Event) (broken : W → Bool) (contents : W → Option (List ℕ)) (p q : PairState) (w v : W) (page later : List ℕ) → StoppedAmong events p q × (later ≡ page) × (v ≡ w)
+    → StoppedAmong events p q × HandsOver (output_of broken contents w page) (output_of broken contents v later) []
+refused-among events broken contents p q w v page later e =
+    (e.0, outputs-same broken contents w v page later e.1 e.2)
+
+pub refused-by : {W E : Type 0} (r : Result (Unit {0}) E) (events : List Event) (broken : W → Bool) (contents : W → Option (List ℕ)) (p q : PairState) (w v : W) (page later : List ℕ) → OnErr r ((q ≡ p) × (later ≡ page) × (v ≡ w))
+    → OnErr r (StoppedAmong events p q × HandsOver (output_of broken contents w page) (output_of broken contents v later) [])
+refused-by (Ok u) events broken contents p q w v page later h = tt
+refused-by (Err e) events broken contents p q w v page later h = refused-alone events broken contents p q w v page later h
+
+pub refused-in : {W E : Type 0} (r : Result (Unit {0}) E) (events : List Event) (broken : W → Bool) (contents : W → Option (List ℕ)) (p q : PairState) (w v : W) (page later : List ℕ) → OnErr r (StoppedAmong events p q × (later ≡ page) × (v ≡ w))
+    → OnErr r (StoppedAmong events p q × HandsOver (output_of broken contents w page) (output_of broken contents v later) [])
+refused-in (Ok u) events broken contents p q w v page later h = tt
+refused-in (Err e) events broken contents p q w v page later h = refused-among events broken contents p q w v page later h
+
+-- bytes have arrived at an end
+pub arrival-comes : (who : End) (words : List ℕ) (to : End) (bytes : List ℕ) (p q : PairState) (lines after : Between) (before now : Output)
+    → q ≡ after_event (event.Arrive to bytes) p → after ≡ lines → HandsOver before now (arrival_text who words to bytes p)
+    → Comes (record { events = event.Arrive to bytes ∷ []; lines = lines; text = arrival_text who words to bytes p }) (scene_of p lines) (scene_of q after) before now
+arrival-comes who words to bytes p q lines after before now e l t = record {
+  scene = λ i. record { pair = (e ∙ sym (run-one (event.Arrive to bytes) p)) i; lines = l i };
+  text = t;
+}
+
 -- ---- each of them
 
 pub happens-is : (ev : Event) (s : Scene) → outcome_of (Happens ev) [] s ≡ outcome_of_event ev s
@@ -129,6 +212,10 @@ damage-is e i x s = refl
 pub settle-is : (s : Scene) → outcome_of Settle [] s ≡ outcome_of_settle s
 unfolding outcome_of
 settle-is s = refl
+
+pub recover-is : (s : Scene) → outcome_of Recover [] s ≡ outcome_of_recover s
+unfolding outcome_of
+recover-is s = refl
 
 pub raw-is : (e : End) (bytes : List ℕ) (s : Scene) → outcome_of (Raw e bytes) [] s ≡ record { events = event.Arrive e bytes ∷ []; lines = s.lines; text = arrival_text e (codes "got ") e bytes s.pair }
 unfolding outcome_of
@@ -154,6 +241,10 @@ module _ (s : Scene) where
   pub none-settle : carriages_of Settle [] s ≡ []
   unfolding carriages_of
   none-settle = refl
+
+  pub none-recover : carriages_of Recover [] s ≡ []
+  unfolding carriages_of
+  none-recover = refl
 
   pub none-raw : (e : End) (bytes : List ℕ) → carriages_of (Raw e bytes) [] s ≡ []
   unfolding carriages_of

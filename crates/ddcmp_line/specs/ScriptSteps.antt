@@ -1,5 +1,5 @@
 -- What became of one line of a script, as the code does it.
-use Rattle.std.specs.Prelude.{◌≡◌, ◌⊎◌, ℕ, Bool, true, false, List, [], Option, Result, Ok, Err, ⊤}
+use Rattle.std.specs.Prelude.{◌≡◌, ◌⊎◌, ℕ, Bool, true, List, [], Option, Result, Ok, Err}
 use Rattle.ddcmp_frame.specs.Device.{Logs}
 use Rattle.ddcmp_frame.specs.Written.{Output, HandsOver}
 use Rattle.ddcmp_run.specs.declared.event.End.{End}

@@ -4,9 +4,10 @@ ghost use Rattle.ddcmp_frame.specs.Device.{Logs};
 ghost use Rattle.ddcmp_frame.specs.Written.{HandsOver, output_of};
 ghost use Rattle.ddcmp_run.specs.Run.{PairState, at, end_of, after_event, reply_to, run};
 ghost use Rattle.ddcmp_run.specs.Settle.{other, settling, StoppedAmong};
+ghost use Rattle.ddcmp_run.specs.Recovery.{recovering};
 ghost use Rattle.ddcmp_line.specs.ScriptWords.{reading_of};
-ghost use Rattle.ddcmp_line.specs.ScriptText.{name_of, reply_text};
-ghost use Rattle.ddcmp_line.specs.Script.{Between, lines_after, nothing_between, frames_after, frames_of, with_frames, part_of, outcome_of, outcome_of_event, outcome_of_carry, outcome_of_lose, outcome_of_damage, outcome_of_settle, arrival_text, after_outcome, events_by, HasCarried};
+ghost use Rattle.ddcmp_line.specs.ScriptText.{name_of, name_before, reply_text};
+ghost use Rattle.ddcmp_line.specs.Script.{Between, lines_after, nothing_between, frames_after, frames_of, with_frames, part_of, outcome_of, outcome_of_event, outcome_of_carry, outcome_of_lose, outcome_of_damage, outcome_of_settle, outcome_of_recover, arrival_text, after_outcome, events_by, HasCarried};
 ghost use Rattle.ddcmp_line.specs.ScriptSteps.{scene_of, stopped_of, Comes, Carries, LineEnds};
 ghost use Rattle.ddcmp_line.specs.declared.command.Reading.{Reading as ReadingValue};
 ghost use Rattle.ddcmp_run.specs.declared.event.Event.TheVariants as event_value;
@@ -16,7 +17,8 @@ use crate::carrier::Carrier;
 use crate::command::{Command, Reading, read_line};
 use crate::frame_lines::{FrameLeft, FrameLines};
 use crate::reply_text::{
-    damage_name, end_name, write_bytes, write_counted, write_plain, write_recovered, write_reply,
+    answerer_name, damage_name, end_name, write_bytes, write_counted, write_plain, write_recovered,
+    write_reply,
     write_settled, write_station,
 };
 use ddcmp_frame::{Page, Sink};
@@ -104,7 +106,15 @@ impl Stage {
     }
 
     /// An end writes its next frame.
-    fn poll<W: Sink>(&mut self, pair: &mut Pair, writer: &mut W, end: End) -> Result<(), Memory> {
+    fn poll<W: Sink>(&mut self, pair: &mut Pair, writer: &mut W, end: End) -> Result<(), Memory>
+        ensures comes { IsOk result
+            → Comes (outcome_of_event (event_value.Poll end) (scene_of pair.old self.old.lines))
+            (scene_of pair.old self.old.lines) (scene_of pair.new self.new.lines)
+            (output_of W.broken W.contents writer.old self.old.page)
+            (output_of W.broken W.contents writer.new self.new.page) }
+        ensures memory { OnErr result ((pair.new ≡ pair.old)
+            × (self.new.page ≡ self.old.page) × (writer.new ≡ writer.old)) }
+    {
         match end {
             End::A => poll(pair, &mut self.lines.a, &mut self.page, writer, end),
             End::B => poll(pair, &mut self.lines.b, &mut self.page, writer, end),
@@ -112,23 +122,35 @@ impl Stage {
     }
 
     /// The line is cleared, and where it is both lines are emptied.
-    fn clear<W: Sink>(&mut self, pair: &mut Pair, writer: &mut W) -> Result<(), Memory> {
+    fn clear<W: Sink>(&mut self, pair: &mut Pair, writer: &mut W) -> Result<(), Memory>
+        ensures comes { IsOk result
+            → Comes (outcome_of_event event_value.Clear (scene_of pair.old self.old.lines))
+            (scene_of pair.old self.old.lines) (scene_of pair.new self.new.lines)
+            (output_of W.broken W.contents writer.old self.old.page)
+            (output_of W.broken W.contents writer.new self.new.page) }
+        ensures memory { OnErr result ((pair.new ≡ pair.old)
+            × (self.new.page ≡ self.old.page) × (writer.new ≡ writer.old)) }
+    {
         let reply = pair.step(Event::Clear)?;
         write_reply(&mut self.page, writer, b"", &reply);
         self.lines.clear_after(&reply);
         Ok(())
     }
 
-    /// An event happens that writes and clears nothing.
-    fn tell<W: Sink>(
-        &mut self,
-        pair: &mut Pair,
-        writer: &mut W,
-        end: End,
-        event: Event,
-    ) -> Result<(), Memory> {
+    /// An event happens that puts no frame on a line and takes none off.
+    fn tell<W: Sink>(&mut self, pair: &mut Pair, writer: &mut W, event: Event) -> Result<(), Memory>
+        ensures pair { IsOk result → pair.new ≡ after_event event pair.old }
+        ensures lines { self.new.lines ≡ self.old.lines }
+        ensures text { IsOk result
+            → HandsOver (output_of W.broken W.contents writer.old self.old.page)
+            (output_of W.broken W.contents writer.new self.new.page)
+            (reply_text (name_before (end_of event)) (reply_to event pair.old)) }
+        ensures memory { OnErr result ((pair.new ≡ pair.old)
+            × (self.new.page ≡ self.old.page) × (writer.new ≡ writer.old)) }
+    {
+        let who = answerer_name(event.end());
         let reply = pair.step(event)?;
-        write_reply(&mut self.page, writer, end_name(end), &reply);
+        write_reply(&mut self.page, writer, who, &reply);
         Ok(())
     }
 
@@ -138,16 +160,19 @@ impl Stage {
         pair: &mut Pair,
         writer: &mut W,
         event: Event,
-    ) -> Result<(), Memory> {
+    ) -> Result<(), Memory>
+        ensures comes { IsOk result
+            → Comes (outcome_of_event event (scene_of pair.old self.old.lines))
+            (scene_of pair.old self.old.lines) (scene_of pair.new self.new.lines)
+            (output_of W.broken W.contents writer.old self.old.page)
+            (output_of W.broken W.contents writer.new self.new.page) }
+        ensures memory { OnErr result ((pair.new ≡ pair.old)
+            × (self.new.page ≡ self.old.page) × (writer.new ≡ writer.old)) }
+    {
         match event {
             Event::Poll(end) => self.poll(pair, writer, end),
             Event::Clear => self.clear(pair, writer),
-            Event::Start(end) => self.tell(pair, writer, end, Event::Start(end)),
-            Event::Halt(end) => self.tell(pair, writer, end, Event::Halt(end)),
-            Event::Expire(end) => self.tell(pair, writer, end, Event::Expire(end)),
-            Event::Take(end) => self.tell(pair, writer, end, Event::Take(end)),
-            Event::Send(end, bytes) => self.tell(pair, writer, end, Event::Send(end, bytes)),
-            Event::Arrive(end, bytes) => self.tell(pair, writer, end, Event::Arrive(end, bytes)),
+            event => self.tell(pair, writer, event),
         }
     }
 
@@ -163,8 +188,12 @@ impl Stage {
     ) -> Result<(), Memory>
         ensures pair { IsOk result → pair.new ≡ after_event (event_value.Arrive to bytes) pair.old }
         ensures lines { self.new.lines ≡ self.old.lines }
-        ensures text { IsOk result → HandsOver (output_of W.broken W.contents writer.old self.old.page)
-            (output_of W.broken W.contents writer.new self.new.page) (arrival_text who words.now to bytes pair.old) }
+        ensures text { IsOk result
+            → HandsOver (output_of W.broken W.contents writer.old self.old.page)
+            (output_of W.broken W.contents writer.new self.new.page)
+            (arrival_text who words.now to bytes pair.old) }
+        ensures memory { OnErr result ((pair.new ≡ pair.old)
+            × (self.new.page ≡ self.old.page) × (writer.new ≡ writer.old)) }
     {
         let length = bytes.as_slice().len();
         let reply = pair.step(Event::Arrive(to, bytes))?;
@@ -187,6 +216,11 @@ impl Stage {
         ensures one { result ≡ Err Stop.Carrier → (W.broken writer.new ≡ false)
             × (self.new.page ≡ []) }
         ensures carrier { (result ≡ Err Stop.Carrier) ↔ IsTrue (C.broken carrier.new) }
+        ensures ends { LineEnds (C.direct carrier.old) (C.told carrier.old) (C.told carrier.new)
+            (Reading.Asks (Command.Carry from most)) (scene_of pair.old self.old.lines)
+            (scene_of pair.new self.new.lines)
+            (output_of W.broken W.contents writer.old self.old.page)
+            (output_of W.broken W.contents writer.new self.new.page) result }
         ensures direct { C.direct carrier.new ≡ C.direct carrier.old }
     {
         let Some(front) = self.lines.front(from) else {
@@ -217,7 +251,12 @@ impl Stage {
     }
 
     /// The front of an end's line is dropped.
-    fn lose<W: Sink>(&mut self, writer: &mut W, from: End) {
+    fn lose<W: Sink>(&mut self, writer: &mut W, from: End)
+        ensures { (p : PairState) → Comes (outcome_of_lose from (frames_of from self.old.lines)
+            (scene_of p self.old.lines)) (scene_of p self.old.lines) (scene_of p self.new.lines)
+            (output_of W.broken W.contents writer.old self.old.page)
+            (output_of W.broken W.contents writer.new self.new.page) }
+    {
         match self.lines.pop(from) {
             Some(front) => {
                 let length = front.as_slice().len() as u64;
@@ -228,7 +267,13 @@ impl Stage {
     }
 
     /// A byte of the front of an end's line is changed.
-    fn damage<W: Sink>(&mut self, writer: &mut W, from: End, at: u32, by: u8) {
+    fn damage<W: Sink>(&mut self, writer: &mut W, from: End, at: u32, by: u8)
+        ensures { (p : PairState) → Comes (outcome_of_damage from at by
+            (frames_of from self.old.lines) (scene_of p self.old.lines))
+            (scene_of p self.old.lines) (scene_of p self.new.lines)
+            (output_of W.broken W.contents writer.old self.old.page)
+            (output_of W.broken W.contents writer.new self.new.page) }
+    {
         let is_empty = self.lines.is_empty(from);
         let is_there = self.lines.change_front(from, at as usize, by);
         write_plain(
@@ -240,7 +285,14 @@ impl Stage {
     }
 
     /// All frames on both lines are lost, and then both ends settle.
-    fn settle<W: Sink>(&mut self, pair: &mut Pair, writer: &mut W) -> Result<(), Memory> {
+    fn settle<W: Sink>(&mut self, pair: &mut Pair, writer: &mut W) -> Result<(), Memory>
+        ensures comes { IsOk result → Comes (outcome_of_settle (scene_of pair.old self.old.lines))
+            (scene_of pair.old self.old.lines) (scene_of pair.new self.new.lines)
+            (output_of W.broken W.contents writer.old self.old.page)
+            (output_of W.broken W.contents writer.new self.new.page) }
+        ensures memory { OnErr result (StoppedAmong (settling pair.old).events pair.old pair.new
+            × (self.new.page ≡ self.old.page) × (writer.new ≡ writer.old)) }
+    {
         let settled = pair.settle()?;
         self.lines.clear();
         write_settled(&mut self.page, writer, settled.exchanges, settled.quiet);
@@ -248,7 +300,14 @@ impl Stage {
     }
 
     /// All frames on both lines are lost, and then the line recovers.
-    fn recover<W: Sink>(&mut self, pair: &mut Pair, writer: &mut W) -> Result<(), Memory> {
+    fn recover<W: Sink>(&mut self, pair: &mut Pair, writer: &mut W) -> Result<(), Memory>
+        ensures comes { IsOk result → Comes (outcome_of_recover (scene_of pair.old self.old.lines))
+            (scene_of pair.old self.old.lines) (scene_of pair.new self.new.lines)
+            (output_of W.broken W.contents writer.old self.old.page)
+            (output_of W.broken W.contents writer.new self.new.page) }
+        ensures memory { OnErr result (StoppedAmong (recovering pair.old).events pair.old pair.new
+            × (self.new.page ≡ self.old.page) × (writer.new ≡ writer.old)) }
+    {
         let recovered = pair.recover()?;
         self.lines.clear();
         write_recovered(&mut self.page, writer, &recovered.exchanges, pair.done());
@@ -268,6 +327,11 @@ impl Stage {
         ensures one { result ≡ Err Stop.Carrier → (W.broken writer.new ≡ false)
             × (self.new.page ≡ []) }
         ensures carrier { (result ≡ Err Stop.Carrier) ↔ IsTrue (C.broken carrier.new) }
+        ensures ends { LineEnds (C.direct carrier.old) (C.told carrier.old) (C.told carrier.new)
+            (Reading.Asks command) (scene_of pair.old self.old.lines)
+            (scene_of pair.new self.new.lines)
+            (output_of W.broken W.contents writer.old self.old.page)
+            (output_of W.broken W.contents writer.new self.new.page) result }
         ensures direct { C.direct carrier.new ≡ C.direct carrier.old }
     {
         match command {
@@ -304,6 +368,11 @@ impl Stage {
         ensures one { result ≡ Err Stop.Carrier → (W.broken writer.new ≡ false)
             × (self.new.page ≡ []) }
         ensures carrier { (result ≡ Err Stop.Carrier) ↔ IsTrue (C.broken carrier.new) }
+        ensures ends { LineEnds (C.direct carrier.old) (C.told carrier.old) (C.told carrier.new)
+            (reading_of line.now) (scene_of pair.old self.old.lines)
+            (scene_of pair.new self.new.lines)
+            (output_of W.broken W.contents writer.old self.old.page)
+            (output_of W.broken W.contents writer.new self.new.page) result }
         ensures direct { C.direct carrier.new ≡ C.direct carrier.old }
     {
         match read_line(self.alloc, line) {

@@ -2,7 +2,7 @@
 ghost use Rattle.std.specs.Prelude.{◌≡◌, ◌++◌};
 ghost use Rattle.std.specs.List.{flat_map};
 ghost use Rattle.ddcmp_frame.specs.Written.{HandsOver, output_of};
-ghost use Rattle.ddcmp_line.specs.ScriptText.{name_of, start_refusal_text, clear_refusal_text, send_refusal_text, expired_text, notice_word, notice_number as notice_number_of, notice_line, counted_line, bytes_line, reply_text, state_text, timer_text, numbers_text, station_line, quiet_text, settled_text, done_text, count_text, recovered_text, damage_text};
+ghost use Rattle.ddcmp_line.specs.ScriptText.{name_of, name_before, start_refusal_text, clear_refusal_text, send_refusal_text, expired_text, notice_word, notice_number as notice_number_of, notice_line, counted_line, bytes_line, reply_text, state_text, timer_text, numbers_text, station_line, quiet_text, settled_text, done_text, count_text, recovered_text, damage_text};
 
 use crate::text::{write_hex, write_number};
 use ddcmp_frame::{Page, Sink};
@@ -16,6 +16,16 @@ pub(crate) fn end_name(end: End) -> &'static [u8]
     match end {
         End::A => b"A ",
         End::B => b"B ",
+    }
+}
+
+/// The same; nobody, where both ends are meant.
+pub(crate) fn answerer_name(end: Option<End>) -> &'static [u8]
+    ensures { result.now ≡ name_before end }
+{
+    match end {
+        Some(end) => end_name(end),
+        None => b"",
     }
 }
 

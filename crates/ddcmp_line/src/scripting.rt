@@ -1,13 +1,15 @@
 //! A script: lines that say what happens between two ends.
 ghost use Rattle.std.specs.Prelude.{◌≡◌, ◌≢◌, ◌⊎◌, ◌↔◌, ◌+◌, ◌-◌, ◌<◌, ◌≤◌, ◌^◌, ◌∷◌, ◌++◌, [], false, Bool, List, ℕ, Option, Some, Err, IsOk, OnErr, IsTrue, length};
-ghost use Rattle.std.specs.Io.KnownBytes.{Appends, Consumes, IsAtEnd};
-ghost use Rattle.ddcmp_frame.specs.Written.{AppendsPart, HandsOver, output_of};
+ghost use Rattle.std.specs.Io.KnownBytes.{Appends, Consumes};
+ghost use Rattle.ddcmp_frame.specs.Written.{AppendsPart, HandsOver, Output, output_of};
 ghost use Rattle.ddcmp_run.specs.Run.{PairState};
 ghost use Rattle.ddcmp_run.specs.InOrder.{IsInOrder};
 ghost use Rattle.ddcmp_line.specs.Input.{GaveMost};
-ghost use Rattle.ddcmp_line.specs.ScriptWords.{without_cr as without_cr_of};
+ghost use Rattle.ddcmp_line.specs.ScriptWords.{lines_of, without_cr as without_cr_of};
 ghost use Rattle.ddcmp_line.specs.ScriptText.{yes_or_no as yes_or_no_text, last_line};
-ghost use Rattle.ddcmp_line.specs.Script.{Carriage};
+ghost use Rattle.ddcmp_line.specs.Script.{AllFit, Carriage, nothing_between};
+ghost use Rattle.ddcmp_line.specs.ScriptEnds.{Around, around, Plays};
+ghost use Rattle.ddcmp_line.specs.ScriptProgress.{fresh, Ends, HasDone, IsPlaying, Stops, Takes};
 
 use crate::carrier::Carrier;
 use crate::input::read_within;
@@ -75,6 +77,9 @@ impl Player {
     fn new(alloc: Global) -> Self
         ensures seen { result.seen ≡ 0 }
         ensures number { result.number ≡ 0 }
+        ensures line { result.line.items ≡ [] }
+        ensures lines { result.stage.lines ≡ nothing_between }
+        ensures page { result.stage.page ≡ [] }
     {
         Player {
             stage: Stage::new(alloc),
@@ -101,12 +106,60 @@ impl Player {
             × (self.new.stage.page ≡ []) }
         ensures carrier { (result ≡ Err Stop.Carrier) ↔ IsTrue (C.broken carrier.new) }
         ensures direct { C.direct carrier.new ≡ C.direct carrier.old }
+        ensures takes { (input rest : List ℕ) (p : PairState) (d : Bool)
+            (log : Option (List Carriage)) (start : Output) → C.direct carrier.old ≡ d
+            → HasDone input (10 ∷ rest) self.old.line.items self.old.number self.old.stage.lines
+            start (output_of W.broken W.contents writer.old self.old.stage.page)
+            (around p pair.old d log (C.told carrier.old))
+            → Takes input rest self.new.line.items self.new.number self.new.stage.lines
+            start (output_of W.broken W.contents writer.new self.new.stage.page)
+            (around p pair.new d log (C.told carrier.new)) result }
     {
         let line = without_cr(&self.line);
-        self.stage.do_line(pair, writer, carrier, line)?;
-        self.line.clear();
-        self.number += 1;
-        Ok(())
+        match self.stage.do_line(pair, writer, carrier, line) {
+            Ok(()) => {
+                self.line.clear();
+                self.number += 1;
+                Ok(())
+            }
+            Err(stop) => Err(stop),
+        }
+    }
+
+    /// Takes a byte of the script, and where it is LF does the line that it ends.
+    fn take_byte<W: Sink, C: Carrier>(
+        &mut self,
+        pair: &mut Pair,
+        writer: &mut W,
+        carrier: &mut C,
+        byte: u8,
+    ) -> Result<(), Stop>
+        requires whole { C.broken carrier.old ≡ false }
+        requires few { self.old.number < 2 ^ 64 - 1 }
+        ensures seen { self.new.seen ≡ self.old.seen }
+        ensures number { self.new.number ≤ self.old.number + 1 }
+        ensures refused { OnErr result (self.new.number ≡ self.old.number) }
+        ensures write { result ≡ Err Stop.Write → IsTrue (W.broken writer.new) }
+        ensures one { result ≡ Err Stop.Carrier → (W.broken writer.new ≡ false)
+            × (self.new.stage.page ≡ []) }
+        ensures carrier { (result ≡ Err Stop.Carrier) ↔ IsTrue (C.broken carrier.new) }
+        ensures direct { C.direct carrier.new ≡ C.direct carrier.old }
+        ensures takes { (input rest : List ℕ) (p : PairState) (d : Bool)
+            (log : Option (List Carriage)) (start : Output) → C.direct carrier.old ≡ d
+            → HasDone input (byte ∷ rest) self.old.line.items self.old.number self.old.stage.lines
+            start (output_of W.broken W.contents writer.old self.old.stage.page)
+            (around p pair.old d log (C.told carrier.old))
+            → Takes input rest self.new.line.items self.new.number self.new.stage.lines
+            start (output_of W.broken W.contents writer.new self.new.stage.page)
+            (around p pair.new d log (C.told carrier.new)) result }
+    {
+        if byte == b'\n' {
+            return self.end_line(pair, writer, carrier);
+        }
+        match self.line.push(byte) {
+            Ok(()) => Ok(()),
+            Err(_refused) => Err(Stop::Memory),
+        }
     }
 
     /// Takes a piece of the script, and does the lines that it completes.
@@ -127,13 +180,20 @@ impl Player {
             × (self.new.stage.page ≡ []) }
         ensures carrier { (result ≡ Err Stop.Carrier) ↔ IsTrue (C.broken carrier.new) }
         ensures direct { C.direct carrier.new ≡ C.direct carrier.old }
+        ensures takes { (input rest : List ℕ) (p : PairState) (d : Bool)
+            (log : Option (List Carriage)) (start : Output) → C.direct carrier.old ≡ d
+            → HasDone input (piece.now ++ rest) self.old.line.items self.old.number
+            self.old.stage.lines
+            start (output_of W.broken W.contents writer.old self.old.stage.page)
+            (around p pair.old d log (C.told carrier.old))
+            → Takes input rest self.new.line.items self.new.number self.new.stage.lines
+            start (output_of W.broken W.contents writer.new self.new.stage.page)
+            (around p pair.new d log (C.told carrier.new)) result }
     {
         for i in 0..piece.len() {
-            let byte = piece[i];
-            if byte == b'\n' {
-                self.end_line(pair, writer, carrier)?;
-            } else if self.line.push(byte).is_err() {
-                return Err(Stop::Memory);
+            match self.take_byte(pair, writer, carrier, piece[i]) {
+                Ok(()) => {}
+                Err(stop) => return Err(stop),
             }
         }
         Ok(())
@@ -149,6 +209,11 @@ impl Player {
         ensures read { result ≢ ScriptFault.Read }
         ensures write { (result ≡ ScriptFault.Write) ↔ IsTrue (W.broken writer.new) }
         ensures carrier { (result ≡ ScriptFault.Carrier) ↔ (stop ≡ Stop.Carrier) }
+        ensures plays { (input : List ℕ) (x : Around) (sink : Option (List ℕ))
+            → Stops input self.old.number (fresh sink)
+            (output_of W.broken W.contents writer.old self.old.stage.page) x stop
+            → Plays input x (Appends sink (W.contents writer.new))
+            (AppendsPart sink (W.contents writer.new)) (Err result) }
     {
         if stop == Stop::Carrier {
             return ScriptFault::Carrier;
@@ -165,7 +230,36 @@ impl Player {
         }
     }
 
-    /// Does the last line where LF doesn't end it, and writes what has been done.
+    /// Does the last line, where LF doesn't end it.
+    fn end_input<W: Sink, C: Carrier>(
+        &mut self,
+        pair: &mut Pair,
+        writer: &mut W,
+        carrier: &mut C,
+    ) -> Result<(), Stop>
+        requires whole { C.broken carrier.old ≡ false }
+        ensures seen { self.new.seen ≡ self.old.seen }
+        ensures number { self.new.number ≡ self.old.number }
+        ensures write { result ≡ Err Stop.Write → IsTrue (W.broken writer.new) }
+        ensures one { result ≡ Err Stop.Carrier → (W.broken writer.new ≡ false)
+            × (self.new.stage.page ≡ []) }
+        ensures carrier { (result ≡ Err Stop.Carrier) ↔ IsTrue (C.broken carrier.new) }
+        ensures ends { (input : List ℕ) (p : PairState) (d : Bool)
+            (log : Option (List Carriage)) (start : Output) → C.direct carrier.old ≡ d
+            → HasDone input [] self.old.line.items self.old.number self.old.stage.lines
+            start (output_of W.broken W.contents writer.old self.old.stage.page)
+            (around p pair.old d log (C.told carrier.old))
+            → Ends input self.new.number
+            start (output_of W.broken W.contents writer.new self.new.stage.page)
+            (around p pair.new d log (C.told carrier.new)) result }
+    {
+        if self.line.is_empty() {
+            return Ok(());
+        }
+        self.stage.do_line(pair, writer, carrier, &self.line)
+    }
+
+    /// Does what is left of the input, and writes what has been done.
     fn finish<W: Sink, C: Carrier>(
         &mut self,
         pair: &mut Pair,
@@ -178,12 +272,18 @@ impl Player {
         ensures read { result ≢ Err ScriptFault.Read }
         ensures write { (result ≡ Err ScriptFault.Write) ↔ IsTrue (W.broken writer.new) }
         ensures carrier { (result ≡ Err ScriptFault.Carrier) ↔ IsTrue (C.broken carrier.new) }
+        ensures plays { (input : List ℕ) (p : PairState) (d : Bool)
+            (log : Option (List Carriage)) (sink : Option (List ℕ)) → C.direct carrier.old ≡ d
+            → HasDone input [] self.old.line.items self.old.number self.old.stage.lines
+            (fresh sink) (output_of W.broken W.contents writer.old self.old.stage.page)
+            (around p pair.old d log (C.told carrier.old))
+            → Plays input (around p pair.new d log (C.told carrier.new))
+            (Appends sink (W.contents writer.new))
+            (AppendsPart sink (W.contents writer.new)) result }
     {
-        if !self.line.is_empty() {
-            match self.stage.do_line(pair, writer, carrier, &self.line) {
-                Ok(()) => {}
-                Err(stop) => return Err(self.stop(writer, stop)),
-            }
+        match self.end_input(pair, writer, carrier) {
+            Ok(()) => {}
+            Err(stop) => return Err(self.stop(writer, stop)),
         }
         write_last_line(&mut self.stage.page, writer, pair);
         match self.stage.page.flush(writer) {
@@ -212,6 +312,15 @@ impl Player {
         ensures read_most { self.new.seen ≡ 2 ^ 64 - 1 → result ≡ Err ScriptFault.Read }
         ensures write { (result ≡ Err ScriptFault.Write) ↔ IsTrue (W.broken writer.new) }
         ensures carrier { (result ≡ Err ScriptFault.Carrier) ↔ IsTrue (C.broken carrier.new) }
+        ensures plays { (input : List ℕ) (p : PairState) (d : Bool)
+            (log : Option (List Carriage)) (sink : Option (List ℕ)) → C.direct carrier.old ≡ d
+            → IsPlaying input (R.left reader.old) self.old.line.items self.old.number
+            self.old.stage.lines
+            (fresh sink) (output_of W.broken W.contents writer.old self.old.stage.page)
+            (around p pair.old d log (C.told carrier.old))
+            → Plays input (around p pair.new d log (C.told carrier.new))
+            (Appends sink (W.contents writer.new))
+            (AppendsPart sink (W.contents writer.new)) result }
     {
         let mut piece = [0; PIECE];
         while self.seen < u64::MAX {
@@ -249,6 +358,19 @@ pub fn script<R: Source, W: Sink, C: Carrier>(
     requires fine { R.state reader.old ≡ Worst.Fine }
     requires whole { W.broken writer.old ≡ false }
     requires carrier { C.broken carrier.old ≡ false }
+
+    // Where the input is known: which lines were done, what was written, and what the pair is.
+    ensures told { (input : List ℕ) → R.left reader.old ≡ Some input
+        → Plays input (around pair.old pair.new (C.direct carrier.old)
+        (C.told carrier.old) (C.told carrier.new))
+        (Appends (W.contents writer.old) (W.contents writer.new))
+        (AppendsPart (W.contents writer.old) (W.contents writer.new)) result }
+
+    // Ok exactly where every line is a command or skipped, no device failed and memory was had.
+    ensures ok { (input : List ℕ) → R.left reader.old ≡ Some input
+        → IsOk result ↔ (AllFit (lines_of input) × (result ≢ Err ScriptFault.Read)
+        × (result ≢ Err ScriptFault.Write) × (result ≢ Err ScriptFault.Memory)
+        × (result ≢ Err ScriptFault.Carrier)) }
 
     // Read exactly where the reader isn't fine, or has given 2^64 - 1 bytes.
     ensures read { R.state reader.new ≢ Worst.Fine → result ≡ Err ScriptFault.Read }

@@ -1,4 +1,4 @@
-use Rattle.std.proofs.Common.{sym, arith}
+use Rattle.std.proofs.Common.{arith}
 use Rattle.ddcmp_line.proofs.Cutting.{cut-found, cut-none}
 use Rattle.ddcmp_line.proofs.command.cut.Goals as goal
 

@@ -1,8 +1,5 @@
-use Rattle.std.proofs.Common.{◌==◌, ◌∷◌, Some, ap, sym, ◌∙◌}
-use Rattle.std.specs.List.{slice_split}
-use Rattle.std.specs.Option.{option_map_or}
-use Rattle.ddcmp_line.specs.ScriptWords.{asked_by, words}
-use Rattle.ddcmp_line.proofs.Cutting.{too-many, read-too-many}
+use Rattle.std.proofs.Common.{sym}
+use Rattle.ddcmp_line.proofs.Cutting.{read-too-many}
 use Rattle.ddcmp_line.proofs.command.read_further.Goals as goal
 
 pub returns-then-is_some : goal.returns-then-is_some

@@ -1,7 +1,4 @@
-use Rattle.std.proofs.Common.{◌==◌, ◌∷◌, [], Some, ap, sym, ◌∙◌}
-use Rattle.std.specs.List.{slice_split}
-use Rattle.std.specs.Option.{option_map_or}
-use Rattle.ddcmp_line.specs.ScriptWords.{asked_in, words}
+use Rattle.std.proofs.Common.{sym, ◌∙◌}
 use Rattle.ddcmp_line.proofs.Cutting.{read-one-end}
 use Rattle.ddcmp_line.proofs.command.read_words.Goals as goal
 
