@@ -3,8 +3,8 @@ ghost use Rattle.std.specs.Prelude.{◌≡◌, OnOk, is_err};
 ghost use Rattle.ddcmp_frame.specs.Written.{HandsOver, output_of};
 ghost use Rattle.ddcmp_cli.specs.Serving.{EndsIn, end_text, state_text};
 
-use crate::text::{write_hex, write_number};
 use ddcmp_frame::{Page, Sink, WriteFailed};
+use ddcmp_line::text::{write_hex, write_number};
 use ddcmp_station::{Driven, Notice, State, User};
 
 /// The name of a notice, and a blank where a number follows.
