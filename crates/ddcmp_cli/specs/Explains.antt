@@ -1,5 +1,5 @@
 -- What explain writes and answers.
-use Rattle.std.specs.Prelude.{◌≡◌, ◌⊎◌, ℕ, ◌+◌, ◌-◌, ◌<◌, ◌≤◌, ◌^◌, List, [], ◌∷◌, ◌++◌, length, if◌then◌else◌, is_none, Option, Some, None, Result, Ok, Err, ⊤}
+use Rattle.std.specs.Prelude.{◌≡◌, ◌⊎◌, ℕ, ◌-◌, ◌<◌, ◌^◌, List, [], ◌∷◌, ◌++◌, length, if◌then◌else◌, is_none, Option, Some, None, Result, Ok, Err}
 use Rattle.std.specs.Io.KnownBytes.{Appends, IsAtEnd}
 use Rattle.ddcmp_cli.specs.declared.explain_fault.ExplainFault.{ExplainFault}
 use Rattle.ddcmp_cli.specs.declared.explain_fault.ExplainFault.TheVariants.{Odd, NotHex, Read, Write, Memory}
