@@ -17,7 +17,7 @@ use Rattle.clap.proofs.WalkLemmas.{one_text-rows}
 use Rattle.clap.specs.declared.parser.matches.ArgMatches.{ArgMatches}
 use Rattle.clap.specs.declared.parser.matches.ArgMatches.TheViews.{out-ArgMatches}
 use Rattle.clap.proofs.OnLiterals.{clap_on_literals}
-use Rattle.ddcmp_cli.specs.Words.{program, named_by, name_of, option_in, HasFlag, HasForm, HasNumber, HasSizes, HasOptions, IsAsked}
+use Rattle.ddcmp_cli.specs.Words.{program, named_by, name_of, option_in, HasFlag, HasForm, HasNumber, HasOptions, IsAsked}
 use Rattle.ddcmp_core.specs.Limits.{MAX_COUNT, MAX_WINDOW}
 use Rattle.ddcmp_station.specs.declared.config.Config.{Config}
 use Rattle.ddcmp_station.specs.declared.config.TheConstants.{MAX_INBOX, MAX_SYN}

@@ -1,4 +1,3 @@
-pub mod TextLaws
 pub mod HexValues
 pub mod DigitLaws
 pub mod DecodingLaws

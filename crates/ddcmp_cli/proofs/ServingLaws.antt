@@ -1,5 +1,5 @@
 -- How a served station begins, and what want of memory leaves.
-use Rattle.std.proofs.Common.{◌≡◌, ◌∙◌, ap, sym, subst, ◌⊎◌, inl, inr, Bool, [], if◌then◌else◌, Result, Ok, Err}
+use Rattle.std.proofs.Common.{◌≡◌, ◌∙◌, ap, sym, subst, ◌⊎◌, inl, inr, Bool, [], if◌then◌else◌, Result, Err}
 use Rattle.ddcmp_core.specs.Table.{may_start, after_start}
 use Rattle.ddcmp_frame.specs.Reader.{StandsFor}
 use Rattle.ddcmp_station.specs.declared.config.Config.{Config}

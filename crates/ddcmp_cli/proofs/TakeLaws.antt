@@ -10,7 +10,8 @@ use Rattle.ddcmp_cli.specs.declared.explain_fault.ExplainFault.TheVariants.{Odd,
 use Rattle.ddcmp_cli.specs.declared.explainer.Explainer.{Explainer}
 use Rattle.ddcmp_cli.specs.declared.form.Form.{Form}
 use Rattle.ddcmp_cli.specs.Digits.{unexpected_in, left_in}
-use Rattle.ddcmp_cli.specs.Explains.{refusal, refusal_by, Tells, Explains, GaveMost}
+use Rattle.ddcmp_line.specs.Input.{GaveMost}
+use Rattle.ddcmp_cli.specs.Explains.{refusal, refusal_by, Tells, Explains}
 use Rattle.ddcmp_cli.specs.Progress.{Progress}
 use Rattle.ddcmp_cli.proofs.DigitLaws.{unexpected-stays}
 

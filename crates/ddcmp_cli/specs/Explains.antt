@@ -1,8 +1,6 @@
 -- What explain writes and answers.
-use Rattle.std.specs.Prelude.{◌≡◌, ◌⊎◌, ℕ, ◌+◌, ◌-◌, ◌<◌, ◌≤◌, ◌^◌, List, [], ◌∷◌, ◌++◌, length, if◌then◌else◌, is_none, Option, Some, None, Result, Ok, Err, ⊤}
+use Rattle.std.specs.Prelude.{◌≡◌, ◌⊎◌, ℕ, ◌-◌, ◌<◌, ◌^◌, List, [], ◌∷◌, ◌++◌, length, if◌then◌else◌, is_none, Option, Some, None, Result, Ok, Err}
 use Rattle.std.specs.Io.KnownBytes.{Appends, IsAtEnd}
-use Rattle.ddcmp_frame.specs.declared.device.Got.{Got}
-use Rattle.ddcmp_frame.specs.declared.device.Got.TheVariants.{Bytes, Idle, Failed}
 use Rattle.ddcmp_cli.specs.declared.explain_fault.ExplainFault.{ExplainFault}
 use Rattle.ddcmp_cli.specs.declared.explain_fault.ExplainFault.TheVariants.{Odd, NotHex, Read, Write, Memory}
 use Rattle.ddcmp_cli.specs.declared.form.Form.{Form}
@@ -55,15 +53,3 @@ abbrev pub Explains : Form → ℕ → List ℕ → Known → Known → Known �
 Explains form max input left old new result =
     (seen rest : List ℕ) × (input ≡ seen ++ rest) × (left ≡ Some rest)
     × Tells form max seen (Some rest) old new result
-
--- a read gave no more than so many bytes
-abbrev pub GivesWithin : Got → ℕ → Type 0
-GivesWithin (Bytes n) room = n ≤ room
-GivesWithin Idle room = ⊤
-GivesWithin Failed room = ⊤
-
--- a source gave 2^64 - 1 bytes, where its bytes are known
-abbrev pub GaveMost : Known → Known → Type 0
-GaveMost (Some input) (Some rest) = length input ≡ length rest + (2 ^ 64 - 1)
-GaveMost (Some input) None = ⊤
-GaveMost None left = ⊤

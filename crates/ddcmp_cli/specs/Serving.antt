@@ -1,10 +1,8 @@
 -- What a served station does.
-use Rattle.std.specs.Prelude.{◌≡◌, ⊤, ℕ, Bool, List, [], ◌++◌, codes, decimal, Option, Some, None, Result, Ok, Err}
+use Rattle.std.specs.Prelude.{◌≡◌, ⊤, ℕ, Bool, List, [], ◌++◌, codes, decimal, Option, None, Result, Ok, Err}
 use Rattle.std.specs.Io.KnownBytes.{Appends}
 use Rattle.ddcmp_core.specs.declared.state.State.{State}
-use Rattle.ddcmp_core.specs.declared.state.State.TheVariants.{Halted, IStart, AStart, Running, Maintenance}
 use Rattle.ddcmp_core.specs.Table.{new_station, after_start}
-use Rattle.ddcmp_core.specs.Core.{CoreView}
 use Rattle.ddcmp_frame.specs.declared.device.Got.{Got}
 use Rattle.ddcmp_frame.specs.declared.device.Worst.{Worst}
 use Rattle.ddcmp_frame.specs.Reader.{StandsFor}
@@ -15,6 +13,7 @@ use Rattle.ddcmp_station.specs.declared.driving.LineFault.{LineFault}
 use Rattle.ddcmp_station.specs.Config.{core_made}
 use Rattle.ddcmp_station.specs.Driving.{Devices, Drives}
 use Rattle.ddcmp_station.specs.Station.{StationView}
+use Rattle.ddcmp_line.specs.ScriptText.{state_text}
 use Rattle.ddcmp_cli.specs.declared.serve_fault.ServeFault.{ServeFault}
 use Rattle.ddcmp_cli.specs.declared.serve_fault.ServeFault.TheVariants.{Config as NoStation, Line, Report}
 
@@ -27,13 +26,6 @@ pub record HasStarted (restart : Bool) (v : StationView) : Type 0 where
   pub core : v.core ≡ record (core_made (usual_config restart)) { station = after_start new_station }
   pub syn : v.syn ≡ 0
   pub line : StandsFor v.line []
-
-abbrev pub state_text : State → List ℕ
-state_text Halted = codes "Halted"
-state_text IStart = codes "IStart"
-state_text AStart = codes "AStart"
-state_text Running = codes "Running"
-state_text Maintenance = codes "Maintenance"
 
 -- the last line of a report
 abbrev pub end_text : Driven → State → List ℕ

@@ -113,13 +113,34 @@ fn with_sizes<'a>(
         ))
 }
 
+/// The lines of a script, for a newcomer.
+fn script_help() -> &'static str {
+    "\
+Lines of a script, where E is A or B:
+  start E        the station at E starts
+  halt E         it is halted
+  send E HEX     it is given a message to send, in hexadecimal digits
+  poll E         it is asked for its next frame, which goes on its line
+  pass E         the first frame on its line arrives at the other end
+  cut E N        only the first N bytes of that frame arrive; the rest stays
+  lose E         that frame is lost
+  damage E N XX  byte N of that frame, from 0, is changed by exclusive or with XX
+  raw E HEX      these bytes arrive at E
+  expire E       its timer runs out
+  take E         a message that came is taken
+  clear          the line is cleared, where both ends are halted
+  settle         frames go to and fro until neither end has one
+  state E        its state and numbers are written
+  # TEXT         nothing"
+}
+
 fn simulate_parser<'a>(alloc: Global) -> Result<clap::Command<'a>, AllocError>
     ensures app { IfOk result (λ made. app_of made ≡ simulate_app) }
     ensures local { IfOk result (λ made. (fields_of made).has_globals ≡ false) }
 {
-    let command = clap::Command::new(alloc, "simulate").about(
-        "Runs a script between two stations A and B, read from standard input",
-    );
+    let command = clap::Command::new(alloc, "simulate")
+        .about("Runs a script between two stations A and B, read from standard input")
+        .after_help(script_help());
     with_sizes(alloc, command)
 }
 

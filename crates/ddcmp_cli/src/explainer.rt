@@ -2,15 +2,15 @@
 ghost use Rattle.std.specs.Prelude.{◌≡◌, ◌≢◌, ◌⊎◌, ◌↔◌, ◌+◌, ◌-◌, ◌<◌, ◌≤◌, ◌^◌, ◌++◌, [], false};
 ghost use Rattle.std.specs.Prelude.{Bool, List, ℕ, Option, length, IsTrue};
 ghost use Rattle.std.specs.Io.KnownBytes.{Consumes, IsAtEnd};
-ghost use Rattle.ddcmp_frame.specs.Device.{ReadGives, worse};
 ghost use Rattle.ddcmp_frame.specs.Reader.{StandsFor};
-ghost use Rattle.ddcmp_cli.specs.Explains.{GivesWithin, Tells};
+ghost use Rattle.ddcmp_cli.specs.Explains.{Tells};
 
 use crate::decoder::Decoder;
 use crate::explain_fault::ExplainFault;
 use crate::form::Form;
 use crate::lines::Lines;
 use ddcmp_frame::{Got, Reader, Sink, Source, Worst};
+use ddcmp_line::input::read_within;
 
 /// How many bytes of input are read at once.
 const PIECE: usize = 4096;
@@ -120,21 +120,5 @@ impl Explainer {
             }
         }
         Err(ExplainFault::Read)
-    }
-}
-
-/// Reads once, and no more than `room` bytes.
-fn read_within<R: Source>(reader: &mut R, buf: &mut [u8], room: u64) -> Got
-    requires fine { R.state reader.old ≢ Worst.Failed }
-    requires some { 0 < room }
-    requires buffer { 0 < length buf.old }
-    ensures bytes { ReadGives (R.left reader.old) (R.left reader.new) result buf.new }
-    ensures within { GivesWithin result room }
-    ensures worst { R.state reader.new ≡ worse (R.state reader.old) result }
-{
-    if room < buf.len() as u64 {
-        reader.read(&mut buf[..room as usize])
-    } else {
-        reader.read(buf)
     }
 }

@@ -2,7 +2,8 @@
 ghost use Rattle.std.specs.Prelude.{◌≡◌, ◌≢◌, ◌⊎◌, ◌↔◌, ◌+◌, ◌-◌, ◌<◌, ◌≤◌, ◌^◌, false};
 ghost use Rattle.std.specs.Prelude.{IsOk, IsTrue, List, ℕ, None, Some, length};
 ghost use Rattle.ddcmp_frame.specs.Limits.{MAX_COUNT};
-ghost use Rattle.ddcmp_cli.specs.Explains.{Explains, GaveMost, refusal};
+ghost use Rattle.ddcmp_cli.specs.Explains.{Explains, refusal};
+ghost use Rattle.ddcmp_line.specs.Input.{GaveMost};
 
 use crate::explain_fault::ExplainFault;
 use crate::explainer::Explainer;

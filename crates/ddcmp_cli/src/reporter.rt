@@ -1,49 +1,12 @@
 //! The user of a served station: sends one message, and reports what happens.
 ghost use Rattle.std.specs.Prelude.{◌≡◌, OnOk, is_err};
 ghost use Rattle.ddcmp_frame.specs.Written.{HandsOver, output_of};
-ghost use Rattle.ddcmp_cli.specs.Serving.{EndsIn, end_text, state_text};
+ghost use Rattle.ddcmp_cli.specs.Serving.{EndsIn, end_text};
 
-use crate::text::{write_hex, write_number};
 use ddcmp_frame::{Page, Sink, WriteFailed};
+use ddcmp_line::text::{write_hex, write_number};
+use ddcmp_line::{state_name, write_notice};
 use ddcmp_station::{Driven, Notice, State, User};
-
-/// The name of a notice, and a blank where a number follows.
-fn notice_name(notice: Notice) -> &'static [u8] {
-    match notice {
-        Notice::Running => b"Running",
-        Notice::RunningAndHandedUp => b"RunningAndHandedUp",
-        Notice::Acknowledged(_) => b"Acknowledged ",
-        Notice::HandedUp => b"HandedUp",
-        Notice::HandedUpAndAcknowledged(_) => b"HandedUpAndAcknowledged ",
-        Notice::PeerStarts => b"PeerStarts",
-        Notice::PeerRestarted => b"PeerRestarted",
-        Notice::Restarted(_) => b"Restarted ",
-        Notice::MaintenanceSeen => b"MaintenanceSeen",
-        Notice::MaintenanceHandedUp => b"MaintenanceHandedUp",
-        Notice::MaintenanceDropped => b"MaintenanceDropped",
-    }
-}
-
-fn notice_number(notice: Notice) -> Option<u8> {
-    match notice {
-        Notice::Acknowledged(count)
-        | Notice::HandedUpAndAcknowledged(count)
-        | Notice::Restarted(count) => Some(count),
-        _ => None,
-    }
-}
-
-fn state_name(state: State) -> &'static [u8]
-    ensures { result.now ≡ state_text state }
-{
-    match state {
-        State::Halted => b"Halted",
-        State::IStart => b"IStart",
-        State::AStart => b"AStart",
-        State::Running => b"Running",
-        State::Maintenance => b"Maintenance",
-    }
-}
 
 /// Sends one message as soon as it is asked for one, and writes a line of each notice and of each
 /// message that comes. A line goes out whole, before anything else happens.
@@ -74,12 +37,7 @@ impl<P: Sink> User for Reporter<'_, P> {
     }
 
     fn notice(&mut self, notice: Notice) {
-        self.page.write(self.report, b"notice ");
-        self.page.write(self.report, notice_name(notice));
-        if let Some(number) = notice_number(notice) {
-            write_number(&mut self.page, self.report, number);
-        }
-        self.page.write(self.report, b"\n");
+        write_notice(&mut self.page, self.report, b"", notice);
         let _told_at_the_end = self.page.flush(self.report);
     }
 

@@ -1,13 +1,12 @@
 //! The text of items, handed to a page piece by piece.
-ghost use Rattle.std.specs.Prelude.{◌≡◌, ◌*◌, ◌≤◌, ◌++◌, codes, decimal, length};
+ghost use Rattle.std.specs.Prelude.{◌≡◌, ◌++◌, decimal};
 ghost use Rattle.ddcmp_frame.specs.Written.{HandsOver, output_of};
 ghost use Rattle.ddcmp_cli.specs.Text.{kind_text, flags_text, fields_text, counted_text};
 ghost use Rattle.ddcmp_cli.specs.Text.{header_text, fault_text, item_text, data_text, line_of};
 ghost use Rattle.ddcmp_cli.specs.Text.{totals};
-ghost use Rattle.hex.specs.Hex.{encode_lower};
 
 use ddcmp_frame::{ControlType, Counted, Flags, Header, HeaderFault, Item, Page, Sink};
-use itoa::{Buffer, Integer};
+use ddcmp_line::text::{write_hex, write_number};
 
 fn kind_name(kind: ControlType) -> &'static [u8]
     ensures { result.now ≡ kind_text kind }
@@ -31,15 +30,6 @@ fn flags_name(flags: Flags) -> &'static [u8]
         (true, false) => b" q=1 s=0 resp=",
         (true, true) => b" q=1 s=1 resp=",
     }
-}
-
-/// A number in decimal digits.
-pub(crate) fn write_number<W: Sink, I: Integer>(page: &mut Page, writer: &mut W, number: I)
-    ensures { HandsOver (output_of W.broken W.contents writer.old page.old)
-        (output_of W.broken W.contents writer.new page.new) (I.text number) }
-{
-    let mut buffer = Buffer::new();
-    page.write(writer, buffer.format(number).as_bytes());
 }
 
 fn write_fields<W: Sink>(page: &mut Page, writer: &mut W, flags: Flags, resp: u8, num: u8, addr: u8)
@@ -147,37 +137,6 @@ fn write_item<W: Sink>(page: &mut Page, writer: &mut W, item: &Item)
             page.write(writer, b" format ");
             write_fault(page, writer, fault);
         }
-    }
-}
-
-/// How many bytes of data are put into digits at once.
-const CHUNK: usize = 512;
-
-/// Some bytes in hexadecimal digits.
-fn write_chunk<W: Sink>(page: &mut Page, writer: &mut W, bytes: &[u8])
-    requires { length bytes.now ≤ CHUNK }
-    ensures { HandsOver (output_of W.broken W.contents writer.old page.old)
-        (output_of W.broken W.contents writer.new page.new) (encode_lower bytes.now) }
-{
-    let mut digits = [0; 2 * CHUNK];
-    let length = 2 * bytes.len();
-    match hex::encode_to_slice(bytes, &mut digits[..length]) {
-        Ok(()) => {}
-        Err(_other_length) => unreachable!(),
-    }
-    page.write(writer, &digits[..length]);
-}
-
-/// All bytes in hexadecimal digits.
-pub(crate) fn write_hex<W: Sink>(page: &mut Page, writer: &mut W, bytes: &[u8])
-    ensures { HandsOver (output_of W.broken W.contents writer.old page.old)
-        (output_of W.broken W.contents writer.new page.new) (encode_lower bytes.now) }
-{
-    let mut at = 0;
-    while at < bytes.len() {
-        let end = at + CHUNK.min(bytes.len() - at);
-        write_chunk(page, writer, &bytes[at..end]);
-        at = end;
     }
 }
 

@@ -95,20 +95,21 @@ reply_text who reply.Nothing = who ++ codes "nothing\n"
 reply_text who reply.Cleared = who ++ codes "cleared\n"
 reply_text who (reply.ClearRefused refusal) = who ++ clear_refusal_text refusal
 
+-- the name of a state
 abbrev pub state_text : State → List ℕ
-state_text Halted = codes "Halted R="
-state_text IStart = codes "IStart R="
-state_text AStart = codes "AStart R="
-state_text Running = codes "Running R="
-state_text Maintenance = codes "Maintenance R="
+state_text Halted = codes "Halted"
+state_text IStart = codes "IStart"
+state_text AStart = codes "AStart"
+state_text Running = codes "Running"
+state_text Maintenance = codes "Maintenance"
 
 abbrev pub timer_text : Bool → List ℕ
 timer_text on = if on then codes " timer=on\n" else codes " timer=off\n"
 
 abbrev pub numbers_text : StationState → List ℕ
 numbers_text s =
-    state_text s.state ++ decimal s.r ++ codes " N=" ++ decimal s.n ++ codes " A=" ++ decimal s.a
-    ++ codes " T=" ++ decimal s.t
+    state_text s.state ++ codes " R=" ++ decimal s.r ++ codes " N=" ++ decimal s.n ++ codes " A="
+    ++ decimal s.a ++ codes " T=" ++ decimal s.t
 
 -- the line of a station
 abbrev pub station_line : List ℕ → StationState → List ℕ

@@ -18,5 +18,6 @@ pub use ddcmp_pair::{
     run,
 };
 pub use ddcmp_station::LineFault;
+pub use reply_text::{state_name, write_notice};
 pub use script_fault::ScriptFault;
 pub use scripting::script;

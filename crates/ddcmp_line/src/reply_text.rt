@@ -93,8 +93,8 @@ fn notice_number(notice: Notice) -> Option<u8>
     }
 }
 
-/// The line of a notice at an end.
-fn write_notice<W: Sink>(page: &mut Page, writer: &mut W, who: &[u8], notice: Notice)
+/// The line of a notice, behind the words for who has it.
+pub fn write_notice<W: Sink>(page: &mut Page, writer: &mut W, who: &[u8], notice: Notice)
     ensures { HandsOver (output_of W.broken W.contents writer.old page.old)
         (output_of W.broken W.contents writer.new page.new) (notice_line who.now notice) }
 {
@@ -190,15 +190,16 @@ pub(crate) fn write_reply<W: Sink>(page: &mut Page, writer: &mut W, who: &[u8], 
     }
 }
 
-fn state_name(state: State) -> &'static [u8]
+/// The name of a state.
+pub fn state_name(state: State) -> &'static [u8]
     ensures { result.now ≡ state_text state }
 {
     match state {
-        State::Halted => b"Halted R=",
-        State::IStart => b"IStart R=",
-        State::AStart => b"AStart R=",
-        State::Running => b"Running R=",
-        State::Maintenance => b"Maintenance R=",
+        State::Halted => b"Halted",
+        State::IStart => b"IStart",
+        State::AStart => b"AStart",
+        State::Running => b"Running",
+        State::Maintenance => b"Maintenance",
     }
 }
 
@@ -215,6 +216,7 @@ fn write_numbers<W: Sink>(page: &mut Page, writer: &mut W, station: &Station)
 {
     let numbers = station.numbers();
     page.write(writer, state_name(station.state()));
+    page.write(writer, b" R=");
     write_number(page, writer, numbers.r.0);
     page.write(writer, b" N=");
     write_number(page, writer, numbers.n.0);

@@ -177,6 +177,23 @@ Options:
       --syn <N>     How many SYN bytes go before each frame, 0 to 16; 0 by default
       --restart     An end that runs begins anew where its peer does, if no message waits to be taken
   -h, --help        Print help
+
+Lines of a script, where E is A or B:
+  start E        the station at E starts
+  halt E         it is halted
+  send E HEX     it is given a message to send, in hexadecimal digits
+  poll E         it is asked for its next frame, which goes on its line
+  pass E         the first frame on its line arrives at the other end
+  cut E N        only the first N bytes of that frame arrive; the rest stays
+  lose E         that frame is lost
+  damage E N XX  byte N of that frame, from 0, is changed by exclusive or with XX
+  raw E HEX      these bytes arrive at E
+  expire E       its timer runs out
+  take E         a message that came is taken
+  clear          the line is cleared, where both ends are halted
+  settle         frames go to and fro until neither end has one
+  state E        its state and numbers are written
+  # TEXT         nothing
 ";
 
 #[test]

@@ -1,6 +1,6 @@
 use Rattle.std.proofs.Common.{◌≢◌, ◌⊎◌, [], inl, inr, subst, sym}
 use Rattle.ddcmp_frame.specs.declared.device.Worst.TheVariants.{Fine}
-use Rattle.ddcmp_cli.specs.Explains.{GaveMost}
+use Rattle.ddcmp_line.specs.Input.{GaveMost}
 use Rattle.ddcmp_cli.specs.Progress.{Progress}
 use Rattle.ddcmp_cli.proofs.TakeLaws.{Saw, explains, gave-most, most-fails, ok-exactly}
 use Rattle.ddcmp_cli.proofs.explaining.explain.Goals as goal

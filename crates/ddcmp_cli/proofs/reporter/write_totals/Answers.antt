@@ -1,5 +1,5 @@
 use Rattle.ddcmp_frame.proofs.WrittenLaws.{sends-then}
-use Rattle.ddcmp_cli.proofs.TextLaws.{sends-as}
+use Rattle.ddcmp_line.proofs.TextLaws.{sends-as}
 use Rattle.ddcmp_cli.proofs.reporter.write_totals.Goals as goal
 
 pub returns : goal.returns

@@ -1,5 +1,5 @@
-use Rattle.std.proofs.Common.{rules, ◌≡◌, ◌∙◌, ap, subst, refl, Ok, Err}
-use Rattle.ddcmp_cli.specs.Serving.{Serves, EndsIn, end_text}
+use Rattle.std.proofs.Common.{◌∙◌, ap, subst, refl, Ok, Err}
+use Rattle.ddcmp_cli.specs.Serving.{EndsIn, end_text}
 use Rattle.ddcmp_cli.proofs.ServingLaws.{begun-of, memory-of-drive}
 use Rattle.ddcmp_cli.proofs.serving.serve.Goals as goal
 

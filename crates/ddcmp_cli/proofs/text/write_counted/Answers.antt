@@ -1,7 +1,7 @@
 use Rattle.std.proofs.Common.{ap}
 use Rattle.ddcmp_cli.specs.Text.{counted_text}
 use Rattle.ddcmp_frame.proofs.WrittenLaws.{sends-then}
-use Rattle.ddcmp_cli.proofs.TextLaws.{sends-as}
+use Rattle.ddcmp_line.proofs.TextLaws.{sends-as}
 use Rattle.ddcmp_cli.proofs.text.write_counted.Goals as goal
 
 pub returns : goal.returns

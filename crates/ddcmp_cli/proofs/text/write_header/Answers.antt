@@ -2,7 +2,7 @@ use Rattle.std.proofs.Common.{◌∙◌, ap, sym}
 use Rattle.ddcmp_frame.specs.declared.header.Header.TheVariants.{Control}
 use Rattle.ddcmp_cli.specs.Text.{header_text}
 use Rattle.ddcmp_frame.proofs.WrittenLaws.{sends-then}
-use Rattle.ddcmp_cli.proofs.TextLaws.{sends-as}
+use Rattle.ddcmp_line.proofs.TextLaws.{sends-as}
 use Rattle.ddcmp_cli.proofs.text.write_header.Goals as goal
 
 pub returns-in-Data : goal.returns-in-Data

@@ -3,7 +3,7 @@ use Rattle.std.proofs.lemmas.List.{append-nil}
 use Rattle.ddcmp_frame.specs.Reader.{items_given}
 use Rattle.ddcmp_frame.specs.Reading.{items}
 use Rattle.ddcmp_cli.specs.Text.{line_of}
-use Rattle.ddcmp_cli.proofs.TextLaws.{sends-as, sends-nothing}
+use Rattle.ddcmp_line.proofs.TextLaws.{sends-as, sends-nothing}
 use Rattle.ddcmp_cli.proofs.LinesLaws.{told-more}
 use Rattle.ddcmp_cli.proofs.lines.Lines.push.Goals as goal
 
