@@ -1,4 +1,4 @@
-//! Tests of `ddcmp_station` on bytes from outside.
+//! Tests of `ddcmp_station` on bytes from outside. Worked calls of `drive` are in `worked_stations`.
 #![tactic(auto)]
 
 #[cfg(test)]
@@ -6,12 +6,8 @@ mod calls;
 #[cfg(test)]
 mod devices;
 #[cfg(test)]
-mod drives;
-#[cfg(test)]
-mod faults;
+mod driving;
 #[cfg(test)]
 mod largest;
 #[cfg(test)]
-mod rows;
-#[cfg(test)]
-mod turns;
+mod sizes;

@@ -9,7 +9,7 @@ use std::io;
 /// What goes in: the turns; the read and the write that fail (counted from 1; 0 is none); how many
 /// bytes the sink takes; what the line brings; the clock; the messages of the user.
 #[derive(Clone, Copy)]
-struct Asked<'a> {
+struct Call<'a> {
     turns: u32,
     fails_at: usize,
     breaks_at: usize,
@@ -27,10 +27,10 @@ struct Told<'a> {
     user: Recorder<'a>,
 }
 
-/// The words of a line, in the order of `Asked`.
-fn asked(rest: &str) -> Option<Asked<'_>> {
+/// The words of a line, in the order of `Call`.
+fn call_of(rest: &str) -> Option<Call<'_>> {
     let mut words = rest.split(' ');
-    Some(Asked {
+    Some(Call {
         turns: words.next()?.parse::<u32>().ok()?,
         fails_at: words.next()?.parse::<usize>().ok()?,
         breaks_at: words.next()?.parse::<usize>().ok()?,
@@ -45,18 +45,18 @@ fn asked(rest: &str) -> Option<Asked<'_>> {
 fn drives<'a>(
     alloc: Global,
     station: &mut Station,
-    asked: &Asked<'_>,
+    call: &Call<'_>,
     came: &[&[u8]],
     moments: &[u64],
     offers: &'a [&'a [u8]],
 ) -> Option<Told<'a>> {
-    if station.offset() >= 1_000_000 || asked.most > 64 {
+    if station.offset() >= 1_000_000 || call.most > 64 {
         return None;
     }
-    let mut reader = Pieces::new(came).failing_at(asked.fails_at);
-    let mut writer = Taken::<64>::full_at(asked.most)
+    let mut reader = Pieces::new(came).failing_at(call.fails_at);
+    let mut writer = Taken::<64>::full_at(call.most)
         .at_most(3)
-        .failing_at(asked.breaks_at);
+        .failing_at(call.breaks_at);
     let mut user = Recorder::offering(offers);
     let mut clock = Moments { moments, next: 0 };
     let answer = drive(
@@ -67,7 +67,7 @@ fn drives<'a>(
         &mut user,
         &mut clock,
         1000,
-        asked.turns,
+        call.turns,
     );
     Some(Told {
         answer,
@@ -86,21 +86,21 @@ pub fn perform(rt: &HostRuntime, station: &mut Station, rest: &str) -> io::Resul
 
 fn performed(rt: &HostRuntime, station: &mut Station, rest: &str) -> io::Result<Option<()>> {
     let alloc = rt.alloc();
-    let Some(asked) = asked(rest) else {
+    let Some(call) = call_of(rest) else {
         return Ok(None);
     };
-    let (Some(came), Some(offers)) = (pieces_of(alloc, asked.came), pieces_of(alloc, asked.offers))
+    let (Some(came), Some(offers)) = (pieces_of(alloc, call.came), pieces_of(alloc, call.offers))
     else {
         return Ok(None);
     };
     let (Some(came), Some(offers), Some(moments)) = (
         slices_of(alloc, &came),
         slices_of(alloc, &offers),
-        moments_of(alloc, asked.moments),
+        moments_of(alloc, call.moments),
     ) else {
         return Ok(None);
     };
-    match drives(alloc, station, &asked, &came, &moments, &offers) {
+    match drives(alloc, station, &call, &came, &moments, &offers) {
         Some(told) => {
             tell(rt, &told)?;
             Ok(Some(()))

@@ -1,0 +1,215 @@
+//! Calls of `drive` over memory, of which tests see what came of them.
+ghost use Rattle.std.specs.Prelude.{◌≡◌};
+
+use crate::devices::{Moments, Recorder, Seen};
+use ddcmp_frame::failing::{Pieces, Taken};
+use ddcmp_station::{Config, Driven, LineFault, Notice, State, Station, drive};
+use std::alloc::Global;
+use std::process::Abort;
+
+pub const STRT: [u8; 8] = [0x05, 0x06, 0xC0, 0x00, 0x00, 0x01, 0x75, 0x95];
+
+pub const STACK: [u8; 8] = [0x05, 0x07, 0xC0, 0x00, 0x00, 0x01, 0x48, 0x55];
+/// An idle read.
+pub const SILENCE: &[u8] = &[];
+
+/// The usual sizes.
+pub const USUAL: Config = Config {
+    window: 7,
+    inbox: 8,
+    max: 1500,
+    syn: 0,
+    restart: false,
+};
+
+/// The least sizes.
+const LEAST: Config = Config {
+    window: 1,
+    inbox: 1,
+    max: 1,
+    syn: 0,
+    restart: false,
+};
+
+/// A halted station.
+fn halted(rt: &impl Abort, alloc: Global, config: Config) -> Station {
+    match Station::new(alloc, config) {
+        Ok(station) => station,
+        Err(refusal) => panic!(rt; "{refusal:?}"),
+    }
+}
+
+/// A started station.
+pub fn started(rt: &impl Abort, alloc: Global, config: Config) -> Station {
+    let mut station = halted(rt, alloc, config);
+    assert_eq!(rt; station.start(), Ok(0));
+    station
+}
+
+/// What the line brings, and how many bytes a read at most; what the clock tells; the messages of
+/// the user; and the turns.
+#[derive(Clone, Copy)]
+pub struct Call<'a> {
+    pub came: &'a [&'a [u8]],
+    pub most: usize,
+    pub moments: &'a [u64],
+    pub offers: &'a [&'a [u8]],
+    pub turns: u32,
+}
+
+/// Nothing comes, and there is no turn.
+pub const NOTHING: Call<'static> = Call {
+    came: &[],
+    most: 1000,
+    moments: &[0],
+    offers: &[],
+    turns: 0,
+};
+
+/// What came of a call.
+#[derive(Drop)]
+pub struct Outcome<'a, const N: usize> {
+    pub answer: Result<Driven, LineFault>,
+    pub writer: Taken<N>,
+    pub user: Recorder<'a>,
+    pub clock: Moments<'a>,
+}
+
+/// Makes a call with a timer of 1000 ms.
+pub fn drives<'a, const N: usize>(
+    rt: &impl Abort,
+    alloc: Global,
+    station: &mut Station,
+    call: Call<'a>,
+) -> Outcome<'a, N> {
+    assert!(rt; station.offset() < 1000 && 0 < call.most);
+    let mut reader = Pieces::new(call.came).at_most(call.most);
+    let mut writer = Taken::<N>::new();
+    let mut user = Recorder::offering(call.offers);
+    let mut clock = Moments {
+        moments: call.moments,
+        next: 0,
+    };
+    let answer = drive(
+        alloc,
+        station,
+        &mut reader,
+        &mut writer,
+        &mut user,
+        &mut clock,
+        1000,
+        call.turns,
+    );
+    Outcome {
+        answer,
+        writer,
+        user,
+        clock,
+    }
+}
+
+pub fn driven(turns: u32, read: u64, written: u64) -> Driven {
+    Driven {
+        turns,
+        read,
+        written,
+    }
+}
+
+/// A station that started is answered in one turn.
+const ANSWERED: Call<'static> = Call {
+    came: &[&STACK],
+    turns: 1,
+    ..NOTHING
+};
+
+/// The call had memory.
+fn is_whole(rt: &impl Abort, station: &Station, told: Driven, outcome: &Outcome<'_, 64>) {
+    assert_eq!(rt; told, driven(1, 8, 8));
+    assert_eq!(rt; outcome.writer.bytes(), STRT.as_slice());
+    assert_eq!(rt;
+        outcome.user.seen(),
+        [Seen::Told(Notice::Running)].as_slice()
+    );
+    assert_eq!(rt; station.state(), State::Running);
+}
+
+/// The call did nothing.
+fn is_nothing(rt: &impl Abort, station: &Station, fault: LineFault, outcome: &Outcome<'_, 64>) {
+    assert_eq!(rt; fault, LineFault::Memory);
+    assert!(rt; outcome.writer.bytes().is_empty());
+    assert_eq!(rt; station.state(), State::IStart);
+    assert_eq!(rt; outcome.clock.next, 0);
+}
+
+/// Whether memory is refused to a station or a call: then the station stays as it was.
+fn is_refused(rt: &(impl Abort + AllocGlobal)) -> bool {
+    let Ok(mut station) = Station::new(rt.alloc(), LEAST) else {
+        return true;
+    };
+    assert_eq!(rt; station.start(), Ok(0));
+    is_refused_to_a_call(rt, &mut station)
+}
+
+fn is_refused_to_a_call(rt: &(impl Abort + AllocGlobal), station: &mut Station) -> bool {
+    let before = (station.numbers(), *station.counters());
+    let outcome = drives::<64>(rt, rt.alloc(), station, ANSWERED);
+    match outcome.answer {
+        Ok(told) => {
+            is_whole(rt, station, told, &outcome);
+            false
+        }
+        Err(fault) => {
+            is_nothing(rt, station, fault, &outcome);
+            assert_eq!(rt; (station.numbers(), *station.counters()), before);
+            true
+        }
+    }
+}
+
+/// Run with one allocation refused after another, until the next test passes too.
+#[test]
+fn refused_memory_leaves_a_station(rt: HostRuntime) {
+    let _either = is_refused(&rt);
+}
+
+#[test]
+fn ample_memory_drives(rt: HostRuntime) {
+    assert!(rt; !is_refused(&rt));
+}
+
+/// A call of a halted station finds memory and does nothing.
+fn stays_halted(rt: &(impl Abort + AllocGlobal), max: u16) {
+    let mut station = halted(rt, rt.alloc(), Config { max, ..LEAST });
+    let outcome = drives::<64>(rt, rt.alloc(), &mut station, NOTHING);
+    assert_eq!(rt; outcome.answer, Ok(driven(0, 0, 0)));
+    assert!(rt; outcome.writer.bytes().is_empty() && outcome.user.seen().is_empty());
+    assert!(rt; outcome.user.mail().is_empty());
+    assert_eq!(rt; station.state(), State::Halted);
+}
+
+/// A call of a started station finds memory and sends STRT once.
+fn starts_once(rt: &(impl Abort + AllocGlobal), turns: u32) {
+    let mut station = started(rt, rt.alloc(), USUAL);
+    let call = Call {
+        came: &[SILENCE; 300],
+        turns,
+        ..NOTHING
+    };
+    let outcome = drives::<64>(rt, rt.alloc(), &mut station, call);
+    assert_eq!(rt; outcome.answer, Ok(driven(turns, 0, 8)));
+    assert_eq!(rt; outcome.writer.bytes(), STRT.as_slice());
+    assert!(rt; outcome.user.seen().is_empty() && outcome.user.mail().is_empty());
+    assert_eq!(rt; station.state(), State::IStart);
+}
+
+/// A call finds memory at every size of a message and any number of turns.
+#[test]
+fn calls_of_every_size(rt: HostRuntime) {
+    for max in 1..=16383u16 {
+        stays_halted(&rt, max);
+    }
+    for turns in 1..=300u32 {
+        starts_once(&rt, turns);
+    }
+}
