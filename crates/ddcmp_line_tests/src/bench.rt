@@ -320,23 +320,33 @@ impl Bench {
     /// On an honest line A gave this message so many times, and each was handed up at B and is told
     /// acknowledged; B gave none.
     pub fn has_many(&self, rt: &impl Abort, message: &[u8], times: usize) {
+        self.has_counts(rt, End::A, [times, 0, times]);
+        self.has_counts(rt, End::B, [0, times, 0]);
         assert!(rt; self.pair.honest() && self.pair.clean());
-        assert_eq!(rt;
-            (self.pair.given(End::A), self.pair.given(End::B)),
-            (times, 0)
-        );
-        assert_eq!(rt;
-            (self.pair.handed_up(End::A), self.pair.handed_up(End::B)),
-            (0, times)
-        );
-        assert_eq!(rt; self.pair.acknowledged(End::A), times as u64);
-        assert_eq!(rt; self.pair.acknowledged(End::B), 0);
-        let mut out = [0; LONGEST];
         for i in 0..times {
-            assert!(rt; i < self.pair.given(End::A));
-            assert_eq!(rt; self.pair.given_at(End::A, i), message, "{i}");
-            assert_eq!(rt; self.handed_up_at(rt, End::B, i, &mut out), message, "{i}");
+            self.has_at(rt, i, message);
         }
+    }
+
+    /// So many messages were given, handed up, and told acknowledged at an end.
+    fn has_counts(&self, rt: &impl Abort, end: End, counts: [usize; 3]) {
+        let [given, handed_up, acknowledged] = counts;
+        assert_eq!(rt; self.pair.given(end), given);
+        assert_eq!(rt; self.pair.handed_up(end), handed_up);
+        assert_eq!(rt; self.pair.acknowledged(end), acknowledged as u64);
+    }
+
+    /// Message `i` of A is this one, and so is message `i` of those handed up at B.
+    fn has_at(&self, rt: &impl Abort, i: usize, message: &[u8]) {
+        let mut out = [0; LONGEST];
+        assert_eq!(rt; self.given_at(rt, End::A, i), message, "{i}");
+        assert_eq!(rt; self.handed_up_at(rt, End::B, i, &mut out), message, "{i}");
+    }
+
+    /// Message `i` of those that an end gave.
+    pub fn given_at(&self, rt: &impl Abort, end: End, i: usize) -> &[u8] {
+        assert!(rt; i < self.pair.given(end));
+        self.pair.given_at(end, i)
     }
 
     /// This has been done since the line was cleared.
@@ -357,8 +367,7 @@ impl Bench {
     fn has_given(&self, rt: &impl Abort, end: End, messages: &[&[u8]]) {
         assert_eq!(rt; self.pair.given(end), messages.len(), "{end:?}");
         for (i, message) in messages.iter().enumerate() {
-            assert!(rt; i < self.pair.given(end));
-            assert_eq!(rt; self.pair.given_at(end, i), *message, "{end:?} {i}");
+            assert_eq!(rt; self.given_at(rt, end, i), *message, "{end:?} {i}");
         }
     }
 

@@ -98,7 +98,7 @@ fn pairs_of_many_sizes(rt: HostRuntime) {
 /// A pair of these sizes is refused so, and a run too.
 fn refuses(rt: &(impl Abort + AllocGlobal), first: Config, second: Config, refusal: PairRefusal) {
     assert_eq!(rt; Pair::new(rt.alloc(), first, second).err(), Some(refusal));
-    assert_eq!(rt; refusal_of_run(rt, first, second), refusal);
+    assert_eq!(rt; refusal_of_run(rt.alloc(), first, second), Some(refusal));
 }
 
 /// A run without an event.
@@ -106,12 +106,23 @@ fn runs_nothing(alloc: Global, first: Config, second: Config) -> Result<Pair, Ru
     run(alloc, first, second, &[])
 }
 
-/// The refusal of a run.
-fn refusal_of_run(rt: &(impl Abort + AllocGlobal), first: Config, second: Config) -> PairRefusal {
-    match runs_nothing(rt.alloc(), first, second) {
-        Err(RunRefusal::First(refusal)) => PairRefusal::First(refusal),
-        Err(RunRefusal::Second(refusal)) => PairRefusal::Second(refusal),
-        _ => panic!(rt; "{first:?} and {second:?} are in range"),
+/// The sizes that a run refused.
+fn sizes_of(refused: RunRefusal) -> Option<PairRefusal> {
+    match refused {
+        RunRefusal::First(refusal) => Some(PairRefusal::First(refusal)),
+        RunRefusal::Second(refusal) => Some(PairRefusal::Second(refusal)),
+        RunRefusal::Memory {
+            done: _done,
+            pair: _pair,
+        } => None,
+    }
+}
+
+/// The refusal of a run, for its sizes.
+fn refusal_of_run(alloc: Global, first: Config, second: Config) -> Option<PairRefusal> {
+    match runs_nothing(alloc, first, second) {
+        Ok(_pair) => None,
+        Err(refused) => sizes_of(refused),
     }
 }
 
@@ -149,12 +160,9 @@ pub const ARRIVED: Histories = Histories {
 
 /// A run of these events is done, and then this has been done.
 fn runs(rt: &(impl Abort + AllocGlobal), events: &[Event], histories: &Histories) {
-    match Bench::of_run(rt.alloc(), events) {
-        Ok(bench) => bench.has(rt, histories),
-        Err(RunRefusal::First(refusal)) | Err(RunRefusal::Second(refusal)) => {
-            panic!(rt; "{refusal:?}")
-        }
-        Err(RunRefusal::Memory { done, pair: _pair }) => panic!(rt; "no memory after {done}"),
+    match Bench::of_run(rt.alloc(), events).ok() {
+        Some(bench) => bench.has(rt, histories),
+        None => panic!(rt; "the run is refused"),
     }
 }
 

@@ -282,14 +282,21 @@ fn is_refused_to_a_run(rt: &(impl Abort + AllocGlobal)) -> bool {
             bench.has(rt, &ARRIVED);
             false
         }
-        Err(RunRefusal::First(refusal)) | Err(RunRefusal::Second(refusal)) => {
-            assert_eq!(rt; refusal, ConfigRefusal::Memory);
+        Err(refused) => {
+            is_as_far(rt, refused, path);
             true
         }
-        Err(RunRefusal::Memory { done, pair }) => {
+    }
+}
+
+/// A run without memory was not begun, or is as far as it tells.
+fn is_as_far(rt: &(impl Abort + AllocGlobal), refused: RunRefusal, path: &[Step]) {
+    match refused {
+        RunRefusal::First(refusal) => assert_eq!(rt; refusal, ConfigRefusal::Memory),
+        RunRefusal::Second(refusal) => assert_eq!(rt; refusal, ConfigRefusal::Memory),
+        RunRefusal::Memory { done, pair } => {
             assert!(rt; done < path.len());
             is_after(rt, &pair, &path[..done]);
-            true
         }
     }
 }

@@ -219,8 +219,10 @@ impl Talk {
         let mut out = [0; LONGEST];
         for number in 1..=MESSAGES {
             let i = (number - 1) as usize;
-            assert!(rt; i < pair.given(from) && i < pair.handed_up(from.other()));
-            assert_eq!(rt; pair.given_at(from, i), message(from, number).as_slice());
+            assert_eq!(rt;
+                self.bench.given_at(rt, from, i),
+                message(from, number).as_slice()
+            );
             assert_eq!(rt;
                 self.bench.handed_up_at(rt, from.other(), i, &mut out),
                 message(from, number).as_slice()

@@ -46,65 +46,48 @@ pub fn started(rt: &impl Abort, alloc: Global, config: Config) -> Station {
     station
 }
 
-/// What the line brings, and how many bytes a read at most; what the clock tells; the messages of
-/// the user; and the turns.
-#[derive(Clone, Copy)]
-pub struct Call<'a> {
-    pub came: &'a [&'a [u8]],
-    pub most: usize,
-    pub moments: &'a [u64],
-    pub offers: &'a [&'a [u8]],
-    pub turns: u32,
-}
-
-/// Nothing comes, and there is no turn.
-pub const NOTHING: Call<'static> = Call {
-    came: &[],
-    most: 1000,
-    moments: &[0],
-    offers: &[],
-    turns: 0,
-};
-
-/// What came of a call.
+/// What came of a call, and how often its clock was asked.
 #[derive(Drop)]
 pub struct Outcome<'a, const N: usize> {
     pub answer: Result<Driven, LineFault>,
     pub writer: Taken<N>,
     pub user: Recorder<'a>,
-    pub clock: Moments<'a>,
+    pub moments: usize,
 }
 
-/// Makes a call with a timer of 1000 ms.
+/// Makes a call with a timer of 1000 ms and a clock that stands still. A read brings so many bytes
+/// at most.
 pub fn drives<'a, const N: usize>(
-    rt: &impl Abort,
-    alloc: Global,
+    rt: &(impl Abort + AllocGlobal),
     station: &mut Station,
-    call: Call<'a>,
+    came: &[&[u8]],
+    most: usize,
+    offers: &'a [&'a [u8]],
+    turns: u32,
 ) -> Outcome<'a, N> {
-    assert!(rt; station.offset() < 1000 && 0 < call.most);
-    let mut reader = Pieces::new(call.came).at_most(call.most);
+    assert!(rt; station.offset() < 1000 && 0 < most);
+    let mut reader = Pieces::new(came).at_most(most);
     let mut writer = Taken::<N>::new();
-    let mut user = Recorder::offering(call.offers);
+    let mut user = Recorder::offering(offers);
     let mut clock = Moments {
-        moments: call.moments,
+        moments: &[0],
         next: 0,
     };
     let answer = drive(
-        alloc,
+        rt.alloc(),
         station,
         &mut reader,
         &mut writer,
         &mut user,
         &mut clock,
         1000,
-        call.turns,
+        turns,
     );
     Outcome {
         answer,
         writer,
         user,
-        clock,
+        moments: clock.next,
     }
 }
 
@@ -115,13 +98,6 @@ pub fn driven(turns: u32, read: u64, written: u64) -> Driven {
         written,
     }
 }
-
-/// A station that started is answered in one turn.
-const ANSWERED: Call<'static> = Call {
-    came: &[&STACK],
-    turns: 1,
-    ..NOTHING
-};
 
 /// The call had memory.
 fn is_whole(rt: &impl Abort, station: &Station, told: Driven, outcome: &Outcome<'_, 64>) {
@@ -139,7 +115,7 @@ fn is_nothing(rt: &impl Abort, station: &Station, fault: LineFault, outcome: &Ou
     assert_eq!(rt; fault, LineFault::Memory);
     assert!(rt; outcome.writer.bytes().is_empty());
     assert_eq!(rt; station.state(), State::IStart);
-    assert_eq!(rt; outcome.clock.next, 0);
+    assert_eq!(rt; outcome.moments, 0);
 }
 
 /// Whether memory is refused to a station or a call: then the station stays as it was.
@@ -153,7 +129,7 @@ fn is_refused(rt: &(impl Abort + AllocGlobal)) -> bool {
 
 fn is_refused_to_a_call(rt: &(impl Abort + AllocGlobal), station: &mut Station) -> bool {
     let before = (station.numbers(), *station.counters());
-    let outcome = drives::<64>(rt, rt.alloc(), station, ANSWERED);
+    let outcome = drives::<64>(rt, station, &[&STACK], 256, &[], 1);
     match outcome.answer {
         Ok(told) => {
             is_whole(rt, station, told, &outcome);
@@ -181,7 +157,7 @@ fn ample_memory_drives(rt: HostRuntime) {
 /// A call of a halted station finds memory and does nothing.
 fn stays_halted(rt: &(impl Abort + AllocGlobal), max: u16) {
     let mut station = halted(rt, rt.alloc(), Config { max, ..LEAST });
-    let outcome = drives::<64>(rt, rt.alloc(), &mut station, NOTHING);
+    let outcome = drives::<64>(rt, &mut station, &[], 256, &[], 0);
     assert_eq!(rt; outcome.answer, Ok(driven(0, 0, 0)));
     assert!(rt; outcome.writer.bytes().is_empty() && outcome.user.seen().is_empty());
     assert!(rt; outcome.user.mail().is_empty());
@@ -191,12 +167,7 @@ fn stays_halted(rt: &(impl Abort + AllocGlobal), max: u16) {
 /// A call of a started station finds memory and sends STRT once.
 fn starts_once(rt: &(impl Abort + AllocGlobal), turns: u32) {
     let mut station = started(rt, rt.alloc(), USUAL);
-    let call = Call {
-        came: &[SILENCE; 300],
-        turns,
-        ..NOTHING
-    };
-    let outcome = drives::<64>(rt, rt.alloc(), &mut station, call);
+    let outcome = drives::<64>(rt, &mut station, &[SILENCE; 300], 256, &[], turns);
     assert_eq!(rt; outcome.answer, Ok(driven(turns, 0, 8)));
     assert_eq!(rt; outcome.writer.bytes(), STRT.as_slice());
     assert!(rt; outcome.user.seen().is_empty() && outcome.user.mail().is_empty());

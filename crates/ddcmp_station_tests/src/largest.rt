@@ -2,7 +2,7 @@
 ghost use Rattle.std.specs.Prelude.{◌≡◌};
 
 use crate::devices::Seen;
-use crate::driving::{Call, NOTHING, SILENCE, STACK, STRT, USUAL, driven, drives, started};
+use crate::driving::{SILENCE, STACK, STRT, USUAL, driven, drives, started};
 use ddcmp_station::{Config, Notice, Station};
 use std::alloc::Global;
 use std::process::Abort;
@@ -36,16 +36,10 @@ fn five_thousand_turns(rt: HostRuntime) {
     let fill = [0x96; 5000];
     let pieces: [&[u8]; 1] = [&fill];
     let mut station = started(&rt, rt.alloc(), USUAL);
-    let call = Call {
-        came: &pieces,
-        most: 1,
-        turns: 5000,
-        ..NOTHING
-    };
-    let outcome = drives::<64>(&rt, rt.alloc(), &mut station, call);
+    let outcome = drives::<64>(&rt, &mut station, &pieces, 1, &[], 5000);
     assert_eq!(rt; outcome.answer, Ok(driven(5000, 5000, 8)));
     assert_eq!(rt; outcome.writer.bytes(), STRT.as_slice());
-    assert_eq!(rt; outcome.clock.next, 5000);
+    assert_eq!(rt; outcome.moments, 5000);
 }
 
 /// STRT, the message, and ACK 1 when the message of the peer is whole.
@@ -68,13 +62,7 @@ fn the_longest_message(rt: HostRuntime) {
     let offers: [&[u8]; 1] = [&zeros[..16383]];
     let max = 16383;
     let mut station = started(&rt, rt.alloc(), Config { max, ..USUAL });
-    let call = Call {
-        came: &pieces,
-        offers: &offers,
-        turns: 67,
-        ..NOTHING
-    };
-    let outcome = drives::<20000>(&rt, rt.alloc(), &mut station, call);
+    let outcome = drives::<20000>(&rt, &mut station, &pieces, 256, &offers, 67);
     assert_eq!(rt; outcome.answer, Ok(driven(67, 16401, 16409)));
     is_message_and_answer(&rt, outcome.writer.bytes());
     assert_eq!(rt; outcome.user.seen(), LONGEST_SEEN);
