@@ -1,13 +1,7 @@
-//! Tests of `ddcmp_station` on bytes from outside. Worked calls of `drive` are in `worked_stations`.
+//! Tests of the calls of `ddcmp_station`, but `drive`, on bytes from outside.
 #![tactic(auto)]
 
 #[cfg(test)]
 mod calls;
-#[cfg(test)]
-mod devices;
-#[cfg(test)]
-mod driving;
-#[cfg(test)]
-mod largest;
 #[cfg(test)]
 mod sizes;
