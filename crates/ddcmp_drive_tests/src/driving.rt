@@ -48,27 +48,25 @@ pub fn started(rt: &impl Abort, alloc: Global, config: Config) -> Station {
 
 /// What came of a call, and how often its clock was asked.
 #[derive(Drop)]
-pub struct Outcome<'a, const N: usize> {
+pub struct Outcome<const N: usize> {
     pub answer: Result<Driven, LineFault>,
     pub writer: Taken<N>,
-    pub user: Recorder<'a>,
     pub moments: usize,
 }
 
 /// Makes a call with a timer of 1000 ms and a clock that stands still. A read brings so many bytes
 /// at most.
-pub fn drives<'a, const N: usize>(
+pub fn drives<const N: usize>(
     rt: &(impl Abort + AllocGlobal),
     station: &mut Station,
     came: &[&[u8]],
     most: usize,
-    offers: &'a [&'a [u8]],
+    user: &mut Recorder<'_>,
     turns: u32,
-) -> Outcome<'a, N> {
+) -> Outcome<N> {
     assert!(rt; station.offset() < 1000 && 0 < most);
     let mut reader = Pieces::new(came).at_most(most);
     let mut writer = Taken::<N>::new();
-    let mut user = Recorder::offering(offers);
     let mut clock = Moments {
         moments: &[0],
         next: 0,
@@ -78,7 +76,7 @@ pub fn drives<'a, const N: usize>(
         station,
         &mut reader,
         &mut writer,
-        &mut user,
+        user,
         &mut clock,
         1000,
         turns,
@@ -86,7 +84,6 @@ pub fn drives<'a, const N: usize>(
     Outcome {
         answer,
         writer,
-        user,
         moments: clock.next,
     }
 }
@@ -99,20 +96,19 @@ pub fn driven(turns: u32, read: u64, written: u64) -> Driven {
     }
 }
 
+/// What the user of a station sees that is answered.
+const RUNNING: &[Seen] = &[Seen::Told(Notice::Running)];
+
 /// The call had memory.
-fn is_whole(rt: &impl Abort, station: &Station, told: Driven, outcome: &Outcome<'_, 64>) {
-    assert_eq!(rt; told, driven(1, 8, 8));
+fn is_whole(rt: &impl Abort, station: &Station, outcome: &Outcome<64>) {
+    assert_eq!(rt; outcome.answer, Ok(driven(1, 8, 8)));
     assert_eq!(rt; outcome.writer.bytes(), STRT.as_slice());
-    assert_eq!(rt;
-        outcome.user.seen(),
-        [Seen::Told(Notice::Running)].as_slice()
-    );
     assert_eq!(rt; station.state(), State::Running);
 }
 
 /// The call did nothing.
-fn is_nothing(rt: &impl Abort, station: &Station, fault: LineFault, outcome: &Outcome<'_, 64>) {
-    assert_eq!(rt; fault, LineFault::Memory);
+fn is_nothing(rt: &impl Abort, station: &Station, outcome: &Outcome<64>) {
+    assert_eq!(rt; outcome.answer, Err(LineFault::Memory));
     assert!(rt; outcome.writer.bytes().is_empty());
     assert_eq!(rt; station.state(), State::IStart);
     assert_eq!(rt; outcome.moments, 0);
@@ -129,18 +125,16 @@ fn is_refused(rt: &(impl Abort + AllocGlobal)) -> bool {
 
 fn is_refused_to_a_call(rt: &(impl Abort + AllocGlobal), station: &mut Station) -> bool {
     let before = (station.numbers(), *station.counters());
-    let outcome = drives::<64>(rt, station, &[&STACK], 256, &[], 1);
-    match outcome.answer {
-        Ok(told) => {
-            is_whole(rt, station, told, &outcome);
-            false
-        }
-        Err(fault) => {
-            is_nothing(rt, station, fault, &outcome);
-            assert_eq!(rt; (station.numbers(), *station.counters()), before);
-            true
-        }
+    let mut user = Recorder::offering(&[]);
+    let outcome = drives::<64>(rt, station, &[&STACK], 256, &mut user, 1);
+    if outcome.answer.is_ok() {
+        is_whole(rt, station, &outcome);
+        assert_eq!(rt; user.seen(), RUNNING);
+        return false;
     }
+    is_nothing(rt, station, &outcome);
+    assert_eq!(rt; (station.numbers(), *station.counters()), before);
+    true
 }
 
 /// Run with one allocation refused after another, until the next test passes too.
@@ -157,20 +151,22 @@ fn ample_memory_drives(rt: HostRuntime) {
 /// A call of a halted station finds memory and does nothing.
 fn stays_halted(rt: &(impl Abort + AllocGlobal), max: u16) {
     let mut station = halted(rt, rt.alloc(), Config { max, ..LEAST });
-    let outcome = drives::<64>(rt, &mut station, &[], 256, &[], 0);
+    let mut user = Recorder::offering(&[]);
+    let outcome = drives::<64>(rt, &mut station, &[], 256, &mut user, 0);
     assert_eq!(rt; outcome.answer, Ok(driven(0, 0, 0)));
-    assert!(rt; outcome.writer.bytes().is_empty() && outcome.user.seen().is_empty());
-    assert!(rt; outcome.user.mail().is_empty());
+    assert!(rt; outcome.writer.bytes().is_empty() && user.seen().is_empty());
+    assert!(rt; user.mail().is_empty());
     assert_eq!(rt; station.state(), State::Halted);
 }
 
 /// A call of a started station finds memory and sends STRT once.
 fn starts_once(rt: &(impl Abort + AllocGlobal), turns: u32) {
     let mut station = started(rt, rt.alloc(), USUAL);
-    let outcome = drives::<64>(rt, &mut station, &[SILENCE; 300], 256, &[], turns);
+    let mut user = Recorder::offering(&[]);
+    let outcome = drives::<64>(rt, &mut station, &[SILENCE; 300], 256, &mut user, turns);
     assert_eq!(rt; outcome.answer, Ok(driven(turns, 0, 8)));
     assert_eq!(rt; outcome.writer.bytes(), STRT.as_slice());
-    assert!(rt; outcome.user.seen().is_empty() && outcome.user.mail().is_empty());
+    assert!(rt; user.seen().is_empty() && user.mail().is_empty());
     assert_eq!(rt; station.state(), State::IStart);
 }
 

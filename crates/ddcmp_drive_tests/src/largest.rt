@@ -1,7 +1,7 @@
 //! Stations of the largest sizes, a message of the most bytes, and many turns.
 ghost use Rattle.std.specs.Prelude.{◌≡◌};
 
-use crate::devices::Seen;
+use crate::devices::{Recorder, Seen};
 use crate::driving::{SILENCE, STACK, STRT, USUAL, driven, drives, started};
 use ddcmp_station::{Config, Notice, Station};
 use std::alloc::Global;
@@ -36,7 +36,8 @@ fn five_thousand_turns(rt: HostRuntime) {
     let fill = [0x96; 5000];
     let pieces: [&[u8]; 1] = [&fill];
     let mut station = started(&rt, rt.alloc(), USUAL);
-    let outcome = drives::<64>(&rt, &mut station, &pieces, 1, &[], 5000);
+    let mut user = Recorder::offering(&[]);
+    let outcome = drives::<64>(&rt, &mut station, &pieces, 1, &mut user, 5000);
     assert_eq!(rt; outcome.answer, Ok(driven(5000, 5000, 8)));
     assert_eq!(rt; outcome.writer.bytes(), STRT.as_slice());
     assert_eq!(rt; outcome.moments, 5000);
@@ -62,10 +63,11 @@ fn the_longest_message(rt: HostRuntime) {
     let offers: [&[u8]; 1] = [&zeros[..16383]];
     let max = 16383;
     let mut station = started(&rt, rt.alloc(), Config { max, ..USUAL });
-    let outcome = drives::<20000>(&rt, &mut station, &pieces, 256, &offers, 67);
+    let mut user = Recorder::offering(&offers);
+    let outcome = drives::<20000>(&rt, &mut station, &pieces, 256, &mut user, 67);
     assert_eq!(rt; outcome.answer, Ok(driven(67, 16401, 16409)));
     is_message_and_answer(&rt, outcome.writer.bytes());
-    assert_eq!(rt; outcome.user.seen(), LONGEST_SEEN);
+    assert_eq!(rt; user.seen(), LONGEST_SEEN);
 }
 
 /// A station of the largest sizes.

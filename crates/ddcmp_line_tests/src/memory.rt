@@ -213,19 +213,37 @@ const ROUND: &[Step] = &[
     (Action::Poll(End::B), Answer::Idle),
 ];
 
+/// Whether a pair tells this.
+fn is_told(pair: &Pair, seen: &Told) -> bool {
+    tells(pair) == *seen
+}
+
+/// Whether a pair tells this before one of these steps, which it does until then.
+fn is_before(
+    rt: &(impl Abort + AllocGlobal),
+    bench: &mut Bench,
+    steps: &[Step],
+    seen: &Told,
+) -> bool {
+    for step in steps {
+        if is_told(&bench.pair, seen) {
+            return true;
+        }
+        bench.plays(rt, &[*step]);
+    }
+    false
+}
+
 /// Whether a pair that was to do these steps tells this between two of them.
 fn is_among(rt: &(impl Abort + AllocGlobal), parts: &[&[Step]], seen: &Told) -> bool {
     let mut bench = Bench::running(rt, USUAL);
     bench.plays(rt, TO_SETTLE);
     for steps in parts {
-        for step in *steps {
-            if tells(&bench.pair) == *seen {
-                return true;
-            }
-            bench.plays(rt, &[*step]);
+        if is_before(rt, &mut bench, steps, seen) {
+            return true;
         }
     }
-    tells(&bench.pair) == *seen
+    is_told(&bench.pair, seen)
 }
 
 /// Whether memory is refused on the path of one message.
