@@ -2,8 +2,8 @@
 //! the end.
 ghost use Rattle.std.specs.Prelude.{◌≤◌};
 
-use ddcmp_line::laws::runs;
-use ddcmp_line::{
+use ddcmp_pair::laws::runs;
+use ddcmp_pair::{
     Bytes, Config, End, Event, Memory, Notice, Pair, Recovered, Reply, RunRefusal, SendRefusal,
     Seq, Settled, StartRefusal, State, Station, run,
 };
@@ -26,10 +26,6 @@ pub const DATA_1: &[u8] = &[
 /// Data message 2, `abc`, with RESP 0.
 pub const DATA_2: &[u8] = &[
     0x81, 0x03, 0x00, 0x00, 0x02, 0x01, 0x9A, 0xB1, 0x61, 0x62, 0x63, 0x38, 0x97,
-];
-/// Data message 1, `a`, with RESP 0.
-pub const SHORT_1: &[u8] = &[
-    0x81, 0x01, 0x00, 0x00, 0x01, 0x01, 0xE3, 0x81, 0x61, 0xC1, 0xE8,
 ];
 
 /// An arrival that told nothing.
@@ -95,8 +91,8 @@ pub enum Answer<'a> {
 /// What is done and what is answered.
 pub type Step = (Action, Answer<'static>);
 
-/// Both ends start, and A asks first.
-pub const STARTUP: [Step; 8] = [
+/// Both ends start, and A asks first; then a message crosses and is acknowledged.
+const PATH: &[Step] = &[
     (Action::Start(End::A), Answer::Started(0)),
     (Action::Start(End::B), Answer::Started(0)),
     (Action::Poll(End::A), Answer::Wrote(STRT)),
@@ -105,7 +101,26 @@ pub const STARTUP: [Step; 8] = [
     (Action::Arrive(End::A, STACK), RUNNING),
     (Action::Poll(End::A), Answer::Wrote(ACK_0)),
     (Action::Arrive(End::B, ACK_0), RUNNING),
+    (Action::Send(End::A, b"abc"), Answer::Accepted(Seq(1))),
+    (Action::Poll(End::A), Answer::Wrote(DATA_1)),
+    (Action::Arrive(End::B, DATA_1), HANDED_UP),
+    (Action::Take(End::B), Answer::Took(b"abc")),
+    (Action::Poll(End::B), Answer::Wrote(ACK_1)),
+    (Action::Arrive(End::A, ACK_1), ACKNOWLEDGED),
 ];
+
+/// How many steps the startup has.
+const STARTUP: usize = 8;
+
+/// The startup, and the path of one message.
+pub fn path() -> &'static [Step] {
+    PATH
+}
+
+/// The startup alone.
+pub fn startup() -> &'static [Step] {
+    path().get(..STARTUP).unwrap_or(&[])
+}
 
 /// What has been done since the line was cleared, at A and at B.
 #[derive(Clone, Copy, Debug)]
@@ -173,6 +188,28 @@ pub fn look(station: &Station) -> Answer<'static> {
     )
 }
 
+fn is_settled(rt: &impl Abort, settled: Result<Settled, Memory>, answer: Answer<'_>) {
+    match settled {
+        Ok(told) => assert_eq!(rt; Answer::Settled(told.exchanges, told.quiet), answer),
+        Err(refused) => panic!(rt; "{refused:?}"),
+    }
+}
+
+fn is_recovered(rt: &impl Abort, recovered: Result<Recovered, Memory>, answer: Answer<'_>) {
+    match recovered {
+        Ok(told) => assert_eq!(rt; Answer::Recovered(told.exchanges, told.quiet), answer),
+        Err(refused) => panic!(rt; "{refused:?}"),
+    }
+}
+
+fn is_look(rt: &impl Abort, station: &Station, answer: Answer<'_>) {
+    assert_eq!(rt; look(station), answer);
+}
+
+fn is_reply(rt: &impl Abort, reply: &Reply, action: Action, answer: Answer<'_>) {
+    assert_eq!(rt; answer_of(reply), answer, "{action:?}");
+}
+
 /// The most bytes of a message at any end.
 pub const LONGEST: usize = 16383;
 
@@ -205,31 +242,25 @@ impl Bench {
     /// Both ends run, and neither has anything to send.
     pub fn running(rt: &(impl Abort + AllocGlobal), config: Config) -> Bench {
         let mut bench = Bench::new(rt, config, config);
-        bench.plays(rt, &STARTUP);
+        bench.plays(rt, startup());
         bench
     }
 
     /// Each action has its answer.
     pub fn plays(&mut self, rt: &(impl Abort + AllocGlobal), steps: &[Step]) {
-        for (i, (action, answer)) in steps.iter().enumerate() {
-            match action {
-                Action::Settle => match self.settle() {
-                    Ok(s) => assert_eq!(rt; Answer::Settled(s.exchanges, s.quiet), *answer, "{i}"),
-                    Err(refused) => panic!(rt; "{refused:?} at {i}"),
-                },
-                Action::Round => match self.round() {
-                    Ok(s) => assert_eq!(rt; Answer::Settled(s.exchanges, s.quiet), *answer, "{i}"),
-                    Err(refused) => panic!(rt; "{refused:?} at {i}"),
-                },
-                Action::Recover => match self.recover() {
-                    Ok(r) => {
-                        assert_eq!(rt; Answer::Recovered(r.exchanges, r.quiet), *answer, "{i}")
-                    }
-                    Err(refused) => panic!(rt; "{refused:?} at {i}"),
-                },
-                Action::Look(end) => assert_eq!(rt; look(self.pair.station(*end)), *answer, "{i}"),
-                _ => assert_eq!(rt; answer_of(&self.does(rt, *action)), *answer, "{i}"),
-            }
+        for (action, answer) in steps {
+            self.play(rt, *action, *answer);
+        }
+    }
+
+    /// An action has its answer.
+    fn play(&mut self, rt: &(impl Abort + AllocGlobal), action: Action, answer: Answer<'_>) {
+        match action {
+            Action::Settle => is_settled(rt, self.settle(), answer),
+            Action::Round => is_settled(rt, self.round(), answer),
+            Action::Recover => is_recovered(rt, self.recover(), answer),
+            Action::Look(end) => is_look(rt, self.pair.station(end), answer),
+            _ => is_reply(rt, &self.does(rt, action), action, answer),
         }
     }
 
@@ -289,23 +320,33 @@ impl Bench {
     /// On an honest line A gave this message so many times, and each was handed up at B and is told
     /// acknowledged; B gave none.
     pub fn has_many(&self, rt: &impl Abort, message: &[u8], times: usize) {
+        self.has_counts(rt, End::A, [times, 0, times]);
+        self.has_counts(rt, End::B, [0, times, 0]);
         assert!(rt; self.pair.honest() && self.pair.clean());
-        assert_eq!(rt;
-            (self.pair.given(End::A), self.pair.given(End::B)),
-            (times, 0)
-        );
-        assert_eq!(rt;
-            (self.pair.handed_up(End::A), self.pair.handed_up(End::B)),
-            (0, times)
-        );
-        assert_eq!(rt; self.pair.acknowledged(End::A), times as u64);
-        assert_eq!(rt; self.pair.acknowledged(End::B), 0);
-        let mut out = [0; LONGEST];
         for i in 0..times {
-            assert!(rt; i < self.pair.given(End::A));
-            assert_eq!(rt; self.pair.given_at(End::A, i), message, "{i}");
-            assert_eq!(rt; self.handed_up_at(rt, End::B, i, &mut out), message, "{i}");
+            self.has_at(rt, i, message);
         }
+    }
+
+    /// So many messages were given, handed up, and told acknowledged at an end.
+    fn has_counts(&self, rt: &impl Abort, end: End, counts: [usize; 3]) {
+        let [given, handed_up, acknowledged] = counts;
+        assert_eq!(rt; self.pair.given(end), given);
+        assert_eq!(rt; self.pair.handed_up(end), handed_up);
+        assert_eq!(rt; self.pair.acknowledged(end), acknowledged as u64);
+    }
+
+    /// Message `i` of A is this one, and so is message `i` of those handed up at B.
+    fn has_at(&self, rt: &impl Abort, i: usize, message: &[u8]) {
+        let mut out = [0; LONGEST];
+        assert_eq!(rt; self.given_at(rt, End::A, i), message, "{i}");
+        assert_eq!(rt; self.handed_up_at(rt, End::B, i, &mut out), message, "{i}");
+    }
+
+    /// Message `i` of those that an end gave.
+    pub fn given_at(&self, rt: &impl Abort, end: End, i: usize) -> &[u8] {
+        assert!(rt; i < self.pair.given(end));
+        self.pair.given_at(end, i)
     }
 
     /// This has been done since the line was cleared.
@@ -326,8 +367,7 @@ impl Bench {
     fn has_given(&self, rt: &impl Abort, end: End, messages: &[&[u8]]) {
         assert_eq!(rt; self.pair.given(end), messages.len(), "{end:?}");
         for (i, message) in messages.iter().enumerate() {
-            assert!(rt; i < self.pair.given(end));
-            assert_eq!(rt; self.pair.given_at(end, i), *message, "{end:?} {i}");
+            assert_eq!(rt; self.given_at(rt, end, i), *message, "{end:?} {i}");
         }
     }
 
@@ -359,20 +399,4 @@ impl Bench {
         assert!(rt; length <= LONGEST);
         &out[..length]
     }
-}
-
-/// The first steps of the startup, as many as these, and the others have their answers, and then
-/// this has been done.
-pub fn holds(
-    rt: &(impl Abort + AllocGlobal),
-    config: Config,
-    startup: usize,
-    steps: &[Step],
-    histories: &Histories,
-) {
-    let mut bench = Bench::new(rt, config, config);
-    assert!(rt; startup <= 8);
-    bench.plays(rt, &STARTUP[..startup]);
-    bench.plays(rt, steps);
-    bench.has(rt, histories);
 }

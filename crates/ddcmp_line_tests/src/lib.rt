@@ -6,14 +6,8 @@ mod bench;
 #[cfg(test)]
 mod calls;
 #[cfg(test)]
-mod honesty;
-#[cfg(test)]
 mod memory;
 #[cfg(test)]
 mod order;
 #[cfg(test)]
-mod recoveries;
-#[cfg(test)]
 mod rows;
-#[cfg(test)]
-mod settles;

@@ -1,11 +1,11 @@
 //! One allocation is refused, wherever it comes. Run outside the gate, with one allocation refused
 //! after another; in the gate none is.
 use crate::bench::{
-    ACK_2, Action, Answer, Bench, DATA_1, DATA_2, EMPTY, HANDED_UP, Histories, STARTUP, Step,
-    USUAL, answer_of, event_of,
+    ACK_2, Action, Answer, Bench, DATA_1, DATA_2, EMPTY, HANDED_UP, Histories, Step, USUAL,
+    answer_of, event_of, path, startup,
 };
-use crate::calls::{ARRIVED, events_of, path_of_one_message};
-use ddcmp_line::{
+use crate::calls::{ARRIVED, events_of};
+use ddcmp_pair::{
     ConfigRefusal, End, Event, Notice, Pair, PairRefusal, Recovered, RunRefusal, Seq, Settled,
 };
 use ddcmp_station::{Counters, Header, Numbers, State};
@@ -134,7 +134,7 @@ impl Patient {
             }
             Err(_memory) => {
                 self.refused = true;
-                assert!(rt; is_among(rt, &SETTLING, &tells(&self.bench.pair)));
+                assert!(rt; is_among(rt, &[SETTLING], &tells(&self.bench.pair)));
                 self.settles_again(rt);
                 self.expires(rt);
                 self.settles_again(rt);
@@ -159,7 +159,7 @@ impl Patient {
             }
             Err(_memory) => {
                 self.refused = true;
-                assert!(rt; is_among(rt, &recovering(), &tells(&self.bench.pair)));
+                assert!(rt; is_among(rt, &[SETTLING, ROUND, ROUND], &tells(&self.bench.pair)));
                 match self.bench.recover() {
                     Ok(recovered) => assert!(rt; recovered.quiet),
                     Err(_memory) => panic!(rt; "memory is refused twice"),
@@ -183,7 +183,7 @@ impl Patient {
 }
 
 /// A message waits in B's inbox, and A is to send another.
-const TO_SETTLE: [Step; 4] = [
+const TO_SETTLE: &[Step] = &[
     (Action::Send(End::A, b"abc"), Answer::Accepted(Seq(1))),
     (Action::Poll(End::A), Answer::Wrote(DATA_1)),
     (Action::Arrive(End::B, DATA_1), HANDED_UP),
@@ -191,7 +191,7 @@ const TO_SETTLE: [Step; 4] = [
 ];
 
 /// What a settle does then.
-const SETTLING: [Step; 8] = [
+const SETTLING: &[Step] = &[
     (Action::Take(End::B), Answer::Took(b"abc")),
     (Action::Poll(End::A), Answer::Wrote(DATA_2)),
     (Action::Arrive(End::B, DATA_2), HANDED_UP),
@@ -206,39 +206,50 @@ const SETTLING: [Step; 8] = [
 ];
 
 /// What each round does after it.
-const ROUND: [Step; 4] = [
+const ROUND: &[Step] = &[
     (Action::Expire(End::A), Answer::Expired(false)),
     (Action::Expire(End::B), Answer::Expired(false)),
     (Action::Poll(End::A), Answer::Idle),
     (Action::Poll(End::B), Answer::Idle),
 ];
 
-/// Whether a pair that was to do these steps tells this between two of them.
-fn is_among(rt: &(impl Abort + AllocGlobal), steps: &[Step], seen: &Told) -> bool {
-    let mut bench = Bench::running(rt, USUAL);
-    bench.plays(rt, &TO_SETTLE);
+/// Whether a pair tells this.
+fn is_told(pair: &Pair, seen: &Told) -> bool {
+    tells(pair) == *seen
+}
+
+/// Whether a pair tells this before one of these steps, which it does until then.
+fn is_before(
+    rt: &(impl Abort + AllocGlobal),
+    bench: &mut Bench,
+    steps: &[Step],
+    seen: &Told,
+) -> bool {
     for step in steps {
-        if tells(&bench.pair) == *seen {
+        if is_told(&bench.pair, seen) {
             return true;
         }
         bench.plays(rt, &[*step]);
     }
-    tells(&bench.pair) == *seen
+    false
 }
 
-/// What a recovery does then.
-fn recovering() -> [Step; 16] {
-    let mut steps = [ROUND[0]; 16];
-    steps[..8].copy_from_slice(&SETTLING);
-    steps[8..12].copy_from_slice(&ROUND);
-    steps[12..].copy_from_slice(&ROUND);
-    steps
+/// Whether a pair that was to do these steps tells this between two of them.
+fn is_among(rt: &(impl Abort + AllocGlobal), parts: &[&[Step]], seen: &Told) -> bool {
+    let mut bench = Bench::running(rt, USUAL);
+    bench.plays(rt, TO_SETTLE);
+    for steps in parts {
+        if is_before(rt, &mut bench, steps, seen) {
+            return true;
+        }
+    }
+    is_told(&bench.pair, seen)
 }
 
 /// Whether memory is refused on the path of one message.
 fn is_refused_to_steps(rt: &(impl Abort + AllocGlobal)) -> bool {
     let mut patient = Patient::new(rt);
-    patient.plays(rt, &path_of_one_message());
+    patient.plays(rt, path());
     patient.bench.has(rt, &ARRIVED);
     patient.refused
 }
@@ -246,8 +257,8 @@ fn is_refused_to_steps(rt: &(impl Abort + AllocGlobal)) -> bool {
 /// Whether memory is refused on the way to a settle, or to it.
 fn is_refused_to_a_settle(rt: &(impl Abort + AllocGlobal)) -> bool {
     let mut patient = Patient::new(rt);
-    patient.plays(rt, &STARTUP);
-    patient.plays(rt, &TO_SETTLE);
+    patient.plays(rt, startup());
+    patient.plays(rt, TO_SETTLE);
     patient.settles(rt);
     patient.bench.has(rt, &SETTLED);
     patient.refused
@@ -264,8 +275,8 @@ const SETTLED: Histories = Histories {
 /// Whether memory is refused on the way to a recovery, or to it.
 fn is_refused_to_a_recovery(rt: &(impl Abort + AllocGlobal)) -> bool {
     let mut patient = Patient::new(rt);
-    patient.plays(rt, &STARTUP);
-    patient.plays(rt, &TO_SETTLE);
+    patient.plays(rt, startup());
+    patient.plays(rt, TO_SETTLE);
     patient.recovers(rt);
     patient.bench.has(rt, &SETTLED);
     patient.refused
@@ -280,8 +291,8 @@ fn is_after(rt: &(impl Abort + AllocGlobal), pair: &Pair, steps: &[Step]) {
 
 /// Whether memory is refused to a run, or to its events.
 fn is_refused_to_a_run(rt: &(impl Abort + AllocGlobal)) -> bool {
-    let path = path_of_one_message();
-    let Ok(events) = events_of(rt.alloc(), &path) else {
+    let path = path();
+    let Ok(events) = events_of(rt.alloc(), path) else {
         return true;
     };
     match Bench::of_run(rt.alloc(), &events) {
@@ -289,14 +300,21 @@ fn is_refused_to_a_run(rt: &(impl Abort + AllocGlobal)) -> bool {
             bench.has(rt, &ARRIVED);
             false
         }
-        Err(RunRefusal::First(refusal)) | Err(RunRefusal::Second(refusal)) => {
-            assert_eq!(rt; refusal, ConfigRefusal::Memory);
+        Err(refused) => {
+            is_as_far(rt, refused, path);
             true
         }
-        Err(RunRefusal::Memory { done, pair }) => {
+    }
+}
+
+/// A run without memory was not begun, or is as far as it tells.
+fn is_as_far(rt: &(impl Abort + AllocGlobal), refused: RunRefusal, path: &[Step]) {
+    match refused {
+        RunRefusal::First(refusal) => assert_eq!(rt; refusal, ConfigRefusal::Memory),
+        RunRefusal::Second(refusal) => assert_eq!(rt; refusal, ConfigRefusal::Memory),
+        RunRefusal::Memory { done, pair } => {
             assert!(rt; done < path.len());
             is_after(rt, &pair, &path[..done]);
-            true
         }
     }
 }

@@ -2,110 +2,11 @@
 //! line isn't honest or a run isn't clean.
 ghost use Rattle.std.specs.Prelude.{◌<◌};
 
-use crate::bench::{
-    ACK_0, ACK_1, ACKNOWLEDGED, Action, Answer, Bench, EMPTY, HANDED_UP, Histories, LONGEST,
-    NO_NOTICE, RUNNING, STACK, STRT, Step, USUAL, holds,
-};
-use ddcmp_line::{Bytes, Config, End, Event, Notice, Reply, SendRefusal, Seq};
+use crate::bench::{Action, Answer, Bench, HANDED_UP, LONGEST, NO_NOTICE, Step, USUAL};
+use ddcmp_pair::{Bytes, Config, End, Event, Notice, Reply, SendRefusal, Seq};
 use std::process::Abort;
 
 // ---- what the premises are for
-
-const LOST_FROM_B: [Step; 2] = [
-    (Action::Send(End::B, b"a"), Answer::Accepted(Seq(1))),
-    (
-        Action::Poll(End::B),
-        Answer::Wrote(&[
-            0x81, 0x01, 0x00, 0x00, 0x01, 0x01, 0xE3, 0x81, 0x61, 0xC1, 0xE8,
-        ]),
-    ),
-];
-
-/// A message of A that is an ACK 1, whose frame's header is damaged on the line.
-const ACK_UNCOVERED: [Step; 3] = [
-    (Action::Send(End::A, ACK_1), Answer::Accepted(Seq(1))),
-    (
-        Action::Poll(End::A),
-        Answer::Wrote(&[
-            0x81, 0x08, 0x00, 0x00, 0x01, 0x01, 0x3F, 0x80, 0x05, 0x01, 0x00, 0x01, 0x00, 0x01,
-            0xAD, 0x95, 0x00, 0x00,
-        ]),
-    ),
-    (
-        Action::Arrive(
-            End::B,
-            &[
-                0x81, 0x08, 0x00, 0x00, 0x01, 0x03, 0x3F, 0x80, 0x05, 0x01, 0x00, 0x01, 0x00, 0x01,
-                0xAD, 0x95, 0x00, 0x00,
-            ],
-        ),
-        ACKNOWLEDGED,
-    ),
-];
-
-/// B is told that A has a message that was lost.
-#[test]
-fn a_frame_inside_data_acknowledges_what_was_lost(rt: HostRuntime) {
-    let mut bench = Bench::running(&rt, USUAL);
-    bench.plays(&rt, &LOST_FROM_B);
-    bench.plays(&rt, &ACK_UNCOVERED);
-    bench.has(
-        &rt,
-        &Histories {
-            honest: false,
-            given: [&[ACK_1], &[b"a"]],
-            acknowledged: [0, 1],
-            ..EMPTY
-        },
-    );
-}
-
-/// A drops its message and starts a second time, and the line isn't cleared.
-const SECOND_START: [Step; 15] = [
-    (Action::Send(End::A, b"lost"), Answer::Accepted(Seq(1))),
-    (Action::Halt(End::A), Answer::Halted),
-    (Action::Start(End::A), Answer::Started(1)),
-    (Action::Poll(End::A), Answer::Wrote(STRT)),
-    (
-        Action::Arrive(End::B, STRT),
-        Answer::Notices(&[Notice::PeerRestarted]),
-    ),
-    (Action::Start(End::B), Answer::Started(0)),
-    (Action::Poll(End::B), Answer::Wrote(STRT)),
-    (Action::Arrive(End::A, STRT), NO_NOTICE),
-    (Action::Poll(End::A), Answer::Wrote(STACK)),
-    (Action::Arrive(End::B, STACK), RUNNING),
-    (Action::Poll(End::B), Answer::Wrote(ACK_0)),
-    (Action::Arrive(End::A, ACK_0), RUNNING),
-    (Action::Send(End::A, b"abc"), Answer::Accepted(Seq(1))),
-    (
-        Action::Poll(End::A),
-        Answer::Wrote(&[
-            0x81, 0x03, 0x00, 0x00, 0x01, 0x01, 0x9A, 0x41, 0x61, 0x62, 0x63, 0x38, 0x97,
-        ]),
-    ),
-    (
-        Action::Arrive(
-            End::B,
-            &[
-                0x81, 0x03, 0x00, 0x00, 0x01, 0x01, 0x9A, 0x41, 0x61, 0x62, 0x63, 0x38, 0x97,
-            ],
-        ),
-        HANDED_UP,
-    ),
-];
-
-/// The first message that A accepted never comes, and the second one does.
-#[test]
-fn a_second_start_leaves_a_gap(rt: HostRuntime) {
-    let histories = Histories {
-        clean: false,
-        given: [&[b"lost", b"abc"], &[]],
-        handed_up: [&[], &[b"abc"]],
-        ..EMPTY
-    };
-    holds(&rt, USUAL, 8, &SECOND_START, &histories);
-}
 
 /// Messages from A to B, each of which is acknowledged.
 fn carries(bench: &mut Bench, rt: &(impl Abort + AllocGlobal), first: u16, last: u16) {
@@ -142,7 +43,7 @@ fn a_doubled_frame_is_handed_up_twice(rt: HostRuntime) {
 }
 
 /// Message 1 is sent, and sent again after a REP and a NAK.
-const SENT_TWICE: [Step; 10] = [
+const SENT_TWICE: &[Step] = &[
     (Action::Send(End::A, b"a"), Answer::Accepted(Seq(1))),
     (Action::Poll(End::A), Answer::Wrote(FIRST)),
     (Action::Expire(End::A), Answer::Expired(true)),
@@ -171,7 +72,7 @@ const SENT_TWICE: [Step; 10] = [
 #[test]
 fn a_late_frame_is_handed_up_twice(rt: HostRuntime) {
     let mut bench = Bench::running(&rt, USUAL);
-    bench.plays(&rt, &SENT_TWICE);
+    bench.plays(&rt, SENT_TWICE);
     bench.crosses(&rt, End::B, Notice::Acknowledged(1));
     carries(&mut bench, &rt, 2, 256);
     assert!(rt; bench.pair.honest());
@@ -189,7 +90,7 @@ const WINDOWS: [u16; 4] = [1, 7, 127, 255];
 fn a_lost_message_comes_later(rt: HostRuntime) {
     for window in WINDOWS {
         let mut bench = Bench::running(&rt, Config { window, ..USUAL });
-        bench.plays(&rt, &SENT_TWICE);
+        bench.plays(&rt, SENT_TWICE);
         bench.crosses(&rt, End::B, Notice::Acknowledged(1));
         bench.has_many(&rt, b"a", 1);
     }
@@ -318,8 +219,10 @@ impl Talk {
         let mut out = [0; LONGEST];
         for number in 1..=MESSAGES {
             let i = (number - 1) as usize;
-            assert!(rt; i < pair.given(from) && i < pair.handed_up(from.other()));
-            assert_eq!(rt; pair.given_at(from, i), message(from, number).as_slice());
+            assert_eq!(rt;
+                self.bench.given_at(rt, from, i),
+                message(from, number).as_slice()
+            );
             assert_eq!(rt;
                 self.bench.handed_up_at(rt, from.other(), i, &mut out),
                 message(from, number).as_slice()

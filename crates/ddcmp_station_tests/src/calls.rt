@@ -1,14 +1,11 @@
 //! Rows worked by hand, as calls of a station, and each call once.
-ghost use Rattle.std.specs.Prelude.{◌≡◌, ◌≤◌, ◌<◌, ◌+◌, ◌^◌, length, false};
+ghost use Rattle.std.specs.Prelude.{◌≡◌, ◌≤◌};
 
+use crate::sizes::config_of;
 use ddcmp_frame::{Counted, Flags};
-use ddcmp_station::{
-    Config, ConfigRefusal, Fed, Header, Notice, Numbers, SendRefusal, Seq, StartRefusal, State,
-    Station,
-};
+use ddcmp_station::{Fed, Header, Notice, Numbers, SendRefusal, Seq, StartRefusal, State, Station};
 use std::alloc::Global;
 use std::process::Abort;
-use std::test::Fail;
 
 const STACK: [u8; 8] = [0x05, 0x07, 0xC0, 0x00, 0x00, 0x01, 0x48, 0x55];
 
@@ -28,19 +25,6 @@ const MAINTENANCE: [u8; 13] = [
     0x90, 0x03, 0xC0, 0x00, 0x00, 0x01, 0xA4, 0x90, 0x61, 0x62, 0x63, 0x38, 0x97,
 ];
 
-fn sizes(window: u16, inbox: u16, max: u16, syn: u8) -> Config
-    ensures { result
-        ≡ record { window = window; inbox = inbox; max = max; syn = syn; restart = false } }
-{
-    Config {
-        window,
-        inbox,
-        max,
-        syn,
-        restart: false,
-    }
-}
-
 /// A station of the usual sizes.
 #[derive(Drop)]
 struct Bench {
@@ -53,7 +37,7 @@ impl Bench {
     fn new(rt: &impl Abort, alloc: Global, syn: u8) -> Bench
         requires { syn ≤ 16 }
     {
-        match Station::new(alloc, sizes(7, 8, 1500, syn)) {
+        match Station::new(alloc, config_of(7, 8, 1500, syn)) {
             Ok(station) => Bench { station },
             Err(refusal) => panic!(rt; "{refusal:?}"),
         }
@@ -62,7 +46,7 @@ impl Bench {
     /// Started, and asked to start by its peer, which has its STACK.
     fn running(rt: &impl Abort, alloc: Global) -> Bench {
         let mut bench = Bench::new(rt, alloc, 0);
-        assert_eq!(rt; bench.station.start(), Ok(0));
+        assert_eq!(rt; bench.start(), Ok(0));
         bench.receives(rt, &STRT, 8, None);
         bench.writes(rt, &STACK);
         bench.receives(rt, &ACK_0, 8, Some(Notice::Running));
@@ -71,88 +55,113 @@ impl Bench {
 
     /// What it makes of a piece.
     fn receives(&mut self, rt: &impl Abort, piece: &[u8], used: usize, notice: Option<Notice>) {
-        let offset = self.station.offset();
-        assert!(rt; offset < 1000 && piece.len() < 1000);
-        assert_eq!(rt; self.station.feed(piece), Fed { used, notice });
-        assert_eq!(rt; self.station.offset(), offset + used as u64);
+        let offset = self.station().offset();
+        assert_eq!(rt; self.feed(rt, piece), Fed { used, notice });
+        assert_eq!(rt;
+            self.station().offset().checked_sub(offset),
+            Some(used as u64)
+        );
     }
 
     /// Its next frame, none where these are no bytes.
     fn writes(&mut self, rt: &impl Abort, bytes: &[u8]) {
         let mut out = [0xAA; 1526];
-        let written = match self.station.poll(&mut out) {
-            Some(n) => n,
-            None => 0,
-        };
+        let written = self.poll(&mut out).unwrap_or(0);
         assert_eq!(rt; written, bytes.len());
-        for (i, byte) in bytes.iter().enumerate() {
-            assert_eq!(rt; out.get(i), Some(byte));
-        }
-        assert_eq!(rt; out.get(written), Some(&0xAA));
+        begins(rt, &out, bytes);
     }
 
     /// The first message of its inbox.
     fn hands_up(&mut self, rt: &impl Abort, message: &[u8]) {
         let mut out = [0xAA; 1500];
-        assert_eq!(rt; self.station.take(&mut out), Some(message.len()));
-        for (i, byte) in message.iter().enumerate() {
-            assert_eq!(rt; out.get(i), Some(byte));
-        }
-        assert_eq!(rt; out.get(message.len()), Some(&0xAA));
+        assert_eq!(rt; self.take(&mut out), Some(message.len()));
+        begins(rt, &out, message);
+    }
+
+    /// The first message of its inbox, which stays there.
+    fn shows(&self, rt: &impl Abort, message: &[u8]) {
+        let mut out = [0xAA; 1500];
+        assert_eq!(rt; self.first_length(rt), message.len());
+        assert_eq!(rt; self.copy_first(rt, &mut out), message.len());
+        begins(rt, &out, message);
     }
 }
 
-#[test]
-fn sizes_are_tested_in_order(rt: HostRuntime) {
-    let alloc = rt.alloc();
-    for (config, refusal) in [
-        (sizes(0, 0, 0, 17), Some(ConfigRefusal::Window)),
-        (sizes(7, 0, 0, 17), Some(ConfigRefusal::Inbox)),
-        (sizes(7, 256, 0, 17), Some(ConfigRefusal::Inbox)),
-        (sizes(7, 8, 0, 17), Some(ConfigRefusal::Max)),
-        (sizes(7, 8, 16384, 17), Some(ConfigRefusal::Max)),
-        (sizes(7, 8, 1500, 17), Some(ConfigRefusal::Syn)),
-        (sizes(256, 8, 1500, 0), Some(ConfigRefusal::Window)),
-        (sizes(128, 8, 1500, 0), None),
-        (sizes(255, 8, 1500, 0), None),
-        (sizes(1, 1, 1, 16), None),
-    ] {
-        assert_eq!(rt; Station::new(alloc, config).err(), refusal);
+/// Calls whose contracts say more than tests want to know.
+impl Bench {
+    fn station(&self) -> &Station {
+        &self.station
+    }
+
+    fn start(&mut self) -> Result<u8, StartRefusal> {
+        self.station.start()
+    }
+
+    fn enter_maintenance(&mut self) -> Result<u8, StartRefusal> {
+        self.station.enter_maintenance()
+    }
+
+    fn send(&mut self, message: &[u8]) -> Result<Seq, SendRefusal> {
+        self.station.send(message)
+    }
+
+    fn send_maintenance(&mut self, message: &[u8]) -> Result<(), SendRefusal> {
+        self.station.send_maintenance(message)
+    }
+
+    fn expire(&mut self) -> bool {
+        self.station.expire()
+    }
+
+    fn take_arm(&mut self) -> bool {
+        self.station.take_arm()
+    }
+
+    fn halt(&mut self) {
+        self.station.halt();
+    }
+
+    fn clear_line(&mut self) -> bool {
+        self.station.clear_line()
+    }
+
+    fn feed(&mut self, rt: &impl Abort, piece: &[u8]) -> Fed {
+        assert!(rt; self.station.offset() < 1000 && piece.len() < 1000);
+        self.station.feed(piece)
+    }
+
+    fn poll(&mut self, out: &mut [u8; 1526]) -> Option<usize> {
+        self.station.poll(out)
+    }
+
+    fn take(&mut self, out: &mut [u8; 1500]) -> Option<usize> {
+        self.station.take(out)
+    }
+
+    /// Copies the first message of the inbox.
+    fn copy_first(&self, rt: &impl Abort, out: &mut [u8; 1500]) -> usize {
+        assert!(rt; self.station.waiting() > 0);
+        self.station.waiting_at(0, out)
+    }
+
+    fn first_length(&self, rt: &impl Abort) -> usize {
+        assert!(rt; self.station.waiting() > 0);
+        self.station.waiting_length(0)
     }
 }
 
-/// Each size at its ends and between, with both choices of a restart.
-#[test]
-fn stations_of_many_sizes(rt: HostRuntime) {
-    for config in [
-        sizes(1, 8, 1500, 0),
-        sizes(128, 8, 1500, 0),
-        sizes(255, 8, 1500, 0),
-        sizes(7, 1, 1500, 0),
-        sizes(7, 128, 1500, 0),
-        sizes(7, 255, 1500, 0),
-        sizes(7, 8, 1, 0),
-        sizes(7, 8, 8192, 0),
-        sizes(7, 8, 16383, 0),
-        sizes(7, 8, 1500, 8),
-        sizes(7, 8, 1500, 16),
-        sizes(255, 255, 16383, 16),
-    ] {
-        for restart in [false, true] {
-            match Station::new(rt.alloc(), Config { restart, ..config }) {
-                Ok(station) => assert_eq!(rt; station.state(), State::Halted),
-                Err(refusal) => panic!(rt; "{refusal:?} of {config:?}"),
-            }
-        }
-    }
+/// These bytes are at the front, and what was behind them stays.
+fn begins(rt: &impl Abort, out: &[u8], bytes: &[u8]) {
+    assert!(rt; out.starts_with(bytes));
+    assert_eq!(rt; out.get(bytes.len()), Some(&0xAA));
 }
 
 #[test]
 fn takes_pieces_up_to_a_notice(rt: HostRuntime) {
     let mut bench = Bench::new(&rt, rt.alloc(), 0);
-    assert_eq!(rt; bench.station.state(), State::Halted);
-    assert_eq!(rt; bench.station.start(), Ok(0));
-    assert_eq!(rt; bench.station.start(), Err(StartRefusal::NotHalted));
+    assert_eq!(rt; bench.station().state(), State::Halted);
+    assert_eq!(rt; bench.start(), Ok(0));
+    assert_eq!(rt; bench.start(), Err(StartRefusal::NotHalted));
     bench.writes(&rt, &STRT);
     bench.writes(&rt, &[]);
     let mut both = [0; 21];
@@ -161,29 +170,34 @@ fn takes_pieces_up_to_a_notice(rt: HostRuntime) {
     bench.receives(&rt, &both, 8, Some(Notice::Running));
     bench.receives(&rt, &both[8..], 13, Some(Notice::HandedUp));
     bench.hands_up(&rt, b"abc");
-    bench.receives(&rt, &DATA_2[..12], 12, None);
-    assert_eq!(rt; bench.station.held(), 12);
-    assert_eq!(rt; bench.station.open(), 12);
-    bench.receives(&rt, &DATA_2[12..], 1, Some(Notice::HandedUp));
-    assert_eq!(rt; bench.station.held(), 3);
-    assert_eq!(rt; bench.station.waiting(), 1);
-    bench.hands_up(&rt, b"abc");
-    assert_eq!(rt; bench.station.counters().messages_up, 2);
+    takes_a_frame_in_two(&rt, &mut bench);
+}
+
+/// The second message comes in two pieces.
+fn takes_a_frame_in_two(rt: &impl Abort, bench: &mut Bench) {
+    bench.receives(rt, &DATA_2[..12], 12, None);
+    assert_eq!(rt; bench.station().held(), 12);
+    assert_eq!(rt; bench.station().open(), 12);
+    bench.receives(rt, &DATA_2[12..], 1, Some(Notice::HandedUp));
+    assert_eq!(rt; bench.station().held(), 3);
+    assert_eq!(rt; bench.station().waiting(), 1);
+    bench.hands_up(rt, b"abc");
+    assert_eq!(rt; bench.station().counters().messages_up, 2);
 }
 
 #[test]
 fn fill_stands_before_a_frame(rt: HostRuntime) {
     let mut bench = Bench::new(&rt, rt.alloc(), 2);
-    assert_eq!(rt; bench.station.start(), Ok(0));
+    assert_eq!(rt; bench.start(), Ok(0));
     bench.writes(
         &rt,
         &[0x96, 0x96, 0x05, 0x06, 0xC0, 0x00, 0x00, 0x01, 0x75, 0x95],
     );
-    assert!(rt; bench.station.timer_on());
-    assert!(rt; bench.station.take_arm());
-    assert!(rt; !bench.station.take_arm());
-    assert!(rt; bench.station.expire());
-    assert_eq!(rt; bench.station.counters().expiries, 1);
+    assert!(rt; bench.station().timer_on());
+    assert!(rt; bench.take_arm());
+    assert!(rt; !bench.take_arm());
+    assert!(rt; bench.expire());
+    assert_eq!(rt; bench.station().counters().expiries, 1);
 }
 
 #[test]
@@ -196,8 +210,8 @@ fn damaged_and_too_long_data_are_refused(rt: HostRuntime) {
     let mut bench = Bench::running(&rt, rt.alloc());
     let header = [0x81, 0xDD, 0x05, 0x00, 0x01, 0x01, 0x32, 0x9E];
     bench.receives(&rt, &header, 8, None);
-    assert_eq!(rt; bench.station.open(), 8);
-    assert_eq!(rt; bench.station.held(), 0);
+    assert_eq!(rt; bench.station().open(), 8);
+    assert_eq!(rt; bench.station().held(), 0);
     bench.writes(&rt, &[0x05, 0x02, 0x10, 0x00, 0x00, 0x01, 0xBC, 0x95]);
 }
 
@@ -205,13 +219,13 @@ fn damaged_and_too_long_data_are_refused(rt: HostRuntime) {
 fn maintenance_has_a_state_of_its_own(rt: HostRuntime) {
     let mut bench = Bench::running(&rt, rt.alloc());
     bench.receives(&rt, &MAINTENANCE, 13, Some(Notice::MaintenanceSeen));
-    assert_eq!(rt; bench.station.state(), State::Running);
+    assert_eq!(rt; bench.station().state(), State::Running);
     let mut bench = Bench::new(&rt, rt.alloc(), 0);
-    assert_eq!(rt; bench.station.enter_maintenance(), Ok(0));
+    assert_eq!(rt; bench.enter_maintenance(), Ok(0));
     bench.receives(&rt, &MAINTENANCE, 13, Some(Notice::MaintenanceHandedUp));
     bench.hands_up(&rt, b"abc");
-    assert_eq!(rt; bench.station.send_maintenance(b"abc"), Ok(()));
-    assert_eq!(rt; bench.station.send(b"abc"), Err(SendRefusal::WrongState));
+    assert_eq!(rt; bench.send_maintenance(b"abc"), Ok(()));
+    assert_eq!(rt; bench.send(b"abc"), Err(SendRefusal::WrongState));
     bench.writes(&rt, &MAINTENANCE);
     bench.writes(&rt, &[]);
 }
@@ -219,17 +233,17 @@ fn maintenance_has_a_state_of_its_own(rt: HostRuntime) {
 #[test]
 fn messages_are_kept_and_the_line_is_cleared(rt: HostRuntime) {
     let mut bench = Bench::running(&rt, rt.alloc());
-    assert_eq!(rt; bench.station.next_header(), None);
-    assert_eq!(rt; bench.station.send_refusal(b"abc"), None);
-    assert_eq!(rt; bench.station.send_refusal(b""), Some(SendRefusal::Empty));
-    assert_eq!(rt; bench.station.send(b"abc"), Ok(Seq(1)));
+    assert_eq!(rt; bench.station().next_header(), None);
+    assert_eq!(rt; bench.station().send_refusal(b"abc"), None);
+    assert_eq!(rt; bench.station().send_refusal(b""), Some(SendRefusal::Empty));
+    assert_eq!(rt; bench.send(b"abc"), Ok(Seq(1)));
     assert_eq!(rt;
-        bench.station.send_maintenance(b"abc"),
+        bench.send_maintenance(b"abc"),
         Err(SendRefusal::WrongState)
     );
-    assert_eq!(rt; bench.station.outgoing(), 1);
-    assert!(rt; bench.station.room());
-    assert_eq!(rt; bench.station.held(), 3);
+    assert_eq!(rt; bench.station().outgoing(), 1);
+    assert!(rt; bench.station().room());
+    assert_eq!(rt; bench.station().held(), 3);
     let data = Counted {
         count: 3,
         flags: Flags { q: false, s: false },
@@ -237,10 +251,10 @@ fn messages_are_kept_and_the_line_is_cleared(rt: HostRuntime) {
         num: 1,
         addr: 1,
     };
-    assert_eq!(rt; bench.station.next_header(), Some(Header::Data(data)));
+    assert_eq!(rt; bench.station().next_header(), Some(Header::Data(data)));
     bench.writes(&rt, &DATA);
     assert_eq!(rt;
-        bench.station.numbers(),
+        bench.station().numbers(),
         Numbers {
             r: Seq(0),
             n: Seq(1),
@@ -249,65 +263,12 @@ fn messages_are_kept_and_the_line_is_cleared(rt: HostRuntime) {
         }
     );
     bench.receives(&rt, &DATA[..5], 5, None);
-    assert!(rt; !bench.station.clear_line());
-    assert_eq!(rt; bench.station.open(), 5);
+    assert!(rt; !bench.clear_line());
+    assert_eq!(rt; bench.station().open(), 5);
     bench.receives(&rt, &DATA[5..], 8, Some(Notice::HandedUp));
-    let mut out = [0; 1500];
-    assert!(rt; bench.station.waiting() > 0);
-    assert_eq!(rt; bench.station.waiting_length(0), 3);
-    assert_eq!(rt; bench.station.waiting_at(0, &mut out), 3);
-    assert_eq!(rt; &out[..3], b"abc".as_slice());
-    bench.station.halt();
-    assert!(rt; bench.station.clear_line());
-    assert_eq!(rt; bench.station.offset(), 0);
-    assert_eq!(rt; bench.station.start(), Err(StartRefusal::Untaken));
-}
-
-/// Whether memory is refused to a station.
-fn is_refused(rt: &(impl Abort + AllocGlobal)) -> bool {
-    match Station::new(rt.alloc(), sizes(2, 2, 8, 0)) {
-        Ok(station) => {
-            assert_eq!(rt; station.state(), State::Halted);
-            false
-        }
-        Err(refusal) => {
-            assert_eq!(rt; refusal, ConfigRefusal::Memory);
-            true
-        }
-    }
-}
-
-/// Run with one allocation refused after another, until the next test passes too.
-#[test]
-fn refused_memory_makes_no_station(rt: HostRuntime) {
-    let _either = is_refused(&rt);
-}
-
-#[test]
-fn ample_memory_makes_a_station(rt: HostRuntime) {
-    assert!(rt; !is_refused(&rt));
-}
-
-fn makes(rt: &(impl Abort + AllocGlobal), config: Config) {
-    match Station::new(rt.alloc(), config) {
-        Ok(station) => assert_eq!(rt; station.state(), State::Halted),
-        Err(refusal) => panic!(rt; "{refusal:?} of {config:?}"),
-    }
-}
-
-/// Every size in range makes a station.
-#[test]
-fn stations_of_every_size(rt: HostRuntime) {
-    for window in 1..=255u16 {
-        makes(&rt, sizes(window, 1, 1, 0));
-    }
-    for inbox in 1..=255u16 {
-        makes(&rt, sizes(1, inbox, 1, 0));
-    }
-    for max in 1..=16383u16 {
-        makes(&rt, sizes(1, 1, max, 0));
-    }
-    for syn in 0..=16u8 {
-        makes(&rt, sizes(1, 1, 1, syn));
-    }
+    bench.shows(&rt, b"abc");
+    bench.halt();
+    assert!(rt; bench.clear_line());
+    assert_eq!(rt; bench.station().offset(), 0);
+    assert_eq!(rt; bench.start(), Err(StartRefusal::Untaken));
 }

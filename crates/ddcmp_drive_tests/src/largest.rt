@@ -1,10 +1,9 @@
 //! Stations of the largest sizes, a message of the most bytes, and many turns.
 ghost use Rattle.std.specs.Prelude.{◌≡◌};
 
-use crate::devices::{Moments, Recorder, Seen};
-use crate::rows::{SILENCE, STACK, STRT, driven, started};
-use ddcmp_frame::failing::{Pieces, Taken};
-use ddcmp_station::{Config, Notice, Station, drive};
+use crate::devices::{Recorder, Seen};
+use crate::driving::{SILENCE, STACK, STRT, USUAL, driven, drives, started};
+use ddcmp_station::{Config, Notice, Station};
 use std::alloc::Global;
 use std::process::Abort;
 
@@ -21,32 +20,39 @@ const LARGEST: Config = Config {
     restart: false,
 };
 
+const ACK_1: &[u8] = &[0x05, 0x01, 0x00, 0x01, 0x00, 0x01, 0xAD, 0x95];
+
+/// What the user of the longest message sees.
+const LONGEST_SEEN: &[Seen] = &[
+    Seen::Told(Notice::Running),
+    Seen::Asked(16383),
+    Seen::Told(Notice::HandedUp),
+    Seen::Mail(16383, 0),
+];
+
 /// One byte a turn, and no deadline comes.
 #[test]
 fn five_thousand_turns(rt: HostRuntime) {
     let fill = [0x96; 5000];
     let pieces: [&[u8]; 1] = [&fill];
-    let mut station = started(&rt, rt.alloc(), 7, 1500, 0);
-    let mut reader = Pieces::new(&pieces).at_most(1);
-    let mut writer = Taken::<64>::new();
+    let mut station = started(&rt, rt.alloc(), USUAL);
     let mut user = Recorder::offering(&[]);
-    let mut clock = Moments {
-        moments: &[0],
-        next: 0,
-    };
-    let answer = drive(
-        rt.alloc(),
-        &mut station,
-        &mut reader,
-        &mut writer,
-        &mut user,
-        &mut clock,
-        1000,
-        5000,
-    );
-    assert_eq!(rt; answer, Ok(driven(5000, 5000, 8)));
-    assert_eq!(rt; writer.bytes(), STRT.as_slice());
-    assert_eq!(rt; clock.next, 5000);
+    let outcome = drives::<64>(&rt, &mut station, &pieces, 1, &mut user, 5000);
+    assert_eq!(rt; outcome.answer, Ok(driven(5000, 5000, 8)));
+    assert_eq!(rt; outcome.writer.bytes(), STRT.as_slice());
+    assert_eq!(rt; outcome.moments, 5000);
+}
+
+/// STRT, the message, and ACK 1 when the message of the peer is whole.
+fn is_message_and_answer(rt: &impl Abort, written: &[u8]) {
+    assert_eq!(rt; written.len(), 16409);
+    let (strt, rest) = written.split_at(8);
+    let (header, rest) = rest.split_at(8);
+    let (zeros, answer) = rest.split_at(16385);
+    assert_eq!(rt; strt, STRT.as_slice());
+    assert_eq!(rt; header, &FRONT[8..]);
+    assert!(rt; zeros.iter().all(|byte| *byte == 0));
+    assert_eq!(rt; answer, ACK_1);
 }
 
 /// The longest message, of zeros, whose check is 0: it comes in 64 turns and goes out in one.
@@ -54,43 +60,14 @@ fn five_thousand_turns(rt: HostRuntime) {
 fn the_longest_message(rt: HostRuntime) {
     let zeros = [0; 16385];
     let pieces: [&[u8]; 3] = [&FRONT, &zeros, SILENCE];
-    let mut station = started(&rt, rt.alloc(), 7, 16383, 0);
-    let mut reader = Pieces::new(&pieces);
-    let mut writer = Taken::<20000>::new();
     let offers: [&[u8]; 1] = [&zeros[..16383]];
+    let max = 16383;
+    let mut station = started(&rt, rt.alloc(), Config { max, ..USUAL });
     let mut user = Recorder::offering(&offers);
-    let mut clock = Moments {
-        moments: &[0],
-        next: 0,
-    };
-    let answer = drive(
-        rt.alloc(),
-        &mut station,
-        &mut reader,
-        &mut writer,
-        &mut user,
-        &mut clock,
-        1000,
-        67,
-    );
-    // STRT, the message, and ACK 1 when the message of the peer is whole.
-    assert_eq!(rt; answer, Ok(driven(67, 16401, 16409)));
-    let written = writer.bytes();
-    assert_eq!(rt; written.len(), 16409);
-    assert_eq!(rt; &written[..8], STRT.as_slice());
-    assert_eq!(rt; &written[8..16], &FRONT[8..]);
-    assert!(rt; written[16..16401].iter().all(|byte| *byte == 0));
-    assert_eq!(rt;
-        &written[16401..],
-        [0x05, 0x01, 0x00, 0x01, 0x00, 0x01, 0xAD, 0x95].as_slice()
-    );
-    let seen = [
-        Seen::Told(Notice::Running),
-        Seen::Asked(16383),
-        Seen::Told(Notice::HandedUp),
-        Seen::Mail(16383, 0),
-    ];
-    assert_eq!(rt; user.seen(), seen.as_slice());
+    let outcome = drives::<20000>(&rt, &mut station, &pieces, 256, &mut user, 67);
+    assert_eq!(rt; outcome.answer, Ok(driven(67, 16401, 16409)));
+    is_message_and_answer(&rt, outcome.writer.bytes());
+    assert_eq!(rt; user.seen(), LONGEST_SEEN);
 }
 
 /// A station of the largest sizes.
@@ -127,13 +104,41 @@ impl End {
         self.station.send(message).is_ok()
     }
 
+    fn held(&self) -> usize {
+        self.station.held()
+    }
+
+    /// Its next frame, at the front of `out`.
+    fn polls(&mut self, out: &mut [u8; 16409]) -> Option<usize> {
+        self.station.poll(out)
+    }
+
     /// Its next frame goes to the other end, after 16 bytes of fill.
     fn sends(&mut self, rt: &impl Abort, len: usize, to: &mut End, notice: Option<Notice>) {
         let mut frame = [0; 16409];
-        assert_eq!(rt; self.station.poll(&mut frame), Some(len));
+        assert_eq!(rt; self.polls(&mut frame), Some(len));
         assert!(rt; len <= frame.len());
         to.receives(rt, &frame[..len], notice);
     }
+}
+
+/// One end sends 255 messages of the most bytes, and one more finds no room.
+fn fills_the_window(rt: &impl Abort, one: &mut End, message: &[u8]) {
+    for _message in 0..255u8 {
+        assert!(rt; one.takes(message));
+    }
+    assert!(rt; !one.takes(message));
+    assert_eq!(rt; one.held(), 255 * 16383);
+}
+
+/// They fill the inbox of the other.
+fn fills_the_inbox(rt: &impl Abort, one: &mut End, other: &mut End) {
+    for _message in 0..255u8 {
+        one.sends(rt, 16409, other, Some(Notice::HandedUp));
+    }
+    assert_eq!(rt; one.polls(&mut [0; 16409]), None);
+    assert_eq!(rt; other.held(), 255 * 16383);
+    other.sends(rt, 24, one, Some(Notice::Acknowledged(255)));
 }
 
 /// A window and an inbox of 255 messages of the most bytes are filled, and one more finds no room.
@@ -142,22 +147,13 @@ fn a_full_window_and_a_full_inbox(rt: HostRuntime) {
     let message = [7; 16383];
     let mut one = End::running(&rt, rt.alloc());
     let mut other = End::running(&rt, rt.alloc());
-    for _message in 0..255u8 {
-        assert!(rt; one.takes(&message));
-    }
-    assert!(rt; !one.takes(&message));
-    assert_eq!(rt; one.station.held(), 255 * 16383);
-    for _message in 0..255u8 {
-        one.sends(&rt, 16409, &mut other, Some(Notice::HandedUp));
-    }
-    assert_eq!(rt; one.station.poll(&mut [0; 16409]), None);
-    assert_eq!(rt; other.station.held(), 255 * 16383);
-    other.sends(&rt, 24, &mut one, Some(Notice::Acknowledged(255)));
+    fills_the_window(&rt, &mut one, &message);
+    fills_the_inbox(&rt, &mut one, &mut other);
     assert!(rt; one.takes(&message));
     one.sends(&rt, 16409, &mut other, None);
     // NAK 8 with RESP 255.
     let mut out = [0; 16409];
-    assert_eq!(rt; other.station.poll(&mut out), Some(24));
+    assert_eq!(rt; other.polls(&mut out), Some(24));
     assert_eq!(rt;
         &out[16..24],
         [0x05, 0x02, 0x08, 0xFF, 0x00, 0x01, 0x8A, 0x05].as_slice()

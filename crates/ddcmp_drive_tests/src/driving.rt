@@ -1,0 +1,182 @@
+//! Calls of `drive` over memory, of which tests see what came of them.
+ghost use Rattle.std.specs.Prelude.{◌≡◌};
+
+use crate::devices::{Moments, Recorder, Seen};
+use ddcmp_frame::failing::{Pieces, Taken};
+use ddcmp_station::{Config, Driven, LineFault, Notice, State, Station, drive};
+use std::alloc::Global;
+use std::process::Abort;
+
+pub const STRT: [u8; 8] = [0x05, 0x06, 0xC0, 0x00, 0x00, 0x01, 0x75, 0x95];
+
+pub const STACK: [u8; 8] = [0x05, 0x07, 0xC0, 0x00, 0x00, 0x01, 0x48, 0x55];
+/// An idle read.
+pub const SILENCE: &[u8] = &[];
+
+/// The usual sizes.
+pub const USUAL: Config = Config {
+    window: 7,
+    inbox: 8,
+    max: 1500,
+    syn: 0,
+    restart: false,
+};
+
+/// The least sizes.
+const LEAST: Config = Config {
+    window: 1,
+    inbox: 1,
+    max: 1,
+    syn: 0,
+    restart: false,
+};
+
+/// A halted station.
+fn halted(rt: &impl Abort, alloc: Global, config: Config) -> Station {
+    match Station::new(alloc, config) {
+        Ok(station) => station,
+        Err(refusal) => panic!(rt; "{refusal:?}"),
+    }
+}
+
+/// A started station.
+pub fn started(rt: &impl Abort, alloc: Global, config: Config) -> Station {
+    let mut station = halted(rt, alloc, config);
+    assert_eq!(rt; station.start(), Ok(0));
+    station
+}
+
+/// What came of a call, and how often its clock was asked.
+#[derive(Drop)]
+pub struct Outcome<const N: usize> {
+    pub answer: Result<Driven, LineFault>,
+    pub writer: Taken<N>,
+    pub moments: usize,
+}
+
+/// Makes a call with a timer of 1000 ms and a clock that stands still. A read brings so many bytes
+/// at most.
+pub fn drives<const N: usize>(
+    rt: &(impl Abort + AllocGlobal),
+    station: &mut Station,
+    came: &[&[u8]],
+    most: usize,
+    user: &mut Recorder<'_>,
+    turns: u32,
+) -> Outcome<N> {
+    assert!(rt; station.offset() < 1000 && 0 < most);
+    let mut reader = Pieces::new(came).at_most(most);
+    let mut writer = Taken::<N>::new();
+    let mut clock = Moments {
+        moments: &[0],
+        next: 0,
+    };
+    let answer = drive(
+        rt.alloc(),
+        station,
+        &mut reader,
+        &mut writer,
+        user,
+        &mut clock,
+        1000,
+        turns,
+    );
+    Outcome {
+        answer,
+        writer,
+        moments: clock.next,
+    }
+}
+
+pub fn driven(turns: u32, read: u64, written: u64) -> Driven {
+    Driven {
+        turns,
+        read,
+        written,
+    }
+}
+
+/// What the user of a station sees that is answered.
+const RUNNING: &[Seen] = &[Seen::Told(Notice::Running)];
+
+/// The call had memory.
+fn is_whole(rt: &impl Abort, station: &Station, outcome: &Outcome<64>) {
+    assert_eq!(rt; outcome.answer, Ok(driven(1, 8, 8)));
+    assert_eq!(rt; outcome.writer.bytes(), STRT.as_slice());
+    assert_eq!(rt; station.state(), State::Running);
+}
+
+/// The call did nothing.
+fn is_nothing(rt: &impl Abort, station: &Station, outcome: &Outcome<64>) {
+    assert_eq!(rt; outcome.answer, Err(LineFault::Memory));
+    assert!(rt; outcome.writer.bytes().is_empty());
+    assert_eq!(rt; station.state(), State::IStart);
+    assert_eq!(rt; outcome.moments, 0);
+}
+
+/// Whether memory is refused to a station or a call: then the station stays as it was.
+fn is_refused(rt: &(impl Abort + AllocGlobal)) -> bool {
+    let Ok(mut station) = Station::new(rt.alloc(), LEAST) else {
+        return true;
+    };
+    assert_eq!(rt; station.start(), Ok(0));
+    is_refused_to_a_call(rt, &mut station)
+}
+
+fn is_refused_to_a_call(rt: &(impl Abort + AllocGlobal), station: &mut Station) -> bool {
+    let before = (station.numbers(), *station.counters());
+    let mut user = Recorder::offering(&[]);
+    let outcome = drives::<64>(rt, station, &[&STACK], 256, &mut user, 1);
+    if outcome.answer.is_ok() {
+        is_whole(rt, station, &outcome);
+        assert_eq!(rt; user.seen(), RUNNING);
+        return false;
+    }
+    is_nothing(rt, station, &outcome);
+    assert_eq!(rt; (station.numbers(), *station.counters()), before);
+    true
+}
+
+/// Run with one allocation refused after another, until the next test passes too.
+#[test]
+fn refused_memory_leaves_a_station(rt: HostRuntime) {
+    let _either = is_refused(&rt);
+}
+
+#[test]
+fn ample_memory_drives(rt: HostRuntime) {
+    assert!(rt; !is_refused(&rt));
+}
+
+/// A call of a halted station finds memory and does nothing.
+fn stays_halted(rt: &(impl Abort + AllocGlobal), max: u16) {
+    let mut station = halted(rt, rt.alloc(), Config { max, ..LEAST });
+    let mut user = Recorder::offering(&[]);
+    let outcome = drives::<64>(rt, &mut station, &[], 256, &mut user, 0);
+    assert_eq!(rt; outcome.answer, Ok(driven(0, 0, 0)));
+    assert!(rt; outcome.writer.bytes().is_empty() && user.seen().is_empty());
+    assert!(rt; user.mail().is_empty());
+    assert_eq!(rt; station.state(), State::Halted);
+}
+
+/// A call of a started station finds memory and sends STRT once.
+fn starts_once(rt: &(impl Abort + AllocGlobal), turns: u32) {
+    let mut station = started(rt, rt.alloc(), USUAL);
+    let mut user = Recorder::offering(&[]);
+    let outcome = drives::<64>(rt, &mut station, &[SILENCE; 300], 256, &mut user, turns);
+    assert_eq!(rt; outcome.answer, Ok(driven(turns, 0, 8)));
+    assert_eq!(rt; outcome.writer.bytes(), STRT.as_slice());
+    assert!(rt; user.seen().is_empty() && user.mail().is_empty());
+    assert_eq!(rt; station.state(), State::IStart);
+}
+
+/// A call finds memory at every size of a message and any number of turns.
+#[test]
+fn calls_of_every_size(rt: HostRuntime) {
+    for max in 1..=16383u16 {
+        stays_halted(&rt, max);
+    }
+    for turns in 1..=300u32 {
+        starts_once(&rt, turns);
+    }
+}

@@ -1,0 +1,110 @@
+//! Lists of events between two ends. The input has one after another, each behind a line with the
+//! sizes of both ends; what is answered goes to the output, and what has been done in the end.
+#![tactic(auto)]
+
+mod answers;
+mod questions;
+mod table;
+
+use ddcmp_pair::{Bytes, Config, End, Event};
+use std::alloc::Global;
+use std::io::{self, Read};
+use table::Table;
+
+/// What stands before the sizes.
+const MARK: &str = "=== ";
+
+/// The sizes `WINDOW INBOX MAX SYN RESTART` of an end.
+fn config_of(sizes: &str) -> Option<Config> {
+    let mut words = sizes.split(' ');
+    let window = words.next()?.parse::<u16>().ok()?;
+    let inbox = words.next()?.parse::<u16>().ok()?;
+    let max = words.next()?.parse::<u16>().ok()?;
+    let syn = words.next()?.parse::<u8>().ok()?;
+    let restart = words.next()? == "yes";
+    Some(Config {
+        window,
+        inbox,
+        max,
+        syn,
+        restart,
+    })
+}
+
+/// The sizes of both ends in a line `SIZES; SIZES; NAME`.
+fn configs_of(head: &str) -> Option<(Config, Config)> {
+    let (first, rest) = head.split_once("; ")?;
+    let (second, _name) = rest.split_once("; ")?;
+    Some((config_of(first)?, config_of(second)?))
+}
+
+fn end_of(word: &str) -> Option<End> {
+    match word {
+        "A" => Some(End::A),
+        "B" => Some(End::B),
+        _ => None,
+    }
+}
+
+/// The bytes that a word has in hexadecimal.
+fn bytes_of(alloc: Global, word: &str) -> Option<Bytes> {
+    Some(Bytes::new(hex::decode(alloc, word).ok()?))
+}
+
+/// What happens at an end, by its word.
+fn event_at(alloc: Global, word: &str, end: End, bytes: &str) -> Option<Event> {
+    match word {
+        "start" => Some(Event::Start(end)),
+        "halt" => Some(Event::Halt(end)),
+        "send" => Some(Event::Send(end, bytes_of(alloc, bytes)?)),
+        "poll" => Some(Event::Poll(end)),
+        "arrive" => Some(Event::Arrive(end, bytes_of(alloc, bytes)?)),
+        "expire" => Some(Event::Expire(end)),
+        "take" => Some(Event::Take(end)),
+        _ => None,
+    }
+}
+
+/// Does what a line says, and tells what is answered.
+fn perform(rt: &HostRuntime, table: &mut Table, line: &str) -> io::Result<()> {
+    let mut words = line.split(' ');
+    let word = words.next().unwrap_or("");
+    let Some(end) = end_of(words.next().unwrap_or("")) else {
+        return questions::perform(rt, table, word);
+    };
+    match word {
+        "look" => return answers::look(rt, table.station(end)),
+        "open" => return println!(rt; "open={}", table.station(end).open()),
+        _ => {}
+    }
+    match event_at(rt.alloc(), word, end, words.next().unwrap_or("")) {
+        Some(event) => answers::replied(rt, table.step(event)),
+        None => println!(rt; "no event"),
+    }
+}
+
+/// Does what the lines say between two new ends.
+fn run(rt: &HostRuntime, head: &str, lines: &str) -> io::Result<()> {
+    println!(rt; "{MARK}{head}")?;
+    let Some((first, second)) = configs_of(head) else {
+        return println!(rt; "no sizes");
+    };
+    let Some(mut table) = Table::new(rt.alloc(), first, second) else {
+        return println!(rt; "no pair");
+    };
+    for line in lines.lines() {
+        perform(rt, &mut table, line)?;
+    }
+    Ok(())
+}
+
+fn main(rt: HostRuntime) -> io::Result<()> {
+    let mut input = String::new(rt.alloc());
+    rt.stdin().read_to_string(&mut input)?;
+    for part in input.as_str().split(MARK).skip(1) {
+        if let Some((head, lines)) = part.split_once('\n') {
+            run(&rt, head, lines)?;
+        }
+    }
+    Ok(())
+}

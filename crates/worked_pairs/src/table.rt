@@ -1,0 +1,103 @@
+//! A pair of which each message is known to fit.
+ghost use Rattle.std.specs.Prelude.{◌≤◌};
+
+use ddcmp_pair::{Config, End, Event, Memory, Pair, Recovered, Reply, Settled, Station};
+use std::alloc::Global;
+
+/// The most bytes of a message at any end.
+pub const LONGEST: usize = 16383;
+
+/// A pair, and the most bytes of its messages.
+#[derive(Drop)]
+pub struct Table {
+    pair: Pair,
+    ghost longest_a: { pair.a.core.limits.longest ≤ 16383 },
+    ghost longest_b: { pair.b.core.limits.longest ≤ 16383 },
+}
+
+impl Table {
+    pub fn new(alloc: Global, first: Config, second: Config) -> Option<Table> {
+        if first.max <= 16383 && second.max <= 16383 {
+            Table::of(alloc, first, second)
+        } else {
+            None
+        }
+    }
+
+    /// Of sizes whose messages fit.
+    fn of(alloc: Global, first: Config, second: Config) -> Option<Table>
+        requires first { first.max ≤ 16383 }
+        requires second { second.max ≤ 16383 }
+    {
+        match Pair::new(alloc, first, second) {
+            Ok(pair) => Some(Table { pair }),
+            Err(_refusal) => None,
+        }
+    }
+
+    pub fn step(&mut self, event: Event) -> Result<Reply, Memory> {
+        self.pair.step(event)
+    }
+
+    pub fn settle(&mut self) -> Result<Settled, Memory> {
+        self.pair.settle()
+    }
+
+    pub fn round(&mut self) -> Result<Settled, Memory> {
+        self.pair.round()
+    }
+
+    pub fn recover(&mut self) -> Result<Recovered, Memory> {
+        self.pair.recover()
+    }
+
+    pub fn station(&self, end: End) -> &Station {
+        self.pair.station(end)
+    }
+
+    pub fn honest(&self) -> bool {
+        self.pair.honest()
+    }
+
+    pub fn clean(&self) -> bool {
+        self.pair.clean()
+    }
+
+    pub fn ready(&self) -> bool {
+        self.pair.ready()
+    }
+
+    pub fn done(&self) -> bool {
+        self.pair.done()
+    }
+
+    pub fn acknowledged(&self, end: End) -> u64 {
+        self.pair.acknowledged(end)
+    }
+
+    /// Message `i` of those that an end accepted, if there are so many.
+    pub fn given_at(&self, end: End, i: usize) -> Option<&[u8]> {
+        if i < self.pair.given(end) {
+            Some(self.pair.given_at(end, i))
+        } else {
+            None
+        }
+    }
+
+    /// Message `i` of those handed up at an end, in `out`, if there are so many.
+    pub fn handed_up_at<'a>(
+        &self,
+        end: End,
+        i: usize,
+        out: &'a mut [u8; LONGEST],
+    ) -> Option<&'a [u8]> {
+        if i >= self.pair.handed_up(end) {
+            return None;
+        }
+        let length = match end {
+            End::A => self.pair.handed_up_at(End::A, i, out),
+            End::B => self.pair.handed_up_at(End::B, i, out),
+        };
+        out.get(..length)
+    }
+}
