@@ -7,6 +7,8 @@ use Rattle.ddcmp_line.specs.declared.script_fault.ScriptFault.{ScriptFault}
 use Rattle.ddcmp_line.specs.declared.script_fault.ScriptFault.TheVariants as scripting
 use Rattle.ddcmp_cli.specs.declared.fault.Fault.{Fault}
 use Rattle.ddcmp_cli.specs.declared.fault.Fault.TheVariants.{Odd, NotHex, Line, Hex as NotHexIn, Read, Write, Memory as NoMemory, Carrier}
+use Rattle.ddcmp_run.specs.Run.{PairState, new_pair}
+use Rattle.ddcmp_line.specs.ScriptEnds.{around, Plays}
 use Rattle.ddcmp_station.specs.declared.config.Config.{Config}
 use Rattle.ddcmp_station.specs.Config.{first_refusal}
 use Rattle.ddcmp_cli.specs.declared.ending.Ending.{Ending}
@@ -94,13 +96,15 @@ abbrev pub CanRun : Command → Type 0
 CanRun (Explain form max) = (1 ≤ max) × (max ≤ MAX_COUNT)
 CanRun (Simulate config) = first_refusal config ≡ None
 
--- A script was run between two ends of these sizes over a line that doesn't fail, and the ending
--- tells the answer; or there was no memory for the ends.
+-- A script was played between two new ends of these sizes, over a line that gives what goes in and
+-- doesn't fail, and the ending tells the answer; or there was no memory for the ends.
 abbrev pub Simulates : Config → List ℕ → Known → Known → Known → Ending → Type 0
 Simulates config input left old new ending =
     ((ending ≡ Faulted NoMemory) × (left ≡ Some input) × Appends old new [])
-    ⊎ ((result : Result (Unit {0}) ScriptFault) × (ending ≡ ending_of script_fault result)
-    × (result ≢ Err scripting.Carrier))
+    ⊎ ((result : Result (Unit {0}) ScriptFault) × (after : PairState)
+    × (ending ≡ ending_of script_fault result) × (result ≢ Err scripting.Carrier)
+    × Plays input (around (new_pair config config) after true None None) (Appends old new)
+    (AppendsPart old new) result)
 
 -- a command was run, and the ending tells its answer
 abbrev pub Performs : Command → List ℕ → Known → Known → Known → Ending → Type 0

@@ -130,6 +130,7 @@ Lines of a script, where E is A or B:
   take E         a message that came is taken
   clear          the line is cleared, where both ends are halted
   settle         frames go to and fro until neither end has one
+  recover        the same, and twice: both timers run out, and the same again
   state E        its state and numbers are written
   # TEXT         nothing"
 }
