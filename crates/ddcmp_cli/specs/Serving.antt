@@ -23,7 +23,8 @@ usual_config restart =
 
 -- a station of these sizes that has started and done nothing more
 pub record HasStarted (restart : Bool) (v : StationView) : Type 0 where
-  pub core : v.core ≡ record (core_made (usual_config restart)) { station = after_start new_station }
+  pub core : v.core
+      ≡ record (core_made (usual_config restart)) { station = after_start new_station }
   pub syn : v.syn ≡ 0
   pub line : StandsFor v.line []
 

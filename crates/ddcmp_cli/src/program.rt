@@ -104,8 +104,8 @@ pub fn explain_is_asked()
         ≡ WordsFault.DisplayVersion ∷ [] }
 {}
 
-/// The words `ddcmp simulate` ask for the command that runs a script, without its options; `--window
-/// 255`, `--syn=16` and `--restart` are read.
+/// The words `ddcmp simulate` ask for the command that runs a script, without its options;
+/// `--window 255`, `--syn=16` and `--restart` are read.
 pub fn simulate_is_asked()
     ensures plain { IsAsked (codes "ddcmp" ∷ codes "simulate" ∷ []) (codes "simulate") }
     ensures no_window { option_in (codes "ddcmp" ∷ codes "simulate" ∷ []) (codes "window") ≡ None }

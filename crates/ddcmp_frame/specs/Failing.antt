@@ -4,7 +4,8 @@ use Rattle.ddcmp_frame.specs.declared.device.Worst.{Worst}
 use Rattle.ddcmp_frame.specs.declared.device.Worst.TheVariants.{Fine}
 
 -- A source over pieces: the bytes that are left and the worst answer so far; how many reads were
--- counted, the most bytes that one gives, and which of them is idle and which fails, where 0 is none.
+-- counted, the most bytes that one gives, and which of them is idle and which fails, where 0 is
+-- none.
 pub record PiecesView : Type 0 where
   pub left : List ℕ
   pub worst : Worst
@@ -24,9 +25,9 @@ pieces_of bytes = record {
   fails_at = 0;
 }
 
--- A sink over an array: the bytes that it keeps and whether a write has failed; how many writes were
--- counted, how many bytes have room, the most that one write takes, and which of them fails, where 0
--- is none.
+-- A sink over an array: the bytes that it keeps and whether a write has failed; how many writes
+-- were counted, how many bytes have room, the most that one write takes, and which of them fails,
+-- where 0 is none.
 pub record TakenView : Type 0 where
   pub bytes : List ℕ
   pub broken : Bool

@@ -71,13 +71,15 @@ impl Pair {
         ensures exchanges { IfOk result (λ r. r.exchanges ≡ (recovering self.old).exchanges) }
         ensures quiet { IfOk result (λ r. r.quiet ≡ (recovering self.old).quiet) }
         // On want of memory some of its events were done, each of them whole.
-        ensures memory { OnErr result (StoppedAmong (recovering self.old).events self.old self.new) }
+        ensures memory { OnErr result
+            (StoppedAmong (recovering self.old).events self.old self.new) }
         ensures limits { (end : EndValue) → (at end self.new).core.limits
             ≡ (at end self.old).core.limits }
         ensures order { IsInOrder self.new }
 
-        // Where the pair was ready it is repaired: the line is quiet after each settle, which counts
-        // at most so many exchanges by the larger window, and in the end nothing is left to be done.
+        // Where the pair was ready it is repaired: the line is quiet after each settle, which
+        // counts at most so many exchanges by the larger window, and in the end nothing is left to
+        // be done.
         ensures repaired { is_ready self.old ≡ true → IfOk result (λ r. r.quiet ≡ true) }
         ensures within { is_ready self.old ≡ true
             → IfOk result (λ r. All (λ n. n ≤ most_exchanges self.old) r.exchanges) }

@@ -17,9 +17,9 @@ ghost use Rattle.ddcmp_run.specs.Link.{Link, IsReached};
 /// The headline. For two new stations of any sizes in range, whether they restart or not, after
 /// every list of events that is honest and clean: the messages handed up at each end are the first
 /// of those that the other accepted, in their order, each once and unchanged; and no more was told
-/// acknowledged than was handed up. What was given at one end and handed up at the other is a run of
-/// a link without bounds. And where a clean pair comes to an arrival that is honest, no end is told
-/// that its peer began anew.
+/// acknowledged than was handed up. What was given at one end and handed up at the other is a run
+/// of a link without bounds. And where a clean pair comes to an arrival that is honest, no end is
+/// told that its peer began anew.
 pub fn in_order()
     ensures order { (first second : ConfigValue) (events : List EventValue)
         → first_refusal first ≡ None → first_refusal second ≡ None

@@ -178,8 +178,8 @@ pub record Devices : Type 0 where
   pub seen : Option (List UserCall)
   pub seen_after : Option (List UserCall)
 
--- The same out of the devices themselves, before and after: first come what a source, a sink, a user
--- and a clock show to contracts.
+-- The same out of the devices themselves, before and after: first come what a source, a sink, a
+-- user and a clock show to contracts.
 abbrev pub devices_of : {R W U C : Type 0}
     → (R → Option (List ℕ)) → (R → Worst) → (R → Option (List Got)) → (W → Option (List ℕ))
     → (U → Option (List UserCall)) → (C → Option (List ℕ))
