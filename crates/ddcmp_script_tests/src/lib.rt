@@ -1,12 +1,6 @@
-//! Tests of a script over devices and carriers that fail, give little or give something else, and
-//! with refused memory. What scripts write is the matter of `worked_scripts`.
+//! Tests of a script with refused memory. What scripts write is the matter of `worked_scripts`, and
+//! what they do over bad devices of `worked_devices`.
 #![tactic(auto)]
 
 #[cfg(test)]
-mod carriers;
-#[cfg(test)]
-mod devices;
-#[cfg(test)]
 mod memory;
-#[cfg(test)]
-mod message;
