@@ -18,8 +18,7 @@ use crate::command::{Command, Reading, read_line};
 use crate::frame_lines::{FrameLeft, FrameLines};
 use crate::reply_text::{
     answerer_name, damage_name, end_name, write_bytes, write_counted, write_plain, write_recovered,
-    write_reply,
-    write_settled, write_station,
+    write_reply, write_settled, write_station,
 };
 use ddcmp_frame::{Page, Sink};
 use ddcmp_pair::{Bytes, End, Event, Pair, Reply};
