@@ -1,5 +1,5 @@
 -- How the program ends.
-use Rattle.std.specs.Prelude.{⊤, length, ◌<◌, String, None, codes, string_bytes, Bool, true, false, ◌≡◌, ◌≢◌, ◌⊎◌, ◌≤◌, ℕ, List, [], Option, Some, Result, Ok, Err}
+use Rattle.std.specs.Prelude.{⊤, length, ◌<◌, None, codes, string_bytes, Bool, true, false, ◌≡◌, ◌≢◌, ◌⊎◌, ◌≤◌, ℕ, List, [], Option, Some, Result, Ok, Err}
 use Rattle.std.specs.Io.KnownBytes.{Appends, Keeps}
 use Rattle.ddcmp_cli.specs.declared.explain_fault.ExplainFault.{ExplainFault}
 use Rattle.ddcmp_cli.specs.declared.explain_fault.ExplainFault.TheVariants as explaining
@@ -135,10 +135,6 @@ pub record ServesOver (served : Served) (new : Known) (ending : Ending) : Type 0
   pub serves : answer ≢ Err serving.Config → (devices : Devices)
       × Serves served.timer_ms served.turns served.restart devices new answer
 
--- the digits of a message are refused as usage, or there was no memory for its text
-abbrev pub Misuses : Ending → Type 0
-Misuses ending = ((text : String) × (ending ≡ Misused text)) ⊎ (ending ≡ Faulted NoMemory)
-
 -- the connection can't be made, or a station is served over it
 abbrev pub Connects : Served → Known → Known → Ending → Type 0
 Connects served old new ending =
@@ -149,11 +145,12 @@ abbrev pub SendsDecoded : Served → Result (List ℕ) FromHexError → Known �
 SendsDecoded served (Ok message) old new ending = Connects served old new ending
 SendsDecoded served (Err refused) old new ending = (ending ≡ Faulted Message) × Keeps old new
 
--- What became of a station that was asked for. The digits of more than 1500 bytes are usage; then
+-- What became of a station that was asked for. The digits of more than 1500 bytes are usage, or find no
+-- memory to be told; then
 -- come those that spell no bytes, and then the connection. Only a station that is served writes.
 abbrev pub Stations : Served → Known → Known → Ending → Type 0
 Stations served old new ending =
-    ((3000 < length served.send.now) × Misuses ending × Keeps old new)
+    ((3000 < length served.send.now) × (is_refusal ending ≡ true) × Keeps old new)
     ⊎ ((length served.send.now ≤ 3000)
     × SendsDecoded served (decode_of served.send.now) old new ending)
 

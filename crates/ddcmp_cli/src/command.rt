@@ -32,7 +32,7 @@ pub enum Command<'a> {
 }
 
 /// What may stand after `--role`.
-pub const ROLES: [&str; 2] = ["connect", "listen"];
+pub const ROLES: &[&str] = &["connect", "listen"];
 
 fn flag<'a>(alloc: Global, name: &'a str, help: &'a str) -> Arg<'a>
     ensures rule { rule_of result ≡ flag_rule name.entry.now }
@@ -170,7 +170,7 @@ fn station_parser<'a>(alloc: Global) -> Result<clap::Command<'a>, AllocError>
 {
     let role = text(alloc, "role", "ROLE", "Who opens the connection")
         .required(true)
-        .value_parser(ROLES.as_slice());
+        .value_parser(ROLES);
     let addr = text(
         alloc,
         "addr",
@@ -268,6 +268,7 @@ fn flag_given(options: &ArgMatches<'_>, name: &str) -> bool
 /// A number that was given, or the usual one. The parser of the words has tested the range.
 fn number_given(options: &ArgMatches<'_>, name: &str, low: u32, high: u32, usual: u32) -> u32
     requires usual { (low ≤ usual) × (usual ≤ high) }
+    requires most { high ≤ 4294967295 }
     ensures { HasNumber low high usual (one_text (found_of options.now) name.now) result }
 {
     match options.get_one::<u32>(name) {

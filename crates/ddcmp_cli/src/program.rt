@@ -35,13 +35,13 @@ fn perform<S: Net<Stream = TcpStream> + time::Clock, R: Source, W: Sink>(
     requires whole { W.broken writer.old ≡ false }
     requires runs { CanRun command }
     ensures performs { (input : List ℕ) → R.left reader.old ≡ Some input
-        → Performs command input (R.left reader.new) (W.contents writer.old)
+        → Performs command.entry input (R.left reader.new) (W.contents writer.old)
         (W.contents writer.new) result }
     ensures read { R.state reader.new ≢ Worst.Fine → result ≡ Ending.Fault Fault.Read }
-    ensures write { name_of command ≢ codes "station"
+    ensures write { name_of command.entry ≢ codes "station"
         → (result ≡ Ending.Fault Fault.Write) ↔ IsTrue (W.broken writer.new) }
     ensures whole { result ≡ Ending.Done → W.broken writer.new ≡ false }
-    ensures stations { (served : ServedValue) → command ≡ Command.Station served
+    ensures stations { (served : ServedValue) → command.entry ≡ Command.Station served
         → (reader.new ≡ reader.old)
         × Stations served (W.contents writer.old) (W.contents writer.new) result }
 {

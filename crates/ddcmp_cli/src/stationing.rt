@@ -1,8 +1,8 @@
 //! A station over a connection.
-ghost use Rattle.std.specs.Prelude.{◌≡◌, ◌≤◌, ◌*◌, length, false, option_map};
+ghost use Rattle.std.specs.Prelude.{◌≡◌, ◌≤◌, ◌*◌, length, false, true, option_map, IfSome};
 ghost use Rattle.std.specs.Result.{result_ok};
 ghost use Rattle.hex.specs.Hex.{decode_of};
-ghost use Rattle.ddcmp_cli.specs.Endings.{Misuses, Stations};
+ghost use Rattle.ddcmp_cli.specs.Endings.{is_refusal, Stations};
 
 use crate::connection::{Elapsed, open};
 use crate::ending::Ending;
@@ -23,7 +23,7 @@ For more information, try '--help'.
 
 /// Words that are out of order, as this text says.
 fn usage(alloc: Global, text: &str) -> Ending
-    ensures { Misuses result }
+    ensures { is_refusal result ≡ true }
 {
     match String::from_str(alloc, text) {
         Ok(text) => Ending::Usage(text),
@@ -34,7 +34,8 @@ fn usage(alloc: Global, text: &str) -> Ending
 /// The bytes that digits spell, at the front of a buffer; none where they spell none.
 fn message_in<'a>(digits: &str, buffer: &'a mut [u8]) -> Option<&'a [u8]>
     requires { length digits.now ≤ 2 * length buffer.old }
-    ensures { option_map (λ message. message.now) result ≡ result_ok (decode_of digits.now) }
+    ensures bytes { option_map (λ message. message.now) result ≡ result_ok (decode_of digits.now) }
+    ensures length { IfSome result (λ message. 2 * length message.now ≤ length digits.now) }
 {
     let message = &mut buffer[..digits.len() / 2];
     match hex::decode_to_slice(digits.as_bytes(), message) {
