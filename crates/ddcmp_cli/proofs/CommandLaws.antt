@@ -7,7 +7,7 @@ use Rattle.clap.specs.declared.error.kind.ErrorKind.TheVariants.{DisplayHelp, Di
 use Rattle.ddcmp_cli.specs.declared.declined.Declined.{Declined}
 use Rattle.ddcmp_cli.specs.declared.declined.Declined.TheVariants.{Help, Version, Usage, Memory}
 use Rattle.ddcmp_cli.specs.Words.{Declines, Reads}
-use Rattle.std.proofs.Common.{unwrap_or, [], inl, inr, ◌≤◌, ◌≢◌, ◌⊎◌, Err, ℕ, codes, ◌≡◌, ◌∙◌, ap, sym, subst, refl, true, List, Option, Some, None}
+use Rattle.std.proofs.Common.{◌∷◌, unwrap_or, [], inl, inr, ◌≤◌, ◌≢◌, ◌⊎◌, Err, ℕ, codes, ◌≡◌, ◌∙◌, ap, sym, subst, refl, true, List, Option, Some, None}
 use Rattle.std.proofs.lemmas.Bool.{le-leb}
 use Rattle.std.specs.Option.{option_map, option_and_then}
 use Rattle.clap.specs.Words.{App, Text, HasMatchesOf, is_simple, subcommand_of, subcommand_name_of, subcommand_rows_of, one_text, one_of, first_of, first_value, takes, Row}
@@ -123,11 +123,21 @@ can_run o t (Simulate config) h = sized config h.window.in_range h.inbox.in_rang
 names-differ : ◌≡◌ {A = Option Text} (Some (codes "explain")) (Some (codes "simulate")) → ⊥
 names-differ e = cc
 
+abbrev second : Option Text → ℕ
+second (Some (x ∷ y ∷ rest)) = y
+second _ = 0
+
+x-t : ◌≡◌ {A = ℕ} 120 116 → ⊥
+x-t e = cc
+
 explain-station : ◌≡◌ {A = Option Text} (Some (codes "explain")) (Some (codes "station")) → ⊥
-explain-station e = cc
+explain-station e = x-t (ap second e)
+
+i-t : ◌≡◌ {A = ℕ} 105 116 → ⊥
+i-t e = cc
 
 simulate-station : ◌≡◌ {A = Option Text} (Some (codes "simulate")) (Some (codes "station")) → ⊥
-simulate-station e = cc
+simulate-station e = i-t (ap second e)
 
 pub performed : (words : List Text) (command : Command) (input : List ℕ) (left old new : Option (List ℕ)) (ending : Ending) → IsAsked words (codes "explain") → named_by words ≡ Some (name_of command) → HasOptions (option_in words) (text_in words) command → Performs command input left old new ending → ExplainsOrNoMemory words input left old new ending
 performed words (Explain form max) input left old new ending a n h p = inr (form, max, p.0, h, p.1, p.2)

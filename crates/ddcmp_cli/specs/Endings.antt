@@ -145,13 +145,14 @@ abbrev pub SendsDecoded : Served → Result (List ℕ) FromHexError → Known �
 SendsDecoded served (Ok message) old new ending = Connects served old new ending
 SendsDecoded served (Err refused) old new ending = (ending ≡ Faulted Message) × Keeps old new
 
--- What became of a station that was asked for. The digits of more than 1500 bytes are usage, or find no
--- memory to be told; then
--- come those that spell no bytes, and then the connection. Only a station that is served writes.
+-- What became of a station that was asked for. A word that names no role and the digits of more
+-- than 1500 bytes are usage, or find no memory to be told; then come digits that spell no bytes, and
+-- then the connection. Only a station that is served writes.
 abbrev pub Stations : Served → Known → Known → Ending → Type 0
 Stations served old new ending =
-    ((3000 < length served.send.now) × (is_refusal ending ≡ true) × Keeps old new)
-    ⊎ ((length served.send.now ≤ 3000)
+    (((served.role ≡ None) ⊎ (3000 < length served.send.now))
+    × (is_refusal ending ≡ true) × Keeps old new)
+    ⊎ ((served.role ≢ None) × (length served.send.now ≤ 3000)
     × SendsDecoded served (decode_of served.send.now) old new ending)
 
 -- the station was that of the words, or there was no memory for them

@@ -6,7 +6,6 @@ use Rattle.ddcmp_cli.specs.declared.form.Form.{Form}
 use Rattle.ddcmp_cli.specs.declared.form.Form.TheVariants.{Hex, Raw}
 use Rattle.ddcmp_cli.specs.declared.command.Command.{Command}
 use Rattle.ddcmp_cli.specs.declared.command.Command.TheVariants.{Explain, Simulate, Station}
-use Rattle.ddcmp_cli.specs.declared.command.TheConstants.{ROLES}
 use Rattle.ddcmp_cli.specs.declared.served.Role.{Role}
 use Rattle.ddcmp_cli.specs.declared.served.Role.TheVariants.{Connect, Listen}
 use Rattle.ddcmp_cli.specs.declared.served.Served.{Served}
@@ -19,7 +18,7 @@ use Rattle.ddcmp_station.specs.declared.config.Config.{Config}
 use Rattle.ddcmp_station.specs.declared.config.TheConstants.{MAX_INBOX, MAX_SYN}
 use Rattle.clap.specs.Words.{IsAmong, fault_of, App, Rule, Text, first_of, new_app, new_rule, one_of, subcommand_of, takes, with_rule, with_subcommand}
 use Rattle.clap.specs.declared.builder.ArgAction.TheVariants.{SetTrue}
-use Rattle.clap.specs.declared.builder.value_parser.ValueParser.TheVariants.{Names, Signed}
+use Rattle.clap.specs.declared.builder.value_parser.ValueParser.TheVariants.{Signed}
 
 -- an option that stands alone
 abbrev pub flag_rule : Text → Rule
@@ -40,10 +39,6 @@ text_rule name = record (new_rule name) { long = Some name; value_names = 1 }
 -- an option that can't be left out
 abbrev pub required : Rule → Rule
 required rule = record rule { required = true }
-
--- `--role`, before one of two words
-abbrev pub role_rule : Rule
-role_rule = record (text_rule (codes "role")) { required = true; parser = Some (Names ROLES) }
 
 -- `ddcmp explain`
 abbrev pub explain_app : App
@@ -72,7 +67,7 @@ MOST = 4294967295
 abbrev pub station_app : App
 station_app =
     with_rule (with_rule (with_rule (with_rule (with_rule (with_rule (new_app (codes "station"))
-    role_rule)
+    (required (text_rule (codes "role"))))
     (required (text_rule (codes "addr"))))
     (required (number_rule (codes "turns") 0 MOST)))
     (required (number_rule (codes "timer-ms") 0 MOST)))
@@ -143,8 +138,11 @@ pub record HasSizes (option : Text → Option Text) (config : Config) : Type 0 w
   pub restart : HasFlag (option (codes "restart")) config.restart
 
 -- who opens the connection, by its word
-abbrev pub role_of : Text → Role
-role_of word = if bytes_eq word (codes "listen") then Listen else Connect
+abbrev pub role_of : Text → Option Role
+role_of word =
+    if bytes_eq word (codes "connect") then Some Connect
+    else if bytes_eq word (codes "listen") then Some Listen
+    else None
 
 -- The options of a station over a connection. Those that can't be left out are always there.
 pub record HasStation (option text : Text → Option Text) (served : Served) : Type 0 where

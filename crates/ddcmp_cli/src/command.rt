@@ -7,7 +7,7 @@ ghost use Rattle.ddcmp_cli.specs.Words.{HasFlag, HasForm, HasNumber, HasOptions,
 ghost use Rattle.ddcmp_cli.specs.Words.{explain_app, simulate_app, station_app, flag_rule, number_rule, text_rule};
 ghost use Rattle.ddcmp_cli.specs.Words.{role_of};
 ghost use Rattle.ddcmp_cli.specs.Words.{with_sizes as with_sizes_of};
-ghost use Rattle.clap.specs.Words.{kind_of, app_of, rule_of, first_of, first_value, found_of, one_of, one_text};
+ghost use Rattle.clap.specs.Words.{kind_of, app_of, new_app, rule_of, first_of, first_value, found_of, one_of, one_text};
 ghost use Rattle.clap.specs.Words.{subcommand_name_of, subcommand_rows_of};
 ghost use Rattle.clap.specs.declared.builder.command.Command.TheViews.{out-Command as fields_of};
 
@@ -30,9 +30,6 @@ pub enum Command<'a> {
     /// Drive a station over a connection.
     Station(Served<'a>),
 }
-
-/// What may stand after `--role`.
-pub const ROLES: &[&str] = &["connect", "listen"];
 
 fn flag<'a>(alloc: Global, name: &'a str, help: &'a str) -> Arg<'a>
     ensures rule { rule_of result ≡ flag_rule name.entry.now }
@@ -163,41 +160,60 @@ fn simulate_parser<'a>(alloc: Global) -> Result<clap::Command<'a>, AllocError>
     with_sizes(alloc, command)
 }
 
+/// `station` without its options.
+fn station_command<'a>(alloc: Global) -> clap::Command<'a>
+    ensures app { app_of result ≡ new_app (codes "station") }
+    ensures local { (fields_of result).has_globals ≡ false }
+{
+    clap::Command::new(alloc, "station")
+        .about("Runs a station over a TCP connection")
+        .after_help(report_help())
+}
+
 /// The options of a station over a connection.
 fn station_parser<'a>(alloc: Global) -> Result<clap::Command<'a>, AllocError>
     ensures app { IfOk result (λ made. app_of made ≡ station_app) }
     ensures local { IfOk result (λ made. (fields_of made).has_globals ≡ false) }
 {
-    let role = text(alloc, "role", "ROLE", "Who opens the connection")
-        .required(true)
-        .value_parser(ROLES);
-    let addr = text(
-        alloc,
-        "addr",
-        "ADDR",
-        "Where to connect or to listen, as 127.0.0.1:7000; start the listener first",
-    );
-    let turns = number(
-        alloc,
-        "turns",
-        0,
-        u32::MAX,
-        "How many turns the station has; one waits at most 10 ms for bytes",
-    );
-    let timer = number(
-        alloc,
-        "timer-ms",
-        0,
-        u32::MAX,
-        "How long it waits for an answer before it asks again",
-    );
-    clap::Command::new(alloc, "station")
-        .about("Runs a station over a TCP connection")
-        .after_help(report_help())
-        .arg(role)?
-        .arg(addr.required(true))?
-        .arg(turns.required(true))?
-        .arg(timer.required(true))?
+    station_command(alloc)
+        .arg(
+            text(
+                alloc,
+                "role",
+                "connect|listen",
+                "Who opens the connection; start the listener first",
+            )
+            .required(true),
+        )?
+        .arg(
+            text(
+                alloc,
+                "addr",
+                "ADDR",
+                "Where to connect or to listen, such as 127.0.0.1:7000",
+            )
+            .required(true),
+        )?
+        .arg(
+            number(
+                alloc,
+                "turns",
+                0,
+                u32::MAX,
+                "How many turns the station has; a turn waits at most 10 ms for bytes",
+            )
+            .required(true),
+        )?
+        .arg(
+            number(
+                alloc,
+                "timer-ms",
+                0,
+                u32::MAX,
+                "How long it waits for an answer before it asks again",
+            )
+            .required(true),
+        )?
         .arg(text(
             alloc,
             "send",
@@ -321,14 +337,16 @@ fn text_given<'a>(options: &ArgMatches<'a>, name: &str) -> &'a str
     options.get_str(name).unwrap_or("")
 }
 
-/// The role of this name. The parser of the words has tested that there is one.
-fn role_named(name: &str) -> Role
+/// The role of this name.
+fn role_named(name: &str) -> Option<Role>
     ensures { result ≡ role_of name.now }
 {
-    if name == "listen" {
-        Role::Listen
+    if name == "connect" {
+        Some(Role::Connect)
+    } else if name == "listen" {
+        Some(Role::Listen)
     } else {
-        Role::Connect
+        None
     }
 }
 

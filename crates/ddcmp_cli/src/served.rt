@@ -12,7 +12,8 @@ pub enum Role {
 /// A station over a connection, as the words ask for it.
 #[derive(Clone, Copy, Debug, PartialEq, Eq)]
 pub struct Served<'a> {
-    pub role: Role,
+    /// None where the word names no role; a station has one.
+    pub role: Option<Role>,
     /// The address that is connected to or listened at, such as `127.0.0.1:7000`.
     pub addr: &'a str,
     pub turns: u32,

@@ -14,6 +14,13 @@ use std::alloc::Global;
 use std::net::{Net, TcpStream};
 use std::time;
 
+/// What is told where the word for the role is another.
+const NO_ROLE: &str = "\
+error: '--role' is connect or listen
+
+For more information, try '--help'.
+";
+
 /// What is told where the message to send is too long.
 const TOO_LONG: &str = "\
 error: the message of '--send <HEX>' has more than 1500 bytes
@@ -55,6 +62,9 @@ pub(crate) fn station<S: Net<Stream = TcpStream> + time::Clock, W: Sink>(
     ensures stations { Stations served.now (W.contents report.old) (W.contents report.new) result }
     ensures whole { result ≡ Ending.Done → W.broken report.new ≡ false }
 {
+    let Some(role) = served.role else {
+        return usage(alloc, NO_ROLE);
+    };
     if served.send.len() > 2 * SERVED_MAX as usize {
         return usage(alloc, TOO_LONG);
     }
@@ -62,7 +72,7 @@ pub(crate) fn station<S: Net<Stream = TcpStream> + time::Clock, W: Sink>(
     let Some(message) = message_in(served.send, &mut buffer) else {
         return Ending::Fault(Fault::Message);
     };
-    let Ok(stream) = open(system, served.role, served.addr) else {
+    let Ok(stream) = open(system, role, served.addr) else {
         return Ending::Fault(Fault::Carrier);
     };
     match serve(

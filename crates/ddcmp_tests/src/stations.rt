@@ -15,7 +15,7 @@ const STRT: [u8; 8] = [0x05, 0x06, 0xC0, 0x00, 0x00, 0x01, 0x75, 0x95];
 /// A station that connects, with these numbers.
 fn served(turns: u32, timer_ms: u32) -> Served<'static> {
     Served {
-        role: Role::Connect,
+        role: Some(Role::Connect),
         addr: HERE,
         turns,
         timer_ms,
@@ -62,7 +62,7 @@ fn asks_for(rt: &(impl Abort + AllocGlobal), words: &[&str], want: Served<'_>) {
 fn options_make_the_station(rt: HostRuntime) {
     let least = served(0, 0);
     let most = served(4294967295, 4294967295);
-    let rows: [([&str; 12], usize, Served<'_>); 7] = [
+    let rows: [([&str; 12], usize, Served<'_>); 8] = [
         (words("connect", HERE, "0", "0", ["", ""]), 10, least),
         (
             words("connect", HERE, "4294967295", "4294967295", ["", ""]),
@@ -73,7 +73,16 @@ fn options_make_the_station(rt: HostRuntime) {
             words("listen", HERE, "0", "0", ["", ""]),
             10,
             Served {
-                role: Role::Listen,
+                role: Some(Role::Listen),
+                ..least
+            },
+        ),
+        // Another word names no role, which is told when the station is run.
+        (
+            words("other", HERE, "0", "0", ["", ""]),
+            10,
+            Served {
+                role: None,
                 ..least
             },
         ),
@@ -121,14 +130,12 @@ fn options_make_the_station(rt: HostRuntime) {
 /// Each of the four options left out, just outside the ranges, twice, and what is no option.
 #[test]
 fn other_words_are_usage(rt: HostRuntime) {
-    let rows: [&[&str]; 16] = [
+    let rows: [&[&str]; 14] = [
         &["ddcmp", "station"],
         &["ddcmp", "station", "--addr", HERE, "--turns=1", "--timer-ms=1"],
         &["ddcmp", "station", "--role=listen", "--turns=1", "--timer-ms=1"],
         &["ddcmp", "station", "--role=listen", "--addr", HERE, "--timer-ms=1"],
         &["ddcmp", "station", "--role=listen", "--addr", HERE, "--turns=1"],
-        &words("other", HERE, "1", "1", ["--restart", "--send=61"]),
-        &words("", HERE, "1", "1", ["--restart", "--send=61"]),
         &words("listen", HERE, "4294967296", "1", ["--restart", "--send=61"]),
         &words("listen", HERE, "-1", "1", ["--restart", "--send=61"]),
         &words("listen", HERE, "1", "4294967296", ["--restart", "--send=61"]),
@@ -179,6 +186,19 @@ fn digits_come_before_the_connection(rt: HostRuntime) {
             Err(_) => assert!(rt; false),
         }
     }
+}
+
+/// Another role is usage, before all else.
+#[test]
+fn other_roles_are_usage(rt: HostRuntime) -> Result<(), Fail> {
+    for role in ["other", "", "Listen", "listen ", "connects"] {
+        let all = words(role, "nowhere", "0", "0", ["--send", "zz"]);
+        let (ending, written) = stationed(&rt, &all, 0);
+        assert_eq!(rt; ending.status(), 2);
+        assert_eq!(rt; ending.to_string(rt.alloc())?.as_str(), NO_ROLE);
+        assert!(rt; written.bytes().is_empty());
+    }
+    Ok(())
 }
 
 #[test]
@@ -234,19 +254,25 @@ fn a_report_fails(rt: HostRuntime) -> Result<(), Fail> {
     Ok(())
 }
 
+const NO_ROLE: &str = "\
+error: '--role' is connect or listen
+
+For more information, try '--help'.
+";
+
 const HELP_OF_STATION: &[u8] = b"\
 Runs a station over a TCP connection
 
-Usage: ddcmp station [OPTIONS] --role <ROLE> --addr <ADDR> --turns <N> --timer-ms <N>
+Usage: ddcmp station [OPTIONS] --role <connect|listen> --addr <ADDR> --turns <N> --timer-ms <N>
 
 Options:
-      --role <ROLE>   Who opens the connection [possible values: connect, listen]
-      --addr <ADDR>   Where to connect or to listen, as 127.0.0.1:7000; start the listener first
-      --turns <N>     How many turns the station has; one waits at most 10 ms for bytes
-      --timer-ms <N>  How long it waits for an answer before it asks again
-      --send <HEX>    A message that is sent once the station runs, at most 1500 bytes
-      --restart       Begin anew where the peer does, if no message waits to be taken
-  -h, --help          Print help
+      --role <connect|listen>  Who opens the connection; start the listener first
+      --addr <ADDR>            Where to connect or to listen, such as 127.0.0.1:7000
+      --turns <N>              How many turns the station has; a turn waits at most 10 ms for bytes
+      --timer-ms <N>           How long it waits for an answer before it asks again
+      --send <HEX>             A message that is sent once the station runs, at most 1500 bytes
+      --restart                Begin anew where the peer does, if no message waits to be taken
+  -h, --help                   Print help
 
 What is written, as it happens:
   notice N                           a notice of the station, as Running or Acknowledged 1
