@@ -7,7 +7,7 @@ use Rattle.clap.specs.declared.error.kind.ErrorKind.TheVariants.{DisplayHelp, Di
 use Rattle.ddcmp_cli.specs.declared.declined.Declined.{Declined}
 use Rattle.ddcmp_cli.specs.declared.declined.Declined.TheVariants.{Help, Version, Usage, Memory}
 use Rattle.ddcmp_cli.specs.Words.{Declines, Reads}
-use Rattle.std.proofs.Common.{◌∷◌, unwrap_or, [], inl, inr, ◌≤◌, ◌≢◌, ◌⊎◌, Err, ℕ, codes, ◌≡◌, ◌∙◌, ap, sym, subst, refl, true, List, Option, Some, None}
+use Rattle.std.proofs.Common.{◌∷◌, ◌==◌, Bool, false, unwrap_or, [], inl, inr, ◌≤◌, ◌≢◌, ◌⊎◌, Err, ℕ, codes, ◌≡◌, ◌∙◌, ap, sym, subst, refl, true, List, Option, Some, None}
 use Rattle.std.proofs.lemmas.Bool.{le-leb}
 use Rattle.std.specs.Option.{option_map, option_and_then}
 use Rattle.clap.specs.Words.{App, Text, HasMatchesOf, is_simple, subcommand_of, subcommand_name_of, subcommand_rows_of, one_text, one_of, first_of, first_value, takes, Row}
@@ -123,21 +123,19 @@ can_run o t (Simulate config) h = sized config h.window.in_range h.inbox.in_rang
 names-differ : ◌≡◌ {A = Option Text} (Some (codes "explain")) (Some (codes "simulate")) → ⊥
 names-differ e = cc
 
-abbrev second : Option Text → ℕ
-second (Some (x ∷ y ∷ rest)) = y
-second _ = 0
+-- the second letter is t
+abbrev has_t : Option Text → Bool
+has_t (Some (x ∷ y ∷ rest)) = y == 116
+has_t _ = false
 
-x-t : ◌≡◌ {A = ℕ} 120 116 → ⊥
-x-t e = cc
+false-true : ◌≡◌ {A = Bool} false true → ⊥
+false-true e = cc
 
 explain-station : ◌≡◌ {A = Option Text} (Some (codes "explain")) (Some (codes "station")) → ⊥
-explain-station e = x-t (ap second e)
-
-i-t : ◌≡◌ {A = ℕ} 105 116 → ⊥
-i-t e = cc
+explain-station e = false-true (ap has_t e)
 
 simulate-station : ◌≡◌ {A = Option Text} (Some (codes "simulate")) (Some (codes "station")) → ⊥
-simulate-station e = i-t (ap second e)
+simulate-station e = false-true (ap has_t e)
 
 pub performed : (words : List Text) (command : Command) (input : List ℕ) (left old new : Option (List ℕ)) (ending : Ending) → IsAsked words (codes "explain") → named_by words ≡ Some (name_of command) → HasOptions (option_in words) (text_in words) command → Performs command input left old new ending → ExplainsOrNoMemory words input left old new ending
 performed words (Explain form max) input left old new ending a n h p = inr (form, max, p.0, h, p.1, p.2)

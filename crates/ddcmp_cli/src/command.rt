@@ -176,44 +176,36 @@ fn station_parser<'a>(alloc: Global) -> Result<clap::Command<'a>, AllocError>
     ensures local { IfOk result (λ made. (fields_of made).has_globals ≡ false) }
 {
     station_command(alloc)
-        .arg(
-            text(
-                alloc,
-                "role",
-                "connect|listen",
-                "Who opens the connection; start the listener first",
-            )
-            .required(true),
-        )?
-        .arg(
-            text(
-                alloc,
-                "addr",
-                "ADDR",
-                "Where to connect or to listen, such as 127.0.0.1:7000",
-            )
-            .required(true),
-        )?
-        .arg(
-            number(
-                alloc,
-                "turns",
-                0,
-                u32::MAX,
-                "How many turns the station has; a turn waits at most 10 ms for bytes",
-            )
-            .required(true),
-        )?
-        .arg(
-            number(
-                alloc,
-                "timer-ms",
-                0,
-                u32::MAX,
-                "How long it waits for an answer before it asks again",
-            )
-            .required(true),
-        )?
+        .arg(text(
+            alloc,
+            "role",
+            "connect|listen",
+            "Who opens the connection; start the listener first",
+        )
+        .required(true))?
+        .arg(text(
+            alloc,
+            "addr",
+            "ADDR",
+            "Where to connect or to listen, such as 127.0.0.1:7000",
+        )
+        .required(true))?
+        .arg(number(
+            alloc,
+            "turns",
+            0,
+            u32::MAX,
+            "How many turns the station has; a turn waits at most 10 ms for bytes",
+        )
+        .required(true))?
+        .arg(number(
+            alloc,
+            "timer-ms",
+            0,
+            u32::MAX,
+            "How long it waits for an answer before it asks again",
+        )
+        .required(true))?
         .arg(text(
             alloc,
             "send",

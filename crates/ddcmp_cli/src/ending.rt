@@ -27,16 +27,9 @@ impl Ending {
             Ending::Done => 0,
             Ending::Usage(_) | Ending::NotText => 2,
             Ending::Fault(fault) => match fault {
-                Fault::Odd
-                | Fault::NotHex(_)
-                | Fault::Line(_)
-                | Fault::Hex(_)
-                | Fault::Message => 1,
-                Fault::Read
-                | Fault::Write
-                | Fault::Memory
-                | Fault::Carrier
-                | Fault::Ended => 3,
+                Fault::Odd | Fault::NotHex(_) | Fault::Line(_) | Fault::Hex(_) | Fault::Message =>
+                    1,
+                Fault::Read | Fault::Write | Fault::Memory | Fault::Carrier | Fault::Ended => 3,
             },
         }
     }

@@ -18,10 +18,9 @@ use crate::stationing::station;
 use clap::error::ErrorKind as WordsFault;
 use ddcmp_frame::{Sink, Source, Worst, write_all};
 use std::alloc::{AllocError, Global};
-use std::io;
 use std::io::ErrorKind;
 use std::net::{Net, TcpStream};
-use std::time;
+use std::{io, time};
 
 /// Runs a command.
 fn perform<S: Net<Stream = TcpStream> + time::Clock, R: Source, W: Sink>(
