@@ -3,11 +3,12 @@ ghost use Rattle.std.specs.Prelude.{◌≡◌, ◌≢◌, ◌⊎◌, ◌↔◌, 
 ghost use Rattle.std.specs.Prelude.{codes, map, unwrap_or, [], false, List, ℕ};
 ghost use Rattle.std.specs.Option.{option_and_then};
 ghost use Rattle.ddcmp_cli.specs.Words.{Declines, IsAsked, IsName, Reads, name_of, program};
-ghost use Rattle.ddcmp_cli.specs.Words.{HasFlag, HasForm, HasNumber, HasOptions, HasSizes, HasStation};
-ghost use Rattle.ddcmp_cli.specs.Words.{explain_app, simulate_app, station_app, flag_rule, number_rule, text_rule};
-ghost use Rattle.ddcmp_cli.specs.Words.{role_of};
+ghost use Rattle.ddcmp_cli.specs.Words.{HasFlag, HasForm, HasNumber, HasOptions, HasSizes};
+ghost use Rattle.ddcmp_cli.specs.Words.{HasStation, explain_app, simulate_app, station_app};
+ghost use Rattle.ddcmp_cli.specs.Words.{flag_rule, number_rule, role_of, text_rule};
 ghost use Rattle.ddcmp_cli.specs.Words.{with_sizes as with_sizes_of};
-ghost use Rattle.clap.specs.Words.{kind_of, app_of, new_app, rule_of, first_of, first_value, found_of, one_of, one_text};
+ghost use Rattle.clap.specs.Words.{kind_of, app_of, new_app, rule_of, first_of, first_value};
+ghost use Rattle.clap.specs.Words.{found_of, one_of, one_text};
 ghost use Rattle.clap.specs.Words.{subcommand_name_of, subcommand_rows_of};
 ghost use Rattle.clap.specs.declared.builder.command.Command.TheViews.{out-Command as fields_of};
 
@@ -347,13 +348,14 @@ fn station_given<'a>(options: &ArgMatches<'a>) -> Served<'a>
     ensures { HasStation (one_text (found_of options.now)) (first_value (found_of options.now))
         result }
 {
+    let restart = flag_given(options, "restart");
     Served {
         role: role_named(text_given(options, "role")),
         addr: text_given(options, "addr"),
         turns: number_given(options, "turns", 0, u32::MAX, 0),
         timer_ms: number_given(options, "timer-ms", 0, u32::MAX, 0),
         send: text_given(options, "send"),
-        restart: flag_given(options, "restart"),
+        restart,
     }
 }
 
