@@ -78,11 +78,7 @@ fn endings_have_a_status_and_a_line(rt: HostRuntime) -> Result<(), Fail> {
             1,
             "ddcmp: line 1: not hexadecimal\n",
         ),
-        (
-            Ending::Fault(Fault::Message),
-            1,
-            "ddcmp: not hexadecimal\n",
-        ),
+        (Ending::Fault(Fault::Message), 1, "ddcmp: not hexadecimal\n"),
         (Ending::Fault(Fault::Ended), 3, "ddcmp: ended\n"),
         (Ending::Fault(Fault::Carrier), 3, "ddcmp: carrier\n"),
         (Ending::Fault(Fault::Read), 3, "ddcmp: read\n"),

@@ -132,13 +132,52 @@ fn options_make_the_station(rt: HostRuntime) {
 fn other_words_are_usage(rt: HostRuntime) {
     let rows: [&[&str]; 14] = [
         &["ddcmp", "station"],
-        &["ddcmp", "station", "--addr", HERE, "--turns=1", "--timer-ms=1"],
-        &["ddcmp", "station", "--role=listen", "--turns=1", "--timer-ms=1"],
-        &["ddcmp", "station", "--role=listen", "--addr", HERE, "--timer-ms=1"],
-        &["ddcmp", "station", "--role=listen", "--addr", HERE, "--turns=1"],
-        &words("listen", HERE, "4294967296", "1", ["--restart", "--send=61"]),
+        &[
+            "ddcmp",
+            "station",
+            "--addr",
+            HERE,
+            "--turns=1",
+            "--timer-ms=1",
+        ],
+        &[
+            "ddcmp",
+            "station",
+            "--role=listen",
+            "--turns=1",
+            "--timer-ms=1",
+        ],
+        &[
+            "ddcmp",
+            "station",
+            "--role=listen",
+            "--addr",
+            HERE,
+            "--timer-ms=1",
+        ],
+        &[
+            "ddcmp",
+            "station",
+            "--role=listen",
+            "--addr",
+            HERE,
+            "--turns=1",
+        ],
+        &words(
+            "listen",
+            HERE,
+            "4294967296",
+            "1",
+            ["--restart", "--send=61"],
+        ),
         &words("listen", HERE, "-1", "1", ["--restart", "--send=61"]),
-        &words("listen", HERE, "1", "4294967296", ["--restart", "--send=61"]),
+        &words(
+            "listen",
+            HERE,
+            "1",
+            "4294967296",
+            ["--restart", "--send=61"],
+        ),
         &words("listen", HERE, "1", "many", ["--restart", "--send=61"]),
         &words("listen", HERE, "1", "1", ["--restart", "--restart"]),
         &words("listen", HERE, "1", "1", ["--send=61", "--send=61"]),
@@ -210,7 +249,13 @@ fn faults_before_a_station_are_told(rt: HostRuntime) -> Result<(), Fail> {
         assert!(rt; matches!(ending, Ending::Fault(Fault::Message)));
         assert!(rt; written.bytes().is_empty());
     }
-    for addr in ["nowhere", "", "127.0.0.1", "127.0.0.1:65536", "256.0.0.1:7000"] {
+    for addr in [
+        "nowhere",
+        "",
+        "127.0.0.1",
+        "127.0.0.1:65536",
+        "256.0.0.1:7000",
+    ] {
         for role in ["connect", "listen"] {
             let all = words(role, addr, "0", "0", ["--send", "61"]);
             let (ending, written) = stationed(&rt, &all, 0);
@@ -231,7 +276,10 @@ fn a_station_connects(rt: HostRuntime) -> Result<(), Fail> {
     let all = words("connect", addr.as_str(), "2", "60000", ["", ""]);
     let (ending, written) = stationed(&rt, &all[..10], 0);
     assert!(rt; matches!(ending, Ending::Done));
-    assert_eq!(rt; written.bytes(), b"turns=2 state=IStart read=0 written=8\n".as_slice());
+    assert_eq!(rt;
+        written.bytes(),
+        b"turns=2 state=IStart read=0 written=8\n".as_slice()
+    );
     let (mut peer, _address) = listener.accept()?;
     let mut came = [0; 8];
     peer.read_exact(&mut came)?;
