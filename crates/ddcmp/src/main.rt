@@ -10,7 +10,7 @@ fn main(rt: HostRuntime) -> ExitCode {
     let mut reader = FromRead::new(rt.stdin());
     let mut writer = ToWrite::new(rt.stdout());
     let words = env::args(&rt).and_then(|words| Ok(words.collect(rt.alloc())?));
-    let ending = run_args(rt.alloc(), words, &mut reader, &mut writer);
+    let ending = run_args(&rt, rt.alloc(), words, &mut reader, &mut writer);
     let _ = rt.eprint(&ending);
     ExitCode::from(ending.status())
 }

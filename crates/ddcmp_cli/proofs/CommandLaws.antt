@@ -1,5 +1,5 @@
 -- What a parse says of the command that the words name.
-use Rattle.ddcmp_cli.specs.Endings.{CanRun, Performs, ExplainsOrNoMemory}
+use Rattle.ddcmp_cli.specs.Endings.{CanRun, Performs, ExplainsOrNoMemory, Stations, StationsOrNoMemory}
 use Rattle.ddcmp_cli.specs.declared.ending.Ending.{Ending}
 use Rattle.clap.specs.Words.{IsAmong, fault_of, is_simple_and_free}
 use Rattle.clap.specs.declared.error.kind.ErrorKind.{ErrorKind}
@@ -7,23 +7,24 @@ use Rattle.clap.specs.declared.error.kind.ErrorKind.TheVariants.{DisplayHelp, Di
 use Rattle.ddcmp_cli.specs.declared.declined.Declined.{Declined}
 use Rattle.ddcmp_cli.specs.declared.declined.Declined.TheVariants.{Help, Version, Usage, Memory}
 use Rattle.ddcmp_cli.specs.Words.{Declines, Reads}
-use Rattle.std.proofs.Common.{inl, inr, ◌≤◌, ◌≢◌, ◌⊎◌, Err, ℕ, codes, ◌≡◌, ◌∙◌, ap, sym, subst, refl, true, List, Option, Some, None}
+use Rattle.std.proofs.Common.{◌∷◌, ◌==◌, Bool, false, unwrap_or, [], inl, inr, ◌≤◌, ◌≢◌, ◌⊎◌, Err, ℕ, codes, ◌≡◌, ◌∙◌, ap, sym, subst, refl, true, List, Option, Some, None}
 use Rattle.std.proofs.lemmas.Bool.{le-leb}
 use Rattle.std.specs.Option.{option_map, option_and_then}
-use Rattle.clap.specs.Words.{App, Text, HasMatchesOf, is_simple, subcommand_of, subcommand_name_of, subcommand_rows_of, one_text, one_of, takes, Row}
+use Rattle.clap.specs.Words.{App, Text, HasMatchesOf, is_simple, subcommand_of, subcommand_name_of, subcommand_rows_of, one_text, one_of, first_of, first_value, takes, Row}
 use Rattle.clap.specs.Walk.{rows_of}
 use Rattle.clap.specs.declared.parser.matches.Found.{Found}
-use Rattle.clap.proofs.WalkLemmas.{one_text-rows}
+use Rattle.clap.proofs.WalkLemmas.{first_value-rows, one_text-rows}
 use Rattle.clap.specs.declared.parser.matches.ArgMatches.{ArgMatches}
 use Rattle.clap.specs.declared.parser.matches.ArgMatches.TheViews.{out-ArgMatches}
 use Rattle.clap.proofs.OnLiterals.{clap_on_literals}
-use Rattle.ddcmp_cli.specs.Words.{program, named_by, name_of, option_in, HasFlag, HasForm, HasNumber, HasOptions, IsAsked}
+use Rattle.ddcmp_cli.specs.Words.{program, named_by, name_of, option_in, text_in, role_of, MOST, HasFlag, HasForm, HasNumber, HasOptions, IsAsked}
 use Rattle.ddcmp_core.specs.Limits.{MAX_COUNT, MAX_WINDOW}
 use Rattle.ddcmp_station.specs.declared.config.Config.{Config}
 use Rattle.ddcmp_station.specs.declared.config.TheConstants.{MAX_INBOX, MAX_SYN}
 use Rattle.ddcmp_station.specs.Config.{first_refusal}
 use Rattle.ddcmp_cli.specs.declared.command.Command.{Command}
-use Rattle.ddcmp_cli.specs.declared.command.Command.TheVariants.{Explain, Simulate}
+use Rattle.ddcmp_cli.specs.declared.command.Command.TheVariants.{Explain, Simulate, Station}
+use Rattle.ddcmp_cli.specs.declared.served.Served.{Served}
 
 pub program-simple : is_simple program ≡ true
 unfolding clap_on_literals
@@ -60,31 +61,51 @@ met rows f e id =
     one_text-rows f id
     ∙ sym (and_then-map (λ (p : Text × List Row). one_of id p.1) (λ p. p.1) (λ r. one_of id r) rows (rows_of f) (λ _. refl) e)
 
-pub has_options_as : (o p : Text → Option Text) (made : Command) → ((id : Text) → o id ≡ p id) → HasOptions o made → HasOptions p made
-has_options_as o p (Explain form max) e h = (
+-- and one that is taken as it was written
+abbrev pub text_met : Option (Text × List Row) → Text → Option Text
+text_met rows id = option_and_then (λ named. first_of id named.1) rows
+
+pub met_text : (rows : Option (Text × List Row)) (f : Found) → option_map (λ p. p.1) rows ≡ Some (rows_of f)
+    → (id : Text) → first_value f id ≡ text_met rows id
+met_text rows f e id =
+    first_value-rows f id
+    ∙ sym (and_then-map (λ (p : Text × List Row). first_of id p.1) (λ p. p.1) (λ r. first_of id r) rows (rows_of f) (λ _. refl) e)
+
+pub has_options_as : (o p t u : Text → Option Text) (made : Command) → ((id : Text) → o id ≡ p id) → ((id : Text) → t id ≡ u id)
+    → HasOptions o t made → HasOptions p u made
+has_options_as o p t u (Explain form max) e w h = (
   subst (λ t. HasForm t form) (e (codes "raw")) h.0,
   subst (λ t. HasNumber 1 MAX_COUNT MAX_COUNT t max) (e (codes "max")) h.1,
 )
-has_options_as o p (Simulate config) e h = record {
+has_options_as o p t u (Simulate config) e w h = record {
   window = subst (λ t. HasNumber 1 MAX_WINDOW 7 t config.window) (e (codes "window")) h.window;
   inbox = subst (λ t. HasNumber 1 MAX_INBOX 8 t config.inbox) (e (codes "inbox")) h.inbox;
   max = subst (λ t. HasNumber 1 MAX_COUNT 1500 t config.max) (e (codes "max")) h.max;
   syn = subst (λ t. HasNumber 0 MAX_SYN 0 t config.syn) (e (codes "syn")) h.syn;
   restart = subst (λ t. HasFlag t config.restart) (e (codes "restart")) h.restart;
 }
+has_options_as o p t u (Station served) e w h = record {
+  role = h.role ∙ ap (λ x. role_of (unwrap_or x [])) (w (codes "role"));
+  addr = h.addr ∙ ap (λ x. unwrap_or x []) (w (codes "addr"));
+  turns = subst (λ t. HasNumber 0 MOST 0 t served.turns) (e (codes "turns")) h.turns;
+  timer_ms = subst (λ t. HasNumber 0 MOST 0 t served.timer_ms) (e (codes "timer-ms")) h.timer_ms;
+  send = h.send ∙ ap (λ x. unwrap_or x []) (w (codes "send"));
+  restart = subst (λ t. HasFlag t served.restart) (e (codes "restart")) h.restart;
+}
 
 -- a command has the options that the words give
 pub has_options : (app : App) (words : List Text) (m : ArgMatches) (made : Command) → app ≡ program → HasMatchesOf app words m
-    → HasOptions (option_met (subcommand_rows_of m)) made → HasOptions (option_in words) made
-unfolding option_in
+    → HasOptions (option_met (subcommand_rows_of m)) (text_met (subcommand_rows_of m)) made → HasOptions (option_in words) (text_in words) made
+unfolding option_in text_in
 has_options app words m made e h o =
     let found = h (ap is_simple e ∙ program-simple) in
     let named_rows : subcommand_rows_of m ≡ subcommand_of program words = found.1 ∙ ap (λ (a : App). subcommand_of a words) e in
-    subst (λ rows. HasOptions (option_met rows) made) named_rows o
+    subst (λ rows. HasOptions (option_met rows) (text_met rows) made) named_rows o
 
-pub can_run : (o : Text → Option Text) (command : Command) → HasOptions o command → CanRun command
-can_run o (Explain form max) h = h.1.in_range
-can_run o (Simulate config) h = sized config h.window.in_range h.inbox.in_range h.max.in_range h.syn.in_range
+pub can_run : (o t : Text → Option Text) (command : Command) → HasOptions o t command → CanRun command
+can_run o t (Explain form max) h = h.1.in_range
+can_run o t (Station served) h = tt
+can_run o t (Simulate config) h = sized config h.window.in_range h.inbox.in_range h.max.in_range h.syn.in_range
   where
     sized : (config : Config) → (1 ≤ config.window) × (config.window ≤ MAX_WINDOW) → (1 ≤ config.inbox) × (config.inbox ≤ MAX_INBOX)
         → (1 ≤ config.max) × (config.max ≤ MAX_COUNT) → (0 ≤ config.syn) × (config.syn ≤ MAX_SYN) → first_refusal config ≡ None
@@ -99,12 +120,36 @@ can_run o (Simulate config) h = sized config h.window.in_range h.inbox.in_range 
           le-leb config.syn MAX_SYN s.1,
         ) refl
 
-pub performed : (words : List Text) (command : Command) (input : List ℕ) (left old new : Option (List ℕ)) (ending : Ending) → IsAsked words (codes "explain") → named_by words ≡ Some (name_of command) → HasOptions (option_in words) command → Performs command input left old new ending → ExplainsOrNoMemory words input left old new ending
+names-differ : ◌≡◌ {A = Option Text} (Some (codes "explain")) (Some (codes "simulate")) → ⊥
+names-differ e = cc
+
+-- the second letter is t
+abbrev has_t : Option Text → Bool
+has_t (Some (x ∷ y ∷ rest)) = y == 116
+has_t _ = false
+
+false-true : ◌≡◌ {A = Bool} false true → ⊥
+false-true e = cc
+
+explain-station : ◌≡◌ {A = Option Text} (Some (codes "explain")) (Some (codes "station")) → ⊥
+explain-station e = false-true (ap has_t e)
+
+simulate-station : ◌≡◌ {A = Option Text} (Some (codes "simulate")) (Some (codes "station")) → ⊥
+simulate-station e = false-true (ap has_t e)
+
+pub performed : (words : List Text) (command : Command) (input : List ℕ) (left old new : Option (List ℕ)) (ending : Ending) → IsAsked words (codes "explain") → named_by words ≡ Some (name_of command) → HasOptions (option_in words) (text_in words) command → Performs command input left old new ending → ExplainsOrNoMemory words input left old new ending
 performed words (Explain form max) input left old new ending a n h p = inr (form, max, p.0, h, p.1, p.2)
 performed words (Simulate config) input left old new ending a n h p = absurd (names-differ (sym a.names ∙ n))
-  where
-    names-differ : ◌≡◌ {A = Option Text} (Some (codes "explain")) (Some (codes "simulate")) → ⊥
-    names-differ e = cc
+performed words (Station served) input left old new ending a n h p = absurd (explain-station (sym a.names ∙ n))
+
+-- words that ask for a station are answered by it
+pub stationed : {R : Type 0} (words : List Text) (command : Command) (reader reader_after : R) (old new : Option (List ℕ)) (ending : Ending) → IsAsked words (codes "station") → named_by words ≡ Some (name_of command) → HasOptions (option_in words) (text_in words) command
+    → ((served : Served) → command ≡ Station served → (reader_after ≡ reader) × Stations served old new ending) → (reader_after ≡ reader) × StationsOrNoMemory words old new ending
+stationed words (Explain form max) reader after old new ending a n h p = absurd (explain-station (sym n ∙ a.names))
+stationed words (Simulate config) reader after old new ending a n h p = absurd (simulate-station (sym n ∙ a.names))
+stationed words (Station served) reader after old new ending a n h p =
+    let s = p served refl in
+    (s.0, inr (served, h, s.1))
 
 -- ---- words that clap finds a fault with
 

@@ -8,3 +8,4 @@ pub mod CommandLaws
 pub mod NumberLaws
 pub mod ServingLaws
 pub mod ScriptLaws
+pub mod StationLaws

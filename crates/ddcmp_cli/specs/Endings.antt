@@ -1,12 +1,12 @@
 -- How the program ends.
-use Rattle.std.specs.Prelude.{None, codes, string_bytes, Bool, true, false, ◌≡◌, ◌≢◌, ◌⊎◌, ◌≤◌, ℕ, List, [], Option, Some, Result, Ok, Err}
+use Rattle.std.specs.Prelude.{⊤, length, ◌<◌, None, codes, string_bytes, Bool, true, false, ◌≡◌, ◌≢◌, ◌⊎◌, ◌≤◌, ℕ, List, [], Option, Some, Result, Ok, Err}
 use Rattle.std.specs.Io.KnownBytes.{Appends, Keeps}
 use Rattle.ddcmp_cli.specs.declared.explain_fault.ExplainFault.{ExplainFault}
 use Rattle.ddcmp_cli.specs.declared.explain_fault.ExplainFault.TheVariants as explaining
 use Rattle.ddcmp_line.specs.declared.script_fault.ScriptFault.{ScriptFault}
 use Rattle.ddcmp_line.specs.declared.script_fault.ScriptFault.TheVariants as scripting
 use Rattle.ddcmp_cli.specs.declared.fault.Fault.{Fault}
-use Rattle.ddcmp_cli.specs.declared.fault.Fault.TheVariants.{Odd, NotHex, Line, Hex as NotHexIn, Read, Write, Memory as NoMemory, Carrier}
+use Rattle.ddcmp_cli.specs.declared.fault.Fault.TheVariants.{Odd, NotHex, Line, Hex as NotHexIn, Message, Read, Write, Memory as NoMemory, Carrier, Ended}
 use Rattle.ddcmp_run.specs.Run.{PairState, new_pair}
 use Rattle.ddcmp_line.specs.ScriptEnds.{around, Plays}
 use Rattle.ddcmp_station.specs.declared.config.Config.{Config}
@@ -16,13 +16,21 @@ use Rattle.ddcmp_cli.specs.declared.ending.Ending.TheVariants.{Done, Usage as Mi
 use Rattle.ddcmp_cli.specs.declared.form.Form.{Form}
 use Rattle.clap.specs.Words.{Text}
 use Rattle.ddcmp_cli.specs.declared.command.Command.{Command}
-use Rattle.ddcmp_cli.specs.declared.command.Command.TheVariants.{Explain, Simulate}
+use Rattle.ddcmp_cli.specs.declared.command.Command.TheVariants.{Explain, Simulate, Station}
+use Rattle.ddcmp_cli.specs.declared.served.Served.{Served}
+use Rattle.ddcmp_cli.specs.declared.serve_fault.ServeFault.{ServeFault}
+use Rattle.ddcmp_cli.specs.declared.serve_fault.ServeFault.TheVariants as serving
+use Rattle.ddcmp_station.specs.declared.driving.LineFault.TheVariants as line
 use Rattle.ddcmp_cli.specs.declared.declined.Declined.{Declined}
 use Rattle.ddcmp_cli.specs.declared.declined.Declined.TheVariants.{Help, Version, Usage, Memory}
 use Rattle.ddcmp_frame.specs.Written.{AppendsPart, Known}
-use Rattle.ddcmp_cli.specs.Words.{HasOptions, Reads, option_in}
+use Rattle.ddcmp_cli.specs.Words.{HasOptions, HasStation, Reads, option_in, text_in}
 use Rattle.ddcmp_core.specs.Limits.{MAX_COUNT}
 use Rattle.ddcmp_cli.specs.Explains.{Explains}
+use Rattle.ddcmp_cli.specs.Serving.{Serves}
+use Rattle.ddcmp_station.specs.Driving.{Devices}
+use Rattle.hex.specs.Hex.{decode_of}
+use Rattle.hex.specs.declared.error.FromHexError.{FromHexError}
 
 -- what the program calls a fault of `explain`
 abbrev pub explain_fault : ExplainFault → Fault
@@ -41,16 +49,27 @@ script_fault scripting.Write = Write
 script_fault scripting.Memory = NoMemory
 script_fault scripting.Carrier = Carrier
 
+-- and one of a station
+abbrev pub serve_fault : ServeFault → Fault
+serve_fault serving.Config = NoMemory
+serve_fault serving.Report = Write
+serve_fault (serving.Line line.Read) = Read
+serve_fault (serving.Line line.Write) = Write
+serve_fault (serving.Line line.Ended) = Ended
+serve_fault (serving.Line line.Memory) = NoMemory
+
 -- 1 where the input was refused, 3 where a device failed or memory was refused
 abbrev pub fault_status : Fault → ℕ
 fault_status Odd = 1
 fault_status (NotHex index) = 1
 fault_status (Line line) = 1
 fault_status (NotHexIn line) = 1
+fault_status Message = 1
 fault_status Read = 3
 fault_status Write = 3
 fault_status NoMemory = 3
 fault_status Carrier = 3
+fault_status Ended = 3
 
 abbrev pub status_of : Ending → ℕ
 status_of Done = 0
@@ -68,7 +87,7 @@ abbrev pub ExplainsOrNoMemory : List Text → List ℕ → Known → Known → K
 ExplainsOrNoMemory words input left old new ending =
     ((ending ≡ Faulted NoMemory) × (left ≡ Some input) × Appends old new [])
     ⊎ ((form : Form) × (max : ℕ) × (result : Result (Unit {0}) ExplainFault)
-    × HasOptions (option_in words) (Explain form max) × (ending ≡ ending_of explain_fault result)
+    × HasOptions (option_in words) (text_in words) (Explain form max) × (ending ≡ ending_of explain_fault result)
     × Explains form max input left old new result)
 
 -- the words were refused, or there was no memory for them
@@ -82,7 +101,9 @@ is_refusal (Faulted Read) = false
 is_refusal (Faulted Write) = false
 is_refusal (Faulted (Line line)) = false
 is_refusal (Faulted (NotHexIn line)) = false
+is_refusal (Faulted Message) = false
 is_refusal (Faulted Carrier) = false
+is_refusal (Faulted Ended) = false
 is_refusal (Faulted NoMemory) = true
 
 -- what goes to standard error, but for faults
@@ -95,6 +116,7 @@ shown_of (Faulted fault) = None
 abbrev pub CanRun : Command → Type 0
 CanRun (Explain form max) = (1 ≤ max) × (max ≤ MAX_COUNT)
 CanRun (Simulate config) = first_refusal config ≡ None
+CanRun (Station served) = ⊤
 
 -- A script was played between two new ends of these sizes, over a line that gives what goes in and
 -- doesn't fail, and the ending tells the answer; or there was no memory for the ends.
@@ -106,6 +128,40 @@ Simulates config input left old new ending =
     × Plays input (around (new_pair config config) after true None None) (Appends old new)
     (AppendsPart old new) result)
 
+-- a station was served over some connection, and the ending tells the answer
+pub record ServesOver (served : Served) (new : Known) (ending : Ending) : Type 0 where
+  pub answer : Result (Unit {0}) ServeFault
+  pub ends : ending ≡ ending_of serve_fault answer
+  pub serves : answer ≢ Err serving.Config → (devices : Devices)
+      × Serves served.timer_ms served.turns served.restart devices new answer
+
+-- the connection can't be made, or a station is served over it
+abbrev pub Connects : Served → Known → Known → Ending → Type 0
+Connects served old new ending =
+    ((ending ≡ Faulted Carrier) × Keeps old new) ⊎ ServesOver served new ending
+
+-- what became of a message of digits that aren't too many
+abbrev pub SendsDecoded : Served → Result (List ℕ) FromHexError → Known → Known → Ending → Type 0
+SendsDecoded served (Ok message) old new ending = Connects served old new ending
+SendsDecoded served (Err refused) old new ending = (ending ≡ Faulted Message) × Keeps old new
+
+-- What became of a station that was asked for. A word that names no role and the digits of more
+-- than 1500 bytes are usage, or find no memory to be told; then come digits that spell no bytes, and
+-- then the connection. Only a station that is served writes.
+abbrev pub Stations : Served → Known → Known → Ending → Type 0
+Stations served old new ending =
+    (((served.role ≡ None) ⊎ (3000 < length served.send.now))
+    × (is_refusal ending ≡ true) × Keeps old new)
+    ⊎ ((served.role ≢ None) × (length served.send.now ≤ 3000)
+    × SendsDecoded served (decode_of served.send.now) old new ending)
+
+-- the station was that of the words, or there was no memory for them
+abbrev pub StationsOrNoMemory : List Text → Known → Known → Ending → Type 0
+StationsOrNoMemory words old new ending =
+    ((ending ≡ Faulted NoMemory) × Keeps old new)
+    ⊎ ((served : Served) × HasStation (option_in words) (text_in words) served
+    × Stations served old new ending)
+
 -- a command was run, and the ending tells its answer
 abbrev pub Performs : Command → List ℕ → Known → Known → Known → Ending → Type 0
 Performs (Explain form max) input left old new ending =
@@ -113,6 +169,8 @@ Performs (Explain form max) input left old new ending =
     × Explains form max input left old new result
 Performs (Simulate config) input left old new ending =
     Simulates config input left old new ending
+Performs (Station served) input left old new ending =
+    (left ≡ Some input) × Stations served old new ending
 
 -- a text was written whole, or a write failed
 abbrev pub Shows : List ℕ → Known → Known → Ending → Type 0

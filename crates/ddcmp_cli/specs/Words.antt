@@ -1,10 +1,14 @@
 -- The command line, as `clap` reads it.
-use Rattle.std.specs.Prelude.{ℕ, pos, ◌≡◌, ◌≢◌, ◌⊎◌, ◌≤◌, Bool, true, false, List, [], codes, decimal, Option, Some, None, Result, Ok, Err, ⊤}
+use Rattle.std.specs.Prelude.{ℕ, pos, unwrap_or, if◌then◌else◌, ◌≡◌, ◌≢◌, ◌⊎◌, ◌≤◌, Bool, true, false, List, [], codes, decimal, Option, Some, None, Result, Ok, Err, ⊤}
 use Rattle.std.specs.Option.{option_map, option_and_then}
+use Rattle.std.specs.Str.{bytes_eq}
 use Rattle.ddcmp_cli.specs.declared.form.Form.{Form}
 use Rattle.ddcmp_cli.specs.declared.form.Form.TheVariants.{Hex, Raw}
 use Rattle.ddcmp_cli.specs.declared.command.Command.{Command}
-use Rattle.ddcmp_cli.specs.declared.command.Command.TheVariants.{Explain, Simulate}
+use Rattle.ddcmp_cli.specs.declared.command.Command.TheVariants.{Explain, Simulate, Station}
+use Rattle.ddcmp_cli.specs.declared.served.Role.{Role}
+use Rattle.ddcmp_cli.specs.declared.served.Role.TheVariants.{Connect, Listen}
+use Rattle.ddcmp_cli.specs.declared.served.Served.{Served}
 use Rattle.ddcmp_cli.specs.declared.declined.Declined.{Declined}
 use Rattle.ddcmp_cli.specs.declared.declined.Declined.TheVariants.{Help, Version, Usage, Memory}
 use Rattle.clap.specs.declared.error.kind.ErrorKind.{ErrorKind}
@@ -12,7 +16,7 @@ use Rattle.clap.specs.declared.error.kind.ErrorKind.TheVariants.{DisplayHelp, Di
 use Rattle.ddcmp_core.specs.Limits.{MAX_COUNT, MAX_WINDOW}
 use Rattle.ddcmp_station.specs.declared.config.Config.{Config}
 use Rattle.ddcmp_station.specs.declared.config.TheConstants.{MAX_INBOX, MAX_SYN}
-use Rattle.clap.specs.Words.{IsAmong, fault_of, App, Rule, Text, new_app, new_rule, one_of, subcommand_of, takes, with_rule, with_subcommand}
+use Rattle.clap.specs.Words.{IsAmong, fault_of, App, Rule, Text, first_of, new_app, new_rule, one_of, subcommand_of, takes, with_rule, with_subcommand}
 use Rattle.clap.specs.declared.builder.ArgAction.TheVariants.{SetTrue}
 use Rattle.clap.specs.declared.builder.value_parser.ValueParser.TheVariants.{Signed}
 
@@ -27,6 +31,14 @@ number_rule name low high = record (new_rule name) {
   value_names = 1;
   parser = Some (Signed (pos low) (pos high));
 }
+
+-- an option that takes a text
+abbrev pub text_rule : Text → Rule
+text_rule name = record (new_rule name) { long = Some name; value_names = 1 }
+
+-- an option that can't be left out
+abbrev pub required : Rule → Rule
+required rule = record rule { required = true }
 
 -- `ddcmp explain`
 abbrev pub explain_app : App
@@ -48,6 +60,20 @@ with_sizes app =
 abbrev pub simulate_app : App
 simulate_app = with_sizes (new_app (codes "simulate"))
 
+abbrev pub MOST : ℕ
+MOST = 4294967295
+
+-- `ddcmp station`
+abbrev pub station_app : App
+station_app =
+    with_rule (with_rule (with_rule (with_rule (with_rule (with_rule (new_app (codes "station"))
+    (required (text_rule (codes "role"))))
+    (required (text_rule (codes "addr"))))
+    (required (number_rule (codes "turns") 0 MOST)))
+    (required (number_rule (codes "timer-ms") 0 MOST)))
+    (text_rule (codes "send")))
+    (flag_rule (codes "restart"))
+
 -- `ddcmp`, which wants a command
 abbrev pub bare_app : App
 bare_app =
@@ -55,15 +81,18 @@ bare_app =
     record { top = record a.top { has_version = true; subcommand_required = true }; subs = a.subs }
 
 abbrev pub program : App
-program = with_subcommand (with_subcommand bare_app explain_app.top) simulate_app.top
+program =
+    with_subcommand
+    (with_subcommand (with_subcommand bare_app explain_app.top) simulate_app.top) station_app.top
 
 -- the word that names a command
 abbrev pub name_of : Command → Text
 name_of (Explain form max) = codes "explain"
 name_of (Simulate config) = codes "simulate"
+name_of (Station served) = codes "station"
 
 abbrev pub IsName : Text → Type 0
-IsName name = (name ≡ codes "explain") ⊎ (name ≡ codes "simulate")
+IsName name = (name ≡ codes "explain") ⊎ (name ≡ codes "simulate") ⊎ (name ≡ codes "station")
 
 -- the command that the words name
 unfoldable pub named_by : List Text → Option Text
@@ -77,6 +106,10 @@ pub record IsAsked (words : List Text) (name : Text) : Type 0 where
 -- the text of an option, as the words give it to the command that they name
 unfoldable pub option_in : List Text → Text → Option Text
 option_in words id = option_and_then (λ named. one_of id named.1) (subcommand_of program words)
+
+-- the text of an option that is taken as it was written
+unfoldable pub text_in : List Text → Text → Option Text
+text_in words id = option_and_then (λ named. first_of id named.1) (subcommand_of program words)
 
 -- bytes as they are where `--raw` was given, else digits
 pub record HasForm (raw : Option Text) (form : Form) : Type 0 where
@@ -104,12 +137,33 @@ pub record HasSizes (option : Text → Option Text) (config : Config) : Type 0 w
   pub syn : HasNumber 0 MAX_SYN 0 (option (codes "syn")) config.syn
   pub restart : HasFlag (option (codes "restart")) config.restart
 
--- a command with the options that were given
-abbrev pub HasOptions : (Text → Option Text) → Command → Type 0
-HasOptions option (Explain form max) =
+-- who opens the connection, by its word
+abbrev pub role_of : Text → Option Role
+role_of word =
+    if bytes_eq word (codes "connect") then Some Connect
+    else if bytes_eq word (codes "listen") then Some Listen
+    else None
+
+-- The options of a station over a connection. Those that can't be left out are always there.
+pub record HasStation (option text : Text → Option Text) (served : Served) : Type 0 where
+  pub role : served.role ≡ role_of (unwrap_or (text (codes "role")) [])
+  pub addr : served.addr.now ≡ unwrap_or (text (codes "addr")) []
+  pub turns : HasNumber 0 MOST 0 (option (codes "turns")) served.turns
+  pub timer_ms : HasNumber 0 MOST 0 (option (codes "timer-ms")) served.timer_ms
+  pub send : served.send.now ≡ unwrap_or (text (codes "send")) []
+  pub restart : HasFlag (option (codes "restart")) served.restart
+
+-- a command with the options that were given: as they are read, and as they were written
+abbrev pub HasOptions : (option text : Text → Option Text) → Command → Type 0
+HasOptions option text (Explain form max) =
     HasForm (option (codes "raw")) form
     × HasNumber 1 MAX_COUNT MAX_COUNT (option (codes "max")) max
-HasOptions option (Simulate config) = HasSizes option config
+HasOptions option text (Simulate config) = HasSizes option config
+HasOptions option text (Station served) = HasStation option text served
+
+-- the words ask for this command, and clap finds no fault with them
+abbrev pub Asks : List Text → Text → Type 0
+Asks words name = (fault_of program words ≡ []) × (named_by words ≡ Some name)
 
 -- the words are out of order, and ask for no help
 pub record IsOutOfOrder (words : List Text) : Type 0 where
@@ -136,7 +190,7 @@ IsMistaken words =
 abbrev pub Reads : List Text → Result Command Declined → Type 0
 Reads words (Ok command) =
     (fault_of program words ≡ []) × (named_by words ≡ Some (name_of command))
-    × HasOptions (option_in words) command
+    × HasOptions (option_in words) (text_in words) command
 Reads words (Err (Help text)) = IsAmong DisplayHelp (fault_of program words)
 Reads words (Err (Version text)) = IsAmong DisplayVersion (fault_of program words)
 Reads words (Err (Usage text)) =

@@ -1,17 +1,20 @@
 //! The words of the command line.
 ghost use Rattle.std.specs.Prelude.{◌≡◌, ◌≢◌, ◌⊎◌, ◌↔◌, ◌≤◌, IsTrue, IfOk, IfSome, IsOk, None, Some};
-ghost use Rattle.std.specs.Prelude.{codes, map, false, List, ℕ};
+ghost use Rattle.std.specs.Prelude.{codes, map, unwrap_or, [], false, List, ℕ};
 ghost use Rattle.std.specs.Option.{option_and_then};
 ghost use Rattle.ddcmp_cli.specs.Words.{Declines, IsAsked, IsName, Reads, name_of, program};
 ghost use Rattle.ddcmp_cli.specs.Words.{HasFlag, HasForm, HasNumber, HasOptions, HasSizes};
-ghost use Rattle.ddcmp_cli.specs.Words.{explain_app, simulate_app, flag_rule, number_rule};
+ghost use Rattle.ddcmp_cli.specs.Words.{HasStation, explain_app, simulate_app, station_app};
+ghost use Rattle.ddcmp_cli.specs.Words.{flag_rule, number_rule, role_of, text_rule};
 ghost use Rattle.ddcmp_cli.specs.Words.{with_sizes as with_sizes_of};
-ghost use Rattle.clap.specs.Words.{kind_of, app_of, rule_of, found_of, one_of, one_text};
+ghost use Rattle.clap.specs.Words.{kind_of, app_of, new_app, rule_of, first_of, first_value};
+ghost use Rattle.clap.specs.Words.{found_of, one_of, one_text};
 ghost use Rattle.clap.specs.Words.{subcommand_name_of, subcommand_rows_of};
 ghost use Rattle.clap.specs.declared.builder.command.Command.TheViews.{out-Command as fields_of};
 
 use crate::declined::Declined;
 use crate::form::Form;
+use crate::served::{Role, Served};
 use clap::error::ErrorKind;
 use clap::{Arg, ArgAction, ArgMatches, Error};
 use ddcmp_core::{MAX_COUNT, MAX_WINDOW};
@@ -20,11 +23,13 @@ use std::alloc::{AllocError, Global};
 
 /// What the words ask for.
 #[derive(Clone, Copy, Debug, PartialEq, Eq)]
-pub enum Command {
+pub enum Command<'a> {
     /// Explain the input in this form, for a reader of at most `max` bytes of data.
     Explain { form: Form, max: u16 },
     /// Run a script between two ends of these sizes.
     Simulate(Config),
+    /// Drive a station over a connection.
+    Station(Served<'a>),
 }
 
 fn flag<'a>(alloc: Global, name: &'a str, help: &'a str) -> Arg<'a>
@@ -37,14 +42,25 @@ fn flag<'a>(alloc: Global, name: &'a str, help: &'a str) -> Arg<'a>
         .help(help)
 }
 
-fn number<'a>(alloc: Global, name: &'a str, low: u16, high: u16, help: &'a str) -> Arg<'a>
+fn number<'a>(alloc: Global, name: &'a str, low: u32, high: u32, help: &'a str) -> Arg<'a>
     ensures rule { rule_of result ≡ number_rule name.entry.now low high }
     ensures local { result.global ≡ false }
 {
     Arg::new(alloc, name)
         .long(name)
         .value_name("N")
-        .value_parser(clap::value_parser!(u16).range(low as i64..=high as i64))
+        .value_parser(clap::value_parser!(u32).range(low as i64..=high as i64))
+        .help(help)
+}
+
+/// An option that takes a text.
+fn text<'a>(alloc: Global, name: &'a str, value: &'a str, help: &'a str) -> Arg<'a>
+    ensures rule { rule_of result ≡ text_rule name.entry.now }
+    ensures local { result.global ≡ false }
+{
+    Arg::new(alloc, name)
+        .long(name)
+        .value_name(value)
         .help(help)
 }
 
@@ -63,7 +79,7 @@ fn explain_parser<'a>(alloc: Global) -> Result<clap::Command<'a>, AllocError>
             alloc,
             "max",
             1,
-            MAX_COUNT,
+            MAX_COUNT as u32,
             "The most bytes of data that a frame may have, 1 to 16383; 16383 by default",
         ))
 }
@@ -82,28 +98,28 @@ fn with_sizes<'a>(
             alloc,
             "window",
             1,
-            MAX_WINDOW,
+            MAX_WINDOW as u32,
             "The most messages sent and not yet acknowledged, 1 to 255; 7 by default",
         ))?
         .arg(number(
             alloc,
             "inbox",
             1,
-            MAX_INBOX,
+            MAX_INBOX as u32,
             "The most messages that came and were not yet taken, 1 to 255; 8 by default",
         ))?
         .arg(number(
             alloc,
             "max",
             1,
-            MAX_COUNT,
+            MAX_COUNT as u32,
             "The most bytes of a message, 1 to 16383; 1500 by default",
         ))?
         .arg(number(
             alloc,
             "syn",
             0,
-            MAX_SYN as u16,
+            MAX_SYN as u32,
             "How many SYN bytes go before each frame, 0 to 16; 0 by default",
         ))?
         .arg(flag(
@@ -145,6 +161,74 @@ fn simulate_parser<'a>(alloc: Global) -> Result<clap::Command<'a>, AllocError>
     with_sizes(alloc, command)
 }
 
+/// `station` without its options.
+fn station_command<'a>(alloc: Global) -> clap::Command<'a>
+    ensures app { app_of result ≡ new_app (codes "station") }
+    ensures local { (fields_of result).has_globals ≡ false }
+{
+    clap::Command::new(alloc, "station")
+        .about("Runs a station over a TCP connection")
+        .after_help(report_help())
+}
+
+/// The options of a station over a connection.
+fn station_parser<'a>(alloc: Global) -> Result<clap::Command<'a>, AllocError>
+    ensures app { IfOk result (λ made. app_of made ≡ station_app) }
+    ensures local { IfOk result (λ made. (fields_of made).has_globals ≡ false) }
+{
+    station_command(alloc)
+        .arg(text(
+            alloc,
+            "role",
+            "connect|listen",
+            "Who opens the connection; start the listener first",
+        )
+        .required(true))?
+        .arg(text(
+            alloc,
+            "addr",
+            "ADDR",
+            "Where to connect or to listen, such as 127.0.0.1:7000",
+        )
+        .required(true))?
+        .arg(number(
+            alloc,
+            "turns",
+            0,
+            u32::MAX,
+            "How many turns the station has; a turn waits at most 10 ms for bytes",
+        )
+        .required(true))?
+        .arg(number(
+            alloc,
+            "timer-ms",
+            0,
+            u32::MAX,
+            "How long it waits for an answer before it asks again",
+        )
+        .required(true))?
+        .arg(text(
+            alloc,
+            "send",
+            "HEX",
+            "A message that is sent once the station runs, at most 1500 bytes",
+        ))?
+        .arg(flag(
+            alloc,
+            "restart",
+            "Begin anew where the peer does, if no message waits to be taken",
+        ))
+}
+
+/// What a station writes, for a newcomer.
+fn report_help() -> &'static str {
+    "\
+What is written, as it happens:
+  notice N                           a notice of the station, as Running or Acknowledged 1
+  mail HEX                           a message that came
+  turns=T state=S read=R written=W   at the end: the turns made and the bytes both ways"
+}
+
 fn parser<'a>(alloc: Global) -> Result<clap::Command<'a>, AllocError>
     ensures { IfOk result (λ made. app_of made ≡ program) }
 {
@@ -153,7 +237,8 @@ fn parser<'a>(alloc: Global) -> Result<clap::Command<'a>, AllocError>
         .about("DDCMP, the data link protocol of DECnet")
         .subcommand_required(true)
         .subcommand(explain_parser(alloc)?)?
-        .subcommand(simulate_parser(alloc)?)
+        .subcommand(simulate_parser(alloc)?)?
+        .subcommand(station_parser(alloc)?)
 }
 
 /// A fault of the words as this crate tells it.
@@ -190,12 +275,12 @@ fn flag_given(options: &ArgMatches<'_>, name: &str) -> bool
 }
 
 /// A number that was given, or the usual one. The parser of the words has tested the range.
-fn number_given(options: &ArgMatches<'_>, name: &str, low: u16, high: u16, usual: u16) -> u16
+fn number_given(options: &ArgMatches<'_>, name: &str, low: u32, high: u32, usual: u32) -> u32
     requires usual { (low ≤ usual) × (usual ≤ high) }
-    requires most { high ≤ MAX_COUNT }
+    requires most { high ≤ 4294967295 }
     ensures { HasNumber low high usual (one_text (found_of options.now) name.now) result }
 {
-    match options.get_one::<u16>(name) {
+    match options.get_one::<u32>(name) {
         Some(number) => {
             if is_within(low, number, high) {
                 number
@@ -207,20 +292,21 @@ fn number_given(options: &ArgMatches<'_>, name: &str, low: u16, high: u16, usual
     }
 }
 
-fn is_within(low: u16, number: u16, high: u16) -> bool
+fn is_within(low: u32, number: u32, high: u32) -> bool
     ensures { IsTrue result ↔ (low ≤ number) × (number ≤ high) }
 {
     low <= number && number <= high
 }
 
 /// The options of `explain`, as they were given or as they are without.
-fn explain_with(options: &ArgMatches<'_>) -> Command
-    ensures options { HasOptions (one_text (found_of options.now)) result }
+fn explain_with<'a>(options: &ArgMatches<'a>) -> Command<'a>
+    ensures options { HasOptions (one_text (found_of options.now)) (first_value (found_of options.now))
+        result }
     ensures name { name_of result ≡ codes "explain" }
 {
     Command::Explain {
         form: form_given(options),
-        max: number_given(options, "max", 1, MAX_COUNT, MAX_COUNT),
+        max: number_given(options, "max", 1, MAX_COUNT as u32, MAX_COUNT as u32) as u16,
     }
 }
 
@@ -229,20 +315,57 @@ fn sizes_given(options: &ArgMatches<'_>) -> Config
     ensures { HasSizes (one_text (found_of options.now)) result }
 {
     Config {
-        window: number_given(options, "window", 1, MAX_WINDOW, 7),
-        inbox: number_given(options, "inbox", 1, MAX_INBOX, 8),
-        max: number_given(options, "max", 1, MAX_COUNT, 1500),
-        syn: number_given(options, "syn", 0, MAX_SYN as u16, 0) as u8,
+        window: number_given(options, "window", 1, MAX_WINDOW as u32, 7) as u16,
+        inbox: number_given(options, "inbox", 1, MAX_INBOX as u32, 8) as u16,
+        max: number_given(options, "max", 1, MAX_COUNT as u32, 1500) as u16,
+        syn: number_given(options, "syn", 0, MAX_SYN as u32, 0) as u8,
         restart: flag_given(options, "restart"),
     }
 }
 
+/// A text that was given; the empty one where none was.
+fn text_given<'a>(options: &ArgMatches<'a>, name: &str) -> &'a str
+    ensures { result.now ≡ unwrap_or (first_value (found_of options.now) name.now) [] }
+{
+    options.get_str(name).unwrap_or("")
+}
+
+/// The role of this name.
+fn role_named(name: &str) -> Option<Role>
+    ensures { result ≡ role_of name.now }
+{
+    if name == "connect" {
+        Some(Role::Connect)
+    } else if name == "listen" {
+        Some(Role::Listen)
+    } else {
+        None
+    }
+}
+
+/// The station that was asked for.
+fn station_given<'a>(options: &ArgMatches<'a>) -> Served<'a>
+    ensures { HasStation (one_text (found_of options.now)) (first_value (found_of options.now))
+        result }
+{
+    let restart = flag_given(options, "restart");
+    Served {
+        role: role_named(text_given(options, "role")),
+        addr: text_given(options, "addr"),
+        turns: number_given(options, "turns", 0, u32::MAX, 0),
+        timer_ms: number_given(options, "timer-ms", 0, u32::MAX, 0),
+        send: text_given(options, "send"),
+        restart,
+    }
+}
+
 /// The command of words that are in order.
-fn asked(matches: &ArgMatches<'_>) -> Option<Command>
+fn asked<'a>(matches: &ArgMatches<'a>) -> Option<Command<'a>>
     ensures named { IfSome result (λ command. subcommand_name_of matches.now
         ≡ Some (name_of command)) }
     ensures options { IfSome result (λ command. HasOptions
         (λ id. option_and_then (λ named. one_of id named.1) (subcommand_rows_of matches.now))
+        (λ id. option_and_then (λ named. first_of id named.1) (subcommand_rows_of matches.now))
         command) }
     ensures unnamed { result ≡ None → (name : List ℕ) → IsName name
         → subcommand_name_of matches.now ≢ Some name }
@@ -251,16 +374,21 @@ fn asked(matches: &ArgMatches<'_>) -> Option<Command>
         Some(options) => Some(explain_with(options)),
         None => match matches.subcommand_matches("simulate") {
             Some(options) => Some(Command::Simulate(sizes_given(options))),
-            None => None,
+            None => match matches.subcommand_matches("station") {
+                Some(options) => Some(Command::Station(station_given(options))),
+                None => None,
+            },
         },
     }
 }
 
 /// Reads the words of a command line, of which the first is the program's name.
-pub fn read_words<'a>(alloc: Global, words: &'a [&'a str]) -> Result<Command, Declined>
+pub fn read_words<'a>(alloc: Global, words: &'a [&'a str]) -> Result<Command<'a>, Declined>
     ensures asked { IsAsked (map (λ word. word.now) words.entry.now) (codes "explain")
         → IsOk result ⊎ (result ≡ Err Declined.Memory) }
     ensures script_asked { IsAsked (map (λ word. word.now) words.entry.now) (codes "simulate")
+        → IsOk result ⊎ (result ≡ Err Declined.Memory) }
+    ensures station_asked { IsAsked (map (λ word. word.now) words.entry.now) (codes "station")
         → IsOk result ⊎ (result ≡ Err Declined.Memory) }
     // What the words ask for, whatever they are.
     ensures reads { Reads (map (λ word. word.now) words.entry.now) result }

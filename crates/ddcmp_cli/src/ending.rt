@@ -19,8 +19,7 @@ pub enum Ending {
 }
 
 impl Ending {
-    /// The exit status: 0 done, 1 input refused, 2 usage, 3 read, write, carrier or
-    /// memory.
+    /// The exit status: 0 done, 1 input refused, 2 usage, 3 read, write, carrier, ended or memory.
     pub fn status(&self) -> u8
         ensures { result ≡ status_of self.now }
     {
@@ -28,8 +27,9 @@ impl Ending {
             Ending::Done => 0,
             Ending::Usage(_) | Ending::NotText => 2,
             Ending::Fault(fault) => match fault {
-                Fault::Odd | Fault::NotHex(_) | Fault::Line(_) | Fault::Hex(_) => 1,
-                Fault::Read | Fault::Write | Fault::Memory | Fault::Carrier => 3,
+                Fault::Odd | Fault::NotHex(_) | Fault::Line(_) | Fault::Hex(_) | Fault::Message =>
+                    1,
+                Fault::Read | Fault::Write | Fault::Memory | Fault::Carrier | Fault::Ended => 3,
             },
         }
     }

@@ -1,9 +1,11 @@
 //! Why a command wasn't done to its end.
 ghost use Rattle.std.specs.Prelude.{◌≡◌};
-ghost use Rattle.ddcmp_cli.specs.Endings.{explain_fault, script_fault};
+ghost use Rattle.ddcmp_cli.specs.Endings.{explain_fault, script_fault, serve_fault};
 
 use crate::explain_fault::ExplainFault;
+use crate::serve_fault::ServeFault;
 use ddcmp_line::ScriptFault;
+use ddcmp_station::LineFault;
 use std::fmt;
 
 /// Why a command wasn't done to its end.
@@ -17,10 +19,15 @@ pub enum Fault {
     Line(u64),
     /// A word of this line has digits that aren't hexadecimal, or too few or too many of them.
     Hex(u64),
+    /// The message that a station is to send isn't hexadecimal.
+    Message,
     Read,
     Write,
     Memory,
+    /// A carrier failed, or a connection can't be made.
     Carrier,
+    /// The peer of a station ended the connection.
+    Ended,
 }
 
 impl From<ExplainFault> for Fault {
@@ -52,6 +59,19 @@ impl From<ScriptFault> for Fault {
     }
 }
 
+impl From<ServeFault> for Fault {
+    ghost from_gives = { λ fault made. made ≡ serve_fault fault };
+
+    fn from(fault: ServeFault) -> Fault {
+        match fault {
+            ServeFault::Line(LineFault::Read) => Fault::Read,
+            ServeFault::Line(LineFault::Write) | ServeFault::Report => Fault::Write,
+            ServeFault::Line(LineFault::Ended) => Fault::Ended,
+            ServeFault::Line(LineFault::Memory) | ServeFault::Config => Fault::Memory,
+        }
+    }
+}
+
 /// The text that the command itself has for it.
 impl fmt::Display for Fault {
     fn fmt<W: fmt::Write>(&self, f: &mut fmt::Formatter<W>) -> fmt::Result {
@@ -60,10 +80,12 @@ impl fmt::Display for Fault {
             Fault::NotHex(index) => ExplainFault::NotHex(*index).fmt(f),
             Fault::Line(line) => ScriptFault::Line(*line).fmt(f),
             Fault::Hex(line) => ScriptFault::Hex(*line).fmt(f),
+            Fault::Message => f.write_str("not hexadecimal"),
             Fault::Read => ScriptFault::Read.fmt(f),
             Fault::Write => ScriptFault::Write.fmt(f),
             Fault::Memory => ScriptFault::Memory.fmt(f),
             Fault::Carrier => ScriptFault::Carrier.fmt(f),
+            Fault::Ended => ServeFault::Line(LineFault::Ended).fmt(f),
         }
     }
 }

@@ -2,10 +2,11 @@
 ghost use Rattle.std.specs.Prelude.{IfErr, OnErr, IsOk, ◌≡◌, ◌≢◌, ◌↔◌, ◌∷◌, [], false, IsTrue, IfOk};
 ghost use Rattle.std.specs.Prelude.{List, ℕ, Some, None, codes, map, string_bytes};
 ghost use Rattle.std.specs.IoError.{error_kind};
-ghost use Rattle.clap.specs.Words.{fault_of};
-ghost use Rattle.ddcmp_cli.specs.Words.{IsOutOfOrder, IsAsked, option_in, program};
+ghost use Rattle.clap.specs.Words.{fault_of, takes};
+ghost use Rattle.ddcmp_cli.specs.Words.{IsOutOfOrder, IsAsked, Asks, name_of, option_in, text_in, program};
+ghost use Rattle.ddcmp_cli.specs.declared.served.Served.{Served as ServedValue};
 ghost use Rattle.ddcmp_cli.specs.Endings.{CanRun, Ends, ExplainsOrNoMemory, Performs, Shows};
-ghost use Rattle.ddcmp_cli.specs.Endings.{is_refusal};
+ghost use Rattle.ddcmp_cli.specs.Endings.{is_refusal, Stations, StationsOrNoMemory};
 
 use crate::command::{Command, read_words};
 use crate::declined::Declined;
@@ -13,16 +14,19 @@ use crate::ending::Ending;
 use crate::explaining::explain;
 use crate::fault::Fault;
 use crate::simulating::simulate;
+use crate::stationing::station;
 use clap::error::ErrorKind as WordsFault;
 use ddcmp_frame::{Sink, Source, Worst, write_all};
 use std::alloc::{AllocError, Global};
-use std::io;
 use std::io::ErrorKind;
+use std::net::{Net, TcpStream};
+use std::{io, time};
 
 /// Runs a command.
-fn perform<R: Source, W: Sink>(
+fn perform<S: Net<Stream = TcpStream> + time::Clock, R: Source, W: Sink>(
+    system: &S,
     alloc: Global,
-    command: Command,
+    command: Command<'_>,
     reader: &mut R,
     writer: &mut W,
 ) -> Ending
@@ -30,10 +34,15 @@ fn perform<R: Source, W: Sink>(
     requires whole { W.broken writer.old ≡ false }
     requires runs { CanRun command }
     ensures performs { (input : List ℕ) → R.left reader.old ≡ Some input
-        → Performs command input (R.left reader.new) (W.contents writer.old)
+        → Performs command.entry input (R.left reader.new) (W.contents writer.old)
         (W.contents writer.new) result }
     ensures read { R.state reader.new ≢ Worst.Fine → result ≡ Ending.Fault Fault.Read }
-    ensures write { (result ≡ Ending.Fault Fault.Write) ↔ IsTrue (W.broken writer.new) }
+    ensures write { name_of command.entry ≢ codes "station"
+        → (result ≡ Ending.Fault Fault.Write) ↔ IsTrue (W.broken writer.new) }
+    ensures whole { result ≡ Ending.Done → W.broken writer.new ≡ false }
+    ensures stations { (served : ServedValue) → command.entry ≡ Command.Station served
+        → (reader.new ≡ reader.old)
+        × Stations served (W.contents writer.old) (W.contents writer.new) result }
 {
     match command {
         Command::Explain { form, max } => match explain(alloc, reader, writer, form, max) {
@@ -41,6 +50,7 @@ fn perform<R: Source, W: Sink>(
             Err(fault) => Ending::Fault(Fault::from(fault)),
         },
         Command::Simulate(config) => simulate(alloc, config, reader, writer),
+        Command::Station(served) => station(system, alloc, &served, writer),
     }
 }
 
@@ -57,8 +67,9 @@ fn show<W: Sink>(writer: &mut W, text: &str) -> Ending
 }
 
 /// Runs the command that the words ask for, from the input to the output. The first word is the
-/// program's name.
-pub fn run<R: Source, W: Sink>(
+/// program's name; a station's connection is made by `system`, which tells it the time too.
+pub fn run<S: Net<Stream = TcpStream> + time::Clock, R: Source, W: Sink>(
+    system: &S,
     alloc: Global,
     words: &[&str],
     reader: &mut R,
@@ -75,10 +86,16 @@ pub fn run<R: Source, W: Sink>(
     ensures refused { IsOutOfOrder (map (λ word. word.now) words.now)
         → IsTrue (is_refusal result) × (reader.new ≡ reader.old) × (writer.new ≡ writer.old) }
     ensures read { R.state reader.new ≢ Worst.Fine → result ≡ Ending.Fault Fault.Read }
-    ensures write { (result ≡ Ending.Fault Fault.Write) ↔ IsTrue (W.broken writer.new) }
+    ensures write { (Asks (map (λ word. word.now) words.now) (codes "station") → ⊥)
+        → (result ≡ Ending.Fault Fault.Write) ↔ IsTrue (W.broken writer.new) }
+    ensures whole { result ≡ Ending.Done → W.broken writer.new ≡ false }
+    ensures stations { IsAsked (map (λ word. word.now) words.now) (codes "station")
+        → (reader.new ≡ reader.old)
+        × StationsOrNoMemory (map (λ word. word.now) words.now) (W.contents writer.old)
+        (W.contents writer.new) result }
 {
     match read_words(alloc, words) {
-        Ok(command) => perform(alloc, command, reader, writer),
+        Ok(command) => perform(system, alloc, command, reader, writer),
         Err(Declined::Help(text)) => show(writer, text.as_str()),
         Err(Declined::Version(text)) => show(writer, text.as_str()),
         Err(Declined::Usage(text)) => Ending::Usage(text),
@@ -119,6 +136,21 @@ pub fn simulate_is_asked()
         (codes "restart") ≡ Some (codes "true") }
 {}
 
+/// The words `ddcmp station` with the four options that can't be left out ask for the command that
+/// drives a station; the message to send is read as it was written.
+pub fn station_is_asked()
+    ensures plain { IsAsked (codes "ddcmp" ∷ codes "station" ∷ codes "--role" ∷ codes "listen"
+        ∷ codes "--addr=127.0.0.1:7000" ∷ codes "--turns" ∷ codes "0" ∷ codes "--timer-ms"
+        ∷ codes "4294967295" ∷ []) (codes "station") }
+    ensures role { text_in (codes "ddcmp" ∷ codes "station" ∷ codes "--role" ∷ codes "listen" ∷ [])
+        (codes "role") ≡ Some (codes "listen") }
+    ensures turns { option_in (codes "ddcmp" ∷ codes "station" ∷ codes "--turns=20" ∷ [])
+        (codes "turns") ≡ Some (codes "20") }
+    ensures send { text_in (codes "ddcmp" ∷ codes "station" ∷ codes "--send" ∷ codes "0Aff" ∷ [])
+        (codes "send") ≡ Some (codes "0Aff") }
+    ensures incomplete { takes program (codes "ddcmp" ∷ codes "station" ∷ []) ≡ false }
+{}
+
 fn texts(alloc: Global, args: &[String]) -> Result<Vec<&str>, AllocError>
     ensures { IfOk result (λ all. map (λ word. word.now) all.items ≡ map string_bytes args.now) }
 {
@@ -131,7 +163,8 @@ fn texts(alloc: Global, args: &[String]) -> Result<Vec<&str>, AllocError>
 
 /// Runs the command that the words ask for, as the system gives them: they may be no text, or
 /// have found no memory.
-pub fn run_args<R: Source, W: Sink>(
+pub fn run_args<S: Net<Stream = TcpStream> + time::Clock, R: Source, W: Sink>(
+    system: &S,
     alloc: Global,
     args: io::Result<Vec<String>>,
     reader: &mut R,
@@ -153,7 +186,13 @@ pub fn run_args<R: Source, W: Sink>(
         → result ≡ Ending.NotText) }
     ensures untouched { OnErr args ((reader.new ≡ reader.old) × (writer.new ≡ writer.old)) }
     ensures read { R.state reader.new ≢ Worst.Fine → result ≡ Ending.Fault Fault.Read }
-    ensures write { (result ≡ Ending.Fault Fault.Write) ↔ IsTrue (W.broken writer.new) }
+    ensures write { (IfOk args (λ words. Asks (map string_bytes words.items) (codes "station"))
+        × IsOk args → ⊥) → (result ≡ Ending.Fault Fault.Write) ↔ IsTrue (W.broken writer.new) }
+    ensures whole { result ≡ Ending.Done → W.broken writer.new ≡ false }
+    ensures stations { IfOk args (λ words. IsAsked (map string_bytes words.items) (codes "station")
+        → (reader.new ≡ reader.old)
+        × StationsOrNoMemory (map string_bytes words.items) (W.contents writer.old)
+        (W.contents writer.new) result) }
 {
     let args = match args {
         Ok(args) => args,
@@ -168,5 +207,5 @@ pub fn run_args<R: Source, W: Sink>(
     let Ok(words) = texts(alloc, args.as_slice()) else {
         return Ending::Fault(Fault::Memory);
     };
-    run(alloc, words.as_slice(), reader, writer)
+    run(system, alloc, words.as_slice(), reader, writer)
 }

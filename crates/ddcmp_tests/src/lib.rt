@@ -10,4 +10,6 @@ mod simulates;
 #[cfg(test)]
 mod sizes;
 #[cfg(test)]
+mod stations;
+#[cfg(test)]
 mod streams;

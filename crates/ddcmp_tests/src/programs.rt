@@ -3,8 +3,10 @@ use ddcmp_cli::command::read_words;
 use ddcmp_cli::{Command, Declined, Ending, Fault, Form, run, run_args};
 use ddcmp_frame::failing::{Pieces, Taken};
 use std::io::{self, ErrorKind};
+use std::net::{Net, TcpStream};
 use std::process::Abort;
 use std::test::Fail;
+use std::time::Clock;
 
 #[test]
 fn words_name_a_command(rt: HostRuntime) {
@@ -76,6 +78,8 @@ fn endings_have_a_status_and_a_line(rt: HostRuntime) -> Result<(), Fail> {
             1,
             "ddcmp: line 1: not hexadecimal\n",
         ),
+        (Ending::Fault(Fault::Message), 1, "ddcmp: not hexadecimal\n"),
+        (Ending::Fault(Fault::Ended), 3, "ddcmp: ended\n"),
         (Ending::Fault(Fault::Carrier), 3, "ddcmp: carrier\n"),
         (Ending::Fault(Fault::Read), 3, "ddcmp: read\n"),
         (Ending::Fault(Fault::Write), 3, "ddcmp: write\n"),
@@ -90,14 +94,14 @@ fn endings_have_a_status_and_a_line(rt: HostRuntime) -> Result<(), Fail> {
 
 /// What a run over memory ends as, and what it wrote; the write `fails_at` fails, 0 is none.
 fn ran(
-    rt: &(impl Abort + AllocGlobal),
+    rt: &(impl Abort + AllocGlobal + Net<Stream = TcpStream> + Clock),
     words: &[&str],
     input: &[u8],
     fails_at: usize,
 ) -> (Ending, Taken<4096>) {
     let mut reader = Pieces::of(input);
     let mut writer = Taken::new().failing_at(fails_at);
-    let ending = run(rt.alloc(), words, &mut reader, &mut writer);
+    let ending = run(rt, rt.alloc(), words, &mut reader, &mut writer);
     (ending, writer)
 }
 
@@ -128,6 +132,7 @@ Usage: ddcmp <COMMAND>
 Commands:
   explain   Says what the bytes of a line are, read from standard input
   simulate  Runs a script between two stations A and B, read from standard input
+  station   Runs a station over a TCP connection
   help      Print this message or the help of the given subcommand(s)
 
 Options:
@@ -248,10 +253,13 @@ fn wrong_words_are_told(rt: HostRuntime) -> Result<(), Fail> {
 }
 
 /// What a run with the words of the system ends as, and what it wrote.
-fn ran_args(rt: &(impl Abort + AllocGlobal), args: io::Result<Vec<String>>) -> (u8, Taken<4096>) {
+fn ran_args(
+    rt: &(impl Abort + AllocGlobal + Net<Stream = TcpStream> + Clock),
+    args: io::Result<Vec<String>>,
+) -> (u8, Taken<4096>) {
     let mut reader = Pieces::of(b"050100000001fc55");
     let mut writer = Taken::new();
-    let ending = run_args(rt.alloc(), args, &mut reader, &mut writer);
+    let ending = run_args(rt, rt.alloc(), args, &mut reader, &mut writer);
     (ending.status(), writer)
 }
 

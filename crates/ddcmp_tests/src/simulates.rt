@@ -3,7 +3,9 @@ use ddcmp_cli::command::read_words;
 use ddcmp_cli::{Command, Declined, Ending, Fault, run};
 use ddcmp_frame::failing::{Pieces, Taken};
 use ddcmp_line::Config;
+use std::net::{Net, TcpStream};
 use std::process::Abort;
+use std::time::Clock;
 
 /// Two ends with these sizes.
 fn sizes(window: u16, inbox: u16, max: u16, syn: u8) -> Config {
@@ -100,14 +102,14 @@ fn other_words_are_usage(rt: HostRuntime) {
 
 /// What a script ends as, and what it wrote.
 fn simulated(
-    rt: &(impl Abort + AllocGlobal),
+    rt: &(impl Abort + AllocGlobal + Net<Stream = TcpStream> + Clock),
     words: &[&str],
     input: &[u8],
     fails_at: usize,
 ) -> (Ending, Taken<4096>) {
     let mut reader = Pieces::of(input);
     let mut writer = Taken::new().failing_at(fails_at);
-    let ending = run(rt.alloc(), words, &mut reader, &mut writer);
+    let ending = run(rt, rt.alloc(), words, &mut reader, &mut writer);
     (ending, writer)
 }
 

@@ -1,8 +1,8 @@
-use Rattle.std.proofs.Common.{◌∙◌, ap, subst, List, ℕ, map, string_bytes, codes, Err, refl}
+use Rattle.std.proofs.Common.{◌≡◌, ◌∙◌, ap, subst, List, ℕ, map, string_bytes, codes, Err, refl}
 use Rattle.std.proofs.KnownBytes.{Keeps-refl}
 use Rattle.ddcmp_cli.specs.declared.declined.Declined.TheVariants.{Memory}
 use Rattle.ddcmp_cli.specs.Words.{IsAsked}
-use Rattle.ddcmp_cli.specs.Endings.{Ends, ExplainsOrNoMemory}
+use Rattle.ddcmp_cli.specs.Endings.{Ends, ExplainsOrNoMemory, StationsOrNoMemory}
 use Rattle.ddcmp_cli.proofs.program.run_args.Goals as goal
 
 pub returns-clause-explains : goal.returns-clause-explains
@@ -18,3 +18,9 @@ returns-clause-ends g c = rw (c.in-Ok.is)
 
 pub returns-in_default-clause-ends : goal.returns-in_default-clause-ends
 returns-in_default-clause-ends g c = rw (c.in-Ok.is) (Err Memory, tt, (refl, Keeps-refl (g.W.Sink.contents c.args.writer.now), refl))
+
+pub returns-clause-stations : goal.returns-clause-stations
+returns-clause-stations g c = rw (c.in-Ok.is)
+    (subst (λ (ws : List (List ℕ)). IsAsked ws (codes "station") → (c.run.new.reader ≡ c.args.reader.now) × StationsOrNoMemory ws (g.W.Sink.contents c.args.writer.now) (g.W.Sink.contents c.run.new.writer) c.run.result)
+    (ap (map (λ word. word.now)) c.as_slice-2.ensures.value ∙ c.in-Ok-texts.ensures ∙ ap (map string_bytes) c.as_slice.ensures.value)
+    c.run.ensures.stations)

@@ -1,0 +1,25 @@
+//! What the station of the command line is asked to be.
+
+/// Who opens the connection.
+#[derive(Clone, Copy, Debug, PartialEq, Eq)]
+pub enum Role {
+    /// The station connects to a peer that listens.
+    Connect,
+    /// The station listens, and takes one connection.
+    Listen,
+}
+
+/// A station over a connection, as the words ask for it.
+#[derive(Clone, Copy, Debug, PartialEq, Eq)]
+pub struct Served<'a> {
+    /// None where the word names no role; a station has one.
+    pub role: Option<Role>,
+    /// The address that is connected to or listened at, such as `127.0.0.1:7000`.
+    pub addr: &'a str,
+    pub turns: u32,
+    pub timer_ms: u32,
+    /// The digits of a message that is sent once the station runs; none where it is empty.
+    pub send: &'a str,
+    /// Whether it begins anew where its peer does.
+    pub restart: bool,
+}

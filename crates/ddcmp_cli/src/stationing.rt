@@ -1,0 +1,92 @@
+//! A station over a connection.
+ghost use Rattle.std.specs.Prelude.{◌≡◌, ◌≤◌, ◌*◌, length, false, true, option_map, IfSome};
+ghost use Rattle.std.specs.Result.{result_ok};
+ghost use Rattle.hex.specs.Hex.{decode_of};
+ghost use Rattle.ddcmp_cli.specs.Endings.{is_refusal, Stations};
+
+use crate::connection::{Elapsed, open};
+use crate::ending::Ending;
+use crate::fault::Fault;
+use crate::served::Served;
+use crate::serving::{SERVED_MAX, serve};
+use ddcmp_frame::{FromRead, Sink, ToWrite};
+use std::alloc::Global;
+use std::net::{Net, TcpStream};
+use std::time;
+
+/// What is told where the word for the role is another.
+const NO_ROLE: &str = "\
+error: '--role' is connect or listen
+
+For more information, try '--help'.
+";
+
+/// What is told where the message to send is too long.
+const TOO_LONG: &str = "\
+error: the message of '--send <HEX>' has more than 1500 bytes
+
+For more information, try '--help'.
+";
+
+/// Words that are out of order, as this text says.
+fn usage(alloc: Global, text: &str) -> Ending
+    ensures { is_refusal result ≡ true }
+{
+    match String::from_str(alloc, text) {
+        Ok(text) => Ending::Usage(text),
+        Err(_refused) => Ending::Fault(Fault::Memory),
+    }
+}
+
+/// The bytes that digits spell, at the front of a buffer; none where they spell none.
+fn message_in<'a>(digits: &str, buffer: &'a mut [u8]) -> Option<&'a [u8]>
+    requires { length digits.now ≤ 2 * length buffer.old }
+    ensures bytes { option_map (λ message. message.now) result ≡ result_ok (decode_of digits.now) }
+    ensures length { IfSome result (λ message. 2 * length message.now ≤ length digits.now) }
+{
+    let message = &mut buffer[..digits.len() / 2];
+    match hex::decode_to_slice(digits.as_bytes(), message) {
+        Ok(()) => Some(message),
+        Err(_refused) => None,
+    }
+}
+
+/// Opens a connection, and drives a station over it that says what happens.
+pub(crate) fn station<S: Net<Stream = TcpStream> + time::Clock, W: Sink>(
+    system: &S,
+    alloc: Global,
+    served: &Served<'_>,
+    report: &mut W,
+) -> Ending
+    requires { W.broken report.old ≡ false }
+    ensures stations { Stations served.now (W.contents report.old) (W.contents report.new) result }
+    ensures whole { result ≡ Ending.Done → W.broken report.new ≡ false }
+{
+    let Some(role) = served.role else {
+        return usage(alloc, NO_ROLE);
+    };
+    if served.send.len() > 2 * SERVED_MAX as usize {
+        return usage(alloc, TOO_LONG);
+    }
+    let mut buffer = [0; SERVED_MAX as usize];
+    let Some(message) = message_in(served.send, &mut buffer) else {
+        return Ending::Fault(Fault::Message);
+    };
+    let Ok(stream) = open(system, role, served.addr) else {
+        return Ending::Fault(Fault::Carrier);
+    };
+    match serve(
+        alloc,
+        &mut FromRead::new(&stream),
+        &mut ToWrite::new(&stream),
+        report,
+        &mut Elapsed::new(system),
+        message,
+        served.turns,
+        served.timer_ms,
+        served.restart,
+    ) {
+        Ok(()) => Ending::Done,
+        Err(fault) => Ending::Fault(Fault::from(fault)),
+    }
+}
