@@ -48,7 +48,9 @@ fn words<'a>(
     ]
 }
 
-fn asks_for(rt: &(impl Abort + AllocGlobal), words: &[&str], want: Served<'_>) {
+/// What the first so many words ask for.
+fn asks_for(rt: &(impl Abort + AllocGlobal), all: [&str; 12], count: usize, want: Served<'_>) {
+    let words = all.as_slice().get(..count).unwrap_or(&[]);
     match read_words(rt.alloc(), words) {
         Ok(Command::Station(asked)) => {
             assert_eq!(rt; asked, want);
@@ -122,8 +124,7 @@ fn options_make_the_station(rt: HostRuntime) {
         ),
     ];
     for (all, count, want) in rows {
-        assert!(rt; count <= 12);
-        asks_for(&rt, &all[..count], want);
+        asks_for(&rt, all, count, want);
     }
 }
 
