@@ -17,11 +17,11 @@ use Rattle.ddcmp_run.specs.declared.event.Reply.{Reply}
 use Rattle.ddcmp_run.specs.declared.event.Reply.TheVariants as reply
 use Rattle.ddcmp_line.specs.declared.performing.Stop.TheVariants.{Memory}
 use Rattle.ddcmp_run.specs.Run.{PairState, at, end_of, line_bytes, wrote, reply_to, after_event, run}
-use Rattle.ddcmp_run.specs.Settle.{other, StoppedAmong}
+use Rattle.ddcmp_run.specs.Settle.{other, StoppedAmong, WantsMemory}
 use Rattle.ddcmp_line.specs.ScriptText.{name_of, name_before, reply_text, bytes_line, counted_line, station_line}
 use Rattle.ddcmp_line.specs.Script.{Between, Scene, Outcome, Carriage, AreDirect, HasCarried, frames_of, with_frames, taken_off, part_of, frames_after, lines_after, outcome_of_event, outcome_of_carry, outcome_of_lose, outcome_of_damage, outcome_of_settle, outcome_of_recover, outcome_of, arrival_text, after_outcome, carriages_from, carriages_of}
 use Rattle.ddcmp_line.specs.ScriptSteps.{scene_of, Comes, Carries, stopped_of, LineEnds}
-use Rattle.ddcmp_run.proofs.Runs.{run-one, run-none, stopped-none}
+use Rattle.ddcmp_run.proofs.Runs.{run-one, run-none, stopped-none, wanted-stopped}
 use Rattle.ddcmp_line.proofs.TextLaws.{sends-as, sends-nothing}
 
 idle-or-wrote : (o : Option (List ℕ)) → ((bytes : List ℕ) → wrote o ≡ reply.Wrote bytes → ⊥) → wrote o ≡ reply.Idle
@@ -171,17 +171,17 @@ refused-alone events broken contents p q w v page later e = (
   outputs-same broken contents w v page later e.1 e.2,
 )
 
-refused-among : {W : Type 0} (events : List Event) (broken : W → Bool) (contents : W → Option (List ℕ)) (p q : PairState) (w v : W) (page later : List ℕ) → StoppedAmong events p q × (later ≡ page) × (v ≡ w)
+refused-among : {W : Type 0} (events : List Event) (broken : W → Bool) (contents : W → Option (List ℕ)) (p q : PairState) (w v : W) (page later : List ℕ) → WantsMemory events p q × (later ≡ page) × (v ≡ w)
     → StoppedAmong events p q × HandsOver (output_of broken contents w page) (output_of broken contents v later) []
 refused-among events broken contents p q w v page later e =
-    (e.0, outputs-same broken contents w v page later e.1 e.2)
+    (wanted-stopped events p q e.0, outputs-same broken contents w v page later e.1 e.2)
 
 pub refused-by : {W E : Type 0} (r : Result (Unit {0}) E) (events : List Event) (broken : W → Bool) (contents : W → Option (List ℕ)) (p q : PairState) (w v : W) (page later : List ℕ) → OnErr r ((q ≡ p) × (later ≡ page) × (v ≡ w))
     → OnErr r (StoppedAmong events p q × HandsOver (output_of broken contents w page) (output_of broken contents v later) [])
 refused-by (Ok u) events broken contents p q w v page later h = tt
 refused-by (Err e) events broken contents p q w v page later h = refused-alone events broken contents p q w v page later h
 
-pub refused-in : {W E : Type 0} (r : Result (Unit {0}) E) (events : List Event) (broken : W → Bool) (contents : W → Option (List ℕ)) (p q : PairState) (w v : W) (page later : List ℕ) → OnErr r (StoppedAmong events p q × (later ≡ page) × (v ≡ w))
+pub refused-in : {W E : Type 0} (r : Result (Unit {0}) E) (events : List Event) (broken : W → Bool) (contents : W → Option (List ℕ)) (p q : PairState) (w v : W) (page later : List ℕ) → OnErr r (WantsMemory events p q × (later ≡ page) × (v ≡ w))
     → OnErr r (StoppedAmong events p q × HandsOver (output_of broken contents w page) (output_of broken contents v later) [])
 refused-in (Ok u) events broken contents p q w v page later h = tt
 refused-in (Err e) events broken contents p q w v page later h = refused-among events broken contents p q w v page later h

@@ -3,7 +3,7 @@ ghost use Rattle.std.specs.Prelude.{◌≡◌, ◌≢◌, ◌↔◌, ◌++◌, �
 ghost use Rattle.ddcmp_frame.specs.Device.{Logs};
 ghost use Rattle.ddcmp_frame.specs.Written.{HandsOver, output_of};
 ghost use Rattle.ddcmp_run.specs.Run.{PairState, at, end_of, after_event, reply_to, run};
-ghost use Rattle.ddcmp_run.specs.Settle.{other, settling, StoppedAmong};
+ghost use Rattle.ddcmp_run.specs.Settle.{other, settling, WantsMemory};
 ghost use Rattle.ddcmp_run.specs.Recovery.{recovering};
 ghost use Rattle.ddcmp_line.specs.ScriptWords.{reading_of};
 ghost use Rattle.ddcmp_line.specs.ScriptText.{name_of, name_before, reply_text};
@@ -289,7 +289,7 @@ impl Stage {
             (scene_of pair.old self.old.lines) (scene_of pair.new self.new.lines)
             (output_of W.broken W.contents writer.old self.old.page)
             (output_of W.broken W.contents writer.new self.new.page) }
-        ensures memory { OnErr result (StoppedAmong (settling pair.old).events pair.old pair.new
+        ensures memory { OnErr result (WantsMemory (settling pair.old).events pair.old pair.new
             × (self.new.page ≡ self.old.page) × (writer.new ≡ writer.old)) }
     {
         let settled = pair.settle()?;
@@ -304,7 +304,7 @@ impl Stage {
             (scene_of pair.old self.old.lines) (scene_of pair.new self.new.lines)
             (output_of W.broken W.contents writer.old self.old.page)
             (output_of W.broken W.contents writer.new self.new.page) }
-        ensures memory { OnErr result (StoppedAmong (recovering pair.old).events pair.old pair.new
+        ensures memory { OnErr result (WantsMemory (recovering pair.old).events pair.old pair.new
             × (self.new.page ≡ self.old.page) × (writer.new ≡ writer.old)) }
     {
         let recovered = pair.recover()?;

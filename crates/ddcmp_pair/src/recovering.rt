@@ -46,7 +46,7 @@ impl Pair {
     ghost use Rattle.ddcmp_run.specs.declared.event.End.{End as EndValue};
     ghost use Rattle.ddcmp_run.specs.Run.{at};
     ghost use Rattle.ddcmp_run.specs.InOrder.{IsInOrder};
-    ghost use Rattle.ddcmp_run.specs.Settle.{StoppedAmong, most_exchanges};
+    ghost use Rattle.ddcmp_run.specs.Settle.{WantsMemory, most_exchanges};
     ghost use Rattle.ddcmp_run.specs.Recovery.{rounding, rounded, recovering, recovered, is_ready, larger_window, IsDone, IsRepaired};
 
     /// Both timers run out, where they are on, and then the line settles.
@@ -54,8 +54,9 @@ impl Pair {
         ensures state { IsOk result → self.new ≡ rounded self.old }
         ensures exchanges { IfOk result (λ s. s.exchanges ≡ (rounding self.old).exchanges) }
         ensures quiet { IfOk result (λ s. s.quiet ≡ (rounding self.old).quiet) }
-        // On want of memory some of its events were done, each of them whole.
-        ensures memory { OnErr result (StoppedAmong (rounding self.old).events self.old self.new) }
+        // On want of memory some of its events were done, each of them whole, and the next one asks
+        // for memory.
+        ensures memory { OnErr result (WantsMemory (rounding self.old).events self.old self.new) }
         ensures limits { (end : EndValue) → (at end self.new).core.limits
             ≡ (at end self.old).core.limits }
         ensures order { IsInOrder self.new }
@@ -70,9 +71,10 @@ impl Pair {
         ensures state { IsOk result → self.new ≡ recovered self.old }
         ensures exchanges { IfOk result (λ r. r.exchanges ≡ (recovering self.old).exchanges) }
         ensures quiet { IfOk result (λ r. r.quiet ≡ (recovering self.old).quiet) }
-        // On want of memory some of its events were done, each of them whole.
+        // On want of memory some of its events were done, each of them whole, and the next one asks
+        // for memory.
         ensures memory { OnErr result
-            (StoppedAmong (recovering self.old).events self.old self.new) }
+            (WantsMemory (recovering self.old).events self.old self.new) }
         ensures limits { (end : EndValue) → (at end self.new).core.limits
             ≡ (at end self.old).core.limits }
         ensures order { IsInOrder self.new }

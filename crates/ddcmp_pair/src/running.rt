@@ -1,7 +1,8 @@
 //! A run from its beginning.
-ghost use Rattle.std.specs.Prelude.{◌≡◌, ◌⊎◌, ◌<◌, ℕ, length, take, Some, None, Err, IsOk, IfOk};
+ghost use Rattle.std.specs.Prelude.{◌≡◌, ◌⊎◌, ◌<◌, ℕ, length, take, true, Some, None, Err, slice_index_or, IsOk, IfOk};
 ghost use Rattle.ddcmp_station.specs.Config.{first_refusal};
-ghost use Rattle.ddcmp_run.specs.Run.{PairState, new_pair, run as run_of};
+ghost use Rattle.ddcmp_run.specs.declared.event.Event.TheVariants as event_value;
+ghost use Rattle.ddcmp_run.specs.Run.{PairState, new_pair, asks_memory, run as run_of};
 ghost use Rattle.ddcmp_run.specs.InOrder.{IsInOrder};
 
 use crate::pair::{Pair, PairRefusal};
@@ -31,6 +32,10 @@ pub fn run(
     ensures memory { (done : ℕ) (pair : PairState)
         → result ≡ Err (RunRefusal.Memory done pair) → (done < length events.now)
         × (pair ≡ run_of (take done events.now) (new_pair first second)) × IsInOrder pair }
+    // Memory is refused only to an event that asks for it.
+    ensures asks { (done : ℕ) (pair : PairState)
+        → result ≡ Err (RunRefusal.Memory done pair)
+        → asks_memory (slice_index_or events.now done event_value.Clear) pair ≡ true }
     ensures order { IfOk result IsInOrder }
 
     // The first size that is out of range is refused; else no station is, but for want of memory.

@@ -17,7 +17,7 @@ impl Pair {
     ghost use Rattle.ddcmp_run.specs.declared.event.End.{End as EndValue};
     ghost use Rattle.ddcmp_run.specs.Run.{at, run};
     ghost use Rattle.ddcmp_run.specs.InOrder.{IsInOrder};
-    ghost use Rattle.ddcmp_run.specs.Settle.{settling, settled, exchange, either_writes, crossing, writes, mail_events, StoppedAmong};
+    ghost use Rattle.ddcmp_run.specs.Settle.{settling, settled, exchange, either_writes, crossing, writes, mail_events, WantsMemory};
 
     /// Takes all mail, and then carries frames to and fro until neither end writes one. What was
     /// sent before and hasn't arrived never arrives.
@@ -25,8 +25,9 @@ impl Pair {
         ensures state { IsOk result → self.new ≡ settled self.old }
         ensures exchanges { IfOk result (λ s. s.exchanges ≡ (settling self.old).exchanges) }
         ensures quiet { IfOk result (λ s. s.quiet ≡ (settling self.old).quiet) }
-        // On want of memory some of its events were done, each of them whole.
-        ensures memory { OnErr result (StoppedAmong (settling self.old).events self.old self.new) }
+        // On want of memory some of its events were done, each of them whole, and the next one asks
+        // for memory.
+        ensures memory { OnErr result (WantsMemory (settling self.old).events self.old self.new) }
         ensures limits { (end : EndValue) → (at end self.new).core.limits
             ≡ (at end self.old).core.limits }
         // On want of memory too, messages are in order.
@@ -41,7 +42,7 @@ impl Pair {
         ensures state { IsOk result → self.new ≡ settled self.old }
         ensures exchanges { IfOk result (λ s. s.exchanges ≡ (settling self.old).exchanges) }
         ensures quiet { IfOk result (λ s. s.quiet ≡ (settling self.old).quiet) }
-        ensures memory { OnErr result (StoppedAmong (settling self.old).events self.old self.new) }
+        ensures memory { OnErr result (WantsMemory (settling self.old).events self.old self.new) }
     {
         let most = 16 * (self.window() as u32 + 4);
         self.take_mail(End::A)?;
@@ -64,7 +65,7 @@ impl Pair {
     fn exchange(&mut self) -> Result<bool, Memory>
         ensures state { IsOk result → self.new ≡ run (exchange self.old) self.old }
         ensures wrote { IfOk result (λ wrote. wrote ≡ either_writes self.old) }
-        ensures memory { OnErr result (StoppedAmong (exchange self.old) self.old self.new) }
+        ensures memory { OnErr result (WantsMemory (exchange self.old) self.old self.new) }
     {
         let first = self.cross(End::A)?;
         let second = self.cross(End::B)?;
@@ -75,7 +76,7 @@ impl Pair {
     fn cross(&mut self, from: End) -> Result<bool, Memory>
         ensures state { IsOk result → self.new ≡ run (crossing from self.old) self.old }
         ensures wrote { IfOk result (λ wrote. wrote ≡ writes from self.old) }
-        ensures memory { OnErr result (StoppedAmong (crossing from self.old) self.old self.new) }
+        ensures memory { OnErr result (WantsMemory (crossing from self.old) self.old self.new) }
     {
         let to = from.other();
         let Reply::Wrote(bytes) = self.step(Event::Poll(from))? else {
@@ -89,7 +90,7 @@ impl Pair {
     /// Takes all mail of an end.
     fn take_mail(&mut self, end: End) -> Result<(), Memory>
         ensures state { IsOk result → self.new ≡ run (mail_events end self.old) self.old }
-        ensures memory { OnErr result (StoppedAmong (mail_events end self.old) self.old self.new) }
+        ensures memory { OnErr result (WantsMemory (mail_events end self.old) self.old self.new) }
     {
         for _taken in 0..self.station(end).waiting() {
             let _message = self.step(Event::Take(end))?;

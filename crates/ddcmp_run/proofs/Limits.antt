@@ -8,7 +8,7 @@ use Rattle.ddcmp_run.specs.declared.event.End.TheVariants.{A, B}
 use Rattle.ddcmp_run.specs.declared.event.Event.{Event}
 use Rattle.ddcmp_run.specs.declared.event.Event.TheVariants as event
 use Rattle.ddcmp_run.specs.Run.{EndState, PairState, at, after_event_here, after_event_at, after_clear_by, clear_refusal, end_of, after_event, run}
-use Rattle.ddcmp_run.specs.Settle.{StoppedAmong}
+use Rattle.ddcmp_run.specs.Settle.{WantsMemory}
 
 here : (e : Event) (x : EndState) → (after_event_here e x).core.limits ≡ x.core.limits
 here (event.Start e) x = refl
@@ -49,6 +49,6 @@ step-limits (Err f) e p q end done same = ap (λ t. (at end t).core.limits) same
 
 -- events that were all done, or some of them
 pub part-limits : {T E : Type 0} (answer : Result T E) (events : List Event) (p q : PairState) (end : End) → (IsOk answer → q ≡ run events p)
-    → OnErr answer (StoppedAmong events p q) → (at end q).core.limits ≡ (at end p).core.limits
-part-limits (Ok a) events p q end done stopped = ap (λ t. (at end t).core.limits) (done refl) ∙ run-limits events p end
-part-limits (Err f) events p q end done stopped = ap (λ t. (at end t).core.limits) stopped.state ∙ run-limits stopped.done p end
+    → OnErr answer (WantsMemory events p q) → (at end q).core.limits ≡ (at end p).core.limits
+part-limits (Ok a) events p q end done wanted = ap (λ t. (at end t).core.limits) (done refl) ∙ run-limits events p end
+part-limits (Err f) events p q end done wanted = ap (λ t. (at end t).core.limits) wanted.state ∙ run-limits wanted.done p end

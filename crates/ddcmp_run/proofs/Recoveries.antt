@@ -1,12 +1,12 @@
 -- A round and a recovery, settle after settle.
 use Rattle.std.proofs.Common.{◌≡◌, [], ◌∷◌, ◌++◌, refl, sym, ◌∙◌, ap, subst}
-use Rattle.std.specs.Prelude.{Bool, ◌&&◌, ℕ, Result, Ok, Err, OnErr}
+use Rattle.std.specs.Prelude.{Bool, true, false, ◌&&◌, ℕ, Result, Ok, Err, OnErr}
 use Rattle.ddcmp_run.specs.declared.event.End.TheVariants.{A, B}
 use Rattle.ddcmp_run.specs.declared.event.Event.TheVariants as event
-use Rattle.ddcmp_run.specs.Run.{PairState, after_event, run}
-use Rattle.ddcmp_run.specs.Settle.{settling, settled, StoppedAmong}
+use Rattle.ddcmp_run.specs.Run.{PairState, after_event, asks_memory, run}
+use Rattle.ddcmp_run.specs.Settle.{settling, settled, WantsMemory}
 use Rattle.ddcmp_run.specs.Recovery.{both_expire, rounding, rounded, in_turn, recovering, recovered}
-use Rattle.ddcmp_run.proofs.Runs.{run-append, run-one, stopped-first, stopped-later}
+use Rattle.ddcmp_run.proofs.Runs.{run-append, wanted-next, wanted-second, wanted-first, wanted-later}
 
 -- what holds of an answer with an error holds of it in other words too
 pub on-err-by : {A E P Q : Type 0} (answer : Result A E) → (P → Q) → OnErr answer P → OnErr answer Q
@@ -33,17 +33,15 @@ pub both-expired : (p q r : PairState) → q ≡ after_event (event.Expire A) p 
 unfolding run
 both-expired p q r first second = second ∙ ap (after_event (event.Expire B)) first
 
-pub stopped-between : (p q : PairState) → q ≡ after_event (event.Expire A) p → StoppedAmong (rounding p).events p q
-stopped-between p q first =
-    subst (λ t. StoppedAmong t p q) (sym (rounding-events p)) (stopped-first both_expire _ p q (record {
-      done = event.Expire A ∷ [];
-      rest = event.Expire B ∷ [];
-      events_are = refl;
-      state = first ∙ sym (run-one (event.Expire A) p);
-    }))
+pub wanted-at-first : (p q : PairState) → q ≡ p → (asks_memory (event.Expire A) p ≡ false → false ≡ true) → WantsMemory (rounding p).events p q
+wanted-at-first p q same never = wanted-next (event.Expire A) _ (rounding p).events p q (sym (rounding-events p)) same never
 
-pub stopped-in-round : (p q : PairState) → StoppedAmong (settling (run both_expire p)).events (run both_expire p) q → StoppedAmong (rounding p).events p q
-stopped-in-round p q s = subst (λ t. StoppedAmong t p q) (sym (rounding-events p)) (stopped-later both_expire _ p q s)
+pub wanted-between : (p q r : PairState) → q ≡ after_event (event.Expire A) p → r ≡ q → (asks_memory (event.Expire B) q ≡ false → false ≡ true)
+    → WantsMemory (rounding p).events p r
+wanted-between p q r first same never = wanted-second (event.Expire A) (event.Expire B) _ (rounding p).events p q r (sym (rounding-events p)) first same never
+
+pub wanted-in-round : (p q : PairState) → WantsMemory (settling (run both_expire p)).events (run both_expire p) q → WantsMemory (rounding p).events p q
+wanted-in-round p q s = subst (λ t. WantsMemory t p q) (sym (rounding-events p)) (wanted-later both_expire _ p q s)
 
 -- ---- a settle and two rounds
 
@@ -55,21 +53,21 @@ pub recovering-state : (p : PairState) → run (recovering p).events p ≡ recov
 recovering-state p =
     ap (λ r. run r.events p) (recovering-is p) ∙ run-append (settling p).events _ p ∙ run-append (rounding (settled p)).events _ (settled p)
 
-pub stopped-at-first : (p q : PairState) → StoppedAmong (settling p).events p q → StoppedAmong (recovering p).events p q
-stopped-at-first p q s = subst (λ r. StoppedAmong r.events p q) (sym (recovering-is p)) (stopped-first _ _ p q s)
+pub wanted-in-first : (p q : PairState) → WantsMemory (settling p).events p q → WantsMemory (recovering p).events p q
+wanted-in-first p q s = subst (λ r. WantsMemory r.events p q) (sym (recovering-is p)) (wanted-first _ _ p q s)
 
-pub stopped-at-second : (p x q : PairState) → x ≡ settled p → StoppedAmong (rounding x).events x q → StoppedAmong (recovering p).events p q
-stopped-at-second p x q first s =
-    subst (λ r. StoppedAmong r.events p q) (sym (recovering-is p))
-    (stopped-later (settling p).events _ p q
-    (stopped-first (rounding (settled p)).events _ (settled p) q (subst (λ (y : PairState). StoppedAmong (rounding y).events y q) first s)))
+pub wanted-in-second : (p x q : PairState) → x ≡ settled p → WantsMemory (rounding x).events x q → WantsMemory (recovering p).events p q
+wanted-in-second p x q first s =
+    subst (λ r. WantsMemory r.events p q) (sym (recovering-is p))
+    (wanted-later (settling p).events _ p q
+    (wanted-first (rounding (settled p)).events _ (settled p) q (subst (λ (y : PairState). WantsMemory (rounding y).events y q) first s)))
 
-pub stopped-at-third : (p x y q : PairState) → x ≡ settled p → y ≡ rounded x → StoppedAmong (rounding y).events y q → StoppedAmong (recovering p).events p q
-stopped-at-third p x y q first second s =
-    subst (λ r. StoppedAmong r.events p q) (sym (recovering-is p))
-    (stopped-later (settling p).events _ p q
-    (stopped-later (rounding (settled p)).events _ (settled p) q
-    (subst (λ (z : PairState). StoppedAmong (rounding z).events z q) (second ∙ ap (λ (z : PairState). rounded z) first) s)))
+pub wanted-in-third : (p x y q : PairState) → x ≡ settled p → y ≡ rounded x → WantsMemory (rounding y).events y q → WantsMemory (recovering p).events p q
+wanted-in-third p x y q first second s =
+    subst (λ r. WantsMemory r.events p q) (sym (recovering-is p))
+    (wanted-later (settling p).events _ p q
+    (wanted-later (rounding (settled p)).events _ (settled p) q
+    (subst (λ (z : PairState). WantsMemory (rounding z).events z q) (second ∙ ap (λ (z : PairState). rounded z) first) s)))
 
 pub recovered-is : (p x y z : PairState) → x ≡ settled p → y ≡ rounded x → z ≡ rounded y → z ≡ recovered p
 recovered-is p x y z first second third = third ∙ ap (λ (w : PairState). rounded w) (second ∙ ap (λ (w : PairState). rounded w) first)

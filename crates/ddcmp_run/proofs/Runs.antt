@@ -1,5 +1,5 @@
 -- Runs, part after part.
-use Rattle.std.proofs.Common.{◌≡◌, ℕ, ◌+◌, ◌-◌, ◌<◌, ◌≤◌, List, [], ◌∷◌, ◌++◌, length, take, get_or, replicate, refl, sym, ◌∙◌, ap, arith, add-one, append_assoc}
+use Rattle.std.proofs.Common.{◌≡◌, ℕ, suc, ◌+◌, ◌-◌, ◌<◌, Bool, true, false, List, [], ◌∷◌, ◌++◌, length, take, get_or, replicate, refl, sym, ◌∙◌, ap, arith, add-one, append_assoc}
 use Rattle.std.proofs.Math.Seq.{take-suc}
 use Rattle.std.proofs.lemmas.List.{replicate-append-replicate}
 use Rattle.ddcmp_run.specs.declared.event.Event.{Event}
@@ -8,8 +8,8 @@ use Rattle.ddcmp_run.specs.declared.event.End.{End}
 use Rattle.ddcmp_run.specs.declared.event.End.TheVariants.{A, B}
 use Rattle.ddcmp_run.specs.declared.event.Event.TheVariants as event
 use Rattle.ddcmp_run.specs.declared.event.Reply.TheVariants as reply
-use Rattle.ddcmp_run.specs.Run.{PairState, at, line_bytes, wrote, reply_to, after_event, run}
-use Rattle.ddcmp_run.specs.Settle.{other, mail_events, carried, crossing_of, crossing, StoppedAmong}
+use Rattle.ddcmp_run.specs.Run.{PairState, at, line_bytes, wrote, reply_to, after_event, asks_memory, run}
+use Rattle.ddcmp_run.specs.Settle.{other, mail_events, carried, crossing_of, crossing, StoppedAmong, WantsMemory}
 
 pub run-append : (xs ys : List Event) (p : PairState) → run (xs ++ ys) p ≡ run ys (run xs p)
 unfolding run
@@ -34,29 +34,65 @@ run-again n e p = ap (λ t. run t p) (sym (replicate-append-replicate n 1 e)) �
 pub stopped-none : (events : List Event) (p : PairState) → StoppedAmong events p p
 stopped-none events p = record { done = []; rest = events; events_are = refl; state = sym (run-none p) }
 
-pub stopped-first : (a b : List Event) (p q : PairState) → StoppedAmong a p q → StoppedAmong (a ++ b) p q
-stopped-first a b p q s = record {
-  done = s.done;
-  rest = s.rest ++ b;
-  events_are = sym (append_assoc s.done s.rest b) ∙ ap (λ t. t ++ b) s.events_are;
-  state = s.state;
+-- ---- where a run wanted memory
+
+pub wanted-stopped : (events : List Event) (p q : PairState) → WantsMemory events p q → StoppedAmong events p q
+wanted-stopped events p q w = record { done = w.done; rest = w.next ∷ w.rest; events_are = w.events_are; state = w.state }
+
+-- an event was refused, and none is that asks for no memory: so it asks
+refused-asks : (asks : Bool) → (asks ≡ false → false ≡ true) → asks ≡ true
+refused-asks true never = refl
+refused-asks false never = let z = never refl in absurd (cc)
+
+-- an event that wasn't done, behind some that were
+pub wanted-at : (done : List Event) (next : Event) (rest events : List Event) (p q r : PairState) → done ++ next ∷ rest ≡ events
+    → q ≡ run done p → r ≡ q → (asks_memory next q ≡ false → false ≡ true) → WantsMemory events p r
+wanted-at done next rest events p q r events_are state same never = record {
+  done = done;
+  next = next;
+  rest = rest;
+  events_are = events_are;
+  state = same ∙ state;
+  asks = ap (asks_memory next) same ∙ refused-asks (asks_memory next q) never;
 }
 
-pub stopped-later : (a b : List Event) (p q : PairState) → StoppedAmong b (run a p) q → StoppedAmong (a ++ b) p q
-stopped-later a b p q s = record {
-  done = a ++ s.done;
-  rest = s.rest;
-  events_are = append_assoc a s.done s.rest ∙ ap (λ t. a ++ t) s.events_are;
-  state = s.state ∙ sym (run-append a s.done p);
+pub wanted-next : (next : Event) (rest events : List Event) (p q : PairState) → next ∷ rest ≡ events → q ≡ p
+    → (asks_memory next p ≡ false → false ≡ true) → WantsMemory events p q
+wanted-next next rest events p q events_are same never = wanted-at [] next rest events p p q events_are (sym (run-none p)) same never
+
+pub wanted-second : (first next : Event) (rest events : List Event) (p q r : PairState) → first ∷ next ∷ rest ≡ events → q ≡ after_event first p → r ≡ q
+    → (asks_memory next q ≡ false → false ≡ true) → WantsMemory events p r
+wanted-second first next rest events p q r events_are state same never =
+    wanted-at (first ∷ []) next rest events p q r events_are (state ∙ sym (run-one first p)) same never
+
+pub wanted-first : (a b : List Event) (p q : PairState) → WantsMemory a p q → WantsMemory (a ++ b) p q
+wanted-first a b p q w = record {
+  done = w.done;
+  next = w.next;
+  rest = w.rest ++ b;
+  events_are = sym (append_assoc w.done (w.next ∷ w.rest) b) ∙ ap (λ t. t ++ b) w.events_are;
+  state = w.state;
+  asks = w.asks;
 }
 
-pub stopped-again : (n k : ℕ) (e : Event) (p q : PairState) → k ≤ n → q ≡ run (replicate k e) p → StoppedAmong (replicate n e) p q
-stopped-again n k e p q within state = record {
-  done = replicate k e;
-  rest = replicate (n - k) e;
-  events_are = replicate-append-replicate k (n - k) e ∙ ap (λ m. replicate m e) (omega arith);
-  state = state;
+pub wanted-later : (a b : List Event) (p q : PairState) → WantsMemory b (run a p) q → WantsMemory (a ++ b) p q
+wanted-later a b p q w = record {
+  done = a ++ w.done;
+  next = w.next;
+  rest = w.rest;
+  events_are = append_assoc a w.done (w.next ∷ w.rest) ∙ ap (λ t. a ++ t) w.events_are;
+  state = w.state ∙ sym (run-append a w.done p);
+  asks = w.asks;
 }
+
+again-after : (n k : ℕ) (e : Event) → k < n → replicate k e ++ e ∷ replicate (n - (k + 1)) e ≡ replicate n e
+again-after n k e below =
+    replicate-append-replicate k (suc (n - (k + 1))) e ∙ ap (λ m. replicate m e) (omega arith)
+
+pub wanted-again : (n k : ℕ) (e : Event) (p q r : PairState) → k < n → q ≡ run (replicate k e) p → r ≡ q
+    → (asks_memory e q ≡ false → false ≡ true) → WantsMemory (replicate n e) p r
+wanted-again n k e p q r below state same never =
+    wanted-at (replicate k e) e (replicate (n - (k + 1)) e) (replicate n e) p q r (again-after n k e below) state same never
 
 -- ---- the first events of a list
 
@@ -99,15 +135,16 @@ pub crossing-idles : (from : End) (p : PairState) → line_bytes (at from p) ≡
 unfolding crossing
 crossing-idles from p e = ap (λ o. crossing_of from o p) e
 
+-- a crossing begins with a poll
+polls-first : (from : End) (o : Option (List ℕ)) (p : PairState) → (rest : List Event) × (event.Poll from ∷ rest ≡ crossing_of from o p)
+polls-first from None p = ([], refl)
+polls-first from (Some bytes) p = (_, refl)
+
+pub crossing-polls : (from : End) (p : PairState) → (rest : List Event) × (event.Poll from ∷ rest ≡ crossing from p)
+unfolding crossing
+crossing-polls from p = polls-first from (line_bytes (at from p)) p
+
 pub run-carried : (from : End) (bytes : List ℕ) (p q r : PairState) → q ≡ after_event (event.Poll from) p → r ≡ after_event (event.Arrive (other from) bytes) q
     → r ≡ run (carried from bytes) p
 unfolding run
 run-carried from bytes p q r poll arrive = arrive ∙ ap (after_event (event.Arrive (other from) bytes)) poll
-
-pub stopped-polled : (from : End) (bytes : List ℕ) (p q : PairState) → q ≡ after_event (event.Poll from) p → StoppedAmong (carried from bytes) p q
-stopped-polled from bytes p q e = record {
-  done = event.Poll from ∷ [];
-  rest = event.Arrive (other from) bytes ∷ [];
-  events_are = refl;
-  state = e ∙ sym (run-one (event.Poll from) p);
-}

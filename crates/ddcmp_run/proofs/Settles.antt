@@ -4,8 +4,8 @@ use Rattle.std.specs.Prelude.{if◌then◌else◌}
 use Rattle.ddcmp_run.specs.declared.event.End.TheVariants.{A, B}
 use Rattle.ddcmp_run.specs.declared.event.Event.{Event}
 use Rattle.ddcmp_run.specs.Run.{PairState, run}
-use Rattle.ddcmp_run.specs.Settle.{Settling, counted, exchange, either_writes, exchanges_within, mail_events, all_mail, most_exchanges, settling, settled, StoppedAmong}
-use Rattle.ddcmp_run.proofs.Runs.{run-append, stopped-first, stopped-later}
+use Rattle.ddcmp_run.specs.Settle.{Settling, counted, exchange, either_writes, exchanges_within, mail_events, all_mail, most_exchanges, settling, settled, WantsMemory}
+use Rattle.ddcmp_run.proofs.Runs.{run-append, wanted-first, wanted-later}
 
 within-true : (b : Bool) (x y : Settling) → b ≡ true → (if b then x else y) ≡ x
 within-true true x y e = refl
@@ -98,14 +98,14 @@ exchange-first : (more : ℕ) (p : PairState) (b : Bool) → either_writes p ≡
 exchange-first more p true e = (_, ap (λ s. s.events) (exchanged more p e))
 exchange-first more p false e = ([], ap (λ s. s.events) (quieted more p e) ∙ sym (append-nil (exchange p)))
 
-pub left-stopped : (most : ℕ) (first : PairState) (made : ℕ) (now last : PairState) → LeftToSettle most first made now → made < most
-    → StoppedAmong (exchange now) now last → StoppedAmong (exchanges_within most first).events first last
-left-stopped most first made now last l below s =
+pub left-wanted : (most : ℕ) (first : PairState) (made : ℕ) (now last : PairState) → LeftToSettle most first made now → made < most
+    → WantsMemory (exchange now) now last → WantsMemory (exchanges_within most first).events first last
+left-wanted most first made now last l below s =
     let front = exchange-first (most - (made + 1)) now (either_writes now) refl in
     let all = ap (λ n. (exchanges_within n now).events) (one-less most made below) ∙ front.1 in
-    subst (λ t. StoppedAmong t first last) (ap (λ t. l.done ++ t) (sym all) ∙ l.events)
-    (stopped-later l.done (exchange now ++ front.0) first last
-    (subst (λ q. StoppedAmong (exchange now ++ front.0) q last) l.state (stopped-first (exchange now) front.0 now last s)))
+    subst (λ t. WantsMemory t first last) (ap (λ t. l.done ++ t) (sym all) ∙ l.events)
+    (wanted-later l.done (exchange now ++ front.0) first last
+    (subst (λ q. WantsMemory (exchange now ++ front.0) q last) l.state (wanted-first (exchange now) front.0 now last s)))
 
 -- ---- a whole settle
 
@@ -124,12 +124,12 @@ settling-quiet p = refl
 pub settled-is : (p q : PairState) → q ≡ run (exchanges_within (most_exchanges p) (run (all_mail p) p)).events (run (all_mail p) p) → q ≡ settled p
 settled-is p q e = e ∙ sym (run-append (all_mail p) _ p) ∙ ap (λ t. run t p) (sym (settling-events p))
 
-pub stopped-in-mail : (p q : PairState) → StoppedAmong (all_mail p) p q → StoppedAmong (settling p).events p q
-stopped-in-mail p q s = subst (λ t. StoppedAmong t p q) (sym (settling-events p)) (stopped-first (all_mail p) _ p q s)
+pub wanted-in-mail : (p q : PairState) → WantsMemory (all_mail p) p q → WantsMemory (settling p).events p q
+wanted-in-mail p q s = subst (λ t. WantsMemory t p q) (sym (settling-events p)) (wanted-first (all_mail p) _ p q s)
 
-pub stopped-after-mail : (p q : PairState) → StoppedAmong (exchanges_within (most_exchanges p) (run (all_mail p) p)).events (run (all_mail p) p) q
-    → StoppedAmong (settling p).events p q
-stopped-after-mail p q s = subst (λ t. StoppedAmong t p q) (sym (settling-events p)) (stopped-later (all_mail p) _ p q s)
+pub wanted-after-mail : (p q : PairState) → WantsMemory (exchanges_within (most_exchanges p) (run (all_mail p) p)).events (run (all_mail p) p) q
+    → WantsMemory (settling p).events p q
+wanted-after-mail p q s = subst (λ t. WantsMemory t p q) (sym (settling-events p)) (wanted-later (all_mail p) _ p q s)
 
 mailed : (p q r : PairState) → q ≡ run (mail_events A p) p → r ≡ run (mail_events B q) q → r ≡ run (all_mail p) p
 mailed p q r first second = second ∙ ap (λ t. run (mail_events B t) t) first ∙ sym (run-append (mail_events A p) _ p)
@@ -139,6 +139,6 @@ pub settle-begun : (p q r : PairState) → q ≡ run (mail_events A p) p → r �
 settle-begun p q r first second =
     subst (LeftToSettle (most_exchanges p) (run (all_mail p) p) 0) (sym (mailed p q r first second)) (left-begun (most_exchanges p) (run (all_mail p) p))
 
-pub stopped-second : (p q r : PairState) → q ≡ run (mail_events A p) p → StoppedAmong (mail_events B q) q r → StoppedAmong (settling p).events p r
-stopped-second p q r first s =
-    stopped-in-mail p r (stopped-later (mail_events A p) _ p r (subst (λ t. StoppedAmong (mail_events B t) t r) first s))
+pub wanted-in-second-mail : (p q r : PairState) → q ≡ run (mail_events A p) p → WantsMemory (mail_events B q) q r → WantsMemory (settling p).events p r
+wanted-in-second-mail p q r first s =
+    wanted-in-mail p r (wanted-later (mail_events A p) _ p r (subst (λ t. WantsMemory (mail_events B t) t r) first s))

@@ -4,7 +4,7 @@ use Rattle.ddcmp_run.specs.declared.event.End.{End}
 use Rattle.ddcmp_run.specs.declared.event.End.TheVariants.{A, B}
 use Rattle.ddcmp_run.specs.declared.event.Event.{Event}
 use Rattle.ddcmp_run.specs.declared.event.Event.TheVariants as event
-use Rattle.ddcmp_run.specs.Run.{PairState, at, line_bytes, run}
+use Rattle.ddcmp_run.specs.Run.{PairState, at, line_bytes, asks_memory, run}
 
 abbrev pub other : End → End
 other A = B
@@ -82,3 +82,13 @@ pub record StoppedAmong (events : List Event) (before after : PairState) : Type 
   pub rest : List Event
   pub events_are : done ++ rest ≡ events
   pub state : after ≡ run done before
+
+-- Want of memory stopped a pair between two of these events: some were done, each of them whole,
+-- and the next one asks for memory.
+pub record WantsMemory (events : List Event) (before after : PairState) : Type 0 where
+  pub done : List Event
+  pub next : Event
+  pub rest : List Event
+  pub events_are : done ++ next ∷ rest ≡ events
+  pub state : after ≡ run done before
+  pub asks : asks_memory next after ≡ true

@@ -1,15 +1,16 @@
 use Rattle.std.proofs.Common.{◌∙◌, ap, sym, subst, refl}
-use Rattle.std.specs.Prelude.{is_some}
+use Rattle.std.specs.Prelude.{◌≡◌, true, false, is_some}
 use Rattle.ddcmp_run.specs.declared.event.End.{End}
 use Rattle.ddcmp_run.specs.declared.event.Event.TheVariants as event
-use Rattle.ddcmp_run.specs.Run.{after_event, run}
-use Rattle.ddcmp_run.specs.Settle.{carried, crossing, mail_events, other, StoppedAmong}
-use Rattle.ddcmp_run.proofs.Runs.{on-err, polled-some, polled-none, crossing-writes, crossing-idles, run-append, run-one, run-carried, stopped-none, stopped-first, stopped-later, stopped-polled}
+use Rattle.ddcmp_run.specs.Run.{after_event, asks_memory, run}
+use Rattle.ddcmp_run.specs.Settle.{carried, crossing, mail_events, other, WantsMemory}
+use Rattle.ddcmp_run.proofs.Runs.{on-err, polled-some, polled-none, crossing-writes, crossing-idles, run-append, run-one, run-carried, crossing-polls, wanted-next, wanted-second, wanted-later}
 use Rattle.ddcmp_pair.proofs.pair.Pair.cross.Goals as goal
 
 pub returns-in_err-bytes-clause-memory : goal.returns-in_err-bytes-clause-memory
 returns-in_err-bytes-clause-memory c =
-    on-err _ (subst (StoppedAmong (crossing c.args.from c.args.self.now) c.args.self.now) (sym c.in_err-bytes.ensures.memory) (stopped-none _ c.args.self.now))
+    let polls = crossing-polls c.args.from c.args.self.now in
+    on-err _ (wanted-next (event.Poll c.args.from) polls.0 _ c.args.self.now c.step.new.self polls.1 c.in_err-bytes.ensures.memory c.in_err-bytes.ensures.asks)
 
 pub returns-in_default : goal.returns-in_default
 returns-in_default c =
@@ -27,9 +28,9 @@ returns-in_err-_notices-clause-memory c =
     let from = c.args.from in
     let bytes = c.in-Wrote.bytes in
     let some = polled-some from p bytes (sym c.in_ok-bytes.ensures.reply ∙ c.in-Wrote.is) in
-    let q = c.in_err-_notices.ensures.memory ∙ c.in_ok-bytes.ensures.state refl in
-    on-err _ (subst (λ t. StoppedAmong t p c.step-2.new.self) (sym (crossing-writes from p bytes some))
-    (stopped-first (carried from bytes) _ p c.step-2.new.self (stopped-polled from bytes p c.step-2.new.self q)))
+    let asks = subst (λ (e : End). asks_memory (event.Arrive e bytes) c.step.new.self ≡ false → false ≡ true) c.other-to.ensures c.in_err-_notices.ensures.asks in
+    on-err _ (wanted-second (event.Poll from) (event.Arrive (other from) bytes) _ (crossing from p) p c.step.new.self c.step-2.new.self
+    (sym (crossing-writes from p bytes some)) (c.in_ok-bytes.ensures.state refl) c.in_err-_notices.ensures.memory asks)
 
 pub returns-in_err-take_mail-clause-memory : goal.returns-in_err-take_mail-clause-memory
 returns-in_err-take_mail-clause-memory c =
@@ -39,9 +40,9 @@ returns-in_err-take_mail-clause-memory c =
     let some = polled-some from p bytes (sym c.in_ok-bytes.ensures.reply ∙ c.in-Wrote.is) in
     let arrived = c.in_ok-_notices.ensures.state refl ∙ ap (λ (e : End). after_event (event.Arrive e bytes) c.step.new.self) c.other-to.ensures in
     let carried = run-carried from bytes p c.step.new.self c.step-2.new.self (c.in_ok-bytes.ensures.state refl) arrived in
-    let mail = subst (λ (e : End). StoppedAmong (mail_events e c.step-2.new.self) c.step-2.new.self c.take_mail.new.self) c.other-to.ensures c.in_err-take_mail.ensures.memory in
-    on-err _ (subst (λ t. StoppedAmong t p c.take_mail.new.self) (sym (crossing-writes from p bytes some))
-    (stopped-later _ _ p c.take_mail.new.self (subst (λ q. StoppedAmong (mail_events (other from) q) q c.take_mail.new.self) carried mail)))
+    let mail = subst (λ (e : End). WantsMemory (mail_events e c.step-2.new.self) c.step-2.new.self c.take_mail.new.self) c.other-to.ensures c.in_err-take_mail.ensures.memory in
+    on-err _ (subst (λ t. WantsMemory t p c.take_mail.new.self) (sym (crossing-writes from p bytes some))
+    (wanted-later _ _ p c.take_mail.new.self (subst (λ q. WantsMemory (mail_events (other from) q) q c.take_mail.new.self) carried mail)))
 
 pub returns-clause-state : goal.returns-clause-state
 returns-clause-state c = λ ok.

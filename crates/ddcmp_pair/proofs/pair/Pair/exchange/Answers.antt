@@ -1,15 +1,15 @@
 use Rattle.std.proofs.Common.{◌∙◌, ap, sym, subst, refl}
 use Rattle.ddcmp_run.specs.declared.event.End.TheVariants.{A, B}
 use Rattle.ddcmp_run.specs.Run.{run}
-use Rattle.ddcmp_run.specs.Settle.{crossing, StoppedAmong}
-use Rattle.ddcmp_run.proofs.Runs.{on-err, run-append, stopped-later}
+use Rattle.ddcmp_run.specs.Settle.{crossing, WantsMemory}
+use Rattle.ddcmp_run.proofs.Runs.{on-err, run-append, wanted-later}
 use Rattle.ddcmp_pair.proofs.pair.Pair.exchange.Goals as goal
 
 pub returns-in_err-second-clause-memory : goal.returns-in_err-second-clause-memory
 returns-in_err-second-clause-memory c =
     let p = c.args.self.now in
-    on-err _ (stopped-later (crossing A p) _ p c.cross-2.new.self
-    (subst (λ q. StoppedAmong (crossing B q) q c.cross-2.new.self) (c.in_ok-first.ensures.state refl) c.in_err-second.ensures.memory))
+    on-err _ (wanted-later (crossing A p) _ p c.cross-2.new.self
+    (subst (λ q. WantsMemory (crossing B q) q c.cross-2.new.self) (c.in_ok-first.ensures.state refl) c.in_err-second.ensures.memory))
 
 pub returns-then-first-clause-state : goal.returns-then-first-clause-state
 returns-then-first-clause-state c = λ ok.

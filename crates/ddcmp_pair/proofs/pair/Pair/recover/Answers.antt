@@ -4,19 +4,19 @@ use Rattle.ddcmp_run.specs.Settle.{most_exchanges}
 use Rattle.ddcmp_run.specs.Recovery.{larger_window, IsDone}
 use Rattle.std.proofs.Common.{subst, sym, ◌∙◌, refl}
 use Rattle.ddcmp_run.proofs.Runs.{on-err}
-use Rattle.ddcmp_run.proofs.Recoveries.{stopped-at-first, stopped-at-second, stopped-at-third, recovered-is, recovering-exchanges, recovering-quiet}
+use Rattle.ddcmp_run.proofs.Recoveries.{wanted-in-first, wanted-in-second, wanted-in-third, recovered-is, recovering-exchanges, recovering-quiet}
 use Rattle.ddcmp_pair.proofs.pair.Pair.recover.Goals as goal
 
 pub returns-in_err-first-clause-memory : goal.returns-in_err-first-clause-memory
-returns-in_err-first-clause-memory c = on-err _ (stopped-at-first c.args.self.now c.settle.new.self c.in_err-first.ensures.memory)
+returns-in_err-first-clause-memory c = on-err _ (wanted-in-first c.args.self.now c.settle.new.self c.in_err-first.ensures.memory)
 
 pub returns-in_err-second-clause-memory : goal.returns-in_err-second-clause-memory
 returns-in_err-second-clause-memory c =
-    on-err _ (stopped-at-second c.args.self.now c.settle.new.self c.round.new.self (c.in_ok-first.ensures.state refl) c.in_err-second.ensures.memory)
+    on-err _ (wanted-in-second c.args.self.now c.settle.new.self c.round.new.self (c.in_ok-first.ensures.state refl) c.in_err-second.ensures.memory)
 
 pub returns-in_err-third-clause-memory : goal.returns-in_err-third-clause-memory
 returns-in_err-third-clause-memory c =
-    on-err _ (stopped-at-third c.args.self.now c.settle.new.self c.round.new.self c.round-2.new.self (c.in_ok-first.ensures.state refl) (c.in_ok-second.ensures.state refl) c.in_err-third.ensures.memory)
+    on-err _ (wanted-in-third c.args.self.now c.settle.new.self c.round.new.self c.round-2.new.self (c.in_ok-first.ensures.state refl) (c.in_ok-second.ensures.state refl) c.in_err-third.ensures.memory)
 
 pub returns-clause-state : goal.returns-clause-state
 returns-clause-state c = λ ok.

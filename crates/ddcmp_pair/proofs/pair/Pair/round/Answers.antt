@@ -1,19 +1,18 @@
 use Rattle.std.proofs.Common.{◌≡◌, ◌∙◌, ap, sym, subst, refl}
 use Rattle.std.specs.Prelude.{ℕ, Bool, IfOk}
 use Rattle.ddcmp_run.specs.Run.{PairState}
-use Rattle.ddcmp_run.specs.Settle.{settling, settled, StoppedAmong}
-use Rattle.ddcmp_run.specs.Recovery.{rounding}
-use Rattle.ddcmp_run.proofs.Runs.{on-err, stopped-none}
-use Rattle.ddcmp_run.proofs.Recoveries.{on-err-by, rounding-exchanges, rounding-quiet, rounded-is, both-expired, stopped-between, stopped-in-round}
+use Rattle.ddcmp_run.specs.Settle.{settling, settled, WantsMemory}
+use Rattle.ddcmp_run.proofs.Runs.{on-err}
+use Rattle.ddcmp_run.proofs.Recoveries.{on-err-by, rounding-exchanges, rounding-quiet, rounded-is, both-expired, wanted-at-first, wanted-between, wanted-in-round}
 use Rattle.ddcmp_pair.proofs.pair.Pair.round.Goals as goal
 
 pub returns-in_err-_first-clause-memory : goal.returns-in_err-_first-clause-memory
 returns-in_err-_first-clause-memory c =
-    on-err _ (subst (StoppedAmong (rounding c.args.self.now).events c.args.self.now) (sym c.in_err-_first.ensures.memory) (stopped-none _ c.args.self.now))
+    on-err _ (wanted-at-first c.args.self.now c.step.new.self c.in_err-_first.ensures.memory c.in_err-_first.ensures.asks)
 
 pub returns-in_err-_second-clause-memory : goal.returns-in_err-_second-clause-memory
 returns-in_err-_second-clause-memory c =
-    on-err _ (stopped-between c.args.self.now c.step-2.new.self (c.in_err-_second.ensures.memory ∙ c.in_ok-_first.ensures.state refl))
+    on-err _ (wanted-between c.args.self.now c.step.new.self c.step-2.new.self (c.in_ok-_first.ensures.state refl) c.in_err-_second.ensures.memory c.in_err-_second.ensures.asks)
 
 pub returns-clause-state : goal.returns-clause-state
 returns-clause-state c = λ ok.
@@ -38,5 +37,5 @@ returns-clause-memory c =
     let p = c.args.self.now in
     let e = both-expired p c.step.new.self c.step-2.new.self (c.in_ok-_first.ensures.state refl) (c.in_ok-_second.ensures.state refl) in
     on-err-by c.settle.result
-    (λ s. stopped-in-round p c.settle.new.self (subst (λ (q : PairState). StoppedAmong (settling q).events q c.settle.new.self) e s))
+    (λ s. wanted-in-round p c.settle.new.self (subst (λ (q : PairState). WantsMemory (settling q).events q c.settle.new.self) e s))
     c.settle.ensures.memory

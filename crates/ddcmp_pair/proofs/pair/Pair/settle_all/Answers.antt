@@ -1,17 +1,17 @@
 use Rattle.std.proofs.Common.{◌≡◌, ◌∙◌, ◌+◌, ◌*◌, ap, sym, subst, refl, arith}
 use Rattle.ddcmp_run.specs.Run.{run}
 use Rattle.ddcmp_run.specs.Settle.{all_mail, most_exchanges}
-use Rattle.ddcmp_run.proofs.Runs.{on-err, stopped-first}
-use Rattle.ddcmp_run.proofs.Settles.{LeftToSettle, left-more, left-quiet, left-busy, left-stopped, settle-begun, settled-is, settling-exchanges, settling-quiet, stopped-in-mail, stopped-second, stopped-after-mail}
+use Rattle.ddcmp_run.proofs.Runs.{on-err, wanted-first}
+use Rattle.ddcmp_run.proofs.Settles.{LeftToSettle, left-more, left-quiet, left-busy, left-wanted, settle-begun, settled-is, settling-exchanges, settling-quiet, wanted-in-mail, wanted-in-second-mail, wanted-after-mail}
 use Rattle.ddcmp_pair.proofs.pair.Pair.settle_all.Goals as goal
 
 pub returns-in_err-take_mail-clause-memory : goal.returns-in_err-take_mail-clause-memory
 returns-in_err-take_mail-clause-memory c =
-    on-err _ (stopped-in-mail c.args.self.now c.take_mail.new.self (stopped-first _ _ c.args.self.now c.take_mail.new.self c.in_err-take_mail.ensures.memory))
+    on-err _ (wanted-in-mail c.args.self.now c.take_mail.new.self (wanted-first _ _ c.args.self.now c.take_mail.new.self c.in_err-take_mail.ensures.memory))
 
 pub returns-in_err-take_mail-2-clause-memory : goal.returns-in_err-take_mail-2-clause-memory
 returns-in_err-take_mail-2-clause-memory c =
-    on-err _ (stopped-second c.args.self.now c.take_mail.new.self c.take_mail-2.new.self (c.in_ok-take_mail.ensures.state refl) c.in_err-take_mail-2.ensures.memory)
+    on-err _ (wanted-in-second-mail c.args.self.now c.take_mail.new.self c.take_mail-2.new.self (c.in_ok-take_mail.ensures.state refl) c.in_err-take_mail-2.ensures.memory)
 
 pub loop-exchanges-init : goal.loop-exchanges-init
 loop-exchanges-init c = record {
@@ -23,8 +23,8 @@ pub returns-in_err-exchange-clause-memory : goal.returns-in_err-exchange-clause-
 returns-in_err-exchange-clause-memory c =
     let i = c.loop-exchanges.invariant in
     let most = i.most in
-    on-err _ (stopped-after-mail c.args.self.now c.exchange.new.self
-    (left-stopped _ _ c.loop-exchanges.exchanges c.loop-exchanges.self c.exchange.new.self i.left (omega (arith, most)) c.in_err-exchange.ensures.memory))
+    on-err _ (wanted-after-mail c.args.self.now c.exchange.new.self
+    (left-wanted _ _ c.loop-exchanges.exchanges c.loop-exchanges.self c.exchange.new.self i.left (omega (arith, most)) c.in_err-exchange.ensures.memory))
 
 pub returns-then-not-branch-clause-state : goal.returns-then-not-branch-clause-state
 returns-then-not-branch-clause-state c = λ ok.

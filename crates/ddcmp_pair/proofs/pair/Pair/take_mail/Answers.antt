@@ -1,7 +1,7 @@
 use Rattle.std.proofs.Common.{◌∙◌, ap, sym, refl, arith, length}
 use Rattle.ddcmp_run.specs.declared.event.Event.TheVariants.{Take}
 use Rattle.ddcmp_run.specs.Run.{at, after_event}
-use Rattle.ddcmp_run.proofs.Runs.{run-again, run-none, stopped-again, on-err}
+use Rattle.ddcmp_run.proofs.Runs.{run-again, run-none, wanted-again, on-err}
 use Rattle.ddcmp_pair.proofs.pair.Pair.take_mail.Goals as goal
 
 pub loop-taken-init : goal.loop-taken-init
@@ -14,8 +14,8 @@ pub returns-in_err-_message-clause-memory : goal.returns-in_err-_message-clause-
 returns-in_err-_message-clause-memory c =
     let i = c.loop-taken.invariant in
     let count = i.count in
-    on-err _ (stopped-again (length (at c.args.end c.args.self.now).core.station.inbox) c.loop-taken._taken (Take c.args.end) c.args.self.now c.step.new.self
-    (omega (arith, count)) (c.in_err-_message.ensures.memory ∙ i.state))
+    on-err _ (wanted-again (length (at c.args.end c.args.self.now).core.station.inbox) c.loop-taken._taken (Take c.args.end) c.args.self.now c.loop-taken.self c.step.new.self
+    (omega (arith, count)) i.state c.in_err-_message.ensures.memory c.in_err-_message.ensures.asks)
 
 pub loop-taken-preserved : goal.loop-taken-preserved
 loop-taken-preserved c =
