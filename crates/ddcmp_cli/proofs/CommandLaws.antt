@@ -17,13 +17,13 @@ use Rattle.clap.proofs.WalkLemmas.{first_value-rows, one_text-rows}
 use Rattle.clap.specs.declared.parser.matches.ArgMatches.{ArgMatches}
 use Rattle.clap.specs.declared.parser.matches.ArgMatches.TheViews.{out-ArgMatches}
 use Rattle.clap.proofs.OnLiterals.{clap_on_literals}
-use Rattle.ddcmp_cli.specs.Words.{program, named_by, name_of, option_in, text_in, role_of, MOST, HasFlag, HasForm, HasNumber, HasOptions, IsAsked}
+use Rattle.ddcmp_cli.specs.Words.{program, named_by, name_of, option_in, text_in, role_of, MOST, HasFlag, HasForm, HasNumber, HasOptions, HasSizes, IsAsked}
 use Rattle.ddcmp_core.specs.Limits.{MAX_COUNT, MAX_WINDOW}
 use Rattle.ddcmp_station.specs.declared.config.Config.{Config}
 use Rattle.ddcmp_station.specs.declared.config.TheConstants.{MAX_INBOX, MAX_SYN}
 use Rattle.ddcmp_station.specs.Config.{first_refusal}
 use Rattle.ddcmp_cli.specs.declared.command.Command.{Command}
-use Rattle.ddcmp_cli.specs.declared.command.Command.TheVariants.{Explain, Simulate, Station}
+use Rattle.ddcmp_cli.specs.declared.command.Command.TheVariants.{Explain, Simulate, Pair, Station}
 use Rattle.ddcmp_cli.specs.declared.served.Served.{Served}
 
 pub program-simple : is_simple program ≡ true
@@ -71,19 +71,23 @@ met_text rows f e id =
     first_value-rows f id
     ∙ sym (and_then-map (λ (p : Text × List Row). first_of id p.1) (λ p. p.1) (λ r. first_of id r) rows (rows_of f) (λ _. refl) e)
 
-pub has_options_as : (o p t u : Text → Option Text) (made : Command) → ((id : Text) → o id ≡ p id) → ((id : Text) → t id ≡ u id)
-    → HasOptions o t made → HasOptions p u made
-has_options_as o p t u (Explain form max) e w h = (
-  subst (λ t. HasForm t form) (e (codes "raw")) h.0,
-  subst (λ t. HasNumber 1 MAX_COUNT MAX_COUNT t max) (e (codes "max")) h.1,
-)
-has_options_as o p t u (Simulate config) e w h = record {
+sizes_as : (o p : Text → Option Text) (config : Config) → ((id : Text) → o id ≡ p id) → HasSizes o config → HasSizes p config
+sizes_as o p config e h = record {
   window = subst (λ t. HasNumber 1 MAX_WINDOW 7 t config.window) (e (codes "window")) h.window;
   inbox = subst (λ t. HasNumber 1 MAX_INBOX 8 t config.inbox) (e (codes "inbox")) h.inbox;
   max = subst (λ t. HasNumber 1 MAX_COUNT 1500 t config.max) (e (codes "max")) h.max;
   syn = subst (λ t. HasNumber 0 MAX_SYN 0 t config.syn) (e (codes "syn")) h.syn;
   restart = subst (λ t. HasFlag t config.restart) (e (codes "restart")) h.restart;
 }
+
+pub has_options_as : (o p t u : Text → Option Text) (made : Command) → ((id : Text) → o id ≡ p id) → ((id : Text) → t id ≡ u id)
+    → HasOptions o t made → HasOptions p u made
+has_options_as o p t u (Explain form max) e w h = (
+  subst (λ t. HasForm t form) (e (codes "raw")) h.0,
+  subst (λ t. HasNumber 1 MAX_COUNT MAX_COUNT t max) (e (codes "max")) h.1,
+)
+has_options_as o p t u (Simulate config) e w h = sizes_as o p config e h
+has_options_as o p t u (Pair config) e w h = sizes_as o p config e h
 has_options_as o p t u (Station served) e w h = record {
   role = h.role ∙ ap (λ x. role_of (unwrap_or x [])) (w (codes "role"));
   addr = h.addr ∙ ap (λ x. unwrap_or x []) (w (codes "addr"));
@@ -102,23 +106,24 @@ has_options app words m made e h o =
     let named_rows : subcommand_rows_of m ≡ subcommand_of program words = found.1 ∙ ap (λ (a : App). subcommand_of a words) e in
     subst (λ rows. HasOptions (option_met rows) (text_met rows) made) named_rows o
 
+sized : (config : Config) → (1 ≤ config.window) × (config.window ≤ MAX_WINDOW) → (1 ≤ config.inbox) × (config.inbox ≤ MAX_INBOX)
+    → (1 ≤ config.max) × (config.max ≤ MAX_COUNT) → (0 ≤ config.syn) × (config.syn ≤ MAX_SYN) → first_refusal config ≡ None
+sized config w i m s =
+    rw (
+      le-leb 1 config.window w.0,
+      le-leb config.window MAX_WINDOW w.1,
+      le-leb 1 config.inbox i.0,
+      le-leb config.inbox MAX_INBOX i.1,
+      le-leb 1 config.max m.0,
+      le-leb config.max MAX_COUNT m.1,
+      le-leb config.syn MAX_SYN s.1,
+    ) refl
+
 pub can_run : (o t : Text → Option Text) (command : Command) → HasOptions o t command → CanRun command
 can_run o t (Explain form max) h = h.1.in_range
 can_run o t (Station served) h = tt
 can_run o t (Simulate config) h = sized config h.window.in_range h.inbox.in_range h.max.in_range h.syn.in_range
-  where
-    sized : (config : Config) → (1 ≤ config.window) × (config.window ≤ MAX_WINDOW) → (1 ≤ config.inbox) × (config.inbox ≤ MAX_INBOX)
-        → (1 ≤ config.max) × (config.max ≤ MAX_COUNT) → (0 ≤ config.syn) × (config.syn ≤ MAX_SYN) → first_refusal config ≡ None
-    sized config w i m s =
-        rw (
-          le-leb 1 config.window w.0,
-          le-leb config.window MAX_WINDOW w.1,
-          le-leb 1 config.inbox i.0,
-          le-leb config.inbox MAX_INBOX i.1,
-          le-leb 1 config.max m.0,
-          le-leb config.max MAX_COUNT m.1,
-          le-leb config.syn MAX_SYN s.1,
-        ) refl
+can_run o t (Pair config) h = sized config h.window.in_range h.inbox.in_range h.max.in_range h.syn.in_range
 
 names-differ : ◌≡◌ {A = Option Text} (Some (codes "explain")) (Some (codes "simulate")) → ⊥
 names-differ e = cc
@@ -137,9 +142,16 @@ explain-station e = false-true (ap has_t e)
 simulate-station : ◌≡◌ {A = Option Text} (Some (codes "simulate")) (Some (codes "station")) → ⊥
 simulate-station e = false-true (ap has_t e)
 
+explain-pair : ◌≡◌ {A = Option Text} (Some (codes "explain")) (Some (codes "pair")) → ⊥
+explain-pair e = cc
+
+pair-station : ◌≡◌ {A = Option Text} (Some (codes "pair")) (Some (codes "station")) → ⊥
+pair-station e = false-true (ap has_t e)
+
 pub performed : (words : List Text) (command : Command) (input : List ℕ) (left old new : Option (List ℕ)) (ending : Ending) → IsAsked words (codes "explain") → named_by words ≡ Some (name_of command) → HasOptions (option_in words) (text_in words) command → Performs command input left old new ending → ExplainsOrNoMemory words input left old new ending
 performed words (Explain form max) input left old new ending a n h p = inr (form, max, p.0, h, p.1, p.2)
 performed words (Simulate config) input left old new ending a n h p = absurd (names-differ (sym a.names ∙ n))
+performed words (Pair config) input left old new ending a n h p = absurd (explain-pair (sym a.names ∙ n))
 performed words (Station served) input left old new ending a n h p = absurd (explain-station (sym a.names ∙ n))
 
 -- words that ask for a station are answered by it
@@ -147,6 +159,7 @@ pub stationed : {R : Type 0} (words : List Text) (command : Command) (reader rea
     → ((served : Served) → command ≡ Station served → (reader_after ≡ reader) × Stations served old new ending) → (reader_after ≡ reader) × StationsOrNoMemory words old new ending
 stationed words (Explain form max) reader after old new ending a n h p = absurd (explain-station (sym n ∙ a.names))
 stationed words (Simulate config) reader after old new ending a n h p = absurd (simulate-station (sym n ∙ a.names))
+stationed words (Pair config) reader after old new ending a n h p = absurd (pair-station (sym n ∙ a.names))
 stationed words (Station served) reader after old new ending a n h p =
     let s = p served refl in
     (s.0, inr (served, h, s.1))

@@ -1,9 +1,12 @@
 -- What the program calls the faults of a script.
-use Rattle.std.proofs.Common.{◌≡◌, ◌∙◌, sym, ap, Result, Err, refl}
+use Rattle.std.proofs.Common.{◌≡◌, ◌∙◌, sym, ap, subst, ℕ, Bool, List, Option, None, Result, Err, refl}
+use Rattle.ddcmp_run.specs.Run.{PairState}
+use Rattle.ddcmp_line.specs.Script.{Carriage}
+use Rattle.ddcmp_line.specs.ScriptEnds.{around, Plays}
 use Rattle.ddcmp_line.specs.declared.script_fault.ScriptFault.{ScriptFault}
 use Rattle.ddcmp_line.specs.declared.script_fault.ScriptFault.TheVariants as scripting
 use Rattle.ddcmp_cli.specs.declared.fault.Fault.{Fault}
-use Rattle.ddcmp_cli.specs.declared.fault.Fault.TheVariants.{Write}
+use Rattle.ddcmp_cli.specs.declared.fault.Fault.TheVariants.{Carrier, Write}
 use Rattle.ddcmp_cli.specs.declared.ending.Ending.TheVariants.{Fault as Faulted}
 use Rattle.ddcmp_cli.specs.Endings.{script_fault}
 
@@ -28,3 +31,23 @@ wrote scripting.Carrier e = cc
 
 pub told-write : (r : Result (Unit {0}) ScriptFault) (fault : ScriptFault) (made : Fault) → r ≡ Err fault → made ≡ script_fault fault → Faulted made ≡ Faulted Write → r ≡ Err scripting.Write
 told-write r fault made e m k = e ∙ ap Err (wrote fault (sym m ∙ faulted made Write k))
+
+-- and a carrier that the program tells is the script's
+carried : (fault : ScriptFault) → script_fault fault ≡ Carrier → fault ≡ scripting.Carrier
+carried (scripting.Line n) e = cc
+carried (scripting.Hex n) e = cc
+carried scripting.Read e = cc
+carried scripting.Write e = cc
+carried scripting.Memory e = cc
+carried scripting.Carrier e = refl
+
+pub told-carrier : (r : Result (Unit {0}) ScriptFault) (fault : ScriptFault) (made : Fault) → r ≡ Err fault → made ≡ script_fault fault → Faulted made ≡ Faulted Carrier → r ≡ Err scripting.Carrier
+told-carrier r fault made e m k = e ∙ ap Err (carried fault (sym m ∙ faulted made Carrier k))
+
+-- what a carrier that tells nothing did is known of none
+pub untold : (input : List ℕ) (before p q : PairState) (is_direct : Bool) (t u : Option (List Carriage)) (Wrote WrotePart : List ℕ → Type 0) (r : Result (Unit {0}) ScriptFault)
+    → before ≡ p → t ≡ None → u ≡ None → Plays input (around before q is_direct t u) Wrote WrotePart r → Plays input (around p q is_direct None None) Wrote WrotePart r
+untold input before p q is_direct t u Wrote WrotePart r e n m h =
+    subst (λ b. Plays input (around b q is_direct None None) Wrote WrotePart r) e
+    (subst (λ x. Plays input (around before q is_direct x None) Wrote WrotePart r) n
+    (subst (λ y. Plays input (around before q is_direct t y) Wrote WrotePart r) m h))

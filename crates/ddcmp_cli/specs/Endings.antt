@@ -16,7 +16,7 @@ use Rattle.ddcmp_cli.specs.declared.ending.Ending.TheVariants.{Done, Usage as Mi
 use Rattle.ddcmp_cli.specs.declared.form.Form.{Form}
 use Rattle.clap.specs.Words.{Text}
 use Rattle.ddcmp_cli.specs.declared.command.Command.{Command}
-use Rattle.ddcmp_cli.specs.declared.command.Command.TheVariants.{Explain, Simulate, Station}
+use Rattle.ddcmp_cli.specs.declared.command.Command.TheVariants.{Explain, Simulate, Pair, Station}
 use Rattle.ddcmp_cli.specs.declared.served.Served.{Served}
 use Rattle.ddcmp_cli.specs.declared.serve_fault.ServeFault.{ServeFault}
 use Rattle.ddcmp_cli.specs.declared.serve_fault.ServeFault.TheVariants as serving
@@ -116,17 +116,30 @@ shown_of (Faulted fault) = None
 abbrev pub CanRun : Command → Type 0
 CanRun (Explain form max) = (1 ≤ max) × (max ≤ MAX_COUNT)
 CanRun (Simulate config) = first_refusal config ≡ None
+CanRun (Pair config) = first_refusal config ≡ None
 CanRun (Station served) = ⊤
 
--- A script was played between two new ends of these sizes, over a line that gives what goes in and
--- doesn't fail, and the ending tells the answer; or there was no memory for the ends.
-abbrev pub Simulates : Config → List ℕ → Known → Known → Known → Ending → Type 0
-Simulates config input left old new ending =
+-- A script was played between two new ends of these sizes, over a carrier that is direct or not,
+-- and the ending tells the answer; or there was no memory for the ends.
+abbrev pub PlaysBetween : Bool → Config → List ℕ → Known → Known → Known → Ending → Type 0
+PlaysBetween is_direct config input left old new ending =
     ((ending ≡ Faulted NoMemory) × (left ≡ Some input) × Appends old new [])
     ⊎ ((result : Result (Unit {0}) ScriptFault) × (after : PairState)
-    × (ending ≡ ending_of script_fault result) × (result ≢ Err scripting.Carrier)
-    × Plays input (around (new_pair config config) after true None None) (Appends old new)
+    × (ending ≡ ending_of script_fault result)
+    × Plays input (around (new_pair config config) after is_direct None None) (Appends old new)
     (AppendsPart old new) result)
+
+-- A script was played over a line that gives what goes in and doesn't fail.
+abbrev pub Simulates : Config → List ℕ → Known → Known → Known → Ending → Type 0
+Simulates config input left old new ending =
+    PlaysBetween true config input left old new ending × (ending ≢ Faulted Carrier)
+
+-- A script was played over a connection, or that couldn't be made. What a connection gives isn't
+-- known.
+abbrev pub Pairs : Config → List ℕ → Known → Known → Known → Ending → Type 0
+Pairs config input left old new ending =
+    ((ending ≡ Faulted Carrier) × (left ≡ Some input) × Appends old new [])
+    ⊎ PlaysBetween false config input left old new ending
 
 -- a station was served over some connection, and the ending tells the answer
 pub record ServesOver (served : Served) (new : Known) (ending : Ending) : Type 0 where
@@ -169,6 +182,7 @@ Performs (Explain form max) input left old new ending =
     × Explains form max input left old new result
 Performs (Simulate config) input left old new ending =
     Simulates config input left old new ending
+Performs (Pair config) input left old new ending = Pairs config input left old new ending
 Performs (Station served) input left old new ending =
     (left ≡ Some input) × Stations served old new ending
 

@@ -5,7 +5,7 @@ use Rattle.std.specs.Str.{bytes_eq}
 use Rattle.ddcmp_cli.specs.declared.form.Form.{Form}
 use Rattle.ddcmp_cli.specs.declared.form.Form.TheVariants.{Hex, Raw}
 use Rattle.ddcmp_cli.specs.declared.command.Command.{Command}
-use Rattle.ddcmp_cli.specs.declared.command.Command.TheVariants.{Explain, Simulate, Station}
+use Rattle.ddcmp_cli.specs.declared.command.Command.TheVariants.{Explain, Simulate, Pair, Station}
 use Rattle.ddcmp_cli.specs.declared.served.Role.{Role}
 use Rattle.ddcmp_cli.specs.declared.served.Role.TheVariants.{Connect, Listen}
 use Rattle.ddcmp_cli.specs.declared.served.Served.{Served}
@@ -60,6 +60,10 @@ with_sizes app =
 abbrev pub simulate_app : App
 simulate_app = with_sizes (new_app (codes "simulate"))
 
+-- `ddcmp pair`
+abbrev pub pair_app : App
+pair_app = with_sizes (new_app (codes "pair"))
+
 abbrev pub MOST : ℕ
 MOST = 4294967295
 
@@ -82,17 +86,21 @@ bare_app =
 
 abbrev pub program : App
 program =
-    with_subcommand
-    (with_subcommand (with_subcommand bare_app explain_app.top) simulate_app.top) station_app.top
+    with_subcommand (with_subcommand
+    (with_subcommand (with_subcommand bare_app explain_app.top) simulate_app.top) pair_app.top)
+    station_app.top
 
 -- the word that names a command
 abbrev pub name_of : Command → Text
 name_of (Explain form max) = codes "explain"
 name_of (Simulate config) = codes "simulate"
+name_of (Pair config) = codes "pair"
 name_of (Station served) = codes "station"
 
 abbrev pub IsName : Text → Type 0
-IsName name = (name ≡ codes "explain") ⊎ (name ≡ codes "simulate") ⊎ (name ≡ codes "station")
+IsName name =
+    (name ≡ codes "explain") ⊎ (name ≡ codes "simulate") ⊎ (name ≡ codes "pair")
+    ⊎ (name ≡ codes "station")
 
 -- the command that the words name
 unfoldable pub named_by : List Text → Option Text
@@ -159,6 +167,7 @@ HasOptions option text (Explain form max) =
     HasForm (option (codes "raw")) form
     × HasNumber 1 MAX_COUNT MAX_COUNT (option (codes "max")) max
 HasOptions option text (Simulate config) = HasSizes option config
+HasOptions option text (Pair config) = HasSizes option config
 HasOptions option text (Station served) = HasStation option text served
 
 -- the words ask for this command, and clap finds no fault with them

@@ -4,7 +4,8 @@ ghost use Rattle.std.specs.Prelude.{codes, map, unwrap_or, [], false, List, ℕ}
 ghost use Rattle.std.specs.Option.{option_and_then};
 ghost use Rattle.ddcmp_cli.specs.Words.{Declines, IsAsked, IsName, Reads, name_of, program};
 ghost use Rattle.ddcmp_cli.specs.Words.{HasFlag, HasForm, HasNumber, HasOptions, HasSizes};
-ghost use Rattle.ddcmp_cli.specs.Words.{HasStation, explain_app, simulate_app, station_app};
+ghost use Rattle.ddcmp_cli.specs.Words.{HasStation, explain_app, pair_app, simulate_app};
+ghost use Rattle.ddcmp_cli.specs.Words.{station_app};
 ghost use Rattle.ddcmp_cli.specs.Words.{flag_rule, number_rule, role_of, text_rule};
 ghost use Rattle.ddcmp_cli.specs.Words.{with_sizes as with_sizes_of};
 ghost use Rattle.clap.specs.Words.{kind_of, app_of, new_app, rule_of, first_of, first_value};
@@ -28,6 +29,8 @@ pub enum Command<'a> {
     Explain { form: Form, max: u16 },
     /// Run a script between two ends of these sizes.
     Simulate(Config),
+    /// The same, and the bytes that pass go over a TCP connection.
+    Pair(Config),
     /// Drive a station over a connection.
     Station(Served<'a>),
 }
@@ -161,6 +164,16 @@ fn simulate_parser<'a>(alloc: Global) -> Result<clap::Command<'a>, AllocError>
     with_sizes(alloc, command)
 }
 
+fn pair_parser<'a>(alloc: Global) -> Result<clap::Command<'a>, AllocError>
+    ensures app { IfOk result (λ made. app_of made ≡ pair_app) }
+    ensures local { IfOk result (λ made. (fields_of made).has_globals ≡ false) }
+{
+    let command = clap::Command::new(alloc, "pair")
+        .about("Runs a script as simulate does, and what passes goes over a TCP connection")
+        .after_help(script_help());
+    with_sizes(alloc, command)
+}
+
 /// `station` without its options.
 fn station_command<'a>(alloc: Global) -> clap::Command<'a>
     ensures app { app_of result ≡ new_app (codes "station") }
@@ -238,6 +251,7 @@ fn parser<'a>(alloc: Global) -> Result<clap::Command<'a>, AllocError>
         .subcommand_required(true)
         .subcommand(explain_parser(alloc)?)?
         .subcommand(simulate_parser(alloc)?)?
+        .subcommand(pair_parser(alloc)?)?
         .subcommand(station_parser(alloc)?)
 }
 
@@ -370,16 +384,17 @@ fn asked<'a>(matches: &ArgMatches<'a>) -> Option<Command<'a>>
     ensures unnamed { result ≡ None → (name : List ℕ) → IsName name
         → subcommand_name_of matches.now ≢ Some name }
 {
-    match matches.subcommand_matches("explain") {
-        Some(options) => Some(explain_with(options)),
-        None => match matches.subcommand_matches("simulate") {
-            Some(options) => Some(Command::Simulate(sizes_given(options))),
-            None => match matches.subcommand_matches("station") {
-                Some(options) => Some(Command::Station(station_given(options))),
-                None => None,
-            },
-        },
+    if let Some(options) = matches.subcommand_matches("explain") {
+        return Some(explain_with(options));
     }
+    if let Some(options) = matches.subcommand_matches("simulate") {
+        return Some(Command::Simulate(sizes_given(options)));
+    }
+    if let Some(options) = matches.subcommand_matches("pair") {
+        return Some(Command::Pair(sizes_given(options)));
+    }
+    let options = matches.subcommand_matches("station")?;
+    Some(Command::Station(station_given(options)))
 }
 
 /// Reads the words of a command line, of which the first is the program's name.
@@ -387,6 +402,8 @@ pub fn read_words<'a>(alloc: Global, words: &'a [&'a str]) -> Result<Command<'a>
     ensures asked { IsAsked (map (λ word. word.now) words.entry.now) (codes "explain")
         → IsOk result ⊎ (result ≡ Err Declined.Memory) }
     ensures script_asked { IsAsked (map (λ word. word.now) words.entry.now) (codes "simulate")
+        → IsOk result ⊎ (result ≡ Err Declined.Memory) }
+    ensures pair_asked { IsAsked (map (λ word. word.now) words.entry.now) (codes "pair")
         → IsOk result ⊎ (result ≡ Err Declined.Memory) }
     ensures station_asked { IsAsked (map (λ word. word.now) words.entry.now) (codes "station")
         → IsOk result ⊎ (result ≡ Err Declined.Memory) }

@@ -30,7 +30,9 @@ pub use explain_fault::ExplainFault;
 pub use explaining::explain;
 pub use fault::Fault;
 pub use form::Form;
-pub use program::{explain_is_asked, run, run_args, simulate_is_asked, station_is_asked};
+pub use program::{
+    explain_is_asked, pair_is_asked, run, run_args, simulate_is_asked, station_is_asked,
+};
 pub use serve_fault::ServeFault;
 pub use served::{Role, Served};
 pub use serving::{SERVED_MAX, serve};

@@ -13,7 +13,7 @@ use crate::declined::Declined;
 use crate::ending::Ending;
 use crate::explaining::explain;
 use crate::fault::Fault;
-use crate::simulating::simulate;
+use crate::simulating::{pair, simulate};
 use crate::stationing::station;
 use clap::error::ErrorKind as WordsFault;
 use ddcmp_frame::{Sink, Source, Worst, write_all};
@@ -50,6 +50,7 @@ fn perform<S: Net<Stream = TcpStream> + time::Clock, R: Source, W: Sink>(
             Err(fault) => Ending::Fault(Fault::from(fault)),
         },
         Command::Simulate(config) => simulate(alloc, config, reader, writer),
+        Command::Pair(config) => pair(system, alloc, config, reader, writer),
         Command::Station(served) => station(system, alloc, &served, writer),
     }
 }
@@ -133,6 +134,19 @@ pub fn simulate_is_asked()
     ensures syn { option_in (codes "ddcmp" ∷ codes "simulate" ∷ codes "--syn=16" ∷ [])
         (codes "syn") ≡ Some (codes "16") }
     ensures restart { option_in (codes "ddcmp" ∷ codes "simulate" ∷ codes "--restart" ∷ [])
+        (codes "restart") ≡ Some (codes "true") }
+{}
+
+/// The words `ddcmp pair` ask for the command that runs a script over a connection, with the options
+/// of `ddcmp simulate`.
+pub fn pair_is_asked()
+    ensures plain { IsAsked (codes "ddcmp" ∷ codes "pair" ∷ []) (codes "pair") }
+    ensures no_window { option_in (codes "ddcmp" ∷ codes "pair" ∷ []) (codes "window") ≡ None }
+    ensures inbox { option_in (codes "ddcmp" ∷ codes "pair" ∷ codes "--inbox" ∷ codes "1" ∷ [])
+        (codes "inbox") ≡ Some (codes "1") }
+    ensures syn { option_in (codes "ddcmp" ∷ codes "pair" ∷ codes "--syn=16" ∷ [])
+        (codes "syn") ≡ Some (codes "16") }
+    ensures restart { option_in (codes "ddcmp" ∷ codes "pair" ∷ codes "--restart" ∷ [])
         (codes "restart") ≡ Some (codes "true") }
 {}
 

@@ -1,16 +1,46 @@
 //! Running a script between two ends.
-ghost use Rattle.std.specs.Prelude.{◌≡◌, ◌≢◌, ◌↔◌, false, None, Some, IsTrue, List, ℕ};
+ghost use Rattle.std.specs.Prelude.{◌≡◌, ◌≢◌, ◌↔◌, false, true, None, Some, IsTrue, List, ℕ};
 ghost use Rattle.ddcmp_station.specs.Config.{first_refusal};
-ghost use Rattle.ddcmp_cli.specs.Endings.{Simulates};
+ghost use Rattle.ddcmp_cli.specs.Endings.{Pairs, PlaysBetween, Simulates};
 
 use crate::ending::Ending;
 use crate::fault::Fault;
 use ddcmp_frame::{Sink, Source, Worst};
-use ddcmp_line::{Direct, Pair, script};
+use ddcmp_line::{Carrier, Direct, Sockets, script};
 use ddcmp_station::Config;
 use std::alloc::Global;
+use std::net::{Net, TcpStream};
 
-/// Runs a script between two ends of the same sizes, over a line that gives what goes in.
+/// Runs a script between two ends of the same sizes.
+fn play<R: Source, W: Sink, C: Carrier>(
+    alloc: Global,
+    config: Config,
+    carrier: &mut C,
+    reader: &mut R,
+    writer: &mut W,
+) -> Ending
+    requires fine { R.state reader.old ≡ Worst.Fine }
+    requires whole { W.broken writer.old ≡ false }
+    requires carrier { C.broken carrier.old ≡ false }
+    requires silent { (c : C) → C.told c ≡ None }
+    requires sizes { first_refusal config ≡ None }
+    ensures plays { (input : List ℕ) → R.left reader.old ≡ Some input
+        → PlaysBetween (C.direct carrier.old) config input (R.left reader.new)
+        (W.contents writer.old) (W.contents writer.new) result }
+    ensures read { R.state reader.new ≢ Worst.Fine → result ≡ Ending.Fault Fault.Read }
+    ensures write { (result ≡ Ending.Fault Fault.Write) ↔ IsTrue (W.broken writer.new) }
+    ensures carried { result ≡ Ending.Fault Fault.Carrier → C.broken carrier.new ≡ true }
+{
+    let Ok(mut pair) = ddcmp_line::Pair::new(alloc, config, config) else {
+        return Ending::Fault(Fault::Memory);
+    };
+    match script(alloc, &mut pair, reader, writer, carrier) {
+        Ok(()) => Ending::Done,
+        Err(fault) => Ending::Fault(Fault::from(fault)),
+    }
+}
+
+/// Runs a script over a line that gives what goes in.
 pub(crate) fn simulate<R: Source, W: Sink>(
     alloc: Global,
     config: Config,
@@ -26,11 +56,28 @@ pub(crate) fn simulate<R: Source, W: Sink>(
     ensures read { R.state reader.new ≢ Worst.Fine → result ≡ Ending.Fault Fault.Read }
     ensures write { (result ≡ Ending.Fault Fault.Write) ↔ IsTrue (W.broken writer.new) }
 {
-    let Ok(mut pair) = Pair::new(alloc, config, config) else {
-        return Ending::Fault(Fault::Memory);
+    play(alloc, config, &mut Direct, reader, writer)
+}
+
+/// Runs a script over a connection, which is made first.
+pub(crate) fn pair<N: Net<Stream = TcpStream>, R: Source, W: Sink>(
+    net: &N,
+    alloc: Global,
+    config: Config,
+    reader: &mut R,
+    writer: &mut W,
+) -> Ending
+    requires fine { R.state reader.old ≡ Worst.Fine }
+    requires whole { W.broken writer.old ≡ false }
+    requires sizes { first_refusal config ≡ None }
+    ensures pairs { (input : List ℕ) → R.left reader.old ≡ Some input
+        → Pairs config input (R.left reader.new) (W.contents writer.old)
+        (W.contents writer.new) result }
+    ensures read { R.state reader.new ≢ Worst.Fine → result ≡ Ending.Fault Fault.Read }
+    ensures write { (result ≡ Ending.Fault Fault.Write) ↔ IsTrue (W.broken writer.new) }
+{
+    let Ok(mut sockets) = Sockets::new(net) else {
+        return Ending::Fault(Fault::Carrier);
     };
-    match script(alloc, &mut pair, reader, writer, &mut Direct) {
-        Ok(()) => Ending::Done,
-        Err(fault) => Ending::Fault(Fault::from(fault)),
-    }
+    play(alloc, config, &mut sockets, reader, writer)
 }

@@ -1,3 +1,4 @@
+pub mod Connection
 pub mod Input
 pub mod Script
 pub mod ScriptSteps

@@ -9,6 +9,7 @@ mod performing;
 mod reply_text;
 mod script_fault;
 mod scripting;
+mod sockets;
 pub mod text;
 
 pub use carrier::{Carrier, Direct};
@@ -21,3 +22,4 @@ pub use ddcmp_station::LineFault;
 pub use reply_text::{state_name, write_notice};
 pub use script_fault::ScriptFault;
 pub use scripting::script;
+pub use sockets::Sockets;

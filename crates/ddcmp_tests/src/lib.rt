@@ -6,7 +6,7 @@ mod explains;
 #[cfg(test)]
 mod programs;
 #[cfg(test)]
-mod simulates;
+mod scripts;
 #[cfg(test)]
 mod sizes;
 #[cfg(test)]

@@ -1,56 +1,13 @@
-// Words, endings, and the program as a whole but for the system's streams.
+// Endings, and the program as a whole but for the system's streams. What words ask for and what is
+// written then is the matter of `worked_commands`.
 use ddcmp_cli::command::read_words;
-use ddcmp_cli::{Command, Declined, Ending, Fault, Form, run, run_args};
+use ddcmp_cli::{Declined, Ending, Fault, run, run_args};
 use ddcmp_frame::failing::{Pieces, Taken};
 use std::io::{self, ErrorKind};
 use std::net::{Net, TcpStream};
 use std::process::Abort;
 use std::test::Fail;
 use std::time::Clock;
-
-#[test]
-fn words_name_a_command(rt: HostRuntime) {
-    let alloc = rt.alloc();
-    let taken: [(&[&str], Form, u16); 6] = [
-        (&["ddcmp", "explain"], Form::Hex, 16383),
-        (&["ddcmp", "explain", "--raw"], Form::Raw, 16383),
-        (&["ddcmp", "explain", "--max", "1500"], Form::Hex, 1500),
-        (&["ddcmp", "explain", "--max=1", "--raw"], Form::Raw, 1),
-        (&["ddcmp", "explain", "--max", "1"], Form::Hex, 1),
-        (&["ddcmp", "explain", "--max", "16383"], Form::Hex, 16383),
-    ];
-    for (words, want, most) in taken {
-        match read_words(alloc, words) {
-            Ok(Command::Explain { form, max }) => {
-                assert_eq!(rt; (form, max), (want, most));
-            }
-            _ => assert!(rt; false),
-        }
-    }
-    let refused: [&[&str]; 10] = [
-        &["ddcmp"],
-        &["ddcmp", "explode"],
-        &["ddcmp", "explain", "more"],
-        &["ddcmp", "explain", "--wrong"],
-        &["ddcmp", "explain", "--max", "0"],
-        &["ddcmp", "explain", "--max", "16384"],
-        &["ddcmp", "explain", "--max", "many"],
-        &["ddcmp", "explain", "--max"],
-        &["ddcmp", "explain", "--max", "1", "--max", "2"],
-        &["ddcmp", "explain", "--raw", "--raw"],
-    ];
-    for words in refused {
-        assert!(rt; matches!(read_words(alloc, words), Err(Declined::Usage(_))));
-    }
-    let helped: [&[&str]; 3] = [
-        &["ddcmp", "--help"],
-        &["ddcmp", "help"],
-        &["ddcmp", "explain", "--help"],
-    ];
-    for words in helped {
-        assert!(rt; matches!(read_words(alloc, words), Err(Declined::Help(_))));
-    }
-}
 
 #[test]
 fn endings_have_a_status_and_a_line(rt: HostRuntime) -> Result<(), Fail> {
@@ -106,16 +63,7 @@ fn ran(
 }
 
 #[test]
-fn runs_end_as_their_commands(rt: HostRuntime) {
-    let (ending, text) = ran(&rt, &["ddcmp", "explain"], b"050100000001fc55", 0);
-    assert!(rt; matches!(ending, Ending::Done));
-    assert_eq!(rt;
-        text.bytes(),
-        b"0 ACK sub=0 q=0 s=0 resp=0 num=0 addr=1\nitems=1 bytes=8 open=0\n".as_slice()
-    );
-    let (ending, text) = ran(&rt, &["ddcmp", "explain"], b"050", 0);
-    assert!(rt; matches!(ending, Ending::Fault(Fault::Odd)));
-    assert!(rt; text.bytes().is_empty());
+fn a_failed_write_and_no_words_are_told(rt: HostRuntime) {
     // Help that can't be written is a write that failed.
     let (ending, _) = ran(&rt, &["ddcmp", "--help"], b"", 1);
     assert!(rt; matches!(ending, Ending::Fault(Fault::Write)));
@@ -124,81 +72,22 @@ fn runs_end_as_their_commands(rt: HostRuntime) {
     assert!(rt; text.bytes().is_empty());
 }
 
-const HELP: &[u8] = b"\
-DDCMP, the data link protocol of DECnet
-
-Usage: ddcmp <COMMAND>
-
-Commands:
-  explain   Says what the bytes of a line are, read from standard input
-  simulate  Runs a script between two stations A and B, read from standard input
-  station   Runs a station over a TCP connection
-  help      Print this message or the help of the given subcommand(s)
-
-Options:
-  -h, --help     Print help
-  -V, --version  Print version
-";
-
-const HELP_OF_EXPLAIN: &[u8] = b"\
-Says what the bytes of a line are, read from standard input
-
-Usage: ddcmp explain [OPTIONS]
-
-Options:
-      --raw      Read bytes as they are, not hexadecimal digits
-      --max <N>  The most bytes of data that a frame may have, 1 to 16383; 16383 by default
-  -h, --help     Print help
-";
-
-const USAGE: &str = "\
-error: unexpected argument '--wrong' found
-
-Usage: ddcmp explain [OPTIONS]
-
-For more information, try '--help'.
-";
-
-/// Help and the version go to the output whole, and nothing is read.
+/// Bytes as they are, and the most data that a frame may have.
 #[test]
-fn help_and_the_version_are_shown(rt: HostRuntime) {
-    let rows: [(&[&str], &[u8]); 5] = [
-        (&["ddcmp", "--help"], HELP),
-        (&["ddcmp", "help"], HELP),
-        (&["ddcmp", "explain", "--help"], HELP_OF_EXPLAIN),
-        (&["ddcmp", "help", "explain"], HELP_OF_EXPLAIN),
-        (&["ddcmp", "--version"], b"ddcmp 0.1.0\n"),
-    ];
-    for (words, shown) in rows {
-        let (ending, text) = ran(&rt, words, b"05zz", 0);
-        assert!(rt; matches!(ending, Ending::Done));
-        assert_eq!(rt; text.bytes(), shown);
-    }
-}
-
-/// The options reach the reader of the line.
-#[test]
-fn runs_take_options(rt: HostRuntime) {
+fn raw_bytes_are_explained(rt: HostRuntime) {
     let ack = [0x05, 0x01, 0x00, 0x00, 0x00, 0x01, 0xFC, 0x55];
     let long = [0x81, 0xDD, 0x05, 0x00, 0x01, 0x01, 0x32, 0x9E];
-    let ack_text = b"0 ACK sub=0 q=0 s=0 resp=0 num=0 addr=1\nitems=1 bytes=8 open=0\n";
     let long_text =
         b"0 too long DATA count=1501 q=0 s=0 resp=0 num=1 addr=1\nitems=1 bytes=8 open=8\n";
-    let rows: [(&[&str], &[u8], &[u8]); 6] = [
-        (&["ddcmp", "explain", "--raw"], &ack, ack_text),
+    let rows: [(&[&str], &[u8], &[u8]); 4] = [
+        (
+            &["ddcmp", "explain", "--raw"],
+            &ack,
+            b"0 ACK sub=0 q=0 s=0 resp=0 num=0 addr=1\nitems=1 bytes=8 open=0\n",
+        ),
         (
             &["ddcmp", "explain", "--raw"],
             &long,
-            b"items=0 bytes=8 open=8\n",
-        ),
-        (
-            &["ddcmp", "explain", "--max", "1500"],
-            b"81dd05000101329e",
-            long_text,
-        ),
-        (
-            &["ddcmp", "explain", "--max=1501"],
-            b"81dd05000101329e",
             b"items=0 bytes=8 open=8\n",
         ),
         (
@@ -219,37 +108,15 @@ fn runs_take_options(rt: HostRuntime) {
     }
 }
 
-/// The first byte that is no digit is told, also far after blanks.
+/// The first byte that is no digit is told far after blanks too.
 #[test]
-fn unexpected_bytes_are_told(rt: HostRuntime) {
+fn a_far_byte_is_told(rt: HostRuntime) {
     let mut far = [b' '; 70_000];
     far[69_999] = b'x';
-    let rows: [(&[u8], u64); 4] = [(b"zz", 0), (b"05zz", 2), (b"05 0g", 4), (&far, 69_999)];
-    for (input, index) in rows {
-        let (ending, text) = ran(&rt, &["ddcmp", "explain"], input, 0);
-        assert_eq!(rt; ending.status(), 1);
-        assert!(rt; matches!(ending, Ending::Fault(Fault::NotHex(at)) if at == index));
-        assert!(rt; text.bytes().is_empty());
-    }
-}
-
-/// Wrong words after `explain` are told as usage, and nothing is written.
-#[test]
-fn wrong_words_are_told(rt: HostRuntime) -> Result<(), Fail> {
-    let rows: [&[&str]; 4] = [
-        &["ddcmp", "explain", "--wrong"],
-        &["ddcmp", "explain", "more"],
-        &["ddcmp", "explain", "--max", "0"],
-        &["ddcmp", "explain", "--raw", "--max"],
-    ];
-    for words in rows {
-        let (ending, text) = ran(&rt, words, b"050100000001fc55", 0);
-        assert_eq!(rt; ending.status(), 2);
-        assert!(rt; !ending.to_string(rt.alloc())?.is_empty());
-        assert!(rt; matches!(ending, Ending::Usage(_)));
-        assert!(rt; text.bytes().is_empty());
-    }
-    Ok(())
+    let (ending, text) = ran(&rt, &["ddcmp", "explain"], &far, 0);
+    assert_eq!(rt; ending.status(), 1);
+    assert!(rt; matches!(ending, Ending::Fault(Fault::NotHex(69_999))));
+    assert!(rt; text.bytes().is_empty());
 }
 
 /// What a run with the words of the system ends as, and what it wrote.
@@ -317,17 +184,4 @@ fn texts_are_told_whole(rt: HostRuntime) -> Result<(), Fail> {
         }
     }
     Ok(())
-}
-
-/// What wrong words are told, to the letter.
-#[test]
-fn usage_is_told(rt: HostRuntime) {
-    let (ending, written) = ran(&rt, &["ddcmp", "explain", "--wrong"], b"", 0);
-    assert!(rt; written.bytes().is_empty());
-    match ending {
-        Ending::Usage(text) => {
-            assert_eq!(rt; text.as_str(), USAGE);
-        }
-        _ => assert!(rt; false),
-    }
 }

@@ -1,6 +1,6 @@
-// The words of `station`, and stations run by the program over connections that the test holds.
-use ddcmp_cli::command::read_words;
-use ddcmp_cli::{Command, Declined, Ending, Fault, Role, Served, run};
+// Stations run by the program over connections that the test holds, and their faults. What their words
+// ask for is the matter of `worked_commands`.
+use ddcmp_cli::{Ending, Fault, run};
 use ddcmp_frame::failing::{Pieces, Taken};
 use std::io::{Read, Write};
 use std::net::{Net, TcpListener, TcpStream};
@@ -8,21 +8,7 @@ use std::process::Abort;
 use std::test::Fail;
 use std::time::Clock;
 
-const HERE: &str = "127.0.0.1:7000";
-
 const STRT: [u8; 8] = [0x05, 0x06, 0xC0, 0x00, 0x00, 0x01, 0x75, 0x95];
-
-/// A station that connects, with these numbers.
-fn served(turns: u32, timer_ms: u32) -> Served<'static> {
-    Served {
-        role: Some(Role::Connect),
-        addr: HERE,
-        turns,
-        timer_ms,
-        send: "",
-        restart: false,
-    }
-}
 
 /// Words with these four options, and more.
 fn words<'a>(
@@ -46,139 +32,6 @@ fn words<'a>(
         more[0],
         more[1],
     ]
-}
-
-/// What the first so many words ask for.
-fn asks_for(rt: &(impl Abort + AllocGlobal), all: [&str; 12], count: usize, want: Served<'_>) {
-    let words = all.as_slice().get(..count).unwrap_or(&[]);
-    match read_words(rt.alloc(), words) {
-        Ok(Command::Station(asked)) => {
-            assert_eq!(rt; asked, want);
-        }
-        _ => assert!(rt; false),
-    }
-}
-
-/// Each option at both ends of its range.
-#[test]
-fn options_make_the_station(rt: HostRuntime) {
-    let least = served(0, 0);
-    let most = served(4294967295, 4294967295);
-    let rows: [([&str; 12], usize, Served<'_>); 8] = [
-        (words("connect", HERE, "0", "0", ["", ""]), 10, least),
-        (
-            words("connect", HERE, "4294967295", "4294967295", ["", ""]),
-            10,
-            most,
-        ),
-        (
-            words("listen", HERE, "0", "0", ["", ""]),
-            10,
-            Served {
-                role: Some(Role::Listen),
-                ..least
-            },
-        ),
-        // Another word names no role, which is told when the station is run.
-        (
-            words("other", HERE, "0", "0", ["", ""]),
-            10,
-            Served {
-                role: None,
-                ..least
-            },
-        ),
-        (
-            words("connect", "nowhere", "0", "0", ["", ""]),
-            10,
-            Served {
-                addr: "nowhere",
-                ..least
-            },
-        ),
-        (
-            words("connect", HERE, "0", "0", ["--restart", ""]),
-            11,
-            Served {
-                restart: true,
-                ..least
-            },
-        ),
-        (
-            words("connect", HERE, "0", "0", ["--send", "6A6b"]),
-            12,
-            Served {
-                send: "6A6b",
-                ..least
-            },
-        ),
-        // What isn't hexadecimal is refused when the station is run.
-        (
-            words("connect", HERE, "0", "0", ["--send=zz", "--restart"]),
-            12,
-            Served {
-                send: "zz",
-                restart: true,
-                ..least
-            },
-        ),
-    ];
-    for (all, count, want) in rows {
-        asks_for(&rt, all, count, want);
-    }
-}
-
-/// Each of the four options left out, just outside the ranges, twice, and what is no option.
-#[test]
-fn other_words_are_usage(rt: HostRuntime) {
-    let left_out: [&[&str]; 5] = [
-        &["ddcmp", "station"],
-        &["ddcmp", "station", "--addr=a", "--turns=1", "--timer-ms=1"],
-        &[
-            "ddcmp",
-            "station",
-            "--role=listen",
-            "--turns=1",
-            "--timer-ms=1",
-        ],
-        &[
-            "ddcmp",
-            "station",
-            "--role=listen",
-            "--addr=a",
-            "--timer-ms=1",
-        ],
-        &["ddcmp", "station", "--role=listen", "--addr=a", "--turns=1"],
-    ];
-    for all in left_out {
-        assert!(rt; matches!(read_words(rt.alloc(), all), Err(Declined::Usage(_))));
-    }
-    let other = [
-        words(
-            "listen",
-            HERE,
-            "4294967296",
-            "1",
-            ["--restart", "--send=61"],
-        ),
-        words("listen", HERE, "-1", "1", ["--restart", "--send=61"]),
-        words(
-            "listen",
-            HERE,
-            "1",
-            "4294967296",
-            ["--restart", "--send=61"],
-        ),
-        words("listen", HERE, "1", "many", ["--restart", "--send=61"]),
-        words("listen", HERE, "1", "1", ["--restart", "--restart"]),
-        words("listen", HERE, "1", "1", ["--send=61", "--send=61"]),
-        words("listen", HERE, "1", "1", ["--role", "listen"]),
-        words("listen", HERE, "1", "1", ["--restart", "extra"]),
-        words("listen", HERE, "1", "1", ["--window", "7"]),
-    ];
-    for all in other {
-        assert!(rt; matches!(read_words(rt.alloc(), &all), Err(Declined::Usage(_))));
-    }
 }
 
 /// What a station ends as, and what it wrote.
@@ -298,30 +151,3 @@ error: '--role' is connect or listen
 
 For more information, try '--help'.
 ";
-
-const HELP_OF_STATION: &[u8] = b"\
-Runs a station over a TCP connection
-
-Usage: ddcmp station [OPTIONS] --role <connect|listen> --addr <ADDR> --turns <N> --timer-ms <N>
-
-Options:
-      --role <connect|listen>  Who opens the connection; start the listener first
-      --addr <ADDR>            Where to connect or to listen, such as 127.0.0.1:7000
-      --turns <N>              How many turns the station has; a turn waits at most 10 ms for bytes
-      --timer-ms <N>           How long it waits for an answer before it asks again
-      --send <HEX>             A message that is sent once the station runs, at most 1500 bytes
-      --restart                Begin anew where the peer does, if no message waits to be taken
-  -h, --help                   Print help
-
-What is written, as it happens:
-  notice N                           a notice of the station, as Running or Acknowledged 1
-  mail HEX                           a message that came
-  turns=T state=S read=R written=W   at the end: the turns made and the bytes both ways
-";
-
-#[test]
-fn help_of_station_is_shown(rt: HostRuntime) {
-    let (ending, text) = stationed(&rt, &["ddcmp", "station", "--help"], 0);
-    assert!(rt; matches!(ending, Ending::Done));
-    assert_eq!(rt; text.bytes(), HELP_OF_STATION);
-}

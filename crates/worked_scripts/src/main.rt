@@ -1,10 +1,13 @@
 //! Worked scripts between two ends. The input has one after another, each behind a line with the
-//! sizes of both ends; what each writes goes to the output, and then its answer.
+//! sizes of both ends; what each writes goes to the output, and then its answer. Over a connection it
+//! writes the same.
 #![tactic(auto)]
 
+ghost use Rattle.std.specs.Prelude.{◌≡◌, false};
+
 use ddcmp_frame::{FromRead, ToWrite};
-use ddcmp_line::{Config, Direct, Pair, script};
-use std::io::{self, Read};
+use ddcmp_line::{Carrier, Config, Direct, Pair, Sockets, script};
+use std::io::{self, Read, Write};
 
 /// What stands before the sizes.
 const MARK: &str = "=== ";
@@ -26,19 +29,41 @@ fn config_of(head: &str) -> Option<Config> {
     })
 }
 
-/// Runs a script between two new ends.
+/// Plays a script between two new ends, and gives what it wrote and its answer.
+fn play<C: Carrier>(
+    rt: &HostRuntime,
+    config: Config,
+    lines: &str,
+    carrier: &mut C,
+) -> io::Result<Vec<u8>>
+    requires { C.broken carrier.old ≡ false }
+{
+    let Ok(mut pair) = Pair::new(rt.alloc(), config, config) else {
+        return Ok(Vec::from_array(rt.alloc(), *b"no pair\n")?);
+    };
+    let mut reader = FromRead::new(lines.as_bytes());
+    let mut writer = ToWrite::new(Vec::new(rt.alloc()));
+    let answer = script(rt.alloc(), &mut pair, &mut reader, &mut writer, carrier);
+    let mut text = writer.into_inner();
+    writeln!(text, "{answer:?}")?;
+    Ok(text)
+}
+
+/// Plays a script over a carrier that gives what goes in, and then over a connection, whose text is
+/// told where it is another.
 fn run(rt: &HostRuntime, head: &str, lines: &str) -> io::Result<()> {
     println!(rt; "{MARK}{head}")?;
     let Some(config) = config_of(head) else {
         return println!(rt; "no sizes");
     };
-    let Ok(mut pair) = Pair::new(rt.alloc(), config, config) else {
-        return println!(rt; "no pair");
-    };
-    let mut reader = FromRead::new(lines.as_bytes());
-    let mut writer = ToWrite::new(rt.stdout());
-    let answer = script(rt.alloc(), &mut pair, &mut reader, &mut writer, &mut Direct);
-    println!(rt; "{answer:?}")
+    let text = play(rt, config, lines, &mut Direct)?;
+    rt.stdout().write_all(text.as_slice())?;
+    let over = play(rt, config, lines, &mut Sockets::new(rt)?)?;
+    if over != text {
+        println!(rt; "over a connection:")?;
+        rt.stdout().write_all(over.as_slice())?;
+    }
+    Ok(())
 }
 
 fn main(rt: HostRuntime) -> io::Result<()> {

@@ -1,6 +1,6 @@
 use Rattle.clap.specs.Words.{first_value, found_of, one_text, subcommand_rows_of}
 use Rattle.ddcmp_cli.proofs.CommandLaws.{met, met_text, option_met, text_met, has_options_as}
-use Rattle.ddcmp_cli.specs.declared.command.Command.TheVariants.{Simulate, Station}
+use Rattle.ddcmp_cli.specs.declared.command.Command.TheVariants.{Simulate, Pair, Station}
 use Rattle.ddcmp_cli.proofs.command.asked.Goals as goal
 
 pub returns-in-Some-clause-options : goal.returns-in-Some-clause-options
@@ -21,5 +21,12 @@ pub returns-in-Some-subcommand_matches-2-clause-options : goal.returns-in-Some-s
 returns-in-Some-subcommand_matches-2-clause-options c =
     let rows = subcommand_rows_of c.args.matches.now in
     let found = found_of c.in-Some-subcommand_matches-2.options.now in
+    has_options_as (one_text found) (option_met rows) (first_value found) (text_met rows) (Pair c.sizes_given-in-Some-subcommand_matches-2.result)
+    (met rows found c.in-Some-subcommand_matches-2.ensures.rows) (met_text rows found c.in-Some-subcommand_matches-2.ensures.rows) c.sizes_given-in-Some-subcommand_matches-2.ensures
+
+pub returns-clause-options : goal.returns-clause-options
+returns-clause-options c =
+    let rows = subcommand_rows_of c.args.matches.now in
+    let found = found_of c.in_ok-options.options.now in
     has_options_as (one_text found) (option_met rows) (first_value found) (text_met rows) (Station c.station_given.result)
-    (met rows found c.in-Some-subcommand_matches-2.ensures.rows) (met_text rows found c.in-Some-subcommand_matches-2.ensures.rows) c.station_given.ensures
+    (met rows found c.in_ok-options.ensures.rows) (met_text rows found c.in_ok-options.ensures.rows) c.station_given.ensures

@@ -23,10 +23,15 @@ pub returns-in-Ok-try_get_matches_from-clause-script_asked :
 returns-in-Ok-try_get_matches_from-clause-script_asked c = λ asked.
     absurd (c.in-None.ensures.unnamed refl _ (inr (inl refl)) (sym (named _ _ c.in-Ok-try_get_matches_from.matches c.in-Ok.ensures c.in-Ok-try_get_matches_from.ensures.matches) ∙ asked.names))
 
+pub returns-in-Ok-try_get_matches_from-clause-pair_asked :
+    goal.returns-in-Ok-try_get_matches_from-clause-pair_asked
+returns-in-Ok-try_get_matches_from-clause-pair_asked c = λ asked.
+    absurd (c.in-None.ensures.unnamed refl _ (inr (inr (inl refl))) (sym (named _ _ c.in-Ok-try_get_matches_from.matches c.in-Ok.ensures c.in-Ok-try_get_matches_from.ensures.matches) ∙ asked.names))
+
 pub returns-in-Ok-try_get_matches_from-clause-station_asked :
     goal.returns-in-Ok-try_get_matches_from-clause-station_asked
 returns-in-Ok-try_get_matches_from-clause-station_asked c = λ asked.
-    absurd (c.in-None.ensures.unnamed refl _ (inr (inr refl)) (sym (named _ _ c.in-Ok-try_get_matches_from.matches c.in-Ok.ensures c.in-Ok-try_get_matches_from.ensures.matches) ∙ asked.names))
+    absurd (c.in-None.ensures.unnamed refl _ (inr (inr (inr refl))) (sym (named _ _ c.in-Ok-try_get_matches_from.matches c.in-Ok.ensures c.in-Ok-try_get_matches_from.ensures.matches) ∙ asked.names))
 
 pub returns-in-Ok-try_get_matches_from-clause-reads :
     goal.returns-in-Ok-try_get_matches_from-clause-reads
@@ -45,6 +50,10 @@ returns-clause-asked c = λ asked.
 
 pub returns-clause-script_asked : goal.returns-clause-script_asked
 returns-clause-script_asked c = λ asked.
+    inr (ap Err (declined-memory _ c.decline.result c.decline.ensures (c.in-Err-try_get_matches_from.ensures.passes (in_order _ _ _ c.in-Ok.ensures asked))))
+
+pub returns-clause-pair_asked : goal.returns-clause-pair_asked
+returns-clause-pair_asked c = λ asked.
     inr (ap Err (declined-memory _ c.decline.result c.decline.ensures (c.in-Err-try_get_matches_from.ensures.passes (in_order _ _ _ c.in-Ok.ensures asked))))
 
 pub returns-clause-station_asked : goal.returns-clause-station_asked

@@ -1,0 +1,110 @@
+// Scripts that the program runs where a write fails, or the connection of `pair` can't be made or
+// fails. What they write else is the matter of `worked_commands`.
+use ddcmp_cli::{Ending, Fault, run};
+use ddcmp_frame::failing::{Pieces, Taken};
+use std::io::{self, ErrorKind};
+use std::net::{Net, Shutdown, SocketAddr, TcpListener, TcpStream};
+use std::time::{Clock, Duration};
+
+/// What a script ends as on a system, and what it wrote.
+fn played(
+    rt: &impl AllocGlobal,
+    system: &(impl Net<Stream = TcpStream> + Clock),
+    words: &[&str],
+    input: &[u8],
+    fails_at: usize,
+) -> (Ending, Taken<4096>) {
+    let mut reader = Pieces::of(input);
+    let mut writer = Taken::new().failing_at(fails_at);
+    let ending = run(system, rt.alloc(), words, &mut reader, &mut writer);
+    (ending, writer)
+}
+
+#[test]
+fn a_write_fails(rt: HostRuntime) {
+    for command in ["simulate", "pair"] {
+        let (ending, _) = played(&rt, &rt, &["ddcmp", command], b"halt A\n", 1);
+        assert!(rt; matches!(ending, Ending::Fault(Fault::Write)));
+    }
+}
+
+/// What a system doesn't do.
+#[derive(Clone, Copy, PartialEq, Eq)]
+enum Lacks {
+    Listening,
+    Connecting,
+    /// What is written at the end that connects.
+    Writing,
+}
+
+/// A system that lacks something.
+#[derive(Drop)]
+struct Poor<'a, S> {
+    system: &'a S,
+    lacks: Lacks,
+}
+
+impl<S: Net<Stream = TcpStream, Listener = TcpListener>> Net for Poor<'_, S> {
+    type Stream = TcpStream;
+
+    type Listener = TcpListener;
+
+    fn bind(&self, addr: SocketAddr) -> io::Result<TcpListener> {
+        if self.lacks == Lacks::Listening {
+            return Err(io::Error::from(ErrorKind::AddrInUse));
+        }
+        self.system.bind(addr)
+    }
+
+    fn connect(&self, addr: SocketAddr) -> io::Result<TcpStream> {
+        if self.lacks == Lacks::Connecting {
+            return Err(io::Error::from(ErrorKind::ConnectionRefused));
+        }
+        let stream = self.system.connect(addr)?;
+        stream.shutdown(Shutdown::Write)?;
+        Ok(stream)
+    }
+}
+
+impl<S: Clock> Clock for Poor<'_, S> {
+    fn monotonic(&self) -> io::Result<Duration> {
+        self.system.monotonic()
+    }
+
+    fn since_1970(&self) -> io::Result<Duration> {
+        self.system.since_1970()
+    }
+}
+
+/// Both ends start; B's frame passes, and A's can't.
+const SCRIPT: &[u8] = b"start A\nstart B\npoll B\npass B\npoll A\npass A\nstate A\n";
+
+const TEXT: &[u8] = b"A started dropped=0\nB started dropped=0\nB wrote 0506c00000017595\n\
+B passed 8\nA wrote 0507c00000014855\n";
+
+#[test]
+fn a_missing_connection_is_a_carrier(rt: HostRuntime) {
+    let rows: [(Lacks, &[u8]); 3] = [
+        (Lacks::Listening, b""),
+        (Lacks::Connecting, b""),
+        (Lacks::Writing, TEXT),
+    ];
+    for (lacks, text) in rows {
+        let system = Poor { system: &rt, lacks };
+        let (ending, written) = played(&rt, &system, &["ddcmp", "pair"], SCRIPT, 0);
+        assert!(rt; matches!(ending, Ending::Fault(Fault::Carrier)));
+        assert_eq!(rt; ending.status(), 3);
+        assert_eq!(rt; written.bytes(), text);
+    }
+}
+
+/// No other command asks for a connection with itself.
+#[test]
+fn simulate_needs_no_connection(rt: HostRuntime) {
+    let system = Poor {
+        system: &rt,
+        lacks: Lacks::Listening,
+    };
+    let (ending, _written) = played(&rt, &system, &["ddcmp", "simulate"], SCRIPT, 0);
+    assert!(rt; matches!(ending, Ending::Done));
+}

@@ -1,0 +1,60 @@
+//! Worked words of the command line. The input has them one after another, each in a line behind a
+//! mark; the lines up to the next mark are what the program reads when it is run with these words.
+//! What it writes and how it ends goes to the output. Behind `? ` stand words that are only read.
+#![tactic(auto)]
+
+use ddcmp_cli::{Declined, read_words, run};
+use ddcmp_frame::{FromRead, ToWrite};
+use std::io::{self, Read, Write};
+
+/// What stands before words.
+const MARK: &str = "=== ";
+
+/// What stands before words that are only read.
+const READ: &str = "? ";
+
+/// The words of a line; the first is the program's name.
+fn words_of<'a>(rt: &HostRuntime, line: &'a str) -> io::Result<Vec<&'a str>> {
+    let mut words = Vec::new(rt.alloc());
+    for word in line.split(' ') {
+        words.push(word)?;
+    }
+    Ok(words)
+}
+
+/// What words ask for.
+fn tell(rt: &HostRuntime, line: &str) -> io::Result<()> {
+    let words = words_of(rt, line)?;
+    match read_words(rt.alloc(), words.as_slice()) {
+        Ok(command) => println!(rt; "{command:?}"),
+        Err(Declined::Help(_)) => println!(rt; "help"),
+        Err(Declined::Version(_)) => println!(rt; "version"),
+        Err(Declined::Usage(_)) => println!(rt; "usage"),
+        Err(Declined::Memory) => println!(rt; "memory"),
+    }
+}
+
+/// What the program writes, and how it ends.
+fn play(rt: &HostRuntime, line: &str, input: &str) -> io::Result<()> {
+    let words = words_of(rt, line)?;
+    let mut reader = FromRead::new(input.as_bytes());
+    let mut writer = ToWrite::new(Vec::new(rt.alloc()));
+    let ending = run(rt, rt.alloc(), words.as_slice(), &mut reader, &mut writer);
+    rt.stdout().write_all(writer.into_inner().as_slice())?;
+    println!(rt; "{ending}-> {}", ending.status())
+}
+
+fn main(rt: HostRuntime) -> io::Result<()> {
+    let mut text = String::new(rt.alloc());
+    rt.stdin().read_to_string(&mut text)?;
+    for part in text.as_str().split(MARK).skip(1) {
+        if let Some((line, input)) = part.split_once('\n') {
+            println!(rt; "{MARK}{line}")?;
+            match line.strip_prefix(READ) {
+                Some(words) => tell(&rt, words)?,
+                None => play(&rt, line, input)?,
+            }
+        }
+    }
+    Ok(())
+}
