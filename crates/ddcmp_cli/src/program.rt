@@ -137,8 +137,8 @@ pub fn simulate_is_asked()
         (codes "restart") ≡ Some (codes "true") }
 {}
 
-/// The words `ddcmp pair` ask for the command that runs a script over a connection, with the options
-/// of `ddcmp simulate`.
+/// The words `ddcmp pair` ask for the command that runs a script over a connection, with the
+/// options of `ddcmp simulate`.
 pub fn pair_is_asked()
     ensures plain { IsAsked (codes "ddcmp" ∷ codes "pair" ∷ []) (codes "pair") }
     ensures no_window { option_in (codes "ddcmp" ∷ codes "pair" ∷ []) (codes "window") ≡ None }

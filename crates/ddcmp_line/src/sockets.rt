@@ -74,9 +74,17 @@ fn carry_across(
 }
 
 impl Carrier for Sockets {
+    ghost use Rattle.std.specs.Prelude.{length, is_err};
+
     ghost broken = { λ sockets. sockets.failed };
 
-    fn carry(&mut self, from: End, bytes: &[u8], out: &mut [u8]) -> Result<usize, LineFault> {
+    fn carry(&mut self, from: End, bytes: &[u8], out: &mut [u8]) -> Result<usize, LineFault>
+        requires whole { has_failed self.old ≡ false }
+        requires room { length out.old ≡ length bytes.now }
+        // As many bytes come out as go in; which ones, no contract can say.
+        ensures all { IfOk result (λ n. n ≡ length bytes.now) }
+        ensures broken { has_failed self.new ≡ is_err result }
+    {
         let carried = match from {
             End::A => carry_across(&self.a, &self.b, bytes, out),
             End::B => carry_across(&self.b, &self.a, bytes, out),

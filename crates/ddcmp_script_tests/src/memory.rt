@@ -41,8 +41,8 @@ fn plays(alloc: Global, pair: &mut Pair) -> Told {
     Told { answer, writer }
 }
 
-/// Whether memory is refused to a script: a beginning of its text is written then, and no last line;
-/// and else all of it.
+/// Whether memory is refused to a script: a beginning of its text is written then, and no last
+/// line; and else all of it.
 fn is_refused(rt: &(impl Abort + AllocGlobal)) -> bool {
     let Ok(mut pair) = Pair::new(rt.alloc(), USUAL, USUAL) else {
         return true;

@@ -1,5 +1,5 @@
-// Stations run by the program over connections that the test holds, and their faults. What their words
-// ask for is the matter of `worked_commands`.
+// Stations run by the program over connections that the test holds, and their faults. What their
+// words ask for is the matter of `worked_commands`.
 use ddcmp_cli::{Ending, Fault, run};
 use ddcmp_frame::failing::{Pieces, Taken};
 use std::io::{Read, Write};
@@ -128,6 +128,24 @@ fn a_station_connects(rt: HostRuntime) -> Result<(), Fail> {
     let mut came = [0; 8];
     peer.read_exact(&mut came)?;
     assert_eq!(rt; came, STRT);
+    Ok(())
+}
+
+/// A peer that is silent is asked again when the timer runs out, by the clock of the system.
+#[test]
+fn a_station_asks_again(rt: HostRuntime) -> Result<(), Fail> {
+    let alloc = rt.alloc();
+    let listener = TcpListener::bind(&rt, "127.0.0.1:0")?;
+    let addr = listener.local_addr()?.to_string(alloc)?;
+    let all = words("connect", addr.as_str(), "20", "30", ["", ""]);
+    let (ending, _written) = stationed(&rt, &all[..10], 0);
+    assert!(rt; matches!(ending, Ending::Done));
+    let (mut peer, _address) = listener.accept()?;
+    let mut came = [0; 24];
+    peer.read_exact(&mut came)?;
+    for frame in came.chunks(8) {
+        assert_eq!(rt; frame, STRT.as_slice());
+    }
     Ok(())
 }
 

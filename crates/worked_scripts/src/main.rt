@@ -1,6 +1,6 @@
 //! Worked scripts between two ends. The input has one after another, each behind a line with the
-//! sizes of both ends; what each writes goes to the output, and then its answer. Over a connection it
-//! writes the same.
+//! sizes of both ends; what each writes goes to the output, and then its answer. Over a connection
+//! it writes the same.
 #![tactic(auto)]
 
 ghost use Rattle.std.specs.Prelude.{◌≡◌, false};
