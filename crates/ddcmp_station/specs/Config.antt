@@ -1,7 +1,7 @@
 -- Which sizes a station may have, and how it begins.
 use Rattle.std.specs.Prelude.{ℕ, Bool, ◌&&◌, if◌then◌else◌, nat_le, Option, Some, None}
 use Rattle.ddcmp_core.specs.Limits.{MAX_COUNT, MAX_WINDOW}
-use Rattle.ddcmp_core.specs.Table.{new_station}
+use Rattle.ddcmp_core.specs.Table.{Limits, new_station}
 use Rattle.ddcmp_core.specs.Counting.{no_counts}
 use Rattle.ddcmp_core.specs.Core.{CoreView}
 use Rattle.ddcmp_station.specs.declared.config.TheConstants.{MAX_SYN, MAX_INBOX}
@@ -24,15 +24,29 @@ first_refusal config =
     else Some Inbox)
     else Some Window
 
+-- the limits of a station of these sizes
+abbrev pub limits_of : Config → Limits
+limits_of config = record {
+  window = config.window;
+  room = config.inbox;
+  longest = config.max;
+  restart = config.restart;
+}
+
+-- the sizes of a station with these limits, and so much SYN fill before a frame
+abbrev pub config_of : Limits → ℕ → Config
+config_of limits syn = record {
+  window = limits.window;
+  inbox = limits.room;
+  max = limits.longest;
+  syn = syn;
+  restart = limits.restart;
+}
+
 -- the core of a new station
 abbrev pub core_made : Config → CoreView
 core_made config = record {
-  limits = record {
-    window = config.window;
-    room = config.inbox;
-    longest = config.max;
-    restart = config.restart;
-  };
+  limits = limits_of config;
   station = new_station;
   counters = no_counts;
 }

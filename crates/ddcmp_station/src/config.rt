@@ -3,6 +3,7 @@ ghost use Rattle.std.specs.Prelude.{◌≡◌};
 ghost use Rattle.ddcmp_station.specs.Config.{first_refusal};
 
 use ddcmp_core::{MAX_COUNT, MAX_WINDOW};
+use ddcmp_frame::codes::FRAME_OVERHEAD;
 
 /// The most SYN bytes before a frame.
 pub const MAX_SYN: u8 = 16;
@@ -41,6 +42,24 @@ pub enum ConfigRefusal {
 }
 
 impl Config {
+    ghost use Rattle.std.specs.Prelude.{◌+◌};
+
+    /// The usual sizes.
+    pub const USUAL: Config = Config {
+        window: 7,
+        inbox: 8,
+        max: 1500,
+        syn: 0,
+        restart: false,
+    };
+
+    /// The most bytes of a frame with its SYN fill.
+    pub fn frame_room(&self) -> usize
+        ensures { result ≡ self.now.syn + self.now.max + 10 }
+    {
+        self.syn as usize + self.max as usize + FRAME_OVERHEAD as usize
+    }
+
     /// Which size is out of range, the first of them.
     pub(crate) fn first_refusal(&self) -> Option<ConfigRefusal>
         ensures { result ≡ first_refusal self.now }

@@ -15,6 +15,6 @@ pub use ddcmp_core::{
 };
 pub use ddcmp_frame::{Got, Sink, Source, Worst};
 pub use ddcmp_window::Memory;
-pub use driving::{Driven, LineFault, drive};
+pub use driving::{Driven, LineFault, READ_ROOM, drive};
 pub use station::{Fed, Station};
 pub use user::{Clock, User};

@@ -26,7 +26,7 @@ const FILL: [u8; 16] = [SYN; 16];
 pub struct Station {
     core: Core<RingStore>,
     reader: Reader,
-    syn: u8,
+    config: Config,
     /// Room for the message of a frame that is written.
     message: Vec<u8>,
 }
@@ -34,14 +34,16 @@ pub struct Station {
 impl Model for Station {
     ghost use Rattle.std.specs.Prelude.{◌≡◌, ◌≤◌, vec_len};
     ghost use Rattle.ddcmp_station.specs.declared.config.TheConstants.{MAX_SYN};
+    ghost use Rattle.ddcmp_station.specs.Config.{limits_of};
     ghost use Rattle.ddcmp_station.specs.Station.{StationView};
 
     ghost Value = { StationView };
 
-    ghost view = { λ s. record { core = s.core; syn = s.syn; line = s.reader } };
+    ghost view = { λ s. record { core = s.core; syn = s.config.syn; line = s.reader } };
 
     ghost invariant = { λ s. (s.reader.max ≡ s.core.limits.longest)
-        × (vec_len s.message ≡ s.core.limits.longest) × (s.syn ≤ MAX_SYN) };
+        × (vec_len s.message ≡ s.core.limits.longest) × (s.config.syn ≤ MAX_SYN)
+        × (s.core.limits ≡ limits_of s.config) };
 }
 
 /// Writes SYN fill and a frame at the front of `out`, and says how many bytes they have.
@@ -120,7 +122,7 @@ impl Station {
         Some(Station {
             core: Core::new(out, inbox, config.restart),
             reader,
-            syn: config.syn,
+            config,
             message,
         })
     }
@@ -135,6 +137,7 @@ impl Station {
     ghost use Rattle.ddcmp_core.specs.Frames.{header_of};
     ghost use Rattle.ddcmp_core.specs.Counting.{counters_after_expire};
     ghost use Rattle.ddcmp_station.specs.Bytes.{frame_on_line, after_poll};
+    ghost use Rattle.ddcmp_station.specs.Config.{config_of};
     ghost use Rattle.ddcmp_station.specs.Station.{IsSoundStation, held_of, held_at_most, message_bytes};
 
     /// Asks the peer to start: how many messages that waited to be sent were dropped.
@@ -239,7 +242,7 @@ impl Station {
             (next self.old.core.station))) out.old }
         ensures within { IfSome result (λ n. n ≤ MAX_COUNT + 10 + MAX_SYN) }
     {
-        write_next(&mut self.core, self.syn, &mut self.message, out)
+        write_next(&mut self.core, self.config.syn, &mut self.message, out)
     }
 
     /// The header of the frame that `poll` would write.
@@ -389,18 +392,19 @@ impl Station {
         self.core.bytes() + self.reader.kept()
     }
 
-    /// The largest length of a message.
-    pub(crate) fn longest(&self) -> usize
-        ensures { result ≡ self.now.core.limits.longest }
+    /// The sizes that it was made with.
+    pub fn config(&self) -> Config
+        ensures { result ≡ config_of self.now.core.limits self.now.syn }
     {
-        self.message.len()
+        let Station { config, .. } = self;
+        *config
     }
 
-    /// The largest number of bytes that `poll` writes.
-    pub(crate) fn frame_room(&self) -> usize
+    /// The room that `poll` wants: the largest number of bytes that it writes.
+    pub fn frame_room(&self) -> usize
         ensures { result ≡ self.now.syn + self.now.core.limits.longest + 10 }
     {
-        self.syn as usize + self.message.len() + 10
+        self.config.frame_room()
     }
 
     /// What holds of every station: a law, for those who have one. It does nothing.
