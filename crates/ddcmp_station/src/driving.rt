@@ -3,17 +3,15 @@ ghost use Rattle.std.specs.Prelude.{◌≡◌, ◌≢◌, ◌↔◌, ℕ, ◌+�
 ghost use Rattle.std.specs.Io.KnownBytes.{Consumes, Keeps, IsAtEnd};
 ghost use Rattle.ddcmp_frame.specs.Reader.{StandsFor};
 ghost use Rattle.ddcmp_core.specs.Table.{next_frame, next};
-ghost use Rattle.ddcmp_station.specs.Bytes.{after_poll, after_piece};
+ghost use Rattle.ddcmp_proto.specs.Bytes.{after_poll, after_piece};
 ghost use Rattle.ddcmp_station.specs.Driving.{Drives, devices_of, deadline_at, core_after_take_arm, core_at_deadline, core_after_message, frame_bytes, core_after_mail};
 ghost use Rattle.ddcmp_station.specs.Turns.{TurnEnds, WritesFrame, read_answers_of};
 ghost use Rattle.ddcmp_frame.specs.Device.{Logs};
 ghost use Rattle.ddcmp_station.specs.UserCalls.{calls_of_offer, calls_of_mail, TellsNotices, TellsPiece};
 
-use crate::config::MAX_SYN;
-use crate::station::Station;
 use crate::user::{Clock, User};
-use ddcmp_core::{MAX_COUNT, Notice, State};
 use ddcmp_frame::{Got, Sink, Source, Worst, write_all};
+use ddcmp_proto::{MAX_COUNT, MAX_SYN, Notice, State, Station};
 use std::alloc::Global;
 
 /// The most bytes that are read in a turn.

@@ -1,8 +1,8 @@
 use Rattle.std.proofs.Common.{None, subst, take}
 use Rattle.ddcmp_frame.specs.Reader.{items_given}
-use Rattle.ddcmp_station.specs.OnePart.{TakesPart}
-use Rattle.ddcmp_station.proofs.FeedLaws.{Pushed, pushed-part, part-none, part-some}
-use Rattle.ddcmp_station.proofs.station.Station.take_part.Goals as goal
+use Rattle.ddcmp_proto.specs.OnePart.{TakesPart}
+use Rattle.ddcmp_proto.proofs.FeedLaws.{Pushed, pushed-part, part-none, part-some}
+use Rattle.ddcmp_proto.proofs.station.Station.take_part.Goals as goal
 
 pub returns-in-None-clause-takes : goal.returns-in-None-clause-takes
 returns-in-None-clause-takes c =

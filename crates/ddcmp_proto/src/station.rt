@@ -5,7 +5,7 @@ ghost use Rattle.std.specs.Prelude.{◌≡◌, ◌+◌, ◌≤◌, ◌++◌, len
 ghost use Rattle.ddcmp_frame.specs.Wire.{wire, IsFrame};
 ghost use Rattle.ddcmp_window.specs.Store.{with_front};
 ghost use Rattle.ddcmp_core.specs.Table.{next, next_frame};
-ghost use Rattle.ddcmp_station.specs.Bytes.{frame_on_line, after_poll};
+ghost use Rattle.ddcmp_proto.specs.Bytes.{frame_on_line, after_poll};
 
 use crate::config::{Config, ConfigRefusal, MAX_SYN};
 use ddcmp_core::{
@@ -33,9 +33,9 @@ pub struct Station {
 
 impl Model for Station {
     ghost use Rattle.std.specs.Prelude.{◌≡◌, ◌≤◌, vec_len};
-    ghost use Rattle.ddcmp_station.specs.declared.config.TheConstants.{MAX_SYN};
-    ghost use Rattle.ddcmp_station.specs.Config.{limits_of};
-    ghost use Rattle.ddcmp_station.specs.Station.{StationView};
+    ghost use Rattle.ddcmp_proto.specs.declared.config.TheConstants.{MAX_SYN};
+    ghost use Rattle.ddcmp_proto.specs.Config.{limits_of};
+    ghost use Rattle.ddcmp_proto.specs.Station.{StationView};
 
     ghost Value = { StationView };
 
@@ -86,7 +86,7 @@ fn write_next(
 
 impl Station {
     ghost use Rattle.std.specs.Prelude.{◌≡◌, ◌⊎◌, [], Some, None, Err, IsOk, IfOk, IfSome};
-    ghost use Rattle.ddcmp_station.specs.Config.{first_refusal, core_made};
+    ghost use Rattle.ddcmp_proto.specs.Config.{first_refusal, core_made};
     ghost use Rattle.ddcmp_frame.specs.Reader.{StandsFor};
 
     /// A halted station whose line has had no bytes. It takes all memory that it will need.
@@ -136,9 +136,9 @@ impl Station {
     ghost use Rattle.ddcmp_core.specs.Table.{may_start, answer_to_start, after_start, after_enter_maintenance, after_halt, send_refusal as send_refusal_of, answer_to_send, may_send, after_accept, answer_to_send_maintenance, may_send_maintenance, after_take, after_expire, is_on, is_fresh, is_halted, after_take_arm, next, next_frame};
     ghost use Rattle.ddcmp_core.specs.Frames.{header_of};
     ghost use Rattle.ddcmp_core.specs.Counting.{counters_after_expire};
-    ghost use Rattle.ddcmp_station.specs.Bytes.{frame_on_line, after_poll};
-    ghost use Rattle.ddcmp_station.specs.Config.{config_of};
-    ghost use Rattle.ddcmp_station.specs.Station.{IsSoundStation, held_of, held_at_most, message_bytes};
+    ghost use Rattle.ddcmp_proto.specs.Bytes.{frame_on_line, after_poll};
+    ghost use Rattle.ddcmp_proto.specs.Config.{config_of};
+    ghost use Rattle.ddcmp_proto.specs.Station.{IsSoundStation, held_of, held_at_most, message_bytes};
 
     /// Asks the peer to start: how many messages that waited to be sent were dropped.
     pub fn start(&mut self) -> Result<u8, StartRefusal>

@@ -11,9 +11,9 @@ use Rattle.ddcmp_frame.specs.Reader.{ReaderView, StandsFor, items_given}
 use Rattle.ddcmp_core.specs.declared.notice.Notice.{Notice}
 use Rattle.ddcmp_core.specs.Core.{CoreView}
 use Rattle.ddcmp_core.specs.Table.{acknowledged_by}
-use Rattle.ddcmp_station.specs.Station.{StationView}
-use Rattle.ddcmp_station.specs.OnePart.{TakesPart}
-use Rattle.ddcmp_station.specs.Bytes.{after_item, notices_of_item, after_items, notices_of_items, items_added, after_piece, notices_of_piece}
+use Rattle.ddcmp_proto.specs.Station.{StationView}
+use Rattle.ddcmp_proto.specs.OnePart.{TakesPart}
+use Rattle.ddcmp_proto.specs.Bytes.{after_item, notices_of_item, after_items, notices_of_items, items_added, after_piece, notices_of_piece}
 
 pub after_items-append : (x y : List ReadItem) (k : CoreView) → after_items (x ++ y) k ≡ after_items y (after_items x k)
 unfolding after_items

@@ -1,7 +1,7 @@
 use Rattle.std.proofs.Common.{◌+◌, ◌-◌, length, drop, length-drop, subst, arith}
 use Rattle.std.proofs.lemmas.List.{length-take}
-use Rattle.ddcmp_station.proofs.FeedLaws.{FedNext, fed-nothing, fed-on, fed-quiet}
-use Rattle.ddcmp_station.proofs.station.Station.feed.Goals as goal
+use Rattle.ddcmp_proto.proofs.FeedLaws.{FedNext, fed-nothing, fed-on, fed-quiet}
+use Rattle.ddcmp_proto.proofs.station.Station.feed.Goals as goal
 
 pub loop-used-init : goal.loop-used-init
 loop-used-init c = record { within = omega arith; fed = fed-nothing c.args.self.now c.args.piece.now }

@@ -4,9 +4,9 @@ use Rattle.std.proofs.lemmas.List.{length-replicate}
 use Rattle.ddcmp_frame.specs.Wire.{wire}
 use Rattle.ddcmp_frame.proofs.WireLaws.{length-wire}
 use Rattle.ddcmp_window.specs.Store.{with_front}
-use Rattle.ddcmp_station.proofs.Bounds.{frame_most}
-use Rattle.ddcmp_station.proofs.PollLaws.{next_is, line_is}
-use Rattle.ddcmp_station.proofs.station.write_next.Goals as goal
+use Rattle.ddcmp_proto.proofs.Bounds.{frame_most}
+use Rattle.ddcmp_proto.proofs.PollLaws.{next_is, line_is}
+use Rattle.ddcmp_proto.proofs.station.write_next.Goals as goal
 
 pub write_line-requires-clause-frame : goal.write_line-requires-clause-frame
 write_line-requires-clause-frame c =

@@ -1,6 +1,6 @@
 -- The station as its callers see it.
 use Rattle.std.specs.Prelude.{◌≡◌, ℕ, ◌+◌, ◌*◌, ◌≤◌, length, sum_by}
-use Rattle.ddcmp_station.specs.declared.config.TheConstants.{MAX_SYN}
+use Rattle.ddcmp_proto.specs.declared.config.TheConstants.{MAX_SYN}
 use Rattle.ddcmp_frame.specs.Reader.{ReaderView, kept_of}
 use Rattle.ddcmp_core.specs.Core.{CoreView, IsSound}
 use Rattle.ddcmp_core.specs.Table.{Limits, StationState}

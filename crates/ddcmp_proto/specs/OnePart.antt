@@ -4,8 +4,8 @@ use Rattle.ddcmp_frame.specs.Reader.{StandsFor}
 use Rattle.ddcmp_frame.specs.Reading.{ReadItem, items}
 use Rattle.ddcmp_core.specs.declared.notice.Notice.{Notice}
 use Rattle.ddcmp_core.specs.Table.{acknowledged_by}
-use Rattle.ddcmp_station.specs.Bytes.{after_items, notices_of_items}
-use Rattle.ddcmp_station.specs.Station.{StationView}
+use Rattle.ddcmp_proto.specs.Bytes.{after_items, notices_of_items}
+use Rattle.ddcmp_proto.specs.Station.{StationView}
 
 -- What bytes of the line do of which only the last may complete an item: the items that they add,
 -- for every text that the reader stands for, and what these do to the station.

@@ -1,7 +1,7 @@
 //! Laws of a station over bytes: functions that do nothing.
 ghost use Rattle.std.specs.Prelude.{◌≡◌, ℕ, List, [], ◌++◌};
 ghost use Rattle.ddcmp_core.specs.Core.{CoreView};
-ghost use Rattle.ddcmp_station.specs.Bytes.{after_piece, notices_of_piece};
+ghost use Rattle.ddcmp_proto.specs.Bytes.{after_piece, notices_of_piece};
 
 use ddcmp_frame::laws::items_of_longer;
 

@@ -1,7 +1,7 @@
 use Rattle.std.proofs.Common.{◌≡◌, ◌+◌, ◌++◌, length, drop, replicate, sym, ◌∙◌, ap, append_assoc}
 use Rattle.std.proofs.lemmas.List.{take-replicate, length-replicate, drop-drop}
 use Rattle.ddcmp_frame.specs.Wire.{wire}
-use Rattle.ddcmp_station.proofs.station.write_line.Goals as goal
+use Rattle.ddcmp_proto.proofs.station.write_line.Goals as goal
 
 pub returns-clause-written : goal.returns-clause-written
 returns-clause-written c =

@@ -1,6 +1,6 @@
 use Rattle.std.proofs.Common.{◌-◌, ◌≤◌, length}
-use Rattle.ddcmp_station.proofs.FeedLaws.{FedPart}
-use Rattle.ddcmp_station.proofs.station.Station.feed.Given as goal
+use Rattle.ddcmp_proto.proofs.FeedLaws.{FedPart}
+use Rattle.ddcmp_proto.proofs.station.Station.feed.Given as goal
 
 abbrev pub invariant-loop-used : goal.invariant-loop-used
 invariant-loop-used l = record {

@@ -1,6 +1,6 @@
 use Rattle.std.proofs.Common.{arith}
-use Rattle.ddcmp_station.proofs.Bounds.{messages_most}
-use Rattle.ddcmp_station.proofs.station.Station.held.Goals as goal
+use Rattle.ddcmp_proto.proofs.Bounds.{messages_most}
+use Rattle.ddcmp_proto.proofs.station.Station.held.Goals as goal
 
 pub overflow_add-result : goal.overflow_add-result
 overflow_add-result c =

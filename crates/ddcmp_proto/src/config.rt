@@ -1,6 +1,6 @@
 //! How a station is made.
 ghost use Rattle.std.specs.Prelude.{◌≡◌};
-ghost use Rattle.ddcmp_station.specs.Config.{first_refusal};
+ghost use Rattle.ddcmp_proto.specs.Config.{first_refusal};
 
 use ddcmp_core::{MAX_COUNT, MAX_WINDOW};
 use ddcmp_frame::codes::FRAME_OVERHEAD;

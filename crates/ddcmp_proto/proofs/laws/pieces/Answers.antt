@@ -1,5 +1,5 @@
-use Rattle.ddcmp_station.proofs.FeedLaws.{after_piece-limits, after_piece-none, notices_of_piece-none, after_piece-append, notices_of_piece-append}
-use Rattle.ddcmp_station.proofs.laws.pieces.Goals as goal
+use Rattle.ddcmp_proto.proofs.FeedLaws.{after_piece-limits, after_piece-none, notices_of_piece-none, after_piece-append, notices_of_piece-append}
+use Rattle.ddcmp_proto.proofs.laws.pieces.Goals as goal
 
 pub returns : goal.returns
 returns c = record {

@@ -9,7 +9,7 @@ use Rattle.ddcmp_core.specs.Table.{Limits, StationState, Frame, Next, Idle, Send
 use Rattle.ddcmp_core.specs.Frames.{header_of, message_of, header_and_length}
 use Rattle.ddcmp_core.specs.Core.{IsSound}
 use Rattle.ddcmp_core.proofs.StartLaws.{read_sent}
-use Rattle.ddcmp_station.specs.Bytes.{frame_on_line}
+use Rattle.ddcmp_proto.specs.Bytes.{frame_on_line}
 
 -- a header and the front of a buffer are the next frame
 pub record IsNext (l : Limits) (s : StationState) (h : Header) (message : List ℕ) : Type 0 where

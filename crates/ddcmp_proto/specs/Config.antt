@@ -4,10 +4,10 @@ use Rattle.ddcmp_core.specs.Limits.{MAX_COUNT, MAX_WINDOW}
 use Rattle.ddcmp_core.specs.Table.{Limits, new_station}
 use Rattle.ddcmp_core.specs.Counting.{no_counts}
 use Rattle.ddcmp_core.specs.Core.{CoreView}
-use Rattle.ddcmp_station.specs.declared.config.TheConstants.{MAX_SYN, MAX_INBOX}
-use Rattle.ddcmp_station.specs.declared.config.Config.{Config}
-use Rattle.ddcmp_station.specs.declared.config.ConfigRefusal.{ConfigRefusal}
-use Rattle.ddcmp_station.specs.declared.config.ConfigRefusal.TheVariants.{Window, Inbox, Max, Syn}
+use Rattle.ddcmp_proto.specs.declared.config.TheConstants.{MAX_SYN, MAX_INBOX}
+use Rattle.ddcmp_proto.specs.declared.config.Config.{Config}
+use Rattle.ddcmp_proto.specs.declared.config.ConfigRefusal.{ConfigRefusal}
+use Rattle.ddcmp_proto.specs.declared.config.ConfigRefusal.TheVariants.{Window, Inbox, Max, Syn}
 
 -- from 1 to the most
 abbrev pub is_size : ℕ → ℕ → Bool
