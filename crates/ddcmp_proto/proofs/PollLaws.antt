@@ -1,7 +1,11 @@
 -- The frame that a station writes.
-use Rattle.std.proofs.Common.{◌≡◌, ℕ, ◌≤◌, List, ◌++◌, length, take, refl, sym, ◌∙◌, ap, subst, Option, Some, None}
+use Rattle.std.proofs.Common.{◌≡◌, ℕ, ◌+◌, ◌≤◌, List, ◌++◌, length, take, refl, sym, ◌∙◌, ap, subst, arith, length-append, Option, Some, None}
 use Rattle.std.specs.Prelude.{option_map, replicate}
 use Rattle.std.proofs.Math.Seq.{take-append_seam}
+use Rattle.std.proofs.lemmas.List.{length-replicate}
+use Rattle.ddcmp_frame.proofs.Tests.{some-inj}
+use Rattle.ddcmp_frame.proofs.WireLaws.{length-wire}
+use Rattle.ddcmp_frame.specs.Reader.{frame_length}
 use Rattle.ddcmp_frame.specs.declared.header.Header.{Header}
 use Rattle.ddcmp_frame.specs.Wire.{wire, IsFrame}
 use Rattle.ddcmp_window.specs.Store.{with_front}
@@ -54,3 +58,26 @@ pub line_is : (l : Limits) (s : StationState) (h : Header) (message : List ℕ) 
 line_is l s h message syn k =
     ap (λ m. Some (replicate syn 150 ++ wire h m)) k.data_is ∙ ap (λ x. Some (replicate syn 150 ++ wire x (message_of k.frame))) k.header
     ∙ sym (ap (option_map (frame_on_line syn)) k.sends)
+
+-- how many bytes it has on the line, by its header alone
+pub length_is : (l : Limits) (s : StationState) (syn : ℕ) (h : Header) → IsSound l s → Some h ≡ option_map header_of (next_frame (next s))
+    → Some (syn + frame_length h) ≡ option_map length (option_map (frame_on_line syn) (next_frame (next s)))
+length_is l s syn h sound e = by (next s) refl e
+  where
+    by : (t : Next) → next s ≡ t → Some h ≡ option_map header_of (next_frame t) → Some (syn + frame_length h) ≡ option_map length (option_map (frame_on_line syn) (next_frame t))
+    by Idle t p = absurd (cc p)
+    by (Sends f u) t p =
+        let k = read_sent l s f u sound t in
+        let same : h ≡ header_of f = some-inj p in
+        let w = length-wire (header_of f) (message_of f) k.1 in
+        let r = length-replicate {A = ℕ} syn 150 in
+        let line : syn + frame_length (header_of f) ≡ length (frame_on_line syn f) = omega (arith, length-append (replicate syn 150) (wire (header_of f) (message_of f)), w, r) in
+        ap (λ x. Some (syn + frame_length x)) same ∙ ap Some line
+
+-- none has none
+pub no_length : (s : StationState) (syn : ℕ) → None ≡ option_map header_of (next_frame (next s)) → None ≡ option_map length (option_map (frame_on_line syn) (next_frame (next s)))
+no_length s syn e = by (next s) e
+  where
+    by : (t : Next) → None ≡ option_map header_of (next_frame t) → None ≡ option_map length (option_map (frame_on_line syn) (next_frame t))
+    by Idle p = refl
+    by (Sends f u) p = absurd (cc p)

@@ -253,6 +253,17 @@ impl Station {
         self.core.next_header()
     }
 
+    /// The number of bytes that `poll` would write.
+    pub fn next_length(&self) -> Option<usize>
+        ensures { result ≡ option_map length
+            (option_map (frame_on_line self.now.syn) (next_frame (next self.now.core.station))) }
+    {
+        match self.next_header() {
+            None => None,
+            Some(header) => Some(self.config.syn as usize + header.frame_length()),
+        }
+    }
+
     /// Moves the first message of the inbox to the front of `out`, and answers its length.
     pub fn take(&mut self, out: &mut [u8]) -> Option<usize>
         requires { self.old.core.limits.longest ≤ length out.old }
