@@ -9,7 +9,7 @@ use Rattle.ddcmp_cli.specs.declared.fault.Fault.{Fault}
 use Rattle.ddcmp_cli.specs.declared.fault.Fault.TheVariants.{Odd, NotHex, Line, Hex as NotHexIn, Message, Read, Write, Memory as NoMemory, Carrier, Ended}
 use Rattle.ddcmp_run.specs.Run.{PairState, new_pair}
 use Rattle.ddcmp_line.specs.ScriptEnds.{around, Plays}
-use Rattle.ddcmp_station.specs.declared.config.Config.{Config}
+use Rattle.ddcmp_proto.specs.declared.config.Config.{Config}
 use Rattle.ddcmp_station.specs.Config.{first_refusal}
 use Rattle.ddcmp_cli.specs.declared.ending.Ending.{Ending}
 use Rattle.ddcmp_cli.specs.declared.ending.Ending.TheVariants.{Done, Usage as Misused, NotText, Fault as Faulted}

@@ -7,7 +7,7 @@ use Rattle.ddcmp_frame.specs.declared.device.Got.{Got}
 use Rattle.ddcmp_frame.specs.declared.device.Worst.{Worst}
 use Rattle.ddcmp_frame.specs.Reader.{StandsFor}
 use Rattle.ddcmp_frame.specs.Written.{Known}
-use Rattle.ddcmp_station.specs.declared.config.Config.{Config}
+use Rattle.ddcmp_proto.specs.declared.config.Config.{Config}
 use Rattle.ddcmp_station.specs.declared.driving.Driven.{Driven}
 use Rattle.ddcmp_station.specs.declared.driving.LineFault.{LineFault}
 use Rattle.ddcmp_station.specs.Config.{core_made}

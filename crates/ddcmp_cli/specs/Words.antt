@@ -14,8 +14,8 @@ use Rattle.ddcmp_cli.specs.declared.declined.Declined.TheVariants.{Help, Version
 use Rattle.clap.specs.declared.error.kind.ErrorKind.{ErrorKind}
 use Rattle.clap.specs.declared.error.kind.ErrorKind.TheVariants.{DisplayHelp, DisplayVersion, OutOfMemory}
 use Rattle.ddcmp_core.specs.Limits.{MAX_COUNT, MAX_WINDOW}
-use Rattle.ddcmp_station.specs.declared.config.Config.{Config}
-use Rattle.ddcmp_station.specs.declared.config.TheConstants.{MAX_INBOX, MAX_SYN}
+use Rattle.ddcmp_proto.specs.declared.config.Config.{Config}
+use Rattle.ddcmp_proto.specs.declared.config.TheConstants.{MAX_INBOX, MAX_SYN}
 use Rattle.clap.specs.Words.{IsAmong, fault_of, App, Rule, Text, first_of, new_app, new_rule, one_of, subcommand_of, takes, with_rule, with_subcommand}
 use Rattle.clap.specs.declared.builder.ArgAction.TheVariants.{SetTrue}
 use Rattle.clap.specs.declared.builder.value_parser.ValueParser.TheVariants.{Signed}

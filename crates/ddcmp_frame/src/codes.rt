@@ -26,3 +26,9 @@ pub const STRT_TYPE: u8 = 6;
 
 /// The TYPE of a STACK.
 pub const STACK_TYPE: u8 = 7;
+
+/// The bytes of a header, its check among them.
+pub const HEADER_BYTES: u8 = 8;
+
+/// The most bytes of a frame beside its data: the header, and the check of the data.
+pub const FRAME_OVERHEAD: u8 = 10;

@@ -11,8 +11,8 @@ use Rattle.ddcmp_core.specs.declared.state.State.{State}
 use Rattle.ddcmp_core.specs.declared.state.State.TheVariants.{Halted, IStart, AStart, Running, Maintenance}
 use Rattle.ddcmp_core.specs.Table.{Limits, StationState, Frame, Data, Acked, Naked, Rep, Strt, Stack, Maint, Received, Good, BadHeader, BadData, TooLong, BadFormat, is_halted, on, on_by, notice_of, notice_by, halted_notice, acknowledged_by}
 use Rattle.ddcmp_frame.specs.Reading.{ReadItem}
-use Rattle.ddcmp_station.specs.Bytes.{received_of, after_item, after_items, notices_of_item, notices_of_items, items_added, after_piece, notices_of_piece}
-use Rattle.ddcmp_station.proofs.FeedLaws.{after_piece-append, notices_of_piece-append, after_piece-none, notices_of_piece-none}
+use Rattle.ddcmp_proto.specs.Bytes.{received_of, after_item, after_items, notices_of_item, notices_of_items, items_added, after_piece, notices_of_piece}
+use Rattle.ddcmp_proto.proofs.FeedLaws.{after_piece-append, notices_of_piece-append, after_piece-none, notices_of_piece-none}
 use Rattle.ddcmp_pair.specs.declared.side.hearing.Heard.{Heard}
 use Rattle.ddcmp_run.specs.Run.{acknowledged_in, restarts_by, restarts_in}
 

@@ -3,7 +3,7 @@ use Rattle.std.specs.Prelude.{◌≡◌, ℕ, ◌+◌, ◌<◌, ◌≤◌, false
 use Rattle.ddcmp_frame.specs.Reader.{ReaderView, StandsFor}
 use Rattle.ddcmp_frame.specs.Reading.{good_frames}
 use Rattle.ddcmp_core.specs.Table.{is_halted}
-use Rattle.ddcmp_station.specs.Station.{StationView}
+use Rattle.ddcmp_proto.specs.Station.{StationView}
 use Rattle.ddcmp_run.specs.Place.{WholeFrame, place_of}
 use Rattle.ddcmp_run.specs.Run.{EndState}
 

@@ -1,8 +1,8 @@
 //! Both ends of a line, step by step. Here each call equals the definition of a run; what holds
 //! over all honest and clean runs is the matter of `Pair`.
 use crate::side::Side;
+use ddcmp_proto::{Memory, StartRefusal, State};
 use ddcmp_run::{End, Event, Reply};
-use ddcmp_station::{Memory, StartRefusal, State};
 use std::marker::Model;
 
 /// Both ends.

@@ -8,10 +8,10 @@ mod running;
 mod settling;
 mod side;
 
-pub use ddcmp_run::{Bytes, End, Event, Notices, Reply, laws};
-pub use ddcmp_station::{
+pub use ddcmp_proto::{
     Config, ConfigRefusal, Memory, Notice, SendRefusal, Seq, StartRefusal, State, Station,
 };
+pub use ddcmp_run::{Bytes, End, Event, Notices, Reply, laws};
 pub use pair::{Pair, PairRefusal};
 pub use recovering::Recovered;
 pub use running::{RunRefusal, run};

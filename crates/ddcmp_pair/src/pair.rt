@@ -1,8 +1,8 @@
 //! Two stations on a line.
 use crate::ends::Ends;
 use crate::side::Side;
+use ddcmp_proto::{Config, ConfigRefusal, Memory, Station};
 use ddcmp_run::{End, Event, Reply};
-use ddcmp_station::{Config, ConfigRefusal, Memory, Station};
 use std::alloc::Global;
 use std::marker::Model;
 
@@ -37,7 +37,7 @@ impl Pair {
     ghost use Rattle.std.specs.Prelude.{◌≡◌, ◌⊎◌, ◌<◌, ◌≤◌, true, false, [], length, slice_index_or, max, Some, None, Err, IsOk, IfOk, OnErr};
     ghost use Rattle.ddcmp_frame.specs.Reader.{StandsFor};
     ghost use Rattle.ddcmp_core.specs.Store.{with_front};
-    ghost use Rattle.ddcmp_station.specs.Config.{first_refusal};
+    ghost use Rattle.ddcmp_proto.specs.Config.{first_refusal, config_of};
     ghost use Rattle.ddcmp_run.specs.declared.event.End.{End as EndValue};
     ghost use Rattle.ddcmp_run.specs.Run.{new_pair, after_event, reply_to, asks_memory, at, handed_up, is_clean};
     ghost use Rattle.ddcmp_run.specs.InOrder.{IsRun, IsInOrder, NoRestart};
@@ -159,6 +159,13 @@ impl Pair {
         self.ends.side(end).station()
     }
 
+    /// The sizes of the station at an end.
+    pub fn config(&self, end: End) -> Config
+        ensures { result ≡ config_of (at end self.now).core.limits (at end self.now).syn }
+    {
+        self.station(end).config()
+    }
+
     /// Whether all good frames that arrived at an end were sent by the other before, in this
     /// order and none twice.
     pub fn honest(&self) -> bool
@@ -178,16 +185,7 @@ impl Pair {
     pub(crate) fn window(&self) -> u16
         ensures { result ≡ max self.now.a.core.limits.window self.now.b.core.limits.window }
     {
-        self.ends
-            .side(End::A)
-            .window()
-            .max(self.ends.side(End::B).window())
-    }
-
-    /// The largest length of a message at an end.
-    pub(crate) fn longest(&self, end: End) -> usize
-        ensures { result ≡ (at end self.now).core.limits.longest }
-    {
-        self.ends.side(end).longest()
+        let window = self.config(End::A).window;
+        window.max(self.config(End::B).window)
     }
 }

@@ -5,8 +5,8 @@ ghost use Rattle.std.specs.Prelude.{◌≡◌, ◌↔◌, IsTrue};
 use crate::pair::Pair;
 use crate::settling::Settled;
 use ddcmp_core::MAX_COUNT;
+use ddcmp_proto::{Memory, State};
 use ddcmp_run::{End, Event};
-use ddcmp_station::{Memory, State};
 
 /// Whether two messages have the same bytes.
 fn is_same(message: &[u8], other: &[u8]) -> bool
@@ -121,7 +121,7 @@ impl Pair {
             && self.clean()
             && self.is_ready_at(End::A)
             && self.is_ready_at(End::B)
-            && self.longest(End::A) == self.longest(End::B)
+            && self.config(End::A).max == self.config(End::B).max
     }
 
     fn is_ready_at(&self, end: End) -> bool

@@ -1,7 +1,7 @@
 //! Frames arrive whole, one after another, until neither end sends any more.
 use crate::pair::Pair;
+use ddcmp_proto::Memory;
 use ddcmp_run::{End, Event, Reply};
-use ddcmp_station::Memory;
 
 /// How a settle ended.
 #[derive(Clone, Copy, Debug, PartialEq, Eq)]

@@ -3,8 +3,8 @@ mod hearing;
 mod speaking;
 
 use ddcmp_frame::{Header, Reader};
+use ddcmp_proto::{Config, ConfigRefusal, Memory, Station};
 use ddcmp_run::{Bytes, Event, Reply};
-use ddcmp_station::{Config, ConfigRefusal, Memory, Station};
 use std::alloc::Global;
 use std::marker::Model;
 
@@ -15,9 +15,6 @@ pub(crate) struct Side {
     station: Station,
     /// Reads what arrives a second time, for the place of its good frames.
     reader: Reader,
-    syn: u8,
-    /// The largest number of messages sent and not acknowledged.
-    window: u16,
     given: Vec<Bytes>,
     taken: Vec<Bytes>,
     sent: Vec<(Header, Bytes)>,
@@ -60,13 +57,12 @@ impl Model for Side {
           acknowledged = s.acknowledged;
           starts = s.starts;
         })
-        × (s.syn ≡ s.station.syn) × (s.window ≡ s.station.core.limits.window)
         × (vec_len s.buffer ≡ s.station.syn + s.station.core.limits.longest + 10) };
 }
 
 impl Side {
     ghost use Rattle.std.specs.Prelude.{◌≡◌, ◌⊎◌, ◌<◌, ◌≤◌, true, false, ◌&&◌, nat_le, [], length, slice_index_or, Some, None, is_some, Err, IsOk, IfOk, OnErr};
-    ghost use Rattle.ddcmp_station.specs.Config.{first_refusal};
+    ghost use Rattle.ddcmp_proto.specs.Config.{first_refusal};
     ghost use Rattle.ddcmp_frame.specs.Reader.{StandsFor};
     ghost use Rattle.ddcmp_core.specs.Store.{with_front};
     ghost use Rattle.ddcmp_core.specs.Table.{is_halted, answer_to_start};
@@ -86,19 +82,16 @@ impl Side {
             Ok(station) => station,
             Err(refusal) => return Err(refusal),
         };
-        let room = config.syn as usize + config.max as usize + 10;
         let Ok(reader) = Reader::new(alloc, config.max) else {
             return Err(ConfigRefusal::Memory);
         };
-        let Ok(buffer) = Vec::from_elem(alloc, 0u8, room) else {
+        let Ok(buffer) = Vec::from_elem(alloc, 0u8, config.frame_room()) else {
             return Err(ConfigRefusal::Memory);
         };
         Ok(Side {
             alloc,
             station,
             reader,
-            syn: config.syn,
-            window: config.window,
             given: Vec::new(alloc),
             taken: Vec::new(alloc),
             sent: Vec::new(alloc),
@@ -242,18 +235,5 @@ impl Side {
         ensures line { StandsFor result.now.line self.now.state.arrived }
     {
         &self.station
-    }
-
-    pub(crate) fn window(&self) -> u16
-        ensures { result ≡ self.now.state.core.limits.window }
-    {
-        self.window
-    }
-
-    /// The largest length of a message: there is room for a frame with one, and its fill.
-    pub(crate) fn longest(&self) -> usize
-        ensures { result ≡ self.now.state.core.limits.longest }
-    {
-        self.buffer.len() - self.syn as usize - 10
     }
 }

@@ -17,8 +17,8 @@ use Rattle.ddcmp_core.specs.Core.{CoreView, IsTimed}
 use Rattle.ddcmp_core.proofs.StartLaws.{next_state, expired_state}
 use Rattle.ddcmp_core.proofs.Sent.{sending}
 use Rattle.ddcmp_core.proofs.TimedLaws.{timed_on, timed_next, timed_new, timed_started, timed_halted, timed_accepted, timed_taken, timed_expired}
-use Rattle.ddcmp_station.specs.Bytes.{received_of, after_item, after_items, notices_of_item, notices_of_items, items_added}
-use Rattle.ddcmp_station.specs.declared.config.Config.{Config}
+use Rattle.ddcmp_proto.specs.Bytes.{received_of, after_item, after_items, notices_of_item, notices_of_items, items_added}
+use Rattle.ddcmp_proto.specs.declared.config.Config.{Config}
 use Rattle.ddcmp_run.specs.declared.event.End.{End}
 use Rattle.ddcmp_run.specs.declared.event.End.TheVariants.{A, B}
 use Rattle.ddcmp_run.specs.declared.event.Event.{Event}

@@ -14,7 +14,7 @@ use Rattle.ddcmp_core.specs.Frames.{frame_of}
 use Rattle.ddcmp_core.specs.Table.{Limits, StationState, Frame, Strt, Received, Good, notice_of, acknowledged_by}
 use Rattle.ddcmp_core.specs.Laws.{tells_restart, is_fault}
 use Rattle.ddcmp_core.proofs.RestartLaws.{restart-told}
-use Rattle.ddcmp_station.specs.Bytes.{received_of, after_item, after_items, notices_of_item, notices_of_items}
+use Rattle.ddcmp_proto.specs.Bytes.{received_of, after_item, after_items, notices_of_item, notices_of_items}
 use Rattle.ddcmp_run.specs.Place.{WholeFrame, same_frame, first_index, place_after, place_from}
 use Rattle.ddcmp_run.specs.Run.{acknowledged_in}
 use Rattle.ddcmp_run.proofs.Frames.{same-equal}

@@ -5,7 +5,7 @@ use Rattle.ddcmp_run.specs.declared.event.End.TheVariants.{A, B}
 use Rattle.ddcmp_run.specs.declared.event.Event.TheVariants as event
 use Rattle.ddcmp_core.specs.Table.{Frame, next_frame, next}
 use Rattle.ddcmp_core.specs.Frames.{header_of}
-use Rattle.ddcmp_station.specs.Bytes.{frame_on_line}
+use Rattle.ddcmp_proto.specs.Bytes.{frame_on_line}
 use Rattle.ddcmp_run.specs.Run.{EndState, PairState, with_station, after_poll_here, after_arrival_here, after_take_here, is_honest_here, line_bytes, after_event, run}
 use Rattle.ddcmp_run.specs.Settle.{mail_events, carried, crossing, exchange, either_writes, all_mail}
 use Rattle.ddcmp_run.proofs.Calls.{take-up}

@@ -12,7 +12,7 @@ use Rattle.ddcmp_core.specs.Core.{IsSound, IsTimed, IsReceivable}
 use Rattle.ddcmp_core.proofs.Sound.{sound_on, sound_next}
 use Rattle.ddcmp_core.proofs.TimedLaws.{timed_on, timed_next}
 use Rattle.ddcmp_core.proofs.StartLaws.{next_state, sent_in_state}
-use Rattle.ddcmp_station.specs.Bytes.{frame_on_line}
+use Rattle.ddcmp_proto.specs.Bytes.{frame_on_line}
 use Rattle.ddcmp_run.specs.declared.event.End.TheVariants.{B}
 use Rattle.ddcmp_run.specs.declared.event.Event.TheVariants.{Arrive}
 use Rattle.ddcmp_run.specs.Place.{place_of, WholeFrame}

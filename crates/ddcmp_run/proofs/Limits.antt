@@ -2,7 +2,7 @@
 use Rattle.std.proofs.Common.{◌≡◌, List, [], ◌∷◌, refl, ◌∙◌, ap, Option, Some, None}
 use Rattle.std.specs.Prelude.{Result, Ok, Err, IsOk, OnErr}
 use Rattle.ddcmp_core.specs.declared.station_core.StartRefusal.{StartRefusal}
-use Rattle.ddcmp_station.proofs.FeedLaws.{after_piece-limits}
+use Rattle.ddcmp_proto.proofs.FeedLaws.{after_piece-limits}
 use Rattle.ddcmp_run.specs.declared.event.End.{End}
 use Rattle.ddcmp_run.specs.declared.event.End.TheVariants.{A, B}
 use Rattle.ddcmp_run.specs.declared.event.Event.{Event}

@@ -16,7 +16,7 @@ use Rattle.ddcmp_core.specs.Store.{with_front}
 use Rattle.ddcmp_core.specs.NextFrame.{SentFor, sends_strt, sends_stack, sends_nak, sends_rep, sends_data, sends_ack, sends_maint, halted_idles, starting_idles, running_idles, maintenance_idles}
 use Rattle.ddcmp_core.proofs.StartLaws.{read_sent}
 use Rattle.ddcmp_core.proofs.Sent.{sending}
-use Rattle.ddcmp_station.specs.Bytes.{frame_on_line}
+use Rattle.ddcmp_proto.specs.Bytes.{frame_on_line}
 use Rattle.ddcmp_frame.proofs.Tests.{some-inj}
 use Rattle.ddcmp_run.specs.Run.{EndState, whole_frame, after_poll_here}
 

@@ -11,8 +11,8 @@ use Rattle.ddcmp_core.specs.Counting.{count_plus}
 use Rattle.ddcmp_core.specs.Table.{Limits, Frame, Next, Idle, Sends, may_start, after_start, may_send, after_accept, next, next_frame}
 use Rattle.ddcmp_core.specs.Laws.{tells_restart}
 use Rattle.ddcmp_core.proofs.StartLaws.{next_state, expired_state}
-use Rattle.ddcmp_station.specs.Bytes.{items_added, after_items}
-use Rattle.ddcmp_station.proofs.FeedLaws.{items_added-all, after_items-limits}
+use Rattle.ddcmp_proto.specs.Bytes.{items_added, after_items}
+use Rattle.ddcmp_proto.proofs.FeedLaws.{items_added-all, after_items-limits}
 use Rattle.ddcmp_run.specs.declared.event.Event.{Event}
 use Rattle.ddcmp_run.specs.declared.event.Event.TheVariants as event
 use Rattle.ddcmp_run.specs.Place.{place_of, place_from}

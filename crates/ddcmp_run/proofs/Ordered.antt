@@ -11,13 +11,13 @@ use Rattle.ddcmp_core.specs.Seq.{Seq}
 use Rattle.ddcmp_core.specs.SendRefusal.{SendRefusal}
 use Rattle.ddcmp_core.specs.Store.{first_message}
 use Rattle.ddcmp_core.specs.Table.{Limits, is_halted, answer_to_start, answer_to_send}
-use Rattle.ddcmp_station.specs.Bytes.{items_added}
-use Rattle.ddcmp_station.proofs.FeedLaws.{after_items-limits}
+use Rattle.ddcmp_proto.specs.Bytes.{items_added}
+use Rattle.ddcmp_proto.proofs.FeedLaws.{after_items-limits}
 use Rattle.ddcmp_core.specs.declared.station_core.StartRefusal.{StartRefusal}
 use Rattle.ddcmp_core.specs.declared.station_core.StartRefusal.TheVariants.{NotHalted, Untaken}
-use Rattle.ddcmp_station.specs.Config.{first_refusal, is_size}
-use Rattle.ddcmp_station.specs.declared.config.Config.{Config}
-use Rattle.ddcmp_station.specs.declared.config.ConfigRefusal.TheVariants.{Window}
+use Rattle.ddcmp_proto.specs.Config.{first_refusal, is_size}
+use Rattle.ddcmp_proto.specs.declared.config.Config.{Config}
+use Rattle.ddcmp_proto.specs.declared.config.ConfigRefusal.TheVariants.{Window}
 use Rattle.ddcmp_run.specs.declared.event.End.{End}
 use Rattle.ddcmp_run.specs.declared.event.End.TheVariants.{A, B}
 use Rattle.ddcmp_run.specs.declared.event.Event.{Event}

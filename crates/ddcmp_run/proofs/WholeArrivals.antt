@@ -17,8 +17,8 @@ use Rattle.ddcmp_core.specs.Frames.{frame_of, header_of, message_of}
 use Rattle.ddcmp_core.specs.Counting.{count_plus, counters_on}
 use Rattle.ddcmp_core.specs.Core.{IsSound}
 use Rattle.ddcmp_core.proofs.StartLaws.{read_sent}
-use Rattle.ddcmp_station.specs.Bytes.{after_item, after_items, after_piece, notices_of_item, notices_of_items, notices_of_piece, frame_on_line}
-use Rattle.ddcmp_station.proofs.FeedLaws.{after_piece-given, after_items-single, notices_of_items-single}
+use Rattle.ddcmp_proto.specs.Bytes.{after_item, after_items, after_piece, notices_of_item, notices_of_items, notices_of_piece, frame_on_line}
+use Rattle.ddcmp_proto.proofs.FeedLaws.{after_piece-given, after_items-single, notices_of_items-single}
 use Rattle.ddcmp_run.specs.Place.{WholeFrame, place_of, IsSubsequence}
 use Rattle.ddcmp_run.specs.Run.{EndState, whole_frame, acknowledged_in, restarts_by, restarts_in, after_arrival_here, notices_at}
 use Rattle.ddcmp_run.proofs.Subsequences.{place-decides}

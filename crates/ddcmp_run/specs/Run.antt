@@ -13,9 +13,9 @@ use Rattle.ddcmp_core.specs.Table.{StationState, Frame, is_halted, may_start, af
 use Rattle.ddcmp_core.specs.Frames.{header_of, message_of}
 use Rattle.ddcmp_core.specs.Counting.{count_plus, counters_after_expire}
 use Rattle.ddcmp_core.specs.Core.{CoreView}
-use Rattle.ddcmp_station.specs.Bytes.{after_piece, notices_of_piece, frame_on_line, after_poll}
-use Rattle.ddcmp_station.specs.Config.{core_made}
-use Rattle.ddcmp_station.specs.declared.config.Config.{Config}
+use Rattle.ddcmp_proto.specs.Bytes.{after_piece, notices_of_piece, frame_on_line, after_poll}
+use Rattle.ddcmp_proto.specs.Config.{core_made}
+use Rattle.ddcmp_proto.specs.declared.config.Config.{Config}
 use Rattle.ddcmp_run.specs.declared.event.End.{End}
 use Rattle.ddcmp_run.specs.declared.event.End.TheVariants.{A, B}
 use Rattle.ddcmp_run.specs.declared.event.Event.{Event}

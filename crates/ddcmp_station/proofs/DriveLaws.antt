@@ -8,8 +8,8 @@ use Rattle.ddcmp_frame.specs.declared.device.Worst.{Worst}
 use Rattle.ddcmp_frame.specs.declared.device.Worst.TheVariants.{Fine}
 use Rattle.ddcmp_frame.specs.Reader.{StandsFor}
 use Rattle.ddcmp_core.specs.Core.{CoreView}
-use Rattle.ddcmp_station.specs.Bytes.{after_piece, notices_of_piece, after_poll}
-use Rattle.ddcmp_station.specs.Station.{StationView}
+use Rattle.ddcmp_proto.specs.Bytes.{after_piece, notices_of_piece, after_poll}
+use Rattle.ddcmp_proto.specs.Station.{StationView}
 use Rattle.ddcmp_core.specs.Table.{next_frame, next, is_on}
 use Rattle.ddcmp_station.specs.declared.driving.LineFault.{LineFault}
 use Rattle.ddcmp_station.specs.declared.driving.LineFault.TheVariants.{Read, Write, Ended, Memory}
@@ -19,7 +19,7 @@ use Rattle.ddcmp_frame.specs.Device.{Logs}
 use Rattle.ddcmp_frame.specs.declared.device.Got.{Got}
 use Rattle.ddcmp_station.specs.UserCalls.{UserCall, calls_of_offer, calls_of_notices, calls_of_mail, TellsPiece}
 use Rattle.ddcmp_station.specs.Turns.{WritesFrame, TakesTurn, BreaksTurn}
-use Rattle.ddcmp_station.proofs.FeedLaws.{after_piece-none, after_piece-append}
+use Rattle.ddcmp_proto.proofs.FeedLaws.{after_piece-none, after_piece-append}
 
 pub Logs-nil : {A : Type 0} (a : Option (List A)) → Logs a a []
 Logs-nil None = tt

@@ -9,7 +9,7 @@ use Rattle.ddcmp_frame.specs.Reader.{StandsFor}
 use Rattle.ddcmp_station.specs.declared.driving.LineFault.{LineFault}
 use Rattle.ddcmp_station.specs.declared.driving.LineFault.TheVariants.{Read, Write, Ended, Memory}
 use Rattle.ddcmp_station.specs.declared.driving.Tally.{Tally}
-use Rattle.ddcmp_station.specs.Station.{StationView}
+use Rattle.ddcmp_proto.specs.Station.{StationView}
 use Rattle.ddcmp_station.specs.Driving.{DriveTurn, Driving, Devices, driving_from, core_after_halt, before_read, after_turn, after_turns, bytes_read, moments, read_answers, read_answer, ReadsInTurns, EndsAtFault, Drives}
 use Rattle.ddcmp_station.proofs.DriveLaws.{Logs-nil, Logs-trans}
 use Rattle.ddcmp_frame.specs.Device.{Logs}

@@ -4,12 +4,12 @@ use Rattle.std.specs.Prelude.{option_map, option_to_list}
 use Rattle.std.proofs.lemmas.List.{take_at, take_all, map-append}
 use Rattle.ddcmp_frame.specs.Reader.{StandsFor}
 use Rattle.ddcmp_core.specs.declared.notice.Notice.{Notice}
-use Rattle.ddcmp_station.specs.Bytes.{after_piece, notices_of_piece}
-use Rattle.ddcmp_station.specs.Station.{StationView}
+use Rattle.ddcmp_proto.specs.Bytes.{after_piece, notices_of_piece}
+use Rattle.ddcmp_proto.specs.Station.{StationView}
 use Rattle.ddcmp_frame.specs.Device.{Logs}
 use Rattle.ddcmp_window.specs.Store.{first_message, with_front}
 use Rattle.ddcmp_station.specs.UserCalls.{UserCall, Handed, Told, calls_of_notices, calls_of_mail, TellsNotices, TellsPiece}
-use Rattle.ddcmp_station.proofs.FeedLaws.{notices_of_piece-append}
+use Rattle.ddcmp_proto.proofs.FeedLaws.{notices_of_piece-append}
 use Rattle.ddcmp_station.proofs.DriveLaws.{Logs-trans, FedTo, take_then}
 
 abbrev pub HandedSo : Option (List UserCall) → Option (List UserCall) → List (List ℕ) → List UserCall → Type 0

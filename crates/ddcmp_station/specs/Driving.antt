@@ -16,9 +16,9 @@ use Rattle.ddcmp_core.specs.Core.{CoreView}
 use Rattle.ddcmp_station.specs.declared.driving.Driven.{Driven}
 use Rattle.ddcmp_station.specs.declared.driving.LineFault.{LineFault}
 use Rattle.ddcmp_station.specs.declared.driving.LineFault.TheVariants.{Read, Write, Ended, Memory}
-use Rattle.ddcmp_station.specs.Bytes.{after_piece, notices_of_piece, frame_on_line, after_poll}
+use Rattle.ddcmp_proto.specs.Bytes.{after_piece, notices_of_piece, frame_on_line, after_poll}
 use Rattle.ddcmp_station.specs.UserCalls.{UserCall, calls_of_offer, calls_of_notices, calls_of_mail}
-use Rattle.ddcmp_station.specs.Station.{StationView}
+use Rattle.ddcmp_proto.specs.Station.{StationView}
 
 -- One turn: the moment that the clock told, the message that the user offered (no bytes where it
 -- offered none or wasn't asked), and the bytes that the read gave.

@@ -1,10 +1,10 @@
-pub mod Config
-pub mod Bytes
-pub mod Station
-pub mod OnePart
 pub mod UserCalls
 pub mod Driving
 pub mod Turns
+pub use Rattle.ddcmp_proto.specs.Config
+pub use Rattle.ddcmp_proto.specs.Bytes
+pub use Rattle.ddcmp_proto.specs.Station
+pub use Rattle.ddcmp_proto.specs.OnePart
 pub use Rattle.ddcmp_frame.specs.Device
 pub use Rattle.ddcmp_frame.specs.Reader
 pub use Rattle.ddcmp_frame.specs.Reading

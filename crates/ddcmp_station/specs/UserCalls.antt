@@ -2,8 +2,8 @@
 use Rattle.std.specs.Prelude.{◌≡◌, ℕ, Bool, ◌&&◌, if◌then◌else◌, nat_lt, List, [], ◌∷◌, ◌++◌, length, map, Option}
 use Rattle.ddcmp_frame.specs.Device.{Logs}
 use Rattle.ddcmp_frame.specs.Reader.{StandsFor}
-use Rattle.ddcmp_station.specs.Bytes.{after_piece, notices_of_piece}
-use Rattle.ddcmp_station.specs.Station.{StationView}
+use Rattle.ddcmp_proto.specs.Bytes.{after_piece, notices_of_piece}
+use Rattle.ddcmp_proto.specs.Station.{StationView}
 use Rattle.ddcmp_core.specs.declared.notice.Notice.{Notice}
 use Rattle.ddcmp_core.specs.Table.{is_running}
 use Rattle.ddcmp_core.specs.Core.{CoreView}

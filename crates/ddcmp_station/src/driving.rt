@@ -3,18 +3,19 @@ ghost use Rattle.std.specs.Prelude.{◌≡◌, ◌≢◌, ◌↔◌, ℕ, ◌+�
 ghost use Rattle.std.specs.Io.KnownBytes.{Consumes, Keeps, IsAtEnd};
 ghost use Rattle.ddcmp_frame.specs.Reader.{StandsFor};
 ghost use Rattle.ddcmp_core.specs.Table.{next_frame, next};
-ghost use Rattle.ddcmp_station.specs.Bytes.{after_poll, after_piece};
+ghost use Rattle.ddcmp_proto.specs.Bytes.{after_poll, after_piece};
 ghost use Rattle.ddcmp_station.specs.Driving.{Drives, devices_of, deadline_at, core_after_take_arm, core_at_deadline, core_after_message, frame_bytes, core_after_mail};
 ghost use Rattle.ddcmp_station.specs.Turns.{TurnEnds, WritesFrame, read_answers_of};
 ghost use Rattle.ddcmp_frame.specs.Device.{Logs};
 ghost use Rattle.ddcmp_station.specs.UserCalls.{calls_of_offer, calls_of_mail, TellsNotices, TellsPiece};
 
-use crate::config::MAX_SYN;
-use crate::station::Station;
 use crate::user::{Clock, User};
-use ddcmp_core::{MAX_COUNT, Notice, State};
 use ddcmp_frame::{Got, Sink, Source, Worst, write_all};
+use ddcmp_proto::{MAX_COUNT, MAX_SYN, Notice, State, Station};
 use std::alloc::Global;
+
+/// The most bytes that are read in a turn.
+pub const READ_ROOM: usize = 256;
 
 /// What a call of `drive` did.
 #[derive(Clone, Copy, Debug, PartialEq, Eq)]
@@ -107,7 +108,7 @@ fn run<R: Source, W: Sink, U: User, C: Clock>(
     ensures ended { result ≡ Err LineFault.Ended → IsAtEnd (R.left reader.new) }
     ensures memory { result ≢ Err LineFault.Memory }
 {
-    let mut piece = [0; 256];
+    let mut piece = [0; READ_ROOM];
     let mut tally = Tally {
         deadline: None,
         read: 0,
@@ -141,7 +142,7 @@ fn turn<R: Source, W: Sink, U: User, C: Clock>(
     timer_ms: u32,
     tally: &mut Tally,
     frame: &mut [u8],
-    piece: &mut [u8; 256],
+    piece: &mut [u8; READ_ROOM],
 ) -> Result<(), LineFault>
     requires fine { R.state reader.old ≢ Worst.Failed }
     requires whole { W.broken writer.old ≡ false }
@@ -209,7 +210,7 @@ fn offer_message<U: User>(station: &mut Station, user: &mut U, buffer: &mut [u8]
     if station.state() != State::Running || !station.room() {
         return 0;
     }
-    let longest = station.longest();
+    let longest = station.config().max as usize;
     let length = user.message(&mut buffer[..longest]);
     match station.send(&buffer[..length]) {
         Ok(_number) => length,
@@ -247,7 +248,7 @@ fn receive<R: Source, U: User>(
     reader: &mut R,
     user: &mut U,
     buffer: &mut [u8],
-    piece: &mut [u8; 256],
+    piece: &mut [u8; READ_ROOM],
 ) -> Result<usize, LineFault>
     requires fine { R.state reader.old ≢ Worst.Failed }
     requires room { station.old.core.limits.longest ≤ length buffer.old }

@@ -1,7 +1,7 @@
 //! Who drives a station and what comes of it.
 ghost use Rattle.std.specs.Prelude.{◌≤◌, length};
 
-use ddcmp_core::Notice;
+use ddcmp_proto::Notice;
 
 /// What tells a driven station the time.
 pub trait Clock {

@@ -4,15 +4,15 @@ ghost use Rattle.ddcmp_frame.specs.Reader.{StandsFor};
 ghost use Rattle.ddcmp_frame.specs.Reading.{good_frames};
 ghost use Rattle.ddcmp_core.specs.Table.{is_halted, acknowledged_by};
 ghost use Rattle.ddcmp_core.specs.Counting.{count_plus};
-ghost use Rattle.ddcmp_station.specs.Bytes.{after_piece, notices_of_piece};
+ghost use Rattle.ddcmp_proto.specs.Bytes.{after_piece, notices_of_piece};
 ghost use Rattle.ddcmp_run.specs.Place.{same_frame, place_after as place_after_of, place_next, place_of};
 ghost use Rattle.ddcmp_run.specs.Run.{acknowledged_in, restarts_by, restarts_in};
 
 use crate::side::Side;
 use ddcmp_core::Notice;
 use ddcmp_frame::{Header, Item, Reader};
+use ddcmp_proto::{Memory, Station};
 use ddcmp_run::{Bytes, Notices, Reply};
-use ddcmp_station::{Memory, Station};
 
 /// What was told, and what of it is counted.
 #[derive(Drop)]

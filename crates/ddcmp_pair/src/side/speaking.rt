@@ -6,15 +6,13 @@ ghost use Rattle.ddcmp_frame.specs.Reader.{frame_length as length_of_frame};
 ghost use Rattle.ddcmp_core.specs.Table.{next, next_frame};
 ghost use Rattle.ddcmp_core.specs.Frames.{header_of, message_of};
 ghost use Rattle.ddcmp_core.specs.Core.{IsSound};
-ghost use Rattle.ddcmp_station.specs.Bytes.{frame_on_line, after_poll};
+ghost use Rattle.ddcmp_proto.specs.Bytes.{frame_on_line, after_poll};
 
 use crate::side::Side;
 use ddcmp_frame::Header;
+use ddcmp_frame::codes::HEADER_BYTES;
+use ddcmp_proto::{Memory, Station};
 use ddcmp_run::{Bytes, Reply};
-use ddcmp_station::{Memory, Station};
-
-/// The bytes before the data of a frame: its header and the header's check.
-const HEADER: usize = 8;
 
 /// The number of bytes of data that a header tells.
 fn data_length(header: &Header) -> usize
@@ -34,7 +32,7 @@ fn data_of<'a>(line: &'a [u8], syn: u8, header: &Header) -> &'a [u8]
     ensures { (message : List ℕ) → IsFrame header.now message
         → line.now ≡ replicate syn SYN ++ wire header.now message → result.now ≡ message }
 {
-    let from = syn as usize + HEADER;
+    let from = syn as usize + HEADER_BYTES as usize;
     &line[from..from + data_length(header)]
 }
 
@@ -112,12 +110,13 @@ impl Side {
         let Some(header) = self.station.next_header() else {
             return Ok(Reply::Idle);
         };
-        let mut line = Vec::with_capacity(self.alloc, self.syn as usize + header.frame_length())?;
+        let syn = self.station.config().syn;
+        let mut line = Vec::with_capacity(self.alloc, syn as usize + header.frame_length())?;
         let mut kept = Vec::with_capacity(self.alloc, data_length(&header))?;
         self.sent.reserve(1)?;
         poll_into(
             &mut self.station,
-            self.syn,
+            syn,
             &header,
             &mut self.buffer,
             &mut line,

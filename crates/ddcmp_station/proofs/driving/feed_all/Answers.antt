@@ -1,7 +1,7 @@
 use Rattle.std.proofs.Common.{◌∙◌, refl, sym, subst, arith, length-drop, []}
 use Rattle.std.proofs.lemmas.List.{take_rest}
 use Rattle.ddcmp_station.proofs.DriveLaws.{fed-to-nothing, fed-more, fed-whole, Logs-nil}
-use Rattle.ddcmp_station.proofs.FeedLaws.{notices_of_piece-none}
+use Rattle.ddcmp_proto.proofs.FeedLaws.{notices_of_piece-none}
 use Rattle.ddcmp_station.proofs.SeenLaws.{tells-more, tells-whole}
 use Rattle.ddcmp_station.specs.UserCalls.{calls_of_notices}
 use Rattle.ddcmp_frame.specs.Device.{Logs}

@@ -2,7 +2,7 @@ use Rattle.std.proofs.Common.{◌∙◌, length, ap, sym, subst, arith}
 use Rattle.ddcmp_frame.specs.Reader.{StandsFor}
 use Rattle.ddcmp_frame.specs.Reading.{good_frames}
 use Rattle.ddcmp_core.specs.Table.{is_halted}
-use Rattle.ddcmp_station.proofs.FeedLaws.{after_piece-limits}
+use Rattle.ddcmp_proto.proofs.FeedLaws.{after_piece-limits}
 use Rattle.ddcmp_run.specs.Place.{place_of}
 use Rattle.ddcmp_pair.proofs.Feeding.{told-after, kept-after}
 use Rattle.ddcmp_pair.proofs.side.Side.arrive.Goals as goal
@@ -21,7 +21,7 @@ invariant_of-self-2 c =
     let out = length old.station.out in
     let left = length c.feed_all.new.station.core.station.out in
     let more = c.feed_all.new.heard.acknowledged in
-    let buffer = i.4 in (
+    let buffer = i.2 in (
       record {
         by_station = subst (λ t. StandsFor c.feed_all.new.station.line t) c.deref-2.ensures.value f.stands;
         by_reader = subst (λ t. StandsFor c.follow-self-inside.new.reader t) c.deref.ensures.value r.stands;
@@ -32,8 +32,6 @@ invariant_of-self-2 c =
         kept = kept-after halted (is_halted c.feed_all.new.station.core.station.state) ack out given more left i.1.kept f.leaves (λ z. (f.halted z).0);
         short = λ k below. (let before = i.1.short k below in omega (arith, before, longest));
       },
-      i.2 ∙ sym f.syn,
-      i.3 ∙ sym (ap (λ l. l.window) limits),
       (let syn = f.syn in omega (arith, buffer, syn, longest)),
     )
 

@@ -33,7 +33,7 @@ invariant_of-self-2 c =
     let state = ap (λ u. is_halted u.state) station ∙ ap is_halted keeps.1 in
     let out = ap (λ u. length u.out) station in
     let longest = ap (λ l. l.longest) limits in
-    let buffer = i.4 in (
+    let buffer = i.2 in (
       record {
         by_station = subst (λ v. StandsFor v c.self.inside.arrived.items) (sym (ap (λ v. v.line) e)) i.0.by_station;
         by_reader = i.0.by_reader;
@@ -44,7 +44,5 @@ invariant_of-self-2 c =
         kept = λ z. (let before = i.1.kept (sym state ∙ z) in omega (arith, before, out, keeps.0));
         short = λ k below. (let before = i.1.short k below in omega (arith, before, longest));
       },
-      i.2 ∙ sym syn,
-      i.3 ∙ sym (ap (λ l. l.window) limits),
       omega (arith, buffer, syn, longest, c.poll_into.ensures.buffer),
     )

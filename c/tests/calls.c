@@ -1,0 +1,290 @@
+/* Each call once: what good and bad input get, that a refusal changes nothing, that no call asks for
+   memory after ddcmp_new, and that refused memory leaves a handle as it was. It is linked with
+   -Wl,--wrap=malloc,--wrap=realloc,--wrap=free. */
+#include "ddcmp.h"
+
+#include <stdio.h>
+#include <stdlib.h>
+#include <string.h>
+
+/* ---- memory */
+
+void *__real_malloc(size_t size);
+void *__real_realloc(void *old, size_t size);
+void __real_free(void *block);
+void *__wrap_malloc(size_t size);
+void *__wrap_realloc(void *old, size_t size);
+void __wrap_free(void *block);
+
+static unsigned long asked, freed, refused_at; /* refused_at: 0, or the request that is refused */
+
+void *__wrap_malloc(size_t size) { return ++asked == refused_at ? NULL : __real_malloc(size); }
+
+void *__wrap_realloc(void *old, size_t size) {
+    return ++asked == refused_at ? NULL : __real_realloc(old, size);
+}
+
+void __wrap_free(void *block) {
+    freed += block != NULL;
+    __real_free(block);
+}
+
+/* ---- what is wanted */
+
+static int failed;
+
+static void is(bool holds, const char *what) {
+    if (!holds) {
+        fprintf(stderr, "calls: %s\n", what);
+        failed = 1;
+    }
+}
+
+#define IS(holds) is(holds, #holds)
+
+enum { MAX = 64, ROOM = MAX + 10 };
+
+static const struct ddcmp_config sizes = { 2, 2, MAX, 0, 0 };
+static ddcmp_station a = DDCMP_NO_STATION, b = DDCMP_NO_STATION;
+static uint8_t out[ROOM], mail[MAX];
+
+/* All that is told of a station. */
+struct told {
+    struct ddcmp_config config;
+    struct ddcmp_numbers numbers;
+    struct ddcmp_counters counters;
+    uint64_t offset;
+    size_t open, held, next;
+    uint32_t state;
+    uint8_t outgoing, waiting;
+    bool timer, room;
+};
+
+static struct told told_of(ddcmp_station *station) {
+    struct told t;
+    memset(&t, 0, sizeof t);
+    IS(ddcmp_config(station, &t.config) == DDCMP_OK);
+    IS(ddcmp_numbers(station, &t.numbers) == DDCMP_OK);
+    IS(ddcmp_counters(station, &t.counters) == DDCMP_OK);
+    t.offset = ddcmp_offset(station);
+    t.open = ddcmp_open(station);
+    t.held = ddcmp_held(station);
+    t.next = ddcmp_next_length(station);
+    t.state = ddcmp_state(station);
+    t.outgoing = ddcmp_outgoing(station);
+    t.waiting = ddcmp_waiting(station);
+    t.timer = ddcmp_timer_on(station);
+    t.room = ddcmp_room(station);
+    return t;
+}
+
+/* The next frame of one arrives at the other: the last notice's kind. */
+static uint8_t pass(ddcmp_station *from, ddcmp_station *to) {
+    size_t written, at = 0, used;
+    struct ddcmp_notice notice = { 0, 0 };
+    uint8_t kind = DDCMP_NO_NOTICE;
+    IS(ddcmp_poll(from, out, sizeof out, &written) == DDCMP_OK);
+    while (at < written) {
+        IS(ddcmp_feed(to, out + at, written - at, &used, &notice) == DDCMP_OK);
+        if (notice.kind != DDCMP_NO_NOTICE)
+            kind = notice.kind;
+        at += used;
+    }
+    return kind;
+}
+
+static void without_a_station(void) {
+    ddcmp_station none = DDCMP_NO_STATION;
+    struct ddcmp_config config = { 1, 2, 3, 4, 5 };
+    struct ddcmp_notice notice = { 9, 9 };
+    struct ddcmp_numbers numbers = { 1, 2, 3, 4 };
+    struct ddcmp_counters counters;
+    uint8_t byte = 7;
+    size_t n = 7;
+    memset(&counters, 1, sizeof counters);
+    ddcmp_free(&none);
+    IS(ddcmp_start(&none, &byte) == DDCMP_CLOSED && byte == 7);
+    IS(ddcmp_enter_maintenance(&none, &byte) == DDCMP_CLOSED && byte == 7);
+    IS(ddcmp_halt(&none) == DDCMP_CLOSED);
+    IS(!ddcmp_clear_line(&none));
+    IS(ddcmp_state(&none) == DDCMP_NO_STATE);
+    IS(ddcmp_send(&none, mail, 1, &byte) == DDCMP_CLOSED && byte == 7);
+    IS(ddcmp_send_maintenance(&none, mail, 1) == DDCMP_CLOSED);
+    IS(ddcmp_send_refusal(&none, mail, 1) == DDCMP_CLOSED);
+    IS(!ddcmp_room(&none) && ddcmp_outgoing(&none) == 0 && ddcmp_waiting(&none) == 0);
+    IS(ddcmp_take(&none, mail, sizeof mail, &n) == DDCMP_CLOSED && n == 0);
+    IS(ddcmp_waiting_length(&none, 0) == 0);
+    IS(ddcmp_waiting_at(&none, 0, mail, sizeof mail, &n) == DDCMP_CLOSED && n == 0);
+    IS(ddcmp_feed(&none, mail, 1, &n, &notice) == DDCMP_CLOSED && n == 0 && notice.kind == 0);
+    IS(ddcmp_poll(&none, out, sizeof out, &n) == DDCMP_CLOSED && n == 0);
+    IS(ddcmp_frame_room(&none) == 0 && ddcmp_next_length(&none) == 0);
+    IS(ddcmp_offset(&none) == 0 && ddcmp_open(&none) == 0 && ddcmp_held(&none) == 0);
+    IS(!ddcmp_take_arm(&none) && !ddcmp_timer_on(&none) && !ddcmp_expire(&none));
+    IS(ddcmp_config(&none, &config) == DDCMP_CLOSED && config.window == 1 && config.syn == 4);
+    IS(ddcmp_numbers(&none, &numbers) == DDCMP_CLOSED && numbers.a == 3);
+    IS(ddcmp_counters(&none, &counters) == DDCMP_CLOSED && counters.formats == 0x01010101);
+    IS(none.at == NULL);
+}
+
+static void sizes_out_of_range(void) {
+    static const struct ddcmp_config wrong[] = {
+        { 0, 2, 64, 0, 0 }, { 256, 0, 0, 17, 0 }, { 2, 0, 0, 17, 0 }, { 2, 256, 64, 0, 0 },
+        { 2, 2, 0, 17, 0 }, { 2, 2, 16384, 0, 0 }, { 2, 2, 64, 17, 0 }
+    };
+    static const uint32_t codes[] = { DDCMP_WINDOW, DDCMP_WINDOW, DDCMP_INBOX, DDCMP_INBOX,
+                                      DDCMP_MAX, DDCMP_MAX, DDCMP_SYN };
+    size_t i;
+    for (i = 0; i < sizeof codes / sizeof codes[0]; i++)
+        IS(ddcmp_new(&wrong[i], &a) == codes[i] && a.at == NULL);
+}
+
+/* The n-th request is refused, for each n until all are met. */
+static void refused_memory(void) {
+    uint32_t code = DDCMP_MEMORY;
+    unsigned long n;
+    for (n = 1; code == DDCMP_MEMORY; n++) {
+        unsigned long before = asked, freed_before = freed;
+        refused_at = asked + n;
+        code = ddcmp_new(&sizes, &a);
+        refused_at = 0;
+        if (code == DDCMP_MEMORY) {
+            IS(a.at == NULL);
+            IS(asked - before == n && freed - freed_before == n - 1);
+        }
+    }
+    IS(code == DDCMP_OK && n > 3);
+    IS(ddcmp_new(&sizes, &a) == DDCMP_OPEN);
+    IS(ddcmp_new(&sizes, &b) == DDCMP_OK);
+}
+
+static void startup(void) {
+    uint8_t dropped = 7;
+    struct ddcmp_config got;
+    struct told before, after;
+    IS(ddcmp_config(&a, &got) == DDCMP_OK && memcmp(&got, &sizes, sizeof got) == 0);
+    IS(ddcmp_frame_room(&a) == ROOM && ddcmp_state(&a) == DDCMP_HALTED);
+    IS(ddcmp_start(&a, &dropped) == DDCMP_OK && dropped == 0);
+    before = told_of(&a);
+    dropped = 7;
+    IS(ddcmp_start(&a, &dropped) == DDCMP_NOT_HALTED && dropped == 7);
+    IS(ddcmp_enter_maintenance(&a, &dropped) == DDCMP_NOT_HALTED && dropped == 7);
+    IS(!ddcmp_clear_line(&a));
+    IS(ddcmp_send(&a, mail, 1, &dropped) == DDCMP_WRONG_STATE && dropped == 7);
+    IS(ddcmp_send_maintenance(&a, mail, 1) == DDCMP_WRONG_STATE);
+    after = told_of(&a);
+    IS(memcmp(&before, &after, sizeof before) == 0);
+    IS(ddcmp_start(&b, &dropped) == DDCMP_OK);
+    IS(ddcmp_next_length(&a) == 8);
+    pass(&a, &b);                               /* STRT */
+    IS(ddcmp_take_arm(&a) && !ddcmp_take_arm(&a) && ddcmp_timer_on(&a));
+    pass(&b, &a);                               /* STACK */
+    IS(pass(&a, &b) == DDCMP_IS_RUNNING);       /* ACK */
+    pass(&b, &a);
+    IS(ddcmp_state(&a) == DDCMP_RUNNING && ddcmp_state(&b) == DDCMP_RUNNING);
+    while (ddcmp_next_length(&a) + ddcmp_next_length(&b) > 0) {
+        pass(&a, &b);
+        pass(&b, &a);
+    }
+}
+
+static void messages(void) {
+    static uint8_t longer[MAX + 1];
+    struct told before, after;
+    uint8_t number = 0;
+    size_t n = 0;
+    before = told_of(&a);
+    IS(ddcmp_send(&a, longer, 0, &number) == DDCMP_EMPTY);
+    IS(ddcmp_send(&a, longer, MAX + 1, &number) == DDCMP_TOO_LONG && number == 0);
+    IS(ddcmp_send_refusal(&a, longer, MAX + 1) == DDCMP_TOO_LONG);
+    IS(ddcmp_send_refusal(&a, longer, MAX) == DDCMP_OK);
+    after = told_of(&a);
+    IS(memcmp(&before, &after, sizeof before) == 0);
+    IS(ddcmp_send(&a, (const uint8_t *)"abc", 3, &number) == DDCMP_OK && number == 1);
+    IS(ddcmp_send(&a, (const uint8_t *)"defg", 4, &number) == DDCMP_OK && number == 2);
+    IS(!ddcmp_room(&a) && ddcmp_outgoing(&a) == 2 && ddcmp_held(&a) == 7);
+    before = told_of(&a);
+    IS(ddcmp_send(&a, longer, 1, &number) == DDCMP_WINDOW_FULL && number == 2);
+    IS(ddcmp_poll(&a, out, ROOM - 1, &n) == DDCMP_ROOM && n == 0);
+    after = told_of(&a);
+    IS(memcmp(&before, &after, sizeof before) == 0);
+    IS(ddcmp_next_length(&a) == 13);
+    IS(pass(&a, &b) == DDCMP_HANDED_UP && pass(&a, &b) == DDCMP_HANDED_UP);
+    IS(ddcmp_waiting(&b) == 2 && ddcmp_waiting_length(&b, 1) == 4);
+    IS(ddcmp_waiting_length(&b, 2) == 0);
+    before = told_of(&b);
+    IS(ddcmp_waiting_at(&b, 2, mail, sizeof mail, &n) == DDCMP_ABSENT && n == 0);
+    IS(ddcmp_waiting_at(&b, 1, mail, sizeof mail - 1, &n) == DDCMP_ROOM && n == 0);
+    IS(ddcmp_take(&b, mail, sizeof mail - 1, &n) == DDCMP_ROOM && n == 0);
+    IS(ddcmp_waiting_at(&b, 1, mail, sizeof mail, &n) == DDCMP_OK && n == 4);
+    IS(memcmp(mail, "defg", 4) == 0);
+    after = told_of(&b);
+    IS(memcmp(&before, &after, sizeof before) == 0);
+    IS(ddcmp_take(&b, mail, sizeof mail, &n) == DDCMP_OK && n == 3 && memcmp(mail, "abc", 3) == 0);
+    IS(ddcmp_take(&b, mail, sizeof mail, &n) == DDCMP_OK && n == 4);
+    IS(ddcmp_take(&b, mail, sizeof mail, &n) == DDCMP_OK && n == 0);
+    IS(pass(&b, &a) == DDCMP_ACKNOWLEDGED && ddcmp_outgoing(&a) == 0);
+}
+
+/* A million frames of messages and their acknowledgements. */
+static void long_run(void) {
+    static uint8_t message[MAX];
+    uint8_t number;
+    size_t n;
+    long i;
+    for (i = 0; i < 500000; i++) {
+        message[0] = (uint8_t)i;
+        if (ddcmp_send(&a, message, 1 + (size_t)(i % MAX), &number) != DDCMP_OK)
+            break;
+        if (pass(&a, &b) != DDCMP_HANDED_UP)
+            break;
+        if (ddcmp_take(&b, mail, sizeof mail, &n) != DDCMP_OK || mail[0] != (uint8_t)i)
+            break;
+        if (pass(&b, &a) != DDCMP_ACKNOWLEDGED)
+            break;
+    }
+    IS(i == 500000);
+}
+
+static void ends(void) {
+    uint8_t dropped = 7, number;
+    struct ddcmp_numbers numbers;
+    size_t n;
+    IS(ddcmp_send(&a, (const uint8_t *)"x", 1, &number) == DDCMP_OK);
+    IS(ddcmp_poll(&a, out, sizeof out, &n) == DDCMP_OK && n == 11);
+    IS(ddcmp_expire(&a) && ddcmp_numbers(&a, &numbers) == DDCMP_OK && numbers.n == number);
+    IS(ddcmp_halt(&a) == DDCMP_OK && ddcmp_clear_line(&a) && ddcmp_offset(&a) == 0);
+    IS(ddcmp_enter_maintenance(&a, &dropped) == DDCMP_OK && dropped == 1);
+    IS(ddcmp_send_maintenance(&a, (const uint8_t *)"m", 1) == DDCMP_OK);
+    IS(pass(&a, &b) == DDCMP_MAINTENANCE_SEEN);
+    IS(ddcmp_check((const uint8_t *)"123456789", 9) == 0xBB3D);
+}
+
+static void texts(void) {
+    uint32_t code;
+    for (code = 0; code <= DDCMP_NULL; code++)
+        IS(strcmp(ddcmp_strerror(code), ddcmp_strerror(99)) != 0);
+    IS(strcmp(ddcmp_state_name(DDCMP_ISTART), "IStart") == 0);
+    IS(strcmp(ddcmp_notice_name(DDCMP_HANDED_UP), "HandedUp") == 0);
+    IS(strcmp(ddcmp_version(), DDCMP_VERSION) == 0);
+}
+
+int main(void) {
+    unsigned long before;
+    without_a_station();
+    sizes_out_of_range();
+    IS(asked == 0);
+    refused_memory();
+    before = asked;
+    startup();
+    messages();
+    long_run();
+    ends();
+    texts();
+    IS(asked == before);
+    ddcmp_free(&a);
+    ddcmp_free(&a);
+    ddcmp_free(&b);
+    IS(a.at == NULL && b.at == NULL);
+    IS(asked == before);
+    return failed;
+}

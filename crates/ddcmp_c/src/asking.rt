@@ -1,0 +1,112 @@
+//! The timer, and what is asked of a station.
+ghost use Rattle.std.specs.Prelude.{◌≡◌, ◌≢◌, false, Some, None};
+ghost use Rattle.ddcmp_core.specs.Table.{after_expire, after_take_arm, is_on, is_fresh};
+ghost use Rattle.ddcmp_core.specs.Counting.{counters_after_expire};
+ghost use Rattle.ddcmp_proto.specs.Station.{StationView};
+ghost use Rattle.ddcmp_c.specs.Codes.{given_counters, given_numbers};
+
+use crate::handle::{Handle, put_back, take_out};
+use crate::values::{CCounters, CLOSED, CNumbers, OK, counters_of, numbers_of};
+use std::alloc::Global;
+
+/// The timer has run out: whether it was on.
+#[unsafe(no_mangle)]
+pub extern "C" fn ddcmp_expire(alloc: Global, station: &mut Handle) -> bool
+    ensures closed { station.old.station ≡ None
+        → (result ≡ false) × (station.new.station ≡ None) }
+    ensures state { (s : StationView) → station.old.station ≡ Some s → station.new.station
+        ≡ Some (record s {
+          core = record s.core {
+            station = after_expire s.core.station;
+            counters = counters_after_expire s.core.station s.core.counters;
+          };
+        }) }
+    ensures answer { (s : StationView) → station.old.station ≡ Some s
+        → result ≡ is_on s.core.station.timer }
+{
+    let Some(mut open) = take_out(alloc, station) else {
+        return false;
+    };
+    let was_on = open.expire();
+    put_back(station, open);
+    was_on
+}
+
+/// Whether the timer was started since this was last asked.
+#[unsafe(no_mangle)]
+pub extern "C" fn ddcmp_take_arm(alloc: Global, station: &mut Handle) -> bool
+    ensures closed { station.old.station ≡ None
+        → (result ≡ false) × (station.new.station ≡ None) }
+    ensures state { (s : StationView) → station.old.station ≡ Some s → station.new.station
+        ≡ Some (record s {
+          core = record s.core {
+            station = after_take_arm s.core.station;
+          };
+        }) }
+    ensures answer { (s : StationView) → station.old.station ≡ Some s
+        → result ≡ is_fresh s.core.station.timer }
+{
+    let Some(mut open) = take_out(alloc, station) else {
+        return false;
+    };
+    let armed = open.take_arm();
+    put_back(station, open);
+    armed
+}
+
+/// Whether the timer isn't off.
+#[unsafe(no_mangle)]
+pub extern "C" fn ddcmp_timer_on(alloc: Global, station: &mut Handle) -> bool
+    ensures closed { station.old.station ≡ None → result ≡ false }
+    ensures same { station.new.station ≡ station.old.station }
+    ensures value { (s : StationView) → station.old.station ≡ Some s
+        → result ≡ is_on s.core.station.timer }
+{
+    let Some(open) = take_out(alloc, station) else {
+        return false;
+    };
+    let value = open.timer_on();
+    put_back(station, open);
+    value
+}
+
+/// The numbers.
+#[unsafe(no_mangle)]
+pub extern "C" fn ddcmp_numbers(alloc: Global, station: &mut Handle, numbers: &mut CNumbers) -> u32
+    ensures closed { station.old.station ≡ None
+        → (result ≡ CLOSED) × (station.new.station ≡ None) }
+    ensures same { station.new.station ≡ station.old.station }
+    ensures value { (s : StationView) → station.old.station ≡ Some s → (result ≡ OK)
+        × (numbers.new ≡ given_numbers s.core.station) }
+    ensures none { result ≢ OK → numbers.new ≡ numbers.old }
+{
+    let Some(open) = take_out(alloc, station) else {
+        return CLOSED;
+    };
+    let value = open.numbers();
+    put_back(station, open);
+    *numbers = numbers_of(value);
+    OK
+}
+
+/// The counters.
+#[unsafe(no_mangle)]
+pub extern "C" fn ddcmp_counters(
+    alloc: Global,
+    station: &mut Handle,
+    counters: &mut CCounters,
+) -> u32
+    ensures closed { station.old.station ≡ None
+        → (result ≡ CLOSED) × (station.new.station ≡ None) }
+    ensures same { station.new.station ≡ station.old.station }
+    ensures value { (s : StationView) → station.old.station ≡ Some s → (result ≡ OK)
+        × (counters.new ≡ given_counters s.core.counters) }
+    ensures none { result ≢ OK → counters.new ≡ counters.old }
+{
+    let Some(open) = take_out(alloc, station) else {
+        return CLOSED;
+    };
+    *counters = counters_of(open.counters());
+    put_back(station, open);
+    OK
+}

@@ -1,0 +1,268 @@
+//! What C gives and gets: structs of its own, and a number for each answer.
+ghost use Rattle.std.specs.Prelude.{◌≡◌, ◌≢◌, ℕ, option_to_list, None, Ok, IsErr};
+ghost use Rattle.ddcmp_num.specs.declared.seq.Seq.{Seq as SeqValue};
+ghost use Rattle.ddcmp_core.specs.Table.{acknowledged_by};
+ghost use Rattle.ddcmp_c.specs.Codes.{code_of_config, code_of_start_answer, code_of_send_answer, code_of_refusal, code_of_state, code_of_notices, acknowledged_of, given_nak_counts, given_counters, given_config, taken_config};
+
+use ddcmp_proto::{
+    Config, ConfigRefusal, Counters, NakCounts, Notice, Numbers, SendRefusal, Seq, StartRefusal,
+    State,
+};
+
+/// The sizes of a station, for C.
+#[repr(C)]
+#[derive(Clone, Copy)]
+pub struct CConfig {
+    pub window: u16,
+    pub inbox: u16,
+    pub max: u16,
+    pub syn: u8,
+    /// Not 0: a running end whose inbox is empty answers a STRT by beginning anew.
+    pub restart: u8,
+}
+
+/// A notice, for C: its kind, 0 where there is none, and a number of messages.
+#[repr(C)]
+#[derive(Clone, Copy)]
+pub struct CNotice {
+    pub kind: u8,
+    pub count: u8,
+}
+
+/// The numbers, for C.
+#[repr(C)]
+#[derive(Clone, Copy)]
+pub struct CNumbers {
+    pub r: u8,
+    pub n: u8,
+    pub a: u8,
+    pub t: u8,
+}
+
+/// NAKs by their reasons, for C.
+#[repr(C)]
+#[derive(Clone, Copy)]
+pub struct CNakCounts {
+    pub header_check: u32,
+    pub data_check: u32,
+    pub reply_to_rep: u32,
+    pub no_buffer: u32,
+    pub overrun: u32,
+    pub too_long: u32,
+    pub format: u32,
+    pub other: u32,
+}
+
+/// The counters, for C.
+#[repr(C)]
+#[derive(Clone, Copy)]
+pub struct CCounters {
+    pub nak_sent: CNakCounts,
+    pub nak_received: CNakCounts,
+    pub rep_sent: u32,
+    pub rep_received: u32,
+    pub messages_sent: u32,
+    pub bytes_sent: u32,
+    pub messages_again: u32,
+    pub bytes_again: u32,
+    pub messages_up: u32,
+    pub bytes_up: u32,
+    pub expiries: u32,
+    pub header_checks: u32,
+    pub data_checks: u32,
+    pub too_longs: u32,
+    pub formats: u32,
+}
+
+pub(crate) const OK: u32 = 0;
+
+/// Memory was refused.
+pub(crate) const MEMORY: u32 = 5;
+
+/// There is no station in the handle.
+pub(crate) const CLOSED: u32 = 6;
+
+/// There is one already.
+pub(crate) const OPEN: u32 = 7;
+
+/// The room is too short.
+pub(crate) const ROOM: u32 = 14;
+
+/// The line has more bytes than are counted.
+pub(crate) const LONG_LINE: u32 = 15;
+
+/// There is no such message.
+pub(crate) const ABSENT: u32 = 16;
+
+/// The number of a refusal of sizes.
+pub(crate) fn config_code(refusal: ConfigRefusal) -> u32
+    ensures { result ≡ code_of_config refusal }
+{
+    match refusal {
+        ConfigRefusal::Window => 1,
+        ConfigRefusal::Inbox => 2,
+        ConfigRefusal::Max => 3,
+        ConfigRefusal::Syn => 4,
+        ConfigRefusal::Memory => MEMORY,
+    }
+}
+
+/// The number of an answer to a start, and how many messages were dropped.
+pub(crate) fn start_code(answer: Result<u8, StartRefusal>, dropped: &mut u8) -> u32
+    ensures code { result ≡ code_of_start_answer answer }
+    ensures dropped { (n : ℕ) → answer ≡ Ok n → dropped.new ≡ n }
+    ensures refused { result ≢ OK → (dropped.new ≡ dropped.old) × IsErr answer }
+{
+    match answer {
+        Ok(count) => {
+            *dropped = count;
+            0
+        }
+        Err(StartRefusal::NotHalted) => 8,
+        Err(StartRefusal::Untaken) => 9,
+    }
+}
+
+/// The number of an answer to a message, and the number that it got.
+pub(crate) fn send_code(answer: Result<Seq, SendRefusal>, number: &mut u8) -> u32
+    ensures code { result ≡ code_of_send_answer answer }
+    ensures number { (n : SeqValue) → answer ≡ Ok n → number.new ≡ n.0 }
+    ensures refused { result ≢ OK → (number.new ≡ number.old) × IsErr answer }
+{
+    match answer {
+        Ok(seq) => {
+            *number = seq.0;
+            0
+        }
+        Err(refusal) => refusal_code(refusal),
+    }
+}
+
+/// The number of a refusal of a message.
+pub(crate) fn refusal_code(refusal: SendRefusal) -> u32
+    ensures { result ≡ code_of_refusal refusal }
+{
+    match refusal {
+        SendRefusal::WrongState => 10,
+        SendRefusal::Empty => 11,
+        SendRefusal::TooLong => 12,
+        SendRefusal::WindowFull => 13,
+    }
+}
+
+/// The number of a state.
+pub(crate) fn state_code(state: State) -> u32
+    ensures { result ≡ code_of_state state }
+{
+    match state {
+        State::Halted => 0,
+        State::IStart => 1,
+        State::AStart => 2,
+        State::Running => 3,
+        State::Maintenance => 4,
+    }
+}
+
+/// A notice for C.
+pub(crate) fn notice_code(notice: Option<Notice>) -> CNotice
+    ensures code { result ≡ code_of_notices (option_to_list notice) }
+    ensures acknowledged { acknowledged_of result ≡ acknowledged_by notice }
+    ensures none { result.kind ≡ 0 → notice ≡ None }
+{
+    match notice {
+        None => CNotice { kind: 0, count: 0 },
+        Some(Notice::Running) => CNotice { kind: 1, count: 0 },
+        Some(Notice::RunningAndHandedUp) => CNotice { kind: 2, count: 0 },
+        Some(Notice::Acknowledged(count)) => CNotice { kind: 3, count },
+        Some(Notice::HandedUp) => CNotice { kind: 4, count: 0 },
+        Some(Notice::HandedUpAndAcknowledged(count)) => CNotice { kind: 5, count },
+        Some(Notice::PeerStarts) => CNotice { kind: 6, count: 0 },
+        Some(Notice::PeerRestarted) => CNotice { kind: 7, count: 0 },
+        Some(Notice::Restarted(count)) => CNotice { kind: 8, count },
+        Some(Notice::MaintenanceSeen) => CNotice { kind: 9, count: 0 },
+        Some(Notice::MaintenanceHandedUp) => CNotice { kind: 10, count: 0 },
+        Some(Notice::MaintenanceDropped) => CNotice { kind: 11, count: 0 },
+    }
+}
+
+/// The counters for C.
+fn nak_counts_of(counts: &NakCounts) -> CNakCounts
+    ensures { result ≡ given_nak_counts counts.now }
+{
+    CNakCounts {
+        header_check: counts.header_check,
+        data_check: counts.data_check,
+        reply_to_rep: counts.reply_to_rep,
+        no_buffer: counts.no_buffer,
+        overrun: counts.overrun,
+        too_long: counts.too_long,
+        format: counts.format,
+        other: counts.other,
+    }
+}
+
+/// The counters for C.
+pub(crate) fn counters_of(counters: &Counters) -> CCounters
+    ensures { result ≡ given_counters counters.now }
+{
+    CCounters {
+        nak_sent: nak_counts_of(&counters.nak_sent),
+        nak_received: nak_counts_of(&counters.nak_received),
+        rep_sent: counters.rep_sent,
+        rep_received: counters.rep_received,
+        messages_sent: counters.messages_sent,
+        bytes_sent: counters.bytes_sent,
+        messages_again: counters.messages_again,
+        bytes_again: counters.bytes_again,
+        messages_up: counters.messages_up,
+        bytes_up: counters.bytes_up,
+        expiries: counters.expiries,
+        header_checks: counters.header_checks,
+        data_checks: counters.data_checks,
+        too_longs: counters.too_longs,
+        formats: counters.formats,
+    }
+}
+
+/// The sizes that C gave.
+pub(crate) fn asked_sizes(config: &CConfig) -> Config
+    ensures { result ≡ taken_config config.now }
+{
+    Config {
+        window: config.window,
+        inbox: config.inbox,
+        max: config.max,
+        syn: config.syn,
+        restart: config.restart != 0,
+    }
+}
+
+/// The numbers for C.
+pub(crate) fn numbers_of(numbers: Numbers) -> CNumbers
+    ensures { result ≡ record {
+      r = numbers.r.0;
+      n = numbers.n.0;
+      a = numbers.a.0;
+      t = numbers.t.0;
+    } }
+{
+    CNumbers {
+        r: numbers.r.0,
+        n: numbers.n.0,
+        a: numbers.a.0,
+        t: numbers.t.0,
+    }
+}
+
+/// The sizes for C.
+pub(crate) fn sizes_of(config: Config) -> CConfig
+    ensures { result ≡ given_config config }
+{
+    CConfig {
+        window: config.window,
+        inbox: config.inbox,
+        max: config.max,
+        syn: config.syn,
+        restart: config.restart as u8,
+    }
+}

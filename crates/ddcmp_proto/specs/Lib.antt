@@ -1,0 +1,16 @@
+pub mod Config
+pub mod Bytes
+pub mod Station
+pub mod OnePart
+pub use Rattle.ddcmp_frame.specs.Reader
+pub use Rattle.ddcmp_frame.specs.Reading
+pub use Rattle.ddcmp_frame.specs.Wire
+pub use Rattle.ddcmp_frame.specs.Written
+pub use Rattle.ddcmp_window.specs.Inbox
+pub use Rattle.ddcmp_window.specs.Numbers
+pub use Rattle.ddcmp_window.specs.Sender
+pub use Rattle.ddcmp_window.specs.Store
+pub use Rattle.ddcmp_core.specs.Table
+pub use Rattle.ddcmp_core.specs.Frames
+pub use Rattle.ddcmp_core.specs.Counting
+pub use Rattle.ddcmp_core.specs.Core

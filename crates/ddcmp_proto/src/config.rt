@@ -1,0 +1,81 @@
+//! How a station is made.
+ghost use Rattle.std.specs.Prelude.{◌≡◌};
+ghost use Rattle.ddcmp_proto.specs.Config.{first_refusal};
+
+use ddcmp_core::{MAX_COUNT, MAX_WINDOW};
+use ddcmp_frame::codes::FRAME_OVERHEAD;
+
+/// The most SYN bytes before a frame.
+pub const MAX_SYN: u8 = 16;
+
+/// The most messages that came and weren't taken.
+pub const MAX_INBOX: u16 = 255;
+
+/// The sizes of a station.
+#[derive(Clone, Copy, Debug, PartialEq, Eq)]
+pub struct Config {
+    /// The largest number of messages sent and not acknowledged: 1 to `MAX_WINDOW`.
+    pub window: u16,
+    /// The largest number of messages that came and weren't taken: 1 to `MAX_INBOX`.
+    pub inbox: u16,
+    /// The largest number of bytes of a message: 1 to `MAX_COUNT`.
+    pub max: u16,
+    /// The number of SYN bytes before each frame: 0 to `MAX_SYN`.
+    pub syn: u8,
+    /// A running end whose inbox is empty answers a STRT by beginning anew.
+    pub restart: bool,
+}
+
+/// Why no station is made. The first that fits is answered.
+#[derive(Clone, Copy, Debug, PartialEq, Eq)]
+pub enum ConfigRefusal {
+    /// The window isn't 1 to `MAX_WINDOW`.
+    Window,
+    /// The inbox isn't 1 to `MAX_INBOX`.
+    Inbox,
+    /// The largest message isn't 1 to `MAX_COUNT`.
+    Max,
+    /// The SYN fill is above `MAX_SYN`.
+    Syn,
+    /// Memory was refused.
+    Memory,
+}
+
+impl Config {
+    ghost use Rattle.std.specs.Prelude.{◌+◌};
+
+    /// The usual sizes.
+    pub const USUAL: Config = Config {
+        window: 7,
+        inbox: 8,
+        max: 1500,
+        syn: 0,
+        restart: false,
+    };
+
+    /// The most bytes of a frame with its SYN fill.
+    pub fn frame_room(&self) -> usize
+        ensures { result ≡ self.now.syn + self.now.max + 10 }
+    {
+        self.syn as usize + self.max as usize + FRAME_OVERHEAD as usize
+    }
+
+    /// Which size is out of range, the first of them.
+    pub(crate) fn first_refusal(&self) -> Option<ConfigRefusal>
+        ensures { result ≡ first_refusal self.now }
+    {
+        if self.window == 0 || self.window > MAX_WINDOW {
+            return Some(ConfigRefusal::Window);
+        }
+        if self.inbox == 0 || self.inbox > MAX_INBOX {
+            return Some(ConfigRefusal::Inbox);
+        }
+        if self.max == 0 || self.max > MAX_COUNT {
+            return Some(ConfigRefusal::Max);
+        }
+        if self.syn > MAX_SYN {
+            return Some(ConfigRefusal::Syn);
+        }
+        None
+    }
+}

@@ -1,0 +1,427 @@
+//! A station over the bytes of its line.
+mod feeding;
+
+ghost use Rattle.std.specs.Prelude.{◌≡◌, ◌+◌, ◌≤◌, ◌++◌, length, drop, replicate, option_map, IfSome};
+ghost use Rattle.ddcmp_frame.specs.Wire.{wire, IsFrame};
+ghost use Rattle.ddcmp_window.specs.Store.{with_front};
+ghost use Rattle.ddcmp_core.specs.Table.{next, next_frame};
+ghost use Rattle.ddcmp_proto.specs.Bytes.{frame_on_line, after_poll};
+
+use crate::config::{Config, ConfigRefusal, MAX_SYN};
+use ddcmp_core::{
+    Core, Counters, Header, MAX_COUNT, Numbers, SendRefusal, Seq, StartRefusal, State,
+};
+use ddcmp_frame::codes::SYN;
+use ddcmp_frame::{Reader, write_frame};
+use ddcmp_window::RingStore;
+pub use feeding::Fed;
+use std::alloc::Global;
+use std::marker::Model;
+
+/// As much SYN fill as a station writes before a frame.
+const FILL: [u8; 16] = [SYN; 16];
+
+/// A station over the bytes of its line. After it is made no call takes memory.
+#[derive(Drop)]
+pub struct Station {
+    core: Core<RingStore>,
+    reader: Reader,
+    config: Config,
+    /// Room for the message of a frame that is written.
+    message: Vec<u8>,
+}
+
+impl Model for Station {
+    ghost use Rattle.std.specs.Prelude.{◌≡◌, ◌≤◌, vec_len};
+    ghost use Rattle.ddcmp_proto.specs.declared.config.TheConstants.{MAX_SYN};
+    ghost use Rattle.ddcmp_proto.specs.Config.{limits_of};
+    ghost use Rattle.ddcmp_proto.specs.Station.{StationView};
+
+    ghost Value = { StationView };
+
+    ghost view = { λ s. record { core = s.core; syn = s.config.syn; line = s.reader } };
+
+    ghost invariant = { λ s. (s.reader.max ≡ s.core.limits.longest)
+        × (vec_len s.message ≡ s.core.limits.longest) × (s.config.syn ≤ MAX_SYN)
+        × (s.core.limits ≡ limits_of s.config) };
+}
+
+/// Writes SYN fill and a frame at the front of `out`, and says how many bytes they have.
+fn write_line(syn: u8, header: &Header, message: &[u8], out: &mut [u8]) -> usize
+    requires syn { syn ≤ MAX_SYN }
+    requires frame { IsFrame header.now message.now }
+    requires room { syn + length (wire header.now message.now) ≤ length out.old }
+    ensures length { result ≡ length (replicate syn SYN ++ wire header.now message.now) }
+    ensures written { out.new ≡ (replicate syn SYN ++ wire header.now message.now)
+        ++ drop result out.old }
+{
+    let (fill, frame) = out.split_at_mut(syn as usize);
+    fill.copy_from_slice(&FILL[..syn as usize]);
+    fill.len() + write_frame(header, message, frame)
+}
+
+/// Writes SYN fill and the next frame at the front of `out`, by way of `message`.
+fn write_next(
+    core: &mut Core<RingStore>,
+    syn: u8,
+    message: &mut [u8],
+    out: &mut [u8],
+) -> Option<usize>
+    requires syn { syn ≤ MAX_SYN }
+    requires longest { core.old.limits.longest ≤ length message.old }
+    requires room { syn + core.old.limits.longest + 10 ≤ length out.old }
+    ensures state { core.new ≡ after_poll core.old }
+    ensures length { result
+        ≡ option_map length (option_map (frame_on_line syn) (next_frame (next core.old.station))) }
+    ensures most { IfSome result (λ n. n ≤ syn + core.old.limits.longest + 10) }
+    ensures within { IfSome result (λ n. n ≤ MAX_COUNT + 10 + MAX_SYN) }
+    ensures out { out.new
+        ≡ with_front (option_map (frame_on_line syn) (next_frame (next core.old.station))) out.old }
+{
+    match core.next(message) {
+        None => None,
+        Some((header, length)) => Some(write_line(syn, &header, &message[..length], out)),
+    }
+}
+
+impl Station {
+    ghost use Rattle.std.specs.Prelude.{◌≡◌, ◌⊎◌, [], Some, None, Err, IsOk, IfOk, IfSome};
+    ghost use Rattle.ddcmp_proto.specs.Config.{first_refusal, core_made};
+    ghost use Rattle.ddcmp_frame.specs.Reader.{StandsFor};
+
+    /// A halted station whose line has had no bytes. It takes all memory that it will need.
+    pub fn new(alloc: Global, config: Config) -> Result<Station, ConfigRefusal>
+        ensures made { IfOk result (λ s. (s.core ≡ core_made config) × (s.syn ≡ config.syn)) }
+        ensures stands { IfOk result (λ s. StandsFor s.line []) }
+
+        // The first size that is out of range is refused; where none is, want of memory alone.
+        ensures refused { (refusal : ConfigRefusal) → first_refusal config ≡ Some refusal → result
+            ≡ Err refusal }
+        ensures only { first_refusal config ≡ None → IsOk result
+            ⊎ (result ≡ Err ConfigRefusal.Memory) }
+    {
+        match config.first_refusal() {
+            Some(refusal) => Err(refusal),
+            None => match Station::make(alloc, config) {
+                Some(station) => Ok(station),
+                None => Err(ConfigRefusal::Memory),
+            },
+        }
+    }
+
+    /// A station with sizes in range; None where memory is refused.
+    fn make(alloc: Global, config: Config) -> Option<Station>
+        requires { first_refusal config ≡ None }
+        ensures made { IfSome result (λ s. (s.core ≡ core_made config) × (s.syn ≡ config.syn)) }
+        ensures stands { IfSome result (λ s. StandsFor s.line []) }
+    {
+        let out = RingStore::new(alloc, config.window as u8, config.max).ok()?;
+        let inbox = RingStore::new(alloc, config.inbox as u8, config.max).ok()?;
+        let reader = Reader::new(alloc, config.max).ok()?;
+        let message = Vec::from_elem(alloc, 0, config.max as usize).ok()?;
+        Some(Station {
+            core: Core::new(out, inbox, config.restart),
+            reader,
+            config,
+            message,
+        })
+    }
+}
+
+impl Station {
+    ghost use Rattle.std.specs.Prelude.{◌≡◌, ◌≢◌, ◌↔◌, ℕ, ◌+◌, ◌<◌, ◌≤◌, true, false, List, [], length, slice_index_or, IsTrue, Some, Err, OnErr, IfSome, option_map, if◌then◌else◌};
+    ghost use Rattle.ddcmp_frame.specs.Reader.{StandsFor, open_of};
+    ghost use Rattle.ddcmp_frame.specs.Reading.{open_at_end, kept_at_end};
+    ghost use Rattle.ddcmp_window.specs.Store.{first_message, with_front};
+    ghost use Rattle.ddcmp_core.specs.Table.{may_start, answer_to_start, after_start, after_enter_maintenance, after_halt, send_refusal as send_refusal_of, answer_to_send, may_send, after_accept, answer_to_send_maintenance, may_send_maintenance, after_take, after_expire, is_on, is_fresh, is_halted, after_take_arm, next, next_frame};
+    ghost use Rattle.ddcmp_core.specs.Frames.{header_of};
+    ghost use Rattle.ddcmp_core.specs.Counting.{counters_after_expire};
+    ghost use Rattle.ddcmp_proto.specs.Bytes.{frame_on_line, after_poll};
+    ghost use Rattle.ddcmp_proto.specs.Config.{config_of};
+    ghost use Rattle.ddcmp_proto.specs.Station.{IsSoundStation, held_of, held_at_most, message_bytes};
+
+    /// Asks the peer to start: how many messages that waited to be sent were dropped.
+    pub fn start(&mut self) -> Result<u8, StartRefusal>
+        ensures state { self.new ≡ record self.old {
+          core = record self.old.core {
+            station = if may_start self.old.core.station then after_start self.old.core.station
+                else self.old.core.station;
+          };
+        } }
+        ensures answer { result ≡ answer_to_start self.old.core.station }
+        ensures refused { OnErr result (self.new ≡ self.old) }
+    {
+        self.core.start()
+    }
+
+    /// Enters the state of maintenance: how many messages that waited to be sent were dropped.
+    pub fn enter_maintenance(&mut self) -> Result<u8, StartRefusal>
+        ensures state { self.new ≡ record self.old {
+          core = record self.old.core {
+            station = if may_start self.old.core.station
+                then after_enter_maintenance self.old.core.station else self.old.core.station;
+          };
+        } }
+        ensures answer { result ≡ answer_to_start self.old.core.station }
+        ensures refused { OnErr result (self.new ≡ self.old) }
+    {
+        self.core.enter_maintenance()
+    }
+
+    /// Sends and takes nothing more. Numbers and messages stay.
+    pub fn halt(&mut self)
+        ensures { self.new ≡ record self.old {
+          core = record self.old.core { station = after_halt self.old.core.station };
+        } }
+    {
+        self.core.halt();
+    }
+
+    /// Forgets the bytes of the line so far, where the station is halted: whether it is.
+    pub fn clear_line(&mut self) -> bool
+        ensures answer { result ≡ is_halted self.old.core.station.state }
+        ensures cleared { result ≡ true → StandsFor self.new.line [] }
+        ensures core { (self.new.core ≡ self.old.core) × (self.new.syn ≡ self.old.syn) }
+        ensures refused { result ≡ false → self.new ≡ self.old }
+    {
+        if self.state() != State::Halted {
+            return false;
+        }
+        self.reader.reset();
+        true
+    }
+
+    /// Why a message isn't sent: None where it is.
+    pub fn send_refusal(&self, message: &[u8]) -> Option<SendRefusal>
+        ensures { result
+            ≡ send_refusal_of self.now.core.limits self.now.core.station message.now }
+    {
+        self.core.send_refusal(message)
+    }
+
+    /// Keeps a message to be sent, and answers its number.
+    pub fn send(&mut self, message: &[u8]) -> Result<Seq, SendRefusal>
+        ensures state { self.new ≡ record self.old {
+          core = record self.old.core {
+            station = if may_send self.old.core.limits self.old.core.station message.now
+                then after_accept self.old.core.station message.now else self.old.core.station;
+          };
+        } }
+        ensures answer { result
+            ≡ answer_to_send self.old.core.limits self.old.core.station message.now }
+        ensures refused { OnErr result (self.new ≡ self.old) }
+    {
+        self.core.send(message)
+    }
+
+    /// Keeps a maintenance message to be sent.
+    pub fn send_maintenance(&mut self, message: &[u8]) -> Result<(), SendRefusal>
+        ensures state { self.new ≡ record self.old {
+          core = record self.old.core {
+            station = if may_send_maintenance self.old.core.limits self.old.core.station message.now
+                then after_accept self.old.core.station message.now else self.old.core.station;
+          };
+        } }
+        ensures answer { result
+            ≡ answer_to_send_maintenance self.old.core.limits self.old.core.station message.now }
+        ensures refused { OnErr result (self.new ≡ self.old) }
+    {
+        self.core.send_maintenance(message)
+    }
+
+    /// Writes SYN fill and the next frame at the front of `out`, and answers how many bytes they
+    /// have.
+    pub fn poll(&mut self, out: &mut [u8]) -> Option<usize>
+        requires { self.old.syn + self.old.core.limits.longest + 10 ≤ length out.old }
+        ensures state { self.new ≡ record self.old { core = after_poll self.old.core } }
+        ensures length { result ≡ option_map length
+            (option_map (frame_on_line self.old.syn) (next_frame (next self.old.core.station))) }
+        ensures most { IfSome result (λ n. n ≤ self.old.syn + self.old.core.limits.longest + 10) }
+        ensures out { out.new ≡ with_front
+            (option_map (frame_on_line self.old.syn) (next_frame
+            (next self.old.core.station))) out.old }
+        ensures within { IfSome result (λ n. n ≤ MAX_COUNT + 10 + MAX_SYN) }
+    {
+        write_next(&mut self.core, self.config.syn, &mut self.message, out)
+    }
+
+    /// The header of the frame that `poll` would write.
+    pub fn next_header(&self) -> Option<Header>
+        ensures header { result ≡ option_map header_of (next_frame (next self.now.core.station)) }
+        ensures sound { IsSoundStation self.now }
+    {
+        self.core.next_header()
+    }
+
+    /// The number of bytes that `poll` would write.
+    pub fn next_length(&self) -> Option<usize>
+        ensures { result ≡ option_map length
+            (option_map (frame_on_line self.now.syn) (next_frame (next self.now.core.station))) }
+    {
+        match self.next_header() {
+            None => None,
+            Some(header) => Some(self.config.syn as usize + header.frame_length()),
+        }
+    }
+
+    /// Moves the first message of the inbox to the front of `out`, and answers its length.
+    pub fn take(&mut self, out: &mut [u8]) -> Option<usize>
+        requires { self.old.core.limits.longest ≤ length out.old }
+        ensures state { self.new ≡ record self.old {
+          core = record self.old.core { station = after_take self.old.core.station };
+        } }
+        ensures length { result ≡ option_map length (first_message self.old.core.station.inbox) }
+        ensures out { out.new ≡ with_front (first_message self.old.core.station.inbox) out.old }
+    {
+        self.core.take(out)
+    }
+
+    /// The timer has run out: whether it was on.
+    pub fn expire(&mut self) -> bool
+        ensures state { self.new ≡ record self.old {
+          core = record self.old.core {
+            station = after_expire self.old.core.station;
+            counters = counters_after_expire self.old.core.station self.old.core.counters;
+          };
+        } }
+        ensures answer { result ≡ is_on self.old.core.station.timer }
+    {
+        self.core.expire()
+    }
+
+    /// Whether the timer was started since this was last asked: the caller sets its deadline.
+    pub fn take_arm(&mut self) -> bool
+        ensures state { self.new ≡ record self.old {
+          core = record self.old.core { station = after_take_arm self.old.core.station };
+        } }
+        ensures answer { result ≡ is_fresh self.old.core.station.timer }
+    {
+        self.core.take_arm()
+    }
+
+    /// The state.
+    pub fn state(&self) -> State
+        ensures { result ≡ self.now.core.station.state }
+    {
+        self.core.state()
+    }
+
+    /// The numbers.
+    pub fn numbers(&self) -> Numbers
+        ensures { result ≡ record {
+          r = record { 0 = self.now.core.station.r };
+          n = record { 0 = self.now.core.station.n };
+          a = record { 0 = self.now.core.station.a };
+          t = record { 0 = self.now.core.station.t };
+        } }
+    {
+        self.core.numbers()
+    }
+
+    /// The number of messages to send that are kept.
+    pub fn outgoing(&self) -> u8
+        ensures { result ≡ length self.now.core.station.out }
+    {
+        self.core.outgoing()
+    }
+
+    /// Whether fewer messages are kept than the window allows.
+    pub fn room(&self) -> bool
+        ensures { IsTrue result ↔ (length self.now.core.station.out < self.now.core.limits.window) }
+    {
+        self.core.room()
+    }
+
+    /// The number of messages in the inbox.
+    pub fn waiting(&self) -> u8
+        ensures { result ≡ length self.now.core.station.inbox }
+    {
+        self.core.waiting()
+    }
+
+    /// The length of message `i` of the inbox, counted from 0.
+    pub fn waiting_length(&self, i: u8) -> usize
+        requires { i < length self.now.core.station.inbox }
+        ensures length { result ≡ length (slice_index_or self.now.core.station.inbox i []) }
+        ensures most { result ≤ self.now.core.limits.longest }
+    {
+        self.core.waiting_length(i)
+    }
+
+    /// Copies message `i` of the inbox, counted from 0, to the front of `out`, and answers its
+    /// length.
+    pub fn waiting_at(&self, i: u8, out: &mut [u8]) -> usize
+        requires there { i < length self.now.core.station.inbox }
+        requires longest { self.now.core.limits.longest ≤ length out.old }
+        ensures length { result ≡ length (slice_index_or self.now.core.station.inbox i []) }
+        ensures out { out.new
+            ≡ with_front (Some (slice_index_or self.now.core.station.inbox i [])) out.old }
+    {
+        self.core.waiting_at(i, out)
+    }
+
+    /// Whether the timer isn't off.
+    pub fn timer_on(&self) -> bool
+        ensures { result ≡ is_on self.now.core.station.timer }
+    {
+        self.core.timer_on()
+    }
+
+    /// What was counted.
+    pub fn counters(&self) -> &Counters
+        ensures { result.now ≡ self.now.core.counters }
+    {
+        self.core.counters()
+    }
+
+    /// The number of bytes of the line since it was cleared.
+    pub fn offset(&self) -> u64
+        ensures value { result ≡ self.now.line.offset }
+        ensures text { (text : List ℕ) → StandsFor self.now.line text → result ≡ length text }
+    {
+        self.reader.offset()
+    }
+
+    /// The number of bytes from the start byte of the unfinished frame on.
+    pub fn open(&self) -> usize
+        ensures value { result ≡ open_of self.now.line }
+        ensures text { (text : List ℕ) → StandsFor self.now.line text
+            → result ≡ open_at_end self.now.core.limits.longest text }
+    {
+        self.reader.open()
+    }
+
+    /// The number of bytes of messages to send, of mail, and of the unfinished frame; none of a
+    /// frame that is too long.
+    pub fn held(&self) -> usize
+        ensures value { result ≡ held_of self.now }
+        ensures text { (text : List ℕ) → StandsFor self.now.line text
+            → result
+            ≡ message_bytes self.now.core.station + kept_at_end self.now.core.limits.longest text }
+        ensures within { result ≤ held_at_most self.now.core.limits }
+    {
+        self.core.bytes() + self.reader.kept()
+    }
+
+    /// The sizes that it was made with.
+    pub fn config(&self) -> Config
+        ensures { result ≡ config_of self.now.core.limits self.now.syn }
+    {
+        let Station { config, .. } = self;
+        *config
+    }
+
+    /// The room that `poll` wants: the largest number of bytes that it writes.
+    pub fn frame_room(&self) -> usize
+        ensures { result ≡ self.now.syn + self.now.core.limits.longest + 10 }
+    {
+        self.config.frame_room()
+    }
+
+    /// What holds of every station: a law, for those who have one. It does nothing.
+    pub fn holds(&self)
+        ensures { IsSoundStation self.now }
+    {
+        self.core.holds();
+    }
+}

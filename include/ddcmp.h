@@ -1,0 +1,266 @@
+/* A station of DDCMP, from the library libddcmp.
+
+   A ddcmp_station is a handle. Begin it as DDCMP_NO_STATION, hand it to every call by its address,
+   and never copy it: a copy would free the same station twice. One call at a time has a handle, and
+   a handle stays on the thread that made it.
+
+   No pointer that is handed over may be null: a slice of no bytes has some address too. What a
+   pointer leads to is the callee's alone until the call returns, so no two may overlap. Where
+   DDCMP_CHECKED is defined before this header is read, each call first tests its pointers: it then
+   answers DDCMP_NULL, or what it answers for a handle without a station, and does nothing.
+
+   After ddcmp_new no call asks for memory. */
+#ifndef DDCMP_H
+#define DDCMP_H
+
+#include <stdbool.h>
+#include <stddef.h>
+#include <stdint.h>
+
+#ifdef __cplusplus
+extern "C" {
+#endif
+
+typedef struct ddcmp_station { void *at; } ddcmp_station;
+#define DDCMP_NO_STATION { NULL }
+
+/* What a call answers. But for DDCMP_OK nothing was done. */
+enum ddcmp_code {
+    DDCMP_OK = 0,
+    DDCMP_WINDOW = 1,       /* not 1 to 255 */
+    DDCMP_INBOX = 2,        /* not 1 to 255 */
+    DDCMP_MAX = 3,          /* not 1 to 16383 */
+    DDCMP_SYN = 4,          /* above 16 */
+    DDCMP_MEMORY = 5,       /* memory was refused */
+    DDCMP_CLOSED = 6,       /* the handle has no station */
+    DDCMP_OPEN = 7,         /* the handle has one already */
+    DDCMP_NOT_HALTED = 8,
+    DDCMP_UNTAKEN = 9,      /* the inbox isn't empty */
+    DDCMP_WRONG_STATE = 10,
+    DDCMP_EMPTY = 11,       /* a message of no bytes */
+    DDCMP_TOO_LONG = 12,    /* a message of more than max bytes */
+    DDCMP_WINDOW_FULL = 13,
+    DDCMP_ROOM = 14,        /* the room is too short */
+    DDCMP_LONG_LINE = 15,   /* 2^64 bytes of one line: halt, and ddcmp_clear_line */
+    DDCMP_ABSENT = 16,      /* there is no such message */
+    DDCMP_NULL = 17         /* a pointer is null; only where DDCMP_CHECKED is defined */
+};
+
+enum ddcmp_state {
+    DDCMP_HALTED = 0,
+    DDCMP_ISTART = 1,
+    DDCMP_ASTART = 2,
+    DDCMP_RUNNING = 3,
+    DDCMP_MAINTENANCE = 4,
+    DDCMP_NO_STATE = 5      /* the handle has no station */
+};
+
+enum ddcmp_kind {
+    DDCMP_NO_NOTICE = 0,
+    DDCMP_IS_RUNNING = 1,
+    DDCMP_RUNNING_AND_HANDED_UP = 2,
+    DDCMP_ACKNOWLEDGED = 3,                 /* count messages */
+    DDCMP_HANDED_UP = 4,
+    DDCMP_HANDED_UP_AND_ACKNOWLEDGED = 5,   /* count messages acknowledged */
+    DDCMP_PEER_STARTS = 6,
+    DDCMP_PEER_RESTARTED = 7,
+    DDCMP_RESTARTED = 8,                    /* count messages to send were dropped */
+    DDCMP_MAINTENANCE_SEEN = 9,
+    DDCMP_MAINTENANCE_HANDED_UP = 10,
+    DDCMP_MAINTENANCE_DROPPED = 11
+};
+
+/* The sizes of a station. */
+struct ddcmp_config {
+    uint16_t window;    /* messages sent and not acknowledged: 1 to 255 */
+    uint16_t inbox;     /* messages that came and weren't taken: 1 to 255 */
+    uint16_t max;       /* bytes of a message: 1 to 16383 */
+    uint8_t syn;        /* SYN bytes before each frame: 0 to 16 */
+    uint8_t restart;    /* not 0: where the peer begins anew, so does a station with no mail */
+};
+
+/* The usual sizes. */
+#define DDCMP_USUAL { 7, 8, 1500, 0, 0 }
+
+struct ddcmp_notice {
+    uint8_t kind;       /* enum ddcmp_kind */
+    uint8_t count;
+};
+
+/* The highest numbers received in sequence, sent and acknowledged, and the next to send. */
+struct ddcmp_numbers {
+    uint8_t r;
+    uint8_t n;
+    uint8_t a;
+    uint8_t t;
+};
+
+/* NAKs by their reasons. */
+struct ddcmp_nak_counts {
+    uint32_t header_check;
+    uint32_t data_check;
+    uint32_t reply_to_rep;
+    uint32_t no_buffer;
+    uint32_t overrun;
+    uint32_t too_long;
+    uint32_t format;
+    uint32_t other;
+};
+
+/* What was counted. Each number stays at its largest value. */
+struct ddcmp_counters {
+    struct ddcmp_nak_counts nak_sent;
+    struct ddcmp_nak_counts nak_received;
+    uint32_t rep_sent;
+    uint32_t rep_received;
+    uint32_t messages_sent;
+    uint32_t bytes_sent;
+    uint32_t messages_again;
+    uint32_t bytes_again;
+    uint32_t messages_up;
+    uint32_t bytes_up;
+    uint32_t expiries;
+    uint32_t header_checks;
+    uint32_t data_checks;
+    uint32_t too_longs;
+    uint32_t formats;
+};
+
+#if defined(__GNUC__)
+#define DDCMP_CALL __attribute__((nonnull)) extern
+#else
+#define DDCMP_CALL extern
+#endif
+
+/* An answer of uint32_t is of enum ddcmp_code, but for ddcmp_state. */
+
+/* Makes a halted station in a handle that has none. */
+DDCMP_CALL uint32_t ddcmp_new(const struct ddcmp_config *config, ddcmp_station *station);
+/* Frees the station of a handle; where there is none, does nothing. */
+DDCMP_CALL void ddcmp_free(ddcmp_station *station);
+DDCMP_CALL uint32_t ddcmp_config(ddcmp_station *station, struct ddcmp_config *config);
+
+/* Both say how many messages that waited to be sent were dropped. */
+DDCMP_CALL uint32_t ddcmp_start(ddcmp_station *station, uint8_t *dropped);
+DDCMP_CALL uint32_t ddcmp_enter_maintenance(ddcmp_station *station, uint8_t *dropped);
+DDCMP_CALL uint32_t ddcmp_halt(ddcmp_station *station);
+/* Forgets the bytes of the line so far, where the station is halted: whether it is. */
+DDCMP_CALL bool ddcmp_clear_line(ddcmp_station *station);
+DDCMP_CALL uint32_t ddcmp_state(ddcmp_station *station); /* enum ddcmp_state */
+
+/* Keeps a message to be sent, and says its number. */
+DDCMP_CALL uint32_t ddcmp_send(ddcmp_station *station, const uint8_t *message, size_t length,
+                               uint8_t *number);
+DDCMP_CALL uint32_t ddcmp_send_maintenance(ddcmp_station *station, const uint8_t *message,
+                                           size_t length);
+/* Why ddcmp_send would refuse a message; DDCMP_OK where it wouldn't. */
+DDCMP_CALL uint32_t ddcmp_send_refusal(ddcmp_station *station, const uint8_t *message,
+                                       size_t length);
+/* Whether fewer messages are kept than the window allows, and how many are kept. */
+DDCMP_CALL bool ddcmp_room(ddcmp_station *station);
+DDCMP_CALL uint8_t ddcmp_outgoing(ddcmp_station *station);
+
+/* Takes the first message of the inbox. It wants room of config.max bytes. No mail: taken is 0. */
+DDCMP_CALL uint32_t ddcmp_take(ddcmp_station *station, uint8_t *out, size_t room, size_t *taken);
+/* How many messages wait in the inbox. */
+DDCMP_CALL uint8_t ddcmp_waiting(ddcmp_station *station);
+/* The length of message i of the inbox, counted from 0: 0 where there is none. */
+DDCMP_CALL size_t ddcmp_waiting_length(ddcmp_station *station, uint8_t i);
+/* Copies message i, which stays in the inbox. It wants room of config.max bytes. */
+DDCMP_CALL uint32_t ddcmp_waiting_at(ddcmp_station *station, uint8_t i, uint8_t *out, size_t room,
+                                     size_t *written);
+
+/* Takes bytes of the line, up to the first that gives a notice: feed the rest again. */
+DDCMP_CALL uint32_t ddcmp_feed(ddcmp_station *station, const uint8_t *piece, size_t length,
+                               size_t *used, struct ddcmp_notice *notice);
+/* Writes the next frame. It wants room of ddcmp_frame_room bytes, whatever the frame has. Nothing
+   to send: written is 0. */
+DDCMP_CALL uint32_t ddcmp_poll(ddcmp_station *station, uint8_t *out, size_t room, size_t *written);
+DDCMP_CALL size_t ddcmp_frame_room(ddcmp_station *station);
+/* How many bytes ddcmp_poll would write now. */
+DDCMP_CALL size_t ddcmp_next_length(ddcmp_station *station);
+/* Bytes of the line since it was cleared; of the unfinished frame; and of all that is held. */
+DDCMP_CALL uint64_t ddcmp_offset(ddcmp_station *station);
+DDCMP_CALL size_t ddcmp_open(ddcmp_station *station);
+DDCMP_CALL size_t ddcmp_held(ddcmp_station *station);
+
+/* Whether the timer was started since this was last asked: set its deadline. */
+DDCMP_CALL bool ddcmp_take_arm(ddcmp_station *station);
+DDCMP_CALL bool ddcmp_timer_on(ddcmp_station *station);
+/* The timer has run out: whether it was on. */
+DDCMP_CALL bool ddcmp_expire(ddcmp_station *station);
+
+DDCMP_CALL uint32_t ddcmp_numbers(ddcmp_station *station, struct ddcmp_numbers *numbers);
+DDCMP_CALL uint32_t ddcmp_counters(ddcmp_station *station, struct ddcmp_counters *counters);
+
+/* The block check of a text (CRC-16). */
+DDCMP_CALL uint16_t ddcmp_check(const uint8_t *text, size_t length);
+
+#ifdef __cplusplus
+}
+#endif
+
+/* ---- texts */
+
+#define DDCMP_VERSION "0.1.0"
+
+static inline const char *ddcmp_version(void) { return DDCMP_VERSION; }
+
+static inline const char *ddcmp_strerror(uint32_t code) {
+    switch (code) {
+    case DDCMP_OK: return "no error";
+    case DDCMP_WINDOW: return "the window isn't 1 to 255";
+    case DDCMP_INBOX: return "the inbox isn't 1 to 255";
+    case DDCMP_MAX: return "the largest message isn't 1 to 16383";
+    case DDCMP_SYN: return "the SYN fill is above 16";
+    case DDCMP_MEMORY: return "memory was refused";
+    case DDCMP_CLOSED: return "the handle has no station";
+    case DDCMP_OPEN: return "the handle has a station already";
+    case DDCMP_NOT_HALTED: return "the station isn't halted";
+    case DDCMP_UNTAKEN: return "the inbox isn't empty";
+    case DDCMP_WRONG_STATE: return "the station doesn't run";
+    case DDCMP_EMPTY: return "the message is empty";
+    case DDCMP_TOO_LONG: return "the message is too long";
+    case DDCMP_WINDOW_FULL: return "the window is full";
+    case DDCMP_ROOM: return "the room is too short";
+    case DDCMP_LONG_LINE: return "the line has 2^64 bytes";
+    case DDCMP_ABSENT: return "there is no such message";
+    case DDCMP_NULL: return "a pointer is null";
+    default: return "no code of DDCMP";
+    }
+}
+
+/* The names that scripts write. */
+static inline const char *ddcmp_state_name(uint32_t state) {
+    switch (state) {
+    case DDCMP_HALTED: return "Halted";
+    case DDCMP_ISTART: return "IStart";
+    case DDCMP_ASTART: return "AStart";
+    case DDCMP_RUNNING: return "Running";
+    case DDCMP_MAINTENANCE: return "Maintenance";
+    default: return "";
+    }
+}
+
+static inline const char *ddcmp_notice_name(uint8_t kind) {
+    switch (kind) {
+    case DDCMP_IS_RUNNING: return "Running";
+    case DDCMP_RUNNING_AND_HANDED_UP: return "RunningAndHandedUp";
+    case DDCMP_ACKNOWLEDGED: return "Acknowledged";
+    case DDCMP_HANDED_UP: return "HandedUp";
+    case DDCMP_HANDED_UP_AND_ACKNOWLEDGED: return "HandedUpAndAcknowledged";
+    case DDCMP_PEER_STARTS: return "PeerStarts";
+    case DDCMP_PEER_RESTARTED: return "PeerRestarted";
+    case DDCMP_RESTARTED: return "Restarted";
+    case DDCMP_MAINTENANCE_SEEN: return "MaintenanceSeen";
+    case DDCMP_MAINTENANCE_HANDED_UP: return "MaintenanceHandedUp";
+    case DDCMP_MAINTENANCE_DROPPED: return "MaintenanceDropped";
+    default: return "";
+    }
+}
+
+#ifdef DDCMP_CHECKED
+#include "ddcmp_checked.h"
+#endif
+
+#endif
