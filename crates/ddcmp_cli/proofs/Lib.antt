@@ -1,11 +1,4 @@
-pub mod HexValues
-pub mod DigitLaws
-pub mod DecodingLaws
-pub mod LinesLaws
-pub mod ExplainLaws
-pub mod TakeLaws
 pub mod CommandLaws
 pub mod NumberLaws
-pub mod ServingLaws
 pub mod ScriptLaws
 pub mod StationLaws

@@ -1,33 +1,33 @@
 -- How the program ends.
 use Rattle.std.specs.Prelude.{⊤, length, ◌<◌, None, codes, string_bytes, Bool, true, false, ◌≡◌, ◌≢◌, ◌⊎◌, ◌≤◌, ℕ, List, [], Option, Some, Result, Ok, Err}
 use Rattle.std.specs.Io.KnownBytes.{Appends, Keeps}
-use Rattle.ddcmp_cli.specs.declared.explain_fault.ExplainFault.{ExplainFault}
-use Rattle.ddcmp_cli.specs.declared.explain_fault.ExplainFault.TheVariants as explaining
-use Rattle.ddcmp_line.specs.declared.script_fault.ScriptFault.{ScriptFault}
-use Rattle.ddcmp_line.specs.declared.script_fault.ScriptFault.TheVariants as scripting
+use Rattle.ddcmp_explain.specs.declared.explain_fault.ExplainFault.{ExplainFault}
+use Rattle.ddcmp_explain.specs.declared.explain_fault.ExplainFault.TheVariants as explaining
+use Rattle.ddcmp_script.specs.declared.script_fault.ScriptFault.{ScriptFault}
+use Rattle.ddcmp_script.specs.declared.script_fault.ScriptFault.TheVariants as scripting
 use Rattle.ddcmp_cli.specs.declared.fault.Fault.{Fault}
 use Rattle.ddcmp_cli.specs.declared.fault.Fault.TheVariants.{Odd, NotHex, Line, Hex as NotHexIn, Message, Read, Write, Memory as NoMemory, Carrier, Ended}
 use Rattle.ddcmp_run.specs.Run.{PairState, new_pair}
-use Rattle.ddcmp_line.specs.ScriptEnds.{around, Plays}
+use Rattle.ddcmp_script.specs.ScriptEnds.{around, Plays}
 use Rattle.ddcmp_proto.specs.declared.config.Config.{Config}
 use Rattle.ddcmp_station.specs.Config.{first_refusal}
 use Rattle.ddcmp_cli.specs.declared.ending.Ending.{Ending}
 use Rattle.ddcmp_cli.specs.declared.ending.Ending.TheVariants.{Done, Usage as Misused, NotText, Fault as Faulted}
-use Rattle.ddcmp_cli.specs.declared.form.Form.{Form}
+use Rattle.ddcmp_explain.specs.declared.form.Form.{Form}
 use Rattle.clap.specs.Words.{Text}
 use Rattle.ddcmp_cli.specs.declared.command.Command.{Command}
 use Rattle.ddcmp_cli.specs.declared.command.Command.TheVariants.{Explain, Simulate, Pair, Station}
 use Rattle.ddcmp_cli.specs.declared.served.Served.{Served}
-use Rattle.ddcmp_cli.specs.declared.serve_fault.ServeFault.{ServeFault}
-use Rattle.ddcmp_cli.specs.declared.serve_fault.ServeFault.TheVariants as serving
+use Rattle.ddcmp_serve.specs.declared.serve_fault.ServeFault.{ServeFault}
+use Rattle.ddcmp_serve.specs.declared.serve_fault.ServeFault.TheVariants as serving
 use Rattle.ddcmp_station.specs.declared.driving.LineFault.TheVariants as line
 use Rattle.ddcmp_cli.specs.declared.declined.Declined.{Declined}
 use Rattle.ddcmp_cli.specs.declared.declined.Declined.TheVariants.{Help, Version, Usage, Memory}
-use Rattle.ddcmp_frame.specs.Written.{AppendsPart, Known}
+use Rattle.ddcmp_io.specs.Written.{AppendsPart, Known}
 use Rattle.ddcmp_cli.specs.Words.{HasOptions, HasStation, Reads, option_in, text_in}
 use Rattle.ddcmp_core.specs.Limits.{MAX_COUNT}
-use Rattle.ddcmp_cli.specs.Explains.{Explains}
-use Rattle.ddcmp_cli.specs.Serving.{Serves}
+use Rattle.ddcmp_explain.specs.Explains.{Explains}
+use Rattle.ddcmp_serve.specs.Serving.{Serves}
 use Rattle.ddcmp_station.specs.Driving.{Devices}
 use Rattle.hex.specs.Hex.{decode_of}
 use Rattle.hex.specs.declared.error.FromHexError.{FromHexError}

@@ -1,8 +1,6 @@
-pub mod Digits
-pub mod Decoding
-pub mod Text
-pub mod Explains
-pub mod Progress
 pub mod Words
 pub mod Endings
-pub mod Serving
+pub use Rattle.ddcmp_explain.specs.Digits
+pub use Rattle.ddcmp_explain.specs.Text
+pub use Rattle.ddcmp_explain.specs.Explains
+pub use Rattle.ddcmp_serve.specs.Serving

@@ -14,11 +14,11 @@ ghost use Rattle.clap.specs.Words.{subcommand_name_of, subcommand_rows_of};
 ghost use Rattle.clap.specs.declared.builder.command.Command.TheViews.{out-Command as fields_of};
 
 use crate::declined::Declined;
-use crate::form::Form;
 use crate::served::{Role, Served};
 use clap::error::ErrorKind;
 use clap::{Arg, ArgAction, ArgMatches, Error};
 use ddcmp_core::{MAX_COUNT, MAX_WINDOW};
+use ddcmp_explain::Form;
 use ddcmp_station::{Config, MAX_INBOX, MAX_SYN};
 use std::alloc::{AllocError, Global};
 

@@ -2,9 +2,9 @@
 ghost use Rattle.std.specs.Prelude.{◌≡◌};
 ghost use Rattle.ddcmp_cli.specs.Endings.{explain_fault, script_fault, serve_fault};
 
-use crate::explain_fault::ExplainFault;
-use crate::serve_fault::ServeFault;
-use ddcmp_line::ScriptFault;
+use ddcmp_explain::ExplainFault;
+use ddcmp_script::ScriptFault;
+use ddcmp_serve::ServeFault;
 use ddcmp_station::LineFault;
 use std::fmt;
 

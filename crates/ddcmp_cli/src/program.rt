@@ -11,12 +11,12 @@ ghost use Rattle.ddcmp_cli.specs.Endings.{is_refusal, Stations, StationsOrNoMemo
 use crate::command::{Command, read_words};
 use crate::declined::Declined;
 use crate::ending::Ending;
-use crate::explaining::explain;
 use crate::fault::Fault;
 use crate::simulating::{pair, simulate};
 use crate::stationing::station;
 use clap::error::ErrorKind as WordsFault;
-use ddcmp_frame::{Sink, Source, Worst, write_all};
+use ddcmp_explain::explain;
+use ddcmp_io::{Sink, Source, Worst, write_all};
 use std::alloc::{AllocError, Global};
 use std::io::ErrorKind;
 use std::net::{Net, TcpStream};

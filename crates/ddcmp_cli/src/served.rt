@@ -1,13 +1,5 @@
 //! What the station of the command line is asked to be.
-
-/// Who opens the connection.
-#[derive(Clone, Copy, Debug, PartialEq, Eq)]
-pub enum Role {
-    /// The station connects to a peer that listens.
-    Connect,
-    /// The station listens, and takes one connection.
-    Listen,
-}
+pub use ddcmp_net::Role;
 
 /// A station over a connection, as the words ask for it.
 #[derive(Clone, Copy, Debug, PartialEq, Eq)]

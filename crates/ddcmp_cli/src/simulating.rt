@@ -5,8 +5,9 @@ ghost use Rattle.ddcmp_cli.specs.Endings.{Pairs, PlaysBetween, Simulates};
 
 use crate::ending::Ending;
 use crate::fault::Fault;
-use ddcmp_frame::{Sink, Source, Worst};
-use ddcmp_line::{Carrier, Direct, Sockets, script};
+use ddcmp_io::{Sink, Source, Worst};
+use ddcmp_net::Sockets;
+use ddcmp_script::{Carrier, Direct, script};
 use ddcmp_station::Config;
 use std::alloc::Global;
 use std::net::{Net, TcpStream};
@@ -31,7 +32,7 @@ fn play<R: Source, W: Sink, C: Carrier>(
     ensures write { (result ≡ Ending.Fault Fault.Write) ↔ IsTrue (W.broken writer.new) }
     ensures carried { result ≡ Ending.Fault Fault.Carrier → C.broken carrier.new ≡ true }
 {
-    let Ok(mut pair) = ddcmp_line::Pair::new(alloc, config, config) else {
+    let Ok(mut pair) = ddcmp_pair::Pair::new(alloc, config, config) else {
         return Ending::Fault(Fault::Memory);
     };
     match script(alloc, &mut pair, reader, writer, carrier) {

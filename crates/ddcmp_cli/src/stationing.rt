@@ -4,12 +4,12 @@ ghost use Rattle.std.specs.Result.{result_ok};
 ghost use Rattle.hex.specs.Hex.{decode_of};
 ghost use Rattle.ddcmp_cli.specs.Endings.{is_refusal, Stations};
 
-use crate::connection::{Elapsed, open};
 use crate::ending::Ending;
 use crate::fault::Fault;
 use crate::served::Served;
-use crate::serving::{SERVED_MAX, serve};
-use ddcmp_frame::{FromRead, Sink, ToWrite};
+use ddcmp_io::{FromRead, Sink, ToWrite};
+use ddcmp_net::{Elapsed, open};
+use ddcmp_serve::{SERVED_MAX, serve};
 use std::alloc::Global;
 use std::net::{Net, TcpStream};
 use std::time;

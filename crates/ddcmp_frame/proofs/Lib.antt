@@ -8,4 +8,3 @@ pub mod WireLaws
 pub mod FrameLaws
 pub mod PutLaws
 pub mod TableLaws
-pub mod WrittenLaws

@@ -9,8 +9,8 @@ pub mod Reader
 pub mod Step
 pub mod PlainRoom
 pub mod Scan
-pub mod Device
-pub mod Failing
-pub mod Written
+pub use Rattle.ddcmp_io.specs.Device
+pub use Rattle.ddcmp_io.specs.Failing
+pub use Rattle.ddcmp_io.specs.Written
 pub use Rattle.ddcmp_num.specs.Check
 pub use Rattle.ddcmp_num.specs.declared.limits.TheConstants as Limits

@@ -1,8 +1,9 @@
-pub mod Connection
-pub mod Input
-pub mod Script
-pub mod ScriptSteps
-pub mod ScriptEnds
-pub mod ScriptProgress
-pub mod ScriptText
-pub mod ScriptWords
+pub use Rattle.ddcmp_io.specs.Input
+pub use Rattle.ddcmp_net.specs.Connection
+pub use Rattle.ddcmp_script.specs.Script
+pub use Rattle.ddcmp_script.specs.ScriptSteps
+pub use Rattle.ddcmp_script.specs.ScriptEnds
+pub use Rattle.ddcmp_script.specs.ScriptProgress
+pub use Rattle.ddcmp_script.specs.ScriptText
+pub use Rattle.ddcmp_script.specs.ScriptWords
+pub use Rattle.ddcmp_station_text.specs.StationText

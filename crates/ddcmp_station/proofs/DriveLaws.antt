@@ -4,8 +4,8 @@ use Rattle.std.proofs.KnownBytes.{Consumes-nil, Consumes-kept}
 use Rattle.std.proofs.Math.Seq.{take-add}
 use Rattle.std.proofs.lemmas.List.{take_all}
 use Rattle.std.specs.Io.KnownBytes.{Appends, Consumes, Keeps}
-use Rattle.ddcmp_frame.specs.declared.device.Worst.{Worst}
-use Rattle.ddcmp_frame.specs.declared.device.Worst.TheVariants.{Fine}
+use Rattle.ddcmp_io.specs.declared.device.Worst.{Worst}
+use Rattle.ddcmp_io.specs.declared.device.Worst.TheVariants.{Fine}
 use Rattle.ddcmp_frame.specs.Reader.{StandsFor}
 use Rattle.ddcmp_core.specs.Core.{CoreView}
 use Rattle.ddcmp_proto.specs.Bytes.{after_piece, notices_of_piece, after_poll}
@@ -16,7 +16,7 @@ use Rattle.ddcmp_station.specs.declared.driving.LineFault.TheVariants.{Read, Wri
 use Rattle.ddcmp_station.specs.declared.driving.Tally.{Tally}
 use Rattle.ddcmp_station.specs.Driving.{Devices, IsSentPart, deadline_at, is_due, core_after_expire, core_after_take_arm, core_at_deadline, core_after_message, frame_bytes, core_after_mail, before_read, after_read, read_answer, last_read_answer}
 use Rattle.ddcmp_frame.specs.Device.{Logs}
-use Rattle.ddcmp_frame.specs.declared.device.Got.{Got}
+use Rattle.ddcmp_io.specs.declared.device.Got.{Got}
 use Rattle.ddcmp_station.specs.UserCalls.{UserCall, calls_of_offer, calls_of_notices, calls_of_mail, TellsPiece}
 use Rattle.ddcmp_station.specs.Turns.{WritesFrame, TakesTurn, BreaksTurn}
 use Rattle.ddcmp_proto.proofs.FeedLaws.{after_piece-none, after_piece-append}

@@ -3,8 +3,8 @@ use Rattle.std.proofs.Common.{◌≡◌, ℕ, ◌+◌, ◌<◌, ◌≤◌, List,
 use Rattle.std.proofs.KnownBytes.{Appends-nil, Appends-trans, Consumes-nil, Consumes-trans}
 use Rattle.std.proofs.lemmas.Grind.{flat_map-append}
 use Rattle.std.specs.Io.KnownBytes.{Appends, Consumes}
-use Rattle.ddcmp_frame.specs.declared.device.Worst.{Worst}
-use Rattle.ddcmp_frame.specs.declared.device.Worst.TheVariants.{Fine}
+use Rattle.ddcmp_io.specs.declared.device.Worst.{Worst}
+use Rattle.ddcmp_io.specs.declared.device.Worst.TheVariants.{Fine}
 use Rattle.ddcmp_frame.specs.Reader.{StandsFor}
 use Rattle.ddcmp_station.specs.declared.driving.LineFault.{LineFault}
 use Rattle.ddcmp_station.specs.declared.driving.LineFault.TheVariants.{Read, Write, Ended, Memory}
@@ -13,7 +13,7 @@ use Rattle.ddcmp_proto.specs.Station.{StationView}
 use Rattle.ddcmp_station.specs.Driving.{DriveTurn, Driving, Devices, driving_from, core_after_halt, before_read, after_turn, after_turns, bytes_read, moments, read_answers, read_answer, ReadsInTurns, EndsAtFault, Drives}
 use Rattle.ddcmp_station.proofs.DriveLaws.{Logs-nil, Logs-trans}
 use Rattle.ddcmp_frame.specs.Device.{Logs}
-use Rattle.ddcmp_frame.specs.declared.device.Got.{Got}
+use Rattle.ddcmp_io.specs.declared.device.Got.{Got}
 use Rattle.ddcmp_station.specs.UserCalls.{UserCall}
 use Rattle.ddcmp_station.specs.Turns.{TakesTurn, BreaksTurn, TurnsSoFar}
 

@@ -2,12 +2,12 @@
 use Rattle.std.specs.Prelude.{◌≡◌, ℕ, ◌+◌, ◌≤◌, ◌<◌, Bool, false, ◌&&◌, if◌then◌else◌, ◌==◌, nat_le, min, List, [], ◌∷◌, ◌++◌, length, take, Option, Some, None, Result, Ok, Err}
 use Rattle.std.specs.List.{flat_map}
 use Rattle.std.specs.Io.KnownBytes.{Appends, Consumes}
-use Rattle.ddcmp_frame.specs.declared.device.Worst.{Worst}
-use Rattle.ddcmp_frame.specs.declared.device.Worst.TheVariants.{Fine}
+use Rattle.ddcmp_io.specs.declared.device.Worst.{Worst}
+use Rattle.ddcmp_io.specs.declared.device.Worst.TheVariants.{Fine}
 use Rattle.ddcmp_frame.specs.Reader.{StandsFor}
 use Rattle.ddcmp_frame.specs.Device.{Logs}
-use Rattle.ddcmp_frame.specs.declared.device.Got.{Got}
-use Rattle.ddcmp_frame.specs.declared.device.Got.TheVariants.{Bytes, Idle, Failed}
+use Rattle.ddcmp_io.specs.declared.device.Got.{Got}
+use Rattle.ddcmp_io.specs.declared.device.Got.TheVariants.{Bytes, Idle, Failed}
 use Rattle.ddcmp_core.specs.declared.state.Timer.{Timer}
 use Rattle.ddcmp_core.specs.declared.state.Timer.TheVariants.{Off, Fresh, On}
 use Rattle.ddcmp_core.specs.Table.{Frame, after_halt, may_send, after_accept, after_expire, after_take_arm, is_on, next, next_frame}

@@ -1,8 +1,8 @@
 -- One turn of `drive`, as its parts are proved.
 use Rattle.std.specs.Prelude.{◌≡◌, ℕ, ◌+◌, ◌<◌, ◌≤◌, List, [], ◌∷◌, ◌++◌, length, take, Option, Result, Ok, Err}
 use Rattle.std.specs.Io.KnownBytes.{Appends, Consumes}
-use Rattle.ddcmp_frame.specs.declared.device.Worst.{Worst}
-use Rattle.ddcmp_frame.specs.declared.device.Worst.TheVariants.{Fine}
+use Rattle.ddcmp_io.specs.declared.device.Worst.{Worst}
+use Rattle.ddcmp_io.specs.declared.device.Worst.TheVariants.{Fine}
 use Rattle.ddcmp_frame.specs.Reader.{StandsFor}
 use Rattle.ddcmp_station.specs.declared.driving.LineFault.{LineFault}
 use Rattle.ddcmp_station.specs.declared.driving.LineFault.TheVariants.{Read, Write, Ended, Memory}
@@ -11,7 +11,7 @@ use Rattle.ddcmp_proto.specs.Station.{StationView}
 use Rattle.ddcmp_station.specs.UserCalls.{UserCall}
 use Rattle.ddcmp_station.specs.Driving.{DriveTurn, Devices, IsSentPart, before_read, after_turn, bytes_read, read_answer, last_read_answer, TakesTurns}
 use Rattle.ddcmp_frame.specs.Device.{Logs}
-use Rattle.ddcmp_frame.specs.declared.device.Got.{Got}
+use Rattle.ddcmp_io.specs.declared.device.Got.{Got}
 
 -- all bytes were written, or a beginning of them
 abbrev pub WritesFrame : Option (List ℕ) → Option (List ℕ) → List ℕ → Result ℕ LineFault → Type 0

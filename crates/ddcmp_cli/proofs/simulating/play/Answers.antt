@@ -1,9 +1,9 @@
 use Rattle.std.proofs.Common.{ap, sym, inr, ◌∙◌}
 use Rattle.std.specs.Io.KnownBytes.{Appends}
-use Rattle.ddcmp_frame.specs.Written.{AppendsPart}
+use Rattle.ddcmp_io.specs.Written.{AppendsPart}
 use Rattle.ddcmp_cli.specs.declared.ending.Ending.TheVariants.{Fault as Faulted}
 use Rattle.ddcmp_cli.specs.Endings.{ending_of, script_fault}
-use Rattle.ddcmp_line.specs.declared.script_fault.ScriptFault.TheVariants.{Read, Write}
+use Rattle.ddcmp_script.specs.declared.script_fault.ScriptFault.TheVariants.{Read, Write}
 use Rattle.ddcmp_cli.proofs.ScriptLaws.{told, told-write, told-carrier, untold}
 use Rattle.ddcmp_cli.proofs.simulating.play.Goals as goal
 

@@ -1,5 +1,5 @@
 use Rattle.std.proofs.Common.{◌≡◌, ◌≢◌, ◌+◌, ◌*◌, ◌≤◌, false}
-use Rattle.ddcmp_frame.specs.declared.device.Worst.TheVariants.{Failed}
+use Rattle.ddcmp_io.specs.declared.device.Worst.TheVariants.{Failed}
 use Rattle.ddcmp_station.specs.Driving.{devices_of}
 use Rattle.ddcmp_station.specs.Turns.{TurnsSoFar}
 use Rattle.ddcmp_station.proofs.driving.run.Given as goal

@@ -1,6 +1,0 @@
-use Rattle.std.proofs.Common.{refl}
-use Rattle.ddcmp_cli.proofs.LinesLaws.{begun}
-use Rattle.ddcmp_cli.proofs.lines.Lines.new.Goals as goal
-
-pub returns-clause-told : goal.returns-clause-told
-returns-clause-told c = begun c.args.frames.max _ c.requires refl refl c.new.ensures

@@ -1,0 +1,68 @@
+-- What one more byte of a piece makes of what was decoded.
+use Rattle.std.proofs.Common.{◌≡◌, ℕ, ◌+◌, ◌*◌, ◌<◌, true, false, List, [], ◌∷◌, ◌++◌, length, take, drop, set, get_or, refl, sym, ◌∙◌, ap, arith, Option, Some, None, length-append, length-take-le, append_assoc}
+use Rattle.std.specs.Prelude.{option_to_list}
+use Rattle.std.proofs.lemmas.List.{append-nil, take_more, take_more_set, take-append-drop}
+use Rattle.ddcmp_explain.specs.declared.form.Form.TheVariants.{Hex}
+use Rattle.ddcmp_explain.specs.Digits.{hex_value, is_blank, is_readable, first_unexpected, digits, pairs, left_over, spelled}
+use Rattle.ddcmp_explain.specs.Decoding.{Decodes}
+use Rattle.ddcmp_explain.proofs.DigitLaws.{readable-more, unexpected-here, unexpected-more, digits-more, digits-found, digits-blank, digits-unexpected, digits-digit, pairs-held, pairs-whole, readable-digit, readable-blank, readable-neither}
+
+module _ (seen piece bytes : List ℕ) (i n : ℕ) (high : Option ℕ) (inside : i < length piece) (so_far : Decodes Hex seen (take i piece) (record { count = n; unexpected = None }) bytes high) where
+  -- what was read, and the next byte
+  abbrev before : List ℕ
+  before = seen ++ take i piece
+
+  abbrev byte : ℕ
+  byte = get_or piece i 0
+
+  next : before ++ byte ∷ [] ≡ seen ++ take (i + 1) piece
+  next = append_assoc seen (take i piece) (byte ∷ []) ∙ ap (λ t. seen ++ t) (sym (take_more piece i 0 inside))
+
+  -- the digits that the next byte adds
+  goes : (m : ℕ) (after : List ℕ) (next_high : Option ℕ) (more : List ℕ) → is_readable byte ≡ true → pairs (digits before ++ digits (byte ∷ [])) ≡ pairs (digits before) ++ more → take n bytes ++ more ≡ take m after
+      → left_over (digits before ++ digits (byte ∷ [])) ≡ option_to_list next_high → Decodes Hex seen (take (i + 1) piece) (record { count = m; unexpected = None }) after next_high
+  goes m after next_high more r whole taken left =
+      let all : digits (seen ++ take (i + 1) piece) ≡ digits before ++ digits (byte ∷ []) = ap digits (sym next) ∙ digits-more before (byte ∷ []) so_far.unexpected in
+      record {
+        whole = ap pairs all ∙ whole ∙ ap (λ t. t ++ more) so_far.whole ∙ append_assoc (spelled seen) (take n bytes) more ∙ ap (λ t. spelled seen ++ t) taken;
+        unexpected = ap first_unexpected (sym next) ∙ readable-more before byte so_far.unexpected r;
+        left = λ _. ap left_over all ∙ left;
+      }
+
+  kept : (m : ℕ) (after : List ℕ) → m ≡ n → after ≡ bytes → take n bytes ++ [] ≡ take m after
+  kept m after em eb = append-nil (take n bytes) ∙ ap (λ k. take k bytes) (sym em) ∙ ap (take m) (sym eb)
+
+  pub decodes-blank : (m : ℕ) (after : List ℕ) (next_high : Option ℕ) → is_blank byte ≡ true → hex_value byte ≡ None → m ≡ n → after ≡ bytes → next_high ≡ high → Decodes Hex seen (take (i + 1) piece) (record { count = m; unexpected = None }) after next_high
+  decodes-blank m after next_high b e em eb eh =
+      let r = readable-blank byte b in
+      let same : digits before ++ digits (byte ∷ []) ≡ digits before = ap (λ t. digits before ++ t) (digits-blank byte r e) ∙ append-nil (digits before) in
+      goes m after next_high [] r (ap pairs same ∙ sym (append-nil (pairs (digits before)))) (kept m after em eb) (ap left_over same ∙ so_far.left refl ∙ ap option_to_list (sym eh))
+
+  pub decodes-high : (v m : ℕ) (after : List ℕ) (next_high : Option ℕ) → hex_value byte ≡ Some v → high ≡ None → m ≡ n → after ≡ bytes → next_high ≡ Some v → Decodes Hex seen (take (i + 1) piece) (record { count = m; unexpected = None }) after next_high
+  decodes-high v m after next_high e none em eb eh =
+      let r = readable-digit byte v e in
+      let held = pairs-held (digits before) v (so_far.left refl ∙ ap option_to_list none) in
+      let digit = ap (λ t. digits before ++ t) (digits-digit byte v r e) in
+      goes m after next_high [] r (ap pairs digit ∙ held.0 ∙ sym (append-nil (pairs (digits before)))) (kept m after em eb) (ap left_over digit ∙ held.1 ∙ ap option_to_list (sym eh))
+
+  pub decodes-low : (v h m : ℕ) (after : List ℕ) (next_high : Option ℕ) → hex_value byte ≡ Some v → high ≡ Some h → n < length bytes → m ≡ n + 1 → after ≡ set bytes n (h * 16 + v) → next_high ≡ None → Decodes Hex seen (take (i + 1) piece) (record { count = m; unexpected = None }) after next_high
+  decodes-low v h m after next_high e some room em eb eh =
+      let r = readable-digit byte v e in
+      let whole = pairs-whole (digits before) h v (so_far.left refl ∙ ap option_to_list some) in
+      let digit = ap (λ t. digits before ++ t) (digits-digit byte v r e) in
+      goes m after next_high ((h * 16 + v) ∷ []) r (ap pairs digit ∙ whole.0) (sym (ap (λ k. take k after) em ∙ ap (take (n + 1)) eb ∙ take_more_set bytes n (h * 16 + v) room)) (ap left_over digit ∙ whole.1 ∙ ap option_to_list (sym eh))
+
+  -- a byte that is no digit ends the piece
+  pub decodes-unexpected : is_blank byte ≡ false → hex_value byte ≡ None → Decodes Hex seen piece (record { count = n; unexpected = Some i }) bytes high
+  decodes-unexpected b e =
+      let r = readable-neither byte b e in
+      let found = unexpected-here before byte so_far.unexpected r in
+      let all : (before ++ byte ∷ []) ++ drop (i + 1) piece ≡ seen ++ piece = ap (λ t. t ++ drop (i + 1) piece) next ∙ append_assoc seen (take (i + 1) piece) (drop (i + 1) piece) ∙ ap (λ t. seen ++ t) (take-append-drop (i + 1) piece) in
+      let within = length-take-le i piece (omega (arith, inside)) in
+      let here : length before ≡ length seen + i = length-append seen (take i piece) ∙ omega (arith, within) in
+      let same = digits-more before (byte ∷ []) so_far.unexpected ∙ ap (λ t. digits before ++ t) (digits-unexpected byte r) ∙ append-nil (digits before) in
+      record {
+        whole = ap spelled (sym all) ∙ ap pairs (digits-found (before ++ byte ∷ []) (drop (i + 1) piece) (length before) found ∙ same) ∙ so_far.whole;
+        unexpected = ap first_unexpected (sym all) ∙ unexpected-more (before ++ byte ∷ []) (drop (i + 1) piece) (length before) found ∙ ap Some here;
+        left = λ e. let bad : ◌≡◌ {A = Option ℕ} (Some i) None = e in cc;
+      }

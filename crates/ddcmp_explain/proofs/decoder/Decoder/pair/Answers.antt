@@ -1,0 +1,30 @@
+use Rattle.std.proofs.Common.{◌∙◌, sym, ap, arith}
+use Rattle.ddcmp_explain.proofs.DecodingLaws.{decodes-blank, decodes-high, decodes-low, decodes-unexpected}
+use Rattle.ddcmp_explain.proofs.decoder.Decoder.pair.Goals as goal
+use Rattle.ddcmp_explain.proofs.decoder.Decoder.pair.Goals.{in-Some+in-Some-high, in-Some+in-None-high, in-None+else-not-is_blank}
+
+pub returns-then-not-is_blank-clause-decodes : goal.returns-then-not-is_blank-clause-decodes
+returns-then-not-is_blank-clause-decodes c = λ seen u l.
+    decodes-unexpected seen c.args.piece.now _ _ _ _ c.loop-i-test.true (c.loop-i.invariant.decodes seen u l) (sym c.if-not-is_blank.ensures) (sym c.in-None.ensures.value)
+
+pub loop-i-preserved : goal.loop-i-preserved
+loop-i-preserved c =
+    let decoded = c.loop-i.invariant.decodes in
+    let inside = c.loop-i-test.true in
+    elim c.match-hex_value.branch [
+      | in-Some+in-Some-high w ↦ record {
+        form = ap (λ s. s.form) w.self-is ∙ c.loop-i.invariant.form;
+        within = omega (arith, w.count-is, c.loop-i.invariant.within);
+        decodes = λ seen u l. decodes-low seen c.args.piece.now c.loop-i.bytes c.loop-i.i c.loop-i.count c.loop-i.self.high inside (decoded seen u l) w.in-Some.digit w.in-Some-high.high c.match-hex_value.count c.match-hex_value.bytes c.match-hex_value.self.high (sym w.in-Some.ensures.value) w.in-Some-high.is (omega (arith, c.requires, c.loop-i.auto.bytes, c.loop-i.invariant.within, inside)) w.count-is w.bytes-is (ap (λ s. s.high) w.self-is);
+      }
+      | in-Some+in-None-high w ↦ record {
+        form = ap (λ s. s.form) w.self-is ∙ c.loop-i.invariant.form;
+        within = omega (arith, w.count-is, c.loop-i.invariant.within);
+        decodes = λ seen u l. decodes-high seen c.args.piece.now c.loop-i.bytes c.loop-i.i c.loop-i.count c.loop-i.self.high inside (decoded seen u l) w.in-Some.digit c.match-hex_value.count c.match-hex_value.bytes c.match-hex_value.self.high (sym w.in-Some.ensures.value) w.in-None-high.is w.count-is w.bytes-is (ap (λ s. s.high) w.self-is);
+      }
+      | in-None+else-not-is_blank w ↦ record {
+        form = ap (λ s. s.form) w.self-is ∙ c.loop-i.invariant.form;
+        within = omega (arith, w.count-is, c.loop-i.invariant.within);
+        decodes = λ seen u l. decodes-blank seen c.args.piece.now c.loop-i.bytes c.loop-i.i c.loop-i.count c.loop-i.self.high inside (decoded seen u l) c.match-hex_value.count c.match-hex_value.bytes c.match-hex_value.self.high (sym w.if-not-is_blank.ensures) (sym w.in-None.ensures.value) w.count-is w.bytes-is (ap (λ s. s.high) w.self-is);
+      }
+    ]

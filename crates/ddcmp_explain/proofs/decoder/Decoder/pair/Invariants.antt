@@ -1,0 +1,14 @@
+use Rattle.std.proofs.Common.{◌≡◌, ◌≤◌, ℕ, List, None, take}
+use Rattle.std.specs.Prelude.{option_to_list}
+use Rattle.ddcmp_explain.specs.declared.form.Form.TheVariants.{Hex}
+use Rattle.ddcmp_explain.specs.Digits.{left_in, unexpected_in}
+use Rattle.ddcmp_explain.specs.Decoding.{Decodes}
+use Rattle.ddcmp_explain.proofs.decoder.Decoder.pair.Given as goal
+
+abbrev pub invariant-loop-i : goal.invariant-loop-i
+invariant-loop-i l = record {
+  form : l.self.form ≡ l.initial.self.form;
+  within : l.count ≤ l.i;
+  decodes : (seen : List ℕ) → unexpected_in Hex seen ≡ None → left_in Hex seen ≡ option_to_list l.initial.self.high
+      → Decodes Hex seen (take l.i l.piece) (record { count = l.count; unexpected = None }) l.bytes l.self.high;
+}

@@ -1,0 +1,55 @@
+-- What explain writes and answers.
+use Rattle.std.specs.Prelude.{◌≡◌, ◌⊎◌, ℕ, ◌-◌, ◌<◌, ◌^◌, List, [], ◌∷◌, ◌++◌, length, if◌then◌else◌, is_none, Option, Some, None, Result, Ok, Err}
+use Rattle.std.specs.Io.KnownBytes.{Appends, IsAtEnd}
+use Rattle.ddcmp_explain.specs.declared.explain_fault.ExplainFault.{ExplainFault}
+use Rattle.ddcmp_explain.specs.declared.explain_fault.ExplainFault.TheVariants.{Odd, NotHex, Read, Write, Memory}
+use Rattle.ddcmp_explain.specs.declared.form.Form.{Form}
+use Rattle.ddcmp_explain.specs.Digits.{bytes_of, unexpected_in, left_in}
+use Rattle.ddcmp_explain.specs.Text.{lines, last_line}
+use Rattle.ddcmp_io.specs.Written.{AppendsPart, Known}
+
+abbrev pub refusal_by : Option ℕ → List ℕ → Option ExplainFault
+refusal_by (Some index) left_digits = Some (NotHex index)
+refusal_by None [] = None
+refusal_by None (digit ∷ left_digits) = Some Odd
+
+-- Why an input doesn't spell whole bytes: its first byte that is neither blank nor a digit, or else
+-- a digit that is left over.
+abbrev pub refusal : Form → List ℕ → Option ExplainFault
+refusal form input = refusal_by (unexpected_in form input) (left_in form input)
+
+-- the whole text: the lines of the items of the whole bytes, and the last line where nothing is
+-- refused
+unfoldable pub explained : Form → ℕ → List ℕ → List ℕ
+explained form max input =
+    lines max (bytes_of form input)
+    ++ (if is_none (refusal form input) then last_line max (bytes_of form input) else [])
+
+-- what explain answers
+abbrev pub Answer : Type 0
+Answer = Result (Unit {0}) ExplainFault
+
+-- What the input that was seen says for each answer: whether it was seen to its end and what it
+-- is refused for, and what was written.
+abbrev pub Tells : Form → ℕ → List ℕ → Known → Known → Known → Answer → Type 0
+Tells form max seen left old new (Ok u) =
+    IsAtEnd left × (length seen < 2 ^ 64 - 1) × (refusal form seen ≡ None)
+    × Appends old new (explained form max seen)
+Tells form max seen left old new (Err Odd) =
+    IsAtEnd left × (length seen < 2 ^ 64 - 1) × (refusal form seen ≡ Some Odd)
+    × Appends old new (explained form max seen)
+Tells form max seen left old new (Err (NotHex index)) =
+    (length seen < 2 ^ 64 - 1) × (refusal form seen ≡ Some (NotHex index))
+    × Appends old new (explained form max seen)
+Tells form max seen left old new (Err Read) =
+    ((unexpected_in form seen ≡ None) ⊎ (length seen ≡ 2 ^ 64 - 1))
+    × Appends old new (lines max (bytes_of form seen))
+Tells form max seen left old new (Err Write) = AppendsPart old new (explained form max seen)
+Tells form max seen left old new (Err Memory) = (seen ≡ []) × Appends old new []
+
+-- What explain did with an input: what it saw of it and what is left, and what the sink held and
+-- holds.
+abbrev pub Explains : Form → ℕ → List ℕ → Known → Known → Known → Answer → Type 0
+Explains form max input left old new result =
+    (seen rest : List ℕ) × (input ≡ seen ++ rest) × (left ≡ Some rest)
+    × Tells form max seen (Some rest) old new result

@@ -1,0 +1,5 @@
+pub mod Digits
+pub mod Decoding
+pub mod Text
+pub mod Explains
+pub mod Progress

@@ -1,0 +1,102 @@
+//! The bytes that an input spells, piece by piece.
+ghost use Rattle.std.specs.Prelude.{◌≡◌, ◌≤◌, ◌<◌, IfSome, List, ℕ, None, length, option_to_list};
+ghost use Rattle.std.specs.Option.{ForSome};
+ghost use Rattle.ddcmp_explain.specs.Digits.{is_blank as is_blank_byte};
+ghost use Rattle.ddcmp_explain.specs.Digits.{left_in, unexpected_in};
+
+use crate::form::Form;
+use crate::hex_digits::hex_value;
+
+/// Turns an input in either form into bytes, and keeps the digit that is left over.
+#[derive(Drop)]
+pub(crate) struct Decoder {
+    pub(crate) form: Form,
+    pub(crate) high: Option<u8>,
+    ghost digit: { ForSome high (λ v. v < 16) },
+}
+
+/// What came of a piece: how many bytes it made whole, and the index in the piece of its first
+/// byte that is neither a digit nor blank.
+#[derive(Clone, Copy)]
+pub(crate) struct Decoded {
+    pub(crate) count: usize,
+    pub(crate) unexpected: Option<usize>,
+}
+
+impl Decoder {
+    ghost use Rattle.ddcmp_explain.specs.Decoding.{Decodes};
+
+    /// Nothing so far.
+    pub(crate) fn new(form: Form) -> Self
+        ensures form { result.form ≡ form }
+        ensures none { result.high ≡ None }
+    {
+        Decoder { form, high: None }
+    }
+
+    /// Decodes a piece into the front of `bytes`.
+    pub(crate) fn decode(&mut self, piece: &[u8], bytes: &mut [u8]) -> Decoded
+        requires { length piece.now ≤ length bytes.old }
+        ensures form { self.new.form ≡ self.old.form }
+        ensures within { result.count ≤ length piece.now }
+        ensures inside { IfSome result.unexpected (λ i. i < length piece.now) }
+        ensures decodes { (seen : List ℕ) → unexpected_in self.old.form seen ≡ None
+            → left_in self.old.form seen ≡ option_to_list self.old.high
+            → Decodes self.old.form seen piece.now result bytes.new self.new.high }
+    {
+        match self.form {
+            Form::Hex => self.pair(piece, bytes),
+            Form::Raw => {
+                bytes[..piece.len()].copy_from_slice(piece);
+                Decoded {
+                    count: piece.len(),
+                    unexpected: None,
+                }
+            }
+        }
+    }
+
+    /// Makes bytes of digits, two each, up to the first byte that is neither a digit nor blank.
+    fn pair(&mut self, piece: &[u8], bytes: &mut [u8]) -> Decoded
+        requires { length piece.now ≤ length bytes.old }
+        ensures form { self.new.form ≡ self.old.form }
+        ensures within { result.count ≤ length piece.now }
+        ensures inside { IfSome result.unexpected (λ i. i < length piece.now) }
+        ensures decodes { (seen : List ℕ) → unexpected_in Form.Hex seen ≡ None
+            → left_in Form.Hex seen ≡ option_to_list self.old.high
+            → Decodes Form.Hex seen piece.now result bytes.new self.new.high }
+    {
+        let mut count = 0;
+        for (i, byte) in piece.iter().enumerate() {
+            match hex_value(*byte) {
+                Some(digit) => match self.high {
+                    Some(high) => {
+                        bytes[count] = high * 16 + digit;
+                        count += 1;
+                        self.high = None;
+                    }
+                    None => self.high = Some(digit),
+                },
+                None => {
+                    if !is_blank(*byte) {
+                        return Decoded {
+                            count,
+                            unexpected: Some(i),
+                        };
+                    }
+                }
+            }
+        }
+        Decoded {
+            count,
+            unexpected: None,
+        }
+    }
+}
+
+/// Space, tab, CR or LF.
+fn is_blank(byte: u8) -> bool
+    ensures { result ≡ is_blank_byte byte }
+{
+    byte == b' ' || byte == b'\t' || byte == b'\r' || byte == b'\n'
+}

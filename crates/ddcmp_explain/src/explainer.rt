@@ -1,0 +1,125 @@
+//! Explaining an input, piece by piece.
+ghost use Rattle.std.specs.Prelude.{◌≡◌, ◌≢◌, ◌⊎◌, ◌↔◌, ◌+◌, ◌-◌, ◌<◌, ◌≤◌, ◌^◌, ◌++◌, [], false};
+ghost use Rattle.std.specs.Prelude.{Bool, List, ℕ, Option, length, IsTrue};
+ghost use Rattle.std.specs.Io.KnownBytes.{Consumes, IsAtEnd};
+ghost use Rattle.ddcmp_frame.specs.Reader.{StandsFor};
+ghost use Rattle.ddcmp_explain.specs.Explains.{Tells};
+
+use crate::decoder::Decoder;
+use crate::explain_fault::ExplainFault;
+use crate::form::Form;
+use crate::lines::Lines;
+use ddcmp_frame::Reader;
+use ddcmp_io::input::read_within;
+use ddcmp_io::{Got, Sink, Source, Worst};
+
+/// How many bytes of input are read at once.
+const PIECE: usize = 4096;
+
+/// What the input so far says.
+#[derive(Drop)]
+pub(crate) struct Explainer {
+    pub(crate) decoder: Decoder,
+    pub(crate) lines: Lines,
+    pub(crate) seen: u64,
+    ghost within: { lines.frames.offset ≤ seen },
+    ghost fits: { seen < 2 ^ 64 },
+}
+
+impl Explainer {
+    ghost use Rattle.ddcmp_explain.specs.Progress.{Progress, Takes};
+
+    /// Nothing so far, for a reader of none.
+    pub(crate) fn new(frames: Reader, form: Form) -> Self
+        requires { StandsFor frames [] }
+        ensures form { result.decoder.form ≡ form }
+        ensures progress { (start : Option (List ℕ))
+            → Progress frames.max start [] result false start }
+    {
+        Explainer {
+            decoder: Decoder::new(form),
+            lines: Lines::new(frames),
+            seen: 0,
+        }
+    }
+
+    /// Takes a piece of the input, and writes the lines of the items that it completes.
+    fn take<W: Sink>(&mut self, writer: &mut W, piece: &[u8]) -> Result<(), ExplainFault>
+        requires size { length piece.now ≤ PIECE }
+        requires room { self.old.seen + length piece.now < 2 ^ 64 }
+        ensures form { self.new.decoder.form ≡ self.old.decoder.form }
+        ensures seen { self.new.seen ≡ self.old.seen + length piece.now }
+        ensures most { result ≡ Err ExplainFault.Read → self.new.seen ≡ 2 ^ 64 - 1 }
+        ensures write { (result ≡ Err ExplainFault.Write) ↔ IsTrue (W.broken writer.new) }
+        ensures takes { (max : ℕ) (start : Option (List ℕ)) (seen : List ℕ)
+            → Progress max start seen self.old (W.broken writer.old) (W.contents writer.old)
+            → Takes max start (seen ++ piece.now) self.new
+            (W.broken writer.new) (W.contents writer.new) result }
+    {
+        let before = self.seen;
+        let mut bytes = [0; PIECE];
+        let decoded = self.decoder.decode(piece, &mut bytes);
+        self.seen += piece.len() as u64;
+        self.lines.push_all(writer, &bytes[..decoded.count]);
+        match self.lines.flush(writer) {
+            Ok(()) => match decoded.unexpected {
+                None => Ok(()),
+                // A reader that has given the most bytes counts as failed.
+                Some(_) if self.seen == u64::MAX => Err(ExplainFault::Read),
+                Some(index) => Err(ExplainFault::NotHex(before + index as u64)),
+            },
+            Err(_failed) => Err(ExplainFault::Write),
+        }
+    }
+
+    /// Writes the last line of an input that spells whole bytes.
+    fn finish<W: Sink>(&mut self, writer: &mut W) -> Result<(), ExplainFault>
+        requires { W.broken writer.old ≡ false }
+        ensures seen { self.new.seen ≡ self.old.seen }
+        ensures never_read { result ≢ Err ExplainFault.Read }
+        ensures write { (result ≡ Err ExplainFault.Write) ↔ IsTrue (W.broken writer.new) }
+        ensures tells { (max : ℕ) (start : Option (List ℕ)) (seen : List ℕ) (left : Option (List ℕ))
+            → Progress max start seen self.old (W.broken writer.old) (W.contents writer.old)
+            → IsAtEnd left → length seen < 2 ^ 64 - 1
+            → Tells self.old.decoder.form max seen left start (W.contents writer.new) result }
+    {
+        if self.decoder.high.is_some() {
+            return Err(ExplainFault::Odd);
+        }
+        match self.lines.finish(writer) {
+            Ok(()) => Ok(()),
+            Err(_failed) => Err(ExplainFault::Write),
+        }
+    }
+
+    /// Takes the input to its end.
+    pub(crate) fn take_all<R: Source, W: Sink>(
+        &mut self,
+        reader: &mut R,
+        writer: &mut W,
+    ) -> Result<(), ExplainFault>
+        requires fine { R.state reader.old ≡ Worst.Fine }
+        requires whole { W.broken writer.old ≡ false }
+        ensures read { R.state reader.new ≢ Worst.Fine → result ≡ Err ExplainFault.Read }
+        ensures read_only { result ≡ Err ExplainFault.Read
+            → (R.state reader.new ≢ Worst.Fine) ⊎ (self.new.seen ≡ 2 ^ 64 - 1) }
+        ensures write { (result ≡ Err ExplainFault.Write) ↔ IsTrue (W.broken writer.new) }
+        ensures tells { (max : ℕ)
+            → Progress max (W.contents writer.old) [] self.old
+            (W.broken writer.old) (W.contents writer.old)
+            → (seen : List ℕ) × (length seen ≡ self.new.seen)
+            × Consumes (R.left reader.old) (R.left reader.new) seen
+            × Tells self.old.decoder.form max seen (R.left reader.new)
+            (W.contents writer.old) (W.contents writer.new) result }
+    {
+        let mut piece = [0; PIECE];
+        while self.seen < u64::MAX {
+            match read_within(reader, &mut piece, u64::MAX - self.seen) {
+                Got::Bytes(0) => return self.finish(writer),
+                Got::Bytes(n) => self.take(writer, &piece[..n])?,
+                Got::Idle | Got::Failed => return Err(ExplainFault::Read),
+            }
+        }
+        Err(ExplainFault::Read)
+    }
+}

@@ -1,0 +1,16 @@
+//! What the bytes of a line say, written line by line: the command `ddcmp explain` over any source
+//! and sink.
+#![tactic(auto)]
+
+mod decoder;
+pub mod explain_fault;
+mod explainer;
+pub mod explaining;
+pub mod form;
+mod hex_digits;
+mod lines;
+mod text;
+
+pub use explain_fault::ExplainFault;
+pub use explaining::explain;
+pub use form::Form;

@@ -1,0 +1,3 @@
+pub mod WrittenLaws
+pub mod Inputs
+pub mod TextLaws

@@ -1,0 +1,4 @@
+pub mod Device
+pub mod Failing
+pub mod Written
+pub mod Input

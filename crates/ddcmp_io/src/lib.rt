@@ -1,0 +1,12 @@
+//! What a program needs of the world: sources of bytes and sinks for them, text on its way to a
+//! sink, and devices over memory for tests. It knows nothing of the protocol.
+#![tactic(auto)]
+
+pub mod device;
+pub mod failing;
+pub mod input;
+pub mod page;
+pub mod text;
+
+pub use device::{FromRead, Got, Sink, Source, ToWrite, Worst, WriteFailed, write_all};
+pub use page::Page;

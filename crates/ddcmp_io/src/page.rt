@@ -1,0 +1,96 @@
+//! Text on its way to a sink, so that many short writes share a long one.
+ghost use Rattle.std.specs.Prelude.{◌≡◌, ◌+◌, ◌≤◌, ◌++◌, [], length, true, is_err};
+ghost use Rattle.ddcmp_io.specs.Written.{HandsOver, output_of};
+
+use crate::device::{Sink, WriteFailed, write_all};
+use std::marker::Model;
+
+/// The bytes that a page has room for.
+const PAGE: usize = 8192;
+
+/// Text that waits to be written. Contracts see it as the list of its bytes.
+///
+/// After a write that failed it takes text as before and loses it, so that a caller hands over
+/// the parts of a line one after another and asks once, at `flush`, whether all went out.
+#[derive(Drop)]
+pub struct Page {
+    bytes: [u8; PAGE],
+    len: usize,
+}
+
+impl Model for Page {
+    ghost use Rattle.std.specs.Prelude.{List, ℕ, take, ◌≤◌};
+    ghost use Rattle.ddcmp_io.specs.declared.page.TheConstants.{PAGE};
+
+    ghost Value = { List ℕ };
+
+    ghost view = { λ p. take p.len p.bytes };
+
+    ghost invariant = { λ p. p.len ≤ PAGE };
+}
+
+impl Page {
+    /// An empty page.
+    pub fn new() -> Self
+        ensures { result ≡ [] }
+    {
+        Page {
+            bytes: [0; PAGE],
+            len: 0,
+        }
+    }
+
+    /// Hands over a text of any length: it waits, or goes out after what waited.
+    pub fn write<W: Sink>(&mut self, writer: &mut W, text: &[u8])
+        ensures sends { HandsOver (output_of W.broken W.contents writer.old self.old)
+            (output_of W.broken W.contents writer.new self.new) text.now }
+        ensures stays { W.broken writer.old ≡ true → writer.new ≡ writer.old }
+    {
+        if text.len() <= self.room() {
+            return self.append(text);
+        }
+        match self.flush(writer) {
+            Ok(()) => {
+                if text.len() <= PAGE {
+                    self.append(text);
+                } else {
+                    let _ = write_all(writer, text);
+                }
+            }
+            Err(_failed) => {}
+        }
+    }
+
+    /// Writes what waits: whether all that was handed over went out.
+    pub fn flush<W: Sink>(&mut self, writer: &mut W) -> Result<(), WriteFailed>
+        ensures sends { HandsOver (output_of W.broken W.contents writer.old self.old)
+            (output_of W.broken W.contents writer.new self.new) [] }
+        ensures empty { self.new ≡ [] }
+        ensures broken { W.broken writer.new ≡ is_err result }
+        ensures stays { W.broken writer.old ≡ true → writer.new ≡ writer.old }
+    {
+        let len = self.len;
+        self.len = 0;
+        if writer.failed() {
+            return Err(WriteFailed);
+        }
+        write_all(writer, &self.bytes[..len])
+    }
+
+    /// How many bytes more it has room for.
+    fn room(&self) -> usize
+        ensures { length self.now + result ≡ PAGE }
+    {
+        PAGE - self.len
+    }
+
+    /// Appends a text to what waits.
+    fn append(&mut self, text: &[u8])
+        requires { length self.old + length text.now ≤ PAGE }
+        ensures { self.new ≡ self.old ++ text.now }
+    {
+        let end = self.len + text.len();
+        self.bytes[self.len..end].copy_from_slice(text);
+        self.len = end;
+    }
+}

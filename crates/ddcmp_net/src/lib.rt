@@ -1,0 +1,11 @@
+//! All that goes over a network: a carrier over a connection of the program with itself, and the
+//! connection of a station, with the time that it goes by.
+#![tactic(auto)]
+
+mod connection;
+mod role;
+mod sockets;
+
+pub use connection::{Elapsed, open};
+pub use role::Role;
+pub use sockets::Sockets;

@@ -1,0 +1,4 @@
+pub mod Cutting
+pub mod Endings
+pub mod Playing
+pub mod Scenes

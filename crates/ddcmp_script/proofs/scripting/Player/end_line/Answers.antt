@@ -1,0 +1,43 @@
+use Rattle.std.proofs.Common.{ap, sym, subst, ◌∙◌, ◌+◌, Ok, Err}
+use Rattle.ddcmp_io.specs.Written.{output_of}
+use Rattle.ddcmp_script.specs.ScriptWords.{reading_of, without_cr}
+use Rattle.ddcmp_script.specs.ScriptSteps.{scene_of, LineEnds}
+use Rattle.ddcmp_script.specs.ScriptEnds.{around}
+use Rattle.ddcmp_script.specs.ScriptProgress.{HasDone}
+use Rattle.ddcmp_script.proofs.Playing.{take-line, stop-line}
+use Rattle.ddcmp_script.proofs.scripting.Player.end_line.Goals as goal
+
+pub returns-in-Ok-clause-takes : goal.returns-in-Ok-clause-takes
+returns-in-Ok-clause-takes g c = λ input rest p d log start de h.
+    let q = c.args.pair.now in
+    let r = c.do_line.new.pair in
+    let lines = c.args.self.now.stage.lines in
+    let later = c.do_line.new.self.lines in
+    let told = g.C.Carrier.told c.args.carrier.now in
+    let now = g.C.Carrier.told c.do_line.new.carrier in
+    let before = output_of g.W.Sink.broken g.W.Sink.contents c.args.writer.now c.args.self.now.stage.page in
+    let after = output_of g.W.Sink.broken g.W.Sink.contents c.do_line.new.writer c.do_line.new.self.page in
+    let raw = c.args.self.now.line.items in
+    let number = c.args.self.now.number in
+    let line_is = c.without_cr-line.ensures ∙ ap without_cr c.deref.ensures.value in
+    let ends = subst (λ e. LineEnds e told now (reading_of (without_cr raw)) (scene_of q lines) (scene_of r later) before after (Ok tt)) de
+    (subst (λ l. LineEnds (g.C.Carrier.direct c.args.carrier.now) told now (reading_of l) (scene_of q lines) (scene_of r later) before after (Ok tt)) line_is c.in-Ok.ensures.ends) in
+    subst (λ l. HasDone input rest l (number + 1) later start after (around p r d log now)) (sym c.clear.ensures.items) (take-line input rest raw number lines later p q r d log told now start before after h ends)
+
+pub returns-in-Err-clause-takes : goal.returns-in-Err-clause-takes
+returns-in-Err-clause-takes g c = λ input rest p d log start de h.
+    let q = c.args.pair.now in
+    let r = c.do_line.new.pair in
+    let lines = c.args.self.now.stage.lines in
+    let later = c.do_line.new.self.lines in
+    let told = g.C.Carrier.told c.args.carrier.now in
+    let now = g.C.Carrier.told c.do_line.new.carrier in
+    let before = output_of g.W.Sink.broken g.W.Sink.contents c.args.writer.now c.args.self.now.stage.page in
+    let after = output_of g.W.Sink.broken g.W.Sink.contents c.do_line.new.writer c.do_line.new.self.page in
+    let raw = c.args.self.now.line.items in
+    let number = c.args.self.now.number in
+    let line_is = c.without_cr-line.ensures ∙ ap without_cr c.deref.ensures.value in
+    let why = c.in-Err.stop in
+    let ends = subst (λ e. LineEnds e told now (reading_of (without_cr raw)) (scene_of q lines) (scene_of r later) before after (Err why)) de
+    (subst (λ l. LineEnds (g.C.Carrier.direct c.args.carrier.now) told now (reading_of l) (scene_of q lines) (scene_of r later) before after (Err why)) line_is c.in-Err.ensures.ends) in
+    stop-line input rest raw number lines later p q r d log told now start before after h why ends

@@ -1,0 +1,134 @@
+-- How a script ends: which of its lines were done, what was written, and what the pair is after.
+use Rattle.std.specs.Prelude.{◌≡◌, ◌⊎◌, ℕ, ◌+◌, Bool, List, [], ◌∷◌, ◌++◌, length, Option, Result, Ok, Err}
+use Rattle.ddcmp_run.specs.declared.event.End.{End}
+use Rattle.ddcmp_run.specs.Run.{PairState}
+use Rattle.ddcmp_run.specs.Settle.{StoppedAmong}
+use Rattle.ddcmp_script.specs.declared.command.Command.TheVariants as command
+use Rattle.ddcmp_script.specs.declared.command.Reading.{Reading}
+use Rattle.ddcmp_script.specs.declared.command.Reading.TheVariants as reading
+use Rattle.ddcmp_script.specs.declared.script_fault.ScriptFault.{ScriptFault}
+use Rattle.ddcmp_script.specs.declared.script_fault.ScriptFault.TheVariants.{Line, Hex, Read, Write, Memory, Carrier}
+use Rattle.ddcmp_script.specs.ScriptWords.{reading_of, lines_of}
+use Rattle.ddcmp_script.specs.ScriptText.{last_line}
+use Rattle.ddcmp_script.specs.Script.{Scene, Carriage, DoneLine, AllFit, nothing_between, lines_done, after_lines, text_of_lines, carriages_of_lines, events_by, carriages_by}
+use Rattle.ddcmp_script.specs.ScriptSteps.{Carries}
+
+-- a pair that has nothing between its ends
+abbrev pub scene_with : PairState → Scene
+scene_with p = record { pair = p; lines = nothing_between }
+
+-- the scene after some lines that begin with this pair, and the text that they write
+abbrev pub scene_then : PairState → List DoneLine → Scene
+scene_then p done = after_lines done (scene_with p)
+
+abbrev pub text_then : PairState → List DoneLine → List ℕ
+text_then p done = text_of_lines done (scene_with p)
+
+-- what they hand to the carrier
+abbrev pub carriages_then : PairState → List DoneLine → List Carriage
+carriages_then p done = carriages_of_lines done (scene_with p)
+
+-- A pair before and after a call, whether its carrier is direct, and what the carrier had told
+-- before and after.
+pub record Around : Type 0 where
+  pub pair : PairState
+  pub pair_after : PairState
+  pub is_direct : Bool
+  pub told : Option (List Carriage)
+  pub told_after : Option (List Carriage)
+
+abbrev pub around : PairState → PairState → Bool → Option (List Carriage)
+    → Option (List Carriage) → Around
+around p q is_direct told told_after = record {
+  pair = p;
+  pair_after = q;
+  is_direct = is_direct;
+  told = told;
+  told_after = told_after;
+}
+
+-- all that the carrier carried
+abbrev pub Carried : Around → List Carriage → Type 0
+Carried x all = Carries x.is_direct x.told x.told_after all
+
+-- An input begins with these lines, each of them fits, and behind them stand others.
+pub record Begins (done : List DoneLine) (behind : List (List ℕ)) (input : List ℕ) : Type 0 where
+  pub lines : lines_done done ++ behind ≡ lines_of input
+  pub fit : AllFit (lines_done done)
+
+-- These lines were done and nothing else: the pair is as after them, and their text was written.
+pub record Did (done : List DoneLine) (x : Around) (Wrote : List ℕ → Type 0) : Type 0 where
+  pub pair : x.pair_after ≡ (scene_then x.pair done).pair
+  pub carried : Carried x (carriages_then x.pair done)
+  pub written : Wrote (text_then x.pair done)
+
+-- All lines were done, and the last line of the text was written too.
+pub record Finished (input : List ℕ) (x : Around) (Wrote : List ℕ → Type 0) : Type 0 where
+  pub done : List DoneLine
+  pub begins : Begins done [] input
+  pub did : Did done x (λ text. Wrote (text ++ last_line x.pair_after))
+
+-- Some lines were done.
+pub record Paused (input : List ℕ) (x : Around) (Wrote : List ℕ → Type 0) : Type 0 where
+  pub done : List DoneLine
+  pub behind : List (List ℕ)
+  pub begins : Begins done behind input
+  pub did : Did done x Wrote
+
+-- All lines before line n were done, and this is how line n reads.
+pub record StoppedAt (Reads : Reading → Type 0) (n : ℕ) (input : List ℕ) (x : Around)
+    (Wrote : List ℕ → Type 0) : Type 0 where
+  pub done : List DoneLine
+  pub line : List ℕ
+  pub behind : List (List ℕ)
+  pub begins : Begins done (line ∷ behind) input
+  pub number : n ≡ length done + 1
+  pub reads : Reads (reading_of line)
+  pub did : Did done x Wrote
+
+-- Of the events of the next line, where there is one, some happened, each of them whole; and what
+-- the line hands to the carrier was carried, or nothing.
+abbrev pub StoppedBefore : List (List ℕ) → List DoneLine → Around → Type 0
+StoppedBefore [] done x =
+    (x.pair_after ≡ (scene_then x.pair done).pair) × Carried x (carriages_then x.pair done)
+StoppedBefore (line ∷ behind) done x =
+    (came : List ℕ)
+    × StoppedAmong (events_by (reading_of line) came (scene_then x.pair done))
+    (scene_then x.pair done).pair x.pair_after
+    × (Carried x (carriages_then x.pair done)
+    ⊎ Carried x (carriages_then x.pair done
+    ++ carriages_by (reading_of line) came (scene_then x.pair done)))
+
+-- behind the text of the last line comes what has been done
+abbrev pub text_behind : List (List ℕ) → PairState → List ℕ
+text_behind [] p = last_line p
+text_behind (line ∷ behind) p = []
+
+-- Some lines were done, and the next one wasn't, or only in part.
+pub record Broken (input : List ℕ) (x : Around) (Wrote : List ℕ → List (List ℕ) → Type 0)
+    : Type 0 where
+  pub done : List DoneLine
+  pub behind : List (List ℕ)
+  pub begins : Begins done behind input
+  pub stopped : StoppedBefore behind done x
+  pub written : Wrote (text_then x.pair done) behind
+
+-- the line asks the carrier
+abbrev pub AsksCarrier : Reading → Type 0
+AsksCarrier r = (from : End) × (most : Option ℕ) × (r ≡ reading.Asks (command.Carry from most))
+
+-- What each answer to a script says of its whole input: which lines were done and how the next one
+-- reads, what the pair and its carrier are after, and what was written, or a beginning of it.
+abbrev pub Plays : List ℕ → Around → (List ℕ → Type 0) → (List ℕ → Type 0)
+    → Result (Unit {0}) ScriptFault → Type 0
+Plays input x Wrote WrotePart (Ok u) = Finished input x Wrote
+Plays input x Wrote WrotePart (Err (Line n)) =
+    StoppedAt (λ r. r ≡ reading.NoCommand) n input x Wrote
+Plays input x Wrote WrotePart (Err (Hex n)) =
+    StoppedAt (λ r. r ≡ reading.NotHex) n input x Wrote
+Plays input x Wrote WrotePart (Err Read) = Paused input x Wrote
+Plays input x Wrote WrotePart (Err Write) =
+    Broken input x (λ text behind. WrotePart (text ++ text_behind behind x.pair_after))
+Plays input x Wrote WrotePart (Err Memory) = Broken input x (λ text behind. Wrote text)
+Plays input x Wrote WrotePart (Err Carrier) =
+    (n : ℕ) × StoppedAt AsksCarrier n input x Wrote

@@ -1,0 +1,391 @@
+//! A script: lines that say what happens between two ends.
+ghost use Rattle.std.specs.Prelude.{◌≡◌, ◌≢◌, ◌⊎◌, ◌↔◌, ◌+◌, ◌-◌, ◌<◌, ◌≤◌, ◌^◌, ◌∷◌, ◌++◌, [], false, Bool, List, ℕ, Option, Some, Err, IsOk, OnErr, IsTrue, length};
+ghost use Rattle.std.specs.Io.KnownBytes.{Appends, Consumes};
+ghost use Rattle.ddcmp_io.specs.Written.{AppendsPart, HandsOver, Output, output_of};
+ghost use Rattle.ddcmp_run.specs.Run.{PairState};
+ghost use Rattle.ddcmp_run.specs.InOrder.{IsInOrder};
+ghost use Rattle.ddcmp_io.specs.Input.{GaveMost};
+ghost use Rattle.ddcmp_script.specs.ScriptWords.{lines_of, without_cr as without_cr_of};
+ghost use Rattle.ddcmp_script.specs.ScriptText.{yes_or_no as yes_or_no_text, last_line};
+ghost use Rattle.ddcmp_script.specs.Script.{AllFit, Carriage, nothing_between};
+ghost use Rattle.ddcmp_script.specs.ScriptEnds.{Around, around, Plays};
+ghost use Rattle.ddcmp_script.specs.ScriptProgress.{fresh, Ends, HasDone, IsPlaying, Stops, Takes};
+
+use crate::carrier::Carrier;
+use crate::performing::{Stage, Stop};
+use crate::script_fault::ScriptFault;
+use ddcmp_io::input::read_within;
+use ddcmp_io::text::write_number;
+use ddcmp_io::{Got, Page, Sink, Source, Worst};
+use ddcmp_pair::{End, Pair};
+use std::alloc::Global;
+
+/// How many bytes of a script are read at once.
+const PIECE: usize = 4096;
+
+/// What was read of a script so far.
+#[derive(Drop)]
+struct Player {
+    stage: Stage,
+    /// The bytes of the line that was begun.
+    line: Vec<u8>,
+    /// How many lines were done.
+    number: u64,
+    seen: u64,
+}
+
+/// A line without the CR at its end.
+#[tactic(auto, unfolding(crate::specs::ScriptWords::without_cr))]
+fn without_cr(line: &[u8]) -> &[u8]
+    ensures { result.now ≡ without_cr_of line.now }
+{
+    if !line.is_empty() && line[line.len() - 1] == b'\r' {
+        &line[..line.len() - 1]
+    } else {
+        line
+    }
+}
+
+fn yes_or_no(is: bool) -> &'static [u8]
+    ensures { result.now ≡ yes_or_no_text is }
+{
+    if is { b"yes" } else { b"no" }
+}
+
+/// The last line: what has been done since the line was cleared.
+fn write_last_line<W: Sink>(page: &mut Page, writer: &mut W, pair: &Pair)
+    ensures { HandsOver (output_of W.broken W.contents writer.old page.old)
+        (output_of W.broken W.contents writer.new page.new) (last_line pair.now) }
+{
+    page.write(writer, b"honest ");
+    page.write(writer, yes_or_no(pair.honest()));
+    page.write(writer, b" clean ");
+    page.write(writer, yes_or_no(pair.clean()));
+    page.write(writer, b" up A=");
+    write_number(page, writer, pair.handed_up(End::A));
+    page.write(writer, b" B=");
+    write_number(page, writer, pair.handed_up(End::B));
+    page.write(writer, b" acked A=");
+    write_number(page, writer, pair.acknowledged(End::A));
+    page.write(writer, b" B=");
+    write_number(page, writer, pair.acknowledged(End::B));
+    page.write(writer, b"\n");
+}
+
+impl Player {
+    /// Nothing so far.
+    fn new(alloc: Global) -> Self
+        ensures seen { result.seen ≡ 0 }
+        ensures number { result.number ≡ 0 }
+        ensures line { result.line.items ≡ [] }
+        ensures lines { result.stage.lines ≡ nothing_between }
+        ensures page { result.stage.page ≡ [] }
+    {
+        Player {
+            stage: Stage::new(alloc),
+            line: Vec::new(alloc),
+            number: 0,
+            seen: 0,
+        }
+    }
+
+    /// Does the line that was begun, which is whole.
+    fn end_line<W: Sink, C: Carrier>(
+        &mut self,
+        pair: &mut Pair,
+        writer: &mut W,
+        carrier: &mut C,
+    ) -> Result<(), Stop>
+        requires whole { C.broken carrier.old ≡ false }
+        requires few { self.old.number < 2 ^ 64 - 1 }
+        ensures seen { self.new.seen ≡ self.old.seen }
+        ensures number { self.new.number ≤ self.old.number + 1 }
+        ensures refused { OnErr result (self.new.number ≡ self.old.number) }
+        ensures write { result ≡ Err Stop.Write → IsTrue (W.broken writer.new) }
+        ensures one { result ≡ Err Stop.Carrier → (W.broken writer.new ≡ false)
+            × (self.new.stage.page ≡ []) }
+        ensures carrier { (result ≡ Err Stop.Carrier) ↔ IsTrue (C.broken carrier.new) }
+        ensures direct { C.direct carrier.new ≡ C.direct carrier.old }
+        ensures takes { (input rest : List ℕ) (p : PairState) (d : Bool)
+            (log : Option (List Carriage)) (start : Output) → C.direct carrier.old ≡ d
+            → HasDone input (10 ∷ rest) self.old.line.items self.old.number self.old.stage.lines
+            start (output_of W.broken W.contents writer.old self.old.stage.page)
+            (around p pair.old d log (C.told carrier.old))
+            → Takes input rest self.new.line.items self.new.number self.new.stage.lines
+            start (output_of W.broken W.contents writer.new self.new.stage.page)
+            (around p pair.new d log (C.told carrier.new)) result }
+    {
+        let line = without_cr(&self.line);
+        match self.stage.do_line(pair, writer, carrier, line) {
+            Ok(()) => {
+                self.line.clear();
+                self.number += 1;
+                Ok(())
+            }
+            Err(stop) => Err(stop),
+        }
+    }
+
+    /// Takes a byte of the script, and where it is LF does the line that it ends.
+    fn take_byte<W: Sink, C: Carrier>(
+        &mut self,
+        pair: &mut Pair,
+        writer: &mut W,
+        carrier: &mut C,
+        byte: u8,
+    ) -> Result<(), Stop>
+        requires whole { C.broken carrier.old ≡ false }
+        requires few { self.old.number < 2 ^ 64 - 1 }
+        ensures seen { self.new.seen ≡ self.old.seen }
+        ensures number { self.new.number ≤ self.old.number + 1 }
+        ensures refused { OnErr result (self.new.number ≡ self.old.number) }
+        ensures write { result ≡ Err Stop.Write → IsTrue (W.broken writer.new) }
+        ensures one { result ≡ Err Stop.Carrier → (W.broken writer.new ≡ false)
+            × (self.new.stage.page ≡ []) }
+        ensures carrier { (result ≡ Err Stop.Carrier) ↔ IsTrue (C.broken carrier.new) }
+        ensures direct { C.direct carrier.new ≡ C.direct carrier.old }
+        ensures takes { (input rest : List ℕ) (p : PairState) (d : Bool)
+            (log : Option (List Carriage)) (start : Output) → C.direct carrier.old ≡ d
+            → HasDone input (byte ∷ rest) self.old.line.items self.old.number self.old.stage.lines
+            start (output_of W.broken W.contents writer.old self.old.stage.page)
+            (around p pair.old d log (C.told carrier.old))
+            → Takes input rest self.new.line.items self.new.number self.new.stage.lines
+            start (output_of W.broken W.contents writer.new self.new.stage.page)
+            (around p pair.new d log (C.told carrier.new)) result }
+    {
+        if byte == b'\n' {
+            return self.end_line(pair, writer, carrier);
+        }
+        match self.line.push(byte) {
+            Ok(()) => Ok(()),
+            Err(_refused) => Err(Stop::Memory),
+        }
+    }
+
+    /// Takes a piece of the script, and does the lines that it completes.
+    fn take<W: Sink, C: Carrier>(
+        &mut self,
+        pair: &mut Pair,
+        writer: &mut W,
+        carrier: &mut C,
+        piece: &[u8],
+    ) -> Result<(), Stop>
+        requires whole { C.broken carrier.old ≡ false }
+        requires few { self.old.number + length piece.now < 2 ^ 64 }
+        ensures seen { self.new.seen ≡ self.old.seen }
+        ensures number { self.new.number ≤ self.old.number + length piece.now }
+        ensures refused { OnErr result (self.new.number < self.old.number + length piece.now) }
+        ensures write { result ≡ Err Stop.Write → IsTrue (W.broken writer.new) }
+        ensures one { result ≡ Err Stop.Carrier → (W.broken writer.new ≡ false)
+            × (self.new.stage.page ≡ []) }
+        ensures carrier { (result ≡ Err Stop.Carrier) ↔ IsTrue (C.broken carrier.new) }
+        ensures direct { C.direct carrier.new ≡ C.direct carrier.old }
+        ensures takes { (input rest : List ℕ) (p : PairState) (d : Bool)
+            (log : Option (List Carriage)) (start : Output) → C.direct carrier.old ≡ d
+            → HasDone input (piece.now ++ rest) self.old.line.items self.old.number
+            self.old.stage.lines
+            start (output_of W.broken W.contents writer.old self.old.stage.page)
+            (around p pair.old d log (C.told carrier.old))
+            → Takes input rest self.new.line.items self.new.number self.new.stage.lines
+            start (output_of W.broken W.contents writer.new self.new.stage.page)
+            (around p pair.new d log (C.told carrier.new)) result }
+    {
+        for i in 0..piece.len() {
+            match self.take_byte(pair, writer, carrier, piece[i]) {
+                Ok(()) => {}
+                Err(stop) => return Err(stop),
+            }
+        }
+        Ok(())
+    }
+
+    /// Writes what waits, and says which fault it is.
+    fn stop<W: Sink>(&mut self, writer: &mut W, stop: Stop) -> ScriptFault
+        requires few { self.old.number < 2 ^ 64 - 1 }
+        requires write { stop ≡ Stop.Write → IsTrue (W.broken writer.old) }
+        requires one { stop ≡ Stop.Carrier → (W.broken writer.old ≡ false)
+            × (self.old.stage.page ≡ []) }
+        ensures seen { self.new.seen ≡ self.old.seen }
+        ensures read { result ≢ ScriptFault.Read }
+        ensures write { (result ≡ ScriptFault.Write) ↔ IsTrue (W.broken writer.new) }
+        ensures carrier { (result ≡ ScriptFault.Carrier) ↔ (stop ≡ Stop.Carrier) }
+        ensures plays { (input : List ℕ) (x : Around) (sink : Option (List ℕ))
+            → Stops input self.old.number (fresh sink)
+            (output_of W.broken W.contents writer.old self.old.stage.page) x stop
+            → Plays input x (Appends sink (W.contents writer.new))
+            (AppendsPart sink (W.contents writer.new)) (Err result) }
+    {
+        if stop == Stop::Carrier {
+            return ScriptFault::Carrier;
+        }
+        if self.stage.page.flush(writer).is_err() {
+            return ScriptFault::Write;
+        }
+        match stop {
+            Stop::NoCommand => ScriptFault::Line(self.number + 1),
+            Stop::NotHex => ScriptFault::Hex(self.number + 1),
+            Stop::Write => ScriptFault::Write,
+            Stop::Memory => ScriptFault::Memory,
+            Stop::Carrier => ScriptFault::Carrier,
+        }
+    }
+
+    /// Does the last line, where LF doesn't end it.
+    fn end_input<W: Sink, C: Carrier>(
+        &mut self,
+        pair: &mut Pair,
+        writer: &mut W,
+        carrier: &mut C,
+    ) -> Result<(), Stop>
+        requires whole { C.broken carrier.old ≡ false }
+        ensures seen { self.new.seen ≡ self.old.seen }
+        ensures number { self.new.number ≡ self.old.number }
+        ensures write { result ≡ Err Stop.Write → IsTrue (W.broken writer.new) }
+        ensures one { result ≡ Err Stop.Carrier → (W.broken writer.new ≡ false)
+            × (self.new.stage.page ≡ []) }
+        ensures carrier { (result ≡ Err Stop.Carrier) ↔ IsTrue (C.broken carrier.new) }
+        ensures ends { (input : List ℕ) (p : PairState) (d : Bool)
+            (log : Option (List Carriage)) (start : Output) → C.direct carrier.old ≡ d
+            → HasDone input [] self.old.line.items self.old.number self.old.stage.lines
+            start (output_of W.broken W.contents writer.old self.old.stage.page)
+            (around p pair.old d log (C.told carrier.old))
+            → Ends input self.new.number
+            start (output_of W.broken W.contents writer.new self.new.stage.page)
+            (around p pair.new d log (C.told carrier.new)) result }
+    {
+        if self.line.is_empty() {
+            return Ok(());
+        }
+        self.stage.do_line(pair, writer, carrier, &self.line)
+    }
+
+    /// Does what is left of the input, and writes what has been done.
+    fn finish<W: Sink, C: Carrier>(
+        &mut self,
+        pair: &mut Pair,
+        writer: &mut W,
+        carrier: &mut C,
+    ) -> Result<(), ScriptFault>
+        requires whole { C.broken carrier.old ≡ false }
+        requires few { self.old.number < 2 ^ 64 - 1 }
+        ensures seen { self.new.seen ≡ self.old.seen }
+        ensures read { result ≢ Err ScriptFault.Read }
+        ensures write { (result ≡ Err ScriptFault.Write) ↔ IsTrue (W.broken writer.new) }
+        ensures carrier { (result ≡ Err ScriptFault.Carrier) ↔ IsTrue (C.broken carrier.new) }
+        ensures plays { (input : List ℕ) (p : PairState) (d : Bool)
+            (log : Option (List Carriage)) (sink : Option (List ℕ)) → C.direct carrier.old ≡ d
+            → HasDone input [] self.old.line.items self.old.number self.old.stage.lines
+            (fresh sink) (output_of W.broken W.contents writer.old self.old.stage.page)
+            (around p pair.old d log (C.told carrier.old))
+            → Plays input (around p pair.new d log (C.told carrier.new))
+            (Appends sink (W.contents writer.new))
+            (AppendsPart sink (W.contents writer.new)) result }
+    {
+        match self.end_input(pair, writer, carrier) {
+            Ok(()) => {}
+            Err(stop) => return Err(self.stop(writer, stop)),
+        }
+        write_last_line(&mut self.stage.page, writer, pair);
+        match self.stage.page.flush(writer) {
+            Ok(()) => Ok(()),
+            Err(_failed) => Err(ScriptFault::Write),
+        }
+    }
+
+    /// Takes the script to its end.
+    fn take_all<R: Source, W: Sink, C: Carrier>(
+        &mut self,
+        pair: &mut Pair,
+        reader: &mut R,
+        writer: &mut W,
+        carrier: &mut C,
+    ) -> Result<(), ScriptFault>
+        requires fine { R.state reader.old ≡ Worst.Fine }
+        requires whole { C.broken carrier.old ≡ false }
+        requires seen { self.old.seen ≡ 0 }
+        requires number { self.old.number ≡ 0 }
+        ensures consumed { (seen : List ℕ) × (length seen ≡ self.new.seen)
+            × Consumes (R.left reader.old) (R.left reader.new) seen }
+        ensures read { R.state reader.new ≢ Worst.Fine → result ≡ Err ScriptFault.Read }
+        ensures read_only { result ≡ Err ScriptFault.Read
+            → (R.state reader.new ≢ Worst.Fine) ⊎ (self.new.seen ≡ 2 ^ 64 - 1) }
+        ensures read_most { self.new.seen ≡ 2 ^ 64 - 1 → result ≡ Err ScriptFault.Read }
+        ensures write { (result ≡ Err ScriptFault.Write) ↔ IsTrue (W.broken writer.new) }
+        ensures carrier { (result ≡ Err ScriptFault.Carrier) ↔ IsTrue (C.broken carrier.new) }
+        ensures plays { (input : List ℕ) (p : PairState) (d : Bool)
+            (log : Option (List Carriage)) (sink : Option (List ℕ)) → C.direct carrier.old ≡ d
+            → IsPlaying input (R.left reader.old) self.old.line.items self.old.number
+            self.old.stage.lines
+            (fresh sink) (output_of W.broken W.contents writer.old self.old.stage.page)
+            (around p pair.old d log (C.told carrier.old))
+            → Plays input (around p pair.new d log (C.told carrier.new))
+            (Appends sink (W.contents writer.new))
+            (AppendsPart sink (W.contents writer.new)) result }
+    {
+        let mut piece = [0; PIECE];
+        while self.seen < u64::MAX {
+            if self.stage.page.flush(writer).is_err() {
+                return Err(ScriptFault::Write);
+            }
+            let n = match read_within(reader, &mut piece, u64::MAX - self.seen) {
+                Got::Bytes(0) => return self.finish(pair, writer, carrier),
+                Got::Bytes(n) => n,
+                Got::Idle | Got::Failed => return Err(ScriptFault::Read),
+            };
+            self.seen += n as u64;
+            // A reader that has given the most bytes counts as failed.
+            if self.seen == u64::MAX {
+                return Err(ScriptFault::Read);
+            }
+            match self.take(pair, writer, carrier, &piece[..n]) {
+                Ok(()) => {}
+                Err(stop) => return Err(self.stop(writer, stop)),
+            }
+        }
+        unreachable!()
+    }
+}
+
+/// Does what the lines of a script say, and writes what comes of each, and a last line of what has
+/// been done.
+pub fn script<R: Source, W: Sink, C: Carrier>(
+    alloc: Global,
+    pair: &mut Pair,
+    reader: &mut R,
+    writer: &mut W,
+    carrier: &mut C,
+) -> Result<(), ScriptFault>
+    requires fine { R.state reader.old ≡ Worst.Fine }
+    requires whole { W.broken writer.old ≡ false }
+    requires carrier { C.broken carrier.old ≡ false }
+
+    // Where the input is known: which lines were done, what was written, and what the pair is.
+    ensures told { (input : List ℕ) → R.left reader.old ≡ Some input
+        → Plays input (around pair.old pair.new (C.direct carrier.old)
+        (C.told carrier.old) (C.told carrier.new))
+        (Appends (W.contents writer.old) (W.contents writer.new))
+        (AppendsPart (W.contents writer.old) (W.contents writer.new)) result }
+
+    // Ok exactly where every line is a command or skipped, no device failed and memory was had.
+    ensures ok { (input : List ℕ) → R.left reader.old ≡ Some input
+        → IsOk result ↔ (AllFit (lines_of input) × (result ≢ Err ScriptFault.Read)
+        × (result ≢ Err ScriptFault.Write) × (result ≢ Err ScriptFault.Memory)
+        × (result ≢ Err ScriptFault.Carrier)) }
+
+    // Read exactly where the reader isn't fine, or has given 2^64 - 1 bytes.
+    ensures read { R.state reader.new ≢ Worst.Fine → result ≡ Err ScriptFault.Read }
+    ensures read_only { result ≡ Err ScriptFault.Read
+        → (R.state reader.new ≢ Worst.Fine) ⊎ GaveMost (R.left reader.old) (R.left reader.new) }
+    ensures read_most { (input rest : List ℕ)
+        → R.left reader.old ≡ Some input → R.left reader.new ≡ Some rest
+        → length input ≡ length rest + (2 ^ 64 - 1) → result ≡ Err ScriptFault.Read }
+    ensures write { (result ≡ Err ScriptFault.Write) ↔ IsTrue (W.broken writer.new) }
+    ensures carried { (result ≡ Err ScriptFault.Carrier) ↔ IsTrue (C.broken carrier.new) }
+    // Whatever is answered, messages are in order.
+    ensures order { IsInOrder pair.new }
+{
+    let mut player = Player::new(alloc);
+    let done = player.take_all(pair, reader, writer, carrier);
+    pair.is_run();
+    done
+}

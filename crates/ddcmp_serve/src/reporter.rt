@@ -1,0 +1,80 @@
+//! The user of a served station: sends one message, and reports what happens.
+ghost use Rattle.std.specs.Prelude.{◌≡◌, OnOk, is_err};
+ghost use Rattle.ddcmp_io.specs.Written.{HandsOver, output_of};
+ghost use Rattle.ddcmp_serve.specs.Serving.{EndsIn, end_text};
+
+use ddcmp_io::text::{write_hex, write_number};
+use ddcmp_io::{Page, Sink, WriteFailed};
+use ddcmp_station::{Driven, Notice, State, User};
+use ddcmp_station_text::{state_name, write_notice};
+
+/// Sends one message as soon as it is asked for one, and writes a line of each notice and of each
+/// message that comes. A line goes out whole, before anything else happens.
+#[derive(Drop)]
+pub(crate) struct Reporter<'a, P> {
+    report: &'a mut P,
+    page: Page,
+    /// What is still to be sent; nothing where it is empty.
+    send: &'a [u8],
+}
+
+impl<'a, P: Sink> Reporter<'a, P> {
+    pub(crate) fn new(report: &'a mut P, send: &'a [u8]) -> Self {
+        Reporter {
+            report,
+            page: Page::new(),
+            send,
+        }
+    }
+}
+
+impl<P: Sink> User for Reporter<'_, P> {
+    fn message(&mut self, out: &mut [u8]) -> usize {
+        let length = self.send.len().min(out.len());
+        out[..length].copy_from_slice(&self.send[..length]);
+        self.send = &[];
+        length
+    }
+
+    fn notice(&mut self, notice: Notice) {
+        write_notice(&mut self.page, self.report, b"", notice);
+        let _told_at_the_end = self.page.flush(self.report);
+    }
+
+    fn mail(&mut self, message: &[u8]) {
+        self.page.write(self.report, b"mail ");
+        write_hex(&mut self.page, self.report, message);
+        self.page.write(self.report, b"\n");
+        let _told_at_the_end = self.page.flush(self.report);
+    }
+}
+
+/// The parts of the last line of a report.
+fn write_totals<P: Sink>(page: &mut Page, report: &mut P, driven: &Driven, state: State)
+    ensures { HandsOver (output_of P.broken P.contents report.old page.old)
+        (output_of P.broken P.contents report.new page.new) (end_text driven.now state) }
+{
+    page.write(report, b"turns=");
+    write_number(page, report, driven.turns);
+    page.write(report, b" state=");
+    page.write(report, state_name(state));
+    page.write(report, b" read=");
+    write_number(page, report, driven.read);
+    page.write(report, b" written=");
+    write_number(page, report, driven.written);
+    page.write(report, b"\n");
+}
+
+/// Writes the last line of a report: whether it and all before it went out.
+pub(crate) fn write_end<P: Sink>(
+    report: &mut P,
+    driven: &Driven,
+    state: State,
+) -> Result<(), WriteFailed>
+    ensures broken { P.broken report.new ≡ is_err result }
+    ensures ends { OnOk result (EndsIn (P.contents report.new) (end_text driven.now state)) }
+{
+    let mut page = Page::new();
+    write_totals(&mut page, report, driven, state);
+    page.flush(report)
+}
