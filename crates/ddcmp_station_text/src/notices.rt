@@ -5,7 +5,7 @@ ghost use Rattle.ddcmp_station_text.specs.StationText.{notice_word, notice_numbe
 
 use ddcmp_io::text::write_number;
 use ddcmp_io::{Page, Sink};
-use ddcmp_station::Notice;
+use ddcmp_proto::Notice;
 
 fn notice_name(notice: Notice) -> &'static [u8]
     ensures { result.now ≡ notice_word notice }

@@ -2,7 +2,7 @@
 ghost use Rattle.std.specs.Prelude.{◌≡◌};
 ghost use Rattle.ddcmp_station_text.specs.StationText.{state_text};
 
-use ddcmp_station::State;
+use ddcmp_proto::State;
 
 /// The name of a state.
 pub fn state_name(state: State) -> &'static [u8]
