@@ -1,7 +1,7 @@
 -- What the program calls the faults of a script.
 use Rattle.std.proofs.Common.{◌≡◌, ◌∙◌, sym, ap, subst, ℕ, Bool, List, Option, None, Result, Err, refl}
 use Rattle.ddcmp_run.specs.Run.{PairState}
-use Rattle.ddcmp_script.specs.Script.{Carriage}
+use Rattle.ddcmp_carrier.specs.Carriages.{Carriage}
 use Rattle.ddcmp_script.specs.ScriptEnds.{around, Plays}
 use Rattle.ddcmp_script.specs.declared.script_fault.ScriptFault.{ScriptFault}
 use Rattle.ddcmp_script.specs.declared.script_fault.ScriptFault.TheVariants as scripting

@@ -1,3 +1,4 @@
+pub use Rattle.ddcmp_carrier.specs.Carriages
 pub use Rattle.ddcmp_io.specs.Input
 pub use Rattle.ddcmp_net.specs.Connection
 pub use Rattle.ddcmp_script.specs.Script

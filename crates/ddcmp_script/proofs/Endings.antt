@@ -14,7 +14,8 @@ use Rattle.ddcmp_script.specs.declared.script_fault.ScriptFault.{ScriptFault}
 use Rattle.ddcmp_script.specs.declared.script_fault.ScriptFault.TheVariants.{Line, Hex, Read, Write, Memory, Carrier}
 use Rattle.ddcmp_script.specs.ScriptWords.{lines_of}
 use Rattle.ddcmp_script.specs.ScriptText.{last_line}
-use Rattle.ddcmp_script.specs.Script.{Between, Carriage, AllFit, nothing_between, after_lines, text_of_lines, carriages_of_lines, Fits, lines_done}
+use Rattle.ddcmp_carrier.specs.Carriages.{Carriage}
+use Rattle.ddcmp_script.specs.Script.{Between, AllFit, nothing_between, after_lines, text_of_lines, carriages_of_lines, Fits, lines_done}
 use Rattle.ddcmp_script.specs.ScriptEnds.{text_then, Around, around, StoppedAt, Broken, text_behind, Plays}
 use Rattle.ddcmp_script.specs.ScriptProgress.{fresh, HasDone, HasDoneAll, Stops}
 use Rattle.ddcmp_io.proofs.TextLaws.{sends-nothing}

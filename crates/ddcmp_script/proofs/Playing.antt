@@ -12,7 +12,8 @@ use Rattle.ddcmp_run.proofs.Runs.{stopped-none}
 use Rattle.ddcmp_script.specs.declared.performing.Stop.{Stop}
 use Rattle.ddcmp_script.specs.declared.performing.Stop.TheVariants.{NoCommand, NotHex, Write, Memory, Carrier}
 use Rattle.ddcmp_script.specs.ScriptWords.{reading_of, without_cr, lines_between, between_lf, lines_of}
-use Rattle.ddcmp_script.specs.Script.{Between, Scene, Carriage, AreDirect, DoneLine, after_line, text_of, carriages_by, events_by, after_lines, text_of_lines, carriages_of_lines, Fits, AllFit, lines_done}
+use Rattle.ddcmp_carrier.specs.Carriages.{Carriage}
+use Rattle.ddcmp_script.specs.Script.{Between, Scene, AreDirect, DoneLine, after_line, text_of, carriages_by, events_by, after_lines, text_of_lines, carriages_of_lines, Fits, AllFit, lines_done}
 use Rattle.ddcmp_script.specs.ScriptSteps.{scene_of, Carries, LineEnds}
 use Rattle.ddcmp_script.specs.ScriptEnds.{scene_with, scene_then, text_then, carriages_then, Around, around, Begins, Did, StoppedBefore}
 use Rattle.ddcmp_script.specs.ScriptProgress.{HasNoLf, HasDone, HasDoneAll, Stops, Ends}

@@ -19,7 +19,8 @@ use Rattle.ddcmp_script.specs.declared.performing.Stop.TheVariants.{Memory}
 use Rattle.ddcmp_run.specs.Run.{PairState, at, end_of, line_bytes, wrote, reply_to, after_event, run}
 use Rattle.ddcmp_run.specs.Settle.{other, StoppedAmong, WantsMemory}
 use Rattle.ddcmp_script.specs.ScriptText.{name_of, name_before, reply_text, bytes_line, counted_line, station_line}
-use Rattle.ddcmp_script.specs.Script.{Between, Scene, Outcome, Carriage, AreDirect, HasCarried, frames_of, with_frames, taken_off, part_of, frames_after, lines_after, outcome_of_event, outcome_of_carry, outcome_of_lose, outcome_of_damage, outcome_of_settle, outcome_of_recover, outcome_of, arrival_text, after_outcome, carriages_from, carriages_of}
+use Rattle.ddcmp_carrier.specs.Carriages.{Carriage, HasCarried}
+use Rattle.ddcmp_script.specs.Script.{Between, Scene, Outcome, AreDirect, frames_of, with_frames, taken_off, part_of, frames_after, lines_after, outcome_of_event, outcome_of_carry, outcome_of_lose, outcome_of_damage, outcome_of_settle, outcome_of_recover, outcome_of, arrival_text, after_outcome, carriages_from, carriages_of}
 use Rattle.ddcmp_script.specs.ScriptSteps.{scene_of, Comes, Carries, stopped_of, LineEnds}
 use Rattle.ddcmp_run.proofs.Runs.{run-one, run-none, stopped-none, wanted-stopped}
 use Rattle.ddcmp_io.proofs.TextLaws.{sends-as, sends-nothing}

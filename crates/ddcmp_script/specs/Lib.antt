@@ -4,4 +4,5 @@ pub mod ScriptEnds
 pub mod ScriptProgress
 pub mod ScriptText
 pub mod ScriptWords
+pub use Rattle.ddcmp_carrier.specs.Carriages
 pub use Rattle.ddcmp_station_text.specs.StationText

@@ -1,6 +1,6 @@
 -- Scripts: what their lines do to two ends and to the frames between them.
 use Rattle.std.specs.Prelude.{◌≡◌, ◌≢◌, ℕ, Bool, true, false, if◌then◌else◌, nat_lt, ◌==◌, List, [], ◌∷◌, ◌++◌, length, take, drop, map, slice_set, slice_index_or, bit_xor, codes, Option, Some, None, ⊤}
-use Rattle.ddcmp_io.specs.Device.{Logs}
+use Rattle.ddcmp_carrier.specs.Carriages.{Carriage}
 use Rattle.ddcmp_run.specs.declared.event.End.{End}
 use Rattle.ddcmp_run.specs.declared.event.End.TheVariants.{A, B}
 use Rattle.ddcmp_run.specs.declared.event.Event.{Event}
@@ -170,12 +170,6 @@ outcome_of (State e) came s =
 
 -- ---- the carrier
 
--- What was handed to a carrier at an end, and what it gave at the other.
-pub record Carriage : Type 0 where
-  pub from : End
-  pub bytes : List ℕ
-  pub came : List ℕ
-
 abbrev pub carriages_from : End → Option ℕ → List ℕ → List (List ℕ) → List Carriage
 carriages_from from most came [] = []
 carriages_from from most came (front ∷ later) =
@@ -185,12 +179,6 @@ carriages_from from most came (front ∷ later) =
 unfoldable pub carriages_of : Command → List ℕ → Scene → List Carriage
 carriages_of (Carry from most) came s = carriages_from from most came (frames_of from s.lines)
 carriages_of _ came s = []
-
--- One more carriage: a carrier that tells them tells it too, and one that is direct gave what it
--- was handed.
-pub record HasCarried (is_direct : Bool) (old new : Option (List Carriage)) (c : Carriage) : Type 0 where
-  pub told : Logs old new (c ∷ [])
-  pub direct : is_direct ≡ true → c.came ≡ c.bytes
 
 -- each came out as it went in
 unfoldable pub AreDirect : List Carriage → Type 0

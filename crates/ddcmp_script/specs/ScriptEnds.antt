@@ -10,7 +10,8 @@ use Rattle.ddcmp_script.specs.declared.script_fault.ScriptFault.{ScriptFault}
 use Rattle.ddcmp_script.specs.declared.script_fault.ScriptFault.TheVariants.{Line, Hex, Read, Write, Memory, Carrier}
 use Rattle.ddcmp_script.specs.ScriptWords.{reading_of, lines_of}
 use Rattle.ddcmp_script.specs.ScriptText.{last_line}
-use Rattle.ddcmp_script.specs.Script.{Scene, Carriage, DoneLine, AllFit, nothing_between, lines_done, after_lines, text_of_lines, carriages_of_lines, events_by, carriages_by}
+use Rattle.ddcmp_carrier.specs.Carriages.{Carriage}
+use Rattle.ddcmp_script.specs.Script.{Scene, DoneLine, AllFit, nothing_between, lines_done, after_lines, text_of_lines, carriages_of_lines, events_by, carriages_by}
 use Rattle.ddcmp_script.specs.ScriptSteps.{Carries}
 
 -- a pair that has nothing between its ends

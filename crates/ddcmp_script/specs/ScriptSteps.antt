@@ -10,7 +10,8 @@ use Rattle.ddcmp_script.specs.declared.performing.Stop.{Stop}
 use Rattle.ddcmp_script.specs.declared.performing.Stop.TheVariants.{NoCommand, NotHex, Write, Memory, Carrier}
 use Rattle.ddcmp_run.specs.Run.{PairState}
 use Rattle.ddcmp_run.specs.Settle.{StoppedAmong}
-use Rattle.ddcmp_script.specs.Script.{events_by, Between, Scene, Outcome, Carriage, AreDirect, after_outcome, scene_after, text_of, carriages_by}
+use Rattle.ddcmp_carrier.specs.Carriages.{Carriage}
+use Rattle.ddcmp_script.specs.Script.{events_by, Between, Scene, Outcome, AreDirect, after_outcome, scene_after, text_of, carriages_by}
 
 abbrev pub scene_of : PairState → Between → Scene
 scene_of p lines = record { pair = p; lines = lines }

@@ -7,13 +7,14 @@ ghost use Rattle.ddcmp_run.specs.InOrder.{IsInOrder};
 ghost use Rattle.ddcmp_io.specs.Input.{GaveMost};
 ghost use Rattle.ddcmp_script.specs.ScriptWords.{lines_of, without_cr as without_cr_of};
 ghost use Rattle.ddcmp_script.specs.ScriptText.{yes_or_no as yes_or_no_text, last_line};
-ghost use Rattle.ddcmp_script.specs.Script.{AllFit, Carriage, nothing_between};
+ghost use Rattle.ddcmp_carrier.specs.Carriages.{Carriage};
+ghost use Rattle.ddcmp_script.specs.Script.{AllFit, nothing_between};
 ghost use Rattle.ddcmp_script.specs.ScriptEnds.{Around, around, Plays};
 ghost use Rattle.ddcmp_script.specs.ScriptProgress.{fresh, Ends, HasDone, IsPlaying, Stops, Takes};
 
-use crate::carrier::Carrier;
 use crate::performing::{Stage, Stop};
 use crate::script_fault::ScriptFault;
+use ddcmp_carrier::Carrier;
 use ddcmp_io::input::read_within;
 use ddcmp_io::text::write_number;
 use ddcmp_io::{Got, Page, Sink, Source, Worst};

@@ -5,7 +5,8 @@ use Rattle.ddcmp_io.proofs.WrittenLaws.{sends-then}
 use Rattle.ddcmp_run.specs.declared.event.Event.TheVariants as event
 use Rattle.ddcmp_run.specs.Run.{after_event}
 use Rattle.std.specs.Prelude.{codes}
-use Rattle.ddcmp_script.specs.Script.{Between, frames_of, with_frames, taken_off, HasCarried, arrival_text}
+use Rattle.ddcmp_carrier.specs.Carriages.{HasCarried}
+use Rattle.ddcmp_script.specs.Script.{Between, frames_of, with_frames, taken_off, arrival_text}
 use Rattle.ddcmp_script.proofs.Scenes.{carry-empty, carry-refused, carry-well, carry-lost, front-none, no-frames, outputs-same}
 use Rattle.ddcmp_io.proofs.TextLaws.{sends-as, sends-nothing}
 use Rattle.ddcmp_script.proofs.performing.Stage.carry.Goals as goal

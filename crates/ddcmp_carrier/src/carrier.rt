@@ -1,14 +1,14 @@
 //! What carries the bytes of frames from one end to the other.
 ghost use Rattle.std.specs.Prelude.{◌≡◌, ◌∷◌, [], length, take, true, false, None, Some, is_err, IfOk, OnErr, Bool, List, ℕ, Option};
 
-use ddcmp_pair::End;
+use ddcmp_run::End;
 use ddcmp_station::LineFault;
 
 /// What carries bytes from one end of a line to the other.
 pub trait Carrier {
     ghost use Rattle.std.specs.Prelude.{◌≤◌};
     ghost use Rattle.ddcmp_io.specs.Device.{Logs};
-    ghost use Rattle.ddcmp_script.specs.Script.{Carriage, HasCarried};
+    ghost use Rattle.ddcmp_carrier.specs.Carriages.{Carriage, HasCarried};
 
     // What it was handed and what it gave, carry by carry, where this is known.
     ghost told: { Self → Option (List Carriage) } = { λ _. None };
