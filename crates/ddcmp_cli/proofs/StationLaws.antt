@@ -4,7 +4,7 @@ use Rattle.std.specs.Result.{result_ok}
 use Rattle.hex.specs.Hex.{decode_of}
 use Rattle.hex.specs.declared.error.FromHexError.{FromHexError}
 use Rattle.ddcmp_cli.specs.declared.ending.Ending.{Ending}
-use Rattle.ddcmp_cli.specs.declared.served.Served.{Served}
+use Rattle.ddcmp_words.specs.declared.served.Served.{Served}
 use Rattle.ddcmp_cli.specs.Endings.{Connects, SendsDecoded, Stations}
 
 decoded : (served : Served) (d : Result (List ℕ) FromHexError) (message : List ℕ) (old new : Option (List ℕ)) (ending : Ending)

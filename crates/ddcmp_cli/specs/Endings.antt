@@ -15,16 +15,16 @@ use Rattle.ddcmp_cli.specs.declared.ending.Ending.{Ending}
 use Rattle.ddcmp_cli.specs.declared.ending.Ending.TheVariants.{Done, Usage as Misused, NotText, Fault as Faulted}
 use Rattle.ddcmp_explain.specs.declared.form.Form.{Form}
 use Rattle.clap.specs.Words.{Text}
-use Rattle.ddcmp_cli.specs.declared.command.Command.{Command}
-use Rattle.ddcmp_cli.specs.declared.command.Command.TheVariants.{Explain, Simulate, Pair, Station}
-use Rattle.ddcmp_cli.specs.declared.served.Served.{Served}
+use Rattle.ddcmp_words.specs.declared.command.Command.{Command}
+use Rattle.ddcmp_words.specs.declared.command.Command.TheVariants.{Explain, Simulate, Pair, Station}
+use Rattle.ddcmp_words.specs.declared.served.Served.{Served}
 use Rattle.ddcmp_serve.specs.declared.serve_fault.ServeFault.{ServeFault}
 use Rattle.ddcmp_serve.specs.declared.serve_fault.ServeFault.TheVariants as serving
 use Rattle.ddcmp_station.specs.declared.driving.LineFault.TheVariants as line
-use Rattle.ddcmp_cli.specs.declared.declined.Declined.{Declined}
-use Rattle.ddcmp_cli.specs.declared.declined.Declined.TheVariants.{Help, Version, Usage, Memory}
+use Rattle.ddcmp_words.specs.declared.declined.Declined.{Declined}
+use Rattle.ddcmp_words.specs.declared.declined.Declined.TheVariants.{Help, Version, Usage, Memory}
 use Rattle.ddcmp_io.specs.Written.{AppendsPart, Known}
-use Rattle.ddcmp_cli.specs.Words.{HasOptions, HasStation, Reads, option_in, text_in}
+use Rattle.ddcmp_words.specs.Words.{HasOptions, HasStation, Reads, option_in, text_in}
 use Rattle.ddcmp_core.specs.Limits.{MAX_COUNT}
 use Rattle.ddcmp_explain.specs.Explains.{Explains}
 use Rattle.ddcmp_serve.specs.Serving.{Serves}

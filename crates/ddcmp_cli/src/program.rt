@@ -1,22 +1,20 @@
 //! The program: words in, a command run, and how it ended.
-ghost use Rattle.std.specs.Prelude.{IfErr, OnErr, IsOk, ◌≡◌, ◌≢◌, ◌↔◌, ◌∷◌, [], false, IsTrue, IfOk};
-ghost use Rattle.std.specs.Prelude.{List, ℕ, Some, None, codes, map, string_bytes};
+ghost use Rattle.std.specs.Prelude.{IfErr, OnErr, IsOk, ◌≡◌, ◌≢◌, ◌↔◌, false, IsTrue, IfOk};
+ghost use Rattle.std.specs.Prelude.{List, ℕ, Some, codes, map, string_bytes};
 ghost use Rattle.std.specs.IoError.{error_kind};
-ghost use Rattle.clap.specs.Words.{fault_of, takes};
-ghost use Rattle.ddcmp_cli.specs.Words.{IsOutOfOrder, IsAsked, Asks, name_of, option_in, text_in, program};
-ghost use Rattle.ddcmp_cli.specs.declared.served.Served.{Served as ServedValue};
+ghost use Rattle.ddcmp_words.specs.Words.{IsOutOfOrder, IsAsked, Asks, name_of};
+ghost use Rattle.ddcmp_words.specs.declared.served.Served.{Served as ServedValue};
 ghost use Rattle.ddcmp_cli.specs.Endings.{CanRun, Ends, ExplainsOrNoMemory, Performs, Shows};
 ghost use Rattle.ddcmp_cli.specs.Endings.{is_refusal, Stations, StationsOrNoMemory};
 
-use crate::command::{Command, read_words};
-use crate::declined::Declined;
 use crate::ending::Ending;
 use crate::fault::Fault;
 use crate::simulating::{pair, simulate};
 use crate::stationing::station;
-use clap::error::ErrorKind as WordsFault;
 use ddcmp_explain::explain;
 use ddcmp_io::{Sink, Source, Worst, write_all};
+use ddcmp_words::{Command, Declined, read_words};
+pub use ddcmp_words::{explain_is_asked, pair_is_asked, simulate_is_asked, station_is_asked};
 use std::alloc::{AllocError, Global};
 use std::io::ErrorKind;
 use std::net::{Net, TcpStream};
@@ -103,67 +101,6 @@ pub fn run<S: Net<Stream = TcpStream> + time::Clock, R: Source, W: Sink>(
         Err(Declined::Memory) => Ending::Fault(Fault::Memory),
     }
 }
-
-/// The words `ddcmp explain` ask for the command that explains, without its options; `--raw` and
-/// `--max 1500` are read. `ddcmp --help` asks for help, and `ddcmp --version` for the version.
-pub fn explain_is_asked()
-    ensures plain { IsAsked (codes "ddcmp" ∷ codes "explain" ∷ []) (codes "explain") }
-    ensures not_raw { option_in (codes "ddcmp" ∷ codes "explain" ∷ []) (codes "raw")
-        ≡ Some (codes "false") }
-    ensures no_maximum { option_in (codes "ddcmp" ∷ codes "explain" ∷ []) (codes "max") ≡ None }
-    ensures raw { option_in (codes "ddcmp" ∷ codes "explain" ∷ codes "--raw" ∷ []) (codes "raw")
-        ≡ Some (codes "true") }
-    ensures maximum { option_in
-        (codes "ddcmp" ∷ codes "explain" ∷ codes "--max" ∷ codes "1500" ∷ []) (codes "max")
-        ≡ Some (codes "1500") }
-    ensures help { fault_of program (codes "ddcmp" ∷ codes "--help" ∷ [])
-        ≡ WordsFault.DisplayHelp ∷ [] }
-    ensures version { fault_of program (codes "ddcmp" ∷ codes "--version" ∷ [])
-        ≡ WordsFault.DisplayVersion ∷ [] }
-{}
-
-/// The words `ddcmp simulate` ask for the command that runs a script, without its options;
-/// `--window 255`, `--syn=16` and `--restart` are read.
-pub fn simulate_is_asked()
-    ensures plain { IsAsked (codes "ddcmp" ∷ codes "simulate" ∷ []) (codes "simulate") }
-    ensures no_window { option_in (codes "ddcmp" ∷ codes "simulate" ∷ []) (codes "window") ≡ None }
-    ensures no_restart { option_in (codes "ddcmp" ∷ codes "simulate" ∷ []) (codes "restart")
-        ≡ Some (codes "false") }
-    ensures window { option_in (codes "ddcmp" ∷ codes "simulate" ∷ codes "--window" ∷ codes "255"
-        ∷ []) (codes "window") ≡ Some (codes "255") }
-    ensures syn { option_in (codes "ddcmp" ∷ codes "simulate" ∷ codes "--syn=16" ∷ [])
-        (codes "syn") ≡ Some (codes "16") }
-    ensures restart { option_in (codes "ddcmp" ∷ codes "simulate" ∷ codes "--restart" ∷ [])
-        (codes "restart") ≡ Some (codes "true") }
-{}
-
-/// The words `ddcmp pair` ask for the command that runs a script over a connection, with the
-/// options of `ddcmp simulate`.
-pub fn pair_is_asked()
-    ensures plain { IsAsked (codes "ddcmp" ∷ codes "pair" ∷ []) (codes "pair") }
-    ensures no_window { option_in (codes "ddcmp" ∷ codes "pair" ∷ []) (codes "window") ≡ None }
-    ensures inbox { option_in (codes "ddcmp" ∷ codes "pair" ∷ codes "--inbox" ∷ codes "1" ∷ [])
-        (codes "inbox") ≡ Some (codes "1") }
-    ensures syn { option_in (codes "ddcmp" ∷ codes "pair" ∷ codes "--syn=16" ∷ [])
-        (codes "syn") ≡ Some (codes "16") }
-    ensures restart { option_in (codes "ddcmp" ∷ codes "pair" ∷ codes "--restart" ∷ [])
-        (codes "restart") ≡ Some (codes "true") }
-{}
-
-/// The words `ddcmp station` with the four options that can't be left out ask for the command that
-/// drives a station; the message to send is read as it was written.
-pub fn station_is_asked()
-    ensures plain { IsAsked (codes "ddcmp" ∷ codes "station" ∷ codes "--role" ∷ codes "listen"
-        ∷ codes "--addr=127.0.0.1:7000" ∷ codes "--turns" ∷ codes "0" ∷ codes "--timer-ms"
-        ∷ codes "4294967295" ∷ []) (codes "station") }
-    ensures role { text_in (codes "ddcmp" ∷ codes "station" ∷ codes "--role" ∷ codes "listen" ∷ [])
-        (codes "role") ≡ Some (codes "listen") }
-    ensures turns { option_in (codes "ddcmp" ∷ codes "station" ∷ codes "--turns=20" ∷ [])
-        (codes "turns") ≡ Some (codes "20") }
-    ensures send { text_in (codes "ddcmp" ∷ codes "station" ∷ codes "--send" ∷ codes "0Aff" ∷ [])
-        (codes "send") ≡ Some (codes "0Aff") }
-    ensures incomplete { takes program (codes "ddcmp" ∷ codes "station" ∷ []) ≡ false }
-{}
 
 fn texts(alloc: Global, args: &[String]) -> Result<Vec<&str>, AllocError>
     ensures { IfOk result (λ all. map (λ word. word.now) all.items ≡ map string_bytes args.now) }

@@ -6,10 +6,10 @@ ghost use Rattle.ddcmp_cli.specs.Endings.{is_refusal, Stations};
 
 use crate::ending::Ending;
 use crate::fault::Fault;
-use crate::served::Served;
 use ddcmp_io::{FromRead, Sink, ToWrite};
 use ddcmp_net::{Elapsed, open};
 use ddcmp_serve::{SERVED_MAX, serve};
+use ddcmp_words::Served;
 use std::alloc::Global;
 use std::net::{Net, TcpStream};
 use std::time;

@@ -1,7 +1,7 @@
 use Rattle.std.proofs.Common.{◌≡◌, ◌∙◌, ap, subst, List, ℕ, map, string_bytes, codes, Err, refl}
 use Rattle.std.proofs.KnownBytes.{Keeps-refl}
-use Rattle.ddcmp_cli.specs.declared.declined.Declined.TheVariants.{Memory}
-use Rattle.ddcmp_cli.specs.Words.{IsAsked}
+use Rattle.ddcmp_words.specs.declared.declined.Declined.TheVariants.{Memory}
+use Rattle.ddcmp_words.specs.Words.{IsAsked}
 use Rattle.ddcmp_cli.specs.Endings.{Ends, ExplainsOrNoMemory, StationsOrNoMemory}
 use Rattle.ddcmp_cli.proofs.program.run_args.Goals as goal
 

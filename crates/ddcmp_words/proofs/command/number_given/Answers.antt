@@ -1,7 +1,7 @@
 use Rattle.std.proofs.Common.{Some, None}
 use Rattle.std.specs.Str.Parse.{ParsesUnsigned, ExplainsUnsignedError, HasUnsignedDigitsIfOk}
-use Rattle.ddcmp_cli.proofs.NumberLaws.{number_read, in_range, out_of_range, left_out}
-use Rattle.ddcmp_cli.proofs.command.number_given.Goals as goal
+use Rattle.ddcmp_words.proofs.NumberLaws.{number_read, in_range, out_of_range, left_out}
+use Rattle.ddcmp_words.proofs.command.number_given.Goals as goal
 
 pub returns-then-is_within : goal.returns-then-is_within
 returns-then-is_within c =

@@ -1,7 +1,7 @@
 use Rattle.clap.specs.Words.{first_value, found_of, one_text, subcommand_rows_of}
-use Rattle.ddcmp_cli.proofs.CommandLaws.{met, met_text, option_met, text_met, has_options_as}
-use Rattle.ddcmp_cli.specs.declared.command.Command.TheVariants.{Simulate, Pair, Station}
-use Rattle.ddcmp_cli.proofs.command.asked.Goals as goal
+use Rattle.ddcmp_words.proofs.CommandLaws.{met, met_text, option_met, text_met, has_options_as}
+use Rattle.ddcmp_words.specs.declared.command.Command.TheVariants.{Simulate, Pair, Station}
+use Rattle.ddcmp_words.proofs.command.asked.Goals as goal
 
 pub returns-in-Some-clause-options : goal.returns-in-Some-clause-options
 returns-in-Some-clause-options c =

@@ -1,8 +1,8 @@
 use Rattle.std.proofs.Common.{rules, ◌≡◌, ◌∙◌, ap₂, codes}
 use Rattle.std.proofs.lemmas.Result.{IfOk-weaker}
 use Rattle.clap.specs.Words.{app_of, new_app, with_rule}
-use Rattle.ddcmp_cli.specs.Words.{flag_rule}
-use Rattle.ddcmp_cli.proofs.command.explain_parser.Goals as goal
+use Rattle.ddcmp_words.specs.Words.{flag_rule}
+use Rattle.ddcmp_words.proofs.command.explain_parser.Goals as goal
 
 pub returns-clause-app : goal.returns-clause-app
 returns-clause-app c =

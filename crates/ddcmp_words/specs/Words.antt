@@ -4,13 +4,13 @@ use Rattle.std.specs.Option.{option_map, option_and_then}
 use Rattle.std.specs.Str.{bytes_eq}
 use Rattle.ddcmp_explain.specs.declared.form.Form.{Form}
 use Rattle.ddcmp_explain.specs.declared.form.Form.TheVariants.{Hex, Raw}
-use Rattle.ddcmp_cli.specs.declared.command.Command.{Command}
-use Rattle.ddcmp_cli.specs.declared.command.Command.TheVariants.{Explain, Simulate, Pair, Station}
+use Rattle.ddcmp_words.specs.declared.command.Command.{Command}
+use Rattle.ddcmp_words.specs.declared.command.Command.TheVariants.{Explain, Simulate, Pair, Station}
 use Rattle.ddcmp_net.specs.declared.role.Role.{Role}
 use Rattle.ddcmp_net.specs.declared.role.Role.TheVariants.{Connect, Listen}
-use Rattle.ddcmp_cli.specs.declared.served.Served.{Served}
-use Rattle.ddcmp_cli.specs.declared.declined.Declined.{Declined}
-use Rattle.ddcmp_cli.specs.declared.declined.Declined.TheVariants.{Help, Version, Usage, Memory}
+use Rattle.ddcmp_words.specs.declared.served.Served.{Served}
+use Rattle.ddcmp_words.specs.declared.declined.Declined.{Declined}
+use Rattle.ddcmp_words.specs.declared.declined.Declined.TheVariants.{Help, Version, Usage, Memory}
 use Rattle.clap.specs.declared.error.kind.ErrorKind.{ErrorKind}
 use Rattle.clap.specs.declared.error.kind.ErrorKind.TheVariants.{DisplayHelp, DisplayVersion, OutOfMemory}
 use Rattle.ddcmp_core.specs.Limits.{MAX_COUNT, MAX_WINDOW}

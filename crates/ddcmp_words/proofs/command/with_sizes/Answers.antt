@@ -6,8 +6,8 @@ use Rattle.clap.specs.declared.builder.command.Command.{Command}
 use Rattle.clap.specs.declared.builder.arg.Arg.{Arg}
 use Rattle.ddcmp_core.specs.Limits.{MAX_COUNT, MAX_WINDOW}
 use Rattle.ddcmp_proto.specs.declared.config.TheConstants.{MAX_INBOX, MAX_SYN}
-use Rattle.ddcmp_cli.specs.Words.{number_rule}
-use Rattle.ddcmp_cli.proofs.command.with_sizes.Goals as goal
+use Rattle.ddcmp_words.specs.Words.{number_rule}
+use Rattle.ddcmp_words.proofs.command.with_sizes.Goals as goal
 
 pub returns-clause-app : goal.returns-clause-app
 returns-clause-app c =

@@ -4,8 +4,8 @@ use Rattle.clap.specs.Words.{AddsArg, App, Rule, app_of, rule_of, with_rule}
 use Rattle.clap.specs.declared.builder.command.Command.TheViews.{out-Command as fields_of}
 use Rattle.clap.specs.declared.builder.command.Command.{Command}
 use Rattle.clap.specs.declared.builder.arg.Arg.{Arg}
-use Rattle.ddcmp_cli.specs.Words.{required}
-use Rattle.ddcmp_cli.proofs.command.station_parser.Goals as goal
+use Rattle.ddcmp_words.specs.Words.{required}
+use Rattle.ddcmp_words.proofs.command.station_parser.Goals as goal
 
 needed-local : (a b : Arg) → b ≡ record a { required = true } → a.global ≡ false → b.global ≡ false
 needed-local a b e l = ap (λ (x : Arg). x.global) e ∙ l

@@ -1,8 +1,8 @@
 use Rattle.std.proofs.Common.{rules, ◌≡◌, ◌∙◌, ap, ap₂}
 use Rattle.std.proofs.lemmas.Result.{IfOk-weaker}
 use Rattle.clap.specs.Words.{App, app_of, with_subcommand}
-use Rattle.ddcmp_cli.specs.Words.{bare_app, explain_app, simulate_app, pair_app}
-use Rattle.ddcmp_cli.proofs.command.parser.Goals as goal
+use Rattle.ddcmp_words.specs.Words.{bare_app, explain_app, simulate_app, pair_app}
+use Rattle.ddcmp_words.proofs.command.parser.Goals as goal
 
 pub returns : goal.returns
 returns c =

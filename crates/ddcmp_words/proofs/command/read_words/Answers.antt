@@ -1,7 +1,7 @@
 use Rattle.std.proofs.Common.{◌≡◌, ◌∙◌, [], List, ℕ, Bor, map, sym, ap, inl, inr, Err, refl}
 use Rattle.clap.specs.Words.{HasKind, fault_of}
-use Rattle.ddcmp_cli.proofs.CommandLaws.{named, has_options, in_order, at-program, declined-memory, reads-fault}
-use Rattle.ddcmp_cli.proofs.command.read_words.Goals as goal
+use Rattle.ddcmp_words.proofs.CommandLaws.{named, has_options, in_order, at-program, declined-memory, reads-fault}
+use Rattle.ddcmp_words.proofs.command.read_words.Goals as goal
 
 abbrev words_of : List (Bor (List ℕ)) → List (List ℕ)
 words_of words = map (λ word. word.now) words

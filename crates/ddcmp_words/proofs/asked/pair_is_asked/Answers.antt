@@ -1,7 +1,7 @@
 use Rattle.std.proofs.Common.{refl}
 use Rattle.clap.proofs.OnLiterals.{clap_on_literals}
-use Rattle.ddcmp_cli.specs.Words.{named_by, option_in}
-use Rattle.ddcmp_cli.proofs.program.simulate_is_asked.Goals as goal
+use Rattle.ddcmp_words.specs.Words.{named_by, option_in}
+use Rattle.ddcmp_words.proofs.asked.pair_is_asked.Goals as goal
 
 pub returns-clause-plain : goal.returns-clause-plain
 unfolding clap_on_literals named_by
@@ -11,13 +11,9 @@ pub returns-clause-no_window : goal.returns-clause-no_window
 unfolding clap_on_literals option_in
 returns-clause-no_window c = refl
 
-pub returns-clause-no_restart : goal.returns-clause-no_restart
+pub returns-clause-inbox : goal.returns-clause-inbox
 unfolding clap_on_literals option_in
-returns-clause-no_restart c = refl
-
-pub returns-clause-window : goal.returns-clause-window
-unfolding clap_on_literals option_in
-returns-clause-window c = refl
+returns-clause-inbox c = refl
 
 pub returns-clause-syn : goal.returns-clause-syn
 unfolding clap_on_literals option_in

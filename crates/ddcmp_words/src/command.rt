@@ -2,12 +2,12 @@
 ghost use Rattle.std.specs.Prelude.{◌≡◌, ◌≢◌, ◌⊎◌, ◌↔◌, ◌≤◌, IsTrue, IfOk, IfSome, IsOk, None, Some};
 ghost use Rattle.std.specs.Prelude.{codes, map, unwrap_or, [], false, List, ℕ};
 ghost use Rattle.std.specs.Option.{option_and_then};
-ghost use Rattle.ddcmp_cli.specs.Words.{Declines, IsAsked, IsName, Reads, name_of, program};
-ghost use Rattle.ddcmp_cli.specs.Words.{HasFlag, HasForm, HasNumber, HasOptions, HasSizes};
-ghost use Rattle.ddcmp_cli.specs.Words.{HasStation, explain_app, pair_app, simulate_app};
-ghost use Rattle.ddcmp_cli.specs.Words.{station_app};
-ghost use Rattle.ddcmp_cli.specs.Words.{flag_rule, number_rule, role_of, text_rule};
-ghost use Rattle.ddcmp_cli.specs.Words.{with_sizes as with_sizes_of};
+ghost use Rattle.ddcmp_words.specs.Words.{Declines, IsAsked, IsName, Reads, name_of, program};
+ghost use Rattle.ddcmp_words.specs.Words.{HasFlag, HasForm, HasNumber, HasOptions, HasSizes};
+ghost use Rattle.ddcmp_words.specs.Words.{HasStation, explain_app, pair_app, simulate_app};
+ghost use Rattle.ddcmp_words.specs.Words.{station_app};
+ghost use Rattle.ddcmp_words.specs.Words.{flag_rule, number_rule, role_of, text_rule};
+ghost use Rattle.ddcmp_words.specs.Words.{with_sizes as with_sizes_of};
 ghost use Rattle.clap.specs.Words.{kind_of, app_of, new_app, rule_of, first_of, first_value};
 ghost use Rattle.clap.specs.Words.{found_of, one_of, one_text};
 ghost use Rattle.clap.specs.Words.{subcommand_name_of, subcommand_rows_of};
@@ -19,7 +19,7 @@ use clap::error::ErrorKind;
 use clap::{Arg, ArgAction, ArgMatches, Error};
 use ddcmp_core::{MAX_COUNT, MAX_WINDOW};
 use ddcmp_explain::Form;
-use ddcmp_station::{Config, MAX_INBOX, MAX_SYN};
+use ddcmp_proto::{Config, MAX_INBOX, MAX_SYN};
 use std::alloc::{AllocError, Global};
 
 /// What the words ask for.

@@ -1,7 +1,7 @@
 use Rattle.std.proofs.Common.{refl}
 use Rattle.clap.proofs.OnLiterals.{clap_on_literals}
-use Rattle.ddcmp_cli.specs.Words.{named_by, option_in}
-use Rattle.ddcmp_cli.proofs.program.explain_is_asked.Goals as goal
+use Rattle.ddcmp_words.specs.Words.{named_by, option_in}
+use Rattle.ddcmp_words.proofs.asked.explain_is_asked.Goals as goal
 
 pub returns-clause-plain : goal.returns-clause-plain
 unfolding clap_on_literals named_by

@@ -4,7 +4,7 @@ use Rattle.std.specs.Prelude.{decimal}
 use Rattle.std.specs.Str.Parse.{ParsesUnsigned}
 use Rattle.std.proofs.lemmas.Fmt.{parse-decimal}
 use Rattle.clap.specs.Matches.{ReadsOne}
-use Rattle.ddcmp_cli.specs.Words.{HasNumber}
+use Rattle.ddcmp_words.specs.Words.{HasNumber}
 
 module _ {E : Type 0} (gives : List ℕ → Result ℕ E → Type 0) (parses : (bs : List ℕ) (r : Result ℕ E) → gives bs r → ParsesUnsigned 32 10 bs r) where
   pub number_read : (text : Option (List ℕ)) (result : Option ℕ) → ((t : List ℕ) → text ≡ Some t → ReadsOne gives t result) → (n : ℕ) → text ≡ Some (decimal n) → n ≤ 4294967295 → result ≡ Some n

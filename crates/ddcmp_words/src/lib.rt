@@ -1,0 +1,12 @@
+//! The words of the command line: what they ask for, and how they are declined. It runs nothing.
+#![tactic(auto)]
+
+mod asked;
+pub mod command;
+pub mod declined;
+pub mod served;
+
+pub use asked::{explain_is_asked, pair_is_asked, simulate_is_asked, station_is_asked};
+pub use command::{Command, read_words};
+pub use declined::Declined;
+pub use served::{Role, Served};
