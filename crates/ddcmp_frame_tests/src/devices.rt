@@ -207,8 +207,8 @@ fn in_turn() -> FromRead<InTurn> {
     FromRead::new(InTurn(0))
 }
 
-/// What one write of these bytes tells, whether the sink has failed then, and how often the writer was
-/// called; no fault came before.
+/// What one write of these bytes tells, whether the sink has failed then, and how often the writer
+/// was called; no fault came before.
 fn write_once(
     rt: &impl Abort,
     answer: Result<usize, ErrorKind>,

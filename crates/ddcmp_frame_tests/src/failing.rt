@@ -39,8 +39,8 @@ fn pieces_come_in_order(rt: HostRuntime) {
     );
 }
 
-/// A sink of eight bytes, and no more than `room`, that takes at most so many at a time; which write
-/// fails, 0 is none.
+/// A sink of eight bytes, and no more than `room`, that takes at most so many at a time; which
+/// write fails, 0 is none.
 fn sink_of(rt: &impl Abort, room: usize, most: usize, fails_at: usize) -> Taken<8> {
     assert!(rt; room <= 8 && 0 < most);
     Taken::full_at(room).at_most(most).failing_at(fails_at)

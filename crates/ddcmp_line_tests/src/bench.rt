@@ -228,7 +228,8 @@ impl Bench {
         }
     }
 
-    /// Copies message `i` of those handed up at an end, if there are so many, and answers its length.
+    /// Copies message `i` of those handed up at an end, if there are so many, and answers its
+    /// length.
     fn handed_up_at(&self, end: End, i: usize, out: &mut [u8; LONGEST]) -> Option<usize> {
         if i >= self.pair.handed_up(end) {
             return None;

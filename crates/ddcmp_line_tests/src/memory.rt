@@ -231,8 +231,8 @@ fn is_settled_at_once(settled: Settled) -> bool {
         }
 }
 
-/// Whether the first settle of a recovery had one exchange and the others none, and the line is quiet
-/// then.
+/// Whether the first settle of a recovery had one exchange and the others none, and the line is
+/// quiet then.
 fn is_recovered_at_once(recovered: Recovered) -> bool {
     let exchanges = [1, 0, 0];
     recovered

@@ -3,8 +3,8 @@ use crate::bench::{Action, Answer, Bench, Step, sizes};
 use ddcmp_pair::{End, Settled, State, Station};
 use std::alloc::Global;
 
-/// Whether a station runs with these numbers R, N, A, T, keeps no message, has no mail, and its timer
-/// is off.
+/// Whether a station runs with these numbers R, N, A, T, keeps no message, has no mail, and its
+/// timer is off.
 fn is_at(station: &Station, numbers: [u8; 4]) -> bool {
     let told = station.numbers();
     station.state() == State::Running
