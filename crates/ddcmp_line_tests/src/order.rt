@@ -74,7 +74,7 @@ fn sent_twice() -> &'static [Step] {
 fn a_late_frame_is_handed_up_twice(rt: HostRuntime) {
     let mut bench = Bench::running(&rt, USUAL);
     bench.plays(&rt, sent_twice());
-    assert!(rt; bench.crosses(End::B, &[Notice::Acknowledged(1)]));
+    assert!(rt; is_acknowledged(&mut bench));
     for number in 2..=256u16 {
         bench.carries(&rt, number);
     }
@@ -83,18 +83,24 @@ fn a_late_frame_is_handed_up_twice(rt: HostRuntime) {
 
 // ---- a bad line
 
-/// The windows at which rows are played.
-const WINDOWS: [u16; 4] = [1, 7, 127, 255];
+fn is_acknowledged(bench: &mut Bench) -> bool {
+    bench.crosses(End::B, &[Notice::Acknowledged(1)])
+}
 
 /// A frame is lost, a REP shows it, and it is sent again.
+fn comes_later(rt: &(impl Abort + AllocGlobal), window: u16) {
+    let mut bench = Bench::running(rt, sizes(window));
+    bench.plays(rt, sent_twice());
+    assert!(rt; is_acknowledged(&mut bench));
+    bench.has_many(rt, b"a", 1);
+}
+
 #[test]
 fn a_lost_message_comes_later(rt: HostRuntime) {
-    for window in WINDOWS {
-        let mut bench = Bench::running(&rt, sizes(window));
-        bench.plays(&rt, sent_twice());
-        assert!(rt; bench.crosses(End::B, &[Notice::Acknowledged(1)]));
-        bench.has_many(&rt, b"a", 1);
-    }
+    comes_later(&rt, 1);
+    comes_later(&rt, 7);
+    comes_later(&rt, 127);
+    comes_later(&rt, 255);
 }
 
 /// A message that no other message equals, of bytes that begin no frame.
@@ -272,16 +278,21 @@ impl Talk {
 }
 
 /// 255 messages go both ways at once over the bad line, which is repaired then.
+fn all_come(rt: &(impl Abort + AllocGlobal), window: u16) {
+    let mut talk = Talk::new(rt, window);
+    talk.talks(rt);
+    for _settle in 0..MESSAGES {
+        talk.settles(rt);
+    }
+    talk.is_right(rt);
+    talk.has_all(rt, End::A);
+    talk.has_all(rt, End::B);
+}
+
 #[test]
 fn all_messages_come_over_a_bad_line(rt: HostRuntime) {
-    for window in WINDOWS {
-        let mut talk = Talk::new(&rt, window);
-        talk.talks(&rt);
-        for _settle in 0..MESSAGES {
-            talk.settles(&rt);
-        }
-        talk.is_right(&rt);
-        talk.has_all(&rt, End::A);
-        talk.has_all(&rt, End::B);
-    }
+    all_come(&rt, 1);
+    all_come(&rt, 7);
+    all_come(&rt, 127);
+    all_come(&rt, 255);
 }

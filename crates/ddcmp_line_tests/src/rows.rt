@@ -2,6 +2,7 @@
 use crate::bench::{Action, Answer, Bench, Step, sizes};
 use ddcmp_pair::{End, Settled, State, Station};
 use std::alloc::Global;
+use std::process::Abort;
 
 /// Whether a station runs with these numbers R, N, A, T, keeps no message, has no mail, and its
 /// timer is off.
@@ -14,18 +15,27 @@ fn is_at(station: &Station, numbers: [u8; 4]) -> bool {
         && !station.timer_on()
 }
 
+/// Both ends after 300 messages of A.
+fn is_after_300(bench: &Bench) -> bool {
+    is_at(bench.station(End::A), [0, 44, 44, 45]) && is_at(bench.station(End::B), [44, 0, 0, 1])
+}
+
+fn goes_round(rt: &(impl Abort + AllocGlobal), window: u16) {
+    let mut bench = Bench::running(rt, sizes(window));
+    for number in 1..=300u16 {
+        bench.carries(rt, number);
+    }
+    assert!(rt; is_after_300(&bench));
+    bench.has_many(rt, b"a", 300);
+}
+
 /// Message 256 has number 0.
 #[test]
 fn numbers_go_round(rt: HostRuntime) {
-    for window in [1, 7, 127, 255] {
-        let mut bench = Bench::running(&rt, sizes(window));
-        for number in 1..=300u16 {
-            bench.carries(&rt, number);
-        }
-        assert!(rt; is_at(bench.station(End::A), [0, 44, 44, 45]));
-        assert!(rt; is_at(bench.station(End::B), [44, 0, 0, 1]));
-        bench.has_many(&rt, b"a", 300);
-    }
+    goes_round(&rt, 1);
+    goes_round(&rt, 7);
+    goes_round(&rt, 127);
+    goes_round(&rt, 255);
 }
 
 /// Whether A takes message `number`, `a`.
