@@ -1,5 +1,5 @@
-//! What carries the bytes of frames from one end of a line to the other. Scripts run over any carrier,
-//! and this is all that a network has to know of them.
+//! What carries the bytes of frames from one end of a line to the other. Scripts run over any
+//! carrier, and this is all that a network has to know of them.
 #![tactic(auto)]
 
 mod carrier;

@@ -13,10 +13,6 @@ pub use Rattle.ddcmp_window.specs.Inbox
 pub use Rattle.ddcmp_window.specs.Numbers
 pub use Rattle.ddcmp_window.specs.Sender
 pub use Rattle.ddcmp_window.specs.Store
-pub use Rattle.ddcmp_window.specs.Numbers
-pub use Rattle.ddcmp_window.specs.Store
-pub use Rattle.ddcmp_window.specs.Sender
-pub use Rattle.ddcmp_window.specs.Inbox
 pub use Rattle.ddcmp_num.specs.declared.limits.TheConstants as Limits
 pub use Rattle.ddcmp_num.specs.declared.seq.Seq
 pub use Rattle.ddcmp_window.specs.declared.sender.SendRefusal

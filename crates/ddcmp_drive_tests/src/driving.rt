@@ -2,8 +2,9 @@
 ghost use Rattle.std.specs.Prelude.{◌≡◌};
 
 use crate::devices::{Moments, Recorder, Seen};
+use crate::same::is;
 use ddcmp_frame::failing::{Pieces, Taken};
-use ddcmp_station::{Config, Driven, LineFault, Notice, State, Station, drive};
+use ddcmp_station::{Config, Counters, Driven, LineFault, Notice, Numbers, State, Station, drive};
 use std::alloc::Global;
 use std::process::Abort;
 
@@ -42,7 +43,7 @@ fn halted(rt: &impl Abort, alloc: Global, config: Config) -> Station {
 /// A started station.
 pub fn started(rt: &impl Abort, alloc: Global, config: Config) -> Station {
     let mut station = halted(rt, alloc, config);
-    assert_eq!(rt; station.start(), Ok(0));
+    is(rt, station.start(), Ok(0));
     station
 }
 
@@ -96,44 +97,53 @@ pub fn driven(turns: u32, read: u64, written: u64) -> Driven {
     }
 }
 
-/// What the user of a station sees that is answered.
-const RUNNING: &[Seen] = &[Seen::Told(Notice::Running)];
+/// A call has this answer, and has written this.
+pub fn is_told(rt: &impl Abort, outcome: &Outcome<64>, answer: Driven, written: &[u8]) {
+    is(rt, outcome.answer, Ok(answer));
+    is(rt, outcome.writer.bytes(), written);
+}
 
-/// The call had memory.
-fn is_whole(rt: &impl Abort, station: &Station, outcome: &Outcome<64>) {
-    assert_eq!(rt; outcome.answer, Ok(driven(1, 8, 8)));
-    assert_eq!(rt; outcome.writer.bytes(), STRT.as_slice());
-    assert_eq!(rt; station.state(), State::Running);
+/// What the user of a station sees that is answered.
+fn running() -> &'static [Seen] {
+    &[Seen::Told(Notice::Running)]
 }
 
 /// The call did nothing.
-fn is_nothing(rt: &impl Abort, station: &Station, outcome: &Outcome<64>) {
-    assert_eq!(rt; outcome.answer, Err(LineFault::Memory));
+fn is_nothing(rt: &impl Abort, outcome: &Outcome<64>) {
+    is(rt, outcome.answer, Err(LineFault::Memory));
     assert!(rt; outcome.writer.bytes().is_empty());
-    assert_eq!(rt; station.state(), State::IStart);
-    assert_eq!(rt; outcome.moments, 0);
+    is(rt, outcome.moments, 0);
 }
 
 /// Whether memory is refused to a station or a call: then the station stays as it was.
 fn is_refused(rt: &(impl Abort + AllocGlobal)) -> bool {
-    let Ok(mut station) = Station::new(rt.alloc(), LEAST) else {
-        return true;
-    };
-    assert_eq!(rt; station.start(), Ok(0));
-    is_refused_to_a_call(rt, &mut station)
+    match Station::new(rt.alloc(), LEAST) {
+        Ok(mut station) => {
+            is(rt, station.start(), Ok(0));
+            is_refused_to_a_call(rt, &mut station)
+        }
+        Err(_refusal) => true,
+    }
+}
+
+fn told(station: &Station) -> (State, Numbers, Counters) {
+    (station.state(), station.numbers(), *station.counters())
 }
 
 fn is_refused_to_a_call(rt: &(impl Abort + AllocGlobal), station: &mut Station) -> bool {
-    let before = (station.numbers(), *station.counters());
+    let before = told(station);
     let mut user = Recorder::offering(&[]);
     let outcome = drives::<64>(rt, station, &[&STACK], 256, &mut user, 1);
     if outcome.answer.is_ok() {
-        is_whole(rt, station, &outcome);
-        assert_eq!(rt; user.seen(), RUNNING);
+        is_told(rt, &outcome, driven(1, 8, 8), &STRT);
+        is(rt, user.seen(), running());
+        is(rt, station.state(), State::Running);
         return false;
     }
-    is_nothing(rt, station, &outcome);
-    assert_eq!(rt; (station.numbers(), *station.counters()), before);
+    is_nothing(rt, &outcome);
+    is(rt, before, told(station));
+    let (state, _numbers, _counters) = before;
+    is(rt, state, State::IStart);
     true
 }
 
@@ -151,23 +161,33 @@ fn ample_memory_drives(rt: HostRuntime) {
 /// A call of a halted station finds memory and does nothing.
 fn stays_halted(rt: &(impl Abort + AllocGlobal), max: u16) {
     let mut station = halted(rt, rt.alloc(), Config { max, ..LEAST });
+    does_nothing(rt, &mut station);
+    is(rt, station.state(), State::Halted);
+}
+
+fn does_nothing(rt: &(impl Abort + AllocGlobal), station: &mut Station) {
     let mut user = Recorder::offering(&[]);
-    let outcome = drives::<64>(rt, &mut station, &[], 256, &mut user, 0);
-    assert_eq!(rt; outcome.answer, Ok(driven(0, 0, 0)));
-    assert!(rt; outcome.writer.bytes().is_empty() && user.seen().is_empty());
-    assert!(rt; user.mail().is_empty());
-    assert_eq!(rt; station.state(), State::Halted);
+    let outcome = drives::<64>(rt, station, &[], 256, &mut user, 0);
+    is_told(rt, &outcome, driven(0, 0, 0), b"");
+    sees_nothing(rt, &user);
+}
+
+fn sees_nothing(rt: &impl Abort, user: &Recorder<'_>) {
+    assert!(rt; user.seen().is_empty() && user.mail().is_empty());
 }
 
 /// A call of a started station finds memory and sends STRT once.
 fn starts_once(rt: &(impl Abort + AllocGlobal), turns: u32) {
     let mut station = started(rt, rt.alloc(), USUAL);
+    sends_strt(rt, &mut station, turns);
+    is(rt, station.state(), State::IStart);
+}
+
+fn sends_strt(rt: &(impl Abort + AllocGlobal), station: &mut Station, turns: u32) {
     let mut user = Recorder::offering(&[]);
-    let outcome = drives::<64>(rt, &mut station, &[SILENCE; 300], 256, &mut user, turns);
-    assert_eq!(rt; outcome.answer, Ok(driven(turns, 0, 8)));
-    assert_eq!(rt; outcome.writer.bytes(), STRT.as_slice());
-    assert!(rt; user.seen().is_empty() && user.mail().is_empty());
-    assert_eq!(rt; station.state(), State::IStart);
+    let outcome = drives::<64>(rt, station, &[SILENCE; 300], 256, &mut user, turns);
+    is_told(rt, &outcome, driven(turns, 0, 8), &STRT);
+    sees_nothing(rt, &user);
 }
 
 /// A call finds memory at every size of a message and any number of turns.

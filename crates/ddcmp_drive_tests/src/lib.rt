@@ -8,3 +8,5 @@ mod devices;
 mod driving;
 #[cfg(test)]
 mod largest;
+#[cfg(test)]
+mod same;

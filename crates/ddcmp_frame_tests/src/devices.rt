@@ -1,6 +1,5 @@
 //! `FromRead` and `ToWrite` tell std's faults and no others, with one call for each of theirs.
-ghost use Rattle.std.specs.Prelude.{◌<◌, length};
-
+use crate::calls::{is, read};
 use ddcmp_frame::{FromRead, Got, Sink, Source, ToWrite, Worst};
 use std::io::{self, ErrorKind, Read, Write};
 use std::process::Abort;
@@ -96,6 +95,19 @@ impl Write for Counting {
     }
 }
 
+/// What one read into this buffer tells, and how often the reader was called; no fault came before.
+fn read_once(
+    rt: &impl Abort,
+    answer: Result<usize, ErrorKind>,
+    buf: &mut [u8],
+) -> (Got, Worst, u32) {
+    let mut reader = Counting::new(answer);
+    let mut source = FromRead::new(&mut reader);
+    is(rt, source.worst(), Worst::Fine);
+    let (got, worst) = read(rt, &mut source, buf);
+    (got, worst, reader.calls)
+}
+
 /// One read into this buffer.
 fn reads(
     rt: &impl Abort,
@@ -104,12 +116,7 @@ fn reads(
     got: Got,
     worst: Worst,
 ) {
-    let mut reader = Counting::new(answer);
-    let mut source = FromRead::new(&mut reader);
-    assert_eq!(rt; source.worst(), Worst::Fine);
-    assert_eq!(rt; source.read(buf), got);
-    assert_eq!(rt; source.worst(), worst);
-    assert_eq!(rt; reader.calls, 1);
+    is(rt, read_once(rt, answer, buf), (got, worst, 1));
 }
 
 #[test]
@@ -135,12 +142,30 @@ fn reads_tell_how_much_came(rt: HostRuntime) {
         (0, 1, 0),
         (0, 65536, 0),
     ] {
-        let mut buf = [0; 65536];
-        assert!(rt; room <= buf.len() && n <= buf.len());
-        reads(&rt, Ok(most), &mut buf[..room], Got::Bytes(n), Worst::Fine);
-        assert!(rt; buf[..n].iter().all(|byte| *byte == 7));
-        assert!(rt; buf[n..].iter().all(|byte| *byte == 0));
+        reads_into(&rt, most, room, n);
     }
+}
+
+fn is_all(bytes: Option<&[u8]>, wanted: u8) -> bool {
+    match bytes {
+        Some(bytes) => bytes.iter().all(|byte| *byte == wanted),
+        None => false,
+    }
+}
+
+/// Whether a buffer has so many sevens, and zeros behind them.
+fn is_filled(buf: &[u8], n: usize) -> bool {
+    is_all(buf.get(..n), 7) && is_all(buf.get(n..), 0)
+}
+
+/// A read into so much room fills so much of it.
+fn reads_into(rt: &impl Abort, most: usize, room: usize, n: usize) {
+    let mut buf = [0; 65536];
+    match buf.get_mut(..room) {
+        Some(front) => reads(rt, Ok(most), front, Got::Bytes(n), Worst::Fine),
+        None => panic!(rt; "no room"),
+    }
+    assert!(rt; is_filled(&buf, n));
 }
 
 /// A reader that gives its answers in order: a byte, an interruption, a byte, a failure.
@@ -166,7 +191,7 @@ impl Read for InTurn {
 
 #[test]
 fn the_worst_answer_stays(rt: HostRuntime) {
-    let mut source = FromRead::new(InTurn(0));
+    let mut source = in_turn();
     let rows = [
         (Got::Bytes(1), Worst::Fine),
         (Got::Idle, Worst::Idle),
@@ -174,21 +199,36 @@ fn the_worst_answer_stays(rt: HostRuntime) {
         (Got::Failed, Worst::Failed),
     ];
     for (got, worst) in rows {
-        assert!(rt; source.worst() != Worst::Failed);
-        assert_eq!(rt; source.read(&mut [0; 4]), got);
-        assert_eq!(rt; source.worst(), worst);
+        is(&rt, read(&rt, &mut source, &mut [0; 4]), (got, worst));
     }
 }
 
-/// One write of these bytes.
-fn writes(rt: &impl Abort, answer: Result<usize, ErrorKind>, bytes: &[u8], taken: Option<usize>)
-    requires { 0 < length bytes.now }
-{
+fn in_turn() -> FromRead<InTurn> {
+    FromRead::new(InTurn(0))
+}
+
+/// What one write of these bytes tells, whether the sink has failed then, and how often the writer
+/// was called; no fault came before.
+fn write_once(
+    rt: &impl Abort,
+    answer: Result<usize, ErrorKind>,
+    bytes: &[u8],
+) -> (Option<usize>, bool, u32) {
     let mut sink = ToWrite::new(Counting::new(answer));
+    assert!(rt; !bytes.is_empty());
     assert!(rt; !sink.failed());
-    assert_eq!(rt; sink.write(bytes), taken);
-    assert_eq!(rt; sink.failed(), taken.is_none());
-    assert_eq!(rt; sink.into_inner().calls, 1);
+    let taken = sink.write(bytes);
+    let failed = sink.failed();
+    (taken, failed, sink.into_inner().calls)
+}
+
+/// One write of these bytes.
+fn writes(rt: &impl Abort, answer: Result<usize, ErrorKind>, bytes: &[u8], taken: Option<usize>) {
+    is(
+        rt,
+        write_once(rt, answer, bytes),
+        (taken, taken.is_none(), 1),
+    );
 }
 
 #[test]
@@ -204,10 +244,14 @@ fn writes_tell_what_was_taken(rt: HostRuntime) {
         (4095, 65536, Some(4095)),
         (0, 65536, None),
     ] {
-        let bytes = [7; 65536];
-        assert!(rt; 0 < len && len <= bytes.len());
-        writes(&rt, Ok(most), &bytes[..len], taken);
+        writes_of(&rt, most, len, taken);
     }
+}
+
+fn writes_of(rt: &impl Abort, most: usize, len: usize, taken: Option<usize>) {
+    let bytes = [7; 65536];
+    assert!(rt; len <= bytes.len());
+    writes(rt, Ok(most), &bytes[..len], taken);
 }
 
 /// No fault of a write is passed over.

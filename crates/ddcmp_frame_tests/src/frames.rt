@@ -1,14 +1,15 @@
 //! Vectors and worked texts, and one call of each function.
-ghost use Rattle.std.specs.Prelude.{◌≡◌, ◌+◌, ◌≤◌, length};
+ghost use Rattle.std.specs.Prelude.{◌<◌, ◌≤◌, length};
 ghost use Rattle.ddcmp_frame.specs.Wire.{IsFrame};
 ghost use Rattle.ddcmp_frame.specs.Reader.{frame_length};
 
+use crate::calls::{counts, data as lent_by, is, push, reader_of, reset};
 use ddcmp_frame::laws::wire_length;
 use ddcmp_frame::{
     ControlType, Counted, Flags, Header, HeaderFault, Item, Nak, Reader, ReaderRefusal, Short,
     write_frame,
 };
-use std::alloc::Global;
+use std::alloc::{AllocError, Global};
 use std::process::Abort;
 use std::test::Fail;
 
@@ -16,8 +17,11 @@ const NO_FLAGS: Flags = Flags { q: false, s: false };
 
 const BOTH_FLAGS: Flags = Flags { q: true, s: true };
 
+/// A control message and its bytes.
+type Control = (ControlType, u8, Flags, u8, u8, &'static [u8]);
+
 /// The frames of the published layouts and their bytes.
-pub(crate) const CONTROLS: [(ControlType, u8, Flags, u8, u8, &[u8]); 12] = [
+const CONTROLS: [Control; 12] = [
     (
         ControlType::Strt,
         0,
@@ -116,6 +120,10 @@ pub(crate) const CONTROLS: [(ControlType, u8, Flags, u8, u8, &[u8]); 12] = [
     ),
 ];
 
+pub(crate) fn controls() -> &'static [Control] {
+    &CONTROLS
+}
+
 pub(crate) const ABC_1: [u8; 13] = [
     0x81, 0x03, 0x00, 0x00, 0x01, 0x01, 0x9A, 0x41, 0x61, 0x62, 0x63, 0x38, 0x97,
 ];
@@ -136,115 +144,215 @@ pub(crate) const ABC_MAINT: [u8; 13] = [
     0x90, 0x03, 0xC0, 0x00, 0x00, 0x01, 0xA4, 0x90, 0x61, 0x62, 0x63, 0x38, 0x97,
 ];
 
-const ACK_0: [u8; 8] = [0x05, 0x01, 0x00, 0x00, 0x00, 0x01, 0xFC, 0x55];
+/// The data messages and the maintenance message of the layouts.
+pub(crate) fn messages() -> [&'static [u8]; 5] {
+    [&ABC_1, &ABC_2, &A_1, &B_2, &ABC_MAINT]
+}
+
+fn ack_0() -> &'static [u8] {
+    &[0x05, 0x01, 0x00, 0x00, 0x00, 0x01, 0xFC, 0x55]
+}
 
 /// What a reader gives for a text, byte by byte: the items, and all data that it lends.
+fn given(
+    rt: &(impl Abort + AllocGlobal),
+    reader: &mut Reader,
+    text: &[u8],
+) -> Result<(Vec<Item>, Vec<u8>), AllocError> {
+    let mut given = Vec::new(rt.alloc());
+    let mut lent = Vec::new(rt.alloc());
+    for byte in text {
+        if let Some(item) = push(rt, reader, *byte) {
+            given.push(item)?;
+        }
+        lent.extend_from_slice(lent_by(reader))?;
+    }
+    Ok((given, lent))
+}
+
+/// A reader gives these items for a text, and lends these data.
 fn reads(
-    rt: &impl Abort,
-    alloc: Global,
+    rt: &(impl Abort + AllocGlobal),
     reader: &mut Reader,
     text: &[u8],
     items: &[Item],
     data: &[u8],
-) -> Result<(), Fail> {
-    let mut given = Vec::new(alloc);
-    let mut lent = Vec::new(alloc);
-    for byte in text {
-        assert!(rt; reader.offset() < 1_000_000);
-        if let Some(item) = reader.push(*byte) {
-            given.push(item)?;
-        }
-        lent.extend_from_slice(reader.data())?;
-    }
-    assert_eq!(rt; given.as_slice(), items);
-    assert_eq!(rt; lent.as_slice(), data);
+) -> Result<(), AllocError> {
+    let (given, lent) = given(rt, reader, text)?;
+    is(rt, given.as_slice(), items);
+    is(rt, lent.as_slice(), data);
     Ok(())
+}
+
+/// How many bytes are open and kept.
+fn has_open(rt: &impl Abort, reader: &Reader, open: usize, kept: usize) {
+    let (is_open, is_kept, _offset) = counts(reader);
+    is(rt, (is_open, is_kept), (open, kept));
+}
+
+fn has_offset(rt: &impl Abort, reader: &Reader, offset: u64) {
+    let (_open, _kept, is_at) = counts(reader);
+    is(rt, is_at, offset);
+}
+
+/// A frame at the front of a buffer.
+fn frame_in(out: &mut [u8; 20], header: &Header, data: &[u8]) -> usize
+    requires frame { IsFrame header.now «data».now }
+    requires room { frame_length header.now ≤ 20 }
+    ensures { result ≤ 20 }
+{
+    wire_length();
+    write_frame(header, data, out)
+}
+
+/// A frame is written as these bytes, and nothing behind them.
+fn writes(rt: &impl Abort, header: &Header, data: &[u8], bytes: &[u8])
+    requires frame { IsFrame header.now «data».now }
+    requires room { frame_length header.now ≤ 20 }
+{
+    let mut out = [0xEE; 20];
+    let end = frame_in(&mut out, header, data);
+    let (front, rest) = out.split_at(end);
+    is(rt, front, bytes);
+    assert!(rt; rest.iter().all(|byte| *byte == 0xEE));
+}
+
+fn length_of(header: &Header) -> usize {
+    header.frame_length()
+}
+
+/// A header is parsed and written as these bytes.
+fn is_header(rt: &impl Abort, header: &Header, bytes: &[u8; 8]) {
+    is(rt, parsed(bytes), Ok(*header));
+    let told = written(header);
+    is(rt, told.as_slice(), bytes.as_slice());
+}
+
+fn parsed(bytes: &[u8; 8]) -> Result<Header, HeaderFault> {
+    Header::parse(bytes)
+}
+
+fn written(header: &Header) -> [u8; 8] {
+    header.write()
 }
 
 /// A frame parsed, written and read alone.
 fn both_ways(
-    rt: &impl Abort,
-    alloc: Global,
-    header: Header,
+    rt: &(impl Abort + AllocGlobal),
+    header: &Header,
     data: &[u8],
     bytes: &[u8],
 ) -> Result<(), Fail>
-    requires frame { IsFrame header «data».now }
-    requires room { frame_length header ≤ 20 }
+    requires frame { IsFrame header.now «data».now }
+    requires room { frame_length header.now ≤ 20 }
 {
-    wire_length();
-    let mut out = [0xEE; 20];
-    let end = write_frame(&header, data, &mut out);
-    assert_eq!(rt; &out[..end], bytes);
-    assert_eq!(rt; header.frame_length(), bytes.len());
-    for rest in &out[end..] {
-        assert_eq!(rt; *rest, 0xEE);
-    }
+    writes(rt, header, data, bytes);
+    is(rt, length_of(header), bytes.len());
     let front = bytes.first_chunk::<8>().ok_or("shorter than a header")?;
-    assert_eq!(rt; Header::parse(front), Ok(header));
-    assert_eq!(rt; header.write(), *front);
-    let mut reader = Reader::new(alloc, 16383).ok().ok_or("no reader")?;
-    reads(
-        rt,
-        alloc,
-        &mut reader,
-        bytes,
-        &[Item::Good(0, header)],
-        data,
-    )?;
-    assert_eq!(rt; reader.open(), 0);
+    is_header(rt, header, front);
+    let mut reader = reader_of(rt.alloc(), 16383)?;
+    reads(rt, &mut reader, bytes, &[Item::Good(0, *header)], data)?;
+    has_open(rt, &reader, 0, 0);
     Ok(())
 }
 
 #[test]
 fn frames_of_the_layouts(rt: HostRuntime) -> Result<(), Fail> {
-    let alloc = rt.alloc();
-    for (kind, sub, flags, resp, num, bytes) in CONTROLS {
-        let short = Short::new(kind, sub, flags, resp, num, 1).ok_or("no header")?;
-        both_ways(&rt, alloc, Header::Control(short), &[], bytes)?;
+    for (kind, sub, flags, resp, num, bytes) in controls() {
+        control_both_ways(&rt, *kind, *sub, *flags, [*resp, *num], bytes)?;
     }
-    let one = Counted::new(3, NO_FLAGS, 0, 1, 1).ok_or("no header")?;
-    both_ways(&rt, alloc, Header::Data(one), b"abc", &ABC_1)?;
-    let two = Counted::new(3, NO_FLAGS, 0, 2, 1).ok_or("no header")?;
-    both_ways(&rt, alloc, Header::Data(two), b"abc", &ABC_2)?;
-    let a = Counted::new(1, NO_FLAGS, 0, 1, 1).ok_or("no header")?;
-    both_ways(&rt, alloc, Header::Data(a), b"a", &A_1)?;
-    let b = Counted::new(1, NO_FLAGS, 0, 2, 1).ok_or("no header")?;
-    both_ways(&rt, alloc, Header::Data(b), b"b", &B_2)?;
-    let maint = Counted::new(3, BOTH_FLAGS, 0, 0, 1).ok_or("no header")?;
-    both_ways(&rt, alloc, Header::Maint(maint), b"abc", &ABC_MAINT)
+    Ok(())
+}
+
+/// A control message with these numbers RESP and NUM.
+fn control_both_ways(
+    rt: &(impl Abort + AllocGlobal),
+    kind: ControlType,
+    sub: u8,
+    flags: Flags,
+    numbers: [u8; 2],
+    bytes: &[u8],
+) -> Result<(), Fail> {
+    let [resp, num] = numbers;
+    let short = Short::new(kind, sub, flags, resp, num, 1).ok_or("no header")?;
+    both_ways(rt, &Header::Control(short), &[], bytes)
+}
+
+/// A data message of up to ten bytes, with RESP 0.
+fn data_both_ways(
+    rt: &(impl Abort + AllocGlobal),
+    message: &[u8],
+    num: u8,
+    bytes: &[u8],
+) -> Result<(), Fail>
+    requires some { 0 < length message.now }
+    requires few { length message.now ≤ 10 }
+{
+    let count = message.len() as u16;
+    let fields = Counted::new(count, NO_FLAGS, 0, num, 1).ok_or("no header")?;
+    both_ways(rt, &Header::Data(fields), message, bytes)
 }
 
 #[test]
-fn headers_and_faults(rt: HostRuntime) -> Result<(), Fail> {
-    let faults: [([u8; 8], HeaderFault); 4] = [
-        (
-            [0x81, 0x00, 0x00, 0x00, 0x01, 0x01, 0xDE, 0x41],
-            HeaderFault::CountZero,
-        ),
-        (
-            [0x05, 0x04, 0x00, 0x00, 0x00, 0x01, 0x30, 0x55],
-            HeaderFault::BadType(4),
-        ),
-        (
-            [0x05, 0x01, 0x00, 0x00, 0x00, 0x01, 0xFC, 0x54],
-            HeaderFault::Check,
-        ),
-        (
-            [0x96, 0x01, 0x00, 0x00, 0x00, 0x01, 0xFC, 0x55],
-            HeaderFault::NotAStart,
-        ),
-    ];
-    for (bytes, fault) in faults {
-        assert_eq!(rt; Header::parse(&bytes), Err(fault));
-    }
+fn messages_of_the_layouts(rt: HostRuntime) -> Result<(), Fail> {
+    data_both_ways(&rt, b"abc", 1, &ABC_1)?;
+    data_both_ways(&rt, b"abc", 2, &ABC_2)?;
+    data_both_ways(&rt, b"a", 1, &A_1)?;
+    data_both_ways(&rt, b"b", 2, &B_2)
+}
+
+#[test]
+fn maintenance_of_the_layouts(rt: HostRuntime) -> Result<(), Fail> {
+    let fields = Counted::new(3, BOTH_FLAGS, 0, 0, 1).ok_or("no header")?;
+    both_ways(&rt, &Header::Maint(fields), b"abc", &ABC_MAINT)
+}
+
+fn is_fault(rt: &impl Abort, bytes: [u8; 8], fault: HeaderFault) {
+    is(rt, parsed(&bytes), Err(fault));
+}
+
+#[test]
+fn faults_of_headers(rt: HostRuntime) {
+    let count_zero = [0x81, 0x00, 0x00, 0x00, 0x01, 0x01, 0xDE, 0x41];
+    is_fault(&rt, count_zero, HeaderFault::CountZero);
+    let type_4 = [0x05, 0x04, 0x00, 0x00, 0x00, 0x01, 0x30, 0x55];
+    is_fault(&rt, type_4, HeaderFault::BadType(4));
+    let check = [0x05, 0x01, 0x00, 0x00, 0x00, 0x01, 0xFC, 0x54];
+    is_fault(&rt, check, HeaderFault::Check);
+    let fill = [0x96, 0x01, 0x00, 0x00, 0x00, 0x01, 0xFC, 0x55];
+    is_fault(&rt, fill, HeaderFault::NotAStart);
+}
+
+fn short(kind: ControlType, sub: u8, flags: Flags, resp: u8, addr: u8) -> Option<Short> {
+    Short::new(kind, sub, flags, resp, 0, addr)
+}
+
+fn counted(count: u16) -> Option<Counted> {
+    Counted::new(count, NO_FLAGS, 0, 0, 1)
+}
+
+#[test]
+fn fields_of_headers(rt: HostRuntime) {
     let flags = Flags { q: true, s: false };
-    let short = Short::new(ControlType::Ack, 0, flags, 5, 0, 7).ok_or("no header")?;
     let bytes = [0x05, 0x01, 0x40, 0x05, 0x00, 0x07, 0x79, 0x96];
-    assert_eq!(rt; Header::parse(&bytes), Ok(Header::Control(short)));
-    assert_eq!(rt; Short::new(ControlType::Nak, 64, NO_FLAGS, 0, 0, 1), None);
-    assert_eq!(rt; Counted::new(0, NO_FLAGS, 0, 0, 1), None);
-    assert_eq!(rt; Counted::new(16384, NO_FLAGS, 0, 0, 1), None);
+    let ack = short(ControlType::Ack, 0, flags, 5, 7);
+    assert!(rt; ack.is_some());
+    is(&rt, parsed(&bytes).ok(), ack.map(Header::Control));
+    is(&rt, short(ControlType::Nak, 64, NO_FLAGS, 0, 1), None);
+    is(&rt, counted(0), None);
+    is(&rt, counted(16384), None);
+}
+
+fn reason_of(sub: u8) -> Nak {
+    Nak::of(sub)
+}
+
+fn sub_of(reason: Nak) -> u8 {
+    reason.sub()
+}
+
+#[test]
+fn reasons_of_naks(rt: HostRuntime) {
     let reasons = [
         (1, Nak::HeaderCheck),
         (2, Nak::DataCheck),
@@ -256,156 +364,172 @@ fn headers_and_faults(rt: HostRuntime) -> Result<(), Fail> {
         (4, Nak::Other(4)),
     ];
     for (sub, reason) in reasons {
-        assert_eq!(rt; Nak::of(sub), reason);
-        assert_eq!(rt; reason.sub(), sub);
+        is(&rt, reason_of(sub), reason);
+        is(&rt, sub_of(reason), sub);
     }
-    Ok(())
+}
+
+/// A byte that ends nothing: one more is open and kept, and none is lent.
+fn opens(rt: &impl Abort, reader: &mut Reader, byte: u8, open: usize) {
+    is(rt, push(rt, reader, byte), None);
+    has_open(rt, reader, open, open);
+    is(rt, lent_by(reader), b"".as_slice());
 }
 
 /// A data frame byte by byte: nothing before its last byte, and its data until the next.
 #[test]
 fn one_frame_byte_by_byte(rt: HostRuntime) -> Result<(), Fail> {
-    let fields = Counted::new(3, NO_FLAGS, 0, 1, 1).ok_or("no header")?;
-    let mut reader = Reader::new(rt.alloc(), 16383).ok().ok_or("no reader")?;
+    let mut reader = reader_of(rt.alloc(), 16383)?;
     for (done, byte) in ABC_1[..12].iter().enumerate() {
-        assert!(rt; reader.offset() < 100);
-        assert_eq!(rt; reader.push(*byte), None);
-        assert_eq!(rt; reader.open(), done + 1);
-        assert_eq!(rt; reader.kept(), done + 1);
-        assert_eq!(rt; reader.data(), b"".as_slice());
+        opens(&rt, &mut reader, *byte, done + 1);
     }
-    assert!(rt; reader.offset() < 100);
-    assert_eq!(rt;
-        reader.push(ABC_1[12]),
-        Some(Item::Good(0, Header::Data(fields)))
-    );
-    assert_eq!(rt; reader.data(), b"abc".as_slice());
-    assert_eq!(rt; reader.open(), 0);
-    assert_eq!(rt; reader.offset(), 13);
-    assert!(rt; reader.offset() < 100);
-    assert_eq!(rt; reader.push(0x96), None);
-    assert_eq!(rt; reader.data(), b"".as_slice());
-    reader.reset();
-    assert_eq!(rt; reader.offset(), 0);
-    assert_eq!(rt; reader.open(), 0);
+    ends_with(&rt, &mut reader)?;
+    opens(&rt, &mut reader, 0x96, 0);
+    reset(&mut reader);
+    has_offset(&rt, &reader, 0);
+    has_open(&rt, &reader, 0, 0);
     Ok(())
+}
+
+/// Its last byte.
+fn ends_with(rt: &impl Abort, reader: &mut Reader) -> Result<(), Fail> {
+    let fields = Counted::new(3, NO_FLAGS, 0, 1, 1).ok_or("no header")?;
+    let good = Item::Good(0, Header::Data(fields));
+    is(rt, push(rt, reader, ABC_1[12]), Some(good));
+    is(rt, lent_by(reader), b"abc".as_slice());
+    has_open(rt, reader, 0, 0);
+    has_offset(rt, reader, 13);
+    Ok(())
+}
+
+/// A new reader gives these items for a text, lends nothing, and keeps the bytes that are open.
+fn is_read(
+    rt: &(impl Abort + AllocGlobal),
+    text: &[u8],
+    items: &[Item],
+    open: usize,
+) -> Result<(), Fail> {
+    let mut reader = reader_of(rt.alloc(), 16383)?;
+    reads(rt, &mut reader, text, items, &[])?;
+    has_open(rt, &reader, open, open);
+    Ok(())
+}
+
+/// A control message without numbers.
+fn control(kind: ControlType, flags: Flags) -> Result<Header, Fail> {
+    let short = Short::new(kind, 0, flags, 0, 0, 1).ok_or("no header")?;
+    Ok(Header::Control(short))
+}
+
+/// Data message 1 of so many bytes.
+fn data_1(count: u16) -> Result<Header, Fail> {
+    let fields = Counted::new(count, NO_FLAGS, 0, 1, 1).ok_or("no header")?;
+    Ok(Header::Data(fields))
+}
+
+/// STRT and STACK, with fill between.
+fn with_fill() -> &'static [u8] {
+    &[
+        0x05, 0x06, 0xC0, 0x00, 0x00, 0x01, 0x75, 0x95, 0x96, 0x96, 0xFF, 0x05, 0x07, 0xC0, 0x00,
+        0x00, 0x01, 0x48, 0x55,
+    ]
+}
+
+fn damaged_data() -> &'static [u8] {
+    &[
+        0x81, 0x03, 0x00, 0x00, 0x01, 0x01, 0x9A, 0x41, 0x61, 0x62, 0x63, 0x38, 0x96,
+    ]
+}
+
+/// A start byte that begins nothing, and an ACK.
+fn false_start() -> &'static [u8] {
+    &[0x81, 0x05, 0x01, 0x00, 0x00, 0x00, 0x01, 0xFC, 0x55]
+}
+
+/// Two headers that can't stand, and an ACK.
+fn bad_formats() -> &'static [u8] {
+    &[
+        0x81, 0x00, 0x00, 0x00, 0x01, 0x01, 0xDE, 0x41, 0x05, 0x04, 0x00, 0x00, 0x00, 0x01, 0x30,
+        0x55, 0x05, 0x01, 0x00, 0x00, 0x00, 0x01, 0xFC, 0x55,
+    ]
 }
 
 #[test]
 fn texts(rt: HostRuntime) -> Result<(), Fail> {
-    let alloc = rt.alloc();
-    let one = Counted::new(3, NO_FLAGS, 0, 1, 1).ok_or("no header")?;
-    let strt = Short::new(ControlType::Strt, 0, BOTH_FLAGS, 0, 0, 1).ok_or("no header")?;
-    let stack = Short::new(ControlType::Stack, 0, BOTH_FLAGS, 0, 0, 1).ok_or("no header")?;
-    let ack = Short::new(ControlType::Ack, 0, NO_FLAGS, 0, 0, 1).ok_or("no header")?;
-    let rows: [(&[u8], &[Item], usize); 6] = [
-        (
-            &[
-                0x05, 0x06, 0xC0, 0x00, 0x00, 0x01, 0x75, 0x95, 0x96, 0x96, 0xFF, 0x05, 0x07, 0xC0,
-                0x00, 0x00, 0x01, 0x48, 0x55,
-            ],
-            &[
-                Item::Good(0, Header::Control(strt)),
-                Item::Good(11, Header::Control(stack)),
-            ],
-            0,
-        ),
-        (
-            &[
-                0x81, 0x03, 0x00, 0x00, 0x01, 0x01, 0x9A, 0x41, 0x61, 0x62, 0x63, 0x38, 0x96,
-            ],
-            &[Item::DataCheck(0, Header::Data(one))],
-            0,
-        ),
-        (
-            &[0x81, 0x05, 0x01, 0x00, 0x00, 0x00, 0x01, 0xFC, 0x55],
-            &[Item::HeaderCheck(0), Item::Good(1, Header::Control(ack))],
-            0,
-        ),
-        (
-            &[
-                0x81, 0x00, 0x00, 0x00, 0x01, 0x01, 0xDE, 0x41, 0x05, 0x04, 0x00, 0x00, 0x00, 0x01,
-                0x30, 0x55, 0x05, 0x01, 0x00, 0x00, 0x00, 0x01, 0xFC, 0x55,
-            ],
-            &[
-                Item::Format(0, HeaderFault::CountZero),
-                Item::Format(8, HeaderFault::BadType(4)),
-                Item::Good(16, Header::Control(ack)),
-            ],
-            0,
-        ),
-        (&[0x05; 300], &[Item::HeaderCheck(0)], 7),
-        (&[0x05, 0x01, 0x00, 0x00, 0x00], &[], 5),
+    let strt = control(ControlType::Strt, BOTH_FLAGS)?;
+    let stack = control(ControlType::Stack, BOTH_FLAGS)?;
+    let items = [Item::Good(0, strt), Item::Good(11, stack)];
+    is_read(&rt, with_fill(), &items, 0)?;
+    let data = data_1(3)?;
+    is_read(&rt, damaged_data(), &[Item::DataCheck(0, data)], 0)
+}
+
+#[test]
+fn a_false_start(rt: HostRuntime) -> Result<(), Fail> {
+    let ack = control(ControlType::Ack, NO_FLAGS)?;
+    let items = [Item::HeaderCheck(0), Item::Good(1, ack)];
+    is_read(&rt, false_start(), &items, 0)
+}
+
+#[test]
+fn formats_that_cant_stand(rt: HostRuntime) -> Result<(), Fail> {
+    let ack = control(ControlType::Ack, NO_FLAGS)?;
+    let items = [
+        Item::Format(0, HeaderFault::CountZero),
+        Item::Format(8, HeaderFault::BadType(4)),
+        Item::Good(16, ack),
     ];
-    for (text, items, open) in rows {
-        let mut reader = Reader::new(alloc, 16383).ok().ok_or("no reader")?;
-        reads(&rt, alloc, &mut reader, text, items, &[])?;
-        assert_eq!(rt; reader.open(), open);
-        assert_eq!(rt; reader.kept(), open);
-    }
-    Ok(())
+    is_read(&rt, bad_formats(), &items, 0)
+}
+
+#[test]
+fn texts_without_an_end(rt: HostRuntime) -> Result<(), Fail> {
+    is_read(&rt, &[0x05; 300], &[Item::HeaderCheck(0)], 7)?;
+    is_read(&rt, &[0x05, 0x01, 0x00, 0x00, 0x00], &[], 5)
+}
+
+/// The header of data message 1 of 1501 bytes.
+fn long_header() -> &'static [u8] {
+    &[0x81, 0xDD, 0x05, 0x00, 0x01, 0x01, 0x32, 0x9E]
 }
 
 /// The bytes of a too long frame are counted, never kept.
 #[test]
 fn too_long(rt: HostRuntime) -> Result<(), Fail> {
-    let alloc = rt.alloc();
-    let long = Counted::new(1501, NO_FLAGS, 0, 1, 1).ok_or("no header")?;
-    let ack = Short::new(ControlType::Ack, 0, NO_FLAGS, 0, 0, 1).ok_or("no header")?;
-    let mut reader = Reader::new(alloc, 1500).ok().ok_or("no reader")?;
-    let front = [0x81, 0xDD, 0x05, 0x00, 0x01, 0x01, 0x32, 0x9E];
-    reads(
-        &rt,
-        alloc,
-        &mut reader,
-        &front,
-        &[Item::TooLong(0, Header::Data(long))],
-        &[],
-    )?;
-    assert_eq!(rt; reader.open(), 8);
-    assert_eq!(rt; reader.kept(), 0);
-    reads(&rt, alloc, &mut reader, &[0x05; 1502], &[], &[])?;
-    assert_eq!(rt; reader.open(), 1510);
-    assert_eq!(rt; reader.kept(), 0);
-    reads(&rt, alloc, &mut reader, &[0x05], &[], &[])?;
-    assert_eq!(rt; reader.open(), 0);
-    reads(
-        &rt,
-        alloc,
-        &mut reader,
-        &ACK_0,
-        &[Item::Good(1511, Header::Control(ack))],
-        &[],
-    )?;
-    assert_eq!(rt; reader.offset(), 1519);
+    let mut reader = reader_of(rt.alloc(), 1500)?;
+    let told = [Item::TooLong(0, data_1(1501)?)];
+    reads(&rt, &mut reader, long_header(), &told, &[])?;
+    has_open(&rt, &reader, 8, 0);
+    reads(&rt, &mut reader, &[0x05; 1502], &[], &[])?;
+    has_open(&rt, &reader, 1510, 0);
+    reads(&rt, &mut reader, &[0x05], &[], &[])?;
+    has_open(&rt, &reader, 0, 0);
+    let told = [Item::Good(1511, control(ControlType::Ack, NO_FLAGS)?)];
+    reads(&rt, &mut reader, ack_0(), &told, &[])?;
+    has_offset(&rt, &reader, 1519);
     Ok(())
 }
 
-#[test]
-fn readers_of_many_sizes(rt: HostRuntime) {
-    for max in [1, 2, 7, 255, 1501, 9000, 16382, 16383] {
-        match Reader::new(rt.alloc(), max) {
-            Ok(reader) => assert_eq!(rt; reader.open(), 0),
-            Err(refusal) => panic!(rt; "{refusal:?} at {max}"),
-        }
+/// Why no reader has this maximum, and how many bytes are open in a new one.
+fn made(alloc: Global, max: u16) -> Result<(usize, u64), ReaderRefusal> {
+    match Reader::new(alloc, max) {
+        Ok(reader) => Ok((reader.open(), reader.offset())),
+        Err(refusal) => Err(refusal),
     }
 }
 
 /// Whether memory is refused to a reader.
 fn is_refused(rt: &(impl Abort + AllocGlobal)) -> bool {
     let alloc = rt.alloc();
-    assert_eq!(rt; Reader::new(alloc, 0).err(), Some(ReaderRefusal::MaxZero));
-    assert_eq!(rt;
-        Reader::new(alloc, 16384).err(),
-        Some(ReaderRefusal::MaxAbove16383)
-    );
-    match Reader::new(alloc, 1) {
-        Ok(reader) => {
-            assert_eq!(rt; reader.open(), 0);
+    is(rt, made(alloc, 0), Err(ReaderRefusal::MaxZero));
+    is(rt, made(alloc, 16384), Err(ReaderRefusal::MaxAbove16383));
+    match made(alloc, 1) {
+        Ok(counts) => {
+            is(rt, counts, (0, 0));
             false
         }
         Err(refusal) => {
-            assert_eq!(rt; refusal, ReaderRefusal::Memory);
+            is(rt, refusal, ReaderRefusal::Memory);
             true
         }
     }
@@ -426,9 +550,6 @@ fn ample_memory(rt: HostRuntime) {
 #[test]
 fn readers_of_every_size(rt: HostRuntime) {
     for max in 1..=16383u16 {
-        match Reader::new(rt.alloc(), max) {
-            Ok(reader) => assert_eq!(rt; reader.offset(), 0),
-            Err(refusal) => panic!(rt; "{refusal:?} at {max}"),
-        }
+        is(&rt, made(rt.alloc(), max), Ok((0, 0)));
     }
 }

@@ -1,8 +1,11 @@
 //! The two readers beside each other, byte by byte and in pieces.
-use crate::frames::{A_1, ABC_1, ABC_2, ABC_MAINT, B_2, CONTROLS};
+use crate::calls::{
+    counts, counts_plain, data, data_plain, is, plain_of, push, push_all, push_plain, reader_of,
+};
+use crate::frames::{controls, messages};
 use ddcmp_frame::plain::PlainReader;
-use ddcmp_frame::{Item, Reader, Taken};
-use std::alloc::Global;
+use ddcmp_frame::{Item, Reader};
+use std::alloc::{AllocError, Global};
 use std::process::Abort;
 use std::test::Fail;
 
@@ -11,38 +14,83 @@ use std::test::Fail;
 const MAXIMA: [u16; 4] = [16383, 3, 2, 1];
 
 /// The frames of the published layouts, one after another.
-fn published(alloc: Global) -> Result<Vec<u8>, Fail> {
+fn published(alloc: Global) -> Result<Vec<u8>, AllocError> {
     let mut text = Vec::new(alloc);
-    for (_kind, _sub, _flags, _resp, _num, bytes) in CONTROLS {
+    for (_kind, _sub, _flags, _resp, _num, bytes) in controls() {
         text.extend_from_slice(bytes)?;
     }
-    text.extend_from_slice(&ABC_1)?;
-    text.extend_from_slice(&ABC_2)?;
-    text.extend_from_slice(&A_1)?;
-    text.extend_from_slice(&B_2)?;
-    text.extend_from_slice(&ABC_MAINT)?;
+    for bytes in messages() {
+        text.extend_from_slice(bytes)?;
+    }
     Ok(text)
 }
 
 /// Every other answer of the two readers, which have taken the same bytes.
 fn same_state(rt: &impl Abort, reader: &Reader, plain: &PlainReader) {
-    assert_eq!(rt; reader.data(), plain.data());
-    assert_eq!(rt; reader.offset(), plain.offset());
-    assert_eq!(rt; reader.open(), plain.open());
-    assert_eq!(rt; reader.kept(), plain.kept());
+    is(rt, data(reader), data_plain(plain));
+    is(rt, counts(reader), counts_plain(plain));
 }
 
 /// The same answers of every call after every byte.
 fn same_by_bytes(rt: &impl Abort, alloc: Global, max: u16, text: &[u8]) -> Result<(), Fail> {
-    let mut reader = Reader::new(alloc, max).ok().ok_or("no reader")?;
-    let mut plain = PlainReader::new(alloc, max).ok().ok_or("no plain reader")?;
+    let mut reader = reader_of(alloc, max)?;
+    let mut plain = plain_of(alloc, max)?;
     for byte in text {
-        assert!(rt; reader.offset() < 1_000_000);
-        assert!(rt; plain.offset() < 1_000_000);
-        assert_eq!(rt; reader.push(*byte), plain.push(*byte));
+        is(
+            rt,
+            push(rt, &mut reader, *byte),
+            push_plain(rt, &mut plain, *byte),
+        );
         same_state(rt, &reader, &plain);
     }
     Ok(())
+}
+
+/// The item that the plain reader gives for these bytes: at the last of them, if at any.
+fn item_of(rt: &impl Abort, plain: &mut PlainReader, bytes: &[u8]) -> Option<Item> {
+    let mut given = None;
+    for byte in bytes {
+        is(rt, given, None);
+        given = push_plain(rt, plain, *byte);
+    }
+    given
+}
+
+/// Two readers that take the same bytes.
+#[derive(Drop)]
+struct Both {
+    reader: Reader,
+    plain: PlainReader,
+}
+
+impl Both {
+    fn new(alloc: Global, max: u16) -> Result<Both, Fail> {
+        Ok(Both {
+            reader: reader_of(alloc, max)?,
+            plain: plain_of(alloc, max)?,
+        })
+    }
+
+    /// One reader takes bytes up to an item, and the plain one as many: how many. It gives the same
+    /// item, and their other answers are the same then.
+    fn takes_some(&mut self, rt: &impl Abort, rest: &[u8]) -> usize {
+        let (used, item) = push_all(rt, &mut self.reader, rest);
+        let wanted = item_of(rt, &mut self.plain, rest.get(..used).unwrap_or(&[]));
+        is(rt, item, wanted);
+        same_state(rt, &self.reader, &self.plain);
+        used
+    }
+
+    /// Both take a piece.
+    fn takes(&mut self, rt: &impl Abort, piece: &[u8]) {
+        let mut at = 0usize;
+        for _byte in piece {
+            if at < piece.len() {
+                at = at.saturating_add(self.takes_some(rt, &piece[at..]));
+            }
+        }
+        is(rt, at, piece.len());
+    }
 }
 
 /// The same items where one reader takes pieces of a length, and the same answers behind each item
@@ -54,35 +102,11 @@ fn same_in_pieces(
     text: &[u8],
     len: usize,
 ) -> Result<(), Fail> {
-    let mut reader = Reader::new(alloc, max).ok().ok_or("no reader")?;
-    let mut plain = PlainReader::new(alloc, max).ok().ok_or("no plain reader")?;
-    let mut given = Vec::new(alloc);
-    let mut wanted = Vec::new(alloc);
+    let mut both = Both::new(alloc, max)?;
     assert!(rt; 0 < len);
     for piece in text.chunks(len) {
-        let mut rest = piece;
-        for _byte in piece {
-            if rest.is_empty() {
-                break;
-            }
-            assert!(rt; reader.offset() < 1_000_000 && rest.len() < 1_000_000);
-            let Taken { used, item } = reader.push_all(rest);
-            let (taken, others) = rest.split_at(used);
-            for byte in taken {
-                assert!(rt; plain.offset() < 1_000_000);
-                if let Some(wants) = plain.push(*byte) {
-                    wanted.push(wants)?;
-                }
-            }
-            if let Some(gives) = item {
-                given.push(gives)?;
-            }
-            same_state(rt, &reader, &plain);
-            rest = others;
-        }
-        assert!(rt; rest.is_empty());
+        both.takes(rt, piece);
     }
-    assert_eq!(rt; given.as_slice(), wanted.as_slice());
     Ok(())
 }
 
@@ -124,32 +148,22 @@ fn start_bytes_alone(rt: HostRuntime) -> Result<(), Fail> {
     same(&rt, rt.alloc(), &[0x05; 300])
 }
 
+/// Whether an item is a good frame at the beginning.
+fn is_first(item: Option<Item>) -> bool {
+    matches!(item, Some(Item::Good(0, _)))
+}
+
 /// A piece gives one item at most, and an empty one nothing.
 #[test]
 fn up_to_an_item(rt: HostRuntime) -> Result<(), Fail> {
-    let alloc = rt.alloc();
-    let mut reader = Reader::new(alloc, 16383).ok().ok_or("no reader")?;
-    let text = published(alloc)?;
-    assert!(rt; reader.offset() < 100 && text.len() < 1000);
-    let Taken { used, item } = reader.push_all(&text);
-    assert_eq!(rt; used, 8);
-    assert!(rt; matches!(item, Some(Item::Good(0, _))));
-    assert!(rt; reader.offset() < 100);
-    assert_eq!(rt;
-        reader.push_all(&[]),
-        Taken {
-            used: 0,
-            item: None
-        }
-    );
-    assert!(rt; reader.offset() < 100);
-    assert_eq!(rt;
-        reader.push_all(&[0x96; 5]),
-        Taken {
-            used: 5,
-            item: None
-        }
-    );
-    assert_eq!(rt; reader.open(), 0);
+    let mut reader = reader_of(rt.alloc(), 16383)?;
+    let text = published(rt.alloc())?;
+    let (used, item) = push_all(&rt, &mut reader, &text);
+    is(&rt, used, 8);
+    assert!(rt; is_first(item));
+    is(&rt, push_all(&rt, &mut reader, &[]), (0, None));
+    is(&rt, push_all(&rt, &mut reader, &[0x96; 5]), (5, None));
+    let (open, _kept, _offset) = counts(&reader);
+    is(&rt, open, 0);
     Ok(())
 }

@@ -1,5 +1,5 @@
-//! Two stations on a line, joined by a carrier: a script says what happens between them. This is one
-//! name for what the crates below hold.
+//! Two stations on a line, joined by a carrier: a script says what happens between them. This is
+//! one name for what the crates below hold.
 #![tactic(auto)]
 
 pub use ddcmp_io::{input, text};

@@ -1,5 +1,5 @@
 //! Each call once, and pairs of many sizes.
-use crate::bench::{Bench, EMPTY, Histories, Step, USUAL, event_of, path};
+use crate::bench::{Bench, Step, USUAL, event_of, path};
 use ddcmp_pair::{Config, ConfigRefusal, End, Event, Pair, PairRefusal, RunRefusal, State, run};
 use std::alloc::{AllocError, Global};
 use std::process::Abort;
@@ -78,27 +78,27 @@ const REFUSED: [(Config, ConfigRefusal); 8] = [
     ),
 ];
 
-/// A pair of these sizes is made.
-fn makes(rt: &(impl Abort + AllocGlobal), first: Config, second: Config) {
-    let bench = Bench::new(rt, first, second);
-    bench.has(rt, &EMPTY);
-    assert_eq!(rt; bench.pair.station(End::A).state(), State::Halted);
-    assert_eq!(rt; bench.pair.station(End::B).state(), State::Halted);
+/// Nothing has been done, and both ends are halted.
+fn is_new(bench: &Bench) -> bool {
+    bench.premises() == (true, true)
+        && bench.counts(End::A) == (0, 0, 0)
+        && bench.counts(End::B) == (0, 0, 0)
+        && bench.station(End::A).state() == State::Halted
+        && bench.station(End::B).state() == State::Halted
 }
 
 #[test]
 fn pairs_of_many_sizes(rt: HostRuntime) {
     for first in &SIZES {
         for second in &SIZES {
-            makes(&rt, *first, *second);
+            assert!(rt; is_new(&Bench::ample(&rt, *first, *second)));
         }
     }
 }
 
-/// A pair of these sizes is refused so, and a run too.
-fn refuses(rt: &(impl Abort + AllocGlobal), first: Config, second: Config, refusal: PairRefusal) {
-    assert_eq!(rt; Pair::new(rt.alloc(), first, second).err(), Some(refusal));
-    assert_eq!(rt; refusal_of_run(rt.alloc(), first, second), Some(refusal));
+/// The refusal of a pair, for its sizes.
+fn refusal_of_pair(alloc: Global, first: Config, second: Config) -> Option<PairRefusal> {
+    Pair::new(alloc, first, second).err()
 }
 
 /// A run without an event.
@@ -126,43 +126,44 @@ fn refusal_of_run(alloc: Global, first: Config, second: Config) -> Option<PairRe
     }
 }
 
+/// A pair of these sizes is refused so, and a run too.
+fn refuses(rt: &(impl Abort + AllocGlobal), first: Config, second: Config, refusal: PairRefusal) {
+    assert!(rt; refusal_of_pair(rt.alloc(), first, second) == Some(refusal));
+    assert!(rt; refusal_of_run(rt.alloc(), first, second) == Some(refusal));
+}
+
+/// These sizes are refused at either end, and the first end's refusal comes first.
+fn refuses_at_both(rt: &(impl Abort + AllocGlobal), config: Config, refusal: ConfigRefusal) {
+    let first = PairRefusal::First(refusal);
+    refuses(rt, config, USUAL, first);
+    refuses(rt, config, LARGEST, first);
+    refuses(rt, config, Config { window: 0, ..USUAL }, first);
+    let second = PairRefusal::Second(refusal);
+    refuses(rt, USUAL, config, second);
+    refuses(rt, LARGEST, config, second);
+}
+
 #[test]
 fn sizes_out_of_range_are_refused(rt: HostRuntime) {
     for (config, refusal) in &REFUSED {
-        let first = PairRefusal::First(*refusal);
-        refuses(&rt, *config, USUAL, first);
-        refuses(&rt, *config, LARGEST, first);
-        refuses(&rt, *config, Config { window: 0, ..USUAL }, first);
-        let second = PairRefusal::Second(*refusal);
-        refuses(&rt, USUAL, *config, second);
-        refuses(&rt, LARGEST, *config, second);
+        refuses_at_both(&rt, *config, *refusal);
     }
 }
 
-/// The events of some steps, of which none is a settle or a look.
+/// The events of some steps.
 pub fn events_of(alloc: Global, steps: &[Step]) -> Result<Vec<Event>, AllocError> {
     let mut events = Vec::new(alloc);
     for (action, _answer) in steps {
-        if let Some(event) = event_of(alloc, *action)? {
-            events.push(event)?;
-        }
+        events.push(event_of(alloc, *action)?)?;
     }
     Ok(events)
 }
 
-/// After that path.
-pub const ARRIVED: Histories = Histories {
-    given: [&[b"abc"], &[]],
-    handed_up: [&[], &[b"abc"]],
-    acknowledged: [1, 0],
-    ..EMPTY
-};
-
-/// A run of these events is done, and then this has been done.
-fn runs(rt: &(impl Abort + AllocGlobal), events: &[Event], histories: &Histories) {
-    match Bench::of_run(rt.alloc(), events).ok() {
-        Some(bench) => bench.has(rt, histories),
-        None => panic!(rt; "the run is refused"),
+/// The pair of a run of these events; there is memory.
+fn ran(rt: &(impl Abort + AllocGlobal), events: &[Event]) -> Bench {
+    match Bench::of_run(rt.alloc(), events) {
+        Ok(bench) => bench,
+        Err(_refused) => panic!(rt; "the run is refused"),
     }
 }
 
@@ -170,10 +171,10 @@ fn runs(rt: &(impl Abort + AllocGlobal), events: &[Event], histories: &Histories
 fn a_run_is_its_steps(rt: HostRuntime) -> Result<(), Fail> {
     let events = events_of(rt.alloc(), path())?;
     assert_eq!(rt; events.len(), 14);
-    runs(&rt, &events, &ARRIVED);
-    let mut bench = Bench::new(&rt, USUAL, USUAL);
+    ran(&rt, &events).has_many(&rt, b"abc", 1);
+    let mut bench = Bench::ample(&rt, USUAL, USUAL);
     bench.plays(&rt, path());
-    bench.has(&rt, &ARRIVED);
-    runs(&rt, &[], &EMPTY);
+    bench.has_many(&rt, b"abc", 1);
+    ran(&rt, &[]).has_many(&rt, b"", 0);
     Ok(())
 }

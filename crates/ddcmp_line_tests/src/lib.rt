@@ -1,4 +1,4 @@
-//! Tests of `ddcmp_line` on rows of events from outside.
+//! Tests of `ddcmp_pair` on events from outside. Worked rows are in `worked_pairs`.
 #![tactic(auto)]
 
 #[cfg(test)]

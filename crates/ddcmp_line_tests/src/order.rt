@@ -1,30 +1,19 @@
 //! In order, once, unchanged, or not at all: over a bad line, and what would be false where the
 //! line isn't honest or a run isn't clean.
-ghost use Rattle.std.specs.Prelude.{◌<◌};
+ghost use Rattle.std.specs.Prelude.{◌<◌, ◌≤◌};
 
-use crate::bench::{Action, Answer, Bench, HANDED_UP, LONGEST, NO_NOTICE, Step, USUAL};
-use ddcmp_pair::{Bytes, Config, End, Event, Notice, Reply, SendRefusal, Seq};
+use crate::bench::{Action, Answer, Bench, HANDED_UP, NO_NOTICE, Step, USUAL, sizes};
+use ddcmp_pair::{Bytes, End, Event, Notice, Reply, SendRefusal};
 use std::process::Abort;
 
 // ---- what the premises are for
 
-/// Messages from A to B, each of which is acknowledged.
-fn carries(bench: &mut Bench, rt: &(impl Abort + AllocGlobal), first: u16, last: u16) {
-    for number in first..=last {
-        let accepted = Answer::Accepted(Seq((number % 256) as u8));
-        bench.plays(rt, &[(Action::Send(End::A, b"a"), accepted)]);
-        bench.crosses(rt, End::A, Notice::HandedUp);
-        bench.plays(rt, &[(Action::Take(End::B), Answer::Took(b"a"))]);
-        bench.crosses(rt, End::B, Notice::Acknowledged(1));
-    }
-}
-
 /// One message more is handed up than was accepted.
 fn one_too_many(bench: &Bench, rt: &impl Abort) {
-    assert!(rt; !bench.pair.honest());
-    assert!(rt; bench.pair.clean());
-    assert_eq!(rt; bench.pair.given(End::A), 256);
-    assert_eq!(rt; bench.pair.handed_up(End::B), 257);
+    let (given, _up, _told) = bench.counts(End::A);
+    let (_given, handed_up, _acknowledged) = bench.counts(End::B);
+    assert!(rt; bench.premises() == (false, true));
+    assert!(rt; (given, handed_up) == (256, 257));
 }
 
 /// Data message 1, `a`, with RESP 0.
@@ -32,19 +21,27 @@ const FIRST: &[u8] = &[
     0x81, 0x01, 0x00, 0x00, 0x01, 0x01, 0xE3, 0x81, 0x61, 0xC1, 0xE8,
 ];
 
+/// It comes when 256 messages are over, and is handed up.
+fn comes_late(bench: &mut Bench, rt: &(impl Abort + AllocGlobal)) {
+    let (honest, _clean) = bench.premises();
+    assert!(rt; honest);
+    bench.plays(rt, &[(Action::Arrive(End::B, FIRST), HANDED_UP)]);
+    one_too_many(bench, rt);
+}
+
 /// Message 1 comes again when the next message is 257, whose number is 1 too.
 #[test]
 fn a_doubled_frame_is_handed_up_twice(rt: HostRuntime) {
     let mut bench = Bench::running(&rt, USUAL);
-    carries(&mut bench, &rt, 1, 256);
-    assert!(rt; bench.pair.honest());
-    bench.plays(&rt, &[(Action::Arrive(End::B, FIRST), HANDED_UP)]);
-    one_too_many(&bench, &rt);
+    for number in 1..=256u16 {
+        bench.carries(&rt, number);
+    }
+    comes_late(&mut bench, &rt);
 }
 
 /// Message 1 is sent, and sent again after a REP and a NAK.
 const SENT_TWICE: &[Step] = &[
-    (Action::Send(End::A, b"a"), Answer::Accepted(Seq(1))),
+    (Action::Send(End::A, b"a"), Answer::Accepted(1)),
     (Action::Poll(End::A), Answer::Wrote(FIRST)),
     (Action::Expire(End::A), Answer::Expired(true)),
     (
@@ -68,32 +65,42 @@ const SENT_TWICE: &[Step] = &[
     (Action::Take(End::B), Answer::Took(b"a")),
 ];
 
+fn sent_twice() -> &'static [Step] {
+    SENT_TWICE
+}
+
 /// Of two frames that were sent the first comes last, behind 255 others.
 #[test]
 fn a_late_frame_is_handed_up_twice(rt: HostRuntime) {
     let mut bench = Bench::running(&rt, USUAL);
-    bench.plays(&rt, SENT_TWICE);
-    bench.crosses(&rt, End::B, Notice::Acknowledged(1));
-    carries(&mut bench, &rt, 2, 256);
-    assert!(rt; bench.pair.honest());
-    bench.plays(&rt, &[(Action::Arrive(End::B, FIRST), HANDED_UP)]);
-    one_too_many(&bench, &rt);
+    bench.plays(&rt, sent_twice());
+    assert!(rt; is_acknowledged(&mut bench));
+    for number in 2..=256u16 {
+        bench.carries(&rt, number);
+    }
+    comes_late(&mut bench, &rt);
 }
 
 // ---- a bad line
 
-/// The windows at which rows are played.
-const WINDOWS: [u16; 4] = [1, 7, 127, 255];
+fn is_acknowledged(bench: &mut Bench) -> bool {
+    bench.crosses(End::B, &[Notice::Acknowledged(1)])
+}
 
 /// A frame is lost, a REP shows it, and it is sent again.
+fn comes_later(rt: &(impl Abort + AllocGlobal), window: u16) {
+    let mut bench = Bench::running(rt, sizes(window));
+    bench.plays(rt, sent_twice());
+    assert!(rt; is_acknowledged(&mut bench));
+    bench.has_many(rt, b"a", 1);
+}
+
 #[test]
 fn a_lost_message_comes_later(rt: HostRuntime) {
-    for window in WINDOWS {
-        let mut bench = Bench::running(&rt, Config { window, ..USUAL });
-        bench.plays(&rt, SENT_TWICE);
-        bench.crosses(&rt, End::B, Notice::Acknowledged(1));
-        bench.has_many(&rt, b"a", 1);
-    }
+    comes_later(&rt, 1);
+    comes_later(&rt, 7);
+    comes_later(&rt, 127);
+    comes_later(&rt, 255);
 }
 
 /// A message that no other message equals, of bytes that begin no frame.
@@ -154,11 +161,31 @@ fn at(end: End) -> usize
 }
 
 impl Talk {
+    fn new(rt: &(impl Abort + AllocGlobal), window: u16) -> Talk {
+        Talk {
+            bench: Bench::running(rt, sizes(window)),
+            line: BadLine { frames: 0 },
+            next: [1, 1],
+        }
+    }
+
     /// What is answered to an event; there is memory.
     fn does(&mut self, rt: &impl Abort, event: Event) -> Reply {
         match self.bench.step(event) {
             Ok(reply) => reply,
-            Err(refused) => panic!(rt; "{refused:?}"),
+            Err(_memory) => panic!(rt; "no memory"),
+        }
+    }
+
+    /// Whether the end takes this message, if its window isn't full.
+    fn is_offered(&mut self, rt: &(impl Abort + AllocGlobal), end: End, message: &[u8]) -> bool {
+        let Ok(bytes) = Vec::from_slice(rt.alloc(), message) else {
+            panic!(rt; "no memory");
+        };
+        match self.does(rt, Event::Send(end, Bytes::new(bytes))) {
+            Reply::Accepted(_number) => true,
+            Reply::SendRefused(SendRefusal::WindowFull) => false,
+            _ => panic!(rt; "a message is refused"),
         }
     }
 
@@ -166,17 +193,10 @@ impl Talk {
     fn offers(&mut self, rt: &(impl Abort + AllocGlobal), end: End) {
         for _offer in 0..MESSAGES {
             let number = self.next[at(end)];
-            if number > MESSAGES {
+            if number > MESSAGES || !self.is_offered(rt, end, &message(end, number)) {
                 return;
             }
-            let Ok(bytes) = Vec::from_slice(rt.alloc(), &message(end, number)) else {
-                panic!(rt; "no memory");
-            };
-            match self.does(rt, Event::Send(end, Bytes::new(bytes))) {
-                Reply::Accepted(_number) => self.next[at(end)] = number + 1,
-                Reply::SendRefused(SendRefusal::WindowFull) => return,
-                _ => panic!(rt; "message {number} is refused"),
-            }
+            self.next[at(end)] = number + 1;
         }
     }
 
@@ -184,18 +204,44 @@ impl Talk {
     /// taken.
     fn crosses(&mut self, rt: &(impl Abort + AllocGlobal), from: End) {
         self.offers(rt, from);
-        let Reply::Wrote(frame) = self.does(rt, Event::Poll(from)) else {
-            return;
-        };
-        let Some(bytes) = self.line.passes(rt, frame) else {
-            return;
-        };
-        let _told = self.does(rt, Event::Arrive(from.other(), bytes));
+        if let Some(frame) = self.bench.polls(from) {
+            if let Some(bytes) = self.line.passes(rt, frame) {
+                let _told = self.does(rt, Event::Arrive(from.other(), bytes));
+                self.takes(rt, from.other());
+            }
+        }
+    }
+
+    /// An end's mail is taken.
+    fn takes(&mut self, rt: &impl Abort, end: End) {
         for _message in 0..MESSAGES {
-            let Reply::Took(_message) = self.does(rt, Event::Take(from.other())) else {
+            let Reply::Took(_message) = self.does(rt, Event::Take(end)) else {
                 return;
             };
         }
+    }
+
+    /// Both timers run out.
+    fn expires(&mut self, rt: &impl Abort) {
+        let _at_a = self.does(rt, Event::Expire(End::A));
+        let _at_b = self.does(rt, Event::Expire(End::B));
+    }
+
+    /// Frames go to and fro over the bad line for a while.
+    fn talks(&mut self, rt: &(impl Abort + AllocGlobal)) {
+        for round in 0..600u16 {
+            self.crosses(rt, End::A);
+            self.crosses(rt, End::B);
+            if round % 8 == 7 {
+                self.expires(rt);
+            }
+        }
+        self.is_right(rt);
+    }
+
+    /// The line is honest, and the run clean.
+    fn is_right(&self, rt: &impl Abort) {
+        assert!(rt; self.bench.premises() == (true, true));
     }
 
     /// Both timers run out, and on a line that is good again frames go to and fro.
@@ -206,54 +252,47 @@ impl Talk {
         }
         match self.bench.settle() {
             Ok(settled) => assert!(rt; settled.quiet),
-            Err(refused) => panic!(rt; "{refused:?}"),
+            Err(_memory) => panic!(rt; "no memory"),
         }
     }
 
     /// All messages of an end are handed up at the other, in their order, and told acknowledged.
     fn has_all(&self, rt: &impl Abort, from: End) {
-        let pair = &self.bench.pair;
-        assert_eq!(rt; pair.given(from), MESSAGES as usize);
-        assert_eq!(rt; pair.handed_up(from.other()), MESSAGES as usize);
-        assert_eq!(rt; pair.acknowledged(from), MESSAGES as u64);
-        let mut out = [0; LONGEST];
+        let (given, _up, acknowledged) = self.bench.counts(from);
+        let (_given, handed_up, _told) = self.bench.counts(from.other());
+        assert!(rt; (given, handed_up) == (MESSAGES as usize, MESSAGES as usize));
+        assert!(rt; acknowledged == MESSAGES as u64);
         for number in 1..=MESSAGES {
-            let i = (number - 1) as usize;
-            assert_eq!(rt;
-                self.bench.given_at(rt, from, i),
-                message(from, number).as_slice()
-            );
-            assert_eq!(rt;
-                self.bench.handed_up_at(rt, from.other(), i, &mut out),
-                message(from, number).as_slice()
-            );
+            assert!(rt; self.is_all_of(from, number), "{number}");
         }
+    }
+
+    /// Whether this message of an end is handed up at the other, in its place.
+    fn is_all_of(&self, from: End, number: u16) -> bool
+        requires { 1 ≤ number }
+    {
+        let i = (number - 1) as usize;
+        let message = message(from, number);
+        self.bench.is_given(from, i, &message) && self.bench.is_handed_up(from.other(), i, &message)
     }
 }
 
 /// 255 messages go both ways at once over the bad line, which is repaired then.
+fn all_come(rt: &(impl Abort + AllocGlobal), window: u16) {
+    let mut talk = Talk::new(rt, window);
+    talk.talks(rt);
+    for _settle in 0..MESSAGES {
+        talk.settles(rt);
+    }
+    talk.is_right(rt);
+    talk.has_all(rt, End::A);
+    talk.has_all(rt, End::B);
+}
+
 #[test]
 fn all_messages_come_over_a_bad_line(rt: HostRuntime) {
-    for window in WINDOWS {
-        let mut talk = Talk {
-            bench: Bench::running(&rt, Config { window, ..USUAL }),
-            line: BadLine { frames: 0 },
-            next: [1, 1],
-        };
-        for round in 0..600u16 {
-            talk.crosses(&rt, End::A);
-            talk.crosses(&rt, End::B);
-            if round % 8 == 7 {
-                let _at_a = talk.does(&rt, Event::Expire(End::A));
-                let _at_b = talk.does(&rt, Event::Expire(End::B));
-            }
-        }
-        assert!(rt; talk.bench.pair.honest() && talk.bench.pair.clean());
-        for _settle in 0..MESSAGES {
-            talk.settles(&rt);
-        }
-        assert!(rt; talk.bench.pair.honest() && talk.bench.pair.clean());
-        talk.has_all(&rt, End::A);
-        talk.has_all(&rt, End::B);
-    }
+    all_come(&rt, 1);
+    all_come(&rt, 7);
+    all_come(&rt, 127);
+    all_come(&rt, 255);
 }

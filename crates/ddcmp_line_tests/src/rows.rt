@@ -1,33 +1,53 @@
 //! Many messages one after another, and a window of many.
-use crate::bench::{Action, Answer, Bench, Step, USUAL};
-use ddcmp_pair::{Config, End, Notice, SendRefusal, Seq, State};
+use crate::bench::{Action, Answer, Bench, Step, sizes};
+use ddcmp_pair::{End, Settled, State, Station};
+use std::alloc::Global;
+use std::process::Abort;
+
+/// Whether a station runs with these numbers R, N, A, T, keeps no message, has no mail, and its
+/// timer is off.
+fn is_at(station: &Station, numbers: [u8; 4]) -> bool {
+    let told = station.numbers();
+    station.state() == State::Running
+        && [told.r.0, told.n.0, told.a.0, told.t.0] == numbers
+        && station.outgoing() == 0
+        && station.waiting() == 0
+        && !station.timer_on()
+}
 
 /// Both ends after 300 messages of A.
-const AFTER_300: &[Step] = &[
-    (
-        Action::Look(End::A),
-        Answer::Station(State::Running, [0, 44, 44, 45], 0, 0, false),
-    ),
-    (
-        Action::Look(End::B),
-        Answer::Station(State::Running, [44, 0, 0, 1], 0, 0, false),
-    ),
-];
+fn is_after_300(bench: &Bench) -> bool {
+    is_at(bench.station(End::A), [0, 44, 44, 45]) && is_at(bench.station(End::B), [44, 0, 0, 1])
+}
+
+fn goes_round(rt: &(impl Abort + AllocGlobal), window: u16) {
+    let mut bench = Bench::running(rt, sizes(window));
+    for number in 1..=300u16 {
+        bench.carries(rt, number);
+    }
+    assert!(rt; is_after_300(&bench));
+    bench.has_many(rt, b"a", 300);
+}
 
 /// Message 256 has number 0.
 #[test]
 fn numbers_go_round(rt: HostRuntime) {
-    for window in [1, 7, 127, 255] {
-        let mut bench = Bench::running(&rt, Config { window, ..USUAL });
-        for number in 1..=300u16 {
-            let accepted = Answer::Accepted(Seq((number % 256) as u8));
-            bench.plays(&rt, &[(Action::Send(End::A, b"a"), accepted)]);
-            bench.crosses(&rt, End::A, Notice::HandedUp);
-            bench.plays(&rt, &[(Action::Take(End::B), Answer::Took(b"a"))]);
-            bench.crosses(&rt, End::B, Notice::Acknowledged(1));
-        }
-        bench.plays(&rt, AFTER_300);
-        bench.has_many(&rt, b"a", 300);
+    goes_round(&rt, 1);
+    goes_round(&rt, 7);
+    goes_round(&rt, 127);
+    goes_round(&rt, 255);
+}
+
+/// Whether A takes message `number`, `a`.
+fn is_taken(bench: &mut Bench, alloc: Global, number: u8) -> bool {
+    bench.is_played(alloc, Action::Send(End::A, b"a"), Answer::Accepted(number))
+}
+
+/// Whether A's next frame has this number. It is lost.
+fn is_lost(bench: &mut Bench, number: u8) -> bool {
+    match bench.polls(End::A) {
+        Some(frame) => frame.as_slice().get(4) == Some(&number),
+        None => false,
     }
 }
 
@@ -35,25 +55,37 @@ fn numbers_go_round(rt: HostRuntime) {
 const WINDOW_LOST: &[Step] = &[
     (Action::Poll(End::A), Answer::Idle),
     (Action::Expire(End::A), Answer::Expired(true)),
-    (Action::Settle, Answer::Settled(256, true)),
 ];
+
+fn window_lost() -> &'static [Step] {
+    WINDOW_LOST
+}
+
+/// Whether a settle has so many exchanges, and the line is quiet then.
+fn is_settled(bench: &mut Bench, exchanges: u32) -> bool {
+    match bench.settle() {
+        Ok(told) => told
+            == Settled {
+                exchanges,
+                quiet: true,
+            },
+        Err(_memory) => false,
+    }
+}
 
 /// A REP and a NAK, and then each message and its ACK.
 #[test]
 fn the_widest_window_is_sent_again(rt: HostRuntime) {
-    let window = 255;
-    let mut bench = Bench::running(&rt, Config { window, ..USUAL });
+    let mut bench = Bench::running(&rt, sizes(255));
     for number in 1..=255u8 {
-        let accepted = Answer::Accepted(Seq(number));
-        bench.plays(&rt, &[(Action::Send(End::A, b"a"), accepted)]);
+        assert!(rt; is_taken(&mut bench, rt.alloc(), number), "{number}");
     }
-    let full = Answer::SendRefused(SendRefusal::WindowFull);
-    bench.plays(&rt, &[(Action::Send(End::A, b"a"), full)]);
+    bench.plays(&rt, &[(Action::Send(End::A, b"a"), Answer::WindowFull)]);
     for number in 1..=255u8 {
-        let lost = bench.polls(&rt, End::A);
-        assert_eq!(rt; lost.as_slice().get(4), Some(&number));
+        assert!(rt; is_lost(&mut bench, number), "{number}");
     }
-    bench.plays(&rt, WINDOW_LOST);
+    bench.plays(&rt, window_lost());
+    assert!(rt; is_settled(&mut bench, 256));
     bench.has_many(&rt, b"a", 255);
-    assert!(rt; bench.pair.ready() && bench.pair.done());
+    assert!(rt; bench.is_ready() && bench.is_done());
 }

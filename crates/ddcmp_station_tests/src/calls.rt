@@ -1,29 +1,47 @@
 //! Rows worked by hand, as calls of a station, and each call once.
 ghost use Rattle.std.specs.Prelude.{◌≡◌, ◌≤◌};
 
+use crate::same::is;
 use crate::sizes::config_of;
 use ddcmp_frame::{Counted, Flags};
-use ddcmp_station::{Fed, Header, Notice, Numbers, SendRefusal, Seq, StartRefusal, State, Station};
+use ddcmp_station::{
+    Counters, Fed, Header, Notice, SendRefusal, Seq, StartRefusal, State, Station,
+};
 use std::alloc::Global;
 use std::process::Abort;
 
-const STACK: [u8; 8] = [0x05, 0x07, 0xC0, 0x00, 0x00, 0x01, 0x48, 0x55];
+fn stack() -> &'static [u8] {
+    &[0x05, 0x07, 0xC0, 0x00, 0x00, 0x01, 0x48, 0x55]
+}
 
-const STRT: [u8; 8] = [0x05, 0x06, 0xC0, 0x00, 0x00, 0x01, 0x75, 0x95];
+fn strt() -> &'static [u8] {
+    &[0x05, 0x06, 0xC0, 0x00, 0x00, 0x01, 0x75, 0x95]
+}
+
 /// Data message 1, `abc`.
-const DATA: [u8; 13] = [
-    0x81, 0x03, 0x00, 0x00, 0x01, 0x01, 0x9A, 0x41, 0x61, 0x62, 0x63, 0x38, 0x97,
-];
-/// Data message 2, `abc`.
-const DATA_2: [u8; 13] = [
-    0x81, 0x03, 0x00, 0x00, 0x02, 0x01, 0x9A, 0xB1, 0x61, 0x62, 0x63, 0x38, 0x97,
-];
+fn data() -> &'static [u8] {
+    &[
+        0x81, 0x03, 0x00, 0x00, 0x01, 0x01, 0x9A, 0x41, 0x61, 0x62, 0x63, 0x38, 0x97,
+    ]
+}
 
-const ACK_0: [u8; 8] = [0x05, 0x01, 0x00, 0x00, 0x00, 0x01, 0xFC, 0x55];
+/// Data message 2, `abc`.
+fn data_2() -> &'static [u8] {
+    &[
+        0x81, 0x03, 0x00, 0x00, 0x02, 0x01, 0x9A, 0xB1, 0x61, 0x62, 0x63, 0x38, 0x97,
+    ]
+}
+
+fn ack_0() -> &'static [u8] {
+    &[0x05, 0x01, 0x00, 0x00, 0x00, 0x01, 0xFC, 0x55]
+}
+
 /// The maintenance message `abc`.
-const MAINTENANCE: [u8; 13] = [
-    0x90, 0x03, 0xC0, 0x00, 0x00, 0x01, 0xA4, 0x90, 0x61, 0x62, 0x63, 0x38, 0x97,
-];
+fn maintenance() -> &'static [u8] {
+    &[
+        0x90, 0x03, 0xC0, 0x00, 0x00, 0x01, 0xA4, 0x90, 0x61, 0x62, 0x63, 0x38, 0x97,
+    ]
+}
 
 /// A station of the usual sizes.
 #[derive(Drop)]
@@ -46,51 +64,104 @@ impl Bench {
     /// Started, and asked to start by its peer, which has its STACK.
     fn running(rt: &impl Abort, alloc: Global) -> Bench {
         let mut bench = Bench::new(rt, alloc, 0);
-        assert_eq!(rt; bench.start(), Ok(0));
-        bench.receives(rt, &STRT, 8, None);
-        bench.writes(rt, &STACK);
-        bench.receives(rt, &ACK_0, 8, Some(Notice::Running));
+        is(rt, bench.start(), Ok(0));
+        bench.receives(rt, strt(), 8, None);
+        bench.writes(rt, stack());
+        bench.receives(rt, ack_0(), 8, Some(Notice::Running));
         bench
     }
 
     /// What it makes of a piece.
     fn receives(&mut self, rt: &impl Abort, piece: &[u8], used: usize, notice: Option<Notice>) {
-        let offset = self.station().offset();
-        assert_eq!(rt; self.feed(rt, piece), Fed { used, notice });
-        assert_eq!(rt;
-            self.station().offset().checked_sub(offset),
-            Some(used as u64)
-        );
+        let offset = self.offset();
+        is(rt, self.feed(rt, piece), Fed { used, notice });
+        is(rt, self.offset().checked_sub(offset), Some(used as u64));
     }
 
     /// Its next frame, none where these are no bytes.
     fn writes(&mut self, rt: &impl Abort, bytes: &[u8]) {
         let mut out = [0xAA; 1526];
         let written = self.poll(&mut out).unwrap_or(0);
-        assert_eq!(rt; written, bytes.len());
+        is(rt, written, bytes.len());
         begins(rt, &out, bytes);
     }
 
     /// The first message of its inbox.
     fn hands_up(&mut self, rt: &impl Abort, message: &[u8]) {
         let mut out = [0xAA; 1500];
-        assert_eq!(rt; self.take(&mut out), Some(message.len()));
+        is(rt, self.take(&mut out), Some(message.len()));
         begins(rt, &out, message);
+    }
+
+    fn has_state(&self, rt: &impl Abort, state: State) {
+        is(rt, self.state(), state);
+    }
+
+    /// How many bytes it holds, and how many are open.
+    fn has_bytes(&self, rt: &impl Abort, held: usize, open: usize) {
+        is(rt, self.bytes(), (held, open));
+    }
+
+    fn has_open(&self, rt: &impl Abort, open: usize) {
+        let (_held, is_open) = self.bytes();
+        is(rt, is_open, open);
     }
 
     /// The first message of its inbox, which stays there.
     fn shows(&self, rt: &impl Abort, message: &[u8]) {
         let mut out = [0xAA; 1500];
-        assert_eq!(rt; self.first_length(rt), message.len());
-        assert_eq!(rt; self.copy_first(rt, &mut out), message.len());
+        is(rt, self.first_length(rt), message.len());
+        is(rt, self.copy_first(rt, &mut out), message.len());
         begins(rt, &out, message);
     }
 }
 
 /// Calls whose contracts say more than tests want to know.
 impl Bench {
-    fn station(&self) -> &Station {
-        &self.station
+    fn state(&self) -> State {
+        self.station.state()
+    }
+
+    fn numbers(&self) -> [u8; 4] {
+        let numbers = self.station.numbers();
+        [numbers.r.0, numbers.n.0, numbers.a.0, numbers.t.0]
+    }
+
+    fn counters(&self) -> Counters {
+        *self.station.counters()
+    }
+
+    fn next_header(&self) -> Option<Header> {
+        self.station.next_header()
+    }
+
+    fn send_refusal(&self, message: &[u8]) -> Option<SendRefusal> {
+        self.station.send_refusal(message)
+    }
+
+    fn outgoing(&self) -> u8 {
+        self.station.outgoing()
+    }
+
+    fn waiting(&self) -> u8 {
+        self.station.waiting()
+    }
+
+    fn room(&self) -> bool {
+        self.station.room()
+    }
+
+    fn timer_on(&self) -> bool {
+        self.station.timer_on()
+    }
+
+    fn offset(&self) -> u64 {
+        self.station.offset()
+    }
+
+    /// How many bytes are held and open.
+    fn bytes(&self) -> (usize, usize) {
+        (self.station.held(), self.station.open())
     }
 
     fn start(&mut self) -> Result<u8, StartRefusal> {
@@ -153,122 +224,177 @@ impl Bench {
 /// These bytes are at the front, and what was behind them stays.
 fn begins(rt: &impl Abort, out: &[u8], bytes: &[u8]) {
     assert!(rt; out.starts_with(bytes));
-    assert_eq!(rt; out.get(bytes.len()), Some(&0xAA));
+    is(rt, out.get(bytes.len()), Some(&0xAA));
+}
+
+/// STACK, and then data message 1.
+fn stack_and_data() -> &'static [u8] {
+    &[
+        0x05, 0x07, 0xC0, 0x00, 0x00, 0x01, 0x48, 0x55, 0x81, 0x03, 0x00, 0x00, 0x01, 0x01, 0x9A,
+        0x41, 0x61, 0x62, 0x63, 0x38, 0x97,
+    ]
+}
+
+fn front(bytes: &'static [u8], length: usize) -> &'static [u8] {
+    bytes.get(..length).unwrap_or(&[])
+}
+
+fn rest(bytes: &'static [u8], from: usize) -> &'static [u8] {
+    bytes.get(from..).unwrap_or(&[])
 }
 
 #[test]
 fn takes_pieces_up_to_a_notice(rt: HostRuntime) {
     let mut bench = Bench::new(&rt, rt.alloc(), 0);
-    assert_eq!(rt; bench.station().state(), State::Halted);
-    assert_eq!(rt; bench.start(), Ok(0));
-    assert_eq!(rt; bench.start(), Err(StartRefusal::NotHalted));
-    bench.writes(&rt, &STRT);
+    bench.has_state(&rt, State::Halted);
+    starts(&rt, &mut bench);
+    is(&rt, bench.start(), Err(StartRefusal::NotHalted));
+    bench.writes(&rt, strt());
     bench.writes(&rt, &[]);
-    let mut both = [0; 21];
-    both[..8].copy_from_slice(&STACK);
-    both[8..].copy_from_slice(&DATA);
-    bench.receives(&rt, &both, 8, Some(Notice::Running));
-    bench.receives(&rt, &both[8..], 13, Some(Notice::HandedUp));
-    bench.hands_up(&rt, b"abc");
+    takes_two_frames(&rt, &mut bench);
     takes_a_frame_in_two(&rt, &mut bench);
+}
+
+fn starts(rt: &impl Abort, bench: &mut Bench) {
+    is(rt, bench.start(), Ok(0));
+}
+
+/// STACK and the first message come in one piece.
+fn takes_two_frames(rt: &impl Abort, bench: &mut Bench) {
+    bench.receives(rt, stack_and_data(), 8, Some(Notice::Running));
+    bench.receives(rt, rest(stack_and_data(), 8), 13, Some(Notice::HandedUp));
+    bench.hands_up(rt, b"abc");
 }
 
 /// The second message comes in two pieces.
 fn takes_a_frame_in_two(rt: &impl Abort, bench: &mut Bench) {
-    bench.receives(rt, &DATA_2[..12], 12, None);
-    assert_eq!(rt; bench.station().held(), 12);
-    assert_eq!(rt; bench.station().open(), 12);
-    bench.receives(rt, &DATA_2[12..], 1, Some(Notice::HandedUp));
-    assert_eq!(rt; bench.station().held(), 3);
-    assert_eq!(rt; bench.station().waiting(), 1);
+    bench.receives(rt, front(data_2(), 12), 12, None);
+    bench.has_bytes(rt, 12, 12);
+    bench.receives(rt, rest(data_2(), 12), 1, Some(Notice::HandedUp));
+    bench.has_bytes(rt, 3, 0);
+    is(rt, bench.waiting(), 1);
     bench.hands_up(rt, b"abc");
-    assert_eq!(rt; bench.station().counters().messages_up, 2);
+    is(rt, bench.counters().messages_up, 2);
+}
+
+/// STRT behind two bytes of fill.
+fn filled_strt() -> &'static [u8] {
+    &[0x96, 0x96, 0x05, 0x06, 0xC0, 0x00, 0x00, 0x01, 0x75, 0x95]
 }
 
 #[test]
 fn fill_stands_before_a_frame(rt: HostRuntime) {
     let mut bench = Bench::new(&rt, rt.alloc(), 2);
-    assert_eq!(rt; bench.start(), Ok(0));
-    bench.writes(
-        &rt,
-        &[0x96, 0x96, 0x05, 0x06, 0xC0, 0x00, 0x00, 0x01, 0x75, 0x95],
-    );
-    assert!(rt; bench.station().timer_on());
-    assert!(rt; bench.take_arm());
-    assert!(rt; !bench.take_arm());
-    assert!(rt; bench.expire());
-    assert_eq!(rt; bench.station().counters().expiries, 1);
+    starts(&rt, &mut bench);
+    bench.writes(&rt, filled_strt());
+    is(&rt, bench.timer_on(), true);
+    is(&rt, bench.take_arm(), true);
+    is(&rt, bench.take_arm(), false);
+    is(&rt, bench.expire(), true);
+    is(&rt, bench.counters().expiries, 1);
+}
+
+fn damaged_data() -> &'static [u8] {
+    &[
+        0x81, 0x03, 0x00, 0x00, 0x01, 0x01, 0x9A, 0x41, 0x61, 0x62, 0x63, 0x38, 0x96,
+    ]
+}
+
+fn nak_of_data() -> &'static [u8] {
+    &[0x05, 0x02, 0x02, 0x00, 0x00, 0x01, 0xB9, 0xED]
 }
 
 #[test]
-fn damaged_and_too_long_data_are_refused(rt: HostRuntime) {
-    let mut damaged = DATA;
-    damaged[12] = 0x96;
+fn damaged_data_are_refused(rt: HostRuntime) {
     let mut bench = Bench::running(&rt, rt.alloc());
-    bench.receives(&rt, &damaged, 13, None);
-    bench.writes(&rt, &[0x05, 0x02, 0x02, 0x00, 0x00, 0x01, 0xB9, 0xED]);
+    bench.receives(&rt, damaged_data(), 13, None);
+    bench.writes(&rt, nak_of_data());
+}
+
+/// The header of data message 1 of 1501 bytes.
+fn too_long() -> &'static [u8] {
+    &[0x81, 0xDD, 0x05, 0x00, 0x01, 0x01, 0x32, 0x9E]
+}
+
+fn nak_of_too_long() -> &'static [u8] {
+    &[0x05, 0x02, 0x10, 0x00, 0x00, 0x01, 0xBC, 0x95]
+}
+
+#[test]
+fn too_long_data_are_refused(rt: HostRuntime) {
     let mut bench = Bench::running(&rt, rt.alloc());
-    let header = [0x81, 0xDD, 0x05, 0x00, 0x01, 0x01, 0x32, 0x9E];
-    bench.receives(&rt, &header, 8, None);
-    assert_eq!(rt; bench.station().open(), 8);
-    assert_eq!(rt; bench.station().held(), 0);
-    bench.writes(&rt, &[0x05, 0x02, 0x10, 0x00, 0x00, 0x01, 0xBC, 0x95]);
+    bench.receives(&rt, too_long(), 8, None);
+    bench.has_bytes(&rt, 0, 8);
+    bench.writes(&rt, nak_of_too_long());
+}
+
+#[test]
+fn a_running_station_sees_maintenance(rt: HostRuntime) {
+    let mut bench = Bench::running(&rt, rt.alloc());
+    bench.receives(&rt, maintenance(), 13, Some(Notice::MaintenanceSeen));
+    bench.has_state(&rt, State::Running);
 }
 
 #[test]
 fn maintenance_has_a_state_of_its_own(rt: HostRuntime) {
-    let mut bench = Bench::running(&rt, rt.alloc());
-    bench.receives(&rt, &MAINTENANCE, 13, Some(Notice::MaintenanceSeen));
-    assert_eq!(rt; bench.station().state(), State::Running);
     let mut bench = Bench::new(&rt, rt.alloc(), 0);
-    assert_eq!(rt; bench.enter_maintenance(), Ok(0));
-    bench.receives(&rt, &MAINTENANCE, 13, Some(Notice::MaintenanceHandedUp));
+    is(&rt, bench.enter_maintenance(), Ok(0));
+    bench.receives(&rt, maintenance(), 13, Some(Notice::MaintenanceHandedUp));
     bench.hands_up(&rt, b"abc");
-    assert_eq!(rt; bench.send_maintenance(b"abc"), Ok(()));
-    assert_eq!(rt; bench.send(b"abc"), Err(SendRefusal::WrongState));
-    bench.writes(&rt, &MAINTENANCE);
+    is(&rt, bench.send_maintenance(b"abc"), Ok(()));
+    is(&rt, bench.send(b"abc"), Err(SendRefusal::WrongState));
+    bench.writes(&rt, maintenance());
     bench.writes(&rt, &[]);
 }
 
 #[test]
 fn messages_are_kept_and_the_line_is_cleared(rt: HostRuntime) {
     let mut bench = Bench::running(&rt, rt.alloc());
-    assert_eq!(rt; bench.station().next_header(), None);
-    assert_eq!(rt; bench.station().send_refusal(b"abc"), None);
-    assert_eq!(rt; bench.station().send_refusal(b""), Some(SendRefusal::Empty));
-    assert_eq!(rt; bench.send(b"abc"), Ok(Seq(1)));
-    assert_eq!(rt;
+    keeps_a_message(&rt, &mut bench);
+    sends_it(&rt, &mut bench);
+    is_cleared(&rt, &mut bench);
+}
+
+fn keeps_a_message(rt: &impl Abort, bench: &mut Bench) {
+    is(rt, bench.next_header(), None);
+    is(rt, bench.send_refusal(b"abc"), None);
+    is(rt, bench.send_refusal(b""), Some(SendRefusal::Empty));
+    is(rt, bench.send(b"abc"), Ok(Seq(1)));
+    is(
+        rt,
         bench.send_maintenance(b"abc"),
-        Err(SendRefusal::WrongState)
+        Err(SendRefusal::WrongState),
     );
-    assert_eq!(rt; bench.station().outgoing(), 1);
-    assert!(rt; bench.station().room());
-    assert_eq!(rt; bench.station().held(), 3);
-    let data = Counted {
+    is(rt, bench.outgoing(), 1);
+    is(rt, bench.room(), true);
+    bench.has_bytes(rt, 3, 0);
+}
+
+/// Data message 1 of three bytes.
+fn header() -> Header {
+    Header::Data(Counted {
         count: 3,
         flags: Flags { q: false, s: false },
         resp: 0,
         num: 1,
         addr: 1,
-    };
-    assert_eq!(rt; bench.station().next_header(), Some(Header::Data(data)));
-    bench.writes(&rt, &DATA);
-    assert_eq!(rt;
-        bench.station().numbers(),
-        Numbers {
-            r: Seq(0),
-            n: Seq(1),
-            a: Seq(0),
-            t: Seq(2)
-        }
-    );
-    bench.receives(&rt, &DATA[..5], 5, None);
-    assert!(rt; !bench.clear_line());
-    assert_eq!(rt; bench.station().open(), 5);
-    bench.receives(&rt, &DATA[5..], 8, Some(Notice::HandedUp));
-    bench.shows(&rt, b"abc");
+    })
+}
+
+fn sends_it(rt: &impl Abort, bench: &mut Bench) {
+    is(rt, bench.next_header(), Some(header()));
+    bench.writes(rt, data());
+    is(rt, bench.numbers(), [0, 1, 0, 2]);
+}
+
+fn is_cleared(rt: &impl Abort, bench: &mut Bench) {
+    bench.receives(rt, front(data(), 5), 5, None);
+    is(rt, bench.clear_line(), false);
+    bench.has_open(rt, 5);
+    bench.receives(rt, rest(data(), 5), 8, Some(Notice::HandedUp));
+    bench.shows(rt, b"abc");
     bench.halt();
-    assert!(rt; bench.clear_line());
-    assert_eq!(rt; bench.station().offset(), 0);
-    assert_eq!(rt; bench.start(), Err(StartRefusal::Untaken));
+    is(rt, bench.clear_line(), true);
+    is(rt, bench.offset(), 0);
+    is(rt, bench.start(), Err(StartRefusal::Untaken));
 }

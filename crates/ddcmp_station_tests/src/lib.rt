@@ -4,4 +4,6 @@
 #[cfg(test)]
 mod calls;
 #[cfg(test)]
+mod same;
+#[cfg(test)]
 mod sizes;

@@ -1,7 +1,9 @@
 //! Stations of many sizes, and sizes that are refused.
 ghost use Rattle.std.specs.Prelude.{◌≡◌, false};
 
+use crate::same::is;
 use ddcmp_station::{Config, ConfigRefusal, State, Station};
+use std::alloc::Global;
 use std::process::Abort;
 
 pub fn config_of(window: u16, inbox: u16, max: u16, syn: u8) -> Config
@@ -17,60 +19,69 @@ pub fn config_of(window: u16, inbox: u16, max: u16, syn: u8) -> Config
     }
 }
 
-#[test]
-fn sizes_are_tested_in_order(rt: HostRuntime) {
-    let alloc = rt.alloc();
-    for (config, refusal) in [
-        (config_of(0, 0, 0, 17), Some(ConfigRefusal::Window)),
-        (config_of(7, 0, 0, 17), Some(ConfigRefusal::Inbox)),
-        (config_of(7, 256, 0, 17), Some(ConfigRefusal::Inbox)),
-        (config_of(7, 8, 0, 17), Some(ConfigRefusal::Max)),
-        (config_of(7, 8, 16384, 17), Some(ConfigRefusal::Max)),
-        (config_of(7, 8, 1500, 17), Some(ConfigRefusal::Syn)),
-        (config_of(256, 8, 1500, 0), Some(ConfigRefusal::Window)),
-        (config_of(128, 8, 1500, 0), None),
-        (config_of(255, 8, 1500, 0), None),
-        (config_of(1, 1, 1, 16), None),
-    ] {
-        assert_eq!(rt; Station::new(alloc, config).err(), refusal);
+/// Why no station has these sizes, and the state of one that has.
+fn made(alloc: Global, config: Config) -> Result<State, ConfigRefusal> {
+    match Station::new(alloc, config) {
+        Ok(station) => Ok(station.state()),
+        Err(refusal) => Err(refusal),
     }
 }
 
-/// Each size at its ends and between, with both choices of a restart.
+fn makes(rt: &(impl Abort + AllocGlobal), config: Config) {
+    is(rt, made(rt.alloc(), config), Ok(State::Halted));
+}
+
+fn refuses(rt: &(impl Abort + AllocGlobal), config: Config, refusal: ConfigRefusal) {
+    is(rt, made(rt.alloc(), config), Err(refusal));
+}
+
+#[test]
+fn sizes_are_tested_in_order(rt: HostRuntime) {
+    refuses(&rt, config_of(0, 0, 0, 17), ConfigRefusal::Window);
+    refuses(&rt, config_of(7, 0, 0, 17), ConfigRefusal::Inbox);
+    refuses(&rt, config_of(7, 256, 0, 17), ConfigRefusal::Inbox);
+    refuses(&rt, config_of(7, 8, 0, 17), ConfigRefusal::Max);
+    refuses(&rt, config_of(7, 8, 16384, 17), ConfigRefusal::Max);
+    refuses(&rt, config_of(7, 8, 1500, 17), ConfigRefusal::Syn);
+    refuses(&rt, config_of(256, 8, 1500, 0), ConfigRefusal::Window);
+    makes(&rt, config_of(128, 8, 1500, 0));
+    makes(&rt, config_of(255, 8, 1500, 0));
+    makes(&rt, config_of(1, 1, 1, 16));
+}
+
+/// With both choices of a restart.
+fn makes_both(rt: &(impl Abort + AllocGlobal), config: Config) {
+    makes(rt, config);
+    let restart = true;
+    makes(rt, Config { restart, ..config });
+}
+
+/// Each size at its ends and between.
 #[test]
 fn stations_of_many_sizes(rt: HostRuntime) {
-    for config in [
-        config_of(1, 8, 1500, 0),
-        config_of(128, 8, 1500, 0),
-        config_of(255, 8, 1500, 0),
-        config_of(7, 1, 1500, 0),
-        config_of(7, 128, 1500, 0),
-        config_of(7, 255, 1500, 0),
-        config_of(7, 8, 1, 0),
-        config_of(7, 8, 8192, 0),
-        config_of(7, 8, 16383, 0),
-        config_of(7, 8, 1500, 8),
-        config_of(7, 8, 1500, 16),
-        config_of(255, 255, 16383, 16),
-    ] {
-        for restart in [false, true] {
-            match Station::new(rt.alloc(), Config { restart, ..config }) {
-                Ok(station) => assert_eq!(rt; station.state(), State::Halted),
-                Err(refusal) => panic!(rt; "{refusal:?} of {config:?}"),
-            }
-        }
-    }
+    makes_both(&rt, config_of(1, 8, 1500, 0));
+    makes_both(&rt, config_of(128, 8, 1500, 0));
+    makes_both(&rt, config_of(255, 8, 1500, 0));
+    makes_both(&rt, config_of(7, 1, 1500, 0));
+    makes_both(&rt, config_of(7, 128, 1500, 0));
+    makes_both(&rt, config_of(7, 255, 1500, 0));
+    makes_both(&rt, config_of(7, 8, 1, 0));
+    makes_both(&rt, config_of(7, 8, 8192, 0));
+    makes_both(&rt, config_of(7, 8, 16383, 0));
+    makes_both(&rt, config_of(7, 8, 1500, 8));
+    makes_both(&rt, config_of(7, 8, 1500, 16));
+    makes_both(&rt, config_of(255, 255, 16383, 16));
 }
 
 /// Whether memory is refused to a station.
 fn is_refused(rt: &(impl Abort + AllocGlobal)) -> bool {
-    match Station::new(rt.alloc(), config_of(2, 2, 8, 0)) {
-        Ok(station) => {
-            assert_eq!(rt; station.state(), State::Halted);
+    match made(rt.alloc(), config_of(2, 2, 8, 0)) {
+        Ok(state) => {
+            is(rt, state, State::Halted);
             false
         }
         Err(refusal) => {
-            assert_eq!(rt; refusal, ConfigRefusal::Memory);
+            is(rt, refusal, ConfigRefusal::Memory);
             true
         }
     }
@@ -85,13 +96,6 @@ fn refused_memory_makes_no_station(rt: HostRuntime) {
 #[test]
 fn ample_memory_makes_a_station(rt: HostRuntime) {
     assert!(rt; !is_refused(&rt));
-}
-
-fn makes(rt: &(impl Abort + AllocGlobal), config: Config) {
-    match Station::new(rt.alloc(), config) {
-        Ok(station) => assert_eq!(rt; station.state(), State::Halted),
-        Err(refusal) => panic!(rt; "{refusal:?} of {config:?}"),
-    }
 }
 
 /// Every size in range makes a station.

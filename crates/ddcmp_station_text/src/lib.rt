@@ -1,5 +1,5 @@
-//! The words for what a station tells: its state and its notices. Scripts and the report of a served
-//! station write them.
+//! The words for what a station tells: its state and its notices. Scripts and the report of a
+//! served station write them.
 #![tactic(auto)]
 
 mod notices;

@@ -6,9 +6,15 @@ mod explains;
 #[cfg(test)]
 mod programs;
 #[cfg(test)]
+mod reports;
+#[cfg(test)]
+mod same;
+#[cfg(test)]
 mod scripts;
 #[cfg(test)]
 mod sizes;
+#[cfg(test)]
+mod sockets;
 #[cfg(test)]
 mod stations;
 #[cfg(test)]

@@ -1,52 +1,59 @@
 // Endings, and the program as a whole but for the system's streams. What words ask for and what is
 // written then is the matter of `worked_commands`.
+use crate::same::is;
 use ddcmp_cli::command::read_words;
-use ddcmp_cli::{Declined, Ending, Fault, run, run_args};
+use ddcmp_cli::{Command, Declined, Ending, Fault, run, run_args};
 use ddcmp_frame::failing::{Pieces, Taken};
+use std::alloc::Global;
 use std::io::{self, ErrorKind};
 use std::net::{Net, TcpStream};
 use std::process::Abort;
 use std::test::Fail;
 use std::time::Clock;
 
+/// An ending has this status and this line.
+fn is_told(
+    rt: &(impl Abort + AllocGlobal),
+    ending: Ending,
+    status: u8,
+    line: &str,
+) -> Result<(), Fail> {
+    is(rt, ending.status(), status);
+    is(rt, ending.to_string(rt.alloc())?.as_str(), line);
+    Ok(())
+}
+
+fn is_fault_told(
+    rt: &(impl Abort + AllocGlobal),
+    fault: Fault,
+    status: u8,
+    line: &str,
+) -> Result<(), Fail> {
+    is_told(rt, Ending::Fault(fault), status, line)
+}
+
 #[test]
 fn endings_have_a_status_and_a_line(rt: HostRuntime) -> Result<(), Fail> {
-    let alloc = rt.alloc();
-    let rows = [
-        (Ending::Done, 0, ""),
-        (Ending::NotText, 2, "ddcmp: a word is not text\n"),
-        (
-            Ending::Fault(Fault::Odd),
-            1,
-            "ddcmp: odd number of digits\n",
-        ),
-        (
-            Ending::Fault(Fault::NotHex(16)),
-            1,
-            "ddcmp: not hexadecimal at 16\n",
-        ),
-        (
-            Ending::Fault(Fault::Line(3)),
-            1,
-            "ddcmp: line 3: not a command\n",
-        ),
-        (
-            Ending::Fault(Fault::Hex(1)),
-            1,
-            "ddcmp: line 1: not hexadecimal\n",
-        ),
-        (Ending::Fault(Fault::Message), 1, "ddcmp: not hexadecimal\n"),
-        (Ending::Fault(Fault::Ended), 3, "ddcmp: ended\n"),
-        (Ending::Fault(Fault::Carrier), 3, "ddcmp: carrier\n"),
-        (Ending::Fault(Fault::Read), 3, "ddcmp: read\n"),
-        (Ending::Fault(Fault::Write), 3, "ddcmp: write\n"),
-        (Ending::Fault(Fault::Memory), 3, "ddcmp: memory\n"),
-    ];
-    for (ending, status, line) in rows {
-        assert_eq!(rt; ending.status(), status);
-        assert_eq!(rt; ending.to_string(alloc)?.as_str(), line);
-    }
-    Ok(())
+    is_told(&rt, Ending::Done, 0, "")?;
+    is_told(&rt, Ending::NotText, 2, "ddcmp: a word is not text\n")
+}
+
+#[test]
+fn faults_of_the_input_have_a_line(rt: HostRuntime) -> Result<(), Fail> {
+    is_fault_told(&rt, Fault::Odd, 1, "ddcmp: odd number of digits\n")?;
+    is_fault_told(&rt, Fault::NotHex(16), 1, "ddcmp: not hexadecimal at 16\n")?;
+    is_fault_told(&rt, Fault::Line(3), 1, "ddcmp: line 3: not a command\n")?;
+    is_fault_told(&rt, Fault::Hex(1), 1, "ddcmp: line 1: not hexadecimal\n")?;
+    is_fault_told(&rt, Fault::Message, 1, "ddcmp: not hexadecimal\n")
+}
+
+#[test]
+fn faults_of_the_system_have_a_line(rt: HostRuntime) -> Result<(), Fail> {
+    is_fault_told(&rt, Fault::Ended, 3, "ddcmp: ended\n")?;
+    is_fault_told(&rt, Fault::Carrier, 3, "ddcmp: carrier\n")?;
+    is_fault_told(&rt, Fault::Read, 3, "ddcmp: read\n")?;
+    is_fault_told(&rt, Fault::Write, 3, "ddcmp: write\n")?;
+    is_fault_told(&rt, Fault::Memory, 3, "ddcmp: memory\n")
 }
 
 /// What a run over memory ends as, and what it wrote; the write `fails_at` fails, 0 is none.
@@ -62,60 +69,86 @@ fn ran(
     (ending, writer)
 }
 
+fn is_done(ending: &Ending) -> bool {
+    matches!(ending, Ending::Done)
+}
+
+fn is_usage(ending: &Ending) -> bool {
+    matches!(ending, Ending::Usage(_))
+}
+
+fn is_write_fault(ending: &Ending) -> bool {
+    matches!(ending, Ending::Fault(Fault::Write))
+}
+
+fn is_not_hex_at(ending: &Ending, at: u64) -> bool {
+    match ending {
+        Ending::Fault(Fault::NotHex(told)) => *told == at,
+        _ => false,
+    }
+}
+
 #[test]
 fn a_failed_write_and_no_words_are_told(rt: HostRuntime) {
     // Help that can't be written is a write that failed.
     let (ending, _) = ran(&rt, &["ddcmp", "--help"], b"", 1);
-    assert!(rt; matches!(ending, Ending::Fault(Fault::Write)));
+    assert!(rt; is_write_fault(&ending));
     let (ending, text) = ran(&rt, &["ddcmp"], b"", 0);
-    assert!(rt; matches!(ending, Ending::Usage(_)));
+    assert!(rt; is_usage(&ending));
     assert!(rt; text.bytes().is_empty());
+}
+
+/// The program is done with these words, and has written this.
+fn writes(
+    rt: &(impl Abort + AllocGlobal + Net<Stream = TcpStream> + Clock),
+    words: &[&str],
+    input: &[u8],
+    text: &[u8],
+) {
+    let (ending, written) = ran(rt, words, input, 0);
+    assert!(rt; is_done(&ending));
+    is(rt, written.bytes(), text);
+}
+
+fn ack_text() -> &'static [u8] {
+    b"0 ACK sub=0 q=0 s=0 resp=0 num=0 addr=1\nitems=1 bytes=8 open=0\n"
+}
+
+/// The header of data message 1 of 1501 bytes.
+fn long() -> &'static [u8] {
+    &[0x81, 0xDD, 0x05, 0x00, 0x01, 0x01, 0x32, 0x9E]
+}
+
+fn long_text() -> &'static [u8] {
+    b"0 too long DATA count=1501 q=0 s=0 resp=0 num=1 addr=1\nitems=1 bytes=8 open=8\n"
 }
 
 /// Bytes as they are, and the most data that a frame may have.
 #[test]
 fn raw_bytes_are_explained(rt: HostRuntime) {
     let ack = [0x05, 0x01, 0x00, 0x00, 0x00, 0x01, 0xFC, 0x55];
-    let long = [0x81, 0xDD, 0x05, 0x00, 0x01, 0x01, 0x32, 0x9E];
-    let long_text =
-        b"0 too long DATA count=1501 q=0 s=0 resp=0 num=1 addr=1\nitems=1 bytes=8 open=8\n";
-    let rows: [(&[&str], &[u8], &[u8]); 4] = [
-        (
-            &["ddcmp", "explain", "--raw"],
-            &ack,
-            b"0 ACK sub=0 q=0 s=0 resp=0 num=0 addr=1\nitems=1 bytes=8 open=0\n",
-        ),
-        (
-            &["ddcmp", "explain", "--raw"],
-            &long,
-            b"items=0 bytes=8 open=8\n",
-        ),
-        (
-            &["ddcmp", "explain", "--raw", "--max", "1500"],
-            &long,
-            long_text,
-        ),
-        (
-            &["ddcmp", "explain", "--max", "1500", "--raw"],
-            &long,
-            long_text,
-        ),
-    ];
-    for (words, input, text) in rows {
-        let (ending, written) = ran(&rt, words, input, 0);
-        assert!(rt; matches!(ending, Ending::Done));
-        assert_eq!(rt; written.bytes(), text);
-    }
+    let words = ["ddcmp", "explain", "--raw"];
+    writes(&rt, &words, &ack, ack_text());
+    writes(&rt, &words, long(), b"items=0 bytes=8 open=8\n");
+    let words = ["ddcmp", "explain", "--raw", "--max", "1500"];
+    writes(&rt, &words, long(), long_text());
+    let words = ["ddcmp", "explain", "--max", "1500", "--raw"];
+    writes(&rt, &words, long(), long_text());
+}
+
+/// Blanks, and behind them a byte that is no digit.
+fn far() -> [u8; 70_000] {
+    let mut far = [b' '; 70_000];
+    far[69_999] = b'x';
+    far
 }
 
 /// The first byte that is no digit is told far after blanks too.
 #[test]
 fn a_far_byte_is_told(rt: HostRuntime) {
-    let mut far = [b' '; 70_000];
-    far[69_999] = b'x';
-    let (ending, text) = ran(&rt, &["ddcmp", "explain"], &far, 0);
-    assert_eq!(rt; ending.status(), 1);
-    assert!(rt; matches!(ending, Ending::Fault(Fault::NotHex(69_999))));
+    let (ending, text) = ran(&rt, &["ddcmp", "explain"], &far(), 0);
+    is(&rt, ending.status(), 1);
+    assert!(rt; is_not_hex_at(&ending, 69_999));
     assert!(rt; text.bytes().is_empty());
 }
 
@@ -130,25 +163,67 @@ fn ran_args(
     (ending.status(), writer)
 }
 
+/// A run with the words of the system has this status, and has written this.
+fn has_status(
+    rt: &(impl Abort + AllocGlobal + Net<Stream = TcpStream> + Clock),
+    args: io::Result<Vec<String>>,
+    status: u8,
+    text: &[u8],
+) {
+    let (told, written) = ran_args(rt, args);
+    is(rt, told, status);
+    is(rt, written.bytes(), text);
+}
+
 #[test]
 fn words_of_the_system_are_taken(rt: HostRuntime) -> Result<(), Fail> {
     let alloc = rt.alloc();
     let mut words = Vec::new(alloc);
     words.push(String::from_str(alloc, "ddcmp")?)?;
     words.push(String::from_str(alloc, "explain")?)?;
-    let (status, text) = ran_args(&rt, Ok(words));
-    assert_eq!(rt; status, 0);
-    assert_eq!(rt;
-        text.bytes(),
-        b"0 ACK sub=0 q=0 s=0 resp=0 num=0 addr=1\nitems=1 bytes=8 open=0\n".as_slice()
-    );
-    let (status, text) = ran_args(&rt, Ok(Vec::new(alloc)));
-    assert_eq!(rt; status, 2);
-    assert!(rt; text.bytes().is_empty());
-    for (kind, status) in [(ErrorKind::InvalidData, 2), (ErrorKind::OutOfMemory, 3)] {
-        let (told, text) = ran_args(&rt, Err(io::Error::from(kind)));
-        assert_eq!(rt; told, status);
-        assert!(rt; text.bytes().is_empty());
+    has_status(&rt, Ok(words), 0, ack_text());
+    has_status(&rt, Ok(Vec::new(alloc)), 2, b"");
+    Ok(())
+}
+
+#[test]
+fn words_that_are_no_text_are_told(rt: HostRuntime) {
+    let invalid = io::Error::from(ErrorKind::InvalidData);
+    has_status(&rt, Err(invalid), 2, b"");
+    let refused = io::Error::from(ErrorKind::OutOfMemory);
+    has_status(&rt, Err(refused), 3, b"");
+}
+
+/// What words ask for.
+fn read<'a>(alloc: Global, words: &'a [&'a str]) -> Result<Command<'a>, Declined> {
+    read_words(alloc, words)
+}
+
+/// Why words ask for nothing: whether it is their usage, and the text.
+fn text_of(alloc: Global, words: &[&str]) -> Option<(bool, String)> {
+    match read(alloc, words) {
+        Ok(_command) => None,
+        Err(Declined::Help(text)) => Some((false, text)),
+        Err(Declined::Version(text)) => Some((false, text)),
+        Err(Declined::Usage(text)) => Some((true, text)),
+        Err(Declined::Memory) => None,
+    }
+}
+
+/// The text of words that ask for nothing is told whole.
+fn is_whole(
+    rt: &(impl Abort + AllocGlobal + Net<Stream = TcpStream> + Clock),
+    words: &[&str],
+) -> Result<(), Fail> {
+    let (ending, written) = ran(rt, words, b"", 0);
+    let (usage, text) = text_of(rt.alloc(), words).ok_or("no text")?;
+    if usage {
+        assert!(rt; is_usage(&ending));
+        is(rt, ending.to_string(rt.alloc())?.as_str(), text.as_str());
+        assert!(rt; written.bytes().is_empty());
+    } else {
+        assert!(rt; is_done(&ending));
+        is(rt, written.bytes(), text.as_bytes());
     }
     Ok(())
 }
@@ -156,32 +231,14 @@ fn words_of_the_system_are_taken(rt: HostRuntime) -> Result<(), Fail> {
 /// Help, the version and usage are told whole, as the parser of the words gives them.
 #[test]
 fn texts_are_told_whole(rt: HostRuntime) -> Result<(), Fail> {
-    let alloc = rt.alloc();
-    let rows: [&[&str]; 9] = [
-        &["ddcmp", "--help"],
-        &["ddcmp", "help"],
-        &["ddcmp", "explain", "--help"],
-        &["ddcmp", "--version"],
-        &["ddcmp"],
-        &["ddcmp", "explode"],
-        &["ddcmp", "explain", "--max", "16384"],
-        &["ddcmp", "explain", "--raw", "--max", "1", "more"],
-        &["ddcmp", "explain", "--raw", "--max", "1", "more", "words"],
-    ];
-    for words in rows {
-        let (ending, written) = ran(&rt, words, b"", 0);
-        match read_words(alloc, words) {
-            Err(Declined::Help(text)) | Err(Declined::Version(text)) => {
-                assert!(rt; matches!(ending, Ending::Done));
-                assert_eq!(rt; written.bytes(), text.as_bytes());
-            }
-            Err(Declined::Usage(text)) => {
-                assert!(rt; matches!(ending, Ending::Usage(_)));
-                assert_eq!(rt; ending.to_string(alloc)?.as_str(), text.as_str());
-                assert!(rt; written.bytes().is_empty());
-            }
-            _ => assert!(rt; false),
-        }
-    }
-    Ok(())
+    is_whole(&rt, &["ddcmp", "--help"])?;
+    is_whole(&rt, &["ddcmp", "help"])?;
+    is_whole(&rt, &["ddcmp", "explain", "--help"])?;
+    is_whole(&rt, &["ddcmp", "--version"])?;
+    is_whole(&rt, &["ddcmp"])?;
+    is_whole(&rt, &["ddcmp", "explode"])?;
+    is_whole(&rt, &["ddcmp", "explain", "--max", "16384"])?;
+    is_whole(&rt, &["ddcmp", "explain", "--raw", "--max", "1", "more"])?;
+    let words = ["ddcmp", "explain", "--raw", "--max", "1", "more", "words"];
+    is_whole(&rt, &words)
 }

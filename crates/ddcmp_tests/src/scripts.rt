@@ -1,9 +1,11 @@
 // Scripts that the program runs where a write fails, or the connection of `pair` can't be made or
 // fails. What they write else is the matter of `worked_commands`.
+use crate::same::is;
 use ddcmp_cli::{Ending, Fault, run};
 use ddcmp_frame::failing::{Pieces, Taken};
 use std::io::{self, ErrorKind};
 use std::net::{Net, Shutdown, SocketAddr, TcpListener, TcpStream};
+use std::process::Abort;
 use std::time::{Clock, Duration};
 
 /// What a script ends as on a system, and what it wrote.
@@ -20,12 +22,24 @@ fn played(
     (ending, writer)
 }
 
+fn is_write_fault(ending: &Ending) -> bool {
+    matches!(ending, Ending::Fault(Fault::Write))
+}
+
+fn is_carrier_fault(ending: &Ending) -> bool {
+    matches!(ending, Ending::Fault(Fault::Carrier))
+}
+
+fn is_done(ending: &Ending) -> bool {
+    matches!(ending, Ending::Done)
+}
+
 #[test]
 fn a_write_fails(rt: HostRuntime) {
-    for command in ["simulate", "pair"] {
-        let (ending, _) = played(&rt, &rt, &["ddcmp", command], b"halt A\n", 1);
-        assert!(rt; matches!(ending, Ending::Fault(Fault::Write)));
-    }
+    let (ending, _) = played(&rt, &rt, &["ddcmp", "simulate"], b"halt A\n", 1);
+    assert!(rt; is_write_fault(&ending));
+    let (ending, _) = played(&rt, &rt, &["ddcmp", "pair"], b"halt A\n", 1);
+    assert!(rt; is_write_fault(&ending));
 }
 
 /// What a system doesn't do.
@@ -77,34 +91,40 @@ impl<S: Clock> Clock for Poor<'_, S> {
 }
 
 /// Both ends start; B's frame passes, and A's can't.
-const SCRIPT: &[u8] = b"start A\nstart B\npoll B\npass B\npoll A\npass A\nstate A\n";
+fn lines() -> &'static [u8] {
+    b"start A\nstart B\npoll B\npass B\npoll A\npass A\nstate A\n"
+}
 
-const TEXT: &[u8] = b"A started dropped=0\nB started dropped=0\nB wrote 0506c00000017595\n\
-B passed 8\nA wrote 0507c00000014855\n";
+fn text() -> &'static [u8] {
+    b"A started dropped=0\nB started dropped=0\nB wrote 0506c00000017595\n\
+B passed 8\nA wrote 0507c00000014855\n"
+}
+
+/// A script on a system that lacks this ends so, and has written this.
+fn lacks_a_carrier(
+    rt: &(impl Abort + AllocGlobal + Net<Stream = TcpStream, Listener = TcpListener> + Clock),
+    lacks: Lacks,
+    text: &[u8],
+) {
+    let system = Poor { system: rt, lacks };
+    let (ending, written) = played(rt, &system, &["ddcmp", "pair"], lines(), 0);
+    assert!(rt; is_carrier_fault(&ending));
+    is(rt, ending.status(), 3);
+    is(rt, written.bytes(), text);
+}
 
 #[test]
 fn a_missing_connection_is_a_carrier(rt: HostRuntime) {
-    let rows: [(Lacks, &[u8]); 3] = [
-        (Lacks::Listening, b""),
-        (Lacks::Connecting, b""),
-        (Lacks::Writing, TEXT),
-    ];
-    for (lacks, text) in rows {
-        let system = Poor { system: &rt, lacks };
-        let (ending, written) = played(&rt, &system, &["ddcmp", "pair"], SCRIPT, 0);
-        assert!(rt; matches!(ending, Ending::Fault(Fault::Carrier)));
-        assert_eq!(rt; ending.status(), 3);
-        assert_eq!(rt; written.bytes(), text);
-    }
+    lacks_a_carrier(&rt, Lacks::Listening, b"");
+    lacks_a_carrier(&rt, Lacks::Connecting, b"");
+    lacks_a_carrier(&rt, Lacks::Writing, text());
 }
 
 /// No other command asks for a connection with itself.
 #[test]
 fn simulate_needs_no_connection(rt: HostRuntime) {
-    let system = Poor {
-        system: &rt,
-        lacks: Lacks::Listening,
-    };
-    let (ending, _written) = played(&rt, &system, &["ddcmp", "simulate"], SCRIPT, 0);
-    assert!(rt; matches!(ending, Ending::Done));
+    let lacks = Lacks::Listening;
+    let system = Poor { system: &rt, lacks };
+    let (ending, _written) = played(&rt, &system, &["ddcmp", "simulate"], lines(), 0);
+    assert!(rt; is_done(&ending));
 }

@@ -1,5 +1,6 @@
 // Stations run by the program over connections that the test holds, and their faults. What their
 // words ask for is the matter of `worked_commands`.
+use crate::same::is;
 use ddcmp_cli::{Ending, Fault, run};
 use ddcmp_frame::failing::{Pieces, Taken};
 use std::io::{Read, Write};
@@ -8,7 +9,9 @@ use std::process::Abort;
 use std::test::Fail;
 use std::time::Clock;
 
-const STRT: [u8; 8] = [0x05, 0x06, 0xC0, 0x00, 0x00, 0x01, 0x75, 0x95];
+fn strt() -> &'static [u8] {
+    &[0x05, 0x06, 0xC0, 0x00, 0x00, 0x01, 0x75, 0x95]
+}
 
 /// Words with these four options, and more.
 fn words<'a>(
@@ -46,69 +49,123 @@ fn stationed(
     (ending, writer)
 }
 
+fn is_done(ending: &Ending) -> bool {
+    matches!(ending, Ending::Done)
+}
+
+fn is_fault_of_the_message(ending: &Ending) -> bool {
+    matches!(ending, Ending::Fault(Fault::Message))
+}
+
+fn is_write_fault(ending: &Ending) -> bool {
+    matches!(ending, Ending::Fault(Fault::Write))
+}
+
+fn is_carrier_fault(ending: &Ending) -> bool {
+    matches!(ending, Ending::Fault(Fault::Carrier))
+}
+
+/// A station that is to send this to `nowhere`, which is no address, has this status and writes
+/// nothing.
+fn ends_with(
+    rt: &(impl Abort + AllocGlobal + Net<Stream = TcpStream> + Clock),
+    digits: &[u8],
+    status: u8,
+) {
+    let send = str::from_utf8(digits).unwrap_or("no text");
+    let all = words("connect", "nowhere", "0", "0", ["--send", send]);
+    let (ending, written) = stationed(rt, &all, 0);
+    is(rt, ending.status(), status);
+    assert!(rt; written.bytes().is_empty());
+}
+
 /// Too many digits are usage, also where they aren't hexadecimal; then come those that aren't, then
-/// the connection. Here `nowhere` is no address.
+/// the connection.
 #[test]
 fn digits_come_before_the_connection(rt: HostRuntime) {
     let digits = [b'6'; 3001];
+    ends_with(&rt, &digits[..3000], 3);
+    ends_with(&rt, &digits[..2999], 1);
+    ends_with(&rt, &digits, 2);
+}
+
+#[test]
+fn others_come_before_the_connection(rt: HostRuntime) {
     let others = [b'x'; 3002];
-    for (bytes, status) in [
-        (&digits[..3000], 3),
-        (&digits[..2999], 1),
-        (&digits[..], 2),
-        (&others[..3000], 1),
-        (&others[..], 2),
-    ] {
-        match str::from_utf8(bytes) {
-            Ok(send) => {
-                let all = words("connect", "nowhere", "0", "0", ["--send", send]);
-                let (ending, written) = stationed(&rt, &all, 0);
-                assert_eq!(rt; ending.status(), status);
-                assert!(rt; written.bytes().is_empty());
-            }
-            Err(_) => assert!(rt; false),
-        }
-    }
+    ends_with(&rt, &others[..3000], 1);
+    ends_with(&rt, &others, 2);
+}
+
+/// This role is usage.
+fn is_no_role(
+    rt: &(impl Abort + AllocGlobal + Net<Stream = TcpStream> + Clock),
+    role: &str,
+) -> Result<(), Fail> {
+    let all = words(role, "nowhere", "0", "0", ["--send", "zz"]);
+    let (ending, written) = stationed(rt, &all, 0);
+    is(rt, ending.status(), 2);
+    is(rt, ending.to_string(rt.alloc())?.as_str(), no_role());
+    assert!(rt; written.bytes().is_empty());
+    Ok(())
 }
 
 /// Another role is usage, before all else.
 #[test]
 fn other_roles_are_usage(rt: HostRuntime) -> Result<(), Fail> {
-    for role in ["other", "", "Listen", "listen ", "connects"] {
-        let all = words(role, "nowhere", "0", "0", ["--send", "zz"]);
-        let (ending, written) = stationed(&rt, &all, 0);
-        assert_eq!(rt; ending.status(), 2);
-        assert_eq!(rt; ending.to_string(rt.alloc())?.as_str(), NO_ROLE);
-        assert!(rt; written.bytes().is_empty());
-    }
+    is_no_role(&rt, "other")?;
+    is_no_role(&rt, "")?;
+    is_no_role(&rt, "Listen")?;
+    is_no_role(&rt, "listen ")?;
+    is_no_role(&rt, "connects")
+}
+
+/// This is no message.
+fn is_no_message(rt: &(impl Abort + AllocGlobal + Net<Stream = TcpStream> + Clock), send: &str) {
+    let all = words("connect", "nowhere", "0", "0", ["--send", send]);
+    let (ending, written) = stationed(rt, &all, 0);
+    assert!(rt; is_fault_of_the_message(&ending));
+    assert!(rt; written.bytes().is_empty());
+}
+
+/// This is no address, in this role.
+fn is_nowhere_in<'a>(
+    rt: &(impl Abort + AllocGlobal + Net<Stream = TcpStream> + Clock),
+    addr: &'a str,
+    role: &'a str,
+) -> Result<(), Fail> {
+    let all = words(role, addr, "0", "0", ["--send", "61"]);
+    let (ending, written) = stationed(rt, &all, 0);
+    is(
+        rt,
+        ending.to_string(rt.alloc())?.as_str(),
+        "ddcmp: carrier\n",
+    );
+    is(rt, ending.status(), 3);
+    assert!(rt; written.bytes().is_empty());
     Ok(())
+}
+
+/// This is no address, in both roles.
+fn is_nowhere(
+    rt: &(impl Abort + AllocGlobal + Net<Stream = TcpStream> + Clock),
+    addr: &str,
+) -> Result<(), Fail> {
+    is_nowhere_in(rt, addr, "connect")?;
+    is_nowhere_in(rt, addr, "listen")
 }
 
 #[test]
 fn faults_before_a_station_are_told(rt: HostRuntime) -> Result<(), Fail> {
-    let alloc = rt.alloc();
-    for send in ["0", "zz", "6g", " 61", "61 "] {
-        let all = words("connect", "nowhere", "0", "0", ["--send", send]);
-        let (ending, written) = stationed(&rt, &all, 0);
-        assert!(rt; matches!(ending, Ending::Fault(Fault::Message)));
-        assert!(rt; written.bytes().is_empty());
-    }
-    for addr in [
-        "nowhere",
-        "",
-        "127.0.0.1",
-        "127.0.0.1:65536",
-        "256.0.0.1:7000",
-    ] {
-        for role in ["connect", "listen"] {
-            let all = words(role, addr, "0", "0", ["--send", "61"]);
-            let (ending, written) = stationed(&rt, &all, 0);
-            assert_eq!(rt; ending.to_string(alloc)?.as_str(), "ddcmp: carrier\n");
-            assert_eq!(rt; ending.status(), 3);
-            assert!(rt; written.bytes().is_empty());
-        }
-    }
-    Ok(())
+    is_no_message(&rt, "0");
+    is_no_message(&rt, "zz");
+    is_no_message(&rt, "6g");
+    is_no_message(&rt, " 61");
+    is_no_message(&rt, "61 ");
+    is_nowhere(&rt, "nowhere")?;
+    is_nowhere(&rt, "")?;
+    is_nowhere(&rt, "127.0.0.1")?;
+    is_nowhere(&rt, "127.0.0.1:65536")?;
+    is_nowhere(&rt, "256.0.0.1:7000")
 }
 
 /// A station over a connection to this test: nothing comes, and its turns end.
@@ -119,15 +176,13 @@ fn a_station_connects(rt: HostRuntime) -> Result<(), Fail> {
     let addr = listener.local_addr()?.to_string(alloc)?;
     let all = words("connect", addr.as_str(), "2", "60000", ["", ""]);
     let (ending, written) = stationed(&rt, &all[..10], 0);
-    assert!(rt; matches!(ending, Ending::Done));
-    assert_eq!(rt;
-        written.bytes(),
-        b"turns=2 state=IStart read=0 written=8\n".as_slice()
-    );
+    assert!(rt; is_done(&ending));
+    let report = b"turns=2 state=IStart read=0 written=8\n";
+    is(&rt, written.bytes(), report.as_slice());
     let (mut peer, _address) = listener.accept()?;
     let mut came = [0; 8];
     peer.read_exact(&mut came)?;
-    assert_eq!(rt; came, STRT);
+    is(&rt, came.as_slice(), strt());
     Ok(())
 }
 
@@ -139,12 +194,12 @@ fn a_station_asks_again(rt: HostRuntime) -> Result<(), Fail> {
     let addr = listener.local_addr()?.to_string(alloc)?;
     let all = words("connect", addr.as_str(), "20", "30", ["", ""]);
     let (ending, _written) = stationed(&rt, &all[..10], 0);
-    assert!(rt; matches!(ending, Ending::Done));
+    assert!(rt; is_done(&ending));
     let (mut peer, _address) = listener.accept()?;
     let mut came = [0; 24];
     peer.read_exact(&mut came)?;
     for frame in came.chunks(8) {
-        assert_eq!(rt; frame, STRT.as_slice());
+        is(&rt, frame, strt());
     }
     Ok(())
 }
@@ -156,16 +211,18 @@ fn a_report_fails(rt: HostRuntime) -> Result<(), Fail> {
     let addr = listener.local_addr()?.to_string(rt.alloc())?;
     let all = words("connect", addr.as_str(), "0", "0", ["", ""]);
     let (ending, _) = stationed(&rt, &all[..10], 1);
-    assert!(rt; matches!(ending, Ending::Fault(Fault::Write)));
+    assert!(rt; is_write_fault(&ending));
     // Where the port is taken, none can listen there.
     let all = words("listen", addr.as_str(), "0", "0", ["", ""]);
     let (ending, _) = stationed(&rt, &all[..10], 0);
-    assert!(rt; matches!(ending, Ending::Fault(Fault::Carrier)));
+    assert!(rt; is_carrier_fault(&ending));
     Ok(())
 }
 
-const NO_ROLE: &str = "\
+fn no_role() -> &'static str {
+    "\
 error: '--role' is connect or listen
 
 For more information, try '--help'.
-";
+"
+}

@@ -1,12 +1,19 @@
 // explain over std's own readers and writers, and what it makes of their faults.
+use crate::same::is;
 use ddcmp_cli::{ExplainFault, Form, explain};
 use ddcmp_frame::failing::{Pieces, Taken};
 use ddcmp_frame::{FromRead, ToWrite};
+use std::alloc::Global;
 use std::io::{self, ErrorKind, Read, Write};
+use std::process::Abort;
 
-const DIGITS: &[u8] = b"050100000001fc55";
+fn digits() -> &'static [u8] {
+    b"050100000001fc55"
+}
 
-const TEXT: &[u8] = b"0 ACK sub=0 q=0 s=0 resp=0 num=0 addr=1\nitems=1 bytes=8 open=0\n";
+fn text() -> &'static [u8] {
+    b"0 ACK sub=0 q=0 s=0 resp=0 num=0 addr=1\nitems=1 bytes=8 open=0\n"
+}
 
 /// A reader and a writer whose calls have a fault of this kind, or move no byte.
 #[derive(Drop)]
@@ -34,44 +41,59 @@ impl Write for Faulty {
     }
 }
 
+/// What explain answers to digits in memory, and writes there.
+fn explained(alloc: Global) -> (Result<(), ExplainFault>, Vec<u8>) {
+    let mut reader = FromRead::new(digits());
+    let mut writer = ToWrite::new(Vec::new(alloc));
+    let answer = explain(alloc, &mut reader, &mut writer, Form::Hex, 16383);
+    (answer, writer.into_inner())
+}
+
 #[test]
 fn bytes_in_memory_are_explained(rt: HostRuntime) {
-    let mut reader = FromRead::new(DIGITS);
-    let mut writer = ToWrite::new(Vec::new(rt.alloc()));
-    let answer = explain(rt.alloc(), &mut reader, &mut writer, Form::Hex, 16383);
-    assert_eq!(rt; answer, Ok(()));
-    assert_eq!(rt; writer.into_inner().as_slice(), TEXT);
+    let (answer, written) = explained(rt.alloc());
+    is(&rt, answer, Ok(()));
+    is(&rt, written.as_slice(), text());
+}
+
+/// What explain answers and writes where a reader has this fault.
+fn read_by(alloc: Global, reader: Faulty) -> (Result<(), ExplainFault>, Taken<64>) {
+    let mut reader = FromRead::new(reader);
+    let mut writer = Taken::<64>::new();
+    let answer = explain(alloc, &mut reader, &mut writer, Form::Hex, 16383);
+    (answer, writer)
+}
+
+/// What explain answers where a writer has this fault.
+fn written_to(alloc: Global, writer: Faulty) -> Result<(), ExplainFault> {
+    let mut reader = Pieces::of(digits());
+    let mut writer = ToWrite::new(writer);
+    explain(alloc, &mut reader, &mut writer, Form::Hex, 16383)
+}
+
+fn is_read_fault(rt: &(impl Abort + AllocGlobal), kind: ErrorKind) {
+    let (answer, writer) = read_by(rt.alloc(), Faulty(Some(kind)));
+    is(rt, answer, Err(ExplainFault::Read));
+    assert!(rt; writer.bytes().is_empty());
+}
+
+fn is_write_fault(rt: &(impl Abort + AllocGlobal), kind: Option<ErrorKind>) {
+    let answer = written_to(rt.alloc(), Faulty(kind));
+    is(rt, answer, Err(ExplainFault::Write));
 }
 
 /// An idle read is a fault here; a reader that gives nothing is at its end, and a writer that takes
 /// nothing has failed.
 #[test]
 fn faults_of_streams_are_told(rt: HostRuntime) {
-    for kind in [
-        ErrorKind::BrokenPipe,
-        ErrorKind::WouldBlock,
-        ErrorKind::Interrupted,
-        ErrorKind::TimedOut,
-    ] {
-        let mut reader = FromRead::new(Faulty(Some(kind)));
-        let mut writer = Taken::<64>::new();
-        let answer = explain(rt.alloc(), &mut reader, &mut writer, Form::Hex, 16383);
-        assert_eq!(rt; answer, Err(ExplainFault::Read));
-        assert!(rt; writer.bytes().is_empty());
-    }
-    let mut reader = FromRead::new(Faulty(None));
-    let mut writer = Taken::<64>::new();
-    let answer = explain(rt.alloc(), &mut reader, &mut writer, Form::Hex, 16383);
-    assert_eq!(rt; answer, Ok(()));
-    assert_eq!(rt; writer.bytes(), b"items=0 bytes=0 open=0\n".as_slice());
-    for kind in [
-        None,
-        Some(ErrorKind::BrokenPipe),
-        Some(ErrorKind::Interrupted),
-    ] {
-        let mut reader = Pieces::of(DIGITS);
-        let mut writer = ToWrite::new(Faulty(kind));
-        let answer = explain(rt.alloc(), &mut reader, &mut writer, Form::Hex, 16383);
-        assert_eq!(rt; answer, Err(ExplainFault::Write));
-    }
+    is_read_fault(&rt, ErrorKind::BrokenPipe);
+    is_read_fault(&rt, ErrorKind::WouldBlock);
+    is_read_fault(&rt, ErrorKind::Interrupted);
+    is_read_fault(&rt, ErrorKind::TimedOut);
+    let (answer, writer) = read_by(rt.alloc(), Faulty(None));
+    is(&rt, answer, Ok(()));
+    is(&rt, writer.bytes(), b"items=0 bytes=0 open=0\n".as_slice());
+    is_write_fault(&rt, None);
+    is_write_fault(&rt, Some(ErrorKind::BrokenPipe));
+    is_write_fault(&rt, Some(ErrorKind::Interrupted));
 }

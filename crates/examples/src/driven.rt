@@ -5,11 +5,8 @@ use ddcmp_station::{Clock, Config, Notice, Station, User, drive};
 use std::io;
 
 const SIZES: Config = Config {
-    window: 7,
-    inbox: 8,
     max: 64,
-    syn: 0,
-    restart: false,
+    ..Config::USUAL
 };
 /// What the peer sends: STACK; nothing; ACK 1 and its own message `abc`; nothing.
 const LINE: [&[u8]; 4] = [

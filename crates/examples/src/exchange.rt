@@ -1,27 +1,20 @@
 //! Two stations exchange a message. The program carries the bytes from one to the other.
-ghost use Rattle.std.specs.Prelude.{◌≡◌, ◌≤◌, length};
+ghost use Rattle.std.specs.Prelude.{◌≤◌, length};
 
 use ddcmp_station::{Config, Station};
 use std::alloc::Global;
 use std::io;
 
 const SIZES: Config = Config {
-    window: 7,
-    inbox: 8,
     max: 64,
-    syn: 0,
-    restart: false,
+    ..Config::USUAL
 };
-/// The most bytes of a frame: 10, and the longest message.
-const FRAME: usize = 74;
 
 /// One end of the line.
 #[derive(Drop)]
 struct End {
     name: &'static str,
     station: Station,
-    ghost longest: { station.core.limits.longest ≡ 64 },
-    ghost syn: { station.syn ≡ 0 },
 }
 
 impl End {
@@ -41,19 +34,25 @@ impl End {
     }
 
     /// Takes the first message of its mail.
-    fn take(&mut self, rt: &impl Print) -> io::Result<()> {
-        let mut message = [0; 64];
+    fn take(&mut self, rt: &(impl Print + AllocGlobal)) -> io::Result<()> {
+        let most = self.station.config().max as usize;
+        let Ok(mut message) = Vec::from_elem(rt.alloc(), 0, most) else {
+            return println!(rt; "no memory for a message");
+        };
         match self.station.take(&mut message) {
             Some(n) => println!(rt; "{} takes {:?}", self.name, &message[..n]),
             None => println!(rt; "{} has no mail", self.name),
         }
     }
 
-    /// Writes the next frame, if there is one, at the front of `out`: how many bytes it has.
+    /// Writes the next frame, if there is one and room for any, at the front of `out`: how many
+    /// bytes it has.
     fn write(&mut self, out: &mut [u8]) -> usize
-        requires { FRAME ≤ length out.old }
-        ensures { result ≤ FRAME }
+        ensures { result ≤ length out.old }
     {
+        if out.len() < self.station.frame_room() {
+            return 0;
+        }
         self.station.poll(out).unwrap_or(0)
     }
 
@@ -86,7 +85,7 @@ pub fn run(rt: &(impl Print + AllocGlobal)) -> io::Result<()> {
     };
     a.start(rt)?;
     b.start(rt)?;
-    let mut piece = [0; 2 * FRAME];
+    let mut piece = [0; 256]; // room for two frames
     let n = a.write(&mut piece);
     b.receive(rt, &piece[..n])?;
     let n = b.write(&mut piece);

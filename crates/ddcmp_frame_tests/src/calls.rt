@@ -1,0 +1,82 @@
+//! Calls whose contracts say more than tests want to know: each stands alone here, and promises
+//! nothing.
+use ddcmp_frame::failing::Taken;
+use ddcmp_frame::plain::PlainReader;
+use ddcmp_frame::{Got, Item, Reader, Sink, Source, Worst};
+use std::alloc::Global;
+use std::fmt::Debug;
+use std::process::Abort;
+use std::test::Fail;
+
+/// What was told is what was wanted.
+pub fn is<T: PartialEq + Debug + Drop>(rt: &impl Abort, told: T, wanted: T) {
+    assert_eq!(rt; told, wanted);
+}
+
+pub fn reader_of(alloc: Global, max: u16) -> Result<Reader, Fail> {
+    Ok(Reader::new(alloc, max).ok().ok_or("no reader")?)
+}
+
+pub fn plain_of(alloc: Global, max: u16) -> Result<PlainReader, Fail> {
+    Ok(PlainReader::new(alloc, max).ok().ok_or("no plain reader")?)
+}
+
+/// A byte comes.
+pub fn push(rt: &impl Abort, reader: &mut Reader, byte: u8) -> Option<Item> {
+    assert!(rt; reader.offset() < 1_000_000);
+    reader.push(byte)
+}
+
+/// A byte comes to the other reader.
+pub fn push_plain(rt: &impl Abort, reader: &mut PlainReader, byte: u8) -> Option<Item> {
+    assert!(rt; reader.offset() < 1_000_000);
+    reader.push(byte)
+}
+
+/// A piece comes: how many of its bytes were used, and the item that they gave.
+pub fn push_all(rt: &impl Abort, reader: &mut Reader, piece: &[u8]) -> (usize, Option<Item>) {
+    assert!(rt; reader.offset() < 1_000_000 && piece.len() < 1_000_000);
+    let taken = reader.push_all(piece);
+    (taken.used, taken.item)
+}
+
+/// How many bytes are open and kept, and the offset.
+pub fn counts(reader: &Reader) -> (usize, usize, u64) {
+    (reader.open(), reader.kept(), reader.offset())
+}
+
+/// The same of the other reader.
+pub fn counts_plain(reader: &PlainReader) -> (usize, usize, u64) {
+    (reader.open(), reader.kept(), reader.offset())
+}
+
+/// The data of the last item.
+pub fn data(reader: &Reader) -> &[u8] {
+    reader.data()
+}
+
+pub fn data_plain(reader: &PlainReader) -> &[u8] {
+    reader.data()
+}
+
+pub fn reset(reader: &mut Reader) {
+    reader.reset();
+}
+
+/// A read, and the worst answer so far.
+pub fn read<S: Source>(rt: &impl Abort, source: &mut S, buf: &mut [u8]) -> (Got, Worst) {
+    assert!(rt; source.worst() != Worst::Failed);
+    let got = source.read(buf);
+    (got, source.worst())
+}
+
+/// A write, and whether the sink has failed.
+pub fn write<const N: usize>(
+    rt: &impl Abort,
+    sink: &mut Taken<N>,
+    bytes: &[u8],
+) -> (Option<usize>, bool) {
+    assert!(rt; !sink.failed() && !bytes.is_empty());
+    let taken = sink.write(bytes);
+    (taken, sink.failed())
+}

@@ -1,0 +1,86 @@
+//! A served station with refused memory.
+use crate::same::is;
+use ddcmp_cli::{ServeFault, serve};
+use ddcmp_frame::failing::{Pieces, Taken};
+use ddcmp_station::{Clock, LineFault};
+use std::alloc::Global;
+use std::process::Abort;
+
+/// A clock that stands.
+#[derive(Drop)]
+struct Standing;
+
+impl Clock for Standing {
+    fn now(&mut self) -> u64 {
+        0
+    }
+}
+
+/// STACK, and then data message 1, `abc`.
+fn stack_and_data() -> &'static [u8] {
+    &[
+        0x05, 0x07, 0xC0, 0x00, 0x00, 0x01, 0x48, 0x55, 0x81, 0x03, 0x00, 0x00, 0x01, 0x01, 0x9A,
+        0x41, 0x61, 0x62, 0x63, 0x38, 0x97,
+    ]
+}
+
+fn reported() -> &'static [u8] {
+    b"notice Running\nnotice HandedUp\nmail 616263\nturns=1 state=Running read=21 written=8\n"
+}
+
+/// What came of a call.
+#[derive(Drop)]
+struct Told {
+    answer: Result<(), ServeFault>,
+    writer: Taken<256>,
+    report: Taken<256>,
+}
+
+fn serves(alloc: Global) -> Told {
+    let mut reader = Pieces::of(stack_and_data());
+    let mut writer = Taken::<256>::new();
+    let mut report = Taken::<256>::new();
+    let answer = serve(
+        alloc,
+        &mut reader,
+        &mut writer,
+        &mut report,
+        &mut Standing,
+        b"",
+        1,
+        1000,
+        false,
+    );
+    Told {
+        answer,
+        writer,
+        report,
+    }
+}
+
+/// Whether it is the answer to want of memory.
+fn is_want(answer: &Result<(), ServeFault>) -> bool {
+    *answer == Err(ServeFault::Config) || *answer == Err(ServeFault::Line(LineFault::Memory))
+}
+
+/// Whether memory is refused to a call: nothing is read, written or reported then, and else all is.
+fn is_refused(rt: &(impl Abort + AllocGlobal)) -> bool {
+    let told = serves(rt.alloc());
+    if is_want(&told.answer) {
+        assert!(rt; told.report.bytes().is_empty() && told.writer.bytes().is_empty());
+        return true;
+    }
+    is(rt, &told.answer, &Ok(()));
+    is(rt, told.report.bytes(), reported());
+    false
+}
+
+#[test]
+fn refused_memory_serves_nothing(rt: HostRuntime) {
+    let _either = is_refused(&rt);
+}
+
+#[test]
+fn ample_memory_serves(rt: HostRuntime) {
+    assert!(rt; !is_refused(&rt));
+}
