@@ -1,0 +1,6 @@
+//! What an engineer of the protocol expects of its definitions, said apart from their tables:
+//! functions that do nothing, whose contracts are the laws.
+#![tactic(auto)]
+
+pub mod sizes;
+pub mod vectors;
