@@ -3,4 +3,5 @@
 #![tactic(auto)]
 
 pub mod sizes;
+pub mod story;
 pub mod vectors;
