@@ -3,5 +3,6 @@
 #![tactic(auto)]
 
 pub mod sizes;
+pub mod station;
 pub mod story;
 pub mod vectors;
