@@ -1,21 +1,19 @@
 -- Each law of one station, by the rows of its table.
 use Rattle.std.proofs.Common.{◌≡◌, ◌≢◌, ℕ, ◌+◌, ◌%◌, ◌<◌, ◌≤◌, ◌⊎◌, inl, inr, Bool, true, false, cond, ◌&&◌, List, [], ◌∷◌, ◌++◌, length, drop, refl, sym, ap, ◌∙◌, subst, arith, Option, Some, None}
-use Rattle.std.specs.Prelude.{◌==◌, nat_lt, nat_le}
+use Rattle.std.specs.Prelude.{◌==◌, nat_lt}
 use Rattle.ddcmp_num.specs.Sequence.{distance, Within}
 use Rattle.ddcmp_frame.specs.declared.nak.Nak.{Nak as Reason}
 use Rattle.ddcmp_frame.specs.declared.nak.Nak.TheVariants as reason
 use Rattle.ddcmp_frame.specs.Naks.{subtype_of}
 use Rattle.ddcmp_window.specs.Numbers.{is_within, next_number}
 use Rattle.ddcmp_window.specs.declared.inbox.Offer.TheVariants as offer
-use Rattle.ddcmp_core.specs.declared.state.State.{State}
-use Rattle.ddcmp_core.specs.declared.state.State.TheVariants.{Halted, IStart, AStart, Running, Maintenance}
-use Rattle.ddcmp_core.specs.declared.state.Reply.{Reply}
+use Rattle.ddcmp_core.specs.declared.state.State.TheVariants.{Halted, Running}
 use Rattle.ddcmp_core.specs.declared.state.Reply.TheVariants.{Quiet, Ack, Nak}
 use Rattle.ddcmp_core.specs.declared.state.Timer.{Timer}
 use Rattle.ddcmp_core.specs.declared.state.Timer.TheVariants.{Off, Fresh, On}
 use Rattle.ddcmp_core.specs.declared.notice.Notice.{Notice}
 use Rattle.ddcmp_core.specs.declared.notice.Notice.TheVariants as notice
-use Rattle.ddcmp_core.specs.Table.{StationState, Limits, Frame, Data, Acked, Naked, Rep, Strt, Stack, Maint, Received, Good, BadHeader, BadData, TooLong, BadFormat, newly_acknowledged, after_ack, acknowledged_notice, acknowledged_by, reply_to_offer, on_data, data_notice, on_nak, on_rep, may_restart, on_strt, strt_notice, after_restart, after_halt, on_running, running_notice, on_by, on, notice_by, notice_of, Next, Idle, Sends, next_frame, next_by, next_running, next, timer_started, after_expire_in, after_expire_with, after_expire}
+use Rattle.ddcmp_core.specs.Table.{StationState, Limits, Data, Acked, Naked, Rep, Strt, Stack, Maint, Received, Good, BadHeader, BadData, TooLong, BadFormat, newly_acknowledged, after_ack, acknowledged_notice, acknowledged_by, reply_to_offer, on_data, data_notice, on_nak, may_restart, after_restart, after_halt, on_running, running_notice, on_by, on, notice_by, notice_of, Next, Idle, Sends, next_frame, next_by, next_running, next, timer_started, after_expire_in, after_expire_with, after_expire}
 use Rattle.ddcmp_core.specs.NextFrame.{SentFor, sends_strt, sends_stack, sends_nak, sends_rep, sends_data, sends_ack, sends_maint, halted_idles, starting_idles, running_idles, maintenance_idles}
 use Rattle.ddcmp_core.proofs.Sent.{sending}
 use Rattle.ddcmp_core.proofs.ToldLaws.{number_told, number_told_data}
@@ -35,7 +33,7 @@ while_running : (P : StationState → Option Notice → Type 0) (l : Limits) (s 
 unfolding on notice_of
 while_running P l s h e x = subst (λ p. P (on_by p l s h) (notice_by p l s h)) (sym e) x
 
-running_on : (l : Limits) (s : StationState) (h : Received) → s.state ≡ Running → on l s h ≡ on_running l s h
+pub running_on : (l : Limits) (s : StationState) (h : Received) → s.state ≡ Running → on l s h ≡ on_running l s h
 unfolding on
 running_on l s h e = ap (λ p. on_by p l s h) e
 
@@ -162,8 +160,8 @@ data_by s resp num message b c =
 abbrev notice_by_tests : StationState → ℕ → Bool → Bool → Option Notice
 notice_by_tests s resp b c =
     cond (b && c)
-      (Some (cond (newly_acknowledged s resp == 0) notice.HandedUp (notice.HandedUpAndAcknowledged (newly_acknowledged s resp))))
-      (acknowledged_notice (newly_acknowledged s resp))
+    (Some (cond (newly_acknowledged s resp == 0) notice.HandedUp (notice.HandedUpAndAcknowledged (newly_acknowledged s resp))))
+    (acknowledged_notice (newly_acknowledged s resp))
 
 by_tests : (P : StationState → Option Notice → Type 0) (l : Limits) (s : StationState) (resp num : ℕ) (message : List ℕ) (b c : Bool)
     → s.state ≡ Running → (num == next_number s.r) ≡ b → nat_lt (length s.inbox) l.room ≡ c
@@ -178,13 +176,13 @@ pub takes_next : (l : Limits) (s : StationState) (resp num : ℕ) (message : Lis
     → HandsUp message s (on l s (Good (Data resp num message))) (notice_of l s (Good (Data resp num message)))
 takes_next l s resp num message e is room =
     by_tests (HandsUp message s) l s resp num message true true e (grind (arith)) (grind (arith))
-      (record { inbox = refl; r = is; told = some_mail (newly_acknowledged s resp) (newly_acknowledged s resp == 0); owed = refl })
+    (record { inbox = refl; r = is; told = some_mail (newly_acknowledged s resp) (newly_acknowledged s resp == 0); owed = refl })
 
 pub takes_no_other : (l : Limits) (s : StationState) (resp num : ℕ) (message : List ℕ) → s.state ≡ Running → num ≢ (s.r + 1) % 256
     → HandsUpNothing s (on l s (Good (Data resp num message))) (notice_of l s (Good (Data resp num message))) × ((on l s (Good (Data resp num message))).reply ≡ s.reply)
 takes_no_other l s resp num message e isnt =
     by_tests (λ u k. HandsUpNothing s u k × (u.reply ≡ s.reply)) l s resp num message false (nat_lt (length s.inbox) l.room) e (grind (arith)) refl
-      (record { inbox = refl; r = refl; told = no_mail (newly_acknowledged s resp) }, refl)
+    (record { inbox = refl; r = refl; told = no_mail (newly_acknowledged s resp) }, refl)
 
 pub takes_none_without_room : (l : Limits) (s : StationState) (resp num : ℕ) (message : List ℕ) → s.state ≡ Running → l.room ≤ length s.inbox
     → HandsUpNothing s (on l s (Good (Data resp num message))) (notice_of l s (Good (Data resp num message)))
@@ -246,13 +244,13 @@ pub asks_for_unkept : (l : Limits) (s : StationState) (resp num : ℕ) (message 
     → SendsNak 8 s.r (on l s (Good (Data resp num message)))
 asks_for_unkept l s resp num message e is full =
     by_tests (λ u told. SendsNak 8 s.r u) l s resp num message true false e (grind (arith)) (grind (arith))
-      (asks (data_by s resp num message true false) reason.NoBuffer 8 e refl refl)
+    (asks (data_by s resp num message true false) reason.NoBuffer 8 e refl refl)
 
 pub asks_for_missing : (l : Limits) (s : StationState) (num : ℕ) → s.state ≡ Running → num ≢ s.r
     → SendsNak 3 s.r (on l s (Good (Rep num))) × (on l s (Good (Rep num)) ≡ record s { reply = (on l s (Good (Rep num))).reply })
 asks_for_missing l s num e isnt =
     while_running (λ u told. SendsNak 3 s.r u × (u ≡ record s { reply = u.reply })) l s (Good (Rep num)) e
-      (subst (λ b. SendsNak 3 s.r (record s { reply = cond b Ack (Nak reason.ReplyToRep) }) × (record s { reply = cond b Ack (Nak reason.ReplyToRep) } ≡ record s { reply = cond b Ack (Nak reason.ReplyToRep) })) (sym other) (owes s reason.ReplyToRep 3 e refl))
+    (subst (λ b. SendsNak 3 s.r (record s { reply = cond b Ack (Nak reason.ReplyToRep) }) × (record s { reply = cond b Ack (Nak reason.ReplyToRep) } ≡ record s { reply = cond b Ack (Nak reason.ReplyToRep) })) (sym other) (owes s reason.ReplyToRep 3 e refl))
   where
     other : (num == s.r) ≡ false
     other = grind (arith)
@@ -268,8 +266,8 @@ pub restarting : (l : Limits) (s : StationState) → s.state ≡ Running → l.r
 unfolding next
 restarting l s e chosen empty =
     while_running (BeginsAnew s) l s (Good Strt) e
-      (subst (λ b. BeginsAnew s (cond b (after_restart s) (after_halt s)) (Some (cond b (notice.Restarted (length s.out)) notice.PeerRestarted))) (sym may)
-        (record { state = refl; frame = refl; out = refl; told = refl }))
+    (subst (λ b. BeginsAnew s (cond b (after_restart s) (after_halt s)) (Some (cond b (notice.Restarted (length s.out)) notice.PeerRestarted))) (sym may)
+    (record { state = refl; frame = refl; out = refl; told = refl }))
   where
     may : may_restart l s ≡ true
     may = ap (λ b. b && length s.inbox == 0) chosen ∙ ap (λ (x : List (List ℕ)). length x == 0) empty
@@ -277,11 +275,11 @@ restarting l s e chosen empty =
 pub halting : (l : Limits) (s : StationState) → s.state ≡ Running → (l.restart ≡ false) ⊎ (0 < length s.inbox) → HaltsAtRestart s (on l s (Good Strt)) (notice_of l s (Good Strt))
 halting l s e either =
     while_running (HaltsAtRestart s) l s (Good Strt) e
-      (subst (λ b. HaltsAtRestart s (cond b (after_restart s) (after_halt s)) (Some (cond b (notice.Restarted (length s.out)) notice.PeerRestarted))) (sym (may either))
-        (record {
-          halted = record { state = refl; due = refl; reply = refl; rep = refl; timer = refl; r = refl; n = refl; a = refl; t = refl; out = refl; inbox = refl };
-          told = refl;
-        }))
+    (subst (λ b. HaltsAtRestart s (cond b (after_restart s) (after_halt s)) (Some (cond b (notice.Restarted (length s.out)) notice.PeerRestarted))) (sym (may either))
+    (record {
+      halted = record { state = refl; due = refl; reply = refl; rep = refl; timer = refl; r = refl; n = refl; a = refl; t = refl; out = refl; inbox = refl };
+      told = refl;
+    }))
   where
     never : (b c : Bool) → c ≡ false → (b && c) ≡ false
     never true c f = f
@@ -402,3 +400,33 @@ rep_is_next s e owed = ap (λ p. next_frame (next_by p u)) e ∙ by owed
 pub asks_at_expiry : (s : StationState) → s.state ≡ Running → s.timer ≢ Off → s.a ≢ s.n → (s.reply ≡ Quiet) ⊎ (s.reply ≡ Ack)
     → next_frame (next (after_expire s)) ≡ Some (Rep s.n)
 asks_at_expiry s e on waits owed = ap (λ u. next_frame (next u)) (expired_running s e on waits) ∙ rep_is_next s e owed
+
+after_ack_of_all : (s : StationState) (m : ℕ) → m ≢ 0 → (b c : Bool) → (m == 0) ≡ b → (s.n == s.n) ≡ c → cond b s.timer (cond c Off Fresh) ≡ Off
+after_ack_of_all s m some true c e f = absurd (some (grind (arith)))
+after_ack_of_all s m some false true e f = refl
+after_ack_of_all s m some false false e f = absurd (let other : s.n ≢ s.n = grind (arith) in other refl)
+
+pub ended : (l : Limits) (s : StationState) (h : Received) → s.state ≡ Running → s.a < 256 → s.n < 256 → s.a ≢ s.n → Responds h s.n → (on l s h).timer ≡ Off
+ended l s h e ha hn waits responds = while_running (λ u told. u.timer ≡ Off) l s h e (by h responds)
+  where
+    all : is_within s.a s.n s.n ≡ true
+    all = is_within_true s.a s.n s.n (omega arith)
+
+    ack : (after_ack s s.n).timer ≡ Off
+    ack =
+        let c = count_by_test s s.n true all in
+        let some : newly_acknowledged s s.n ≢ 0 = λ z. waits (omega (arith, c, z, ha, hn)) in
+        after_ack_of_all s (newly_acknowledged s s.n) some (newly_acknowledged s s.n == 0) (s.n == s.n) refl refl
+
+    by : (h : Received) → Responds h s.n → (on_running l s h).timer ≡ Off
+    by (Good (Acked resp)) r = subst (λ x. (after_ack s x).timer ≡ Off) (sym r) ack
+    by (Good (Naked why resp)) r = subst (λ x. (on_nak s x).timer ≡ Off) (sym r) (subst (λ b. (nak_by s s.n b).timer ≡ Off) (sym all) refl)
+    by (Good (Data resp num message)) r = subst (λ x. (on_data l s x num message).timer ≡ Off) (sym r) ack
+    by (Good (Rep num)) r = absurd r
+    by (Good Strt) r = absurd r
+    by (Good Stack) r = absurd r
+    by (Good (Maint message)) r = absurd r
+    by BadHeader r = absurd r
+    by (BadData b) r = absurd r
+    by (TooLong b) r = absurd r
+    by BadFormat r = absurd r

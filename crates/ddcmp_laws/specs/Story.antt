@@ -1,9 +1,8 @@
 -- One run of two ends, written out: what happens, and what is answered.
-use Rattle.std.specs.Prelude.{◌≡◌, ℕ, ◌≤◌, ◌==◌, true, false, List, [], ◌∷◌, ◌++◌, length, map}
+use Rattle.std.specs.Prelude.{◌≡◌, ℕ, true, false, List, [], ◌∷◌, ◌++◌}
 use Rattle.ddcmp_core.specs.declared.notice.Notice.{Notice}
 use Rattle.ddcmp_core.specs.declared.notice.Notice.TheVariants as notice
 use Rattle.ddcmp_core.specs.declared.counters.Counters.{Counters}
-use Rattle.ddcmp_core.specs.declared.counters.NakCounts.{NakCounts}
 use Rattle.ddcmp_core.specs.Counting.{no_naks, no_counts}
 use Rattle.ddcmp_core.specs.Seq.{Seq}
 use Rattle.ddcmp_proto.specs.declared.config.Config.{Config}
@@ -13,7 +12,7 @@ use Rattle.ddcmp_run.specs.declared.event.Event.TheVariants as event
 use Rattle.ddcmp_run.specs.declared.event.Reply.{Reply}
 use Rattle.ddcmp_run.specs.declared.event.Reply.TheVariants as reply
 use Rattle.ddcmp_run.specs.Recovery.{is_done}
-use Rattle.ddcmp_run.specs.Run.{PairState, after_event, reply_to, run, new_pair, handed_up, is_clean}
+use Rattle.ddcmp_run.specs.Run.{PairState, after_event, reply_to, handed_up, is_clean}
 use Rattle.ddcmp_laws.specs.Vectors.{abc}
 
 -- ---- what goes over the line
@@ -83,6 +82,11 @@ abbrev pub nak_2_bytes : List ℕ
 nak_2_bytes =
     0x05 ∷ 0x02 ∷ 0x02 ∷ 0x02 ∷ 0x00 ∷ 0x01 ∷ 0x18 ∷ 0x2D ∷ []
 
+-- REP with NUM 3
+abbrev pub rep_3_bytes : List ℕ
+rep_3_bytes =
+    0x05 ∷ 0x03 ∷ 0x00 ∷ 0x00 ∷ 0x03 ∷ 0x01 ∷ 0x85 ∷ 0x65 ∷ []
+
 -- ACK with RESP 3
 abbrev pub ack_3_bytes : List ℕ
 ack_3_bytes =
@@ -147,8 +151,10 @@ loss =
     ∷ (event.Arrive A nak_3_bytes, told [])
     ∷ (event.Poll A, reply.Wrote first_bytes)
     ∷ (event.Poll A, reply.Wrote second_bytes)
-    ∷ (event.Arrive B (first_bytes ++ second_bytes),
-        told (notice.HandedUp ∷ notice.HandedUp ∷ []))
+    ∷ (
+      event.Arrive B (first_bytes ++ second_bytes),
+      told (notice.HandedUp ∷ notice.HandedUp ∷ []),
+    )
     ∷ []
 
 -- B answers by a message that carries the acknowledgement of both.
@@ -164,7 +170,8 @@ answer =
     ∷ (event.Expire B, reply.Expired false)
     ∷ []
 
--- A message is damaged on its way. B asks for it at once by a NAK.
+-- A message is damaged on its way, and B asks for it at once by a NAK. Then the ACK is lost, so A
+-- asks by a REP, which is answered by an ACK: nothing is sent again.
 abbrev pub damage : List Happening
 damage =
     (event.Send A g, reply.Accepted (number 3))
@@ -175,7 +182,13 @@ damage =
     ∷ (event.Poll A, reply.Wrote third_bytes)
     ∷ (event.Arrive B third_bytes, told (notice.HandedUp ∷ []))
     ∷ (event.Poll B, reply.Wrote ack_3_bytes)
+    ∷ (event.Expire A, reply.Expired true)
+    ∷ (event.Poll A, reply.Wrote rep_3_bytes)
+    ∷ (event.Arrive B rep_3_bytes, told [])
+    ∷ (event.Poll B, reply.Wrote ack_3_bytes)
     ∷ (event.Arrive A ack_3_bytes, told (notice.Acknowledged 1 ∷ []))
+    ∷ (event.Poll A, reply.Idle)
+    ∷ (event.Poll B, reply.Idle)
     ∷ []
 
 -- Both users take their mail.
@@ -205,7 +218,7 @@ replies_to (e ∷ rest) p = reply_to e p ∷ replies_to rest (after_event e p)
 
 -- ---- how it ends
 
--- A sent 3 messages of 6 bytes, and these 3 again; it sent one REP, and was told two NAKs.
+-- A sent 3 messages of 6 bytes, and these 3 again; it sent two REPs, and was told two NAKs.
 abbrev pub counts_of_a : Counters
 counts_of_a = record no_counts {
   messages_sent = 3;
@@ -214,19 +227,19 @@ counts_of_a = record no_counts {
   bytes_again = 6;
   messages_up = 1;
   bytes_up = 1;
-  rep_sent = 1;
+  rep_sent = 2;
   nak_received = record no_naks { data_check = 1; reply_to_rep = 1 };
-  expiries = 1;
+  expiries = 2;
 }
 
--- B sent 1 message of 1 byte; it was asked once by a REP, and once the data were damaged.
+-- B sent 1 message of 1 byte; it was asked twice by a REP, and once the data were damaged.
 abbrev pub counts_of_b : Counters
 counts_of_b = record no_counts {
   messages_sent = 1;
   bytes_sent = 1;
   messages_up = 3;
   bytes_up = 6;
-  rep_received = 1;
+  rep_received = 2;
   nak_sent = record no_naks { data_check = 1; reply_to_rep = 1 };
   data_checks = 1;
 }

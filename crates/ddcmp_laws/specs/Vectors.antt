@@ -1,5 +1,5 @@
 -- Frames and their bytes on the line.
-use Rattle.std.specs.Prelude.{◌≡◌, ℕ, List, [], ◌∷◌, length, map, Bool, Ok}
+use Rattle.std.specs.Prelude.{◌≡◌, ℕ, List, [], ◌∷◌, map, Bool, Ok}
 use Rattle.ddcmp_frame.specs.declared.header.Flags.{Flags}
 use Rattle.ddcmp_frame.specs.declared.header.ControlType.{ControlType}
 use Rattle.ddcmp_frame.specs.declared.header.Header.{Header}
@@ -7,7 +7,7 @@ use Rattle.ddcmp_frame.specs.declared.header.Header.TheVariants as header
 use Rattle.ddcmp_frame.specs.Spelling.{parsed}
 use Rattle.ddcmp_frame.specs.Wire.{eight_bytes}
 use Rattle.ddcmp_frame.specs.Reading.{items}
-use Rattle.ddcmp_core.specs.Table.{Frame, Received, Good}
+use Rattle.ddcmp_core.specs.Table.{Frame, Good}
 use Rattle.ddcmp_proto.specs.Bytes.{frame_on_line, received_of}
 
 -- the text `123456789`, whose check is published with each CRC

@@ -3,6 +3,7 @@
 #![tactic(auto)]
 
 pub mod sizes;
+pub mod starts;
 pub mod station;
 pub mod story;
 pub mod vectors;

@@ -1,13 +1,13 @@
 //! Laws of one station, of whatever sizes and in whatever it waits for.
 ghost use Rattle.std.specs.Prelude.{◌≡◌, ◌≢◌, ◌+◌, ◌%◌, ◌<◌, ◌≤◌, ◌↔◌, ◌⊎◌, ℕ, List, [], ◌∷◌, ◌++◌, length, true, false, Some, Ok};
-ghost use Rattle.ddcmp_num.specs.Sequence.{Within};
-ghost use Rattle.ddcmp_core.specs.Seq.{Seq};
+ghost use Rattle.ddcmp_num.specs.Sequence.{distance, Within};
+ghost use Rattle.ddcmp_core.specs.Seq.{Seq as SeqValue};
 ghost use Rattle.ddcmp_frame.specs.declared.nak.Nak.{Nak as Reason};
 ghost use Rattle.ddcmp_core.specs.declared.state.State.TheVariants.{Halted, AStart, Running};
 ghost use Rattle.ddcmp_core.specs.declared.state.Reply.TheVariants.{Quiet, Ack, Nak};
 ghost use Rattle.ddcmp_core.specs.declared.state.Timer.TheVariants.{Off, Fresh};
-ghost use Rattle.ddcmp_core.specs.Table.{Limits, StationState, Frame, Data, Acked, Naked, Rep, Strt, Received, Good, Next, Idle, Sends, on, notice_of, next, next_frame, after_halt, may_send, answer_to_send, after_accept, after_expire};
-ghost use Rattle.ddcmp_core.specs.Core.{IsSound};
+ghost use Rattle.ddcmp_core.specs.Table.{Limits, StationState, Frame, Data, Acked, Naked, Rep, Strt, Received, Good, Next, Idle, Sends, on, notice_of, acknowledged_by, next, after_next, next_frame, after_halt, may_send, answer_to_send, after_accept, after_expire};
+ghost use Rattle.ddcmp_core.specs.Core.{IsSound, IsReceivable};
 ghost use Rattle.ddcmp_laws.specs.Station.{HasHalted, Responds, AcknowledgesUpTo, AcknowledgesNothing, HandsUp, HandsUpNothing, IsNoMessage, CallsFor, SendsNak, BeginsAnew, HaltsAtRestart, KeepsUnder};
 
 /// A halted station is deaf and dumb: nothing that comes changes it, it sends nothing, and it takes
@@ -105,14 +105,40 @@ pub fn answers_no_answer()
 {}
 
 /// The timer isn't starved: data start a timer that is off, and leave one that is running as it is.
-/// It is off where all is acknowledged. And where it runs out while a message waits to be
+/// What acknowledges all that was sent ends it. And where it runs out while a message waits to be
 /// acknowledged, the station asks by a REP.
 pub fn timer_is_not_starved()
     ensures running { (s u : StationState) (r num : ℕ) (message : List ℕ)
         → next s ≡ Sends (Data r num message) u → s.timer ≢ Off → u.timer ≡ s.timer }
     ensures starts { (s u : StationState) (r num : ℕ) (message : List ℕ)
         → next s ≡ Sends (Data r num message) u → s.timer ≡ Off → u.timer ≡ Fresh }
+    ensures ends { (l : Limits) (s : StationState) (h : Received) → s.state ≡ Running
+        → s.a < 256 → s.n < 256 → s.a ≢ s.n → Responds h s.n → (on l s h).timer ≡ Off }
     ensures asks { (s : StationState) → s.state ≡ Running → s.timer ≢ Off → s.a ≢ s.n
         → (s.reply ≡ Quiet) ⊎ (s.reply ≡ Ack)
         → next_frame (next (after_expire s)) ≡ Some (Rep s.n) }
+{}
+
+/// The number that `send` answers is the number on the line of that message, each time that it is
+/// sent: from then on the message is kept under that number, no other is, and what is sent under a
+/// number is the message that is kept under it; until it is told acknowledged.
+pub fn sends_under_the_number_answered()
+    ensures answered { (l : Limits) (s : StationState) (message : List ℕ) (number : SeqValue)
+        → answer_to_send l s message ≡ Ok number
+        → KeepsUnder (after_accept s message) number.0 message }
+    ensures sent { (l : Limits) (s u : StationState) (r num : ℕ) (message : List ℕ)
+        → IsSound l s → next s ≡ Sends (Data r num message) u → KeepsUnder s num message }
+    ensures one { (l : Limits) (s : StationState) (number : ℕ) (message other : List ℕ)
+        → IsSound l s → KeepsUnder s number message → KeepsUnder s number other
+        → message ≡ other }
+    ensures stays_when_sent { (s : StationState) (number : ℕ) (message : List ℕ)
+        → s.state ≡ Running → KeepsUnder s number message
+        → KeepsUnder (after_next (next s) s) number message }
+    ensures stays_when_accepted { (s : StationState) (number : ℕ) (message other : List ℕ)
+        → KeepsUnder s number message → KeepsUnder (after_accept s other) number message }
+    ensures stays_when_received { (l : Limits) (s : StationState) (h : Received) (number : ℕ)
+        (message : List ℕ) → IsSound l s → IsReceivable l h
+        → s.state ≡ Running → (on l s h).state ≡ Running → KeepsUnder s number message
+        → (distance s.a number ≤ acknowledged_by (notice_of l s h))
+        ⊎ KeepsUnder (on l s h) number message }
 {}

@@ -3,7 +3,7 @@ ghost use Rattle.std.specs.Prelude.{◌≡◌, map};
 ghost use Rattle.ddcmp_run.specs.Run.{run, new_pair};
 ghost use Rattle.ddcmp_laws.specs.Story.{usual, written_run, event_in, reply_in, replies_to, EndsWell};
 
-/// A startup, messages both ways, one that is lost and one that is damaged, and their repair: each
+/// A startup, messages both ways, of which one is lost and one damaged, a lost ACK, and the repair: each
 /// frame on the line, each notice and each number is the one that is written down, and in the end
 /// each message was handed up, and both ends have counted right.
 pub fn written_run_is_answered()
