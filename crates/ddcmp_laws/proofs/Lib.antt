@@ -1,0 +1,3 @@
+pub mod StationLaws
+pub mod NumberLaws
+pub mod StartLaws

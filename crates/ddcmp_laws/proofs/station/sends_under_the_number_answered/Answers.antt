@@ -1,0 +1,20 @@
+use Rattle.ddcmp_laws.proofs.NumberLaws.{kept_under_answer, kept_when_sent, kept_once, kept_after_next, kept_after_accept, kept_after_on}
+use Rattle.ddcmp_laws.proofs.station.sends_under_the_number_answered.Goals as goal
+
+pub returns-clause-answered : goal.returns-clause-answered
+returns-clause-answered c = kept_under_answer
+
+pub returns-clause-sent : goal.returns-clause-sent
+returns-clause-sent c = kept_when_sent
+
+pub returns-clause-one : goal.returns-clause-one
+returns-clause-one c = kept_once
+
+pub returns-clause-stays_when_sent : goal.returns-clause-stays_when_sent
+returns-clause-stays_when_sent c = kept_after_next
+
+pub returns-clause-stays_when_accepted : goal.returns-clause-stays_when_accepted
+returns-clause-stays_when_accepted c = kept_after_accept
+
+pub returns-clause-stays_when_received : goal.returns-clause-stays_when_received
+returns-clause-stays_when_received c = kept_after_on

@@ -1,0 +1,14 @@
+use Rattle.ddcmp_laws.proofs.StationLaws.{data_leave_the_timer, data_start_the_timer, ended, asks_at_expiry}
+use Rattle.ddcmp_laws.proofs.station.timer_is_not_starved.Goals as goal
+
+pub returns-clause-running : goal.returns-clause-running
+returns-clause-running c = data_leave_the_timer
+
+pub returns-clause-starts : goal.returns-clause-starts
+returns-clause-starts c = data_start_the_timer
+
+pub returns-clause-ends : goal.returns-clause-ends
+returns-clause-ends c = ended
+
+pub returns-clause-asks : goal.returns-clause-asks
+returns-clause-asks c = asks_at_expiry

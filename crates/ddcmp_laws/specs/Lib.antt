@@ -1,0 +1,4 @@
+pub mod Vectors
+pub mod Story
+pub mod Starts
+pub mod Station

@@ -1,0 +1,122 @@
+-- What the laws of one station say, in words of their own.
+use Rattle.std.specs.Prelude.{◌≡◌, ℕ, ◌+◌, ◌%◌, ◌<◌, Bool, true, false, List, [], ◌∷◌, ◌++◌, length, drop, slice_index_or, Option, Some}
+use Rattle.ddcmp_num.specs.Sequence.{distance}
+use Rattle.ddcmp_frame.specs.declared.nak.Nak.{Nak as Reason}
+use Rattle.ddcmp_frame.specs.Naks.{subtype_of}
+use Rattle.ddcmp_core.specs.declared.notice.Notice.{Notice}
+use Rattle.ddcmp_core.specs.declared.notice.Notice.TheVariants as notice
+use Rattle.ddcmp_core.specs.declared.state.State.TheVariants.{Halted, AStart}
+use Rattle.ddcmp_core.specs.declared.state.Reply.TheVariants.{Quiet, Ack}
+use Rattle.ddcmp_core.specs.declared.state.Timer.TheVariants.{Off}
+use Rattle.ddcmp_core.specs.Table.{StationState, Data, Acked, Naked, Strt, Stack, Received, Good, BadHeader, BadData, TooLong, BadFormat, next, next_frame, acknowledged_by}
+
+-- ---- what a halt leaves
+
+-- A station that halted owes nothing and waits for nothing, and keeps its numbers, its messages to
+-- send and its mail.
+pub record HasHalted (before after : StationState) : Type 0 where
+  pub state : after.state ≡ Halted
+  pub due : after.due ≡ false
+  pub reply : after.reply ≡ Quiet
+  pub rep : after.rep ≡ false
+  pub timer : after.timer ≡ Off
+  pub r : after.r ≡ before.r
+  pub n : after.n ≡ before.n
+  pub a : after.a ≡ before.a
+  pub t : after.t ≡ before.t
+  pub out : after.out ≡ before.out
+  pub inbox : after.inbox ≡ before.inbox
+
+-- ---- acknowledgements
+
+-- what comes acknowledges up to this number: an ACK, a NAK or data with this RESP
+abbrev pub Responds : Received → ℕ → Type 0
+Responds (Good (Acked resp)) q = resp ≡ q
+Responds (Good (Naked why resp)) q = resp ≡ q
+Responds (Good (Data resp num message)) q = resp ≡ q
+Responds _ q = ⊥
+
+-- Exactly the messages up to q leave, q is the last that is acknowledged, and as many are told.
+pub record AcknowledgesUpTo (q : ℕ) (before after : StationState) (notice_told : Option Notice) : Type 0 where
+  pub a : after.a ≡ q
+  pub n : after.n ≡ before.n
+  pub out : after.out ≡ drop (distance before.a q) before.out
+  pub told : acknowledged_by notice_told ≡ distance before.a q
+
+-- nothing leaves, and nothing is told acknowledged
+pub record AcknowledgesNothing (before after : StationState) (notice_told : Option Notice) : Type 0 where
+  pub a : after.a ≡ before.a
+  pub n : after.n ≡ before.n
+  pub out : after.out ≡ before.out
+  pub told : acknowledged_by notice_told ≡ 0
+
+-- ---- messages that come
+
+-- that a message is in the inbox
+abbrev pub tells_mail : Option Notice → Bool
+tells_mail (Some notice.HandedUp) = true
+tells_mail (Some (notice.HandedUpAndAcknowledged m)) = true
+tells_mail (Some notice.RunningAndHandedUp) = true
+tells_mail (Some notice.MaintenanceHandedUp) = true
+tells_mail _ = false
+
+-- One message more is in the inbox, and is told; R is one more, and an ACK is owed.
+pub record HandsUp (message : List ℕ) (before after : StationState) (notice_told : Option Notice) : Type 0 where
+  pub inbox : after.inbox ≡ before.inbox ++ message ∷ []
+  pub r : after.r ≡ (before.r + 1) % 256
+  pub told : tells_mail notice_told ≡ true
+  pub owed : after.reply ≡ Ack
+
+-- the inbox and R stay, and no mail is told
+pub record HandsUpNothing (before after : StationState) (notice_told : Option Notice) : Type 0 where
+  pub inbox : after.inbox ≡ before.inbox
+  pub r : after.r ≡ before.r
+  pub told : tells_mail notice_told ≡ false
+
+-- what comes is no data message, and no STRT
+abbrev pub IsNoMessage : Received → Type 0
+IsNoMessage (Good (Data resp num message)) = ⊥
+IsNoMessage (Good Strt) = ⊥
+IsNoMessage _ = Unit {0}
+
+-- ---- what is asked for
+
+-- What can't be read, and the SUBTYPE of the NAK that it calls for: a header whose check fails 1,
+-- damaged data 2, a message too long 16, a header of no form 17.
+abbrev pub CallsFor : Received → ℕ → Type 0
+CallsFor BadHeader k = k ≡ 1
+CallsFor (BadData true) k = k ≡ 2
+CallsFor (TooLong true) k = k ≡ 16
+CallsFor BadFormat k = k ≡ 17
+CallsFor _ k = ⊥
+
+-- the next frame of a station is a NAK of this SUBTYPE, with this RESP
+pub record SendsNak (k r : ℕ) (s : StationState) : Type 0 where
+  pub why : Reason
+  pub subtype : subtype_of why ≡ k
+  pub frame : next_frame (next s) ≡ Some (Naked why r)
+
+-- ---- the peer begins anew
+
+-- The station begins anew as well: its next frame is a STACK, what it was to send is dropped, and
+-- how many messages that were is told.
+pub record BeginsAnew (before after : StationState) (notice_told : Option Notice) : Type 0 where
+  pub state : after.state ≡ AStart
+  pub frame : next_frame (next after) ≡ Some Stack
+  pub out : after.out ≡ []
+  pub told : notice_told ≡ Some (notice.Restarted (length before.out))
+
+-- the station halts, and tells why
+pub record HaltsAtRestart (before after : StationState) (notice_told : Option Notice) : Type 0 where
+  pub halted : HasHalted before after
+  pub told : notice_told ≡ Some notice.PeerRestarted
+
+-- ---- the numbers of messages
+
+-- A station keeps a message under a number: it stands at some place among those that are kept, and
+-- the number is as many behind A, counted modulo 256.
+pub record KeepsUnder (s : StationState) (number : ℕ) (message : List ℕ) : Type 0 where
+  pub place : ℕ
+  pub there : place < length s.out
+  pub message_at : slice_index_or s.out place [] ≡ message
+  pub number_is : number ≡ (s.a + (place + 1)) % 256

@@ -1,0 +1,255 @@
+-- One run of two ends, written out: what happens, and what is answered.
+use Rattle.std.specs.Prelude.{◌≡◌, ℕ, true, false, List, [], ◌∷◌, ◌++◌}
+use Rattle.ddcmp_core.specs.declared.notice.Notice.{Notice}
+use Rattle.ddcmp_core.specs.declared.notice.Notice.TheVariants as notice
+use Rattle.ddcmp_core.specs.declared.counters.Counters.{Counters}
+use Rattle.ddcmp_core.specs.Counting.{no_naks, no_counts}
+use Rattle.ddcmp_core.specs.Seq.{Seq}
+use Rattle.ddcmp_proto.specs.declared.config.Config.{Config}
+use Rattle.ddcmp_run.specs.declared.event.End.TheVariants.{A, B}
+use Rattle.ddcmp_run.specs.declared.event.Event.{Event}
+use Rattle.ddcmp_run.specs.declared.event.Event.TheVariants as event
+use Rattle.ddcmp_run.specs.declared.event.Reply.{Reply}
+use Rattle.ddcmp_run.specs.declared.event.Reply.TheVariants as reply
+use Rattle.ddcmp_run.specs.Recovery.{is_done}
+use Rattle.ddcmp_run.specs.Run.{PairState, after_event, reply_to, handed_up, is_clean}
+use Rattle.ddcmp_laws.specs.Vectors.{abc}
+
+-- ---- what goes over the line
+
+-- STRT
+abbrev pub strt_bytes : List ℕ
+strt_bytes =
+    0x05 ∷ 0x06 ∷ 0xC0 ∷ 0x00 ∷ 0x00 ∷ 0x01 ∷ 0x75 ∷ 0x95 ∷ []
+
+-- STACK
+abbrev pub stack_bytes : List ℕ
+stack_bytes =
+    0x05 ∷ 0x07 ∷ 0xC0 ∷ 0x00 ∷ 0x00 ∷ 0x01 ∷ 0x48 ∷ 0x55 ∷ []
+
+-- ACK with RESP 0
+abbrev pub ack_0_bytes : List ℕ
+ack_0_bytes =
+    0x05 ∷ 0x01 ∷ 0x00 ∷ 0x00 ∷ 0x00 ∷ 0x01 ∷ 0xFC ∷ 0x55 ∷ []
+
+-- message `abc`, NUM 1, RESP 0
+abbrev pub first_bytes : List ℕ
+first_bytes =
+    0x81 ∷ 0x03 ∷ 0x00 ∷ 0x00 ∷ 0x01 ∷ 0x01 ∷ 0x9A ∷ 0x41
+    ∷ 0x61 ∷ 0x62 ∷ 0x63 ∷ 0x38 ∷ 0x97 ∷ []
+
+-- message `de`, NUM 2, RESP 0
+abbrev pub second_bytes : List ℕ
+second_bytes =
+    0x81 ∷ 0x02 ∷ 0x00 ∷ 0x00 ∷ 0x02 ∷ 0x01 ∷ 0xA7 ∷ 0x71
+    ∷ 0x64 ∷ 0x65 ∷ 0xEA ∷ 0xEB ∷ []
+
+-- REP with NUM 2
+abbrev pub rep_2_bytes : List ℕ
+rep_2_bytes =
+    0x05 ∷ 0x03 ∷ 0x00 ∷ 0x00 ∷ 0x02 ∷ 0x01 ∷ 0x84 ∷ 0xF5 ∷ []
+
+-- NAK 3, the reply to a REP, with RESP 0
+abbrev pub nak_3_bytes : List ℕ
+nak_3_bytes =
+    0x05 ∷ 0x02 ∷ 0x03 ∷ 0x00 ∷ 0x00 ∷ 0x01 ∷ 0xB8 ∷ 0x11 ∷ []
+
+-- message `f` of the other end, NUM 1, RESP 2
+abbrev pub answer_bytes : List ℕ
+answer_bytes =
+    0x81 ∷ 0x01 ∷ 0x00 ∷ 0x02 ∷ 0x01 ∷ 0x01 ∷ 0x42 ∷ 0x41
+    ∷ 0x66 ∷ 0x80 ∷ 0x2A ∷ []
+
+-- ACK with RESP 1
+abbrev pub ack_1_bytes : List ℕ
+ack_1_bytes =
+    0x05 ∷ 0x01 ∷ 0x00 ∷ 0x01 ∷ 0x00 ∷ 0x01 ∷ 0xAD ∷ 0x95 ∷ []
+
+-- message `g`, NUM 3, RESP 1
+abbrev pub third_bytes : List ℕ
+third_bytes =
+    0x81 ∷ 0x01 ∷ 0x00 ∷ 0x01 ∷ 0x03 ∷ 0x01 ∷ 0xB3 ∷ 0x21
+    ∷ 0x67 ∷ 0x41 ∷ 0xEA ∷ []
+
+-- the same with its data damaged: `f` for `g`
+abbrev pub damaged_bytes : List ℕ
+damaged_bytes =
+    0x81 ∷ 0x01 ∷ 0x00 ∷ 0x01 ∷ 0x03 ∷ 0x01 ∷ 0xB3 ∷ 0x21
+    ∷ 0x66 ∷ 0x41 ∷ 0xEA ∷ []
+
+-- NAK 2, for damaged data, with RESP 2
+abbrev pub nak_2_bytes : List ℕ
+nak_2_bytes =
+    0x05 ∷ 0x02 ∷ 0x02 ∷ 0x02 ∷ 0x00 ∷ 0x01 ∷ 0x18 ∷ 0x2D ∷ []
+
+-- REP with NUM 3
+abbrev pub rep_3_bytes : List ℕ
+rep_3_bytes =
+    0x05 ∷ 0x03 ∷ 0x00 ∷ 0x00 ∷ 0x03 ∷ 0x01 ∷ 0x85 ∷ 0x65 ∷ []
+
+-- ACK with RESP 3
+abbrev pub ack_3_bytes : List ℕ
+ack_3_bytes =
+    0x05 ∷ 0x01 ∷ 0x00 ∷ 0x03 ∷ 0x00 ∷ 0x01 ∷ 0x0C ∷ 0x55 ∷ []
+
+abbrev pub de : List ℕ
+de = 0x64 ∷ 0x65 ∷ []
+
+abbrev pub f : List ℕ
+f = 0x66 ∷ []
+
+abbrev pub g : List ℕ
+g = 0x67 ∷ []
+
+-- ---- the run
+
+-- the usual sizes
+abbrev pub usual : Config
+usual = record { window = 7; inbox = 8; max = 1500; syn = 0; restart = false }
+
+-- what happens, and what is answered
+abbrev pub Happening : Type 0
+Happening = Event × Reply
+
+abbrev pub number : ℕ → Seq
+number n = record { 0 = n }
+
+abbrev pub told : List Notice → Reply
+told notices = reply.Notices notices
+
+-- Both ends start; the STRT of B is lost.
+abbrev pub startup : List Happening
+startup =
+    (event.Start A, reply.Started 0)
+    ∷ (event.Start B, reply.Started 0)
+    ∷ (event.Poll A, reply.Wrote strt_bytes)
+    ∷ (event.Poll B, reply.Wrote strt_bytes)
+    ∷ (event.Arrive B strt_bytes, told [])
+    ∷ (event.Poll B, reply.Wrote stack_bytes)
+    ∷ (event.Arrive A stack_bytes, told (notice.Running ∷ []))
+    ∷ (event.Poll A, reply.Wrote ack_0_bytes)
+    ∷ (event.Arrive B ack_0_bytes, told (notice.Running ∷ []))
+    ∷ (event.Poll A, reply.Idle)
+    ∷ (event.Poll B, reply.Idle)
+    ∷ []
+
+-- A sends two messages, and the first is lost. Its timer runs out, so it asks by a REP, is told by
+-- a NAK, and sends both again.
+abbrev pub loss : List Happening
+loss =
+    (event.Send A abc, reply.Accepted (number 1))
+    ∷ (event.Send A de, reply.Accepted (number 2))
+    ∷ (event.Poll A, reply.Wrote first_bytes)
+    ∷ (event.Poll A, reply.Wrote second_bytes)
+    ∷ (event.Poll A, reply.Idle)
+    ∷ (event.Arrive B second_bytes, told [])
+    ∷ (event.Poll B, reply.Idle)
+    ∷ (event.Expire A, reply.Expired true)
+    ∷ (event.Poll A, reply.Wrote rep_2_bytes)
+    ∷ (event.Arrive B rep_2_bytes, told [])
+    ∷ (event.Poll B, reply.Wrote nak_3_bytes)
+    ∷ (event.Arrive A nak_3_bytes, told [])
+    ∷ (event.Poll A, reply.Wrote first_bytes)
+    ∷ (event.Poll A, reply.Wrote second_bytes)
+    ∷ (
+      event.Arrive B (first_bytes ++ second_bytes),
+      told (notice.HandedUp ∷ notice.HandedUp ∷ []),
+    )
+    ∷ []
+
+-- B answers by a message that carries the acknowledgement of both.
+abbrev pub answer : List Happening
+answer =
+    (event.Send B f, reply.Accepted (number 1))
+    ∷ (event.Poll B, reply.Wrote answer_bytes)
+    ∷ (event.Poll B, reply.Idle)
+    ∷ (event.Arrive A answer_bytes, told (notice.HandedUpAndAcknowledged 2 ∷ []))
+    ∷ (event.Poll A, reply.Wrote ack_1_bytes)
+    ∷ (event.Arrive B ack_1_bytes, told (notice.Acknowledged 1 ∷ []))
+    ∷ (event.Expire A, reply.Expired false)
+    ∷ (event.Expire B, reply.Expired false)
+    ∷ []
+
+-- A message is damaged on its way, and B asks for it at once by a NAK. Then the ACK is lost, so A
+-- asks by a REP, which is answered by an ACK: nothing is sent again.
+abbrev pub damage : List Happening
+damage =
+    (event.Send A g, reply.Accepted (number 3))
+    ∷ (event.Poll A, reply.Wrote third_bytes)
+    ∷ (event.Arrive B damaged_bytes, told [])
+    ∷ (event.Poll B, reply.Wrote nak_2_bytes)
+    ∷ (event.Arrive A nak_2_bytes, told [])
+    ∷ (event.Poll A, reply.Wrote third_bytes)
+    ∷ (event.Arrive B third_bytes, told (notice.HandedUp ∷ []))
+    ∷ (event.Poll B, reply.Wrote ack_3_bytes)
+    ∷ (event.Expire A, reply.Expired true)
+    ∷ (event.Poll A, reply.Wrote rep_3_bytes)
+    ∷ (event.Arrive B rep_3_bytes, told [])
+    ∷ (event.Poll B, reply.Wrote ack_3_bytes)
+    ∷ (event.Arrive A ack_3_bytes, told (notice.Acknowledged 1 ∷ []))
+    ∷ (event.Poll A, reply.Idle)
+    ∷ (event.Poll B, reply.Idle)
+    ∷ []
+
+-- Both users take their mail.
+abbrev pub mail : List Happening
+mail =
+    (event.Take B, reply.Took abc)
+    ∷ (event.Take B, reply.Took de)
+    ∷ (event.Take B, reply.Took g)
+    ∷ (event.Take B, reply.Nothing)
+    ∷ (event.Take A, reply.Took f)
+    ∷ (event.Take A, reply.Nothing)
+    ∷ []
+
+abbrev pub written_run : List Happening
+written_run = startup ++ (loss ++ (answer ++ (damage ++ mail)))
+
+abbrev pub event_in : Happening → Event
+event_in h = h.0
+
+abbrev pub reply_in : Happening → Reply
+reply_in h = h.1
+
+-- what a pair answers to events, one after another
+unfoldable pub replies_to : List Event → PairState → List Reply
+replies_to [] p = []
+replies_to (e ∷ rest) p = reply_to e p ∷ replies_to rest (after_event e p)
+
+-- ---- how it ends
+
+-- A sent 3 messages of 6 bytes, and these 3 again; it sent two REPs, and was told two NAKs.
+abbrev pub counts_of_a : Counters
+counts_of_a = record no_counts {
+  messages_sent = 3;
+  bytes_sent = 6;
+  messages_again = 3;
+  bytes_again = 6;
+  messages_up = 1;
+  bytes_up = 1;
+  rep_sent = 2;
+  nak_received = record no_naks { data_check = 1; reply_to_rep = 1 };
+  expiries = 2;
+}
+
+-- B sent 1 message of 1 byte; it was asked twice by a REP, and once the data were damaged.
+abbrev pub counts_of_b : Counters
+counts_of_b = record no_counts {
+  messages_sent = 1;
+  bytes_sent = 1;
+  messages_up = 3;
+  bytes_up = 6;
+  rep_received = 2;
+  nak_sent = record no_naks { data_check = 1; reply_to_rep = 1 };
+  data_checks = 1;
+}
+
+-- all was handed up, the line was honest, and neither end began twice
+pub record EndsWell (p : PairState) : Type 0 where
+  pub honest : p.honest ≡ true
+  pub clean : is_clean p ≡ true
+  pub done : is_done p ≡ true
+  pub at_a : handed_up p.a ≡ f ∷ []
+  pub at_b : handed_up p.b ≡ abc ∷ de ∷ g ∷ []
+  pub counted_at_a : p.a.core.counters ≡ counts_of_a
+  pub counted_at_b : p.b.core.counters ≡ counts_of_b

@@ -1,0 +1,67 @@
+-- Frames and their bytes on the line.
+use Rattle.std.specs.Prelude.{◌≡◌, ℕ, List, [], ◌∷◌, map, Bool, Ok}
+use Rattle.ddcmp_frame.specs.declared.header.Flags.{Flags}
+use Rattle.ddcmp_frame.specs.declared.header.ControlType.{ControlType}
+use Rattle.ddcmp_frame.specs.declared.header.Header.{Header}
+use Rattle.ddcmp_frame.specs.declared.header.Header.TheVariants as header
+use Rattle.ddcmp_frame.specs.Spelling.{parsed}
+use Rattle.ddcmp_frame.specs.Wire.{eight_bytes}
+use Rattle.ddcmp_frame.specs.Reading.{items}
+use Rattle.ddcmp_core.specs.Table.{Frame, Good}
+use Rattle.ddcmp_proto.specs.Bytes.{frame_on_line, received_of}
+
+-- the text `123456789`, whose check is published with each CRC
+abbrev pub nine_digits : List ℕ
+nine_digits = 0x31 ∷ 0x32 ∷ 0x33 ∷ 0x34 ∷ 0x35 ∷ 0x36 ∷ 0x37 ∷ 0x38 ∷ 0x39 ∷ []
+
+-- the text `abc`
+abbrev pub abc : List ℕ
+abc = 0x61 ∷ 0x62 ∷ 0x63 ∷ []
+
+abbrev pub flags : Bool → Bool → Flags
+flags q s = record { q = q; s = s }
+
+-- a control header, by its TYPE, SUBTYPE, flags Q and S, RESP, NUM and ADDR
+abbrev pub control : ControlType → ℕ → Bool → Bool → ℕ → ℕ → ℕ → Header
+control kind sub q s resp num addr =
+    header.Control (record {
+      kind = kind;
+      sub = sub;
+      flags = flags q s;
+      resp = resp;
+      num = num;
+      addr = addr;
+    })
+
+-- a data header, by its COUNT, flags Q and S, RESP, NUM and ADDR
+abbrev pub data_of : ℕ → Bool → Bool → ℕ → ℕ → ℕ → Header
+data_of count q s resp num addr =
+    header.Data (record {
+      count = count;
+      flags = flags q s;
+      resp = resp;
+      num = num;
+      addr = addr;
+    })
+
+-- a maintenance header, by the same
+abbrev pub maintenance_of : ℕ → Bool → Bool → ℕ → ℕ → ℕ → Header
+maintenance_of count q s resp num addr =
+    header.Maint (record {
+      count = count;
+      flags = flags q s;
+      resp = resp;
+      num = num;
+      addr = addr;
+    })
+
+-- These eight bytes are this header, written and read.
+pub record IsHeader (h : Header) (bytes : List ℕ) : Type 0 where
+  pub written : eight_bytes h ≡ bytes
+  pub read : parsed bytes ≡ Ok h
+
+-- These bytes are this frame as a station writes it with no fill, and as a station reads it whose
+-- messages have at most 1500 bytes.
+pub record IsOnLine (f : Frame) (bytes : List ℕ) : Type 0 where
+  pub written : frame_on_line 0 f ≡ bytes
+  pub read : map received_of (items 1500 bytes) ≡ Good f ∷ []

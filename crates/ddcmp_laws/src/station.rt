@@ -1,0 +1,144 @@
+//! Laws of one station, of whatever sizes and in whatever it waits for.
+ghost use Rattle.std.specs.Prelude.{◌≡◌, ◌≢◌, ◌+◌, ◌%◌, ◌<◌, ◌≤◌, ◌↔◌, ◌⊎◌, ℕ, List, [], ◌∷◌, ◌++◌, length, true, false, Some, Ok};
+ghost use Rattle.ddcmp_num.specs.Sequence.{distance, Within};
+ghost use Rattle.ddcmp_core.specs.Seq.{Seq as SeqValue};
+ghost use Rattle.ddcmp_frame.specs.declared.nak.Nak.{Nak as Reason};
+ghost use Rattle.ddcmp_core.specs.declared.state.State.TheVariants.{Halted, AStart, Running};
+ghost use Rattle.ddcmp_core.specs.declared.state.Reply.TheVariants.{Quiet, Ack, Nak};
+ghost use Rattle.ddcmp_core.specs.declared.state.Timer.TheVariants.{Off, Fresh};
+ghost use Rattle.ddcmp_core.specs.Table.{Limits, StationState, Frame, Data, Acked, Naked, Rep, Strt, Received, Good, Next, Idle, Sends, on, notice_of, acknowledged_by, next, after_next, next_frame, after_halt, may_send, answer_to_send, after_accept, after_expire};
+ghost use Rattle.ddcmp_core.specs.Core.{IsSound, IsReceivable};
+ghost use Rattle.ddcmp_laws.specs.Station.{HasHalted, Responds, AcknowledgesUpTo, AcknowledgesNothing, HandsUp, HandsUpNothing, IsNoMessage, CallsFor, SendsNak, BeginsAnew, HaltsAtRestart, KeepsUnder};
+
+/// A halted station is deaf and dumb: nothing that comes changes it, it sends nothing, and it takes
+/// no message. Who halts it finds its numbers, its messages and its mail as they were.
+pub fn halted_is_deaf_and_dumb()
+    ensures deaf { (l : Limits) (s : StationState) (h : Received) → s.state ≡ Halted → on l s h
+        ≡ s }
+    ensures dumb { (s : StationState) → s.state ≡ Halted → next s ≡ Idle }
+    ensures closed { (l : Limits) (s : StationState) (message : List ℕ) → s.state ≡ Halted
+        → may_send l s message ≡ false }
+    ensures halts { (s : StationState) → HasHalted s (after_halt s) }
+{}
+
+/// A running station takes exactly the messages of 1 to `longest` bytes, while fewer than its
+/// window are kept. One that it takes is kept behind the others.
+pub fn takes_what_it_may()
+    ensures exactly { (l : Limits) (s : StationState) (message : List ℕ) → s.state ≡ Running
+        → (may_send l s message ≡ true) ↔ ((1 ≤ length message) × (length message ≤ l.longest)
+        × (length s.out < l.window)) }
+    ensures kept { (s : StationState) (message : List ℕ) → (after_accept s message).out
+        ≡ s.out ++ message ∷ [] }
+{}
+
+/// What comes with a RESP within what was sent acknowledges exactly the messages up to it, be it an
+/// ACK, a NAK or data; and tells how many. Beyond what was sent it acknowledges none.
+pub fn acknowledges_exactly()
+    ensures within { (l : Limits) (s : StationState) (h : Received) (q : ℕ)
+        → s.state ≡ Running → s.a < 256 → q < 256 → Responds h q → Within s.a q s.n
+        → AcknowledgesUpTo q s (on l s h) (notice_of l s h) }
+    ensures beyond { (l : Limits) (s : StationState) (h : Received) (q : ℕ)
+        → s.state ≡ Running → Responds h q → ¬ Within s.a q s.n
+        → AcknowledgesNothing s (on l s h) (notice_of l s h) }
+{}
+
+/// A running station hands up exactly the message that comes next where there is room: the inbox,
+/// R and what is told move together, and an ACK is owed.
+pub fn receives_in_step()
+    ensures next { (l : Limits) (s : StationState) (resp num : ℕ) (message : List ℕ)
+        → s.state ≡ Running → num ≡ (s.r + 1) % 256 → length s.inbox < l.room
+        → HandsUp message s (on l s (Good (Data resp num message)))
+        (notice_of l s (Good (Data resp num message))) }
+    ensures other { (l : Limits) (s : StationState) (resp num : ℕ) (message : List ℕ)
+        → s.state ≡ Running → num ≢ (s.r + 1) % 256
+        → HandsUpNothing s (on l s (Good (Data resp num message)))
+        (notice_of l s (Good (Data resp num message)))
+        × ((on l s (Good (Data resp num message))).reply ≡ s.reply) }
+    ensures full { (l : Limits) (s : StationState) (resp num : ℕ) (message : List ℕ)
+        → s.state ≡ Running → l.room ≤ length s.inbox
+        → HandsUpNothing s (on l s (Good (Data resp num message)))
+        (notice_of l s (Good (Data resp num message))) }
+    ensures none { (l : Limits) (s : StationState) (h : Received)
+        → s.state ≡ Running → IsNoMessage h
+        → HandsUpNothing s (on l s h) (notice_of l s h) }
+{}
+
+/// What can't be read is asked for at once: the next frame is a NAK with R and the reason, and
+/// nothing else has changed. So is the next message where there is no room. A REP is answered by
+/// what is owed: an ACK where all that it asks for has come, and else a NAK.
+pub fn asks_at_once()
+    ensures fault { (l : Limits) (s : StationState) (h : Received) (k : ℕ) → s.state ≡ Running
+        → CallsFor h k → SendsNak k s.r (on l s h)
+        × (on l s h ≡ record s { reply = (on l s h).reply }) }
+    ensures no_room { (l : Limits) (s : StationState) (resp num : ℕ) (message : List ℕ)
+        → s.state ≡ Running → num ≡ (s.r + 1) % 256 → l.room ≤ length s.inbox
+        → SendsNak 8 s.r (on l s (Good (Data resp num message))) }
+    ensures missing { (l : Limits) (s : StationState) (num : ℕ) → s.state ≡ Running → num ≢ s.r
+        → SendsNak 3 s.r (on l s (Good (Rep num)))
+        × (on l s (Good (Rep num)) ≡ record s { reply = (on l s (Good (Rep num))).reply }) }
+    ensures all_came { (l : Limits) (s : StationState) → s.state ≡ Running
+        → on l s (Good (Rep s.r)) ≡ record s { reply = Ack } }
+{}
+
+/// A running station always tells of a STRT. Where it may restart and has no mail it begins anew
+/// as its peer does; else it halts.
+pub fn tells_of_each_strt()
+    ensures restarts { (l : Limits) (s : StationState) → s.state ≡ Running → l.restart ≡ true
+        → s.inbox ≡ [] → BeginsAnew s (on l s (Good Strt)) (notice_of l s (Good Strt)) }
+    ensures halts { (l : Limits) (s : StationState) → s.state ≡ Running
+        → (l.restart ≡ false) ⊎ (0 < length s.inbox)
+        → HaltsAtRestart s (on l s (Good Strt)) (notice_of l s (Good Strt)) }
+{}
+
+/// There is no reply to a reply: an ACK and a NAK leave nothing to be answered, and what is owed is
+/// sent once.
+pub fn answers_no_answer()
+    ensures ack { (l : Limits) (s : StationState) (q : ℕ) → s.state ≡ Running
+        → (on l s (Good (Acked q))).reply ≡ s.reply }
+    ensures nak { (l : Limits) (s : StationState) (why : Reason) (q : ℕ) → s.state ≡ Running
+        → (on l s (Good (Naked why q))).reply ≡ s.reply }
+    ensures acked { (s u : StationState) (r : ℕ) → next s ≡ Sends (Acked r) u → u.reply ≡ Quiet }
+    ensures naked { (s u : StationState) (why : Reason) (r : ℕ) → next s ≡ Sends (Naked why r) u
+        → u.reply ≡ Quiet }
+    ensures data { (s u : StationState) (r num : ℕ) (message : List ℕ)
+        → next s ≡ Sends (Data r num message) u → u.reply ≡ Quiet }
+{}
+
+/// The timer isn't starved: data start a timer that is off, and leave one that is running as it is.
+/// What acknowledges all that was sent ends it. And where it runs out while a message waits to be
+/// acknowledged, the station asks by a REP.
+pub fn timer_is_not_starved()
+    ensures running { (s u : StationState) (r num : ℕ) (message : List ℕ)
+        → next s ≡ Sends (Data r num message) u → s.timer ≢ Off → u.timer ≡ s.timer }
+    ensures starts { (s u : StationState) (r num : ℕ) (message : List ℕ)
+        → next s ≡ Sends (Data r num message) u → s.timer ≡ Off → u.timer ≡ Fresh }
+    ensures ends { (l : Limits) (s : StationState) (h : Received) → s.state ≡ Running
+        → s.a < 256 → s.n < 256 → s.a ≢ s.n → Responds h s.n → (on l s h).timer ≡ Off }
+    ensures asks { (s : StationState) → s.state ≡ Running → s.timer ≢ Off → s.a ≢ s.n
+        → (s.reply ≡ Quiet) ⊎ (s.reply ≡ Ack)
+        → next_frame (next (after_expire s)) ≡ Some (Rep s.n) }
+{}
+
+/// The number that `send` answers is the number on the line of that message, each time that it is
+/// sent: from then on the message is kept under that number, no other is, and what is sent under a
+/// number is the message that is kept under it; until it is told acknowledged.
+pub fn sends_under_the_number_answered()
+    ensures answered { (l : Limits) (s : StationState) (message : List ℕ) (number : SeqValue)
+        → answer_to_send l s message ≡ Ok number
+        → KeepsUnder (after_accept s message) number.0 message }
+    ensures sent { (l : Limits) (s u : StationState) (r num : ℕ) (message : List ℕ)
+        → IsSound l s → next s ≡ Sends (Data r num message) u → KeepsUnder s num message }
+    ensures one { (l : Limits) (s : StationState) (number : ℕ) (message other : List ℕ)
+        → IsSound l s → KeepsUnder s number message → KeepsUnder s number other
+        → message ≡ other }
+    ensures stays_when_sent { (s : StationState) (number : ℕ) (message : List ℕ)
+        → s.state ≡ Running → KeepsUnder s number message
+        → KeepsUnder (after_next (next s) s) number message }
+    ensures stays_when_accepted { (s : StationState) (number : ℕ) (message other : List ℕ)
+        → KeepsUnder s number message → KeepsUnder (after_accept s other) number message }
+    ensures stays_when_received { (l : Limits) (s : StationState) (h : Received) (number : ℕ)
+        (message : List ℕ) → IsSound l s → IsReceivable l h
+        → s.state ≡ Running → (on l s h).state ≡ Running → KeepsUnder s number message
+        → (distance s.a number ≤ acknowledged_by (notice_of l s h))
+        ⊎ KeepsUnder (on l s h) number message }
+{}
