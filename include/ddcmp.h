@@ -1,15 +1,16 @@
-/* A station of DDCMP, from the library libddcmp.
+/* A station of DDCMP, and a reader of frames alone, from the library libddcmp.
 
    A ddcmp_station is a handle. Begin it as DDCMP_NO_STATION, hand it to every call by its address,
    and never copy it: a copy would free the same station twice. One call at a time has a handle, and
-   a handle stays on the thread that made it.
+   a handle stays on the thread that made it. The same holds of a ddcmp_reader, which begins as
+   DDCMP_NO_READER.
 
    No pointer that is handed over may be null: a slice of no bytes has some address too. What a
    pointer leads to is the callee's alone until the call returns, so no two may overlap. Where
    DDCMP_CHECKED is defined before this header is read, each call first tests its pointers: it then
    answers DDCMP_NULL, or what it answers for a handle without a station, and does nothing.
 
-   After ddcmp_new no call asks for memory. */
+   But for ddcmp_new and ddcmp_reader_new no call asks for memory. */
 #ifndef DDCMP_H
 #define DDCMP_H
 
@@ -24,6 +25,9 @@ extern "C" {
 typedef struct ddcmp_station { void *at; } ddcmp_station;
 #define DDCMP_NO_STATION { NULL }
 
+typedef struct ddcmp_reader { void *at; } ddcmp_reader;
+#define DDCMP_NO_READER { NULL }
+
 /* What a call answers. But for DDCMP_OK nothing was done. */
 enum ddcmp_code {
     DDCMP_OK = 0,
@@ -32,7 +36,7 @@ enum ddcmp_code {
     DDCMP_MAX = 3,          /* not 1 to 16383 */
     DDCMP_SYN = 4,          /* above 16 */
     DDCMP_MEMORY = 5,       /* memory was refused */
-    DDCMP_CLOSED = 6,       /* the handle has no station */
+    DDCMP_CLOSED = 6,       /* the handle has no station, or no reader */
     DDCMP_OPEN = 7,         /* the handle has one already */
     DDCMP_NOT_HALTED = 8,
     DDCMP_UNTAKEN = 9,      /* the inbox isn't empty */
@@ -41,9 +45,11 @@ enum ddcmp_code {
     DDCMP_TOO_LONG = 12,    /* a message of more than max bytes */
     DDCMP_WINDOW_FULL = 13,
     DDCMP_ROOM = 14,        /* the room is too short */
-    DDCMP_LONG_LINE = 15,   /* 2^64 bytes of one line: halt, and ddcmp_clear_line */
+    DDCMP_LONG_LINE = 15,   /* 2^64 bytes of one line: halt and ddcmp_clear_line, or reset */
     DDCMP_ABSENT = 16,      /* there is no such message */
-    DDCMP_NULL = 17         /* a pointer is null; only where DDCMP_CHECKED is defined */
+    DDCMP_NULL = 17,        /* a pointer is null; only where DDCMP_CHECKED is defined */
+    DDCMP_BAD_HEADER = 18,  /* a header's kind is none, or a number is out of range */
+    DDCMP_BAD_COUNT = 19    /* the data aren't as many as the header says */
 };
 
 enum ddcmp_state {
@@ -68,6 +74,37 @@ enum ddcmp_kind {
     DDCMP_MAINTENANCE_SEEN = 9,
     DDCMP_MAINTENANCE_HANDED_UP = 10,
     DDCMP_MAINTENANCE_DROPPED = 11
+};
+
+/* The messages by their headers. */
+enum ddcmp_header_kind {
+    DDCMP_NO_HEADER = 0,
+    DDCMP_HEADER_DATA = 1,
+    DDCMP_HEADER_MAINT = 2,
+    DDCMP_HEADER_ACK = 3,
+    DDCMP_HEADER_NAK = 4,
+    DDCMP_HEADER_REP = 5,
+    DDCMP_HEADER_STRT = 6,
+    DDCMP_HEADER_STACK = 7
+};
+
+/* What a reader finds in the bytes of a line. */
+enum ddcmp_item_kind {
+    DDCMP_NO_ITEM = 0,
+    DDCMP_ITEM_GOOD = 1,            /* a whole frame whose checks are right */
+    DDCMP_ITEM_HEADER_CHECK = 2,    /* synchronism is lost: a header with a wrong check */
+    DDCMP_ITEM_DATA_CHECK = 3,      /* a frame whose data have another check */
+    DDCMP_ITEM_TOO_LONG = 4,        /* a frame with more data than the reader takes */
+    DDCMP_ITEM_FORMAT = 5           /* a header whose check is right and that is none */
+};
+
+/* Why it is none. A reader gives the first two alone. */
+enum ddcmp_fault {
+    DDCMP_NO_FAULT = 0,
+    DDCMP_FAULT_BAD_TYPE = 1,       /* no control message has this TYPE */
+    DDCMP_FAULT_COUNT_ZERO = 2,
+    DDCMP_FAULT_NOT_A_START = 3,
+    DDCMP_FAULT_CHECK = 4
 };
 
 /* The sizes of a station. */
@@ -124,6 +161,28 @@ struct ddcmp_counters {
     uint32_t data_checks;
     uint32_t too_longs;
     uint32_t formats;
+};
+
+/* A header. What its kind doesn't have is 0 where it was read, and isn't looked at where it is
+   written. */
+struct ddcmp_header {
+    uint16_t count;     /* of data and maintenance: bytes of data, 1 to 16383 */
+    uint8_t kind;       /* enum ddcmp_header_kind */
+    uint8_t sub;        /* of control: 0 to 63 */
+    uint8_t q;          /* not 0: the flag is set */
+    uint8_t s;
+    uint8_t resp;
+    uint8_t num;
+    uint8_t addr;
+};
+
+/* An item. Its header stands beside the kinds good, data check and too long. */
+struct ddcmp_item {
+    uint64_t offset;    /* of its start byte */
+    struct ddcmp_header header;
+    uint8_t kind;       /* enum ddcmp_item_kind */
+    uint8_t fault;      /* of a format item: enum ddcmp_fault */
+    uint8_t bad_type;   /* of a bad TYPE: which */
 };
 
 #if defined(__GNUC__)
@@ -193,6 +252,28 @@ DDCMP_CALL bool ddcmp_expire(ddcmp_station *station);
 DDCMP_CALL uint32_t ddcmp_numbers(ddcmp_station *station, struct ddcmp_numbers *numbers);
 DDCMP_CALL uint32_t ddcmp_counters(ddcmp_station *station, struct ddcmp_counters *counters);
 
+/* ---- a reader alone */
+
+/* Makes a reader of frames with at most max bytes of data, in a handle that has none. */
+DDCMP_CALL uint32_t ddcmp_reader_new(uint16_t max, ddcmp_reader *reader);
+/* Frees the reader of a handle; where there is none, does nothing. */
+DDCMP_CALL void ddcmp_reader_free(ddcmp_reader *reader);
+/* Takes bytes of a line, up to the first that gives an item: push the rest again. The data of a
+   good item are copied to out, and written says how many; it wants room of max bytes. No item: its
+   kind is DDCMP_NO_ITEM. */
+DDCMP_CALL uint32_t ddcmp_reader_push(ddcmp_reader *reader, const uint8_t *piece, size_t length,
+                                      size_t *used, struct ddcmp_item *item, uint8_t *out,
+                                      size_t room, size_t *written);
+/* Bytes of the unfinished frame. */
+DDCMP_CALL size_t ddcmp_reader_open(ddcmp_reader *reader);
+/* Begins anew, with the bytes of another line. */
+DDCMP_CALL uint32_t ddcmp_reader_reset(ddcmp_reader *reader);
+
+/* Writes a frame as it goes on the line: a header with its check, and data with theirs. It wants
+   room of 8 bytes for a control message, else of count + 10. */
+DDCMP_CALL uint32_t ddcmp_write_frame(const struct ddcmp_header *header, const uint8_t *message,
+                                      size_t length, uint8_t *out, size_t room, size_t *written);
+
 /* The block check of a text (CRC-16). */
 DDCMP_CALL uint16_t ddcmp_check(const uint8_t *text, size_t length);
 
@@ -214,8 +295,8 @@ static inline const char *ddcmp_strerror(uint32_t code) {
     case DDCMP_MAX: return "the largest message isn't 1 to 16383";
     case DDCMP_SYN: return "the SYN fill is above 16";
     case DDCMP_MEMORY: return "memory was refused";
-    case DDCMP_CLOSED: return "the handle has no station";
-    case DDCMP_OPEN: return "the handle has a station already";
+    case DDCMP_CLOSED: return "the handle has no station or reader";
+    case DDCMP_OPEN: return "the handle has a station or reader already";
     case DDCMP_NOT_HALTED: return "the station isn't halted";
     case DDCMP_UNTAKEN: return "the inbox isn't empty";
     case DDCMP_WRONG_STATE: return "the station doesn't run";
@@ -226,6 +307,8 @@ static inline const char *ddcmp_strerror(uint32_t code) {
     case DDCMP_LONG_LINE: return "the line has 2^64 bytes";
     case DDCMP_ABSENT: return "there is no such message";
     case DDCMP_NULL: return "a pointer is null";
+    case DDCMP_BAD_HEADER: return "a number of the header is out of range";
+    case DDCMP_BAD_COUNT: return "the data aren't as many as the header says";
     default: return "no code of DDCMP";
     }
 }
@@ -255,6 +338,20 @@ static inline const char *ddcmp_notice_name(uint8_t kind) {
     case DDCMP_MAINTENANCE_SEEN: return "MaintenanceSeen";
     case DDCMP_MAINTENANCE_HANDED_UP: return "MaintenanceHandedUp";
     case DDCMP_MAINTENANCE_DROPPED: return "MaintenanceDropped";
+    default: return "";
+    }
+}
+
+/* The names that `ddcmp explain` writes. */
+static inline const char *ddcmp_header_name(uint8_t kind) {
+    switch (kind) {
+    case DDCMP_HEADER_DATA: return "DATA";
+    case DDCMP_HEADER_MAINT: return "MAINT";
+    case DDCMP_HEADER_ACK: return "ACK";
+    case DDCMP_HEADER_NAK: return "NAK";
+    case DDCMP_HEADER_REP: return "REP";
+    case DDCMP_HEADER_STRT: return "STRT";
+    case DDCMP_HEADER_STACK: return "STACK";
     default: return "";
     }
 }

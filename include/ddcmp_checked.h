@@ -207,6 +207,54 @@ static inline uint32_t ddcmp_checked_counters(ddcmp_station *station,
     return ddcmp_counters(station, counters);
 }
 
+static inline uint32_t ddcmp_checked_reader_new(uint16_t max, ddcmp_reader *reader) {
+    if (reader == NULL)
+        return DDCMP_NULL;
+    return ddcmp_reader_new(max, reader);
+}
+
+static inline void ddcmp_checked_reader_free(ddcmp_reader *reader) {
+    if (reader == NULL)
+        return;
+    ddcmp_reader_free(reader);
+}
+
+static inline uint32_t ddcmp_checked_reader_push(ddcmp_reader *reader, const uint8_t *piece,
+        size_t length, size_t *used, struct ddcmp_item *item, uint8_t *out, size_t room,
+        size_t *written) {
+    if (piece == NULL && length == 0)
+        piece = ddcmp_no_bytes();
+    if (out == NULL && room == 0)
+        out = ddcmp_no_bytes();
+    if (reader == NULL || piece == NULL || used == NULL || item == NULL || out == NULL
+        || written == NULL)
+        return DDCMP_NULL;
+    return ddcmp_reader_push(reader, piece, length, used, item, out, room, written);
+}
+
+static inline size_t ddcmp_checked_reader_open(ddcmp_reader *reader) {
+    if (reader == NULL)
+        return 0;
+    return ddcmp_reader_open(reader);
+}
+
+static inline uint32_t ddcmp_checked_reader_reset(ddcmp_reader *reader) {
+    if (reader == NULL)
+        return DDCMP_NULL;
+    return ddcmp_reader_reset(reader);
+}
+
+static inline uint32_t ddcmp_checked_write_frame(const struct ddcmp_header *header,
+        const uint8_t *message, size_t length, uint8_t *out, size_t room, size_t *written) {
+    if (message == NULL && length == 0)
+        message = ddcmp_no_bytes();
+    if (out == NULL && room == 0)
+        out = ddcmp_no_bytes();
+    if (header == NULL || message == NULL || out == NULL || written == NULL)
+        return DDCMP_NULL;
+    return ddcmp_write_frame(header, message, length, out, room, written);
+}
+
 static inline uint16_t ddcmp_checked_check(const uint8_t *text, size_t length) {
     if (text == NULL && length == 0)
         text = ddcmp_no_bytes();
@@ -240,6 +288,12 @@ static inline uint16_t ddcmp_checked_check(const uint8_t *text, size_t length) {
 #define ddcmp_take_arm ddcmp_checked_take_arm
 #define ddcmp_timer_on ddcmp_checked_timer_on
 #define ddcmp_expire ddcmp_checked_expire
+#define ddcmp_reader_new ddcmp_checked_reader_new
+#define ddcmp_reader_free ddcmp_checked_reader_free
+#define ddcmp_reader_push ddcmp_checked_reader_push
+#define ddcmp_reader_open ddcmp_checked_reader_open
+#define ddcmp_reader_reset ddcmp_checked_reader_reset
+#define ddcmp_write_frame ddcmp_checked_write_frame
 #define ddcmp_check ddcmp_checked_check
 
 /* These are names of structs and of an enum as well, so only their calls are replaced. */

@@ -1,5 +1,6 @@
-/* Each call once: what good and bad input get, that a refusal changes nothing, that no call asks for
-   memory after ddcmp_new, and that refused memory leaves a handle as it was. It is linked with
+/* Each call once: what good and bad input get, that a refusal changes nothing, that no call asks
+   for memory after ddcmp_new and ddcmp_reader_new, and that refused memory leaves a handle as it
+   was. It is linked with
    -Wl,--wrap=malloc,--wrap=realloc,--wrap=free. */
 #include "ddcmp.h"
 
@@ -46,6 +47,7 @@ enum { MAX = 64, ROOM = MAX + 10 };
 
 static const struct ddcmp_config sizes = { 2, 2, MAX, 0, 0 };
 static ddcmp_station a = DDCMP_NO_STATION, b = DDCMP_NO_STATION;
+static ddcmp_reader reader = DDCMP_NO_READER;
 static uint8_t out[ROOM], mail[MAX];
 
 /* All that is told of a station. */
@@ -259,12 +261,135 @@ static void ends(void) {
     IS(ddcmp_check((const uint8_t *)"123456789", 9) == 0xBB3D);
 }
 
+/* ---- a reader alone */
+
+static void without_a_reader(void) {
+    ddcmp_reader none = DDCMP_NO_READER;
+    struct ddcmp_item item;
+    size_t used = 7, written = 7;
+    memset(&item, 7, sizeof item);
+    memset(mail, 7, sizeof mail);
+    ddcmp_reader_free(&none);
+    IS(ddcmp_reader_push(&none, out, 1, &used, &item, mail, sizeof mail, &written) == DDCMP_CLOSED);
+    IS(used == 0 && item.kind == DDCMP_NO_ITEM && written == 0 && mail[0] == 7);
+    IS(ddcmp_reader_open(&none) == 0 && ddcmp_reader_reset(&none) == DDCMP_CLOSED);
+    IS(ddcmp_reader_new(0, &none) == DDCMP_MAX && ddcmp_reader_new(16384, &none) == DDCMP_MAX);
+    IS(none.at == NULL);
+}
+
+static void refused_reader(void) {
+    uint32_t code = DDCMP_MEMORY;
+    unsigned long n;
+    for (n = 1; code == DDCMP_MEMORY; n++) {
+        unsigned long before = asked, freed_before = freed;
+        refused_at = asked + n;
+        code = ddcmp_reader_new(MAX, &reader);
+        refused_at = 0;
+        if (code == DDCMP_MEMORY) {
+            IS(reader.at == NULL);
+            IS(asked - before == n && freed - freed_before == n - 1);
+        }
+    }
+    IS(code == DDCMP_OK && n == 4);
+    IS(ddcmp_reader_new(MAX, &reader) == DDCMP_OPEN);
+}
+
+/* Pushes a line's bytes, and wants this of the first item: its kind, and where it ends. */
+static struct ddcmp_item first_of(const uint8_t *line, size_t length, uint8_t kind, size_t ends) {
+    struct ddcmp_item item;
+    size_t used, written;
+    IS(ddcmp_reader_push(&reader, line, length, &used, &item, mail, sizeof mail, &written)
+       == DDCMP_OK);
+    IS(item.kind == kind && used == ends);
+    IS(written == (kind == DDCMP_ITEM_GOOD ? item.header.count : 0));
+    return item;
+}
+
+static const struct ddcmp_header data_header = { 3, DDCMP_HEADER_DATA, 0, 1, 0, 4, 5, 1 };
+
+static void frames_written(void) {
+    static const uint8_t ack[8] = { 0x05, 0x01, 0xC0, 0x02, 0x00, 0x01, 0, 0 };
+    struct ddcmp_header h = { 0, DDCMP_HEADER_ACK, 0, 1, 1, 2, 0, 1 };
+    const uint8_t *text = (const uint8_t *)"abc";
+    uint16_t check = ddcmp_check(ack, 6);
+    size_t n = 7;
+    memset(out, 7, sizeof out);
+    IS(ddcmp_write_frame(&h, text, 0, out, 7, &n) == DDCMP_ROOM && n == 0 && out[0] == 7);
+    IS(ddcmp_write_frame(&h, text, 1, out, sizeof out, &n) == DDCMP_BAD_COUNT && n == 0);
+    IS(ddcmp_write_frame(&h, text, 0, out, 8, &n) == DDCMP_OK && n == 8 && out[8] == 7);
+    IS(memcmp(out, ack, 6) == 0 && out[6] == check % 256 && out[7] == check / 256);
+    h.sub = 64;
+    IS(ddcmp_write_frame(&h, text, 0, out, sizeof out, &n) == DDCMP_BAD_HEADER && n == 0);
+    h = data_header;
+    IS(ddcmp_write_frame(&h, text, 2, out, sizeof out, &n) == DDCMP_BAD_COUNT && n == 0);
+    IS(ddcmp_write_frame(&h, text, 3, out, 12, &n) == DDCMP_ROOM && n == 0);
+    h.count = 0;
+    IS(ddcmp_write_frame(&h, text, 0, out, sizeof out, &n) == DDCMP_BAD_HEADER);
+    h.count = 16384;
+    IS(ddcmp_write_frame(&h, text, 3, out, sizeof out, &n) == DDCMP_BAD_HEADER);
+    h.kind = DDCMP_NO_HEADER;
+    IS(ddcmp_write_frame(&h, text, 3, out, sizeof out, &n) == DDCMP_BAD_HEADER);
+    h.kind = DDCMP_HEADER_STACK + 1;
+    IS(ddcmp_write_frame(&h, text, 3, out, sizeof out, &n) == DDCMP_BAD_HEADER && out[6] != 7);
+}
+
+/* The header of a frame with more data than the reader takes. */
+static struct ddcmp_item data_item_too_long(uint8_t *line) {
+    struct ddcmp_header h = data_header;
+    static uint8_t frame[MAX + 11], text[MAX + 1];
+    size_t n;
+    h.count = MAX + 1;
+    IS(ddcmp_write_frame(&h, text, sizeof text, frame, sizeof frame, &n) == DDCMP_OK);
+    IS(n == sizeof frame);
+    memcpy(line, frame, 8);
+    return first_of(line, 8, DDCMP_ITEM_TOO_LONG, 8);
+}
+
+static void items_read(void) {
+    static uint8_t line[64];
+    const uint8_t *text = (const uint8_t *)"abc";
+    struct ddcmp_item item;
+    size_t n, used, written, i;
+    line[0] = 0x96;
+    IS(ddcmp_write_frame(&data_header, text, 3, line + 1, 13, &n) == DDCMP_OK && n == 13);
+    memset(mail, 7, sizeof mail);
+    IS(ddcmp_reader_push(&reader, line, 14, &used, &item, mail, sizeof mail - 1, &written)
+       == DDCMP_ROOM && used == 0 && written == 0 && ddcmp_reader_open(&reader) == 0);
+    first_of(line, 5, DDCMP_NO_ITEM, 5);
+    IS(ddcmp_reader_open(&reader) == 4);
+    item = first_of(line + 5, sizeof line - 5, DDCMP_ITEM_GOOD, 9);
+    IS(item.offset == 1 && memcmp(&item.header, &data_header, sizeof data_header - 1) == 0);
+    IS(item.fault == DDCMP_NO_FAULT && memcmp(mail, "abc\7", 4) == 0);
+    line[10] ^= 1;
+    item = first_of(line + 1, 13, DDCMP_ITEM_DATA_CHECK, 13);
+    IS(item.offset == 14 && item.header.num == 5 && memcmp(mail, "abc\7", 4) == 0);
+    line[2] ^= 1;
+    IS(first_of(line + 1, 13, DDCMP_ITEM_HEADER_CHECK, 8).offset == 27);
+    first_of(line + 9, 5, DDCMP_NO_ITEM, 5);
+    IS(ddcmp_reader_reset(&reader) == DDCMP_OK && ddcmp_reader_open(&reader) == 0);
+    for (i = 1; i < 3; i++) { /* a header of no TYPE, and one of COUNT 0 */
+        uint16_t check;
+        memset(line, 0, 8);
+        line[0] = i == 1 ? 0x05 : 0x81;
+        line[1] = i == 1 ? 9 : 0;
+        check = ddcmp_check(line, 6);
+        line[6] = (uint8_t)(check % 256);
+        line[7] = (uint8_t)(check / 256);
+        item = first_of(line, sizeof line, DDCMP_ITEM_FORMAT, 8);
+        IS(item.offset == 8 * (i - 1) && item.fault == i && item.bad_type == (i == 1 ? 9 : 0));
+        IS(item.header.kind == DDCMP_NO_HEADER);
+    }
+    item = data_item_too_long(line);
+    IS(item.offset == 16 && item.header.count == MAX + 1);
+}
+
 static void texts(void) {
     uint32_t code;
-    for (code = 0; code <= DDCMP_NULL; code++)
+    for (code = 0; code <= DDCMP_BAD_COUNT; code++)
         IS(strcmp(ddcmp_strerror(code), ddcmp_strerror(99)) != 0);
     IS(strcmp(ddcmp_state_name(DDCMP_ISTART), "IStart") == 0);
     IS(strcmp(ddcmp_notice_name(DDCMP_HANDED_UP), "HandedUp") == 0);
+    IS(strcmp(ddcmp_header_name(DDCMP_HEADER_NAK), "NAK") == 0);
     IS(strcmp(ddcmp_version(), DDCMP_VERSION) == 0);
 }
 
@@ -272,19 +397,25 @@ int main(void) {
     unsigned long before;
     without_a_station();
     sizes_out_of_range();
+    without_a_reader();
     IS(asked == 0);
     refused_memory();
+    refused_reader();
     before = asked;
     startup();
     messages();
     long_run();
     ends();
+    frames_written();
+    items_read();
     texts();
     IS(asked == before);
     ddcmp_free(&a);
     ddcmp_free(&a);
     ddcmp_free(&b);
-    IS(a.at == NULL && b.at == NULL);
+    ddcmp_reader_free(&reader);
+    ddcmp_reader_free(&reader);
+    IS(a.at == NULL && b.at == NULL && reader.at == NULL);
     IS(asked == before);
     return failed;
 }

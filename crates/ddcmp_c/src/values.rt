@@ -76,10 +76,13 @@ pub struct CCounters {
 
 pub(crate) const OK: u32 = 0;
 
+/// The most data isn't 1 to 16383 bytes.
+pub(crate) const MAX: u32 = 3;
+
 /// Memory was refused.
 pub(crate) const MEMORY: u32 = 5;
 
-/// There is no station in the handle.
+/// There is nothing in the handle.
 pub(crate) const CLOSED: u32 = 6;
 
 /// There is one already.
@@ -93,6 +96,12 @@ pub(crate) const LONG_LINE: u32 = 15;
 
 /// There is no such message.
 pub(crate) const ABSENT: u32 = 16;
+
+/// A field of a header is out of range. 17 is the header's own, for null pointers.
+pub(crate) const BAD_HEADER: u32 = 18;
+
+/// The data aren't as many as the header says.
+pub(crate) const BAD_COUNT: u32 = 19;
 
 /// The number of a refusal of sizes.
 pub(crate) fn config_code(refusal: ConfigRefusal) -> u32

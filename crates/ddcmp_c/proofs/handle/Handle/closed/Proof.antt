@@ -21,7 +21,8 @@ use Rattle.std.proofs.raw_atomic.Walks.{proved_at, leaves}
 use Rattle.std.specs.Prelude.{Option, None}
 use Rattle.ddcmp_proto.specs.Station.{StationView}
 use Rattle.ddcmp_c.proofs.LooseValues.{both}
-use Rattle.ddcmp_c.proofs.HandleValues.{Z, al, handle_good, handle_in}
+use Rattle.ddcmp_c.proofs.OwnedValues.{Z, al, handle_good}
+use Rattle.ddcmp_c.proofs.HandleValues.{handle_in}
 use Rattle.ddcmp_c.specs.contracts.handle.Handle.closed.{ended, clauses}
 use Rattle.ddcmp_c.specs.contracts.handle.Handle.closed.Key.{name as #self}
 use Rattle.ddcmp_c.proofs.handle.Handle.closed.Statement.{statement}

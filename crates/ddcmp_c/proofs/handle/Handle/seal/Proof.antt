@@ -23,7 +23,8 @@ use Rattle.ddcmp_proto.specs.Station.{StationView}
 use Rattle.ddcmp_c.proofs.LooseValues.{both, Loose, loose_out}
 use Rattle.std.specs.contracts.impls.GlobalAllocator.TheImpl.{ghosts}
 use Rattle.std.proofs.alloc.Global.TheLaws as heap_laws
-use Rattle.ddcmp_c.proofs.HandleValues.{R, Z, handle_good, handle_in}
+use Rattle.ddcmp_c.proofs.OwnedValues.{Z, handle_good}
+use Rattle.ddcmp_c.proofs.HandleValues.{R, handle_in}
 use Rattle.ddcmp_c.specs.contracts.handle.Handle.seal.{ended, clauses}
 use Rattle.ddcmp_c.specs.contracts.handle.Handle.seal.Key.{name as #self}
 use Rattle.ddcmp_c.proofs.handle.Handle.seal.Statement.{statement}

@@ -29,7 +29,8 @@ use denote.Param.{layout}
 use Rattle.ddcmp_c.proofs.LooseValues.{both, Loose, loose_good, loose_in}
 use Rattle.std.specs.contracts.impls.GlobalAllocator.TheImpl.{ghosts}
 use Rattle.std.proofs.alloc.Global.TheLaws as heap_laws
-use Rattle.ddcmp_c.proofs.HandleValues.{R, Z, H, handle_good, handle_out, either, ptr_good}
+use Rattle.ddcmp_c.proofs.OwnedValues.{Z, handle_good, ptr_good, either}
+use Rattle.ddcmp_c.proofs.HandleValues.{R, H, handle_out}
 use Rattle.ddcmp_c.specs.contracts.handle.Handle.unseal.{ended, clauses}
 use Rattle.ddcmp_c.specs.contracts.handle.Handle.unseal.Key.{name as #self}
 use Rattle.ddcmp_c.proofs.handle.Handle.unseal.Statement.{statement}
@@ -46,7 +47,7 @@ unseal_spec 𝓤 𝓛 𝓜 𝓡 wired =
     let v = z.0.3.0 in let Post : Val → SProp 𝓤 = (walk_of 𝓛 ended hs c).post z in let Run : List Val → SProp 𝓤 = λ ws. WpFn 𝓤 H' 𝓣.C 𝓣.Λ fn ws Post in
     qed 𝓛 ((‵ ftrue ⊛ ‵ (owns (types_at ended.signature.params z.0.0) z.0.3 z.0.4)) ∷ raw ((c z.0.0 z.0.3).requires z.1) ∷ []) ∵ split ! $ move ! (1 ∷ []) $ fsplit ! $
     let Out : RattleType = type_at ended.signature.result z.0.0 in let a = v.alloc in
-    handle_out ! v z.0.4.0 (λ h ws fits. either ! a v.at v.station
+    handle_out ! v z.0.4.0 (λ h ws fits. either R ! a v.at v.station
     (λ is none. let w : Val = both (ptr_val null_ptr) h in let typed = handle_good null_ptr h fits in
     suffices ! (Run (w ∷ [])) (subst (λ (us : List Val). ent 𝓤 (Run (w ∷ [])) (Run us)) (sym (λ i. subst (λ (p : Ptr). z.0.4.0 ≡ both (ptr_val p) h ∷ []) is ws i ++ [])) (id⊢ 𝓤 (Run (w ∷ [])))) $
     enter ! 𝓣.C 𝓣.Λ fn (w ∷ []) Post $ alloc_all ! (λ l. pass_all ! refl (typed, tt) $ let Ev = env fn.locals l in

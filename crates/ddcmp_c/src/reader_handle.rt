@@ -1,0 +1,83 @@
+//! A reader behind a pointer that C keeps.
+ghost use Rattle.std.specs.Prelude.{◌≡◌, Option, Some, None, option_map};
+ghost use Rattle.ddcmp_frame.specs.Reader.{ReaderView};
+ghost use Rattle.ddcmp_c.specs.Owned.{reader_handle_owns};
+
+use crate::kept_reader::KeptReader;
+use crate::loose::Loose;
+use std::alloc::Global;
+use std::marker::Model;
+use std::mem::replace;
+use std::ptr::null_mut;
+
+/// What C has of a reader: null where there is none. C moves it and never copies it.
+#[repr(C)]
+pub struct ReaderHandle {
+    at: *mut u8,
+    alloc: Global,
+    ghost reader: { Option ReaderView },
+}
+
+impl Model for ReaderHandle {
+    ghost also_owns = { λ h. reader_handle_owns h.alloc h.at h.reader };
+}
+
+impl ReaderHandle {
+    /// A handle with no reader.
+    pub(crate) fn closed(alloc: Global) -> ReaderHandle
+        ensures { result.reader ≡ None }
+    {
+        ReaderHandle {
+            at: null_mut(),
+            alloc,
+        }
+    }
+
+    /// A handle with a reader.
+    pub(crate) fn seal(reader: Loose<KeptReader, Global>) -> ReaderHandle
+        ensures { result.reader ≡ Some reader.value }
+    {
+        let Loose { at, alloc } = reader;
+        ReaderHandle {
+            at: at as *mut u8,
+            alloc,
+        }
+    }
+
+    /// The reader of a handle.
+    pub(crate) fn unseal(self) -> Option<Loose<KeptReader, Global>>
+        ensures { option_map (λ l. l.value) result ≡ self.reader }
+    {
+        let ReaderHandle { at, alloc } = self;
+        if at.is_null() {
+            None
+        } else {
+            Some(Loose {
+                at: at as *mut KeptReader,
+                alloc,
+            })
+        }
+    }
+}
+
+/// Takes the reader out of a handle, which has none from then on.
+pub(crate) fn take_out(alloc: Global, handle: &mut ReaderHandle) -> Option<Box<KeptReader, Global>>
+    ensures taken { option_map (λ b. b.value) result ≡ handle.old.reader }
+    ensures closed { handle.new.reader ≡ None }
+{
+    match replace(handle, ReaderHandle::closed(alloc)).unseal() {
+        Some(loose) => Some(loose.into_box()),
+        None => None,
+    }
+}
+
+/// Puts a reader into a handle that has none.
+pub(crate) fn put_back(handle: &mut ReaderHandle, reader: Box<KeptReader, Global>)
+    requires { handle.old.reader ≡ None }
+    ensures { handle.new.reader ≡ Some reader.value }
+{
+    match replace(handle, ReaderHandle::seal(Loose::of(reader))).unseal() {
+        Some(_) => unreachable!(),
+        None => {}
+    }
+}
