@@ -23,8 +23,8 @@ pub fn reads_what_another_sends()
         → open_at_end max (text ++ frame_on_line fill f) ≡ 0 }
 {}
 
-/// Behind the startup, at two ends of any sizes: a message that A accepts is what A writes next. Once
-/// these bytes arrive it is handed up at B, and nothing else is.
+/// Behind the startup, at two ends of any sizes: a message that A accepts is what A writes next.
+/// Once these bytes arrive it is handed up at B, and nothing else is.
 pub fn delivers_what_was_accepted()
     ensures wrote { (first second : ConfigValue) (message : List ℕ) → first_refusal first ≡ None
         → 1 ≤ length message → length message ≤ first.max
