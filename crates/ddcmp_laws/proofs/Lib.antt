@@ -1,3 +1,4 @@
 pub mod StationLaws
 pub mod NumberLaws
 pub mod StartLaws
+pub mod LineLaws

@@ -8,8 +8,11 @@ use Rattle.ddcmp_window.specs.declared.sender.SendRefusal.{SendRefusal}
 use Rattle.ddcmp_window.specs.Numbers.{is_within}
 use Rattle.ddcmp_window.specs.Sender.{number_accepted, answer_unless}
 use Rattle.ddcmp_core.specs.Seq.{Seq}
-use Rattle.ddcmp_core.specs.declared.state.State.TheVariants.{Running}
-use Rattle.ddcmp_core.specs.Table.{StationState, Limits, Data, Acked, Naked, Rep, Strt, Stack, Maint, Received, Good, BadHeader, BadData, TooLong, BadFormat, outgoing, send_refusal, answer_to_send, after_accept, on, notice_of, acknowledged_by, Next, Sends, next, after_next}
+use Rattle.ddcmp_core.specs.declared.state.State.TheVariants.{Halted, IStart, AStart, Running, Maintenance}
+use Rattle.ddcmp_core.specs.declared.state.State.{State}
+use Rattle.ddcmp_core.specs.declared.state.Timer.{Timer}
+use Rattle.ddcmp_core.specs.declared.state.Timer.TheVariants.{Off, Fresh, On}
+use Rattle.ddcmp_core.specs.Table.{StationState, Limits, Data, Acked, Naked, Rep, Strt, Stack, Maint, Received, Good, BadHeader, BadData, TooLong, BadFormat, outgoing, send_refusal, answer_to_send, after_accept, after_take, after_expire_in, after_expire_with, after_expire, after_take_arm, on, notice_of, acknowledged_by, Next, Sends, next, after_next}
 use Rattle.ddcmp_core.specs.Core.{IsSound, IsReceivable}
 use Rattle.ddcmp_core.specs.NextFrame.{SentFor, sends_strt, sends_stack, sends_nak, sends_rep, sends_data, sends_ack, sends_maint, halted_idles, starting_idles, running_idles, maintenance_idles}
 use Rattle.ddcmp_core.proofs.Sent.{sending}
@@ -159,3 +162,24 @@ kept_after_on l s h number message sound comes e runs k = by h comes runs
     by (BadData b) c runs = let f = running_on l s (BadData b) e in still (BadData b) (ap (λ (u : StationState). u.a) f) (ap (λ (u : StationState). u.out) f)
     by (TooLong b) c runs = let f = running_on l s (TooLong b) e in still (TooLong b) (ap (λ (u : StationState). u.a) f) (ap (λ (u : StationState). u.out) f)
     by BadFormat c runs = let f = running_on l s BadFormat e in still BadFormat (ap (λ (u : StationState). u.a) f) (ap (λ (u : StationState). u.out) f)
+
+pub kept_after_take : (s : StationState) (number : ℕ) (message : List ℕ) → KeepsUnder s number message → KeepsUnder (after_take s) number message
+kept_after_take s number message k = kept_still s (after_take s) number message refl refl k
+
+pub kept_after_arm : (s : StationState) (number : ℕ) (message : List ℕ) → KeepsUnder s number message → KeepsUnder (after_take_arm s) number message
+kept_after_arm s number message k = kept_still s (after_take_arm s) number message refl refl k
+
+pub kept_after_expire : (s : StationState) (number : ℕ) (message : List ℕ) → KeepsUnder s number message → KeepsUnder (after_expire s) number message
+kept_after_expire s number message k = at s.timer
+  where
+    by : (p : State) → KeepsUnder (after_expire_in p s) number message
+    by Halted = kept_still s _ number message refl refl k
+    by IStart = kept_still s _ number message refl refl k
+    by AStart = kept_still s _ number message refl refl k
+    by Running = kept_still s _ number message refl refl k
+    by Maintenance = kept_still s _ number message refl refl k
+
+    at : (t : Timer) → KeepsUnder (after_expire_with t s) number message
+    at Off = k
+    at Fresh = by s.state
+    at On = by s.state

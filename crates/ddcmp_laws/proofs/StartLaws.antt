@@ -35,7 +35,7 @@ unfolding low_bits bits add divisor_rest remainder number check_of xor six_bytes
 up_after_startup first second = record { honest = refl; clean = refl; a_runs = refl; b_runs = refl }
 
 -- a message in range, where nothing is kept yet
-nothing_refused : (window longest : ℕ) (message : List ℕ) → 1 ≤ window → 1 ≤ length message → length message ≤ longest → accept_refusal window longest nothing_sent message ≡ None
+pub nothing_refused : (window longest : ℕ) (message : List ℕ) → 1 ≤ window → 1 ≤ length message → length message ≤ longest → accept_refusal window longest nothing_sent message ≡ None
 nothing_refused window longest message room some short = grind (arith)
 
 abbrev pub number_one : Seq
@@ -45,7 +45,7 @@ first_accepted : (window longest : ℕ) (message : List ℕ) → 1 ≤ window �
     → accepted (answer_unless (accept_refusal window longest nothing_sent message) number_one) ≡ reply.Accepted number_one
 first_accepted window longest message room some short = ap (λ (x : Option SendRefusal). accepted (answer_unless x number_one)) (nothing_refused window longest message room some short)
 
-some_window : (config : Config) → first_refusal config ≡ None → 1 ≤ config.window
+pub some_window : (config : Config) → first_refusal config ≡ None → 1 ≤ config.window
 some_window config e = grind (arith)
 
 pub accepts_after_startup : (first second : Config) (end : End) (message : List ℕ) → first_refusal first ≡ None → first_refusal second ≡ None → 1 ≤ length message

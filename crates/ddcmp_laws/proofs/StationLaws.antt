@@ -7,17 +7,18 @@ use Rattle.ddcmp_frame.specs.declared.nak.Nak.TheVariants as reason
 use Rattle.ddcmp_frame.specs.Naks.{subtype_of}
 use Rattle.ddcmp_window.specs.Numbers.{is_within, next_number}
 use Rattle.ddcmp_window.specs.declared.inbox.Offer.TheVariants as offer
-use Rattle.ddcmp_core.specs.declared.state.State.TheVariants.{Halted, Running}
+use Rattle.ddcmp_core.specs.declared.state.State.{State}
+use Rattle.ddcmp_core.specs.declared.state.State.TheVariants.{Halted, IStart, AStart, Running, Maintenance}
 use Rattle.ddcmp_core.specs.declared.state.Reply.TheVariants.{Quiet, Ack, Nak}
 use Rattle.ddcmp_core.specs.declared.state.Timer.{Timer}
 use Rattle.ddcmp_core.specs.declared.state.Timer.TheVariants.{Off, Fresh, On}
 use Rattle.ddcmp_core.specs.declared.notice.Notice.{Notice}
 use Rattle.ddcmp_core.specs.declared.notice.Notice.TheVariants as notice
-use Rattle.ddcmp_core.specs.Table.{StationState, Limits, Data, Acked, Naked, Rep, Strt, Stack, Maint, Received, Good, BadHeader, BadData, TooLong, BadFormat, newly_acknowledged, after_ack, acknowledged_notice, acknowledged_by, reply_to_offer, on_data, data_notice, on_nak, may_restart, after_restart, after_halt, on_running, running_notice, on_by, on, notice_by, notice_of, Next, Idle, Sends, next_frame, next_by, next_running, next, timer_started, after_expire_in, after_expire_with, after_expire}
+use Rattle.ddcmp_core.specs.Table.{StationState, Limits, Data, Acked, Naked, Rep, Strt, Stack, Maint, Received, Good, BadHeader, BadData, TooLong, BadFormat, newly_acknowledged, after_ack, acknowledged_notice, acknowledged_by, reply_to_offer, on_data, data_notice, on_nak, may_restart, after_restart, after_halt, on_maintenance, maintenance_notice, on_running, running_notice, on_by, on, notice_by, notice_of, Next, Idle, Sends, next_frame, next_by, next_running, next_maintenance, next, timer_started, after_expire_in, after_expire_with, after_expire}
 use Rattle.ddcmp_core.specs.NextFrame.{SentFor, sends_strt, sends_stack, sends_nak, sends_rep, sends_data, sends_ack, sends_maint, halted_idles, starting_idles, running_idles, maintenance_idles}
 use Rattle.ddcmp_core.proofs.Sent.{sending}
 use Rattle.ddcmp_core.proofs.ToldLaws.{number_told, number_told_data}
-use Rattle.ddcmp_laws.specs.Station.{Responds, AcknowledgesUpTo, AcknowledgesNothing, tells_mail, HandsUp, HandsUpNothing, IsNoMessage, CallsFor, SendsNak, BeginsAnew, HaltsAtRestart}
+use Rattle.ddcmp_laws.specs.Station.{Responds, AcknowledgesUpTo, AcknowledgesNothing, tells_mail, HandsUp, HandsUpNothing, IsNoMessage, IsNoMaintenance, CallsFor, SendsNak, BeginsAnew, HaltsAtRestart}
 
 -- ---- a state that is known
 
@@ -430,3 +431,60 @@ ended l s h e ha hn waits responds = while_running (λ u told. u.timer ≡ Off) 
     by (BadData b) r = absurd r
     by (TooLong b) r = absurd r
     by BadFormat r = absurd r
+
+-- ---- maintenance
+
+pub maintenance_elsewhere : (l : Limits) (s : StationState) (message : List ℕ) → s.state ≢ Maintenance → on l s (Good (Maint message)) ≡ s
+unfolding on
+maintenance_elsewhere l s message other = by s.state other
+  where
+    by : (p : State) → p ≢ Maintenance → on_by p l s (Good (Maint message)) ≡ s
+    by Halted w = refl
+    by IStart w = refl
+    by AStart w = refl
+    by Running w = refl
+    by Maintenance w = absurd (w refl)
+
+in_maintenance : (P : StationState → Option Notice → Type 0) (l : Limits) (s : StationState) (h : Received) → s.state ≡ Maintenance
+    → P (on_maintenance l s h) (maintenance_notice l s h) → P (on l s h) (notice_of l s h)
+unfolding on notice_of
+in_maintenance P l s h e x = subst (λ p. P (on_by p l s h) (notice_by p l s h)) (sym e) x
+
+pub nothing_else_in_maintenance : (l : Limits) (s : StationState) (h : Received) → s.state ≡ Maintenance → IsNoMaintenance h → on l s h ≡ s
+nothing_else_in_maintenance l s h e is = in_maintenance (λ u told. u ≡ s) l s h e (by h is)
+  where
+    by : (h : Received) → IsNoMaintenance h → on_maintenance l s h ≡ s
+    by (Good (Acked resp)) r = refl
+    by (Good (Naked why resp)) r = refl
+    by (Good (Data resp num message)) r = refl
+    by (Good (Rep num)) r = refl
+    by (Good Strt) r = refl
+    by (Good Stack) r = refl
+    by (Good (Maint message)) r = absurd r
+    by BadHeader r = refl
+    by (BadData b) r = refl
+    by (TooLong b) r = refl
+    by BadFormat r = refl
+
+-- a station in Maintenance after a message, by the test of the room
+by_room : (P : StationState → Option Notice → Type 0) (l : Limits) (s : StationState) (message : List ℕ) (b : Bool) → s.state ≡ Maintenance → nat_lt (length s.inbox) l.room ≡ b
+    → P (record s { inbox = cond b (s.inbox ++ message ∷ []) s.inbox }) (Some (cond b notice.MaintenanceHandedUp notice.MaintenanceDropped))
+    → P (on l s (Good (Maint message))) (notice_of l s (Good (Maint message)))
+by_room P l s message b e eb x =
+    in_maintenance P l s (Good (Maint message)) e
+    (subst (λ c. P (record s { inbox = cond c (s.inbox ++ message ∷ []) s.inbox }) (Some (cond c notice.MaintenanceHandedUp notice.MaintenanceDropped))) (sym eb) x)
+
+pub maintenance_handed_up : (l : Limits) (s : StationState) (message : List ℕ) → s.state ≡ Maintenance → length s.inbox < l.room
+    → (on l s (Good (Maint message)) ≡ record s { inbox = s.inbox ++ message ∷ [] }) × (tells_mail (notice_of l s (Good (Maint message))) ≡ true)
+maintenance_handed_up l s message e room =
+    by_room (λ u told. (u ≡ record s { inbox = s.inbox ++ message ∷ [] }) × (tells_mail told ≡ true)) l s message true e (grind (arith)) (refl, refl)
+
+pub maintenance_lost : (l : Limits) (s : StationState) (message : List ℕ) → s.state ≡ Maintenance → l.room ≤ length s.inbox
+    → (on l s (Good (Maint message)) ≡ s) × (tells_mail (notice_of l s (Good (Maint message))) ≡ false)
+maintenance_lost l s message e full =
+    by_room (λ u told. (u ≡ s) × (tells_mail told ≡ false)) l s message false e (grind (arith)) (refl, refl)
+
+pub maintenance_sent : (s : StationState) (message : List ℕ) (rest : List (List ℕ)) → s.state ≡ Maintenance → s.out ≡ message ∷ rest
+    → next s ≡ Sends (Maint message) (record s { out = rest })
+unfolding next
+maintenance_sent s message rest e f = ap (λ p. next_by p s) e ∙ ap (λ (x : List (List ℕ)). next_maintenance x s) f

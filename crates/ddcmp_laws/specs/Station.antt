@@ -8,7 +8,7 @@ use Rattle.ddcmp_core.specs.declared.notice.Notice.TheVariants as notice
 use Rattle.ddcmp_core.specs.declared.state.State.TheVariants.{Halted, AStart}
 use Rattle.ddcmp_core.specs.declared.state.Reply.TheVariants.{Quiet, Ack}
 use Rattle.ddcmp_core.specs.declared.state.Timer.TheVariants.{Off}
-use Rattle.ddcmp_core.specs.Table.{StationState, Data, Acked, Naked, Strt, Stack, Received, Good, BadHeader, BadData, TooLong, BadFormat, next, next_frame, acknowledged_by}
+use Rattle.ddcmp_core.specs.Table.{StationState, Data, Acked, Naked, Strt, Stack, Received, Good, BadHeader, BadData, TooLong, BadFormat, next, next_frame, acknowledged_by, Maint}
 
 -- ---- what a halt leaves
 
@@ -37,14 +37,16 @@ Responds (Good (Data resp num message)) q = resp ≡ q
 Responds _ q = ⊥
 
 -- Exactly the messages up to q leave, q is the last that is acknowledged, and as many are told.
-pub record AcknowledgesUpTo (q : ℕ) (before after : StationState) (notice_told : Option Notice) : Type 0 where
+pub record AcknowledgesUpTo (q : ℕ) (before after : StationState)
+    (notice_told : Option Notice) : Type 0 where
   pub a : after.a ≡ q
   pub n : after.n ≡ before.n
   pub out : after.out ≡ drop (distance before.a q) before.out
   pub told : acknowledged_by notice_told ≡ distance before.a q
 
 -- nothing leaves, and nothing is told acknowledged
-pub record AcknowledgesNothing (before after : StationState) (notice_told : Option Notice) : Type 0 where
+pub record AcknowledgesNothing (before after : StationState)
+    (notice_told : Option Notice) : Type 0 where
   pub a : after.a ≡ before.a
   pub n : after.n ≡ before.n
   pub out : after.out ≡ before.out
@@ -61,7 +63,8 @@ tells_mail (Some notice.MaintenanceHandedUp) = true
 tells_mail _ = false
 
 -- One message more is in the inbox, and is told; R is one more, and an ACK is owed.
-pub record HandsUp (message : List ℕ) (before after : StationState) (notice_told : Option Notice) : Type 0 where
+pub record HandsUp (message : List ℕ) (before after : StationState)
+    (notice_told : Option Notice) : Type 0 where
   pub inbox : after.inbox ≡ before.inbox ++ message ∷ []
   pub r : after.r ≡ (before.r + 1) % 256
   pub told : tells_mail notice_told ≡ true
@@ -78,6 +81,11 @@ abbrev pub IsNoMessage : Received → Type 0
 IsNoMessage (Good (Data resp num message)) = ⊥
 IsNoMessage (Good Strt) = ⊥
 IsNoMessage _ = Unit {0}
+
+-- what comes is no maintenance message
+abbrev pub IsNoMaintenance : Received → Type 0
+IsNoMaintenance (Good (Maint message)) = ⊥
+IsNoMaintenance _ = Unit {0}
 
 -- ---- what is asked for
 

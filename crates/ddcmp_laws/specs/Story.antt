@@ -3,6 +3,7 @@ use Rattle.std.specs.Prelude.{◌≡◌, ℕ, true, false, List, [], ◌∷◌, 
 use Rattle.ddcmp_core.specs.declared.notice.Notice.{Notice}
 use Rattle.ddcmp_core.specs.declared.notice.Notice.TheVariants as notice
 use Rattle.ddcmp_core.specs.declared.counters.Counters.{Counters}
+use Rattle.ddcmp_core.specs.declared.counters.NakCounts.{NakCounts}
 use Rattle.ddcmp_core.specs.Counting.{no_naks, no_counts}
 use Rattle.ddcmp_core.specs.Seq.{Seq}
 use Rattle.ddcmp_proto.specs.declared.config.Config.{Config}
@@ -91,6 +92,47 @@ rep_3_bytes =
 abbrev pub ack_3_bytes : List ℕ
 ack_3_bytes =
     0x05 ∷ 0x01 ∷ 0x00 ∷ 0x03 ∷ 0x00 ∷ 0x01 ∷ 0x0C ∷ 0x55 ∷ []
+
+-- eight bytes whose check is wrong
+abbrev pub wrong_check_bytes : List ℕ
+wrong_check_bytes =
+    0x05 ∷ 0x01 ∷ 0x00 ∷ 0x00 ∷ 0x00 ∷ 0x01 ∷ 0xFC ∷ 0x54 ∷ []
+
+-- a header with a TYPE that there isn't, 4
+abbrev pub wrong_type_bytes : List ℕ
+wrong_type_bytes =
+    0x05 ∷ 0x04 ∷ 0x00 ∷ 0x00 ∷ 0x00 ∷ 0x01 ∷ 0x30 ∷ 0x55 ∷ []
+
+-- a message of four bytes
+abbrev pub too_long_bytes : List ℕ
+too_long_bytes =
+    0x81 ∷ 0x04 ∷ 0x00 ∷ 0x00 ∷ 0x01 ∷ 0x01 ∷ 0x2F ∷ 0x81
+    ∷ 0x61 ∷ 0x62 ∷ 0x63 ∷ 0x64 ∷ 0x97 ∷ 0x39 ∷ []
+
+-- NAK 1, for a header, with RESP 0
+abbrev pub nak_1_bytes : List ℕ
+nak_1_bytes =
+    0x05 ∷ 0x02 ∷ 0x01 ∷ 0x00 ∷ 0x00 ∷ 0x01 ∷ 0xB9 ∷ 0xA9 ∷ []
+
+-- NAK 17, for a header of no form, with RESP 0
+abbrev pub nak_17_bytes : List ℕ
+nak_17_bytes =
+    0x05 ∷ 0x02 ∷ 0x11 ∷ 0x00 ∷ 0x00 ∷ 0x01 ∷ 0xBD ∷ 0x69 ∷ []
+
+-- NAK 16, for a message too long, with RESP 0
+abbrev pub nak_16_bytes : List ℕ
+nak_16_bytes =
+    0x05 ∷ 0x02 ∷ 0x10 ∷ 0x00 ∷ 0x00 ∷ 0x01 ∷ 0xBC ∷ 0x95 ∷ []
+
+-- NAK 8, for want of room, with RESP 1
+abbrev pub nak_8_bytes : List ℕ
+nak_8_bytes =
+    0x05 ∷ 0x02 ∷ 0x08 ∷ 0x01 ∷ 0x00 ∷ 0x01 ∷ 0xEB ∷ 0xF5 ∷ []
+
+-- ACK with RESP 2
+abbrev pub ack_2_bytes : List ℕ
+ack_2_bytes =
+    0x05 ∷ 0x01 ∷ 0x00 ∷ 0x02 ∷ 0x00 ∷ 0x01 ∷ 0x5D ∷ 0x95 ∷ []
 
 abbrev pub de : List ℕ
 de = 0x64 ∷ 0x65 ∷ []
@@ -205,6 +247,50 @@ mail =
 abbrev pub written_run : List Happening
 written_run = startup ++ (loss ++ (answer ++ (damage ++ mail)))
 
+-- ---- a second run, of ends with room for one message of at most three bytes
+
+abbrev pub tight : Config
+tight = record { window = 7; inbox = 1; max = 3; syn = 0; restart = false }
+
+-- What can't be read comes to B, which asks at once, by its reason. A has nothing to send again.
+abbrev pub faults : List Happening
+faults =
+    (event.Arrive B wrong_check_bytes, told [])
+    ∷ (event.Poll B, reply.Wrote nak_1_bytes)
+    ∷ (event.Arrive A nak_1_bytes, told [])
+    ∷ (event.Poll A, reply.Idle)
+    ∷ (event.Arrive B wrong_type_bytes, told [])
+    ∷ (event.Poll B, reply.Wrote nak_17_bytes)
+    ∷ (event.Arrive A nak_17_bytes, told [])
+    ∷ (event.Poll A, reply.Idle)
+    ∷ (event.Arrive B too_long_bytes, told [])
+    ∷ (event.Poll B, reply.Wrote nak_16_bytes)
+    ∷ (event.Arrive A nak_16_bytes, told [])
+    ∷ (event.Poll A, reply.Idle)
+    ∷ []
+
+-- The second message finds no room, and is sent again once there is some.
+abbrev pub want_of_room : List Happening
+want_of_room =
+    (event.Send A abc, reply.Accepted (number 1))
+    ∷ (event.Send A de, reply.Accepted (number 2))
+    ∷ (event.Poll A, reply.Wrote first_bytes)
+    ∷ (event.Poll A, reply.Wrote second_bytes)
+    ∷ (event.Arrive B first_bytes, told (notice.HandedUp ∷ []))
+    ∷ (event.Arrive B second_bytes, told [])
+    ∷ (event.Poll B, reply.Wrote nak_8_bytes)
+    ∷ (event.Arrive A nak_8_bytes, told (notice.Acknowledged 1 ∷ []))
+    ∷ (event.Take B, reply.Took abc)
+    ∷ (event.Poll A, reply.Wrote second_bytes)
+    ∷ (event.Arrive B second_bytes, told (notice.HandedUp ∷ []))
+    ∷ (event.Poll B, reply.Wrote ack_2_bytes)
+    ∷ (event.Arrive A ack_2_bytes, told (notice.Acknowledged 1 ∷ []))
+    ∷ (event.Take B, reply.Took de)
+    ∷ []
+
+abbrev pub second_run : List Happening
+second_run = startup ++ (faults ++ want_of_room)
+
 abbrev pub event_in : Happening → Event
 event_in h = h.0
 
@@ -216,7 +302,7 @@ unfoldable pub replies_to : List Event → PairState → List Reply
 replies_to [] p = []
 replies_to (e ∷ rest) p = reply_to e p ∷ replies_to rest (after_event e p)
 
--- ---- how it ends
+-- ---- how they end
 
 -- A sent 3 messages of 6 bytes, and these 3 again; it sent two REPs, and was told two NAKs.
 abbrev pub counts_of_a : Counters
@@ -244,12 +330,37 @@ counts_of_b = record no_counts {
   data_checks = 1;
 }
 
--- all was handed up, the line was honest, and neither end began twice
-pub record EndsWell (p : PairState) : Type 0 where
+-- In the second run A sent 2 messages of 5 bytes, and one of them, of 2, again; four NAKs came.
+abbrev pub four_naks : NakCounts
+four_naks = record no_naks { header_check = 1; no_buffer = 1; too_long = 1; format = 1 }
+
+abbrev pub second_counts_of_a : Counters
+second_counts_of_a = record no_counts {
+  messages_sent = 2;
+  bytes_sent = 5;
+  messages_again = 1;
+  bytes_again = 2;
+  nak_received = four_naks;
+}
+
+abbrev pub second_counts_of_b : Counters
+second_counts_of_b = record no_counts {
+  messages_up = 2;
+  bytes_up = 5;
+  nak_sent = four_naks;
+  header_checks = 1;
+  too_longs = 1;
+  formats = 1;
+}
+
+-- All was handed up and acknowledged: these messages at each end. The line was honest, and neither
+-- end began twice. And the ends have counted this.
+pub record EndsWell (p : PairState) (mail_of_a mail_of_b : List (List ℕ))
+    (counts_at_a counts_at_b : Counters) : Type 0 where
   pub honest : p.honest ≡ true
   pub clean : is_clean p ≡ true
   pub done : is_done p ≡ true
-  pub at_a : handed_up p.a ≡ f ∷ []
-  pub at_b : handed_up p.b ≡ abc ∷ de ∷ g ∷ []
-  pub counted_at_a : p.a.core.counters ≡ counts_of_a
-  pub counted_at_b : p.b.core.counters ≡ counts_of_b
+  pub at_a : handed_up p.a ≡ mail_of_a
+  pub at_b : handed_up p.b ≡ mail_of_b
+  pub counted_at_a : p.a.core.counters ≡ counts_at_a
+  pub counted_at_b : p.b.core.counters ≡ counts_at_b

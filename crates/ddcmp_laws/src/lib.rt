@@ -2,6 +2,7 @@
 //! functions that do nothing, whose contracts are the laws.
 #![tactic(auto)]
 
+pub mod line;
 pub mod sizes;
 pub mod starts;
 pub mod station;

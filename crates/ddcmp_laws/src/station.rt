@@ -3,12 +3,12 @@ ghost use Rattle.std.specs.Prelude.{◌≡◌, ◌≢◌, ◌+◌, ◌%◌, ◌<
 ghost use Rattle.ddcmp_num.specs.Sequence.{distance, Within};
 ghost use Rattle.ddcmp_core.specs.Seq.{Seq as SeqValue};
 ghost use Rattle.ddcmp_frame.specs.declared.nak.Nak.{Nak as Reason};
-ghost use Rattle.ddcmp_core.specs.declared.state.State.TheVariants.{Halted, AStart, Running};
+ghost use Rattle.ddcmp_core.specs.declared.state.State.TheVariants.{Halted, Running, Maintenance};
 ghost use Rattle.ddcmp_core.specs.declared.state.Reply.TheVariants.{Quiet, Ack, Nak};
 ghost use Rattle.ddcmp_core.specs.declared.state.Timer.TheVariants.{Off, Fresh};
-ghost use Rattle.ddcmp_core.specs.Table.{Limits, StationState, Frame, Data, Acked, Naked, Rep, Strt, Received, Good, Next, Idle, Sends, on, notice_of, acknowledged_by, next, after_next, next_frame, after_halt, may_send, answer_to_send, after_accept, after_expire};
+ghost use Rattle.ddcmp_core.specs.Table.{Limits, StationState, Frame, Data, Acked, Naked, Rep, Strt, Maint, Received, Good, Next, Idle, Sends, on, notice_of, acknowledged_by, next, after_next, next_frame, after_halt, may_send, may_send_maintenance, answer_to_send, after_accept, after_take, after_expire, after_take_arm};
 ghost use Rattle.ddcmp_core.specs.Core.{IsSound, IsReceivable};
-ghost use Rattle.ddcmp_laws.specs.Station.{HasHalted, Responds, AcknowledgesUpTo, AcknowledgesNothing, HandsUp, HandsUpNothing, IsNoMessage, CallsFor, SendsNak, BeginsAnew, HaltsAtRestart, KeepsUnder};
+ghost use Rattle.ddcmp_laws.specs.Station.{HasHalted, Responds, AcknowledgesUpTo, AcknowledgesNothing, HandsUp, HandsUpNothing, tells_mail, IsNoMessage, IsNoMaintenance, CallsFor, SendsNak, BeginsAnew, HaltsAtRestart, KeepsUnder};
 
 /// A halted station is deaf and dumb: nothing that comes changes it, it sends nothing, and it takes
 /// no message. Who halts it finds its numbers, its messages and its mail as they were.
@@ -17,7 +17,7 @@ pub fn halted_is_deaf_and_dumb()
         ≡ s }
     ensures dumb { (s : StationState) → s.state ≡ Halted → next s ≡ Idle }
     ensures closed { (l : Limits) (s : StationState) (message : List ℕ) → s.state ≡ Halted
-        → may_send l s message ≡ false }
+        → (may_send l s message ≡ false) × (may_send_maintenance l s message ≡ false) }
     ensures halts { (s : StationState) → HasHalted s (after_halt s) }
 {}
 
@@ -43,7 +43,8 @@ pub fn acknowledges_exactly()
 {}
 
 /// A running station hands up exactly the message that comes next where there is room: the inbox,
-/// R and what is told move together, and an ACK is owed.
+/// R and what is told move together, and an ACK is owed. Other data, a full inbox, and what is no
+/// data message move none of them; a STRT, which ends the run, has a law of its own.
 pub fn receives_in_step()
     ensures next { (l : Limits) (s : StationState) (resp num : ℕ) (message : List ℕ)
         → s.state ≡ Running → num ≡ (s.r + 1) % 256 → length s.inbox < l.room
@@ -136,9 +137,36 @@ pub fn sends_under_the_number_answered()
         → KeepsUnder (after_next (next s) s) number message }
     ensures stays_when_accepted { (s : StationState) (number : ℕ) (message other : List ℕ)
         → KeepsUnder s number message → KeepsUnder (after_accept s other) number message }
+    ensures stays_when_taken { (s : StationState) (number : ℕ) (message : List ℕ)
+        → KeepsUnder s number message → KeepsUnder (after_take s) number message }
+    ensures stays_when_expired { (s : StationState) (number : ℕ) (message : List ℕ)
+        → KeepsUnder s number message → KeepsUnder (after_expire s) number message }
+    ensures stays_when_armed { (s : StationState) (number : ℕ) (message : List ℕ)
+        → KeepsUnder s number message → KeepsUnder (after_take_arm s) number message }
     ensures stays_when_received { (l : Limits) (s : StationState) (h : Received) (number : ℕ)
         (message : List ℕ) → IsSound l s → IsReceivable l h
         → s.state ≡ Running → (on l s h).state ≡ Running → KeepsUnder s number message
         → (distance s.a number ≤ acknowledged_by (notice_of l s h))
         ⊎ KeepsUnder (on l s h) number message }
+{}
+
+/// Maintenance stands apart: elsewhere a maintenance message changes nothing, and in Maintenance
+/// nothing else does. There each message goes to the inbox, behind the others, or is lost where
+/// there is no room; and those to be sent are sent in their order.
+pub fn maintenance_stands_apart()
+    ensures elsewhere { (l : Limits) (s : StationState) (message : List ℕ)
+        → s.state ≢ Maintenance → on l s (Good (Maint message)) ≡ s }
+    ensures nothing_else { (l : Limits) (s : StationState) (h : Received)
+        → s.state ≡ Maintenance → IsNoMaintenance h → on l s h ≡ s }
+    ensures handed_up { (l : Limits) (s : StationState) (message : List ℕ)
+        → s.state ≡ Maintenance → length s.inbox < l.room
+        → (on l s (Good (Maint message)) ≡ record s { inbox = s.inbox ++ message ∷ [] })
+        × (tells_mail (notice_of l s (Good (Maint message))) ≡ true) }
+    ensures lost { (l : Limits) (s : StationState) (message : List ℕ)
+        → s.state ≡ Maintenance → l.room ≤ length s.inbox
+        → (on l s (Good (Maint message)) ≡ s)
+        × (tells_mail (notice_of l s (Good (Maint message))) ≡ false) }
+    ensures sent { (s : StationState) (message : List ℕ) (rest : List (List ℕ))
+        → s.state ≡ Maintenance → s.out ≡ message ∷ rest
+        → next s ≡ Sends (Maint message) (record s { out = rest }) }
 {}

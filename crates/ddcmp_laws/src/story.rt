@@ -1,13 +1,24 @@
-//! One run of two ends, written out.
-ghost use Rattle.std.specs.Prelude.{◌≡◌, map};
+//! Two runs of two ends, written out.
+ghost use Rattle.std.specs.Prelude.{◌≡◌, [], ◌∷◌, map};
 ghost use Rattle.ddcmp_run.specs.Run.{run, new_pair};
-ghost use Rattle.ddcmp_laws.specs.Story.{usual, written_run, event_in, reply_in, replies_to, EndsWell};
+ghost use Rattle.ddcmp_laws.specs.Vectors.{abc};
+ghost use Rattle.ddcmp_laws.specs.Story.{de, f, g, usual, tight, written_run, second_run, event_in, reply_in, replies_to, EndsWell, counts_of_a, counts_of_b, second_counts_of_a, second_counts_of_b};
 
-/// A startup, messages both ways, of which one is lost and one damaged, a lost ACK, and the repair: each
-/// frame on the line, each notice and each number is the one that is written down, and in the end
-/// each message was handed up, and both ends have counted right.
+/// A startup, messages both ways, of which one is lost and one is damaged, a lost ACK, and the
+/// repair of each: every frame on the line, every notice and every number is the one that is
+/// written down. In the end each message was handed up once, and both ends have counted right.
 pub fn written_run_is_answered()
     ensures replies { replies_to (map event_in written_run) (new_pair usual usual)
         ≡ map reply_in written_run }
-    ensures ends { EndsWell (run (map event_in written_run) (new_pair usual usual)) }
+    ensures ends { EndsWell (run (map event_in written_run) (new_pair usual usual))
+        (f ∷ []) (abc ∷ de ∷ g ∷ []) counts_of_a counts_of_b }
+{}
+
+/// The same of a run in which a header fails its check, one has no form, a message is too long, and
+/// one finds no room.
+pub fn second_run_is_answered()
+    ensures replies { replies_to (map event_in second_run) (new_pair tight tight)
+        ≡ map reply_in second_run }
+    ensures ends { EndsWell (run (map event_in second_run) (new_pair tight tight))
+        [] (abc ∷ de ∷ []) second_counts_of_a second_counts_of_b }
 {}

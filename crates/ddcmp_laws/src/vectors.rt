@@ -34,8 +34,8 @@ pub fn headers_in_bytes()
         (0x90 ∷ 0xDD ∷ 0x45 ∷ 0x05 ∷ 0x09 ∷ 0x07 ∷ 0xB3 ∷ 0xDC ∷ []) }
 {}
 
-/// Each kind of frame that a station sends, and each reason of a NAK, is these bytes; and a
-/// station that reads these bytes reads that frame and nothing else.
+/// Each kind of frame that a station sends, with each reason of a NAK that has a name, is these
+/// bytes; and a station that reads these bytes reads that frame and nothing else.
 pub fn frames_in_bytes()
     ensures strt { IsOnLine Strt
         (0x05 ∷ 0x06 ∷ 0xC0 ∷ 0x00 ∷ 0x00 ∷ 0x01 ∷ 0x75 ∷ 0x95 ∷ []) }

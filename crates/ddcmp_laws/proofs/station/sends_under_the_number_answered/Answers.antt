@@ -1,4 +1,4 @@
-use Rattle.ddcmp_laws.proofs.NumberLaws.{kept_under_answer, kept_when_sent, kept_once, kept_after_next, kept_after_accept, kept_after_on}
+use Rattle.ddcmp_laws.proofs.NumberLaws.{kept_under_answer, kept_when_sent, kept_once, kept_after_next, kept_after_accept, kept_after_take, kept_after_expire, kept_after_arm, kept_after_on}
 use Rattle.ddcmp_laws.proofs.station.sends_under_the_number_answered.Goals as goal
 
 pub returns-clause-answered : goal.returns-clause-answered
@@ -15,6 +15,15 @@ returns-clause-stays_when_sent c = kept_after_next
 
 pub returns-clause-stays_when_accepted : goal.returns-clause-stays_when_accepted
 returns-clause-stays_when_accepted c = kept_after_accept
+
+pub returns-clause-stays_when_taken : goal.returns-clause-stays_when_taken
+returns-clause-stays_when_taken c = kept_after_take
+
+pub returns-clause-stays_when_expired : goal.returns-clause-stays_when_expired
+returns-clause-stays_when_expired c = kept_after_expire
+
+pub returns-clause-stays_when_armed : goal.returns-clause-stays_when_armed
+returns-clause-stays_when_armed c = kept_after_arm
 
 pub returns-clause-stays_when_received : goal.returns-clause-stays_when_received
 returns-clause-stays_when_received c = kept_after_on
