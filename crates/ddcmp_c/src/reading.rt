@@ -103,7 +103,7 @@ pub extern "C" fn ddcmp_reader_push(
     // The rest needs no text.
     ensures kept { (r : ReaderView) → reader.old.reader ≡ Some r → result ≡ OK
         → (t : ReaderView) × (reader.new.reader ≡ Some t) × (t.max ≡ r.max)
-        × (t.offset ≡ r.offset + used.new) }
+        × (t.offset ≡ r.offset + used.new) × (written.new ≤ r.max) }
 {
     *used = 0;
     *item = item_for_c(None);
