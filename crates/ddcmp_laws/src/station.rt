@@ -65,9 +65,9 @@ pub fn receives_in_step()
 {}
 
 /// A header that can't be read, and a data message that is damaged or too long, are asked for at
-/// once: the next frame is a NAK with R and the reason, and nothing else has changed. So is the next
-/// message where there is no room. A REP is answered by what is owed: an ACK where all that it asks
-/// for has come, and else a NAK.
+/// once: the next frame is a NAK with R and the reason, and nothing else has changed. So is the
+/// next message where there is no room. A REP is answered by what is owed: an ACK where all that it
+/// asks for has come, and else a NAK.
 pub fn asks_at_once()
     ensures fault { (l : Limits) (s : StationState) (h : Received) (k : ℕ) → s.state ≡ Running
         → CallsFor h k → SendsNak k s.r (on l s h)
