@@ -89,8 +89,8 @@ IsNoMaintenance _ = Unit {0}
 
 -- ---- what is asked for
 
--- What can't be read, and the SUBTYPE of the NAK that it calls for: a header whose check fails 1,
--- damaged data 2, a message too long 16, a header of no form 17.
+-- What can't be read, and the SUBTYPE of the NAK that it calls for: a header whose check fails 1, a
+-- damaged data message 2, one too long 16, a header of no form 17.
 abbrev pub CallsFor : Received → ℕ → Type 0
 CallsFor BadHeader k = k ≡ 1
 CallsFor (BadData true) k = k ≡ 2

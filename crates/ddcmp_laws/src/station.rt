@@ -64,9 +64,10 @@ pub fn receives_in_step()
         → HandsUpNothing s (on l s h) (notice_of l s h) }
 {}
 
-/// What can't be read is asked for at once: the next frame is a NAK with R and the reason, and
-/// nothing else has changed. So is the next message where there is no room. A REP is answered by
-/// what is owed: an ACK where all that it asks for has come, and else a NAK.
+/// A header that can't be read, and a data message that is damaged or too long, are asked for at
+/// once: the next frame is a NAK with R and the reason, and nothing else has changed. So is the
+/// next message where there is no room. A REP is answered by what is owed: an ACK where all that it
+/// asks for has come, and else a NAK.
 pub fn asks_at_once()
     ensures fault { (l : Limits) (s : StationState) (h : Received) (k : ℕ) → s.state ≡ Running
         → CallsFor h k → SendsNak k s.r (on l s h)
@@ -107,7 +108,7 @@ pub fn answers_no_answer()
 
 /// The timer isn't starved: data start a timer that is off, and leave one that is running as it is.
 /// What acknowledges all that was sent ends it. And where it runs out while a message waits to be
-/// acknowledged, the station asks by a REP.
+/// acknowledged, and no NAK is owed, the station asks by a REP.
 pub fn timer_is_not_starved()
     ensures running { (s u : StationState) (r num : ℕ) (message : List ℕ)
         → next s ≡ Sends (Data r num message) u → s.timer ≢ Off → u.timer ≡ s.timer }
@@ -121,8 +122,9 @@ pub fn timer_is_not_starved()
 {}
 
 /// The number that `send` answers is the number on the line of that message, each time that it is
-/// sent: from then on the message is kept under that number, no other is, and what is sent under a
-/// number is the message that is kept under it; until it is told acknowledged.
+/// sent: from then on, while the station runs, the message is kept under that number, no other is,
+/// and what is sent under a number is the message that is kept under it; until it is told
+/// acknowledged.
 pub fn sends_under_the_number_answered()
     ensures answered { (l : Limits) (s : StationState) (message : List ℕ) (number : SeqValue)
         → answer_to_send l s message ≡ Ok number
