@@ -7,9 +7,9 @@ ghost use Rattle.ddcmp_cli.specs.Endings.{is_refusal, Stations};
 use crate::ending::Ending;
 use crate::fault::Fault;
 use ddcmp_io::{FromRead, Sink, ToWrite};
-use ddcmp_net::{Elapsed, open};
+use ddcmp_net::{Elapsed, accept, connect};
 use ddcmp_serve::{SERVED_MAX, serve};
-use ddcmp_words::Served;
+use ddcmp_words::{Role, Served};
 use std::alloc::Global;
 use std::net::{Net, TcpStream};
 use std::time;
@@ -72,7 +72,11 @@ pub(crate) fn station<S: Net<Stream = TcpStream> + time::Clock, W: Sink>(
     let Some(message) = message_in(served.send, &mut buffer) else {
         return Ending::Fault(Fault::Message);
     };
-    let Ok(stream) = open(system, role, served.addr) else {
+    let opened = match role {
+        Role::Connect => connect(system, served.addr),
+        Role::Listen => accept(system, served.addr),
+    };
+    let Ok(stream) = opened else {
         return Ending::Fault(Fault::Carrier);
     };
     match serve(

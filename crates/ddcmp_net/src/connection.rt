@@ -1,5 +1,4 @@
 //! The connection of a station, and the time.
-use crate::role::Role;
 use ddcmp_station::Clock;
 use std::io;
 use std::net::{Net, OpenListener, TcpListener, TcpStream};
@@ -11,24 +10,23 @@ const READ_WAIT_MS: u64 = 10;
 /// How long a write waits for a peer that doesn't read.
 const WRITE_WAIT_MS: u64 = 5000;
 
-/// Connects to an address, or takes the first connection to it.
-fn joined<N: Net<Stream = TcpStream>>(net: &N, role: Role, addr: &str) -> io::Result<TcpStream> {
-    match role {
-        Role::Connect => TcpStream::connect(net, addr),
-        Role::Listen => {
-            let (stream, _peer) = TcpListener::bind(net, addr)?.accept()?;
-            Ok(stream)
-        }
-    }
-}
-
-/// The connection of a station.
-pub fn open<N: Net<Stream = TcpStream>>(net: &N, role: Role, addr: &str) -> io::Result<TcpStream> {
-    let stream = joined(net, role, addr)?;
+/// A connection that waits so long, and no longer to fill a packet.
+fn patient(stream: TcpStream) -> io::Result<TcpStream> {
     stream.set_read_timeout(Some(Duration::from_millis(READ_WAIT_MS)))?;
     stream.set_write_timeout(Some(Duration::from_millis(WRITE_WAIT_MS)))?;
     stream.set_nodelay(true)?;
     Ok(stream)
+}
+
+/// The connection of a station to a peer that listens at an address.
+pub fn connect<N: Net<Stream = TcpStream>>(net: &N, addr: &str) -> io::Result<TcpStream> {
+    patient(TcpStream::connect(net, addr)?)
+}
+
+/// The first connection to an address, for a station that listens there.
+pub fn accept<N: Net<Stream = TcpStream>>(net: &N, addr: &str) -> io::Result<TcpStream> {
+    let (stream, _peer) = TcpListener::bind(net, addr)?.accept()?;
+    patient(stream)
 }
 
 /// The time since the making, as the system's clock tells it. Where that fails, the time stands.

@@ -3,9 +3,7 @@
 #![tactic(auto)]
 
 mod connection;
-mod role;
 mod sockets;
 
-pub use connection::{Elapsed, open};
-pub use role::Role;
+pub use connection::{Elapsed, accept, connect};
 pub use sockets::Sockets;

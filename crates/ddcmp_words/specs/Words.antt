@@ -6,8 +6,8 @@ use Rattle.ddcmp_explain.specs.declared.form.Form.{Form}
 use Rattle.ddcmp_explain.specs.declared.form.Form.TheVariants.{Hex, Raw}
 use Rattle.ddcmp_words.specs.declared.command.Command.{Command}
 use Rattle.ddcmp_words.specs.declared.command.Command.TheVariants.{Explain, Simulate, Pair, Station}
-use Rattle.ddcmp_net.specs.declared.role.Role.{Role}
-use Rattle.ddcmp_net.specs.declared.role.Role.TheVariants.{Connect, Listen}
+use Rattle.ddcmp_words.specs.declared.served.Role.{Role}
+use Rattle.ddcmp_words.specs.declared.served.Role.TheVariants.{Connect, Listen}
 use Rattle.ddcmp_words.specs.declared.served.Served.{Served}
 use Rattle.ddcmp_words.specs.declared.declined.Declined.{Declined}
 use Rattle.ddcmp_words.specs.declared.declined.Declined.TheVariants.{Help, Version, Usage, Memory}

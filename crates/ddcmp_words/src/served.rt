@@ -1,5 +1,13 @@
 //! What the station of the command line is asked to be.
-pub use ddcmp_net::Role;
+
+/// Who opens the connection of a station.
+#[derive(Clone, Copy, Debug, PartialEq, Eq)]
+pub enum Role {
+    /// The station connects to a peer that listens.
+    Connect,
+    /// The station listens, and takes one connection.
+    Listen,
+}
 
 /// A station over a connection, as the words ask for it.
 #[derive(Clone, Copy, Debug, PartialEq, Eq)]

@@ -1,13 +1,22 @@
-use Rattle.std.proofs.Common.{◌∙◌, ap, sym, refl, arith}
-use Rattle.ddcmp_run.specs.declared.event.Event.{Event}
-use Rattle.ddcmp_run.specs.Run.{after_event}
-use Rattle.ddcmp_run.proofs.Runs.{run-next, run-none}
+use Rattle.std.proofs.Common.{◌≡◌, ◌∙◌, ◌<◌, ℕ, length, take, Result, Ok, Err, ap, sym, refl, subst, zero}
+use Rattle.ddcmp_run.specs.Run.{PairState, new_pair, run}
+use Rattle.ddcmp_run.specs.InOrder.{IsInOrder}
+use Rattle.ddcmp_pair.specs.declared.running.RunRefusal.{RunRefusal}
+use Rattle.ddcmp_pair.specs.declared.running.RunRefusal.TheVariants.{First, Second, Memory}
 use Rattle.ddcmp_pair.proofs.running.run.Goals as goal
 
-pub loop-done-init : goal.loop-done-init
-loop-done-init c = sym (run-none _)
+-- what a refusal for want of memory tells
+done_of : Result PairState RunRefusal → ℕ
+done_of (Err (Memory done _)) = done
+done_of _ = 0
 
-pub loop-done-preserved : goal.loop-done-preserved
-loop-done-preserved c =
-    c.in-Ok-apply.ensures.state refl ∙ ap (λ (e : Event). after_event e c.loop-done.pair) c.index-events-done.is ∙ ap (after_event _) c.loop-done.invariant
-    ∙ sym (run-next c.args.events.now c.loop-done.done c.index-events-done.result c.in-Ok.made (omega arith))
+pair_of : PairState → Result PairState RunRefusal → PairState
+pair_of _ (Err (Memory _ pair)) = pair
+pair_of other _ = other
+
+pub returns-in-Err-played-clause-memory : goal.returns-in-Err-played-clause-memory
+unfolding done_of pair_of
+returns-in-Err-played-clause-memory c done pair e =
+    subst (λ p. (done < length c.args.events.now) × (p ≡ run (take done c.args.events.now) (new_pair c.args.first c.args.second)) × IsInOrder p) (ap (pair_of c.play-played.new.pair) e)
+      (subst (λ n. (n < length c.args.events.now) × (c.play-played.new.pair ≡ run (take n c.args.events.now) (new_pair c.args.first c.args.second)) × IsInOrder c.play-played.new.pair) (ap done_of e)
+        ((c.in-Err-played.ensures.memory _ refl).0, ((c.in-Err-played.ensures.memory _ refl).1 ∙ ap (run (take c.in-Err-played.done c.args.events.now)) c.in-Ok.ensures.made), c.is_run.ensures.order))
