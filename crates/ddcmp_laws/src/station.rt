@@ -1,9 +1,9 @@
 //! Laws of one station, of whatever sizes and in whatever it waits for.
-ghost use Rattle.std.specs.Prelude.{◌≡◌, ◌≢◌, ◌+◌, ◌%◌, ◌<◌, ◌≤◌, ◌↔◌, ◌⊎◌, ℕ, List, [], ◌∷◌, ◌++◌, length, true, false, Some, Ok};
+ghost use Rattle.std.specs.Prelude.{◌≡◌, ◌≢◌, ◌+◌, ◌%◌, ◌<◌, ◌≤◌, ◌↔◌, ◌⊎◌, ℕ, List, [], ◌∷◌, ◌++◌, length, true, false, Some, None, Ok};
 ghost use Rattle.ddcmp_num.specs.Sequence.{distance, Within};
 ghost use Rattle.ddcmp_core.specs.Seq.{Seq as SeqValue};
 ghost use Rattle.ddcmp_frame.specs.declared.nak.Nak.{Nak as Reason};
-ghost use Rattle.ddcmp_core.specs.declared.state.State.TheVariants.{Halted, Running, Maintenance};
+ghost use Rattle.ddcmp_core.specs.declared.state.State.TheVariants.{Halted, AStart, Running, Maintenance};
 ghost use Rattle.ddcmp_core.specs.declared.state.Reply.TheVariants.{Quiet, Ack, Nak};
 ghost use Rattle.ddcmp_core.specs.declared.state.Timer.TheVariants.{Off, Fresh};
 ghost use Rattle.ddcmp_core.specs.Table.{Limits, StationState, Frame, Data, Acked, Naked, Rep, Strt, Maint, Received, Good, Next, Idle, Sends, on, notice_of, acknowledged_by, next, after_next, next_frame, after_halt, may_send, may_send_maintenance, answer_to_send, after_accept, after_take, after_expire, after_take_arm};
@@ -62,6 +62,26 @@ pub fn receives_in_step()
     ensures none { (l : Limits) (s : StationState) (h : Received)
         → s.state ≡ Running → IsNoMessage h
         → HandsUpNothing s (on l s h) (notice_of l s h) }
+{}
+
+/// Data with RESP 0 end the startup of a station that answers one, and are received as a running
+/// station receives them: the message that comes next is handed up at once where there is room, and
+/// no other is. Data with another RESP leave the startup as it was.
+pub fn data_end_a_startup()
+    ensures next { (l : Limits) (s : StationState) (num : ℕ) (message : List ℕ)
+        → s.state ≡ AStart → num ≡ (s.r + 1) % 256 → length s.inbox < l.room
+        → ((on l s (Good (Data 0 num message))).state ≡ Running)
+        × HandsUp message s (on l s (Good (Data 0 num message)))
+        (notice_of l s (Good (Data 0 num message))) }
+    ensures other { (l : Limits) (s : StationState) (num : ℕ) (message : List ℕ)
+        → s.state ≡ AStart → (num ≢ (s.r + 1) % 256) ⊎ (l.room ≤ length s.inbox)
+        → ((on l s (Good (Data 0 num message))).state ≡ Running)
+        × HandsUpNothing s (on l s (Good (Data 0 num message)))
+        (notice_of l s (Good (Data 0 num message))) }
+    ensures not_yet { (l : Limits) (s : StationState) (resp num : ℕ) (message : List ℕ)
+        → s.state ≡ AStart → resp ≢ 0
+        → (on l s (Good (Data resp num message)) ≡ s)
+        × (notice_of l s (Good (Data resp num message)) ≡ None) }
 {}
 
 /// A header that can't be read, and a data message that is damaged or too long, are asked for at
