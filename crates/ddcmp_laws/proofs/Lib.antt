@@ -2,3 +2,4 @@ pub mod StationLaws
 pub mod NumberLaws
 pub mod StartLaws
 pub mod LineLaws
+pub mod CallLaws

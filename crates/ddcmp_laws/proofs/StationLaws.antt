@@ -445,7 +445,7 @@ maintenance_elsewhere l s message other = by s.state other
     by Running w = refl
     by Maintenance w = absurd (w refl)
 
-in_maintenance : (P : StationState → Option Notice → Type 0) (l : Limits) (s : StationState) (h : Received) → s.state ≡ Maintenance
+pub in_maintenance : (P : StationState → Option Notice → Type 0) (l : Limits) (s : StationState) (h : Received) → s.state ≡ Maintenance
     → P (on_maintenance l s h) (maintenance_notice l s h) → P (on l s h) (notice_of l s h)
 unfolding on notice_of
 in_maintenance P l s h e x = subst (λ p. P (on_by p l s h) (notice_by p l s h)) (sym e) x

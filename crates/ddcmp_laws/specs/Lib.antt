@@ -2,3 +2,4 @@ pub mod Vectors
 pub mod Story
 pub mod Starts
 pub mod Station
+pub mod Calls

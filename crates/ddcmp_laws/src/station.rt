@@ -5,9 +5,10 @@ ghost use Rattle.ddcmp_core.specs.Seq.{Seq as SeqValue};
 ghost use Rattle.ddcmp_frame.specs.declared.nak.Nak.{Nak as Reason};
 ghost use Rattle.ddcmp_core.specs.declared.state.State.TheVariants.{Halted, AStart, Running, Maintenance};
 ghost use Rattle.ddcmp_core.specs.declared.state.Reply.TheVariants.{Quiet, Ack, Nak};
-ghost use Rattle.ddcmp_core.specs.declared.state.Timer.TheVariants.{Off, Fresh};
+ghost use Rattle.ddcmp_core.specs.declared.state.Timer.TheVariants.{Off, Fresh, On};
 ghost use Rattle.ddcmp_core.specs.Table.{Limits, StationState, Frame, Data, Acked, Naked, Rep, Strt, Maint, Received, Good, Next, Idle, Sends, on, notice_of, acknowledged_by, next, after_next, next_frame, after_halt, may_send, may_send_maintenance, answer_to_send, after_accept, after_take, after_expire, after_take_arm};
 ghost use Rattle.ddcmp_core.specs.Core.{IsSound, IsReceivable};
+ghost use Rattle.ddcmp_laws.specs.Calls.{Call, after_calls, SendsInOrder, HandsUpInOrder, LeavesUnanswered};
 ghost use Rattle.ddcmp_laws.specs.Station.{HasHalted, Responds, AcknowledgesUpTo, AcknowledgesNothing, HandsUp, HandsUpNothing, tells_mail, IsNoMessage, IsNoMaintenance, CallsFor, SendsNak, BeginsAnew, HaltsAtRestart, KeepsUnder};
 
 /// A halted station is deaf and dumb: nothing that comes changes it, it sends nothing, and it takes
@@ -128,7 +129,9 @@ pub fn answers_no_answer()
 
 /// The timer isn't starved: data start a timer that is off, and leave one that is running as it is.
 /// What acknowledges all that was sent ends it. And where it runs out while a message waits to be
-/// acknowledged, and no NAK is owed, the station asks by a REP.
+/// acknowledged, and no NAK is owed, the station asks by a REP. Over any number of calls a timer
+/// that is on stays on, and so runs out in the end, whatever is sent and whatever comes, until
+/// something is acknowledged or asked for, or the peer begins anew.
 pub fn timer_is_not_starved()
     ensures running { (s u : StationState) (r num : ℕ) (message : List ℕ)
         → next s ≡ Sends (Data r num message) u → s.timer ≢ Off → u.timer ≡ s.timer }
@@ -139,6 +142,9 @@ pub fn timer_is_not_starved()
     ensures asks { (s : StationState) → s.state ≡ Running → s.timer ≢ Off → s.a ≢ s.n
         → (s.reply ≡ Quiet) ⊎ (s.reply ≡ Ack)
         → next_frame (next (after_expire s)) ≡ Some (Rep s.n) }
+    ensures stays { (l : Limits) (s : StationState) (calls : List Call) → s.state ≡ Running
+        → s.rep ≡ false → s.timer ≡ On → LeavesUnanswered s.a calls
+        → (after_calls l calls s).timer ≡ On }
 {}
 
 /// The number that `send` answers is the number on the line of that message, each time that it is
@@ -191,4 +197,14 @@ pub fn maintenance_stands_apart()
     ensures sent { (s : StationState) (message : List ℕ) (rest : List (List ℕ))
         → s.state ≡ Maintenance → s.out ≡ message ∷ rest
         → next s ≡ Sends (Maint message) (record s { out = rest }) }
+{}
+
+/// Over any number of calls in Maintenance, whatever comes: what is sent is what was accepted, in
+/// that order and each once, and what isn't sent yet still is to be sent. What is handed up is what
+/// came, in that order and each once, or it is lost.
+pub fn maintenance_is_in_order()
+    ensures sent { (l : Limits) (s : StationState) (calls : List Call) → s.state ≡ Maintenance
+        → SendsInOrder l calls s }
+    ensures handed_up { (l : Limits) (s : StationState) (calls : List Call)
+        → s.state ≡ Maintenance → HandsUpInOrder l calls s }
 {}
