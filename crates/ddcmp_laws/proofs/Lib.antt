@@ -3,3 +3,4 @@ pub mod NumberLaws
 pub mod StartLaws
 pub mod LineLaws
 pub mod CallLaws
+pub mod CountLaws

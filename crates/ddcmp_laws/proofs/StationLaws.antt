@@ -77,7 +77,7 @@ none_more s q told w e =
       told = e ∙ c;
     }
 
-abbrev nak_by : StationState → ℕ → Bool → StationState
+abbrev pub nak_by : StationState → ℕ → Bool → StationState
 nak_by s q b = cond b (record (after_ack s q) { t = next_number (after_ack s q).a; rep = false; timer = Off }) s
 
 pub acknowledges : (l : Limits) (s : StationState) (h : Received) (q : ℕ) → s.state ≡ Running → s.a < 256 → q < 256 → Responds h q → Within s.a q s.n

@@ -3,3 +3,4 @@ pub mod Story
 pub mod Starts
 pub mod Station
 pub mod Calls
+pub mod Counted

@@ -3,6 +3,7 @@
 #![tactic(auto)]
 
 pub mod line;
+pub mod runs;
 pub mod sizes;
 pub mod starts;
 pub mod station;

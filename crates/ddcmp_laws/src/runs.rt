@@ -1,0 +1,14 @@
+//! What holds of every run of two ends.
+ghost use Rattle.std.specs.Prelude.{List};
+ghost use Rattle.ddcmp_proto.specs.declared.config.Config.{Config as ConfigValue};
+ghost use Rattle.ddcmp_run.specs.declared.event.End.{End as EndValue};
+ghost use Rattle.ddcmp_run.specs.declared.event.Event.{Event as EventValue};
+ghost use Rattle.ddcmp_run.specs.Run.{at, run, new_pair};
+ghost use Rattle.ddcmp_laws.specs.Counted.{NeverClears, HasCounted};
+
+/// Counters count what was done: in every run in which the line isn't cleared, whatever arrives,
+/// the counters of both ends say how many REPs, NAKs and messages the histories hold.
+pub fn counts_what_was_done()
+    ensures { (first second : ConfigValue) (events : List EventValue) (end : EndValue)
+        → NeverClears events → HasCounted (at end (run events (new_pair first second))) }
+{}
