@@ -4,3 +4,5 @@ pub mod StartLaws
 pub mod LineLaws
 pub mod CallLaws
 pub mod CountLaws
+pub mod PassedLaws
+pub mod FaithfulLaws

@@ -4,3 +4,4 @@ pub mod Starts
 pub mod Station
 pub mod Calls
 pub mod Counted
+pub mod Faithful
