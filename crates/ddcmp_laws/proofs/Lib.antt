@@ -6,3 +6,4 @@ pub mod CallLaws
 pub mod CountLaws
 pub mod PassedLaws
 pub mod FaithfulLaws
+pub mod DamageLaws

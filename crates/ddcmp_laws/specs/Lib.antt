@@ -5,3 +5,4 @@ pub mod Station
 pub mod Calls
 pub mod Counted
 pub mod Faithful
+pub mod Damage

@@ -2,6 +2,7 @@
 //! functions that do nothing, whose contracts are the laws.
 #![tactic(auto)]
 
+pub mod damage;
 pub mod line;
 pub mod runs;
 pub mod sizes;
