@@ -1,18 +1,17 @@
 -- What holds of a station over many calls.
-use Rattle.std.proofs.Common.{◌≡◌, ℕ, ◌+◌, ◌%◌, ◌⊎◌, inl, inr, Bool, true, false, cond, List, [], ◌∷◌, ◌++◌, length, drop, map, refl, sym, ap, ◌∙◌, subst, arith, append_assoc, Option, Some, None}
+use Rattle.std.proofs.Common.{◌≡◌, ℕ, inl, inr, Bool, true, false, cond, List, [], ◌∷◌, ◌++◌, length, drop, map, refl, sym, ap, ◌∙◌, subst, arith, append_assoc}
 use Rattle.std.specs.Prelude.{◌==◌, nat_lt, option_to_list}
 use Rattle.std.proofs.lemmas.List.{append-nil}
 use Rattle.ddcmp_num.specs.Sequence.{distance}
 use Rattle.ddcmp_window.specs.Numbers.{is_within}
 use Rattle.ddcmp_core.specs.Store.{first_message}
-use Rattle.ddcmp_core.specs.declared.state.State.TheVariants.{Halted, IStart, AStart, Running, Maintenance}
-use Rattle.ddcmp_core.specs.declared.state.State.{State}
+use Rattle.ddcmp_core.specs.declared.state.State.TheVariants.{Running, Maintenance}
 use Rattle.ddcmp_core.specs.declared.state.Timer.{Timer}
 use Rattle.ddcmp_core.specs.declared.state.Timer.TheVariants.{Off, Fresh, On}
-use Rattle.ddcmp_core.specs.Table.{StationState, Limits, Frame, Data, Acked, Naked, Rep, Strt, Stack, Maint, Received, Good, BadHeader, BadData, TooLong, BadFormat, newly_acknowledged, after_ack, on, Next, Idle, Sends, next, next_by, next_frame, next_maintenance, after_next, timer_started, is_fresh, after_accept, after_take, after_take_arm, after_expire_in, after_expire_with, after_expire, on_maintenance, may_send, may_send_maintenance}
+use Rattle.ddcmp_core.specs.Table.{StationState, Limits, Frame, Data, Acked, Naked, Rep, Strt, Stack, Maint, Received, Good, BadHeader, BadData, TooLong, BadFormat, newly_acknowledged, after_ack, on, Next, next, next_by, next_frame, next_maintenance, after_next, timer_started, is_fresh, after_accept, after_take, after_take_arm, after_expire_in, after_expire_with, after_expire, on_maintenance, may_send, may_send_maintenance}
 use Rattle.ddcmp_core.specs.NextFrame.{SentFor, sends_strt, sends_stack, sends_nak, sends_rep, sends_data, sends_ack, sends_maint, halted_idles, starting_idles, running_idles, maintenance_idles}
 use Rattle.ddcmp_core.proofs.Sent.{sending}
-use Rattle.ddcmp_laws.specs.Calls.{Call, Sending, SendingMaintenance, Taking, Polling, Coming, Expiring, Arming, after_call, after_calls, accepted_by, accepted_in, sent_in, taken_in, maintenance_in, IsOrLost, SendsInOrder, HandsUpInOrder, LeavesUnanswered}
+use Rattle.ddcmp_laws.specs.Calls.{Call, Sending, SendingMaintenance, Taking, Polling, Coming, Expiring, Arming, after_calls, accepted_in, sent_in, taken_in, maintenance_in, IsOrLost, SendsInOrder, HandsUpInOrder, LeavesUnanswered}
 use Rattle.ddcmp_laws.specs.Station.{IsNoMaintenance}
 use Rattle.ddcmp_laws.proofs.StationLaws.{running_on, in_maintenance, nothing_else_in_maintenance}
 

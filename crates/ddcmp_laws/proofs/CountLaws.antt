@@ -1,5 +1,5 @@
 -- The counters of an end say what its histories hold.
-use Rattle.std.proofs.Common.{◌≡◌, ℕ, ◌+◌, ◌≤◌, ◌⊎◌, inl, inr, Bool, true, false, cond, List, [], ◌∷◌, ◌++◌, length, drop, refl, sym, ap, ◌∙◌, subst, arith, append_assoc, length-append, Option, Some, None}
+use Rattle.std.proofs.Common.{◌≡◌, ℕ, ◌+◌, ◌≤◌, ◌⊎◌, inl, inr, Bool, true, false, cond, List, [], ◌∷◌, ◌++◌, length, drop, refl, sym, ap, ◌∙◌, subst, arith, length-append}
 use Rattle.std.specs.Prelude.{◌==◌, ◌&&◌, option_to_list, option_map}
 use Rattle.std.proofs.lemmas.List.{append-nil}
 use Rattle.std.proofs.lemmas.List.Sums.{sum_by_push, sum_by-cons}
@@ -13,18 +13,17 @@ use Rattle.ddcmp_core.specs.declared.counters.NakCounts.{NakCounts}
 use Rattle.ddcmp_core.specs.declared.counters.Counters.{Counters}
 use Rattle.ddcmp_core.specs.declared.state.State.{State}
 use Rattle.ddcmp_core.specs.declared.state.State.TheVariants.{Halted, IStart, AStart, Running, Maintenance}
-use Rattle.ddcmp_core.specs.Table.{StationState, Limits, Frame, Data, Acked, Naked, Rep, Strt, Stack, Maint, Received, Good, BadHeader, BadData, TooLong, BadFormat, takes_data, has_room, may_restart, after_restart, after_halt, after_startup, on_data, after_ack, on_by, on, Next, Idle, Sends, next, next_frame, after_next, may_start, after_start, may_send, after_accept}
+use Rattle.ddcmp_core.specs.Table.{StationState, Limits, Frame, Data, Acked, Naked, Rep, Strt, Stack, Maint, Received, Good, BadHeader, BadData, TooLong, BadFormat, takes_data, has_room, may_restart, after_restart, after_halt, after_startup, on_data, on_by, on, Next, Idle, Sends, next, next_frame, may_start, after_start, may_send, after_accept}
 use Rattle.ddcmp_core.specs.Counting.{count_plus, nak_counts_after, counters_after_fault, counters_after_up, counters_after_up_if, counters_by, counters_on, counters_after_sent, counters_after_again, counters_after_next}
 use Rattle.ddcmp_core.specs.Core.{CoreView}
 use Rattle.ddcmp_proto.specs.Bytes.{received_of, after_item, after_items, items_added}
-use Rattle.ddcmp_proto.specs.Config.{first_refusal}
 use Rattle.ddcmp_proto.specs.declared.config.Config.{Config}
 use Rattle.ddcmp_run.specs.declared.event.End.{End}
 use Rattle.ddcmp_run.specs.declared.event.End.TheVariants.{A, B}
 use Rattle.ddcmp_run.specs.declared.event.Event.{Event}
 use Rattle.ddcmp_run.specs.declared.event.Event.TheVariants as event
 use Rattle.ddcmp_run.specs.Place.{WholeFrame}
-use Rattle.ddcmp_run.specs.Run.{EndState, PairState, at, handed_up, whole_frame, after_event, after_event_here, run, new_end, new_pair}
+use Rattle.ddcmp_run.specs.Run.{EndState, PairState, at, whole_frame, after_event, after_event_here, run, new_end, new_pair}
 use Rattle.ddcmp_run.proofs.Calls.{take-up}
 use Rattle.ddcmp_run.proofs.Steady.{inbox-sent, expired-inbox}
 use Rattle.ddcmp_core.proofs.Sent.{sending}

@@ -1,15 +1,15 @@
 -- A line that loses and changes nothing is honest.
-use Rattle.std.proofs.Common.{◌≡◌, ℕ, ◌+◌, ◌<◌, ◌≤◌, ◌⊎◌, inl, inr, Bool, true, false, cond, List, [], ◌∷◌, ◌++◌, length, drop, refl, sym, ◌∙◌, ap, subst, arith, append_assoc, Option, Some, None}
+use Rattle.std.proofs.Common.{◌≡◌, ℕ, ◌+◌, ◌<◌, ◌≤◌, inl, inr, Bool, true, false, cond, List, [], ◌∷◌, ◌++◌, length, drop, refl, sym, ◌∙◌, ap, subst, arith, append_assoc, Option, Some, None}
 use Rattle.std.specs.Prelude.{replicate, nat_lt, is_some, ◌&&◌, option_map, option_to_list}
 use Rattle.std.proofs.lemmas.List.{append-nil}
 use Rattle.ddcmp_frame.specs.declared.item.Item.TheVariants.{Good as GoodItem, TooLong as LongItem}
 use Rattle.ddcmp_frame.specs.Spelling.{IsInRange}
 use Rattle.ddcmp_frame.specs.Wire.{wire, IsFrame}
-use Rattle.ddcmp_frame.specs.Reading.{ReadItem, read, with_more, ending, items, open_at_end, good_frames_in, good_frames}
+use Rattle.ddcmp_frame.specs.Reading.{ReadItem, items, open_at_end, good_frames_in, good_frames}
 use Rattle.ddcmp_frame.proofs.FrameLaws.{whole-items, whole-closed}
 use Rattle.ddcmp_frame.proofs.ReadingLaws.{items-more, items-nothing, ending-nothing, good-more}
 use Rattle.ddcmp_core.specs.declared.station_core.StartRefusal.{StartRefusal}
-use Rattle.ddcmp_core.specs.Table.{StationState, Limits, Frame, Data, Acked, Naked, Rep, Strt, Stack, Maint, Received, Good, Next, Idle, Sends, next, next_frame, after_next, may_start, after_start, may_send, after_accept}
+use Rattle.ddcmp_core.specs.Table.{StationState, Limits, Frame, Data, Acked, Naked, Rep, Strt, Stack, Maint, Good, Next, Idle, Sends, next, next_frame, may_start, after_start, may_send, after_accept}
 use Rattle.ddcmp_core.specs.NextFrame.{SentFor, sends_strt, sends_stack, sends_nak, sends_rep, sends_data, sends_ack, sends_maint, halted_idles, starting_idles, running_idles, maintenance_idles}
 use Rattle.ddcmp_core.specs.Frames.{frame_of, header_of, message_of}
 use Rattle.ddcmp_core.specs.Core.{CoreView, IsSound, IsReceivable}
@@ -24,7 +24,7 @@ use Rattle.ddcmp_run.specs.declared.event.End.TheVariants.{A, B}
 use Rattle.ddcmp_run.specs.declared.event.Event.{Event}
 use Rattle.ddcmp_run.specs.declared.event.Event.TheVariants as event
 use Rattle.ddcmp_run.specs.Place.{WholeFrame, place_of, IsSubsequence}
-use Rattle.ddcmp_run.specs.Run.{EndState, PairState, whole_frame, clear_refusal, cleared, after_clear_by, after_event, after_event_here, run, new_end, new_pair}
+use Rattle.ddcmp_run.specs.Run.{EndState, PairState, whole_frame, clear_refusal, after_clear_by, after_event, after_event_here, run, new_end, new_pair}
 use Rattle.ddcmp_run.proofs.Subsequences.{place-decides}
 use Rattle.ddcmp_laws.specs.Faithful.{bytes_of, written, Begins, IsFaithful, StaysFaithful}
 use Rattle.ddcmp_laws.proofs.PassedLaws.{passed_items, passed_closed}

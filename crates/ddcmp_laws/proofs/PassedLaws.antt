@@ -1,5 +1,5 @@
 -- A frame that is too long is told and passed over.
-use Rattle.std.proofs.Common.{◌≡◌, ℕ, zero, suc, ◌+◌, ◌<◌, ◌≤◌, Bool, true, false, List, [], ◌∷◌, ◌++◌, length, take, drop, slice_index, refl, sym, ◌∙◌, ap, arith, Ok, Some, None, Option}
+use Rattle.std.proofs.Common.{◌≡◌, ℕ, zero, suc, ◌+◌, ◌<◌, Bool, true, false, List, [], ◌∷◌, ◌++◌, length, take, drop, slice_index, refl, sym, ◌∙◌, ap, arith, Ok, Some, None, Option}
 use Rattle.std.specs.Prelude.{replicate}
 use Rattle.std.proofs.lemmas.List.{append-nil, drop_all}
 use Rattle.ddcmp_frame.specs.declared.header.Header.{Header}
@@ -8,7 +8,7 @@ use Rattle.ddcmp_frame.specs.declared.item.Item.TheVariants.{TooLong}
 use Rattle.ddcmp_frame.specs.Spelling.{IsInRange, is_start, parsed}
 use Rattle.ddcmp_frame.specs.Wire.{six_bytes, wire, IsFrame}
 use Rattle.ddcmp_frame.specs.Rows.{outcome_after}
-use Rattle.ddcmp_frame.specs.Reading.{ReadItem, Place, count_of, read, items, ending, open_at_end, with_more}
+use Rattle.ddcmp_frame.specs.Reading.{Place, count_of, read, items, ending, open_at_end, with_more}
 use Rattle.ddcmp_frame.specs.Reader.{frame_length}
 use Rattle.ddcmp_frame.proofs.PushLaws.{next_place}
 use Rattle.ddcmp_frame.proofs.WireLaws.{length-wire, wire-front, eight-parsed, frame_length-counted, counted-frame, control-frame}
