@@ -17,14 +17,16 @@ use Rattle.ddcmp_core.specs.Store.{IsStored}
 use Rattle.ddcmp_core.proofs.Sent.{sending}
 use Rattle.ddcmp_core.proofs.StartLaws.{read_sent}
 use Rattle.ddcmp_core.proofs.Sound.{sound_new, sound_on, sound_next, sound_started, sound_halted, sound_accepted, sound_taken, sound_expired}
-use Rattle.ddcmp_proto.specs.Bytes.{received_of, after_item, after_items, items_added}
+use Rattle.ddcmp_proto.specs.Bytes.{received_of, after_item, after_items, items_added, frame_on_line}
 use Rattle.ddcmp_proto.specs.Config.{first_refusal}
 use Rattle.ddcmp_proto.specs.declared.config.Config.{Config}
+use Rattle.ddcmp_run.specs.declared.event.End.{End}
 use Rattle.ddcmp_run.specs.declared.event.End.TheVariants.{A, B}
 use Rattle.ddcmp_run.specs.declared.event.Event.{Event}
 use Rattle.ddcmp_run.specs.declared.event.Event.TheVariants as event
+use Rattle.ddcmp_run.specs.declared.event.Reply.TheVariants as reply
 use Rattle.ddcmp_run.specs.Place.{WholeFrame, place_of, IsSubsequence}
-use Rattle.ddcmp_run.specs.Run.{EndState, PairState, whole_frame, clear_refusal, after_clear_by, after_event, after_event_here, run, new_end, new_pair}
+use Rattle.ddcmp_run.specs.Run.{EndState, PairState, at, wrote, reply_to, whole_frame, clear_refusal, after_clear_by, after_event, after_event_here, run, new_end, new_pair}
 use Rattle.ddcmp_run.proofs.Subsequences.{place-decides}
 use Rattle.ddcmp_laws.specs.Faithful.{bytes_of, written, Begins, IsFaithful, StaysFaithful}
 use Rattle.ddcmp_laws.proofs.PassedLaws.{passed_items, passed_closed}
@@ -283,3 +285,24 @@ well_new config e = record {
 pub faithful_is_honest : (first second : Config) (events : List Event) → first_refusal first ≡ None → first_refusal second ≡ None → StaysFaithful events (new_pair first second) → (run events (new_pair first second)).honest ≡ true
 faithful_is_honest first second events f g stays =
     (straight_run events (new_pair first second) stays (record { a = well_new first f; b = well_new second g; honest = refl })).honest
+
+-- ---- what is written is what was answered
+
+bytes_more : (fill : ℕ) (frames : List WholeFrame) (f : WholeFrame) → bytes_of fill (frames ++ f ∷ []) ≡ bytes_of fill frames ++ (replicate fill 150 ++ wire f.0 f.1)
+unfolding bytes_of
+bytes_more fill [] f = append-nil (replicate fill 150 ++ wire f.0 f.1)
+bytes_more fill (g ∷ frames) f =
+    ap (λ (x : List ℕ). (replicate fill 150 ++ wire g.0 g.1) ++ x) (bytes_more fill frames f)
+    ∙ sym (append_assoc (replicate fill 150 ++ wire g.0 g.1) (bytes_of fill frames) (replicate fill 150 ++ wire f.0 f.1))
+
+written_more : (fill : ℕ) (sent : List WholeFrame) (polled : Option Frame) (bytes : List ℕ) → wrote (option_map (frame_on_line fill) polled) ≡ reply.Wrote bytes
+    → bytes_of fill (sent ++ option_to_list (option_map whole_frame polled)) ≡ bytes_of fill sent ++ bytes
+written_more fill sent None bytes e = absurd (cc e)
+written_more fill sent (Some f) bytes e =
+    let same : frame_on_line fill f ≡ bytes = cc e in
+    bytes_more fill sent (whole_frame f) ∙ ap (λ (x : List ℕ). bytes_of fill sent ++ x) same
+
+pub writes_what_it_answers : (end : End) (p : PairState) (bytes : List ℕ) → reply_to (event.Poll end) p ≡ reply.Wrote bytes → written (at end (after_event (event.Poll end) p)) ≡ written (at end p) ++ bytes
+unfolding after_event reply_to
+writes_what_it_answers A p bytes e = written_more p.a.syn p.a.sent (next_frame (next p.a.core.station)) bytes e
+writes_what_it_answers B p bytes e = written_more p.b.syn p.b.sent (next_frame (next p.b.core.station)) bytes e
