@@ -23,11 +23,15 @@ pub fn halted_is_deaf_and_dumb()
 {}
 
 /// A running station takes exactly the messages of 1 to `longest` bytes, while fewer than its
-/// window are kept. One that it takes is kept behind the others.
+/// window are kept; and so does one in Maintenance, of maintenance messages. One that it takes is
+/// kept behind the others.
 pub fn takes_what_it_may()
     ensures exactly { (l : Limits) (s : StationState) (message : List ℕ) → s.state ≡ Running
         → (may_send l s message ≡ true) ↔ ((1 ≤ length message) × (length message ≤ l.longest)
         × (length s.out < l.window)) }
+    ensures maintenance { (l : Limits) (s : StationState) (message : List ℕ)
+        → s.state ≡ Maintenance → (may_send_maintenance l s message ≡ true)
+        ↔ ((1 ≤ length message) × (length message ≤ l.longest) × (length s.out < l.window)) }
     ensures kept { (s : StationState) (message : List ℕ) → (after_accept s message).out
         ≡ s.out ++ message ∷ [] }
 {}
