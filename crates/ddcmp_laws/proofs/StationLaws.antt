@@ -14,7 +14,7 @@ use Rattle.ddcmp_core.specs.declared.state.Timer.{Timer}
 use Rattle.ddcmp_core.specs.declared.state.Timer.TheVariants.{Off, Fresh, On}
 use Rattle.ddcmp_core.specs.declared.notice.Notice.{Notice}
 use Rattle.ddcmp_core.specs.declared.notice.Notice.TheVariants as notice
-use Rattle.ddcmp_core.specs.Table.{StationState, Limits, Data, Acked, Naked, Rep, Strt, Stack, Maint, Received, Good, BadHeader, BadData, TooLong, BadFormat, newly_acknowledged, after_ack, acknowledged_notice, acknowledged_by, reply_to_offer, on_data, data_notice, on_nak, may_restart, after_restart, after_halt, on_maintenance, maintenance_notice, on_running, running_notice, on_by, on, notice_by, notice_of, Next, Idle, Sends, next_frame, next_by, next_running, next_maintenance, next, timer_started, after_expire_in, after_expire_with, after_expire}
+use Rattle.ddcmp_core.specs.Table.{StationState, Limits, Data, Acked, Naked, Rep, Strt, Stack, Maint, Received, Good, BadHeader, BadData, TooLong, BadFormat, newly_acknowledged, after_ack, acknowledged_notice, acknowledged_by, reply_to_offer, on_data, data_notice, on_nak, may_restart, after_restart, after_halt, on_maintenance, maintenance_notice, on_running, running_notice, takes_data, after_startup, on_astart, astart_notice, on_by, on, notice_by, notice_of, Next, Idle, Sends, next_frame, next_by, next_running, next_maintenance, next, timer_started, after_expire_in, after_expire_with, after_expire}
 use Rattle.ddcmp_core.specs.NextFrame.{SentFor, sends_strt, sends_stack, sends_nak, sends_rep, sends_data, sends_ack, sends_maint, halted_idles, starting_idles, running_idles, maintenance_idles}
 use Rattle.ddcmp_core.proofs.Sent.{sending}
 use Rattle.ddcmp_core.proofs.ToldLaws.{number_told, number_told_data}
@@ -77,7 +77,7 @@ none_more s q told w e =
       told = e ∙ c;
     }
 
-abbrev nak_by : StationState → ℕ → Bool → StationState
+abbrev pub nak_by : StationState → ℕ → Bool → StationState
 nak_by s q b = cond b (record (after_ack s q) { t = next_number (after_ack s q).a; rep = false; timer = Off }) s
 
 pub acknowledges : (l : Limits) (s : StationState) (h : Received) (q : ℕ) → s.state ≡ Running → s.a < 256 → q < 256 → Responds h q → Within s.a q s.n
@@ -445,7 +445,7 @@ maintenance_elsewhere l s message other = by s.state other
     by Running w = refl
     by Maintenance w = absurd (w refl)
 
-in_maintenance : (P : StationState → Option Notice → Type 0) (l : Limits) (s : StationState) (h : Received) → s.state ≡ Maintenance
+pub in_maintenance : (P : StationState → Option Notice → Type 0) (l : Limits) (s : StationState) (h : Received) → s.state ≡ Maintenance
     → P (on_maintenance l s h) (maintenance_notice l s h) → P (on l s h) (notice_of l s h)
 unfolding on notice_of
 in_maintenance P l s h e x = subst (λ p. P (on_by p l s h) (notice_by p l s h)) (sym e) x
@@ -488,3 +488,47 @@ pub maintenance_sent : (s : StationState) (message : List ℕ) (rest : List (Lis
     → next s ≡ Sends (Maint message) (record s { out = rest })
 unfolding next
 maintenance_sent s message rest e f = ap (λ p. next_by p s) e ∙ ap (λ (x : List (List ℕ)). next_maintenance x s) f
+
+-- ---- data that end a startup
+
+while_answering : (P : StationState → Option Notice → Type 0) (l : Limits) (s : StationState) (h : Received) → s.state ≡ AStart → P (on_astart l s h) (astart_notice l s h) → P (on l s h) (notice_of l s h)
+unfolding on notice_of
+while_answering P l s h e x = subst (λ p. P (on_by p l s h) (notice_by p l s h)) (sym e) x
+
+by_startup_tests : (P : StationState → Option Notice → Type 0) (l : Limits) (s : StationState) (num : ℕ) (message : List ℕ) (b c : Bool)
+    → s.state ≡ AStart → (num == next_number s.r) ≡ b → nat_lt (length s.inbox) l.room ≡ c
+    → P (data_by (after_startup s) 0 num message b c) (Some (cond (b && c) notice.RunningAndHandedUp notice.Running))
+    → P (on l s (Good (Data 0 num message))) (notice_of l s (Good (Data 0 num message)))
+by_startup_tests P l s num message b c e eb ec x =
+    let second = subst (λ y. P (data_by (after_startup s) 0 num message b y) (Some (cond (b && y) notice.RunningAndHandedUp notice.Running))) (sym ec) x in
+    let first = subst (λ y. P (data_by (after_startup s) 0 num message y (nat_lt (length s.inbox) l.room)) (Some (cond (y && nat_lt (length s.inbox) l.room) notice.RunningAndHandedUp notice.Running))) (sym eb) second in
+    while_answering P l s (Good (Data 0 num message)) e first
+
+pub startup_takes_next : (l : Limits) (s : StationState) (num : ℕ) (message : List ℕ) → s.state ≡ AStart → num ≡ (s.r + 1) % 256 → length s.inbox < l.room
+    → ((on l s (Good (Data 0 num message))).state ≡ Running) × HandsUp message s (on l s (Good (Data 0 num message))) (notice_of l s (Good (Data 0 num message)))
+startup_takes_next l s num message e is room =
+    by_startup_tests (λ u told. (u.state ≡ Running) × HandsUp message s u told) l s num message true true e (grind (arith)) (grind (arith))
+    (refl, record { inbox = refl; r = is; told = refl; owed = refl })
+
+pub startup_takes_no_other : (l : Limits) (s : StationState) (num : ℕ) (message : List ℕ) → s.state ≡ AStart → (num ≢ (s.r + 1) % 256) ⊎ (l.room ≤ length s.inbox)
+    → ((on l s (Good (Data 0 num message))).state ≡ Running) × HandsUpNothing s (on l s (Good (Data 0 num message))) (notice_of l s (Good (Data 0 num message)))
+startup_takes_no_other l s num message e (inl isnt) =
+    by_startup_tests (λ u told. (u.state ≡ Running) × HandsUpNothing s u told) l s num message false (nat_lt (length s.inbox) l.room) e (grind (arith)) refl
+    (refl, record { inbox = refl; r = refl; told = refl })
+startup_takes_no_other l s num message e (inr full) =
+    by_startup_tests (λ u told. (u.state ≡ Running) × HandsUpNothing s u told) l s num message (num == next_number s.r) false e refl (grind (arith)) (by (num == next_number s.r))
+  where
+    by : (b : Bool)
+        → ((data_by (after_startup s) 0 num message b false).state ≡ Running)
+        × HandsUpNothing s (data_by (after_startup s) 0 num message b false) (Some (cond (b && false) notice.RunningAndHandedUp notice.Running))
+    by true = (refl, record { inbox = refl; r = refl; told = refl })
+    by false = (refl, record { inbox = refl; r = refl; told = refl })
+
+pub startup_goes_on : (l : Limits) (s : StationState) (resp num : ℕ) (message : List ℕ) → s.state ≡ AStart → resp ≢ 0
+    → (on l s (Good (Data resp num message)) ≡ s) × (notice_of l s (Good (Data resp num message)) ≡ None)
+startup_goes_on l s resp num message e other =
+    while_answering (λ u told. (u ≡ s) × (told ≡ None)) l s (Good (Data resp num message)) e
+    (subst (λ b. (cond b (on_data l (after_startup s) resp num message) s ≡ s) × (cond b (Some (cond (takes_data l s num) notice.RunningAndHandedUp notice.Running)) None ≡ None)) (sym isnt) (refl, refl))
+  where
+    isnt : (resp == 0) ≡ false
+    isnt = grind (arith)

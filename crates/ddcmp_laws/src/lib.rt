@@ -2,7 +2,9 @@
 //! functions that do nothing, whose contracts are the laws.
 #![tactic(auto)]
 
+pub mod damage;
 pub mod line;
+pub mod runs;
 pub mod sizes;
 pub mod starts;
 pub mod station;

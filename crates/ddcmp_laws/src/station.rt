@@ -1,13 +1,14 @@
 //! Laws of one station, of whatever sizes and in whatever it waits for.
-ghost use Rattle.std.specs.Prelude.{◌≡◌, ◌≢◌, ◌+◌, ◌%◌, ◌<◌, ◌≤◌, ◌↔◌, ◌⊎◌, ℕ, List, [], ◌∷◌, ◌++◌, length, true, false, Some, Ok};
+ghost use Rattle.std.specs.Prelude.{◌≡◌, ◌≢◌, ◌+◌, ◌%◌, ◌<◌, ◌≤◌, ◌↔◌, ◌⊎◌, ℕ, List, [], ◌∷◌, ◌++◌, length, true, false, Some, None, Ok};
 ghost use Rattle.ddcmp_num.specs.Sequence.{distance, Within};
 ghost use Rattle.ddcmp_core.specs.Seq.{Seq as SeqValue};
 ghost use Rattle.ddcmp_frame.specs.declared.nak.Nak.{Nak as Reason};
-ghost use Rattle.ddcmp_core.specs.declared.state.State.TheVariants.{Halted, Running, Maintenance};
+ghost use Rattle.ddcmp_core.specs.declared.state.State.TheVariants.{Halted, AStart, Running, Maintenance};
 ghost use Rattle.ddcmp_core.specs.declared.state.Reply.TheVariants.{Quiet, Ack, Nak};
-ghost use Rattle.ddcmp_core.specs.declared.state.Timer.TheVariants.{Off, Fresh};
+ghost use Rattle.ddcmp_core.specs.declared.state.Timer.TheVariants.{Off, Fresh, On};
 ghost use Rattle.ddcmp_core.specs.Table.{Limits, StationState, Frame, Data, Acked, Naked, Rep, Strt, Maint, Received, Good, Next, Idle, Sends, on, notice_of, acknowledged_by, next, after_next, next_frame, after_halt, may_send, may_send_maintenance, answer_to_send, after_accept, after_take, after_expire, after_take_arm};
 ghost use Rattle.ddcmp_core.specs.Core.{IsSound, IsReceivable};
+ghost use Rattle.ddcmp_laws.specs.Calls.{Call, after_calls, SendsInOrder, HandsUpInOrder, LeavesUnanswered};
 ghost use Rattle.ddcmp_laws.specs.Station.{HasHalted, Responds, AcknowledgesUpTo, AcknowledgesNothing, HandsUp, HandsUpNothing, tells_mail, IsNoMessage, IsNoMaintenance, CallsFor, SendsNak, BeginsAnew, HaltsAtRestart, KeepsUnder};
 
 /// A halted station is deaf and dumb: nothing that comes changes it, it sends nothing, and it takes
@@ -22,11 +23,15 @@ pub fn halted_is_deaf_and_dumb()
 {}
 
 /// A running station takes exactly the messages of 1 to `longest` bytes, while fewer than its
-/// window are kept. One that it takes is kept behind the others.
+/// window are kept; and so does one in Maintenance, of maintenance messages. One that it takes is
+/// kept behind the others.
 pub fn takes_what_it_may()
     ensures exactly { (l : Limits) (s : StationState) (message : List ℕ) → s.state ≡ Running
         → (may_send l s message ≡ true) ↔ ((1 ≤ length message) × (length message ≤ l.longest)
         × (length s.out < l.window)) }
+    ensures maintenance { (l : Limits) (s : StationState) (message : List ℕ)
+        → s.state ≡ Maintenance → (may_send_maintenance l s message ≡ true)
+        ↔ ((1 ≤ length message) × (length message ≤ l.longest) × (length s.out < l.window)) }
     ensures kept { (s : StationState) (message : List ℕ) → (after_accept s message).out
         ≡ s.out ++ message ∷ [] }
 {}
@@ -62,6 +67,26 @@ pub fn receives_in_step()
     ensures none { (l : Limits) (s : StationState) (h : Received)
         → s.state ≡ Running → IsNoMessage h
         → HandsUpNothing s (on l s h) (notice_of l s h) }
+{}
+
+/// Data with RESP 0 end the startup of a station that answers one, and are received as a running
+/// station receives them: the message that comes next is handed up at once where there is room, and
+/// no other is. Data with another RESP leave the startup as it was.
+pub fn data_end_a_startup()
+    ensures next { (l : Limits) (s : StationState) (num : ℕ) (message : List ℕ)
+        → s.state ≡ AStart → num ≡ (s.r + 1) % 256 → length s.inbox < l.room
+        → ((on l s (Good (Data 0 num message))).state ≡ Running)
+        × HandsUp message s (on l s (Good (Data 0 num message)))
+        (notice_of l s (Good (Data 0 num message))) }
+    ensures other { (l : Limits) (s : StationState) (num : ℕ) (message : List ℕ)
+        → s.state ≡ AStart → (num ≢ (s.r + 1) % 256) ⊎ (l.room ≤ length s.inbox)
+        → ((on l s (Good (Data 0 num message))).state ≡ Running)
+        × HandsUpNothing s (on l s (Good (Data 0 num message)))
+        (notice_of l s (Good (Data 0 num message))) }
+    ensures not_yet { (l : Limits) (s : StationState) (resp num : ℕ) (message : List ℕ)
+        → s.state ≡ AStart → resp ≢ 0
+        → (on l s (Good (Data resp num message)) ≡ s)
+        × (notice_of l s (Good (Data resp num message)) ≡ None) }
 {}
 
 /// A header that can't be read, and a data message that is damaged or too long, are asked for at
@@ -108,7 +133,9 @@ pub fn answers_no_answer()
 
 /// The timer isn't starved: data start a timer that is off, and leave one that is running as it is.
 /// What acknowledges all that was sent ends it. And where it runs out while a message waits to be
-/// acknowledged, and no NAK is owed, the station asks by a REP.
+/// acknowledged, and no NAK is owed, the station asks by a REP. Over any number of calls a timer
+/// that is on stays on, and so runs out in the end, whatever is sent and whatever comes, until
+/// something is acknowledged or asked for, or the peer begins anew.
 pub fn timer_is_not_starved()
     ensures running { (s u : StationState) (r num : ℕ) (message : List ℕ)
         → next s ≡ Sends (Data r num message) u → s.timer ≢ Off → u.timer ≡ s.timer }
@@ -119,6 +146,9 @@ pub fn timer_is_not_starved()
     ensures asks { (s : StationState) → s.state ≡ Running → s.timer ≢ Off → s.a ≢ s.n
         → (s.reply ≡ Quiet) ⊎ (s.reply ≡ Ack)
         → next_frame (next (after_expire s)) ≡ Some (Rep s.n) }
+    ensures stays { (l : Limits) (s : StationState) (calls : List Call) → s.state ≡ Running
+        → s.rep ≡ false → s.timer ≡ On → LeavesUnanswered s.a calls
+        → (after_calls l calls s).timer ≡ On }
 {}
 
 /// The number that `send` answers is the number on the line of that message, each time that it is
@@ -171,4 +201,14 @@ pub fn maintenance_stands_apart()
     ensures sent { (s : StationState) (message : List ℕ) (rest : List (List ℕ))
         → s.state ≡ Maintenance → s.out ≡ message ∷ rest
         → next s ≡ Sends (Maint message) (record s { out = rest }) }
+{}
+
+/// Over any number of calls in Maintenance, whatever comes: what is sent is what was accepted, in
+/// that order and each once, and what isn't sent yet still is to be sent. What is handed up is what
+/// came, in that order and each once, or it is lost.
+pub fn maintenance_is_in_order()
+    ensures sent { (l : Limits) (s : StationState) (calls : List Call) → s.state ≡ Maintenance
+        → SendsInOrder l calls s }
+    ensures handed_up { (l : Limits) (s : StationState) (calls : List Call)
+        → s.state ≡ Maintenance → HandsUpInOrder l calls s }
 {}

@@ -1,4 +1,5 @@
 use Rattle.ddcmp_laws.proofs.StationLaws.{data_leave_the_timer, data_start_the_timer, ended, asks_at_expiry}
+use Rattle.ddcmp_laws.proofs.CallLaws.{timer_stays_on}
 use Rattle.ddcmp_laws.proofs.station.timer_is_not_starved.Goals as goal
 
 pub returns-clause-running : goal.returns-clause-running
@@ -12,3 +13,6 @@ returns-clause-ends c = ended
 
 pub returns-clause-asks : goal.returns-clause-asks
 returns-clause-asks c = asks_at_expiry
+
+pub returns-clause-stays : goal.returns-clause-stays
+returns-clause-stays c = timer_stays_on
