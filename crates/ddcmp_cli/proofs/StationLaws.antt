@@ -1,20 +1,35 @@
 -- What became of a station that was asked for.
-use Rattle.std.proofs.Common.{◌≡◌, ◌≢◌, ◌≤◌, ℕ, List, length, inr, Option, Some, None, Result, Ok, Err}
+use Rattle.std.proofs.Common.{◌≡◌, ◌≢◌, ◌≤◌, ℕ, List, length, refl, inr, inl, ◌⊎◌, subst, Option, Some, None, Result, Ok, Err}
 use Rattle.std.specs.Result.{result_ok}
 use Rattle.hex.specs.Hex.{decode_of}
 use Rattle.hex.specs.declared.error.FromHexError.{FromHexError}
 use Rattle.ddcmp_cli.specs.declared.ending.Ending.{Ending}
 use Rattle.ddcmp_words.specs.declared.served.Served.{Served}
-use Rattle.ddcmp_cli.specs.Endings.{Connects, SendsDecoded, Stations}
+use Rattle.ddcmp_cli.specs.declared.ending.Ending.TheVariants.{Fault as Faulted}
+use Rattle.ddcmp_cli.specs.declared.fault.Fault.TheVariants.{Memory as NoMemory}
+use Rattle.ddcmp_serve.specs.declared.serve_fault.ServeFault.{ServeFault}
+use Rattle.ddcmp_serve.specs.declared.serve_fault.ServeFault.TheVariants as serving
+use Rattle.ddcmp_station.specs.declared.driving.LineFault.TheVariants as line
+use Rattle.ddcmp_cli.specs.Endings.{Connects, SendsDecoded, Stations, ending_of, serve_fault}
 
 decoded : (served : Served) (d : Result (List ℕ) FromHexError) (message : List ℕ) (old new : Option (List ℕ)) (ending : Ending)
-    → Some message ≡ result_ok d → Connects served old new ending → SendsDecoded served d old new ending
-decoded served (Ok bytes) message old new ending e c = c
+    → Some message ≡ result_ok d → Connects served message old new ending → SendsDecoded served d old new ending
+decoded served (Ok bytes) message old new ending e c = subst (λ m. Connects served m old new ending) (cc e) c
 decoded served (Err refused) message old new ending e c = let e' : ◌≡◌ (Some message) None = e in cc
+
+-- an ending that tells want of memory is an answer of want of memory
+pub want-of : (answer : Result (Unit {0}) ServeFault) → ending_of serve_fault answer ≡ Faulted NoMemory → (answer ≡ Err serving.Config) ⊎ (answer ≡ Err (serving.Line line.Memory))
+want-of (Ok u) e = cc
+want-of (Err serving.Config) e = inl refl
+want-of (Err serving.Report) e = cc
+want-of (Err (serving.Line line.Read)) e = cc
+want-of (Err (serving.Line line.Write)) e = cc
+want-of (Err (serving.Line line.Ended)) e = cc
+want-of (Err (serving.Line line.Memory)) e = inr refl
 
 -- a message was read, and then the connection was opened or not
 pub connects : (served : Served) (message : List ℕ) (old new : Option (List ℕ)) (ending : Ending)
     → served.role ≢ None → length served.send.now ≤ 3000
-    → Some message ≡ result_ok (decode_of served.send.now) → Connects served old new ending → Stations served old new ending
+    → Some message ≡ result_ok (decode_of served.send.now) → Connects served message old new ending → Stations served old new ending
 connects served message old new ending r l e c =
     inr (r, l, decoded served (decode_of served.send.now) message old new ending e c)

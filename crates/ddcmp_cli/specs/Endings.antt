@@ -141,21 +141,25 @@ Pairs config input left old new ending =
     ((ending ≡ Faulted Carrier) × (left ≡ Some input) × Appends old new [])
     ⊎ PlaysBetween false config input left old new ending
 
--- a station was served over some connection, and the ending tells the answer
-pub record ServesOver (served : Served) (new : Known) (ending : Ending) : Type 0 where
+-- A station was served over some connection, with this message to send, and the ending tells the
+-- answer. Where there was no memory nothing was written.
+pub record ServesOver (served : Served) (message : List ℕ) (old new : Known) (ending : Ending)
+    : Type 0 where
   pub answer : Result (Unit {0}) ServeFault
+  pub failed : Bool
   pub ends : ending ≡ ending_of serve_fault answer
   pub serves : answer ≢ Err serving.Config → (devices : Devices)
-      × Serves served.timer_ms served.turns served.restart devices new answer
+      × Serves served.timer_ms served.turns served.restart message devices failed old new answer
+  pub kept : ending ≡ Faulted NoMemory → Keeps old new
 
 -- the connection can't be made, or a station is served over it
-abbrev pub Connects : Served → Known → Known → Ending → Type 0
-Connects served old new ending =
-    ((ending ≡ Faulted Carrier) × Keeps old new) ⊎ ServesOver served new ending
+abbrev pub Connects : Served → List ℕ → Known → Known → Ending → Type 0
+Connects served message old new ending =
+    ((ending ≡ Faulted Carrier) × Keeps old new) ⊎ ServesOver served message old new ending
 
 -- what became of a message of digits that aren't too many
 abbrev pub SendsDecoded : Served → Result (List ℕ) FromHexError → Known → Known → Ending → Type 0
-SendsDecoded served (Ok message) old new ending = Connects served old new ending
+SendsDecoded served (Ok message) old new ending = Connects served message old new ending
 SendsDecoded served (Err refused) old new ending = (ending ≡ Faulted Message) × Keeps old new
 
 -- What became of a station that was asked for. A word that names no role and the digits of more

@@ -1,21 +1,22 @@
 -- What a served station does.
-use Rattle.std.specs.Prelude.{◌≡◌, ⊤, ℕ, Bool, List, [], ◌++◌, codes, decimal, Option, None, Result, Ok, Err}
+use Rattle.std.specs.Prelude.{◌≡◌, ℕ, Bool, true, false, List, [], ◌∷◌, ◌++◌, codes, decimal, Result, Ok, Err}
+use Rattle.std.specs.List.{flat_map}
 use Rattle.std.specs.Io.KnownBytes.{Appends}
+use Rattle.hex.specs.Hex.{encode_lower}
 use Rattle.ddcmp_core.specs.declared.state.State.{State}
 use Rattle.ddcmp_core.specs.Table.{new_station, after_start}
-use Rattle.ddcmp_io.specs.declared.device.Got.{Got}
-use Rattle.ddcmp_io.specs.declared.device.Worst.{Worst}
 use Rattle.ddcmp_frame.specs.Reader.{StandsFor}
-use Rattle.ddcmp_io.specs.Written.{Known}
+use Rattle.ddcmp_io.specs.Written.{Known, AppendsPart}
 use Rattle.ddcmp_proto.specs.declared.config.Config.{Config}
 use Rattle.ddcmp_station.specs.declared.driving.Driven.{Driven}
 use Rattle.ddcmp_station.specs.declared.driving.LineFault.{LineFault}
 use Rattle.ddcmp_station.specs.Config.{core_made}
 use Rattle.ddcmp_station.specs.Driving.{Devices, Drives}
 use Rattle.ddcmp_station.specs.Station.{StationView}
-use Rattle.ddcmp_station_text.specs.StationText.{state_text}
+use Rattle.ddcmp_station.specs.UserCalls.{UserCall, Asked, Told, Handed}
+use Rattle.ddcmp_station_text.specs.StationText.{notice_line, state_text}
 use Rattle.ddcmp_serve.specs.declared.serve_fault.ServeFault.{ServeFault}
-use Rattle.ddcmp_serve.specs.declared.serve_fault.ServeFault.TheVariants.{Config as NoStation, Line, Report}
+use Rattle.ddcmp_serve.specs.declared.serve_fault.ServeFault.TheVariants.{Line, Report}
 
 abbrev pub usual_config : Bool → Config
 usual_config restart =
@@ -35,45 +36,51 @@ end_text driven state =
     ++ codes " read=" ++ decimal driven.read ++ codes " written=" ++ decimal driven.written
     ++ codes "\n"
 
--- the text was written last, where that is known
-abbrev pub EndsIn : Known → List ℕ → Type 0
-EndsIn report text = (before : Known) × Appends before report text
+-- the line of a report for a call of its user: of a notice, and of a message that came
+abbrev pub call_text : UserCall → List ℕ
+call_text (Asked room message) = []
+call_text (Told notice) = notice_line [] notice
+call_text (Handed message) = codes "mail " ++ encode_lower message ++ codes "\n"
 
--- What is answered to an answer of `drive`, and how the report ends: a fault of the line is told,
--- and else the last line was written, or a write of the report failed.
-abbrev pub Tells : Result Driven LineFault → State → Known → Result (Unit {0}) ServeFault → Type 0
-Tells (Ok driven) state report (Ok u) = EndsIn report (end_text driven state)
-Tells (Ok driven) state report (Err Report) = ⊤
-Tells (Ok driven) state report (Err (Line fault)) = ⊥
-Tells (Ok driven) state report (Err NoStation) = ⊥
-Tells (Err fault) state report answer = answer ≡ Err (Line fault)
+-- the lines for all calls, in their order
+abbrev pub calls_text : List UserCall → List ℕ
+calls_text calls = flat_map call_text calls
 
--- the devices of a served station, whose user isn't seen
-abbrev pub devices_but_user : {R W C : Type 0}
-    → (R → Option (List ℕ)) → (R → Worst) → (R → Option (List Got)) → (W → Option (List ℕ))
-    → (C → Option (List ℕ)) → R → R → W → W → C → C → Devices
-devices_but_user left worst answers contents told
-    reader reader_after writer writer_after clock clock_after = record {
-      left = left reader;
-      left_after = left reader_after;
-      worst = worst reader_after;
-      sink = contents writer;
-      sink_after = contents writer_after;
-      told = told clock;
-      told_after = told clock_after;
-      answers = answers reader;
-      answers_after = answers reader_after;
-      seen = None;
-      seen_after = None;
-    }
+-- a whole report: behind the lines for all calls stands the last line, where the turns were over
+abbrev pub report_text : List UserCall → Result Driven LineFault → State → List ℕ
+report_text calls (Ok driven) state = calls_text calls ++ end_text driven state
+report_text calls (Err fault) state = calls_text calls
 
--- A station that had just started was driven over these devices, and the answer tells what came
--- of it.
-pub record Serves (milliseconds turns : ℕ) (restart : Bool) (devices : Devices) (report : Known)
-    (answer : Result (Unit {0}) ServeFault) : Type 0 where
+-- All of a text was written, or a beginning of it, where a write failed.
+abbrev pub WritesOut : Bool → Known → Known → List ℕ → Type 0
+WritesOut false old new text = Appends old new text
+WritesOut true old new text = AppendsPart old new text
+
+-- A user that is asked for messages gives this one at first, whole, and then none.
+abbrev pub OffersOnce : List ℕ → List UserCall → Type 0
+OffersOnce send [] = Unit {0}
+OffersOnce send (Asked room message ∷ calls) = (message ≡ send) × OffersOnce [] calls
+OffersOnce send (Told notice ∷ calls) = OffersOnce send calls
+OffersOnce send (Handed message ∷ calls) = OffersOnce send calls
+
+-- What is answered to an answer of `drive`: a fault of the line is told, and else whether a write
+-- of the report has failed.
+abbrev pub served_answer : Result Driven LineFault → Bool → Result (Unit {0}) ServeFault
+served_answer (Ok driven) false = Ok tt
+served_answer (Ok driven) true = Err Report
+served_answer (Err fault) failed = Err (Line fault)
+
+-- A station that had just started was driven over these devices. Its user sent the message once
+-- and reported all that it was told and handed, and the answer tells what came of it. `failed` is
+-- whether a write of the report has failed.
+pub record Serves (milliseconds turns : ℕ) (restart : Bool) (send : List ℕ) (devices : Devices)
+    (failed : Bool) (report report_after : Known) (answer : Result (Unit {0}) ServeFault)
+    : Type 0 where
   pub old : StationView
   pub new : StationView
   pub driven : Result Driven LineFault
   pub begun : HasStarted restart old
-  pub drives : Drives milliseconds turns old new devices driven
-  pub tells : Tells driven new.core.station.state report answer
+  pub drives : Drives milliseconds turns old new devices (λ calls. OffersOnce send calls
+      × WritesOut failed report report_after (report_text calls driven new.core.station.state))
+      driven
+  pub answers : answer ≡ served_answer driven failed

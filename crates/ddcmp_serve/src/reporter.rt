@@ -1,7 +1,7 @@
 //! The user of a served station: sends one message, and reports what happens.
-ghost use Rattle.std.specs.Prelude.{◌≡◌, OnOk, is_err};
+ghost use Rattle.std.specs.Prelude.{◌≡◌, [], is_err};
 ghost use Rattle.ddcmp_io.specs.Written.{HandsOver, output_of};
-ghost use Rattle.ddcmp_serve.specs.Serving.{EndsIn, end_text};
+ghost use Rattle.ddcmp_serve.specs.Serving.{end_text};
 
 use ddcmp_io::text::{write_hex, write_number};
 use ddcmp_io::{Page, Sink, WriteFailed};
@@ -13,22 +13,25 @@ use ddcmp_station_text::{state_name, write_notice};
 #[derive(Drop)]
 pub(crate) struct Reporter<'a, P> {
     report: &'a mut P,
-    page: Page,
     /// What is still to be sent; nothing where it is empty.
     send: &'a [u8],
 }
 
 impl<'a, P: Sink> Reporter<'a, P> {
-    pub(crate) fn new(report: &'a mut P, send: &'a [u8]) -> Self {
-        Reporter {
-            report,
-            page: Page::new(),
-            send,
-        }
+    pub(crate) fn new(report: &'a mut P, send: &'a [u8]) -> Self
+        ensures same_reference { result.report.ghost_name ≡ report.entry.ghost_name }
+        ensures report { result.report.now ≡ report.old }
+        ensures send { result.send.now ≡ send.now }
+    {
+        Reporter { report, send }
     }
 }
 
 impl<P: Sink> User for Reporter<'_, P> {
+    ghost use Rattle.ddcmp_serve.specs.Reporting.{Reports};
+
+    ghost becomes = { Reports P.broken P.contents };
+
     fn message(&mut self, out: &mut [u8]) -> usize {
         let length = self.send.len().min(out.len());
         out[..length].copy_from_slice(&self.send[..length]);
@@ -37,15 +40,17 @@ impl<P: Sink> User for Reporter<'_, P> {
     }
 
     fn notice(&mut self, notice: Notice) {
-        write_notice(&mut self.page, self.report, b"", notice);
-        let _told_at_the_end = self.page.flush(self.report);
+        let mut page = Page::new();
+        write_notice(&mut page, self.report, b"", notice);
+        let _told_at_the_end = page.flush(self.report);
     }
 
     fn mail(&mut self, message: &[u8]) {
-        self.page.write(self.report, b"mail ");
-        write_hex(&mut self.page, self.report, message);
-        self.page.write(self.report, b"\n");
-        let _told_at_the_end = self.page.flush(self.report);
+        let mut page = Page::new();
+        page.write(self.report, b"mail ");
+        write_hex(&mut page, self.report, message);
+        page.write(self.report, b"\n");
+        let _told_at_the_end = page.flush(self.report);
     }
 }
 
@@ -72,7 +77,8 @@ pub(crate) fn write_end<P: Sink>(
     state: State,
 ) -> Result<(), WriteFailed>
     ensures broken { P.broken report.new ≡ is_err result }
-    ensures ends { OnOk result (EndsIn (P.contents report.new) (end_text driven.now state)) }
+    ensures sends { HandsOver (output_of P.broken P.contents report.old [])
+        (output_of P.broken P.contents report.new []) (end_text driven.now state) }
 {
     let mut page = Page::new();
     write_totals(&mut page, report, driven, state);

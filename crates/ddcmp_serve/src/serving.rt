@@ -1,7 +1,8 @@
 //! A station of the usual sizes, driven over a line.
 ghost use Rattle.std.specs.Prelude.{◌≡◌, ◌≢◌, ◌⊎◌, ◌≤◌, ◌↔◌, true, false, length};
 ghost use Rattle.std.specs.Io.KnownBytes.{IsAtEnd};
-ghost use Rattle.ddcmp_serve.specs.Serving.{Serves, devices_but_user};
+ghost use Rattle.ddcmp_serve.specs.Serving.{Serves};
+ghost use Rattle.ddcmp_station.specs.Driving.{devices_of};
 ghost use Rattle.ddcmp_serve.specs.Serving.{usual_config as config_of};
 ghost use Rattle.ddcmp_station.specs.declared.driving.LineFault.{LineFault as LineFaultValue};
 
@@ -45,9 +46,10 @@ pub fn serve<R: Source, W: Sink, P: Sink, C: Clock>(
     requires whole { W.broken writer.old ≡ false }
     requires report { P.broken report.old ≡ false }
     requires short { length send.now ≤ 1500 }
-    ensures serves { result ≢ Err ServeFault.Config → Serves timer_ms turns restart
-        (devices_but_user R.left R.state R.answers W.contents C.told reader.old reader.new
-        writer.old writer.new clock.old clock.new) (P.contents report.new) result }
+    ensures serves { result ≢ Err ServeFault.Config → Serves timer_ms turns restart send.now
+        (devices_of R.left R.state R.answers W.contents C.told reader.old reader.new
+        writer.old writer.new clock.old clock.new) (P.broken report.new) (P.contents report.old)
+        (P.contents report.new) result }
 
     // When each fault comes.
     ensures read { (result ≡ Err (ServeFault.Line LineFault.Read))
@@ -59,7 +61,8 @@ pub fn serve<R: Source, W: Sink, P: Sink, C: Clock>(
         × ((fault : LineFaultValue) → result ≢ Err (ServeFault.Line fault))) }
     ensures memory { (result ≡ Err ServeFault.Config)
         ⊎ (result ≡ Err (ServeFault.Line LineFault.Memory))
-        → (reader.new ≡ reader.old) × (writer.new ≡ writer.old) × (clock.new ≡ clock.old) }
+        → (reader.new ≡ reader.old) × (writer.new ≡ writer.old) × (clock.new ≡ clock.old)
+        × (report.new ≡ report.old) }
 {
     let Ok(mut station) = Station::new(alloc, usual_config(restart)) else {
         return Err(ServeFault::Config);

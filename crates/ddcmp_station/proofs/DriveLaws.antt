@@ -17,7 +17,7 @@ use Rattle.ddcmp_station.specs.declared.driving.Tally.{Tally}
 use Rattle.ddcmp_station.specs.Driving.{Devices, IsSentPart, deadline_at, is_due, core_after_expire, core_after_take_arm, core_at_deadline, core_after_message, frame_bytes, core_after_mail, before_read, after_read, read_answer, last_read_answer}
 use Rattle.ddcmp_frame.specs.Device.{Logs}
 use Rattle.ddcmp_io.specs.declared.device.Got.{Got}
-use Rattle.ddcmp_station.specs.UserCalls.{UserCall, calls_of_offer, calls_of_notices, calls_of_mail, TellsPiece}
+use Rattle.ddcmp_station.specs.UserCalls.{UserCall, Calls, calls_of_offer, calls_of_notices, calls_of_mail, TellsPiece}
 use Rattle.ddcmp_station.specs.Turns.{WritesFrame, TakesTurn, BreaksTurn}
 use Rattle.ddcmp_proto.proofs.FeedLaws.{after_piece-none, after_piece-append}
 
@@ -30,6 +30,20 @@ Logs-trans None b c xs ys p q = tt
 Logs-trans (Some x) None c xs ys p q = absurd p
 Logs-trans (Some x) (Some y) None xs ys p q = absurd q
 Logs-trans (Some x) (Some y) (Some z) xs ys p q = q ∙ ap (λ l. l ++ ys) p ∙ append_assoc x xs ys
+
+-- a user came by these calls and then by those
+pub Calls-then : {U : Type 0} (becomes : U → UserCall → U → Type 0) (old mid new : U) (xs ys : List UserCall) → Calls becomes old mid xs → Calls becomes mid new ys → Calls becomes old new (xs ++ ys)
+unfolding Calls
+Calls-then becomes old mid new [] ys p q = subst (λ u. Calls becomes u new ys) (sym p) q
+Calls-then becomes old mid new (x ∷ xs) ys p q = (p.0, p.1, Calls-then becomes p.0 mid new xs ys p.2 q)
+
+pub Calls-none : {U : Type 0} (becomes : U → UserCall → U → Type 0) (user : U) → Calls becomes user user []
+unfolding Calls
+Calls-none becomes user = refl
+
+pub Calls-one : {U : Type 0} (becomes : U → UserCall → U → Type 0) (old new : U) (call : UserCall) → becomes old call new → Calls becomes old new (call ∷ [])
+unfolding Calls
+Calls-one becomes old new call h = (new, h, refl)
 
 pub take_then : (xs : List ℕ) (i n : ℕ) → take i xs ++ take n (drop i xs) ≡ take (i + n) xs
 take_then xs i n = sym (take-add i n xs)
@@ -119,10 +133,10 @@ stepped-is ms now offered came old two three before after h text written seen =
     ∙ ap (λ k. record { core = k; text = text; deadline = d; written = written ++ frame_bytes old.syn (next_frame (next two.core.station)); seen = seen ++ calls_of_offer (core_at_deadline now (deadline_at ms now old.core.station.timer before) (core_after_take_arm old.core)) offered }) (sym h.kept_is)
     ∙ ap (λ x. record { core = three.core; text = text; deadline = x; written = written ++ frame_bytes old.syn (next_frame (next two.core.station)); seen = seen ++ calls_of_offer (core_at_deadline now (deadline_at ms now old.core.station.timer before) (core_after_take_arm old.core)) offered }) (sym h.after_is)
 
-pub broke-turn : (ms now : ℕ) (offered sent : List ℕ) (old two three : StationView) (after : Option ℕ) (before : Tally) (worst : Worst) (devices : Devices) (fault : LineFault)
+pub broke-turn : (ms now : ℕ) (offered sent : List ℕ) (old two three : StationView) (after : Option ℕ) (before : Tally) (worst : Worst) (devices : Devices) (saw : List UserCall → Type 0) (fault : LineFault)
     → Stepped ms now offered old two three before.deadline after → IsSentPart fault sent (frame_bytes old.syn (next_frame (next two.core.station)))
-    → Consumes devices.left devices.left_after [] → Appends devices.sink devices.sink_after sent → Appends devices.told devices.told_after (now ∷ []) → Logs devices.answers devices.answers_after (last_read_answer fault) → Logs devices.seen devices.seen_after (calls_of_offer (core_at_deadline now (deadline_at ms now old.core.station.timer before.deadline) (core_after_take_arm old.core)) offered) → (devices.worst ≡ Fine → worst ≡ Fine) → BreaksTurn ms old three before worst devices fault
-broke-turn ms now offered sent old two three after before worst devices fault h s c a m l o f = record {
+    → Consumes devices.left devices.left_after [] → Appends devices.sink devices.sink_after sent → Appends devices.told devices.told_after (now ∷ []) → Logs devices.answers devices.answers_after (last_read_answer fault) → saw (calls_of_offer (core_at_deadline now (deadline_at ms now old.core.station.timer before.deadline) (core_after_take_arm old.core)) offered) → (devices.worst ≡ Fine → worst ≡ Fine) → BreaksTurn ms old three before worst devices saw fault
+broke-turn ms now offered sent old two three after before worst devices saw fault h s c a m l o f = record {
   last = record { now = now; offered = offered; came = [] };
   frame = frame_bytes old.syn (next_frame (next two.core.station));
   sent = sent;
@@ -141,16 +155,16 @@ broke-turn ms now offered sent old two three after before worst devices fault h 
   before_is = stepped-is ms now offered [] old two three before.deadline after h;
 }
 
-pub took-turn : (ms now : ℕ) (offered came : List ℕ) (old two three new : StationView) (before after : Tally) (worst : Worst) (devices : Devices)
+pub took-turn : {U : Type 0} (becomes : U → UserCall → U → Type 0) (user user_mid user_after : U) (ms now : ℕ) (offered came : List ℕ) (old two three new : StationView) (before after : Tally) (worst : Worst) (devices : Devices)
     → Stepped ms now offered old two three before.deadline after.deadline
     → length came ≤ 256 → (devices.worst ≡ Fine → (worst ≡ Fine) × (0 < length came)) → Consumes devices.left devices.left_after came → Appends devices.sink devices.sink_after (frame_bytes old.syn (next_frame (next two.core.station))) → Appends devices.told devices.told_after (now ∷ []) → Logs devices.answers devices.answers_after (read_answer (length came) ∷ [])
-    → (mid_seen : Option (List UserCall)) → Logs devices.seen mid_seen (calls_of_offer (core_at_deadline now (deadline_at ms now old.core.station.timer before.deadline) (core_after_take_arm old.core)) offered) → TellsPiece three came mid_seen devices.seen_after
+    → Calls becomes user user_mid (calls_of_offer (core_at_deadline now (deadline_at ms now old.core.station.timer before.deadline) (core_after_take_arm old.core)) offered) → TellsPiece becomes three came user_mid user_after
     → after.read ≡ before.read + length came → after.written ≡ before.written + length (frame_bytes old.syn (next_frame (next two.core.station)))
     → new.syn ≡ three.syn → new.core.limits ≡ three.core.limits → new.line.offset ≡ three.line.offset + length came
     → ((text : List ℕ) → StandsFor three.line text → StandsFor new.line (text ++ came))
     → ((text : List ℕ) → StandsFor three.line text → new.core ≡ core_after_mail (after_piece text came three.core))
-    → TakesTurn ms old new before after worst devices
-took-turn ms now offered came old two three new before after worst devices h short fine c a m l mid_seen o q r w syn limits offset stands state = record {
+    → TakesTurn ms old new before after worst devices (Calls becomes user user_after)
+took-turn becomes user user_mid user_after ms now offered came old two three new before after worst devices h short fine c a m l o q r w syn limits offset stands state = record {
   turn = record { now = now; offered = offered; came = came };
   frame = frame_bytes old.syn (next_frame (next two.core.station));
   short = short;
@@ -160,7 +174,7 @@ took-turn ms now offered came old two three new before after worst devices h sho
   clocked = m;
   answered = l;
   sights = calls_of_offer (core_at_deadline now (deadline_at ms now old.core.station.timer before.deadline) (core_after_take_arm old.core)) offered ++ q.0;
-  shown = Logs-trans devices.seen mid_seen devices.seen_after _ _ o q.1;
+  shown = Calls-then becomes user user_mid user_after _ q.0 o q.1;
   read = r;
   written = w;
   syn = syn ∙ h.syn;
@@ -183,35 +197,35 @@ no-read a b bytes answers Ended w = absurd w
 no-read a b bytes answers Memory w = absurd w
 
 -- a write failed
-pub broke-sending : (ms now : ℕ) (offered : List ℕ) (old two three : StationView) (after : Option ℕ) (before : Tally) (left sink sink_after told told_after : Option (List ℕ)) (answers : Option (List Got)) (seen seen_after : Option (List UserCall)) (worst : Worst) (fault : LineFault)
+pub broke-sending : (ms now : ℕ) (offered : List ℕ) (old two three : StationView) (after : Option ℕ) (before : Tally) (left sink sink_after told told_after : Option (List ℕ)) (answers : Option (List Got)) (saw : List UserCall → Type 0) (worst : Worst) (fault : LineFault)
     → Stepped ms now offered old two three before.deadline after
-    → WritesFrame sink sink_after (frame_bytes two.syn (next_frame (next two.core.station))) (Err fault) → Appends told told_after (now ∷ []) → Logs seen seen_after (calls_of_offer (core_at_deadline now (deadline_at ms now old.core.station.timer before.deadline) (core_after_take_arm old.core)) offered)
-    → BreaksTurn ms old three before worst (record { left = left; left_after = left; worst = worst; sink = sink; sink_after = sink_after; told = told; told_after = told_after; answers = answers; answers_after = answers; seen = seen; seen_after = seen_after }) fault
-broke-sending ms now offered old two three after before left sink sink_after told told_after answers seen seen_after worst fault h w m o =
+    → WritesFrame sink sink_after (frame_bytes two.syn (next_frame (next two.core.station))) (Err fault) → Appends told told_after (now ∷ []) → saw (calls_of_offer (core_at_deadline now (deadline_at ms now old.core.station.timer before.deadline) (core_after_take_arm old.core)) offered)
+    → BreaksTurn ms old three before worst (record { left = left; left_after = left; worst = worst; sink = sink; sink_after = sink_after; told = told; told_after = told_after; answers = answers; answers_after = answers }) saw fault
+broke-sending ms now offered old two three after before left sink sink_after told told_after answers saw worst fault h w m o =
     let s = some-sent sink sink_after (frame_bytes old.syn (next_frame (next two.core.station))) fault
     (subst (λ n. WritesFrame sink sink_after (frame_bytes n (next_frame (next two.core.station))) (Err fault)) h.two_syn w) in
-    broke-turn ms now offered s.0 old two three after before worst _ fault h s.1 (Consumes-nil left) s.2 m (no-read _ _ _ answers fault w) o (λ e. e)
+    broke-turn ms now offered s.0 old two three after before worst _ saw fault h s.1 (Consumes-nil left) s.2 m (no-read _ _ _ answers fault w) o (λ e. e)
 
 -- a read failed or gave no bytes
-pub broke-hearing : (ms now n : ℕ) (offered : List ℕ) (old two three new : StationView) (after : Option ℕ) (before : Tally) (left left_after sink sink_after told told_after : Option (List ℕ)) (answers answers_after : Option (List Got)) (seen seen_after : Option (List UserCall)) (worst worst_after : Worst) (fault : LineFault)
+pub broke-hearing : (ms now n : ℕ) (offered : List ℕ) (old two three new : StationView) (after : Option ℕ) (before : Tally) (left left_after sink sink_after told told_after : Option (List ℕ)) (answers answers_after : Option (List Got)) (saw : List UserCall → Type 0) (worst worst_after : Worst) (fault : LineFault)
     → Stepped ms now offered old two three before.deadline after
-    → WritesFrame sink sink_after (frame_bytes two.syn (next_frame (next two.core.station))) (Ok n) → Appends told told_after (now ∷ []) → Logs answers answers_after (last_read_answer fault) → Logs seen seen_after (calls_of_offer (core_at_deadline now (deadline_at ms now old.core.station.timer before.deadline) (core_after_take_arm old.core)) offered)
+    → WritesFrame sink sink_after (frame_bytes two.syn (next_frame (next two.core.station))) (Ok n) → Appends told told_after (now ∷ []) → Logs answers answers_after (last_read_answer fault) → saw (calls_of_offer (core_at_deadline now (deadline_at ms now old.core.station.timer before.deadline) (core_after_take_arm old.core)) offered)
     → new ≡ three → Keeps left left_after → fault ≢ Write → fault ≢ Memory → (worst_after ≡ Fine → worst ≡ Fine)
-    → BreaksTurn ms old new before worst (record { left = left; left_after = left_after; worst = worst_after; sink = sink; sink_after = sink_after; told = told; told_after = told_after; answers = answers; answers_after = answers_after; seen = seen; seen_after = seen_after }) fault
-broke-hearing ms now n offered old two three new after before left left_after sink sink_after told told_after answers answers_after seen seen_after worst worst_after fault h w m l o e k nw nm f =
+    → BreaksTurn ms old new before worst (record { left = left; left_after = left_after; worst = worst_after; sink = sink; sink_after = sink_after; told = told; told_after = told_after; answers = answers; answers_after = answers_after }) saw fault
+broke-hearing ms now n offered old two three new after before left left_after sink sink_after told told_after answers answers_after saw worst worst_after fault h w m l o e k nw nm f =
     let x = subst (λ n. Appends sink sink_after (frame_bytes n (next_frame (next two.core.station)))) h.two_syn w.1 in
-    subst (λ v. BreaksTurn ms old v before worst (record { left = left; left_after = left_after; worst = worst_after; sink = sink; sink_after = sink_after; told = told; told_after = told_after; answers = answers; answers_after = answers_after; seen = seen; seen_after = seen_after }) fault) (sym e)
-    (broke-turn ms now offered _ old two three after before worst _ fault h (all-sent fault _ nw nm) (Consumes-kept left left left_after [] (Consumes-nil left) k) x m l o f)
+    subst (λ v. BreaksTurn ms old v before worst (record { left = left; left_after = left_after; worst = worst_after; sink = sink; sink_after = sink_after; told = told; told_after = told_after; answers = answers; answers_after = answers_after }) saw fault) (sym e)
+    (broke-turn ms now offered _ old two three after before worst _ saw fault h (all-sent fault _ nw nm) (Consumes-kept left left left_after [] (Consumes-nil left) k) x m l o f)
 
 -- all went well
-pub took-hearing : (ms now n : ℕ) (offered came : List ℕ) (old two three new : StationView) (before : Tally) (deadline : Option ℕ) (left left_after sink sink_after told told_after : Option (List ℕ)) (answers answers_after : Option (List Got)) (seen mid_seen seen_after : Option (List UserCall)) (worst worst_after : Worst) {read : ℕ}
+pub took-hearing : {U : Type 0} (becomes : U → UserCall → U → Type 0) (user user_mid user_after : U) (ms now n : ℕ) (offered came : List ℕ) (old two three new : StationView) (before : Tally) (deadline : Option ℕ) (left left_after sink sink_after told told_after : Option (List ℕ)) (answers answers_after : Option (List Got)) (worst worst_after : Worst) {read : ℕ}
     → Stepped ms now offered old two three before.deadline deadline
     → length came ≤ 256 → read ≡ length came → (worst_after ≡ Fine → (worst ≡ Fine) × (0 < read)) → Consumes left left_after came
-    → WritesFrame sink sink_after (frame_bytes two.syn (next_frame (next two.core.station))) (Ok n) → Appends told told_after (now ∷ []) → Logs answers answers_after (read_answer read ∷ []) → Logs seen mid_seen (calls_of_offer (core_at_deadline now (deadline_at ms now old.core.station.timer before.deadline) (core_after_take_arm old.core)) offered) → TellsPiece three came mid_seen seen_after
+    → WritesFrame sink sink_after (frame_bytes two.syn (next_frame (next two.core.station))) (Ok n) → Appends told told_after (now ∷ []) → Logs answers answers_after (read_answer read ∷ []) → Calls becomes user user_mid (calls_of_offer (core_at_deadline now (deadline_at ms now old.core.station.timer before.deadline) (core_after_take_arm old.core)) offered) → TellsPiece becomes three came user_mid user_after
     → new.syn ≡ three.syn → new.core.limits ≡ three.core.limits → new.line.offset ≡ three.line.offset + read
     → ((text : List ℕ) → StandsFor three.line text → StandsFor new.line (text ++ came))
     → ((text : List ℕ) → StandsFor three.line text → new.core ≡ core_after_mail (after_piece text came three.core))
-    → TakesTurn ms old new before (record { deadline = deadline; read = before.read + read; written = before.written + n }) worst (record { left = left; left_after = left_after; worst = worst_after; sink = sink; sink_after = sink_after; told = told; told_after = told_after; answers = answers; answers_after = answers_after; seen = seen; seen_after = seen_after })
-took-hearing ms now n offered came old two three new before deadline left left_after sink sink_after told told_after answers answers_after seen mid_seen seen_after worst worst_after {read} h short r f c w m l o q syn limits offset stands state =
+    → TakesTurn ms old new before (record { deadline = deadline; read = before.read + read; written = before.written + n }) worst (record { left = left; left_after = left_after; worst = worst_after; sink = sink; sink_after = sink_after; told = told; told_after = told_after; answers = answers; answers_after = answers_after }) (Calls becomes user user_after)
+took-hearing becomes user user_mid user_after ms now n offered came old two three new before deadline left left_after sink sink_after told told_after answers answers_after worst worst_after {read} h short r f c w m l o q syn limits offset stands state =
     let w' = subst (λ k. WritesFrame sink sink_after (frame_bytes k (next_frame (next two.core.station))) (Ok n)) h.two_syn w in
-    took-turn ms now offered came old two three new before _ worst _ h short (λ e. let p = f e in (p.0, subst (λ k. 0 < k) r p.1)) c w'.1 m (subst (λ k. Logs answers answers_after (read_answer k ∷ [])) r l) mid_seen o q (ap (λ k. before.read + k) r) (ap (λ k. before.written + k) w'.0) syn limits (offset ∙ ap (λ k. three.line.offset + k) r) stands state
+    took-turn becomes user user_mid user_after ms now offered came old two three new before _ worst _ h short (λ e. let p = f e in (p.0, subst (λ k. 0 < k) r p.1)) c w'.1 m (subst (λ k. Logs answers answers_after (read_answer k ∷ [])) r l) o q (ap (λ k. before.read + k) r) (ap (λ k. before.written + k) w'.0) syn limits (offset ∙ ap (λ k. three.line.offset + k) r) stands state

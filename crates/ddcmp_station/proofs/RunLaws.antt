@@ -11,10 +11,10 @@ use Rattle.ddcmp_station.specs.declared.driving.LineFault.TheVariants.{Read, Wri
 use Rattle.ddcmp_station.specs.declared.driving.Tally.{Tally}
 use Rattle.ddcmp_proto.specs.Station.{StationView}
 use Rattle.ddcmp_station.specs.Driving.{DriveTurn, Driving, Devices, driving_from, core_after_halt, before_read, after_turn, after_turns, bytes_read, moments, read_answers, read_answer, ReadsInTurns, EndsAtFault, Drives}
-use Rattle.ddcmp_station.proofs.DriveLaws.{Logs-nil, Logs-trans}
+use Rattle.ddcmp_station.proofs.DriveLaws.{Logs-nil, Logs-trans, Calls-none, Calls-then}
 use Rattle.ddcmp_frame.specs.Device.{Logs}
 use Rattle.ddcmp_io.specs.declared.device.Got.{Got}
-use Rattle.ddcmp_station.specs.UserCalls.{UserCall}
+use Rattle.ddcmp_station.specs.UserCalls.{UserCall, Calls}
 use Rattle.ddcmp_station.specs.Turns.{TakesTurn, BreaksTurn, TurnsSoFar}
 
 driven-more : (ms syn : ℕ) (turns : List DriveTurn) (turn : DriveTurn) (d : Driving) → after_turns ms syn (turns ++ turn ∷ []) d ≡ after_turn ms syn turn (after_turns ms syn turns d)
@@ -50,11 +50,11 @@ unfolding ReadsInTurns
 reads-later worst later [] e h = tt
 reads-later worst later (t ∷ turns) e h = (h.0, λ f. h.1 (e f), reads-later worst later turns e h.2)
 
-abbrev pub devices : Option (List ℕ) → Option (List ℕ) → Worst → Option (List ℕ) → Option (List ℕ) → Option (List ℕ) → Option (List ℕ) → Option (List Got) → Option (List Got) → Option (List UserCall) → Option (List UserCall) → Devices
-devices left left_after worst sink sink_after told told_after answers answers_after seen seen_after = record { left = left; left_after = left_after; worst = worst; sink = sink; sink_after = sink_after; told = told; told_after = told_after; answers = answers; answers_after = answers_after; seen = seen; seen_after = seen_after }
+abbrev pub devices : Option (List ℕ) → Option (List ℕ) → Worst → Option (List ℕ) → Option (List ℕ) → Option (List ℕ) → Option (List ℕ) → Option (List Got) → Option (List Got) → Devices
+devices left left_after worst sink sink_after told told_after answers answers_after = record { left = left; left_after = left_after; worst = worst; sink = sink; sink_after = sink_after; told = told; told_after = told_after; answers = answers; answers_after = answers_after }
 
-pub none-so-far : (ms : ℕ) (old : StationView) (left sink told : Option (List ℕ)) (answers : Option (List Got)) (seen : Option (List UserCall)) (worst : Worst) → TurnsSoFar ms 0 old old (record { deadline = None; read = 0; written = 0 }) (devices left left worst sink sink told told answers answers seen seen)
-none-so-far ms old left sink told answers seen worst = record {
+pub none-so-far : {U : Type 0} (becomes : U → UserCall → U → Type 0) (user : U) (ms : ℕ) (old : StationView) (left sink told : Option (List ℕ)) (answers : Option (List Got)) (worst : Worst) → TurnsSoFar ms 0 old old (record { deadline = None; read = 0; written = 0 }) (devices left left worst sink sink told told answers answers) (Calls becomes user user)
+none-so-far becomes user ms old left sink told answers worst = record {
   turns = [];
   written = [];
   seen = [];
@@ -67,7 +67,7 @@ none-so-far ms old left sink told answers seen worst = record {
     appended = Appends-nil sink;
     clocked = Appends-nil told;
     answered = Logs-nil answers;
-    shown = Logs-nil seen;
+    shown = Calls-none becomes user;
     syn = refl;
     limits = refl;
     offset = omega arith;
@@ -78,11 +78,11 @@ none-so-far ms old left sink told answers seen worst = record {
   };
 }
 
-pub one-more : (ms count : ℕ) (old mid new : StationView) (tally after : Tally) (left left_mid left_after sink sink_mid sink_after told told_mid told_after : Option (List ℕ)) (answers answers_mid answers_after : Option (List Got)) (seen seen_mid seen_after : Option (List UserCall)) (worst_mid worst_after : Worst)
-    → TurnsSoFar ms count old mid tally (devices left left_mid worst_mid sink sink_mid told told_mid answers answers_mid seen seen_mid)
-    → TakesTurn ms mid new tally after worst_mid (devices left_mid left_after worst_after sink_mid sink_after told_mid told_after answers_mid answers_after seen_mid seen_after)
-    → TurnsSoFar ms (count + 1) old new after (devices left left_after worst_after sink sink_after told told_after answers answers_after seen seen_after)
-one-more ms count old mid new tally after left left_mid left_after sink sink_mid sink_after told told_mid told_after answers answers_mid answers_after seen seen_mid seen_after worst_mid worst_after h t =
+pub one-more : {U : Type 0} (becomes : U → UserCall → U → Type 0) (user user_mid user_after : U) (ms count : ℕ) (old mid new : StationView) (tally after : Tally) (left left_mid left_after sink sink_mid sink_after told told_mid told_after : Option (List ℕ)) (answers answers_mid answers_after : Option (List Got)) (worst_mid worst_after : Worst)
+    → TurnsSoFar ms count old mid tally (devices left left_mid worst_mid sink sink_mid told told_mid answers answers_mid) (Calls becomes user user_mid)
+    → TakesTurn ms mid new tally after worst_mid (devices left_mid left_after worst_after sink_mid sink_after told_mid told_after answers_mid answers_after) (Calls becomes user_mid user_after)
+    → TurnsSoFar ms (count + 1) old new after (devices left left_after worst_after sink sink_after told told_after answers answers_after) (Calls becomes user user_after)
+one-more becomes user user_mid user_after ms count old mid new tally after left left_mid left_after sink sink_mid sink_after told told_mid told_after answers answers_mid answers_after worst_mid worst_after h t =
     let more = came-more h.turns t.turn in
     record {
       turns = h.turns ++ t.turn ∷ [];
@@ -97,7 +97,7 @@ one-more ms count old mid new tally after left left_mid left_after sink sink_mid
         appended = Appends-trans sink sink_mid sink_after _ _ h.took.appended t.appended;
         clocked = subst (Appends told told_after) (sym (moments-more h.turns t.turn)) (Appends-trans told told_mid told_after _ _ h.took.clocked t.clocked);
         answered = subst (Logs answers answers_after) (sym (read-more h.turns t.turn)) (Logs-trans answers answers_mid answers_after _ _ h.took.answered t.answered);
-        shown = Logs-trans seen seen_mid seen_after _ _ h.took.shown t.shown;
+        shown = Calls-then becomes user user_mid user_after _ _ h.took.shown t.shown;
         syn = t.syn ∙ h.took.syn;
         limits = t.limits ∙ h.took.limits;
         offset = omega (arith, t.offset, h.took.offset, ap length more, length-append (bytes_read h.turns) t.turn.came);
@@ -113,12 +113,12 @@ one-more ms count old mid new tally after left left_mid left_after sink sink_mid
       };
     }
 
-pub broke : (ms count turns : ℕ) (old mid new halted : StationView) (tally : Tally) (left left_mid left_after sink sink_mid sink_after told told_mid told_after : Option (List ℕ)) (answers answers_mid answers_after : Option (List Got)) (seen seen_mid seen_after : Option (List UserCall)) (worst_mid worst_after : Worst) (fault : LineFault)
-    → TurnsSoFar ms count old mid tally (devices left left_mid worst_mid sink sink_mid told told_mid answers answers_mid seen seen_mid) → count < turns
-    → BreaksTurn ms mid new tally worst_mid (devices left_mid left_after worst_after sink_mid sink_after told_mid told_after answers_mid answers_after seen_mid seen_after) fault
+pub broke : {U : Type 0} (becomes : U → UserCall → U → Type 0) (user user_mid user_after : U) (ms count turns : ℕ) (old mid new halted : StationView) (tally : Tally) (left left_mid left_after sink sink_mid sink_after told told_mid told_after : Option (List ℕ)) (answers answers_mid answers_after : Option (List Got)) (worst_mid worst_after : Worst) (fault : LineFault)
+    → TurnsSoFar ms count old mid tally (devices left left_mid worst_mid sink sink_mid told told_mid answers answers_mid) (Calls becomes user user_mid) → count < turns
+    → BreaksTurn ms mid new tally worst_mid (devices left_mid left_after worst_after sink_mid sink_after told_mid told_after answers_mid answers_after) (Calls becomes user_mid user_after) fault
     → halted ≡ record new { core = core_after_halt new.core }
-    → EndsAtFault ms turns old halted (devices left left_after worst_after sink sink_after told told_after answers answers_after seen seen_after) fault
-broke ms count turns old mid new halted tally left left_mid left_after sink sink_mid sink_after told told_mid told_after answers answers_mid answers_after seen seen_mid seen_after worst_mid worst_after fault h few b e = (
+    → EndsAtFault ms turns old halted (devices left left_after worst_after sink sink_after told told_after answers answers_after) (Calls becomes user user_after) fault
+broke becomes user user_mid user_after ms count turns old mid new halted tally left left_mid left_after sink sink_mid sink_after told told_mid told_after answers answers_mid answers_after worst_mid worst_after fault h few b e = (
   h.turns,
   b.last,
   h.written,
@@ -133,7 +133,7 @@ broke ms count turns old mid new halted tally left left_mid left_after sink sink
     appended = Appends-trans sink sink_mid sink_after _ _ h.took.appended b.appended;
     clocked = Appends-trans told told_mid told_after _ _ h.took.clocked b.clocked;
     answered = Logs-trans answers answers_mid answers_after _ _ h.took.answered b.answered;
-    shown = Logs-trans seen seen_mid seen_after _ _ h.took.shown b.shown;
+    shown = Calls-then becomes user user_mid user_after _ _ h.took.shown b.shown;
     syn = ap (λ v. v.syn) e ∙ b.syn ∙ h.took.syn;
     limits = ap (λ v. v.core.limits) e ∙ b.limits ∙ h.took.limits;
     offset = ap (λ v. v.line.offset) e ∙ ap (λ l. l.offset) b.line ∙ h.took.offset;
@@ -153,8 +153,8 @@ broke ms count turns old mid new halted tally left left_mid left_after sink sink
         ∙ ap (λ n. before_read ms n b.last (record { core = mid.core; text = text ++ bytes_read h.turns; deadline = tally.deadline; written = h.written; seen = h.seen })) (sym h.took.syn)
         ∙ b.before_is (text ++ bytes_read h.turns) h.written h.seen
 
-pub ends-so : (ms turns : ℕ) (old new : StationView) (dev : Devices) (fault : LineFault) → EndsAtFault ms turns old new dev fault → Drives ms turns old new dev (Err fault)
-ends-so ms turns old new dev Read h = h
-ends-so ms turns old new dev Write h = h
-ends-so ms turns old new dev Ended h = h
-ends-so ms turns old new dev Memory h = tt
+pub ends-so : (ms turns : ℕ) (old new : StationView) (dev : Devices) (saw : List UserCall → Type 0) (fault : LineFault) → EndsAtFault ms turns old new dev saw fault → Drives ms turns old new dev saw (Err fault)
+ends-so ms turns old new dev saw Read h = h
+ends-so ms turns old new dev saw Write h = h
+ends-so ms turns old new dev saw Ended h = h
+ends-so ms turns old new dev saw Memory h = tt

@@ -175,17 +175,14 @@ pub record Devices : Type 0 where
   pub told_after : Option (List ℕ)
   pub answers : Option (List Got)
   pub answers_after : Option (List Got)
-  pub seen : Option (List UserCall)
-  pub seen_after : Option (List UserCall)
 
--- The same out of the devices themselves, before and after: first come what a source, a sink, a
--- user and a clock show to contracts.
-abbrev pub devices_of : {R W U C : Type 0}
+-- The same out of the devices themselves, before and after: first come what a source, a sink and
+-- a clock show to contracts.
+abbrev pub devices_of : {R W C : Type 0}
     → (R → Option (List ℕ)) → (R → Worst) → (R → Option (List Got)) → (W → Option (List ℕ))
-    → (U → Option (List UserCall)) → (C → Option (List ℕ))
-    → R → R → W → W → U → U → C → C → Devices
-devices_of left worst answers contents seen told
-    reader reader_after writer writer_after user user_after clock clock_after = record {
+    → (C → Option (List ℕ)) → R → R → W → W → C → C → Devices
+devices_of left worst answers contents told
+    reader reader_after writer writer_after clock clock_after = record {
       left = left reader;
       left_after = left reader_after;
       worst = worst reader_after;
@@ -195,21 +192,20 @@ devices_of left worst answers contents seen told
       told_after = told clock_after;
       answers = answers reader;
       answers_after = answers reader_after;
-      seen = seen user;
-      seen_after = seen user_after;
     }
 
 -- These turns were taken: the source lost the bytes that came, the sink holds the bytes written,
--- and the station is the driven one, whichever text it stands for.
+-- the station is the driven one, whichever text it stands for, and `saw` holds of the calls of the
+-- user.
 pub record TakesTurns (milliseconds : ℕ) (turns : List DriveTurn) (written : List ℕ)
     (seen : List UserCall) (deadline : Option ℕ) (old new : StationView)
-    (devices : Devices) : Type 0 where
+    (devices : Devices) (saw : List UserCall → Type 0) : Type 0 where
   pub reads : ReadsInTurns devices.worst turns
   pub consumed : Consumes devices.left devices.left_after (bytes_read turns)
   pub appended : Appends devices.sink devices.sink_after written
   pub clocked : Appends devices.told devices.told_after (moments turns)
   pub answered : Logs devices.answers devices.answers_after (read_answers turns)
-  pub shown : Logs devices.seen devices.seen_after seen
+  pub shown : saw seen
   pub syn : new.syn ≡ old.syn
   pub limits : new.core.limits ≡ old.core.limits
   pub offset : new.line.offset ≡ old.line.offset + length (bytes_read turns)
@@ -229,14 +225,14 @@ pub record TakesTurns (milliseconds : ℕ) (turns : List DriveTurn) (written : L
 -- has got `sent`. Then the station was halted.
 pub record BreaksOff (milliseconds : ℕ) (turns : List DriveTurn) (last : DriveTurn)
     (written frame sent : List ℕ) (seen : List UserCall) (old new : StationView)
-    (devices : Devices) (fault : LineFault) : Type 0 where
+    (devices : Devices) (saw : List UserCall → Type 0) (fault : LineFault) : Type 0 where
   pub reads : ReadsInTurns devices.worst turns
   pub consumed : Consumes devices.left devices.left_after (bytes_read turns)
   pub appended : Appends devices.sink devices.sink_after (written ++ sent)
   pub clocked : Appends devices.told devices.told_after (moments turns ++ last.now ∷ [])
   pub answered : Logs devices.answers devices.answers_after
       (read_answers turns ++ last_read_answer fault)
-  pub shown : Logs devices.seen devices.seen_after seen
+  pub shown : saw seen
   pub syn : new.syn ≡ old.syn
   pub limits : new.core.limits ≡ old.core.limits
   pub offset : new.line.offset ≡ old.line.offset + length (bytes_read turns)
@@ -262,24 +258,26 @@ IsSentPart Write sent frame = (n : ℕ) × (sent ≡ take n frame)
 IsSentPart Ended sent frame = sent ≡ frame
 IsSentPart Memory sent frame = ⊥
 
-abbrev pub EndsAtFault : ℕ → ℕ → StationView → StationView → Devices → LineFault → Type 0
-EndsAtFault milliseconds count old new devices fault =
+abbrev pub EndsAtFault : ℕ → ℕ → StationView → StationView → Devices → (List UserCall → Type 0)
+    → LineFault → Type 0
+EndsAtFault milliseconds count old new devices saw fault =
     (turns : List DriveTurn) × (last : DriveTurn) × (written frame sent : List ℕ)
     × (seen : List UserCall)
     × (length turns < count) × IsSentPart fault sent frame
-    × BreaksOff milliseconds turns last written frame sent seen old new devices fault
+    × BreaksOff milliseconds turns last written frame sent seen old new devices saw fault
 
 -- What a call of `drive` for `count` turns did. Of refused memory its clause `memory` speaks.
-abbrev pub Drives : ℕ → ℕ → StationView → StationView → Devices → Result Driven LineFault → Type 0
-Drives milliseconds count old new devices (Ok told) =
+abbrev pub Drives : ℕ → ℕ → StationView → StationView → Devices → (List UserCall → Type 0)
+    → Result Driven LineFault → Type 0
+Drives milliseconds count old new devices saw (Ok told) =
     (turns : List DriveTurn) × (written : List ℕ) × (seen : List UserCall) × (deadline : Option ℕ)
     × (length turns ≡ count)
     × (told ≡ record { turns = count; read = length (bytes_read turns); written = length written })
-    × TakesTurns milliseconds turns written seen deadline old new devices
-Drives milliseconds count old new devices (Err Read) =
-    EndsAtFault milliseconds count old new devices Read
-Drives milliseconds count old new devices (Err Write) =
-    EndsAtFault milliseconds count old new devices Write
-Drives milliseconds count old new devices (Err Ended) =
-    EndsAtFault milliseconds count old new devices Ended
-Drives milliseconds count old new devices (Err Memory) = Unit {0}
+    × TakesTurns milliseconds turns written seen deadline old new devices saw
+Drives milliseconds count old new devices saw (Err Read) =
+    EndsAtFault milliseconds count old new devices saw Read
+Drives milliseconds count old new devices saw (Err Write) =
+    EndsAtFault milliseconds count old new devices saw Write
+Drives milliseconds count old new devices saw (Err Ended) =
+    EndsAtFault milliseconds count old new devices saw Ended
+Drives milliseconds count old new devices saw (Err Memory) = Unit {0}

@@ -28,7 +28,7 @@ read_answers_of (Err fault) = last_read_answer fault
 
 -- a turn was taken
 pub record TakesTurn (milliseconds : ℕ) (old new : StationView) (before after : Tally)
-    (worst : Worst) (devices : Devices) : Type 0 where
+    (worst : Worst) (devices : Devices) (saw : List UserCall → Type 0) : Type 0 where
   pub turn : DriveTurn
   pub frame : List ℕ
   pub short : length turn.came ≤ 256
@@ -38,7 +38,7 @@ pub record TakesTurn (milliseconds : ℕ) (old new : StationView) (before after 
   pub clocked : Appends devices.told devices.told_after (turn.now ∷ [])
   pub answered : Logs devices.answers devices.answers_after (read_answer (length turn.came) ∷ [])
   pub sights : List UserCall
-  pub shown : Logs devices.seen devices.seen_after sights
+  pub shown : saw sights
   pub read : after.read ≡ before.read + length turn.came
   pub written : after.written ≡ before.written + length frame
   pub syn : new.syn ≡ old.syn
@@ -63,7 +63,7 @@ pub record TakesTurn (milliseconds : ℕ) (old new : StationView) (before after 
 
 -- a turn was begun and ended at a fault
 pub record BreaksTurn (milliseconds : ℕ) (old new : StationView) (before : Tally) (worst : Worst)
-    (devices : Devices) (fault : LineFault) : Type 0 where
+    (devices : Devices) (saw : List UserCall → Type 0) (fault : LineFault) : Type 0 where
   pub last : DriveTurn
   pub frame : List ℕ
   pub sent : List ℕ
@@ -73,7 +73,7 @@ pub record BreaksTurn (milliseconds : ℕ) (old new : StationView) (before : Tal
   pub clocked : Appends devices.told devices.told_after (last.now ∷ [])
   pub answered : Logs devices.answers devices.answers_after (last_read_answer fault)
   pub sights : List UserCall
-  pub shown : Logs devices.seen devices.seen_after sights
+  pub shown : saw sights
   pub fine : devices.worst ≡ Fine → worst ≡ Fine
   pub syn : new.syn ≡ old.syn
   pub limits : new.core.limits ≡ old.core.limits
@@ -97,19 +97,19 @@ pub record BreaksTurn (milliseconds : ℕ) (old new : StationView) (before : Tal
 
 -- either of the two; `worst` is the worst answer of the source before
 abbrev pub TurnEnds : ℕ → StationView → StationView → Tally → Tally → Worst → Devices
-    → Result (Unit {0}) LineFault → Type 0
-TurnEnds milliseconds old new before after worst devices (Ok u) =
-    TakesTurn milliseconds old new before after worst devices
-TurnEnds milliseconds old new before after worst devices (Err fault) =
-    BreaksTurn milliseconds old new before worst devices fault
+    → (List UserCall → Type 0) → Result (Unit {0}) LineFault → Type 0
+TurnEnds milliseconds old new before after worst devices saw (Ok u) =
+    TakesTurn milliseconds old new before after worst devices saw
+TurnEnds milliseconds old new before after worst devices saw (Err fault) =
+    BreaksTurn milliseconds old new before worst devices saw fault
 
 -- so many turns were taken, as the tally tells
 pub record TurnsSoFar (milliseconds count : ℕ) (old new : StationView) (tally : Tally)
-    (devices : Devices) : Type 0 where
+    (devices : Devices) (saw : List UserCall → Type 0) : Type 0 where
   pub turns : List DriveTurn
   pub written : List ℕ
   pub seen : List UserCall
   pub count_is : length turns ≡ count
   pub read_is : tally.read ≡ length (bytes_read turns)
   pub written_is : tally.written ≡ length written
-  pub took : TakesTurns milliseconds turns written seen tally.deadline old new devices
+  pub took : TakesTurns milliseconds turns written seen tally.deadline old new devices saw

@@ -1,6 +1,5 @@
--- What the user of a driven station saw.
-use Rattle.std.specs.Prelude.{◌≡◌, ℕ, Bool, ◌&&◌, if◌then◌else◌, nat_lt, List, [], ◌∷◌, ◌++◌, length, map, Option}
-use Rattle.ddcmp_frame.specs.Device.{Logs}
+-- What the user of a driven station is called for.
+use Rattle.std.specs.Prelude.{◌≡◌, ℕ, Bool, ◌&&◌, if◌then◌else◌, nat_lt, List, [], ◌∷◌, ◌++◌, length, map}
 use Rattle.ddcmp_frame.specs.Reader.{StandsFor}
 use Rattle.ddcmp_proto.specs.Bytes.{after_piece, notices_of_piece}
 use Rattle.ddcmp_proto.specs.Station.{StationView}
@@ -14,6 +13,12 @@ pub data UserCall : Type 0 where
   Asked : (room : ℕ) → List ℕ → UserCall
   Told : Notice → UserCall
   Handed : List ℕ → UserCall
+
+-- By these calls, one after another, a user came from one state to another.
+unfoldable pub Calls : {U : Type 0} → (U → UserCall → U → Type 0) → U → U → List UserCall → Type 0
+Calls becomes old new [] = old ≡ new
+Calls {U} becomes old new (call ∷ calls) =
+    (mid : U) × becomes old call mid × Calls becomes mid new calls
 
 -- a user is asked where the station runs and has room
 abbrev pub is_user_asked : CoreView → Bool
@@ -30,17 +35,17 @@ abbrev pub calls_of_mail : CoreView → List UserCall
 calls_of_mail k = map Handed k.station.inbox
 
 -- the user was told the notices of a piece of the line, in their order
-abbrev pub TellsNotices : StationView → List ℕ → Option (List UserCall) → Option (List UserCall)
-    → Type 0
-TellsNotices old piece before after =
-    (notices : List Notice) × Logs before after (calls_of_notices notices)
+abbrev pub TellsNotices : {U : Type 0} → (U → UserCall → U → Type 0) → StationView → List ℕ
+    → U → U → Type 0
+TellsNotices becomes old piece before after =
+    (notices : List Notice) × Calls becomes before after (calls_of_notices notices)
     × ((text : List ℕ) → StandsFor old.line text → notices_of_piece text piece old.core ≡ notices)
 
 -- the user was told the notices of a piece, and then handed all mail
-abbrev pub TellsPiece : StationView → List ℕ → Option (List UserCall) → Option (List UserCall)
-    → Type 0
-TellsPiece old came before after =
-    (sights : List UserCall) × Logs before after sights
+abbrev pub TellsPiece : {U : Type 0} → (U → UserCall → U → Type 0) → StationView → List ℕ
+    → U → U → Type 0
+TellsPiece becomes old came before after =
+    (sights : List UserCall) × Calls becomes before after sights
     × ((text : List ℕ) → StandsFor old.line text
     → calls_of_notices (notices_of_piece text came old.core)
     ++ calls_of_mail (after_piece text came old.core) ≡ sights)

@@ -7,7 +7,7 @@ ghost use Rattle.ddcmp_proto.specs.Bytes.{after_poll, after_piece};
 ghost use Rattle.ddcmp_station.specs.Driving.{Drives, devices_of, deadline_at, core_after_take_arm, core_at_deadline, core_after_message, frame_bytes, core_after_mail};
 ghost use Rattle.ddcmp_station.specs.Turns.{TurnEnds, WritesFrame, read_answers_of};
 ghost use Rattle.ddcmp_frame.specs.Device.{Logs};
-ghost use Rattle.ddcmp_station.specs.UserCalls.{calls_of_offer, calls_of_mail, TellsNotices, TellsPiece};
+ghost use Rattle.ddcmp_station.specs.UserCalls.{Calls, calls_of_offer, calls_of_mail, TellsNotices, TellsPiece};
 
 use crate::user::{Clock, User};
 use ddcmp_frame::{Got, Sink, Source, Worst, write_all};
@@ -66,8 +66,8 @@ pub fn drive<R: Source, W: Sink, U: User, C: Clock>(
     requires whole { W.broken writer.old ≡ false }
     requires offset { station.old.line.offset + 256 * turns < 2 ^ 64 }
     ensures drives { Drives timer_ms turns station.old station.new
-        (devices_of R.left R.state R.answers W.contents U.seen C.told reader.old reader.new
-        writer.old writer.new user.old user.new clock.old clock.new) result }
+        (devices_of R.left R.state R.answers W.contents C.told reader.old reader.new
+        writer.old writer.new clock.old clock.new) (Calls U.becomes user.old user.new) result }
 
     // When each fault comes.
     ensures read { (result ≡ Err LineFault.Read) ↔ (R.state reader.new ≡ Worst.Failed) }
@@ -101,8 +101,8 @@ fn run<R: Source, W: Sink, U: User, C: Clock>(
     requires offset { station.old.line.offset + 256 * turns < 2 ^ 64 }
     requires room { station.old.syn + station.old.core.limits.longest + 10 ≤ length frame.old }
     ensures drives { Drives timer_ms turns station.old station.new
-        (devices_of R.left R.state R.answers W.contents U.seen C.told reader.old reader.new
-        writer.old writer.new user.old user.new clock.old clock.new) result }
+        (devices_of R.left R.state R.answers W.contents C.told reader.old reader.new
+        writer.old writer.new clock.old clock.new) (Calls U.becomes user.old user.new) result }
     ensures read { (result ≡ Err LineFault.Read) ↔ (R.state reader.new ≡ Worst.Failed) }
     ensures write { (result ≡ Err LineFault.Write) ↔ (W.broken writer.new ≡ true) }
     ensures ended { result ≡ Err LineFault.Ended → IsAtEnd (R.left reader.new) }
@@ -152,8 +152,8 @@ fn turn<R: Source, W: Sink, U: User, C: Clock>(
     requires written { tally.old.written + MAX_COUNT + 10 + MAX_SYN < 2 ^ 64 }
     ensures takes { TurnEnds timer_ms station.old station.new tally.old tally.new
         (R.state reader.old)
-        (devices_of R.left R.state R.answers W.contents U.seen C.told reader.old reader.new
-        writer.old writer.new user.old user.new clock.old clock.new) result }
+        (devices_of R.left R.state R.answers W.contents C.told reader.old reader.new
+        writer.old writer.new clock.old clock.new) (Calls U.becomes user.old user.new) result }
     ensures read { (result ≡ Err LineFault.Read) ↔ (R.state reader.new ≡ Worst.Failed) }
     ensures write { (result ≡ Err LineFault.Write) ↔ (W.broken writer.new ≡ true) }
     ensures ended { result ≡ Err LineFault.Ended → IsAtEnd (R.left reader.new) }
@@ -197,6 +197,7 @@ fn keep_time(station: &mut Station, now: u64, timer_ms: u32, deadline: &mut Opti
 
 /// Asks the user for a message where the station takes one, and sends it: its length. It stands at
 /// the front of the buffer.
+#[tactic(auto, unfolding(crate::specs::UserCalls::Calls))]
 fn offer_message<U: User>(station: &mut Station, user: &mut U, buffer: &mut [u8]) -> usize
     requires { station.old.core.limits.longest ≤ length buffer.old }
     ensures state { station.new
@@ -204,7 +205,7 @@ fn offer_message<U: User>(station: &mut Station, user: &mut U, buffer: &mut [u8]
           core = core_after_message
               (take result buffer.new) station.old.core;
         } }
-    ensures seen { Logs (U.seen user.old) (U.seen user.new) (calls_of_offer station.old.core
+    ensures seen { Calls U.becomes user.old user.new (calls_of_offer station.old.core
         (take result buffer.new)) }
 {
     if station.state() != State::Running || !station.room() {
@@ -273,8 +274,8 @@ fn receive<R: Source, U: User>(
     ensures write { result ≢ Err LineFault.Write }
     ensures memory { result ≢ Err LineFault.Memory }
     ensures answers { Logs (R.answers reader.old) (R.answers reader.new) (read_answers_of result) }
-    ensures seen { IfOk result (λ n. TellsPiece station.old (take n piece.new) (U.seen user.old)
-        (U.seen user.new)) }
+    ensures seen { IfOk result (λ n. TellsPiece U.becomes station.old (take n piece.new) user.old
+        user.new) }
     ensures unseen { OnErr result (user.new ≡ user.old) }
 {
     let came = match reader.read(piece) {
@@ -298,7 +299,7 @@ fn feed_all<U: User>(station: &mut Station, user: &mut U, piece: &[u8])
     ensures offset { station.new.line.offset ≡ station.old.line.offset + length piece.now }
     ensures limits { station.new.core.limits ≡ station.old.core.limits }
     ensures syn { station.new.syn ≡ station.old.syn }
-    ensures seen { TellsNotices station.old piece.now (U.seen user.old) (U.seen user.new) }
+    ensures seen { TellsNotices U.becomes station.old piece.now user.old user.new }
 {
     let mut at = 0;
     while at < piece.len() {
@@ -314,7 +315,7 @@ fn feed_all<U: User>(station: &mut Station, user: &mut U, piece: &[u8])
 fn hand_up<U: User>(station: &mut Station, user: &mut U, buffer: &mut [u8])
     requires { station.old.core.limits.longest ≤ length buffer.old }
     ensures state { station.new ≡ record station.old { core = core_after_mail station.old.core } }
-    ensures seen { Logs (U.seen user.old) (U.seen user.new) (calls_of_mail station.old.core) }
+    ensures seen { Calls U.becomes user.old user.new (calls_of_mail station.old.core) }
 {
     while let Some(length) = station.take(buffer) {
         user.mail(&buffer[..length]);

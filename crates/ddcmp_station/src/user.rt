@@ -18,24 +18,22 @@ pub trait Clock {
 
 /// The user of a driven station.
 pub trait User {
-    ghost use Rattle.std.specs.Prelude.{◌≤◌, length, take, List, [], ◌∷◌, Option, None};
-    ghost use Rattle.ddcmp_frame.specs.Device.{Logs};
+    ghost use Rattle.std.specs.Prelude.{◌≤◌, length, take};
     ghost use Rattle.ddcmp_station.specs.UserCalls.{UserCall, Asked, Told, Handed};
 
-    // What it saw, where that is known.
-    ghost seen: { Self → Option (List UserCall) } = { λ _. None };
+    // What becomes of it by a call, where that is said.
+    ghost becomes: { Self → UserCall → Self → Type 0 } = { λ _ _ _. Unit {0} };
 
     /// Writes a message to be sent at the front of `out`, and answers its length: 0 for none.
     fn message(&mut self, out: &mut [u8]) -> usize
         ensures within { result ≤ length out.new }
-        ensures seen { Logs (seen self.old) (seen self.new) (Asked (length out.new)
-            (take result out.new) ∷ []) };
+        ensures asked { becomes self.old (Asked (length out.new) (take result out.new)) self.new };
 
     /// Is told what happened.
     fn notice(&mut self, notice: Notice)
-        ensures { Logs (seen self.old) (seen self.new) (Told notice ∷ []) };
+        ensures { becomes self.old (Told notice) self.new };
 
     /// Is handed a message that came.
     fn mail(&mut self, message: &[u8])
-        ensures { Logs (seen self.old) (seen self.new) (Handed message.now ∷ []) };
+        ensures { becomes self.old (Handed message.now) self.new };
 }

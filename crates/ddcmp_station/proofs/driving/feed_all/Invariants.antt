@@ -10,7 +10,7 @@ invariant-loop-at g l = record {
   offset : l.station.line.offset ≡ l.initial.station.line.offset + l.at;
   limits : l.station.core.limits ≡ l.initial.station.core.limits;
   syn : l.station.syn ≡ l.initial.station.syn;
-  seen : TellsNotices l.initial.station (take l.at l.piece) (g.U.User.seen l.initial.user) (g.U.User.seen l.user);
+  seen : TellsNotices g.U.User.becomes l.initial.station (take l.at l.piece) l.initial.user l.user;
 }
 
 abbrev pub decreases-loop-at : goal.decreases-loop-at

@@ -1,6 +1,14 @@
-use Rattle.std.proofs.Common.{sym, ◌∙◌, arith}
+use Rattle.std.proofs.Common.{[], refl, sym, ◌∙◌, arith}
 use Rattle.ddcmp_station.proofs.SeenLaws.{hands-one}
+use Rattle.ddcmp_station.proofs.DriveLaws.{Calls-none}
 use Rattle.ddcmp_station.proofs.driving.hand_up.Goals as goal
+
+pub loop-length-init : goal.loop-length-init
+loop-length-init g c = record {
+  room = c.requires;
+  rest = refl;
+  seen = ([], Calls-none g.U.User.becomes c.args.user.now, refl);
+}
 
 pub loop-length-preserved : goal.loop-length-preserved
 loop-length-preserved g c =
@@ -9,5 +17,5 @@ loop-length-preserved g c =
     record {
       room = rw t.state (omega (arith, i.room, c.take.auto.out));
       rest = rw t.state i.rest;
-      seen = rw t.state (hands-one _ _ _ c.loop-length.station.core.station.inbox _ c.in-Some.length _ _ i.seen (sym t.length ∙ c.in-Some.is) t.out c.mail.ensures);
+      seen = rw t.state (hands-one g.U.User.becomes _ _ _ c.loop-length.station.core.station.inbox _ c.in-Some.length _ _ i.seen (sym t.length ∙ c.in-Some.is) t.out c.mail.ensures);
     }

@@ -11,7 +11,7 @@ loop-done-init g c = record {
   offset = omega arith;
   read = omega arith;
   written = omega arith;
-  taken = none-so-far c.args.timer_ms c.args.station.now _ _ _ _ _ _;
+  taken = none-so-far g.U.User.becomes c.args.user.now c.args.timer_ms c.args.station.now _ _ _ _ _;
 }
 
 is_false : (b : Bool) → (b ≡ true → ⊥) → b ≡ false
@@ -30,11 +30,11 @@ loop-done-preserved g c =
       offset = omega (arith, t.offset, t.read, i.offset);
       read = omega (arith, c.in-Ok.ensures.few.0, i.read);
       written = omega (arith, c.in-Ok.ensures.few.1, i.written);
-      taken = one-more c.args.timer_ms c.loop-done._done c.args.station.now c.loop-done.station c.turn.new.station c.loop-done.tally c.turn.new.tally _ _ _ _ _ _ _ _ _ _ _ _ _ _ _ _ _ i.taken t;
+      taken = one-more g.U.User.becomes c.args.user.now c.loop-done.user c.turn.new.user c.args.timer_ms c.loop-done._done c.args.station.now c.loop-done.station c.turn.new.station c.loop-done.tally c.turn.new.tally _ _ _ _ _ _ _ _ _ _ _ _ _ _ i.taken t;
     }
 
 pub returns-in-Err-clause-drives : goal.returns-in-Err-clause-drives
 returns-in-Err-clause-drives g c =
     let i = c.loop-done.invariant in
-    ends-so c.args.timer_ms c.args.turns _ c.halt.new.self _ c.in-Err.fault
-    (broke c.args.timer_ms c.loop-done._done c.args.turns c.args.station.now c.loop-done.station c.turn.new.station c.halt.new.self c.loop-done.tally _ _ _ _ _ _ _ _ _ _ _ _ _ _ _ _ _ c.in-Err.fault i.taken c.loop-done-test.true c.in-Err.ensures.takes c.halt.ensures)
+    ends-so c.args.timer_ms c.args.turns _ c.halt.new.self _ _ c.in-Err.fault
+    (broke g.U.User.becomes c.args.user.now c.loop-done.user c.turn.new.user c.args.timer_ms c.loop-done._done c.args.turns c.args.station.now c.loop-done.station c.turn.new.station c.halt.new.self c.loop-done.tally _ _ _ _ _ _ _ _ _ _ _ _ _ _ c.in-Err.fault i.taken c.loop-done-test.true c.in-Err.ensures.takes c.halt.ensures)

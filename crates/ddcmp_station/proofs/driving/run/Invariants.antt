@@ -2,6 +2,7 @@ use Rattle.std.proofs.Common.{◌≡◌, ◌≢◌, ◌+◌, ◌*◌, ◌≤◌,
 use Rattle.ddcmp_io.specs.declared.device.Worst.TheVariants.{Failed}
 use Rattle.ddcmp_station.specs.Driving.{devices_of}
 use Rattle.ddcmp_station.specs.Turns.{TurnsSoFar}
+use Rattle.ddcmp_station.specs.UserCalls.{Calls}
 use Rattle.ddcmp_station.proofs.driving.run.Given as goal
 
 abbrev pub invariant-loop-done : goal.invariant-loop-done
@@ -14,6 +15,6 @@ invariant-loop-done g l = record {
   read : l.tally.read ≤ 256 * l._done;
   written : l.tally.written ≤ 16409 * l._done;
   taken : TurnsSoFar l.timer_ms l._done l.initial.station l.station l.tally (devices_of
-      g.R.Source.left g.R.Source.state g.R.Source.answers g.W.Sink.contents g.U.User.seen g.C.Clock.told
-      l.initial.reader l.reader l.initial.writer l.writer l.initial.user l.user l.initial.clock l.clock);
+      g.R.Source.left g.R.Source.state g.R.Source.answers g.W.Sink.contents g.C.Clock.told
+      l.initial.reader l.reader l.initial.writer l.writer l.initial.clock l.clock) (Calls g.U.User.becomes l.initial.user l.user);
 }
