@@ -1,8 +1,8 @@
-use Rattle.std.proofs.Common.{◌≡◌, ◌∙◌, ◌<◌, ℕ, length, take, Result, Ok, Err, ap, sym, refl, subst, zero}
+use Rattle.std.proofs.Common.{◌≡◌, ◌∙◌, ◌<◌, ℕ, length, take, Result, Err, ap, refl, subst}
 use Rattle.ddcmp_run.specs.Run.{PairState, new_pair, run}
 use Rattle.ddcmp_run.specs.InOrder.{IsInOrder}
 use Rattle.ddcmp_pair.specs.declared.running.RunRefusal.{RunRefusal}
-use Rattle.ddcmp_pair.specs.declared.running.RunRefusal.TheVariants.{First, Second, Memory}
+use Rattle.ddcmp_pair.specs.declared.running.RunRefusal.TheVariants.{Memory}
 use Rattle.ddcmp_pair.proofs.running.run.Goals as goal
 
 -- what a refusal for want of memory tells
@@ -18,5 +18,5 @@ pub returns-in-Err-played-clause-memory : goal.returns-in-Err-played-clause-memo
 unfolding done_of pair_of
 returns-in-Err-played-clause-memory c done pair e =
     subst (λ p. (done < length c.args.events.now) × (p ≡ run (take done c.args.events.now) (new_pair c.args.first c.args.second)) × IsInOrder p) (ap (pair_of c.play-played.new.pair) e)
-      (subst (λ n. (n < length c.args.events.now) × (c.play-played.new.pair ≡ run (take n c.args.events.now) (new_pair c.args.first c.args.second)) × IsInOrder c.play-played.new.pair) (ap done_of e)
-        ((c.in-Err-played.ensures.memory _ refl).0, ((c.in-Err-played.ensures.memory _ refl).1 ∙ ap (run (take c.in-Err-played.done c.args.events.now)) c.in-Ok.ensures.made), c.is_run.ensures.order))
+    (subst (λ n. (n < length c.args.events.now) × (c.play-played.new.pair ≡ run (take n c.args.events.now) (new_pair c.args.first c.args.second)) × IsInOrder c.play-played.new.pair) (ap done_of e)
+    ((c.in-Err-played.ensures.memory _ refl).0, ((c.in-Err-played.ensures.memory _ refl).1 ∙ ap (run (take c.in-Err-played.done c.args.events.now)) c.in-Ok.ensures.made), c.is_run.ensures.order))
