@@ -66,3 +66,8 @@ module _ (seen piece bytes : List ℕ) (i n : ℕ) (high : Option ℕ) (inside :
         unexpected = ap first_unexpected (sym all) ∙ unexpected-more (before ++ byte ∷ []) (drop (i + 1) piece) (length before) found ∙ ap Some here;
         left = λ e. let bad : ◌≡◌ {A = Option ℕ} (Some i) None = e in cc;
       }
+
+-- two digits that stand together
+pub decodes-two : (seen piece bytes : List ℕ) (i n : ℕ) (high : Option ℕ) → i < length piece → Decodes Hex seen (take i piece) (record { count = n; unexpected = None }) bytes high → (h v m : ℕ) (after : List ℕ) (next_high : Option ℕ) → i + 1 < length piece → hex_value (get_or piece i 0) ≡ Some h → hex_value (get_or piece (i + 1) 0) ≡ Some v → high ≡ None → n < length bytes → m ≡ n + 1 → after ≡ set bytes n (h * 16 + v) → next_high ≡ None → Decodes Hex seen (take (i + 1 + 1) piece) (record { count = m; unexpected = None }) after next_high
+decodes-two seen piece bytes i n high inside so_far h v m after next_high further eh ev none room em eb el =
+    decodes-low seen piece bytes (i + 1) n (Some h) further (decodes-high seen piece bytes i n high inside so_far h n bytes (Some h) eh none refl refl refl) v h m after next_high ev refl room em eb el

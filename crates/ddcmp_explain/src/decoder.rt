@@ -1,8 +1,8 @@
 //! The bytes that an input spells, piece by piece.
-ghost use Rattle.std.specs.Prelude.{◌≡◌, ◌≤◌, ◌<◌, IfSome, List, ℕ, None, length, option_to_list};
+ghost use Rattle.std.specs.Prelude.{◌≡◌, ◌≤◌, ◌<◌, IfSome, List, ℕ, None, Some, get_or, length, option_to_list};
 ghost use Rattle.std.specs.Option.{ForSome};
 ghost use Rattle.ddcmp_explain.specs.Digits.{is_blank as is_blank_byte};
-ghost use Rattle.ddcmp_explain.specs.Digits.{left_in, unexpected_in};
+ghost use Rattle.ddcmp_explain.specs.Digits.{hex_value as hex_value_of, left_in, unexpected_in};
 
 use crate::form::Form;
 use crate::hex_digits::hex_value;
@@ -67,18 +67,27 @@ impl Decoder {
             → Decodes Form.Hex seen piece.now result bytes.new self.new.high }
     {
         let mut count = 0;
-        for (i, byte) in piece.iter().enumerate() {
-            match hex_value(*byte) {
+        let mut i = 0;
+        while i < piece.len() {
+            match hex_value(piece[i]) {
                 Some(digit) => match self.high {
                     Some(high) => {
                         bytes[count] = high * 16 + digit;
                         count += 1;
                         self.high = None;
                     }
-                    None => self.high = Some(digit),
+                    None => match value_at(piece, i + 1) {
+                        // Most digits stand together.
+                        Some(low) => {
+                            bytes[count] = digit * 16 + low;
+                            count += 1;
+                            i += 1;
+                        }
+                        None => self.high = Some(digit),
+                    },
                 },
                 None => {
-                    if !is_blank(*byte) {
+                    if !is_blank(piece[i]) {
                         return Decoded {
                             count,
                             unexpected: Some(i),
@@ -86,11 +95,25 @@ impl Decoder {
                     }
                 }
             }
+            i += 1;
         }
         Decoded {
             count,
             unexpected: None,
         }
+    }
+}
+
+/// The value of the digit at `i`, where one is there.
+#[inline(always)]
+fn value_at(piece: &[u8], i: usize) -> Option<u8>
+    ensures value { IfSome result (λ v. hex_value_of (get_or piece.now i 0) ≡ Some v) }
+    ensures inside { IfSome result (λ v. (v < 16) × (i < length piece.now)) }
+{
+    if i < piece.len() {
+        hex_value(piece[i])
+    } else {
+        None
     }
 }
 

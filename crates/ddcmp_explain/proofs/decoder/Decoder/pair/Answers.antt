@@ -1,11 +1,21 @@
-use Rattle.std.proofs.Common.{◌∙◌, sym, ap, arith}
-use Rattle.ddcmp_explain.proofs.DecodingLaws.{decodes-blank, decodes-high, decodes-low, decodes-unexpected}
+use Rattle.std.proofs.Common.{◌∙◌, ◌+◌, None, sym, ap, subst, take, arith}
+use Rattle.std.proofs.lemmas.List.{take_all}
+use Rattle.ddcmp_explain.specs.declared.form.Form.TheVariants.{Hex}
+use Rattle.ddcmp_explain.specs.Decoding.{Decodes}
+use Rattle.ddcmp_explain.proofs.DecodingLaws.{decodes-blank, decodes-high, decodes-low, decodes-two, decodes-unexpected}
 use Rattle.ddcmp_explain.proofs.decoder.Decoder.pair.Goals as goal
-use Rattle.ddcmp_explain.proofs.decoder.Decoder.pair.Goals.{in-Some+in-Some-high, in-Some+in-None-high, in-None+else-not-is_blank}
+use Rattle.ddcmp_explain.proofs.decoder.Decoder.pair.Goals.{in-Some+in-Some-high, in-Some+in-None-high+in-Some-value_at, in-Some+in-None-high+in-None-value_at, in-None+else-not-is_blank}
 
 pub returns-then-not-is_blank-clause-decodes : goal.returns-then-not-is_blank-clause-decodes
 returns-then-not-is_blank-clause-decodes c = λ seen u l.
     decodes-unexpected seen c.args.piece.now _ _ _ _ c.loop-i-test.true (c.loop-i.invariant.decodes seen u l) (sym c.if-not-is_blank.ensures) (sym c.in-None.ensures.value)
+
+pub returns-clause-decodes : goal.returns-clause-decodes
+returns-clause-decodes c = λ seen u l.
+    subst (λ t. Decodes Hex seen t (record { count = c.loop-i.count; unexpected = None }) c.loop-i.bytes c.loop-i.self.high) (take_all c.loop-i.i c.args.piece.now (omega (arith, c.loop-i-test.false))) (c.loop-i.invariant.decodes seen u l)
+
+pub returns-clause-within : goal.returns-clause-within
+returns-clause-within c = omega (arith, c.loop-i.invariant.within, c.loop-i.invariant.inside)
 
 pub loop-i-preserved : goal.loop-i-preserved
 loop-i-preserved c =
@@ -14,17 +24,26 @@ loop-i-preserved c =
     elim c.match-hex_value.branch [
       | in-Some+in-Some-high w ↦ record {
         form = ap (λ s. s.form) w.self-is ∙ c.loop-i.invariant.form;
-        within = omega (arith, w.count-is, c.loop-i.invariant.within);
-        decodes = λ seen u l. decodes-low seen c.args.piece.now c.loop-i.bytes c.loop-i.i c.loop-i.count c.loop-i.self.high inside (decoded seen u l) w.in-Some.digit w.in-Some-high.high c.match-hex_value.count c.match-hex_value.bytes c.match-hex_value.self.high (sym w.in-Some.ensures.value) w.in-Some-high.is (omega (arith, c.requires, c.loop-i.auto.bytes, c.loop-i.invariant.within, inside)) w.count-is w.bytes-is (ap (λ s. s.high) w.self-is);
+        within = omega (arith, w.count-is, w.i-is, c.loop-i.invariant.within);
+        inside = omega (arith, w.i-is, inside);
+        decodes = λ seen u l. subst (λ k. Decodes Hex seen (take (k + 1) c.args.piece.now) (record { count = c.match-hex_value.count; unexpected = None }) c.match-hex_value.bytes c.match-hex_value.self.high) (sym w.i-is) (decodes-low seen c.args.piece.now c.loop-i.bytes c.loop-i.i c.loop-i.count c.loop-i.self.high inside (decoded seen u l) w.in-Some.digit w.in-Some-high.high c.match-hex_value.count c.match-hex_value.bytes c.match-hex_value.self.high (sym w.in-Some.ensures.value) w.in-Some-high.is (omega (arith, c.requires, c.loop-i.auto.bytes, c.loop-i.invariant.within, inside)) w.count-is w.bytes-is (ap (λ s. s.high) w.self-is));
       }
-      | in-Some+in-None-high w ↦ record {
+      | in-Some+in-None-high+in-Some-value_at w ↦ record {
         form = ap (λ s. s.form) w.self-is ∙ c.loop-i.invariant.form;
-        within = omega (arith, w.count-is, c.loop-i.invariant.within);
-        decodes = λ seen u l. decodes-high seen c.args.piece.now c.loop-i.bytes c.loop-i.i c.loop-i.count c.loop-i.self.high inside (decoded seen u l) w.in-Some.digit c.match-hex_value.count c.match-hex_value.bytes c.match-hex_value.self.high (sym w.in-Some.ensures.value) w.in-None-high.is w.count-is w.bytes-is (ap (λ s. s.high) w.self-is);
+        within = omega (arith, w.count-is, w.i-is, c.loop-i.invariant.within);
+        inside = omega (arith, w.i-is, w.in-Some-value_at.ensures.inside.1);
+        decodes = λ seen u l. subst (λ k. Decodes Hex seen (take (k + 1) c.args.piece.now) (record { count = c.match-hex_value.count; unexpected = None }) c.match-hex_value.bytes c.match-hex_value.self.high) (sym w.i-is) (decodes-two seen c.args.piece.now c.loop-i.bytes c.loop-i.i c.loop-i.count c.loop-i.self.high inside (decoded seen u l) w.in-Some.digit w.in-Some-value_at.low c.match-hex_value.count c.match-hex_value.bytes c.match-hex_value.self.high w.in-Some-value_at.ensures.inside.1 (sym w.in-Some.ensures.value) w.in-Some-value_at.ensures.value w.in-None-high.is (omega (arith, c.requires, c.loop-i.auto.bytes, c.loop-i.invariant.within, inside)) w.count-is w.bytes-is (ap (λ s. s.high) w.self-is ∙ w.in-None-high.is));
+      }
+      | in-Some+in-None-high+in-None-value_at w ↦ record {
+        form = ap (λ s. s.form) w.self-is ∙ c.loop-i.invariant.form;
+        within = omega (arith, w.count-is, w.i-is, c.loop-i.invariant.within);
+        inside = omega (arith, w.i-is, inside);
+        decodes = λ seen u l. subst (λ k. Decodes Hex seen (take (k + 1) c.args.piece.now) (record { count = c.match-hex_value.count; unexpected = None }) c.match-hex_value.bytes c.match-hex_value.self.high) (sym w.i-is) (decodes-high seen c.args.piece.now c.loop-i.bytes c.loop-i.i c.loop-i.count c.loop-i.self.high inside (decoded seen u l) w.in-Some.digit c.match-hex_value.count c.match-hex_value.bytes c.match-hex_value.self.high (sym w.in-Some.ensures.value) w.in-None-high.is w.count-is w.bytes-is (ap (λ s. s.high) w.self-is));
       }
       | in-None+else-not-is_blank w ↦ record {
         form = ap (λ s. s.form) w.self-is ∙ c.loop-i.invariant.form;
-        within = omega (arith, w.count-is, c.loop-i.invariant.within);
-        decodes = λ seen u l. decodes-blank seen c.args.piece.now c.loop-i.bytes c.loop-i.i c.loop-i.count c.loop-i.self.high inside (decoded seen u l) c.match-hex_value.count c.match-hex_value.bytes c.match-hex_value.self.high (sym w.if-not-is_blank.ensures) (sym w.in-None.ensures.value) w.count-is w.bytes-is (ap (λ s. s.high) w.self-is);
+        within = omega (arith, w.count-is, w.i-is, c.loop-i.invariant.within);
+        inside = omega (arith, w.i-is, inside);
+        decodes = λ seen u l. subst (λ k. Decodes Hex seen (take (k + 1) c.args.piece.now) (record { count = c.match-hex_value.count; unexpected = None }) c.match-hex_value.bytes c.match-hex_value.self.high) (sym w.i-is) (decodes-blank seen c.args.piece.now c.loop-i.bytes c.loop-i.i c.loop-i.count c.loop-i.self.high inside (decoded seen u l) c.match-hex_value.count c.match-hex_value.bytes c.match-hex_value.self.high (sym w.if-not-is_blank.ensures) (sym w.in-None.ensures.value) w.count-is w.bytes-is (ap (λ s. s.high) w.self-is));
       }
     ]

@@ -1,4 +1,4 @@
-use Rattle.std.proofs.Common.{◌≡◌, ◌≤◌, ℕ, List, None, take}
+use Rattle.std.proofs.Common.{◌≡◌, ◌≤◌, ◌-◌, ℕ, List, None, take, length}
 use Rattle.std.specs.Prelude.{option_to_list}
 use Rattle.ddcmp_explain.specs.declared.form.Form.TheVariants.{Hex}
 use Rattle.ddcmp_explain.specs.Digits.{left_in, unexpected_in}
@@ -9,6 +9,10 @@ abbrev pub invariant-loop-i : goal.invariant-loop-i
 invariant-loop-i l = record {
   form : l.self.form ≡ l.initial.self.form;
   within : l.count ≤ l.i;
+  inside : l.i ≤ length l.piece;
   decodes : (seen : List ℕ) → unexpected_in Hex seen ≡ None → left_in Hex seen ≡ option_to_list l.initial.self.high
       → Decodes Hex seen (take l.i l.piece) (record { count = l.count; unexpected = None }) l.bytes l.self.high;
 }
+
+abbrev pub decreases-loop-i : goal.decreases-loop-i
+decreases-loop-i l = length l.piece - l.i
