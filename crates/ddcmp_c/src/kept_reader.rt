@@ -3,7 +3,7 @@ ghost use Rattle.std.specs.Prelude.{◌≡◌, ◌+◌, ◌<◌, ◌≤◌, ◌^
 ghost use Rattle.ddcmp_frame.specs.Reading.{items, open_at_end};
 ghost use Rattle.ddcmp_frame.specs.Reader.{StandsFor, items_given, LentBeside, EndsWith, open_of};
 
-use ddcmp_frame::{MAX_COUNT, Reader, ReaderRefusal, Taken};
+use ddcmp_frame::{MAX_COUNT, Pushed, Reader, ReaderRefusal};
 use std::alloc::Global;
 use std::marker::Model;
 
@@ -51,7 +51,7 @@ impl KeptReader {
     }
 
     /// Takes the bytes of a piece, up to and with the first that gives an item.
-    pub(crate) fn push_all(&mut self, piece: &[u8]) -> Taken
+    pub(crate) fn push_all(&mut self, piece: &[u8]) -> Pushed
         requires { self.old.offset + length piece.now < 2 ^ 64 }
         ensures counted { self.new.offset ≡ self.old.offset + result.used }
         ensures max { self.new.max ≡ self.old.max }

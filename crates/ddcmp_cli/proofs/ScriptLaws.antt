@@ -6,7 +6,7 @@ use Rattle.ddcmp_script.specs.ScriptEnds.{around, Plays}
 use Rattle.ddcmp_script.specs.declared.script_fault.ScriptFault.{ScriptFault}
 use Rattle.ddcmp_script.specs.declared.script_fault.ScriptFault.TheVariants as scripting
 use Rattle.ddcmp_cli.specs.declared.fault.Fault.{Fault}
-use Rattle.ddcmp_cli.specs.declared.fault.Fault.TheVariants.{Carrier, Write}
+use Rattle.ddcmp_cli.specs.declared.fault.Fault.TheVariants.{Carrier, Read, Write}
 use Rattle.ddcmp_cli.specs.declared.ending.Ending.TheVariants.{Fault as Faulted}
 use Rattle.ddcmp_cli.specs.Endings.{script_fault}
 
@@ -31,6 +31,18 @@ wrote scripting.Carrier e = cc
 
 pub told-write : (r : Result (Unit {0}) ScriptFault) (fault : ScriptFault) (made : Fault) → r ≡ Err fault → made ≡ script_fault fault → Faulted made ≡ Faulted Write → r ≡ Err scripting.Write
 told-write r fault made e m k = e ∙ ap Err (wrote fault (sym m ∙ faulted made Write k))
+
+-- and a read that the program tells is the script's
+read : (fault : ScriptFault) → script_fault fault ≡ Read → fault ≡ scripting.Read
+read (scripting.Line n) e = cc
+read (scripting.Hex n) e = cc
+read scripting.Read e = refl
+read scripting.Write e = cc
+read scripting.Memory e = cc
+read scripting.Carrier e = cc
+
+pub told-read : (r : Result (Unit {0}) ScriptFault) (fault : ScriptFault) (made : Fault) → r ≡ Err fault → made ≡ script_fault fault → Faulted made ≡ Faulted Read → r ≡ Err scripting.Read
+told-read r fault made e m k = e ∙ ap Err (read fault (sym m ∙ faulted made Read k))
 
 -- and a carrier that the program tells is the script's
 carried : (fault : ScriptFault) → script_fault fault ≡ Carrier → fault ≡ scripting.Carrier

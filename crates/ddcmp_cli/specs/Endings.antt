@@ -87,7 +87,8 @@ abbrev pub ExplainsOrNoMemory : List Text → List ℕ → Known → Known → K
 ExplainsOrNoMemory words input left old new ending =
     ((ending ≡ Faulted NoMemory) × (left ≡ Some input) × Appends old new [])
     ⊎ ((form : Form) × (max : ℕ) × (result : Result (Unit {0}) ExplainFault)
-    × HasOptions (option_in words) (text_in words) (Explain form max) × (ending ≡ ending_of explain_fault result)
+    × HasOptions (option_in words) (text_in words) (Explain form max)
+    × (ending ≡ ending_of explain_fault result)
     × Explains form max input left old new result)
 
 -- the words were refused, or there was no memory for them
@@ -163,8 +164,8 @@ SendsDecoded served (Ok message) old new ending = Connects served message old ne
 SendsDecoded served (Err refused) old new ending = (ending ≡ Faulted Message) × Keeps old new
 
 -- What became of a station that was asked for. A word that names no role and the digits of more
--- than 1500 bytes are usage, or find no memory to be told; then come digits that spell no bytes, and
--- then the connection. Only a station that is served writes.
+-- than 1500 bytes are usage, or find no memory to be told; then come digits that spell no bytes,
+-- and then the connection. Only a station that is served writes.
 abbrev pub Stations : Served → Known → Known → Ending → Type 0
 Stations served old new ending =
     (((served.role ≡ None) ⊎ (3000 < length served.send.now))

@@ -1,7 +1,8 @@
 //! The program: words in, a command run, and how it ended.
-ghost use Rattle.std.specs.Prelude.{IfErr, OnErr, IsOk, ◌≡◌, ◌≢◌, ◌↔◌, false, IsTrue, IfOk};
+ghost use Rattle.std.specs.Prelude.{IfErr, OnErr, IsOk, ◌≡◌, ◌≢◌, ◌⊎◌, ◌↔◌, false, IsTrue, IfOk};
 ghost use Rattle.std.specs.Prelude.{List, ℕ, Some, codes, map, string_bytes};
 ghost use Rattle.std.specs.IoError.{error_kind};
+ghost use Rattle.ddcmp_io.specs.Input.{GaveMost};
 ghost use Rattle.ddcmp_words.specs.Words.{IsOutOfOrder, IsAsked, Asks, name_of};
 ghost use Rattle.ddcmp_words.specs.declared.served.Served.{Served as ServedValue};
 ghost use Rattle.ddcmp_cli.specs.Endings.{CanRun, Ends, ExplainsOrNoMemory, Performs, Shows};
@@ -35,6 +36,9 @@ fn perform<S: Net<Stream = TcpStream> + time::Clock, R: Source, W: Sink>(
         → Performs command.entry input (R.left reader.new) (W.contents writer.old)
         (W.contents writer.new) result }
     ensures read { R.state reader.new ≢ Worst.Fine → result ≡ Ending.Fault Fault.Read }
+    ensures read_only { name_of command.entry ≢ codes "station"
+        → result ≡ Ending.Fault Fault.Read → (R.state reader.new ≢ Worst.Fine)
+        ⊎ GaveMost (R.left reader.old) (R.left reader.new) }
     ensures write { name_of command.entry ≢ codes "station"
         → (result ≡ Ending.Fault Fault.Write) ↔ IsTrue (W.broken writer.new) }
     ensures whole { result ≡ Ending.Done → W.broken writer.new ≡ false }
@@ -85,6 +89,9 @@ pub fn run<S: Net<Stream = TcpStream> + time::Clock, R: Source, W: Sink>(
     ensures refused { IsOutOfOrder (map (λ word. word.now) words.now)
         → IsTrue (is_refusal result) × (reader.new ≡ reader.old) × (writer.new ≡ writer.old) }
     ensures read { R.state reader.new ≢ Worst.Fine → result ≡ Ending.Fault Fault.Read }
+    ensures read_only { (Asks (map (λ word. word.now) words.now) (codes "station") → ⊥)
+        → result ≡ Ending.Fault Fault.Read → (R.state reader.new ≢ Worst.Fine)
+        ⊎ GaveMost (R.left reader.old) (R.left reader.new) }
     ensures write { (Asks (map (λ word. word.now) words.now) (codes "station") → ⊥)
         → (result ≡ Ending.Fault Fault.Write) ↔ IsTrue (W.broken writer.new) }
     ensures whole { result ≡ Ending.Done → W.broken writer.new ≡ false }
@@ -137,6 +144,9 @@ pub fn run_args<S: Net<Stream = TcpStream> + time::Clock, R: Source, W: Sink>(
         → result ≡ Ending.NotText) }
     ensures untouched { OnErr args ((reader.new ≡ reader.old) × (writer.new ≡ writer.old)) }
     ensures read { R.state reader.new ≢ Worst.Fine → result ≡ Ending.Fault Fault.Read }
+    ensures read_only { (IfOk args (λ words. Asks (map string_bytes words.items) (codes "station"))
+        × IsOk args → ⊥) → result ≡ Ending.Fault Fault.Read → (R.state reader.new ≢ Worst.Fine)
+        ⊎ GaveMost (R.left reader.old) (R.left reader.new) }
     ensures write { (IfOk args (λ words. Asks (map string_bytes words.items) (codes "station"))
         × IsOk args → ⊥) → (result ≡ Ending.Fault Fault.Write) ↔ IsTrue (W.broken writer.new) }
     ensures whole { result ≡ Ending.Done → W.broken writer.new ≡ false }

@@ -1,5 +1,6 @@
 //! Running a script between two ends.
-ghost use Rattle.std.specs.Prelude.{◌≡◌, ◌≢◌, ◌↔◌, false, true, None, Some, IsTrue, List, ℕ};
+ghost use Rattle.std.specs.Prelude.{◌≡◌, ◌≢◌, ◌⊎◌, ◌↔◌, false, true, None, Some, IsTrue, List, ℕ};
+ghost use Rattle.ddcmp_io.specs.Input.{GaveMost};
 ghost use Rattle.ddcmp_station.specs.Config.{first_refusal};
 ghost use Rattle.ddcmp_cli.specs.Endings.{Pairs, PlaysBetween, Simulates};
 
@@ -29,6 +30,8 @@ fn play<R: Source, W: Sink, C: Carrier>(
         → PlaysBetween (C.direct carrier.old) config input (R.left reader.new)
         (W.contents writer.old) (W.contents writer.new) result }
     ensures read { R.state reader.new ≢ Worst.Fine → result ≡ Ending.Fault Fault.Read }
+    ensures read_only { result ≡ Ending.Fault Fault.Read → (R.state reader.new ≢ Worst.Fine)
+        ⊎ GaveMost (R.left reader.old) (R.left reader.new) }
     ensures write { (result ≡ Ending.Fault Fault.Write) ↔ IsTrue (W.broken writer.new) }
     ensures carried { result ≡ Ending.Fault Fault.Carrier → C.broken carrier.new ≡ true }
 {
@@ -55,6 +58,8 @@ pub(crate) fn simulate<R: Source, W: Sink>(
         → Simulates config input (R.left reader.new) (W.contents writer.old)
         (W.contents writer.new) result }
     ensures read { R.state reader.new ≢ Worst.Fine → result ≡ Ending.Fault Fault.Read }
+    ensures read_only { result ≡ Ending.Fault Fault.Read → (R.state reader.new ≢ Worst.Fine)
+        ⊎ GaveMost (R.left reader.old) (R.left reader.new) }
     ensures write { (result ≡ Ending.Fault Fault.Write) ↔ IsTrue (W.broken writer.new) }
 {
     play(alloc, config, &mut Direct, reader, writer)
@@ -75,6 +80,8 @@ pub(crate) fn pair<N: Net<Stream = TcpStream>, R: Source, W: Sink>(
         → Pairs config input (R.left reader.new) (W.contents writer.old)
         (W.contents writer.new) result }
     ensures read { R.state reader.new ≢ Worst.Fine → result ≡ Ending.Fault Fault.Read }
+    ensures read_only { result ≡ Ending.Fault Fault.Read → (R.state reader.new ≢ Worst.Fine)
+        ⊎ GaveMost (R.left reader.old) (R.left reader.new) }
     ensures write { (result ≡ Ending.Fault Fault.Write) ↔ IsTrue (W.broken writer.new) }
 {
     let Ok(mut sockets) = Sockets::new(net) else {

@@ -2,7 +2,6 @@
 use Rattle.std.proofs.Common.{◌≡◌, ◌≢◌, ℕ, ◌<◌, ◌≤◌, Bool, true, false, cond, List, [], ◌∷◌, ◌++◌, length, drop, refl, ap, arith}
 use Rattle.std.specs.Prelude.{◌==◌}
 use Rattle.std.proofs.lemmas.List.{nil_from_length}
-use Rattle.ddcmp_frame.specs.declared.nak.Nak.TheVariants as reason
 use Rattle.ddcmp_window.specs.declared.inbox.Offer.{Offer}
 use Rattle.ddcmp_window.specs.declared.inbox.Offer.TheVariants as offer
 use Rattle.ddcmp_window.specs.Store.{IsStored}
@@ -10,8 +9,8 @@ use Rattle.ddcmp_window.specs.Numbers.{is_within, next_number}
 use Rattle.ddcmp_window.specs.Inbox.{answer_to_offer}
 use Rattle.ddcmp_core.specs.declared.state.State.{State}
 use Rattle.ddcmp_core.specs.declared.state.State.TheVariants.{Halted, IStart, AStart, Running, Maintenance}
-use Rattle.ddcmp_core.specs.declared.state.Reply.{Reply}
-use Rattle.ddcmp_core.specs.declared.state.Reply.TheVariants.{Quiet, Ack, Nak}
+use Rattle.ddcmp_core.specs.declared.state.Owed.{Owed}
+use Rattle.ddcmp_core.specs.declared.state.Owed.TheVariants.{Quiet}
 use Rattle.ddcmp_core.specs.declared.state.Timer.{Timer}
 use Rattle.ddcmp_core.specs.declared.state.Timer.TheVariants.{Off, Fresh, On}
 use Rattle.ddcmp_core.specs.Table.{StationState, Limits, Data, Acked, Naked, Rep, Strt, Stack, Maint, Received, Good, BadHeader, BadData, TooLong, BadFormat, outgoing, incoming, station_begun, new_station, newly_acknowledged, after_ack, before_next, takes_data, has_room, reply_to_offer, after_offer, on_data, on_nak, on_maintenance, on_by, on, after_startup, after_halt, after_restart, may_restart, on_strt, may_start, after_start, after_enter_maintenance, may_send, may_send_maintenance, after_accept, after_take, after_take_arm, after_expire_in, after_expire_with, after_expire, is_running, is_maintenance, is_starting, is_fresh, Next, next, timer_started, after_next}
@@ -28,14 +27,14 @@ halted_other : (p : State) → p ≡ Halted → p ≢ Maintenance
 halted_other p e m = cc
 
 -- another state, other flags and another timer
-flags : (l : Limits) (s : StationState) (p : State) (due : Bool) (reply : Reply) (rep : Bool) (timer : Timer)
+flags : (l : Limits) (s : StationState) (p : State) (due : Bool) (reply : Owed) (rep : Bool) (timer : Timer)
     → (IsSound l s → FitsState (record s { state = p; due = due; reply = reply; rep = rep; timer = timer }))
     → IsSound l s → IsSound l (record s { state = p; due = due; reply = reply; rep = rep; timer = timer })
 flags l s p due reply rep timer f h =
     record { r_byte = h.r_byte; in_window = h.in_window; out_stored = h.out_stored; inbox_stored = h.inbox_stored; fits = f h }
 
 -- the state stays
-same_state : (l : Limits) (s : StationState) (due : Bool) (reply : Reply) (rep : Bool) (timer : Timer) → is_sent_reply reply ≡ true
+same_state : (l : Limits) (s : StationState) (due : Bool) (reply : Owed) (rep : Bool) (timer : Timer) → is_sent_reply reply ≡ true
     → IsSound l s → IsSound l (record s { due = due; reply = reply; rep = rep; timer = timer })
 same_state l s due reply rep timer r h =
     flags l s s.state due reply rep timer
@@ -49,7 +48,7 @@ same_state l s due reply rep timer r h =
     })
     h
 
-to_running : (l : Limits) (s : StationState) (reply : Reply) → is_sent_reply reply ≡ true → IsSound l s → IsSound l (record s { state = Running; due = false; timer = Off; reply = reply })
+to_running : (l : Limits) (s : StationState) (reply : Owed) → is_sent_reply reply ≡ true → IsSound l s → IsSound l (record s { state = Running; due = false; timer = Off; reply = reply })
 to_running l s reply r h =
     flags l s Running false reply s.rep Off
     (λ k. fits_any (record s { state = Running; due = false; reply = reply; timer = Off }) refl (running_other Running refl) r)
@@ -104,10 +103,6 @@ sound_strt l s h = by (may_restart l s) refl
 
 -- ---- what comes at a running station
 
-reply_fits : (b : Bool) (reply other : Reply) → is_sent_reply reply ≡ true → is_sent_reply other ≡ true → is_sent_reply (cond b reply other) ≡ true
-reply_fits true reply other r o = r
-reply_fits false reply other r o = o
-
 sound_acknowledging : (l : Limits) (s : StationState) (q : ℕ) → s.state ≡ Running → q < 256 → IsSound l s → IsSound l (after_ack s q)
 sound_acknowledging l s q e hq h =
     record {
@@ -134,7 +129,7 @@ sound_nak l s q e hq h = by (is_within s.a q s.n)
         }
     by false = h
 
-offer_fits : (o : Offer) (reply : Reply) → is_sent_reply reply ≡ true → is_sent_reply (reply_to_offer o reply) ≡ true
+offer_fits : (o : Offer) (reply : Owed) → is_sent_reply reply ≡ true → is_sent_reply (reply_to_offer o reply) ≡ true
 offer_fits offer.Accepted reply r = refl
 offer_fits offer.NoRoom reply r = refl
 offer_fits offer.OutOfSequence reply r = r
@@ -189,7 +184,10 @@ pub sound_on : (l : Limits) (s : StationState) (e : Received) → IsReceivable l
 unfolding on
 sound_on l s e g h = by s.state refl e g
   where
-    replies : (r : Reply) → is_sent_reply r ≡ true → IsSound l (record s { reply = r })
+    sent : is_sent_reply s.reply ≡ true
+    sent = h.fits.sent_reply
+
+    replies : (r : Owed) → is_sent_reply r ≡ true → IsSound l (record s { reply = r })
     replies r f = same_state l s s.due r s.rep s.timer f h
 
     to_astart : s.state ≡ IStart → IsSound l (record s { state = AStart; due = true; timer = Off })
@@ -213,10 +211,10 @@ sound_on l s e g h = by s.state refl e g
     by Maintenance e (Good (Maint message)) g = sound_maintenance l s message e g.0 g.1 h
     by Maintenance e f g = h
     by IStart e (Good Strt) g = to_astart e
-    by IStart e (Good Stack) g = to_running l s Ack refl h
+    by IStart e (Good Stack) g = to_running l s _ (grind (arith, sent)) h
     by IStart e f g = h
     by AStart e (Good Strt) g = same_state l s true s.reply s.rep s.timer h.fits.sent_reply h
-    by AStart e (Good Stack) g = to_running l s Ack refl h
+    by AStart e (Good Stack) g = to_running l s _ (grind (arith, sent)) h
     by AStart e (Good (Acked resp)) g = go (resp == 0)
       where
         go : (b : Bool) → IsSound l (cond b (after_startup s) s)
@@ -229,16 +227,16 @@ sound_on l s e g h = by s.state refl e g
         go false = h
     by AStart e f g = h
     by Running e (Good Strt) g = sound_strt l s h
-    by Running e (Good Stack) g = replies Ack refl
+    by Running e (Good Stack) g = replies _ (grind (arith, sent))
     by Running e (Good (Acked resp)) g = sound_acknowledging l s resp e g h
     by Running e (Good (Naked why resp)) g = sound_nak l s resp e g h
-    by Running e (Good (Rep num)) g = replies (cond (num == s.r) Ack (Nak reason.ReplyToRep)) (reply_fits (num == s.r) Ack (Nak reason.ReplyToRep) refl refl)
+    by Running e (Good (Rep num)) g = replies _ (grind (arith, sent))
     by Running e (Good (Data resp num message)) g = sound_data l s resp num message e g.0 g.1 g.2 g.3 h
     by Running e (Good (Maint message)) g = h
-    by Running e BadHeader g = replies (Nak reason.HeaderCheck) refl
-    by Running e (BadData b) g = replies (cond b (Nak reason.DataCheck) s.reply) (reply_fits b (Nak reason.DataCheck) s.reply refl h.fits.sent_reply)
-    by Running e (TooLong b) g = replies (cond b (Nak reason.TooLong) s.reply) (reply_fits b (Nak reason.TooLong) s.reply refl h.fits.sent_reply)
-    by Running e BadFormat g = replies (Nak reason.Format) refl
+    by Running e BadHeader g = replies _ (grind (arith, sent))
+    by Running e (BadData b) g = replies _ (grind (arith, sent))
+    by Running e (TooLong b) g = replies _ (grind (arith, sent))
+    by Running e BadFormat g = replies _ (grind (arith, sent))
 
 -- ---- what is sent
 

@@ -1,13 +1,12 @@
 -- Each function of the table keeps the law of the timer.
 use Rattle.std.proofs.Common.{◌≡◌, ℕ, ◌<◌, ◌⊎◌, inl, inr, Bool, true, false, cond, List, [], ◌∷◌, ◌++◌, refl, ap, ◌∙◌, arith}
 use Rattle.std.specs.Prelude.{◌==◌, nat_lt}
-use Rattle.ddcmp_frame.specs.declared.nak.Nak.TheVariants as reason
 use Rattle.ddcmp_window.specs.Numbers.{is_within, next_number}
 use Rattle.ddcmp_window.specs.Sender.{outgoing_before_next}
 use Rattle.ddcmp_core.specs.declared.state.State.{State}
 use Rattle.ddcmp_core.specs.declared.state.State.TheVariants.{Halted, IStart, AStart, Running, Maintenance}
-use Rattle.ddcmp_core.specs.declared.state.Reply.{Reply}
-use Rattle.ddcmp_core.specs.declared.state.Reply.TheVariants.{Quiet, Ack, Nak}
+use Rattle.ddcmp_core.specs.declared.state.Owed.{Owed}
+use Rattle.ddcmp_core.specs.declared.state.Owed.TheVariants.{Quiet}
 use Rattle.ddcmp_core.specs.declared.state.Timer.{Timer}
 use Rattle.ddcmp_core.specs.declared.state.Timer.TheVariants.{Off, Fresh, On}
 use Rattle.ddcmp_core.specs.Table.{StationState, Limits, Data, Acked, Naked, Rep, Strt, Stack, Maint, Received, Good, BadHeader, BadData, TooLong, BadFormat, outgoing, newly_acknowledged, after_ack, after_offer, on_data, on_nak, on_by, on, after_startup, after_halt, after_restart, may_restart, on_strt, new_station, after_start, after_enter_maintenance, after_accept, after_take, after_expire_in, after_expire_with, after_expire, is_fresh, after_take_arm, is_starting, Next, next, timer_started, after_next}
@@ -23,7 +22,7 @@ starting_running : (s : StationState) → s.state ≡ Running → is_starting s.
 starting_running s e = ap is_starting e
 
 -- other replies, and other mail
-timed_reply : (s : StationState) (reply : Reply) → IsTimed s → IsTimed (record s { reply = reply })
+timed_reply : (s : StationState) (reply : Owed) → IsTimed s → IsTimed (record s { reply = reply })
 timed_reply s reply h = record { waits = h.waits; asks = h.asks; begins = h.begins }
 
 timed_lists : (s : StationState) (out inbox : List (List ℕ)) → IsTimed s → IsTimed (record s { out = out; inbox = inbox })
@@ -95,7 +94,7 @@ timed_on l s e h = by s.state refl e
     starting : (p : State) → s.state ≡ p → is_starting p ≡ true → is_starting s.state ≡ true
     starting p e f = ap is_starting e ∙ f
 
-    runs : (reply : Reply) → is_starting s.state ≡ true → IsTimed (record s { state = Running; due = false; timer = Off; reply = reply })
+    runs : (reply : Owed) → is_starting s.state ≡ true → IsTimed (record s { state = Running; due = false; timer = Off; reply = reply })
     runs reply f = timed_reply (after_startup s) reply (timed_running s f h)
 
     by : (p : State) → s.state ≡ p → (e : Received) → IsTimed (on_by p l s e)
@@ -103,10 +102,10 @@ timed_on l s e h = by s.state refl e
     by Maintenance e (Good (Maint message)) = record { waits = h.waits; asks = h.asks; begins = h.begins }
     by Maintenance e f = h
     by IStart e (Good Strt) = record { waits = λ p t. absurd (cc p); asks = λ p t. refl; begins = λ p. h.begins (starting IStart e refl) }
-    by IStart e (Good Stack) = runs Ack (starting IStart e refl)
+    by IStart e (Good Stack) = runs _ (starting IStart e refl)
     by IStart e f = h
     by AStart e (Good Strt) = record { waits = λ p t. absurd (cc (p, e)); asks = λ p t. refl; begins = h.begins }
-    by AStart e (Good Stack) = runs Ack (starting AStart e refl)
+    by AStart e (Good Stack) = runs _ (starting AStart e refl)
     by AStart e (Good (Acked resp)) = go (resp == 0)
       where
         go : (b : Bool) → IsTimed (cond b (after_startup s) s)
@@ -123,12 +122,12 @@ timed_on l s e h = by s.state refl e
     by Running e (Good (Naked why resp)) = timed_nak s resp e h
     by Running e (Good (Rep num)) = timed_reply s _ h
     by Running e (Good Strt) = timed_strt l s
-    by Running e (Good Stack) = timed_reply s Ack h
+    by Running e (Good Stack) = timed_reply s _ h
     by Running e (Good (Maint m)) = h
-    by Running e BadHeader = timed_reply s (Nak reason.HeaderCheck) h
-    by Running e (BadData b) = timed_reply s (cond b (Nak reason.DataCheck) s.reply) h
-    by Running e (TooLong b) = timed_reply s (cond b (Nak reason.TooLong) s.reply) h
-    by Running e BadFormat = timed_reply s (Nak reason.Format) h
+    by Running e BadHeader = timed_reply s _ h
+    by Running e (BadData b) = timed_reply s _ h
+    by Running e (TooLong b) = timed_reply s _ h
+    by Running e BadFormat = timed_reply s _ h
 
 -- a timer that is started
 starting_not : (s : StationState) → s.state ≡ Running → is_starting s.state ≡ true → ⊥
@@ -139,7 +138,7 @@ timer_on Off e = cc e
 timer_on Fresh e = cc e
 timer_on On e = cc e
 
-starts_timer : (s : StationState) (due : Bool) (n t : ℕ) (reply : Reply) (rep : Bool) (timer : Timer) → (timer ≡ Off → ⊥) → (is_starting s.state ≡ true → s.a ≡ n) → IsTimed (record s { due = due; n = n; t = t; reply = reply; rep = rep; timer = timer })
+starts_timer : (s : StationState) (due : Bool) (n t : ℕ) (reply : Owed) (rep : Bool) (timer : Timer) → (timer ≡ Off → ⊥) → (is_starting s.state ≡ true → s.a ≡ n) → IsTimed (record s { due = due; n = n; t = t; reply = reply; rep = rep; timer = timer })
 starts_timer s due n t reply rep timer on begins = record { waits = λ p o. absurd (on o); asks = λ p o. absurd (on o); begins = begins }
 
 fresh_on : Fresh ≡ Off → ⊥

@@ -10,8 +10,8 @@ use Rattle.ddcmp_core.specs.declared.state.State.{State}
 use Rattle.ddcmp_core.specs.declared.state.Timer.{Timer}
 use Rattle.ddcmp_window.specs.Inbox.{InboxView}
 use Rattle.ddcmp_core.specs.declared.state.State.TheVariants.{Running, Maintenance}
-use Rattle.ddcmp_core.specs.declared.state.Reply.{Reply}
-use Rattle.ddcmp_core.specs.declared.state.Reply.TheVariants.{Quiet, Ack, Nak}
+use Rattle.ddcmp_core.specs.declared.state.Owed.{Owed}
+use Rattle.ddcmp_core.specs.declared.state.Owed.TheVariants.{Quiet, Ack, Nak}
 use Rattle.ddcmp_core.specs.declared.state.Timer.TheVariants.{Off}
 use Rattle.ddcmp_core.specs.Table.{Limits, StationState, Data, Acked, Naked, Maint, Received, Good, outgoing, is_starting}
 
@@ -21,7 +21,7 @@ pub record CoreView : Type 0 where
   pub counters : Counters
 
 -- the eleven fields, of which a sender and an inbox hold the numbers and the lists
-abbrev pub state_of : State → Bool → Reply → Bool → Timer → SenderView → InboxView → StationState
+abbrev pub state_of : State → Bool → Owed → Bool → Timer → SenderView → InboxView → StationState
 state_of state due reply rep timer sender inbox = record {
   state = state;
   due = due;
@@ -47,7 +47,7 @@ is_sent_reason reason.TooLong = true
 is_sent_reason reason.Format = true
 is_sent_reason (reason.Other n) = false
 
-abbrev pub is_sent_reply : Reply → Bool
+abbrev pub is_sent_reply : Owed → Bool
 is_sent_reply Quiet = true
 is_sent_reply Ack = true
 is_sent_reply (Nak why) = is_sent_reason why

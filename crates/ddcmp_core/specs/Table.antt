@@ -12,8 +12,8 @@ use Rattle.ddcmp_window.specs.Sender.{Outgoing, outgoing_before_next, accept_ref
 use Rattle.ddcmp_window.specs.Inbox.{Incoming, answer_to_offer, incoming_after_offer, incoming_after_put, incoming_after_take, may_receive}
 use Rattle.ddcmp_core.specs.declared.state.State.{State}
 use Rattle.ddcmp_core.specs.declared.state.State.TheVariants.{Halted, IStart, AStart, Running, Maintenance}
-use Rattle.ddcmp_core.specs.declared.state.Reply.{Reply}
-use Rattle.ddcmp_core.specs.declared.state.Reply.TheVariants.{Quiet, Ack, Nak}
+use Rattle.ddcmp_core.specs.declared.state.Owed.{Owed}
+use Rattle.ddcmp_core.specs.declared.state.Owed.TheVariants.{Quiet, Ack, Nak}
 use Rattle.ddcmp_core.specs.declared.state.Timer.{Timer}
 use Rattle.ddcmp_core.specs.declared.state.Timer.TheVariants.{Off, Fresh, On}
 use Rattle.ddcmp_core.specs.declared.notice.Notice.{Notice}
@@ -43,7 +43,7 @@ pub record StationState : Type 0 where
   pub n : ℕ
   pub a : ℕ
   pub t : ℕ
-  pub reply : Reply
+  pub reply : Owed
   pub rep : Bool
   pub timer : Timer
   pub out : List (List ℕ)
@@ -249,7 +249,7 @@ maintenance_notice l s _ = None
 abbrev pub takes_data : Limits → StationState → ℕ → Bool
 takes_data l s num = may_receive l.room (incoming s) num
 
-abbrev pub reply_to_offer : Offer → Reply → Reply
+abbrev pub reply_to_offer : Offer → Owed → Owed
 reply_to_offer offer.Accepted reply = Ack
 reply_to_offer offer.NoRoom reply = Nak reason.NoBuffer
 reply_to_offer offer.OutOfSequence reply = reply
@@ -413,13 +413,13 @@ after_data s =
       timer = timer_started s.timer;
     }
 
-abbrev pub is_ack : Reply → Bool
+abbrev pub is_ack : Owed → Bool
 is_ack Ack = true
 is_ack _ = false
 
 -- Running: the first of these that fits. A NAK is owed, a REP is to be sent, a message is kept that
 -- isn't sent since the last NAK, or an ACK is owed, which data would have carried.
-abbrev pub next_running : Reply → StationState → Next
+abbrev pub next_running : Owed → StationState → Next
 next_running (Nak why) s = Sends (Naked why s.r) (record s { reply = Quiet })
 next_running reply s =
     if s.rep then Sends (Rep s.n) (record s { rep = false; timer = Fresh })

@@ -3,7 +3,7 @@
 
 mod counters;
 mod input;
-mod laws;
+pub mod laws;
 mod notice;
 mod state;
 mod station_core;
@@ -18,5 +18,5 @@ pub use laws::{
     stays_timed, stops_at_a_strt, tells_what_leaves,
 };
 pub use notice::Notice;
-pub use state::{Reply, State, Timer};
+pub use state::{Owed, State, Timer};
 pub use station_core::{Core, Numbers, StartRefusal};

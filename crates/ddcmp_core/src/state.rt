@@ -18,7 +18,7 @@ pub enum State {
 
 /// What the peer is owed for what it sent.
 #[derive(Clone, Copy, Debug, PartialEq, Eq)]
-pub enum Reply {
+pub enum Owed {
     /// Nothing.
     Quiet,
     /// An ACK, or data that carry it.

@@ -3,7 +3,7 @@ mod receiving;
 mod sending;
 
 use crate::counters::Counters;
-use crate::state::{Reply, State, Timer};
+use crate::state::{Owed, State, Timer};
 use ddcmp_window::{Inbox, SendRefusal, Sender, Seq, Store};
 use std::marker::Model;
 
@@ -35,7 +35,7 @@ pub struct Core<S: Store> {
     state: State,
     /// A STRT or a STACK is to be sent.
     due: bool,
-    reply: Reply,
+    reply: Owed,
     /// A REP is to be sent.
     rep: bool,
     timer: Timer,
@@ -96,7 +96,7 @@ impl<S: Store> Core<S> {
         Core {
             state: State::Halted,
             due: false,
-            reply: Reply::Quiet,
+            reply: Owed::Quiet,
             rep: false,
             timer: Timer::Off,
             sender: Sender::new(out),
@@ -156,7 +156,7 @@ impl<S: Store> Core<S> {
     {
         let dropped = self.sender.reset();
         self.inbox.reset();
-        self.reply = Reply::Quiet;
+        self.reply = Owed::Quiet;
         self.rep = false;
         self.timer = Timer::Off;
         self.state = state;
@@ -170,7 +170,7 @@ impl<S: Store> Core<S> {
     {
         self.state = State::Halted;
         self.due = false;
-        self.reply = Reply::Quiet;
+        self.reply = Owed::Quiet;
         self.rep = false;
         self.timer = Timer::Off;
     }

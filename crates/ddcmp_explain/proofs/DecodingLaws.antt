@@ -1,11 +1,15 @@
 -- What one more byte of a piece makes of what was decoded.
-use Rattle.std.proofs.Common.{◌≡◌, ℕ, ◌+◌, ◌*◌, ◌<◌, true, false, List, [], ◌∷◌, ◌++◌, length, take, drop, set, get_or, refl, sym, ◌∙◌, ap, arith, Option, Some, None, length-append, length-take-le, append_assoc}
+use Rattle.std.proofs.Common.{◌≡◌, ℕ, ◌+◌, ◌*◌, ◌<◌, ◌≤◌, true, false, List, [], ◌∷◌, ◌++◌, length, take, drop, set, map, get_or, refl, sym, ◌∙◌, ap, arith, Option, Some, None, length-append, length-take-le, append_assoc}
 use Rattle.std.specs.Prelude.{option_to_list}
 use Rattle.std.proofs.lemmas.List.{append-nil, take_more, take_more_set, take-append-drop}
+use Rattle.std.proofs.Math.Seq.{take-add}
+use Rattle.std.proofs.lemmas.Simd.{length-chunk}
+use lib.Lanes.{chunk, Each1}
 use Rattle.ddcmp_explain.specs.declared.form.Form.TheVariants.{Hex}
 use Rattle.ddcmp_explain.specs.Digits.{hex_value, is_blank, is_readable, first_unexpected, digits, pairs, left_over, spelled}
 use Rattle.ddcmp_explain.specs.Decoding.{Decodes}
-use Rattle.ddcmp_explain.proofs.DigitLaws.{readable-more, unexpected-here, unexpected-more, digits-more, digits-found, digits-blank, digits-unexpected, digits-digit, pairs-held, pairs-whole, readable-digit, readable-blank, readable-neither}
+use Rattle.ddcmp_explain.proofs.DigitLaws.{readable-more, unexpected-here, unexpected-more, digits-more, digits-found, digits-blank, digits-unexpected, digits-digit, pairs-held, pairs-whole, readable-digit, readable-blank, readable-neither, unexpected-none, digits-none}
+use Rattle.ddcmp_explain.proofs.VectorLaws.{sixteen}
 
 module _ (seen piece bytes : List ℕ) (i n : ℕ) (high : Option ℕ) (inside : i < length piece) (so_far : Decodes Hex seen (take i piece) (record { count = n; unexpected = None }) bytes high) where
   -- what was read, and the next byte
@@ -71,3 +75,41 @@ module _ (seen piece bytes : List ℕ) (i n : ℕ) (high : Option ℕ) (inside :
 pub decodes-two : (seen piece bytes : List ℕ) (i n : ℕ) (high : Option ℕ) → i < length piece → Decodes Hex seen (take i piece) (record { count = n; unexpected = None }) bytes high → (h v m : ℕ) (after : List ℕ) (next_high : Option ℕ) → i + 1 < length piece → hex_value (get_or piece i 0) ≡ Some h → hex_value (get_or piece (i + 1) 0) ≡ Some v → high ≡ None → n < length bytes → m ≡ n + 1 → after ≡ set bytes n (h * 16 + v) → next_high ≡ None → Decodes Hex seen (take (i + 1 + 1) piece) (record { count = m; unexpected = None }) after next_high
 decodes-two seen piece bytes i n high inside so_far h v m after next_high further eh ev none room em eb el =
     decodes-low seen piece bytes (i + 1) n (Some h) further (decodes-high seen piece bytes i n high inside so_far h n bytes (Some h) eh none refl refl refl) v h m after next_high ev refl room em eb el
+
+-- ---- sixteen digits that stand together
+
+module _ (f : ℕ → ℕ) where
+  readable-all : (s t : List ℕ) → first_unexpected s ≡ None → Each1 (λ c. hex_value c ≡ Some (f c)) t → first_unexpected (s ++ t) ≡ None
+  readable-all s [] e h = ap first_unexpected (append-nil s) ∙ e
+  readable-all s (c ∷ t) e h =
+      ap first_unexpected (sym (append_assoc s (c ∷ []) t))
+      ∙ readable-all (s ++ c ∷ []) t (readable-more s c e (readable-digit c (f c) h.0)) h.1
+
+  digits-all : (t : List ℕ) → Each1 (λ c. hex_value c ≡ Some (f c)) t → digits t ≡ map f t
+  digits-all [] h = digits-none
+  digits-all (c ∷ t) h =
+      let readable = readable-digit c (f c) h.0 in
+      digits-more (c ∷ []) t (readable-more [] c unexpected-none readable)
+      ∙ ap (λ d. d ++ digits t) (digits-digit c (f c) readable h.0) ∙ ap (λ d. f c ∷ d) (digits-all t h.1)
+
+  none-left : (t : List ℕ) → length t ≡ 16 → left_over (map f t) ≡ []
+  none-left t long = sixteen (λ t. left_over (map f t) ≡ []) (λ a b c d e f g h i j k l m n o p. refl) t long
+
+pairs-append : (d e : List ℕ) → left_over d ≡ [] → (pairs (d ++ e) ≡ pairs d ++ pairs e) × (left_over (d ++ e) ≡ left_over e)
+pairs-append [] e none = (refl, refl)
+pairs-append (h ∷ []) e none = let bad : ◌≡◌ {A = List ℕ} (h ∷ []) [] = none in cc
+pairs-append (h ∷ l ∷ d) e none = let r = pairs-append d e none in (ap (λ t. (h * 16 + l) ∷ t) r.0, r.1)
+
+pub decodes-eight : (f : ℕ → ℕ) (seen piece bytes : List ℕ) (i n : ℕ) (high : Option ℕ) → i + 16 ≤ length piece → Decodes Hex seen (take i piece) (record { count = n; unexpected = None }) bytes high → high ≡ None → Each1 (λ c. hex_value c ≡ Some (f c)) (chunk i 16 piece) → (after : List ℕ) → take (n + 8) after ≡ take n bytes ++ pairs (map f (chunk i 16 piece))
+    → Decodes Hex seen (take (i + 16) piece) (record { count = n + 8; unexpected = None }) after high
+decodes-eight f seen piece bytes i n high inside so_far none h after put =
+    let t = chunk i 16 piece in
+    let before = seen ++ take i piece in
+    let all : before ++ t ≡ seen ++ take (i + 16) piece = append_assoc seen (take i piece) t ∙ ap (λ x. seen ++ x) (sym (take-add i 16 piece)) in
+    let whole : digits (seen ++ take (i + 16) piece) ≡ digits before ++ map f t = ap digits (sym all) ∙ digits-more before t so_far.unexpected ∙ ap (λ d. digits before ++ d) (digits-all f t h) in
+    let both = pairs-append (digits before) (map f t) (so_far.left refl ∙ ap option_to_list none) in
+    record {
+      whole = ap pairs whole ∙ both.0 ∙ ap (λ x. x ++ pairs (map f t)) so_far.whole ∙ append_assoc (spelled seen) (take n bytes) (pairs (map f t)) ∙ ap (λ x. spelled seen ++ x) (sym put);
+      unexpected = ap first_unexpected (sym all) ∙ readable-all f before t so_far.unexpected h;
+      left = λ _. ap left_over whole ∙ both.1 ∙ none-left f t (length-chunk i 16 piece inside) ∙ sym (ap option_to_list none);
+    }

@@ -4,3 +4,7 @@ pub mod DecodingLaws
 pub mod LinesLaws
 pub mod ExplainLaws
 pub mod TakeLaws
+pub mod PuttingLaws
+pub mod LineLaws
+pub mod VectorLaws
+pub mod DigitVectors

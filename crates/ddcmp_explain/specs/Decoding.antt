@@ -1,9 +1,11 @@
 -- What decoding a piece of an input makes of it.
-use Rattle.std.specs.Prelude.{◌≡◌, ℕ, ◌+◌, List, ◌++◌, length, take, option_to_list, Option, None}
+use Rattle.std.specs.Prelude.{◌≡◌, ℕ, ◌+◌, ◌≤◌, List, ◌++◌, length, map, slice_index, take, option_to_list, Option, Some, None}
+use Rattle.std.specs.Simd.Lanes.{Each1, chunk}
 use Rattle.std.specs.Option.{option_map}
 use Rattle.ddcmp_explain.specs.declared.form.Form.{Form}
 use Rattle.ddcmp_explain.specs.declared.decoder.Decoded.{Decoded}
-use Rattle.ddcmp_explain.specs.Digits.{bytes_of, left_in, unexpected_in}
+use Rattle.ddcmp_explain.specs.declared.hex_digits.TheConstants.{HEX_VALUES}
+use Rattle.ddcmp_explain.specs.Digits.{bytes_of, hex_value, left_in, pairs, unexpected_in}
 
 -- a piece after what was seen: the further bytes that the two spell, their first unexpected byte,
 -- and where there is none the digit that is left over.
@@ -13,3 +15,11 @@ pub record Decodes (form : Form) (seen piece : List ℕ) (decoded : Decoded) (by
   pub unexpected : unexpected_in form (seen ++ piece)
       ≡ option_map (λ i. length seen + i) decoded.unexpected
   pub left : decoded.unexpected ≡ None → left_in form (seen ++ piece) ≡ option_to_list high
+
+-- sixteen digits stand together in a piece, and the eight bytes that they spell were put behind others
+pub record PutsEight (piece : List ℕ) (i : ℕ) (old : List ℕ) (count : ℕ) (new : List ℕ)
+    : Type 0 where
+  pub inside : i + 16 ≤ length piece
+  pub digits : Each1 (λ c. hex_value c ≡ Some (slice_index HEX_VALUES c)) (chunk i 16 piece)
+  pub put : take (count + 8) new
+      ≡ take count old ++ pairs (map (λ c. slice_index HEX_VALUES c) (chunk i 16 piece))

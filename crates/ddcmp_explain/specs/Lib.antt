@@ -3,3 +3,4 @@ pub mod Decoding
 pub mod Text
 pub mod Explains
 pub mod Progress
+pub mod Putting

@@ -1,5 +1,5 @@
 -- The text that says what bytes of a line are, line by line.
-use Rattle.std.specs.Prelude.{[], ℕ, ◌++◌, Bool, List, length, codes, decimal, if◌then◌else◌}
+use Rattle.std.specs.Prelude.{[], ℕ, ◌++◌, Bool, true, false, List, length, codes, decimal, if◌then◌else◌}
 use Rattle.std.specs.List.{flat_map}
 use Rattle.ddcmp_frame.specs.declared.header.Flags.{Flags}
 use Rattle.ddcmp_frame.specs.declared.header.ControlType.{ControlType}
@@ -58,18 +58,19 @@ item_text (DataCheck offset h) = decimal offset ++ codes " data check " ++ heade
 item_text (TooLong offset h) = decimal offset ++ codes " too long " ++ header_text h
 item_text (Format offset fault) = decimal offset ++ codes " format " ++ fault_text fault
 
--- the data of a good frame, in hexadecimal
-abbrev pub data_after : Header → List ℕ → List ℕ
-data_after (Data h) lent = codes " " ++ encode_lower lent
-data_after (Maint h) lent = codes " " ++ encode_lower lent
-data_after (Control h) lent = []
+-- whether an item lends data
+abbrev pub lends : Item → Bool
+lends (Good offset (Data h)) = true
+lends (Good offset (Maint h)) = true
+lends (Good offset (Control h)) = false
+lends (HeaderCheck offset) = false
+lends (DataCheck offset h) = false
+lends (TooLong offset h) = false
+lends (Format offset fault) = false
 
+-- the data of a good frame, in hexadecimal
 abbrev pub data_text : Item → List ℕ → List ℕ
-data_text (Good offset h) lent = data_after h lent
-data_text (HeaderCheck offset) lent = []
-data_text (DataCheck offset h) lent = []
-data_text (TooLong offset h) lent = []
-data_text (Format offset fault) lent = []
+data_text item lent = if lends item then codes " " ++ encode_lower lent else []
 
 -- the line of an item with the data that it lends
 unfoldable pub line_of : ReadItem → List ℕ

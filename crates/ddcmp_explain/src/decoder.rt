@@ -6,6 +6,12 @@ ghost use Rattle.ddcmp_explain.specs.Digits.{hex_value as hex_value_of, left_in,
 
 use crate::form::Form;
 use crate::hex_digits::hex_value;
+use crate::hex_values::put_eight;
+
+/// After how many bytes sixteen digits are looked for again.
+const SHORTEST: usize = 16;
+
+const LONGEST: usize = 1024;
 
 /// Turns an input in either form into bytes, and keeps the digit that is left over.
 #[derive(Drop)]
@@ -68,7 +74,21 @@ impl Decoder {
     {
         let mut count = 0;
         let mut i = 0;
+        // Where sixteen digits don't stand together they are looked for again after a wait, which
+        // doubles up to the longest.
+        let mut tries_at = 0;
+        let mut wait = SHORTEST;
         while i < piece.len() {
+            if put_eight(piece, i, tries_at, self.high, bytes, count) {
+                count += 8;
+                i += 16;
+                wait = SHORTEST;
+                continue;
+            }
+            if tries_at <= i {
+                tries_at = i + wait;
+                wait = LONGEST.min(2 * wait);
+            }
             match hex_value(piece[i]) {
                 Some(digit) => match self.high {
                     Some(high) => {

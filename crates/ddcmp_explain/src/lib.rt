@@ -8,7 +8,10 @@ mod explainer;
 pub mod explaining;
 pub mod form;
 mod hex_digits;
+mod hex_text;
+mod hex_values;
 mod lines;
+mod put;
 mod text;
 
 pub use explain_fault::ExplainFault;

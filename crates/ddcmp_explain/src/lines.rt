@@ -6,7 +6,7 @@ ghost use Rattle.ddcmp_io.specs.Written.{Writes};
 ghost use Rattle.ddcmp_explain.specs.Text.{lines, last_line};
 
 use crate::text::{write_line, write_totals};
-use ddcmp_frame::{Reader, Taken};
+use ddcmp_frame::{Pushed, Reader};
 use ddcmp_io::{Page, Sink, WriteFailed};
 
 /// What the bytes so far say, on its way to a sink.
@@ -50,7 +50,7 @@ impl Lines {
             → HasTold max start (text ++ take result bytes.now) self.new
             (W.broken writer.new) (W.contents writer.new) }
     {
-        let Taken { used, item } = self.frames.push_all(bytes);
+        let Pushed { used, item } = self.frames.push_all(bytes);
         match item {
             Some(item) => {
                 self.items += 1;

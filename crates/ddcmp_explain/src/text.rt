@@ -1,28 +1,36 @@
-//! The text of items, handed to a page piece by piece.
-ghost use Rattle.std.specs.Prelude.{◌≡◌, ◌++◌, decimal};
+//! The text of items.
+ghost use Rattle.std.specs.Prelude.{◌≡◌, ◌+◌, ◌≤◌, ◌++◌, codes, decimal, length};
 ghost use Rattle.ddcmp_io.specs.Written.{HandsOver, output_of};
+ghost use Rattle.ddcmp_explain.specs.Putting.{Puts};
 ghost use Rattle.ddcmp_explain.specs.Text.{kind_text, flags_text, fields_text, counted_text};
-ghost use Rattle.ddcmp_explain.specs.Text.{header_text, fault_text, item_text, data_text, line_of};
+ghost use Rattle.ddcmp_explain.specs.Text.{header_text, fault_text, item_text, lends as lends_data, line_of};
 ghost use Rattle.ddcmp_explain.specs.Text.{totals};
 
-use ddcmp_frame::{ControlType, Counted, Flags, Header, HeaderFault, Item};
-use ddcmp_io::text::{write_hex, write_number};
+use crate::hex_text::write_hex;
+use crate::put::{LINE, put, put_byte, put_number};
+use ddcmp_frame::{ControlType, Counted, Flags, Header, HeaderFault, Item, Short};
+use ddcmp_io::text::write_number;
 use ddcmp_io::{Page, Sink};
 
-fn kind_name(kind: ControlType) -> &'static [u8]
-    ensures { result.now ≡ kind_text kind }
+/// The name of a control frame, up to the number that follows it.
+#[inline(always)]
+fn put_kind(line: &mut [u8; LINE], at: usize, kind: ControlType) -> usize
+    requires { at + 10 ≤ LINE }
+    ensures puts { Puts line.old at line.new result (kind_text kind ++ codes " sub=") }
+    ensures within { result ≤ at + 10 }
 {
     match kind {
-        ControlType::Ack => b"ACK",
-        ControlType::Nak => b"NAK",
-        ControlType::Rep => b"REP",
-        ControlType::Strt => b"STRT",
-        ControlType::Stack => b"STACK",
+        ControlType::Ack => put(line, at, b"ACK sub="),
+        ControlType::Nak => put(line, at, b"NAK sub="),
+        ControlType::Rep => put(line, at, b"REP sub="),
+        ControlType::Strt => put(line, at, b"STRT sub="),
+        ControlType::Stack => put(line, at, b"STACK sub="),
     }
 }
 
 /// Both flags, up to the number that follows them.
-fn flags_name(flags: Flags) -> &'static [u8]
+#[inline(always)]
+fn flags_name(flags: Flags) -> &'static [u8; 14]
     ensures { result.now ≡ flags_text flags }
 {
     match (flags.q, flags.s) {
@@ -33,134 +41,158 @@ fn flags_name(flags: Flags) -> &'static [u8]
     }
 }
 
-fn write_fields<W: Sink>(page: &mut Page, writer: &mut W, flags: Flags, resp: u8, num: u8, addr: u8)
-    ensures { HandsOver (output_of W.broken W.contents writer.old page.old)
-        (output_of W.broken W.contents writer.new page.new) (fields_text flags resp num addr) }
+/// The fields that all headers have.
+#[inline(always)]
+fn put_fields(line: &mut [u8; LINE], at: usize, flags: Flags, resp: u8, num: u8, addr: u8) -> usize
+    requires { at + 34 ≤ LINE }
+    ensures puts { Puts line.old at line.new result (fields_text flags resp num addr) }
+    ensures within { result ≤ at + 34 }
 {
-    page.write(writer, flags_name(flags));
-    write_number(page, writer, resp);
-    page.write(writer, b" num=");
-    write_number(page, writer, num);
-    page.write(writer, b" addr=");
-    write_number(page, writer, addr);
+    let at_resp = put(line, at, flags_name(flags));
+    let behind_resp = put_byte(line, at_resp, resp);
+    let at_num = put(line, behind_resp, b" num=");
+    let behind_num = put_byte(line, at_num, num);
+    let at_addr = put(line, behind_num, b" addr=");
+    put_byte(line, at_addr, addr)
 }
 
-fn write_counted<W: Sink>(page: &mut Page, writer: &mut W, header: &Counted)
-    ensures { HandsOver (output_of W.broken W.contents writer.old page.old)
-        (output_of W.broken W.contents writer.new page.new) (counted_text header.now) }
+fn put_control(line: &mut [u8; LINE], at: usize, header: &Short) -> usize
+    requires { at + 47 ≤ LINE }
+    ensures puts { Puts line.old at line.new result
+        (kind_text header.now.kind ++ codes " sub=" ++ decimal header.now.sub
+        ++ fields_text header.now.flags header.now.resp header.now.num header.now.addr) }
+    ensures within { result ≤ at + 47 }
 {
-    page.write(writer, b" count=");
-    write_number(page, writer, header.count);
-    write_fields(
-        page,
-        writer,
+    let at_sub = put_kind(line, at, header.kind);
+    let behind_sub = put_byte(line, at_sub, header.sub);
+    put_fields(
+        line,
+        behind_sub,
         header.flags,
         header.resp,
         header.num,
         header.addr,
-    );
+    )
 }
 
-fn write_header<W: Sink>(page: &mut Page, writer: &mut W, header: &Header)
-    ensures { HandsOver (output_of W.broken W.contents writer.old page.old)
-        (output_of W.broken W.contents writer.new page.new) (header_text header.now) }
+fn put_counted(line: &mut [u8; LINE], at: usize, header: &Counted) -> usize
+    requires { at + 61 ≤ LINE }
+    ensures puts { Puts line.old at line.new result (counted_text header.now) }
+    ensures within { result ≤ at + 61 }
+{
+    let at_count = put(line, at, b" count=");
+    let behind_count = put_number(line, at_count, header.count as u64);
+    put_fields(
+        line,
+        behind_count,
+        header.flags,
+        header.resp,
+        header.num,
+        header.addr,
+    )
+}
+
+#[inline(always)]
+fn put_header(line: &mut [u8; LINE], at: usize, header: &Header) -> usize
+    requires { at + 66 ≤ LINE }
+    ensures puts { Puts line.old at line.new result (header_text header.now) }
+    ensures within { result ≤ at + 66 }
 {
     match header {
         Header::Data(h) => {
-            page.write(writer, b"DATA");
-            write_counted(page, writer, h);
+            let behind_name = put(line, at, b"DATA");
+            put_counted(line, behind_name, h)
         }
         Header::Maint(h) => {
-            page.write(writer, b"MAINT");
-            write_counted(page, writer, h);
+            let behind_name = put(line, at, b"MAINT");
+            put_counted(line, behind_name, h)
         }
-        Header::Control(h) => {
-            page.write(writer, kind_name(h.kind));
-            page.write(writer, b" sub=");
-            write_number(page, writer, h.sub);
-            write_fields(page, writer, h.flags, h.resp, h.num, h.addr);
-        }
+        Header::Control(h) => put_control(line, at, h),
     }
 }
 
-fn write_fault<W: Sink>(page: &mut Page, writer: &mut W, fault: &HeaderFault)
-    ensures { HandsOver (output_of W.broken W.contents writer.old page.old)
-        (output_of W.broken W.contents writer.new page.new) (fault_text fault.now) }
+fn put_fault(line: &mut [u8; LINE], at: usize, fault: &HeaderFault) -> usize
+    requires { at + 8 ≤ LINE }
+    ensures puts { Puts line.old at line.new result (fault_text fault.now) }
+    ensures within { result ≤ at + 8 }
 {
     match fault {
         HeaderFault::BadType(code) => {
-            page.write(writer, b"type=");
-            write_number(page, writer, *code);
+            let at_code = put(line, at, b"type=");
+            put_byte(line, at_code, *code)
         }
-        HeaderFault::CountZero => page.write(writer, b"count=0"),
-        HeaderFault::NotAStart => page.write(writer, b"start"),
-        HeaderFault::Check => page.write(writer, b"check"),
+        HeaderFault::CountZero => put(line, at, b"count=0"),
+        HeaderFault::NotAStart => put(line, at, b"start"),
+        HeaderFault::Check => put(line, at, b"check"),
     }
 }
 
 /// An offset, a label and a header.
-fn write_labelled<W: Sink>(
-    page: &mut Page,
-    writer: &mut W,
-    offset: u64,
-    label: &[u8],
-    header: &Header,
-)
-    ensures { HandsOver (output_of W.broken W.contents writer.old page.old)
-        (output_of W.broken W.contents writer.new page.new)
+#[inline(always)]
+fn put_labelled(line: &mut [u8; LINE], offset: u64, label: &[u8], header: &Header) -> usize
+    requires { length label.now ≤ 12 }
+    ensures puts { Puts line.old 0 line.new result
         (decimal offset ++ label.now ++ header_text header.now) }
+    ensures within { result ≤ 98 }
 {
-    write_number(page, writer, offset);
-    page.write(writer, label);
-    write_header(page, writer, header);
+    let behind_offset = put_number(line, 0, offset);
+    let at_header = put(line, behind_offset, label);
+    put_header(line, at_header, header)
 }
 
 /// What an item is, without the data that it lends.
 #[tactic(auto, unfolding(crate::specs::Text::item_text))]
-fn write_item<W: Sink>(page: &mut Page, writer: &mut W, item: &Item)
-    ensures { HandsOver (output_of W.broken W.contents writer.old page.old)
-        (output_of W.broken W.contents writer.new page.new) (item_text item.now) }
+pub(crate) fn put_item(line: &mut [u8; LINE], item: &Item) -> usize
+    ensures puts { Puts line.old 0 line.new result (item_text item.now) }
+    ensures within { result ≤ 98 }
 {
     match item {
-        Item::Good(offset, header) => write_labelled(page, writer, *offset, b" ", header),
+        Item::Good(offset, header) => put_labelled(line, *offset, b" ", header),
         Item::HeaderCheck(offset) => {
-            write_number(page, writer, *offset);
-            page.write(writer, b" header check");
+            let behind_offset = put_number(line, 0, *offset);
+            put(line, behind_offset, b" header check")
         }
-        Item::DataCheck(offset, header) => {
-            write_labelled(page, writer, *offset, b" data check ", header);
-        }
-        Item::TooLong(offset, header) => {
-            write_labelled(page, writer, *offset, b" too long ", header);
-        }
+        Item::DataCheck(offset, header) => put_labelled(line, *offset, b" data check ", header),
+        Item::TooLong(offset, header) => put_labelled(line, *offset, b" too long ", header),
         Item::Format(offset, fault) => {
-            write_number(page, writer, *offset);
-            page.write(writer, b" format ");
-            write_fault(page, writer, fault);
+            let behind_offset = put_number(line, 0, *offset);
+            let at_fault = put(line, behind_offset, b" format ");
+            put_fault(line, at_fault, fault)
         }
     }
 }
 
-/// The data that a good frame with data lends.
-fn write_data<W: Sink>(page: &mut Page, writer: &mut W, item: &Item, data: &[u8])
-    ensures { HandsOver (output_of W.broken W.contents writer.old page.old)
-        (output_of W.broken W.contents writer.new page.new) (data_text item.now «data».now) }
+/// Whether an item lends data.
+#[inline(always)]
+fn lends(item: &Item) -> bool
+    ensures { result ≡ lends_data item.now }
 {
-    if let Item::Good(_, Header::Data(_) | Header::Maint(_)) = item {
-        page.write(writer, b" ");
-        write_hex(page, writer, data);
+    match item {
+        Item::Good(_, Header::Data(_) | Header::Maint(_)) => true,
+        Item::Good(_, Header::Control(_))
+        | Item::HeaderCheck(_)
+        | Item::DataCheck(_, _)
+        | Item::TooLong(_, _)
+        | Item::Format(_, _) => false,
     }
 }
 
 /// The line of an item, with the data that it lends.
-#[tactic(auto, unfolding(crate::specs::Text::line_of))]
 pub(crate) fn write_line<W: Sink>(page: &mut Page, writer: &mut W, item: &Item, data: &[u8])
     ensures { HandsOver (output_of W.broken W.contents writer.old page.old)
         (output_of W.broken W.contents writer.new page.new) (line_of (item.now, «data».now)) }
 {
-    write_item(page, writer, item);
-    write_data(page, writer, item, data);
-    page.write(writer, b"\n");
+    let mut line = [0; LINE];
+    let behind_item = put_item(&mut line, item);
+    if lends(item) {
+        let end = put(&mut line, behind_item, b" ");
+        page.write(writer, &line[..end]);
+        write_hex(page, writer, data);
+        page.write(writer, b"\n");
+    } else {
+        let end = put(&mut line, behind_item, b"\n");
+        page.write(writer, &line[..end]);
+    }
 }
 
 /// The last line: how many items, how many bytes, and how many of these of an unfinished frame.

@@ -1,6 +1,6 @@
 -- Laws of any reading by rows.
 use Rattle.std.proofs.Common.{◌≡◌, ℕ, zero, suc, ◌≤◌, List, refl, sym, ◌∙◌, ap, subst, arith, Option, Some, None, append_assoc}
-use Rattle.ddcmp_frame.specs.Rows.{Outcome, outcome_after, outcome_at_end, read_for, read_rows, Falls}
+use Rattle.ddcmp_frame.specs.Rows.{RowResult, outcome_after, outcome_at_end, read_for, read_rows, Falls}
 
 module _ {I P : Type 0} (row : P → Option (List I × P)) (weight : P → ℕ) (falls : Falls row weight) where
   read_for-none : (n : ℕ) (p : P) → row p ≡ None → read_for row n p ≡ outcome_at_end p
@@ -43,7 +43,7 @@ module _ {I P : Type 0} (row : P → Option (List I × P)) (weight : P → ℕ) 
       ∙ read_for-some (weight p) p r e
       ∙ ap (outcome_after r.0) (enough (weight p) (weight r.1) r.1 (omega arith) (omega arith))
 
-  along : (Q : P → Outcome I P → Type 0) → ((p : P) → row p ≡ None → Q p (outcome_at_end p)) → ((p : P) (r : List I × P) → row p ≡ Some r → Q r.1 (read_rows row weight r.1) → Q p (outcome_after r.0 (read_rows row weight r.1))) → (n : ℕ) (p : P) → weight p ≤ n → Q p (read_rows row weight p)
+  along : (Q : P → RowResult I P → Type 0) → ((p : P) → row p ≡ None → Q p (outcome_at_end p)) → ((p : P) (r : List I × P) → row p ≡ Some r → Q r.1 (read_rows row weight r.1) → Q p (outcome_after r.0 (read_rows row weight r.1))) → (n : ℕ) (p : P) → weight p ≤ n → Q p (read_rows row weight p)
   along Q ends goes zero p l =
       let e = weightless p (omega arith) in
       subst (Q p) (sym (read-none p e)) (ends p e)
@@ -56,7 +56,7 @@ module _ {I P : Type 0} (row : P → Option (List I × P)) (weight : P → ℕ) 
           subst (Q p) (sym (read-some p r e)) (goes p r e (ih r.1 (omega arith)))
 
   -- induction along a reading
-  pub by_rows : (Q : P → Outcome I P → Type 0) → ((p : P) → row p ≡ None → Q p (outcome_at_end p)) → ((p : P) (r : List I × P) → row p ≡ Some r → Q r.1 (read_rows row weight r.1) → Q p (outcome_after r.0 (read_rows row weight r.1))) → (p : P) → Q p (read_rows row weight p)
+  pub by_rows : (Q : P → RowResult I P → Type 0) → ((p : P) → row p ≡ None → Q p (outcome_at_end p)) → ((p : P) (r : List I × P) → row p ≡ Some r → Q r.1 (read_rows row weight r.1) → Q p (outcome_after r.0 (read_rows row weight r.1))) → (p : P) → Q p (read_rows row weight p)
   by_rows Q ends goes p = along Q ends goes (weight p) p (omega arith)
 
   pub ends_stuck : (p : P) → row (read_rows row weight p).place ≡ None

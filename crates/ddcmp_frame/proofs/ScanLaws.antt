@@ -16,7 +16,7 @@ use Rattle.ddcmp_frame.specs.Rows.{outcome_after}
 use Rattle.ddcmp_frame.specs.Reading.{Place, place_after, count_of, data_after_header, is_data_right, by_length, by_count, read, row, items, ending, with_more}
 use Rattle.ddcmp_frame.specs.Resume.{from_start}
 use Rattle.ddcmp_frame.specs.Reader.{ReaderView, Summarises, StandsFor, LentBeside, EndsWith, items_given, candidate_length, bytes_to_come}
-use Rattle.ddcmp_frame.specs.Scan.{IsSound, HasHeader, HasFrame, Fits, bytes_in, skipped_in, left_in, view_of, GrowsBy, Takes, TakesAll}
+use Rattle.ddcmp_frame.specs.Scan.{IsSoundScan, HasHeader, HasFrame, FitsPhase, bytes_in, skipped_in, left_in, view_of, GrowsBy, TakesPiece, TakesAll}
 use Rattle.ddcmp_frame.proofs.Tests.{ltb-is, ltb-isnt, false-true, some-none}
 use Rattle.ddcmp_frame.proofs.WireLaws.{frame_length-counted}
 use Rattle.ddcmp_frame.proofs.ReadingLaws.{read-none, read-some, read-nothing, items-more, ending-more, ending-offset, ending-suffix, row-passes, row-waits, row-by}
@@ -330,9 +330,9 @@ pub record HeaderMore (s : Scan) (u x : List ℕ) (at : ℕ) : Type 0 where
   pub start : is_start (slice_index x 0) ≡ true
   pub quiet : Quiet (view_of s) u at
 
-pub header-more : (s : Scan) (u x : List ℕ) (at : ℕ) → IsSound s → s.phase ≡ phase.Header → x ≡ s.buffer.items ++ u → length x ≤ 8 → at + length s.buffer.items ≡ s.offset → HeaderMore s u x at
+pub header-more : (s : Scan) (u x : List ℕ) (at : ℕ) → IsSoundScan s → s.phase ≡ phase.Header → x ≡ s.buffer.items ++ u → length x ≤ 8 → at + length s.buffer.items ≡ s.offset → HeaderMore s u x at
 header-more s u x at sound phase is few front =
-    let fits : HasHeader s.buffer.items = subst (λ p. Fits s.max p s.buffer.items) phase sound.fits in
+    let fits : HasHeader s.buffer.items = subst (λ p. FitsPhase s.max p s.buffer.items) phase sound.fits in
     let all : bytes_in s.phase s.buffer.items ≡ s.buffer.items = ap (λ p. bytes_in p s.buffer.items) phase in
     let lx = ap length is ∙ length-append s.buffer.items u in
     record {
@@ -369,10 +369,10 @@ pub record FrameMore (s : Scan) (h : Header) (n : ℕ) (u x : List ℕ) (at : �
   pub taken : n ≤ s.max
   pub quiet : Quiet (view_of s) u at
 
-pub frame-more : (s : Scan) (h : Header) (n : ℕ) (u x : List ℕ) (at : ℕ) → IsSound s → s.phase ≡ phase.Frame h n → x ≡ s.buffer.items ++ u → length x ≤ n + 10 → at + length s.buffer.items ≡ s.offset → FrameMore s h n u x at
+pub frame-more : (s : Scan) (h : Header) (n : ℕ) (u x : List ℕ) (at : ℕ) → IsSoundScan s → s.phase ≡ phase.Frame h n → x ≡ s.buffer.items ++ u → length x ≤ n + 10 → at + length s.buffer.items ≡ s.offset → FrameMore s h n u x at
 frame-more s h n u x at sound phase is few front =
     let t = s.buffer.items in
-    let fits : HasFrame s.max h n t = subst (λ p. Fits s.max p t) phase sound.fits in
+    let fits : HasFrame s.max h n t = subst (λ p. FitsPhase s.max p t) phase sound.fits in
     let all : bytes_in s.phase t ≡ t = ap (λ p. bytes_in p t) phase in
     let lx = ap length is ∙ length-append t u in
     record {
@@ -392,7 +392,7 @@ frame-more s h n u x at sound phase is few front =
 
 -- ---- a step, where it gives nothing
 
-pub takes-nothing : (v w : ReaderView) (piece : List ℕ) (used : ℕ) → used ≤ length piece → 0 < used → w.offset ≡ v.offset + used → w.max ≡ v.max → w.lent ≡ [] → ((text : List ℕ) → StandsFor v text → GrowsBy v (take used piece) None w text) → Takes v piece used None w
+pub takes-nothing : (v w : ReaderView) (piece : List ℕ) (used : ℕ) → used ≤ length piece → 0 < used → w.offset ≡ v.offset + used → w.max ≡ v.max → w.lent ≡ [] → ((text : List ℕ) → StandsFor v text → GrowsBy v (take used piece) None w text) → TakesPiece v piece used None w
 takes-nothing v w piece used within some counted same unlent grows = record {
   within = within;
   some = some;
@@ -405,9 +405,9 @@ takes-nothing v w piece used within some counted same unlent grows = record {
 
 -- ---- what a step that takes some of a header or a frame begins with
 
-pub header-few : (s : Scan) → IsSound s → s.phase ≡ phase.Header → length s.buffer.items < 8
+pub header-few : (s : Scan) → IsSoundScan s → s.phase ≡ phase.Header → length s.buffer.items < 8
 header-few s sound phase =
-    let fits : HasHeader s.buffer.items = subst (λ p. Fits s.max p s.buffer.items) phase sound.fits in
+    let fits : HasHeader s.buffer.items = subst (λ p. FitsPhase s.max p s.buffer.items) phase sound.fits in
     fits.few
 
 pub record HeaderTaken (s : Scan) (piece : List ℕ) (used : ℕ) (x : List ℕ) : Type 0 where
@@ -416,7 +416,7 @@ pub record HeaderTaken (s : Scan) (piece : List ℕ) (used : ℕ) (x : List ℕ)
   pub before : length s.buffer.items ≤ s.offset
   pub more : (at : ℕ) → at + length s.buffer.items ≡ s.offset → HeaderMore s (take used piece) x at
 
-pub header-taken : (s : Scan) (piece : List ℕ) (used : ℕ) (x : List ℕ) → IsSound s → s.phase ≡ phase.Header → used ≤ length piece → length s.buffer.items + used ≤ 8 → x ≡ s.buffer.items ++ take used piece → HeaderTaken s piece used x
+pub header-taken : (s : Scan) (piece : List ℕ) (used : ℕ) (x : List ℕ) → IsSoundScan s → s.phase ≡ phase.Header → used ≤ length piece → length s.buffer.items + used ≤ 8 → x ≡ s.buffer.items ++ take used piece → HeaderTaken s piece used x
 header-taken s piece used x sound phase within eight is =
     let lu = length-take-le used piece within in
     let lx = ap length is ∙ length-append s.buffer.items (take used piece) in
@@ -435,7 +435,7 @@ pub record EightTaken (s : Scan) (piece : List ℕ) (used : ℕ) (x : List ℕ) 
   pub before : 8 ≤ s.offset + used
   pub more : HeaderMore s (take used piece) x (s.offset + used - 8)
 
-pub eight-taken : (s : Scan) (piece : List ℕ) (used : ℕ) (x : List ℕ) → IsSound s → s.phase ≡ phase.Header → used ≤ length piece → length s.buffer.items + used ≤ 8 → x ≡ s.buffer.items ++ take used piece → 8 ≤ length x → EightTaken s piece used x
+pub eight-taken : (s : Scan) (piece : List ℕ) (used : ℕ) (x : List ℕ) → IsSoundScan s → s.phase ≡ phase.Header → used ≤ length piece → length s.buffer.items + used ≤ 8 → x ≡ s.buffer.items ++ take used piece → 8 ≤ length x → EightTaken s piece used x
 eight-taken s piece used x sound phase within few is full =
     let t = header-taken s piece used x sound phase within few is in
     record {
@@ -457,9 +457,9 @@ after-taking v w piece used taken same counted = record {
   left = refl;
 }
 
-pub frame-short : (s : Scan) (h : Header) (n : ℕ) → IsSound s → s.phase ≡ phase.Frame h n → length s.buffer.items < n + 10
+pub frame-short : (s : Scan) (h : Header) (n : ℕ) → IsSoundScan s → s.phase ≡ phase.Frame h n → length s.buffer.items < n + 10
 frame-short s h n sound phase =
-    let fits : HasFrame s.max h n s.buffer.items = subst (λ p. Fits s.max p s.buffer.items) phase sound.fits in
+    let fits : HasFrame s.max h n s.buffer.items = subst (λ p. FitsPhase s.max p s.buffer.items) phase sound.fits in
     fits.short
 
 pub record FrameTaken (s : Scan) (h : Header) (n : ℕ) (piece : List ℕ) (used : ℕ) (x : List ℕ) : Type 0 where
@@ -468,7 +468,7 @@ pub record FrameTaken (s : Scan) (h : Header) (n : ℕ) (piece : List ℕ) (used
   pub before : length s.buffer.items ≤ s.offset
   pub more : (at : ℕ) → at + length s.buffer.items ≡ s.offset → FrameMore s h n (take used piece) x at
 
-pub frame-taken : (s : Scan) (h : Header) (n : ℕ) (piece : List ℕ) (used : ℕ) (x : List ℕ) → IsSound s → s.phase ≡ phase.Frame h n → used ≤ length piece → length s.buffer.items + used ≤ n + 10 → x ≡ s.buffer.items ++ take used piece → FrameTaken s h n piece used x
+pub frame-taken : (s : Scan) (h : Header) (n : ℕ) (piece : List ℕ) (used : ℕ) (x : List ℕ) → IsSoundScan s → s.phase ≡ phase.Frame h n → used ≤ length piece → length s.buffer.items + used ≤ n + 10 → x ≡ s.buffer.items ++ take used piece → FrameTaken s h n piece used x
 frame-taken s h n piece used x sound phase within whole is =
     let lu = length-take-le used piece within in
     let lx = ap length is ∙ length-append s.buffer.items (take used piece) in
@@ -503,7 +503,7 @@ pub record Resumed (max : ℕ) (p : Phase) (y : List ℕ) : Type 0 where
   pub bytes : bytes_in p y ≡ y
   pub skipped : skipped_in p ≡ 0
   pub left : left_in p ≡ 0
-  pub fits : Fits max p y
+  pub fits : FitsPhase max p y
 
 pub resumed : (max : ℕ) (p : Phase) (x y seen : List ℕ) → length x ≡ 8 → y ≡ from_start (drop 1 x) → seen ≡ y → (length seen ≡ 0 → p ≡ phase.Seeking) → (0 < length seen → p ≡ phase.Header) → Resumed max p y
 resumed max p x y seen eight is same none some =
@@ -524,7 +524,7 @@ loss-lends at lost given lent told none =
     elim told [ inl yes_lost ↦ subst (λ g. LentBeside g lent) (sym yes_lost.1) none | inr not_lost ↦ subst (λ g. LentBeside g lent) (sym not_lost.1) none ]
 
 -- a step that gives an item
-pub takes-item : (v w : ReaderView) (piece : List ℕ) (used : ℕ) (given : Option Item) → used ≤ length piece → 0 < used → w.offset ≡ v.offset + used → w.max ≡ v.max → LentBeside given w.lent → length w.lent ≤ v.max → ((text : List ℕ) → StandsFor v text → GrowsBy v (take used piece) given w text) → Takes v piece used given w
+pub takes-item : (v w : ReaderView) (piece : List ℕ) (used : ℕ) (given : Option Item) → used ≤ length piece → 0 < used → w.offset ≡ v.offset + used → w.max ≡ v.max → LentBeside given w.lent → length w.lent ≤ v.max → ((text : List ℕ) → StandsFor v text → GrowsBy v (take used piece) given w text) → TakesPiece v piece used given w
 takes-item v w piece used given within some counted same lent lent_within grows = record {
   within = within;
   some = some;
@@ -593,7 +593,7 @@ grows-on old mid new piece a b given text la lb same f g =
         ∙ ap (λ m. items m (text ++ take a piece)) same
         ∙ quiet
 
-pub part-more : (old mid new : ReaderView) (piece : List ℕ) (a b : ℕ) → TakesPart old piece a mid → Takes mid (drop a piece) b None new → TakesPart old piece (a + b) new
+pub part-more : (old mid new : ReaderView) (piece : List ℕ) (a b : ℕ) → TakesPart old piece a mid → TakesPiece mid (drop a piece) b None new → TakesPart old piece (a + b) new
 part-more old mid new piece a b p t = record {
   within = omega (arith, length-drop a piece, p.within, t.within);
   counted = omega (arith, p.counted, t.counted);
@@ -603,7 +603,7 @@ part-more old mid new piece a b p t = record {
       grows-on old mid new piece a b None text p.within t.within p.max f (t.grows (text ++ take a piece) f.stands);
 }
 
-pub part-last : (old mid new : ReaderView) (piece : List ℕ) (a b : ℕ) (item : Item) → TakesPart old piece a mid → Takes mid (drop a piece) b (Some item) new → TakesAll old piece (a + b) (Some item) new
+pub part-last : (old mid new : ReaderView) (piece : List ℕ) (a b : ℕ) (item : Item) → TakesPart old piece a mid → TakesPiece mid (drop a piece) b (Some item) new → TakesAll old piece (a + b) (Some item) new
 part-last old mid new piece a b item p t = record {
   within = omega (arith, length-drop a piece, p.within, t.within);
   whole = λ none. absurd (some-none none);
@@ -638,7 +638,7 @@ stands-unlent v lent text s = record {
 }
 
 -- the items that a step over one byte adds
-pub one-byte : (v w : ReaderView) (b used : ℕ) (given : Option Item) (text : List ℕ) → Takes (record v { lent = [] }) (b ∷ []) used given w → StandsFor v text → items v.max (text ++ b ∷ []) ≡ items v.max text ++ items_given given w.lent
+pub one-byte : (v w : ReaderView) (b used : ℕ) (given : Option Item) (text : List ℕ) → TakesPiece (record v { lent = [] }) (b ∷ []) used given w → StandsFor v text → items v.max (text ++ b ∷ []) ≡ items v.max text ++ items_given given w.lent
 one-byte v w b used given text t s =
     let single : used ≡ 1 = omega (arith, t.within, t.some) in
     (subst (λ n. GrowsBy (record v { lent = [] }) (take n (b ∷ [])) given w text) single (t.grows text (stands-unlent v [] text s))).items

@@ -9,7 +9,7 @@ use Rattle.ddcmp_frame.specs.declared.item.Item.{Item}
 use Rattle.ddcmp_frame.specs.declared.item.Item.TheVariants.{Good, HeaderCheck, DataCheck, TooLong, Format}
 pub use Rattle.ddcmp_frame.specs.Spelling.{is_start}
 use Rattle.ddcmp_frame.specs.Spelling.{parsed}
-use Rattle.ddcmp_frame.specs.Rows.{Outcome, read_rows}
+use Rattle.ddcmp_frame.specs.Rows.{RowResult, read_rows}
 
 -- An item with the data that a reader lends beside it.
 abbrev pub ReadItem : Type 0
@@ -93,7 +93,7 @@ abbrev pub weight : Place → ℕ
 weight p = 2 * length p.rest + (if p.told then 0 else 1)
 
 -- reading on from a place, row after row
-unfoldable pub read : ℕ → Place → Outcome ReadItem Place
+unfoldable pub read : ℕ → Place → RowResult ReadItem Place
 read max p = read_rows (row max) weight p
 
 abbrev pub beginning : List ℕ → Place

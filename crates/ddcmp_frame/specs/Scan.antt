@@ -63,26 +63,26 @@ pub record HasFrame (max : ℕ) (h : HeaderValue) (count : ℕ) (bytes : List �
   pub taken : count ≤ max
 
 -- what holds of the bytes in the buffer
-abbrev pub Fits : ℕ → Phase → List ℕ → Type 0
-Fits max Seeking bytes = Unit {0}
-Fits max Header bytes = HasHeader bytes
-Fits max (Frame h n) bytes = HasFrame max h n bytes
-Fits max (TooLong skipped left) bytes = (0 < left) × (skipped + left ≤ MAX_COUNT + 10)
+abbrev pub FitsPhase : ℕ → Phase → List ℕ → Type 0
+FitsPhase max Seeking bytes = Unit {0}
+FitsPhase max Header bytes = HasHeader bytes
+FitsPhase max (Frame h n) bytes = HasFrame max h n bytes
+FitsPhase max (TooLong skipped left) bytes = (0 < left) × (skipped + left ≤ MAX_COUNT + 10)
 
 -- The buffer was reserved for the longest frame that is taken.
-pub record IsSound (s : Scan) : Type 0 where
+pub record IsSoundScan (s : Scan) : Type 0 where
   pub some : 0 < s.max
   pub most : s.max ≤ MAX_COUNT
   pub reserved : s.max + 10 ≤ vec_capacity s.buffer
   pub held : vec_len s.buffer ≤ s.max + 10
   pub before : length (bytes_in s.phase s.buffer.items) ≤ s.offset
-  pub fits : Fits s.max s.phase s.buffer.items
+  pub fits : FitsPhase s.max s.phase s.buffer.items
   pub lent : 0 < s.lent → 8 + s.lent ≤ vec_len s.buffer
   pub lent_within : s.lent ≤ s.max
 
 -- It lends nothing, and there is a piece to take from.
 pub record IsReady (s : Scan) (piece : List ℕ) : Type 0 where
-  pub sound : IsSound s
+  pub sound : IsSoundScan s
   pub lent : s.lent ≡ 0
   pub some : 0 < length piece
   pub fits : s.offset + length piece < 2 ^ 64
@@ -116,7 +116,7 @@ pub record GrowsBy (old : ReaderView) (piece : List ℕ) (given : Option Item) (
   pub wire : EndsWith given new.lent (text ++ piece)
 
 -- what a step does that uses some bytes of a piece
-pub record Takes (old : ReaderView) (piece : List ℕ) (used : ℕ) (given : Option Item)
+pub record TakesPiece (old : ReaderView) (piece : List ℕ) (used : ℕ) (given : Option Item)
     (new : ReaderView) : Type 0 where
   pub within : used ≤ length piece
   pub some : 0 < used

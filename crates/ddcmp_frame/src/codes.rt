@@ -27,6 +27,27 @@ pub const STRT_TYPE: u8 = 6;
 /// The TYPE of a STACK.
 pub const STACK_TYPE: u8 = 7;
 
+/// The SUBTYPE of a NAK: header block check.
+pub const HEADER_CHECK_REASON: u8 = 1;
+
+/// The SUBTYPE of a NAK: data block check.
+pub const DATA_CHECK_REASON: u8 = 2;
+
+/// The SUBTYPE of a NAK: reply to REP.
+pub const REPLY_TO_REP_REASON: u8 = 3;
+
+/// The SUBTYPE of a NAK: buffer temporarily unavailable.
+pub const NO_BUFFER_REASON: u8 = 8;
+
+/// The SUBTYPE of a NAK: receive overrun.
+pub const OVERRUN_REASON: u8 = 9;
+
+/// The SUBTYPE of a NAK: message too long.
+pub const TOO_LONG_REASON: u8 = 16;
+
+/// The SUBTYPE of a NAK: header format error.
+pub const FORMAT_REASON: u8 = 17;
+
 /// The bytes of a header, its check among them.
 pub const HEADER_BYTES: u8 = 8;
 

@@ -18,7 +18,7 @@ pub enum Item {
 
 /// What a reader made of a piece of its line.
 #[derive(Clone, Copy, Debug, PartialEq, Eq)]
-pub struct Taken {
+pub struct Pushed {
     /// How many bytes were used. The caller hands over the rest.
     pub used: usize,
     /// The item that the last of these bytes gave. Without one all bytes were used.

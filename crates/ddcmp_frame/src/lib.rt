@@ -18,7 +18,7 @@ pub use ddcmp_io::{
 };
 pub use ddcmp_num::MAX_COUNT;
 pub use header::{ControlType, Counted, Flags, Header, HeaderFault, Short};
-pub use item::{Item, Taken};
+pub use item::{Item, Pushed};
 pub use nak::Nak;
 pub use reader::{Reader, ReaderRefusal};
 pub use writer::write_frame;

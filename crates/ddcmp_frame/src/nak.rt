@@ -2,6 +2,11 @@
 ghost use Rattle.std.specs.Prelude.{◌≡◌};
 ghost use Rattle.ddcmp_frame.specs.Naks.{subtype_of, reason_of};
 
+use crate::codes::{
+    DATA_CHECK_REASON, FORMAT_REASON, HEADER_CHECK_REASON, NO_BUFFER_REASON, OVERRUN_REASON,
+    REPLY_TO_REP_REASON, TOO_LONG_REASON,
+};
+
 /// Why a message was refused (DDCMP 4.1, NAK reasons). `Overrun` is read and counted, never sent.
 #[derive(Clone, Copy, Debug, PartialEq, Eq)]
 pub enum Nak {
@@ -22,13 +27,13 @@ impl Nak {
         ensures subtype { subtype_of result ≡ sub }
     {
         match sub {
-            1 => Nak::HeaderCheck,
-            2 => Nak::DataCheck,
-            3 => Nak::ReplyToRep,
-            8 => Nak::NoBuffer,
-            9 => Nak::Overrun,
-            16 => Nak::TooLong,
-            17 => Nak::Format,
+            HEADER_CHECK_REASON => Nak::HeaderCheck,
+            DATA_CHECK_REASON => Nak::DataCheck,
+            REPLY_TO_REP_REASON => Nak::ReplyToRep,
+            NO_BUFFER_REASON => Nak::NoBuffer,
+            OVERRUN_REASON => Nak::Overrun,
+            TOO_LONG_REASON => Nak::TooLong,
+            FORMAT_REASON => Nak::Format,
             other => Nak::Other(other),
         }
     }
@@ -38,13 +43,13 @@ impl Nak {
         ensures { result ≡ subtype_of self }
     {
         match self {
-            Nak::HeaderCheck => 1,
-            Nak::DataCheck => 2,
-            Nak::ReplyToRep => 3,
-            Nak::NoBuffer => 8,
-            Nak::Overrun => 9,
-            Nak::TooLong => 16,
-            Nak::Format => 17,
+            Nak::HeaderCheck => HEADER_CHECK_REASON,
+            Nak::DataCheck => DATA_CHECK_REASON,
+            Nak::ReplyToRep => REPLY_TO_REP_REASON,
+            Nak::NoBuffer => NO_BUFFER_REASON,
+            Nak::Overrun => OVERRUN_REASON,
+            Nak::TooLong => TOO_LONG_REASON,
+            Nak::Format => FORMAT_REASON,
             Nak::Other(other) => other,
         }
     }

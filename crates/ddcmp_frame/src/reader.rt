@@ -7,7 +7,7 @@ ghost use Rattle.ddcmp_frame.specs.Resume.{NoneBegins, AtMostALoss};
 ghost use Rattle.ddcmp_frame.specs.Reader.{StandsFor, items_given, LentBeside, EndsWith, open_of, kept_of};
 ghost use Rattle.ddcmp_frame.specs.declared.header.Header.{Header as HeaderValue};
 
-use crate::item::{Item, Taken};
+use crate::item::{Item, Pushed};
 use crate::scan::{Phase, Scan};
 use ddcmp_num::MAX_COUNT;
 use std::alloc::Global;
@@ -32,13 +32,13 @@ pub struct Reader {
 
 impl Model for Reader {
     ghost use Rattle.ddcmp_frame.specs.Reader.{ReaderView};
-    ghost use Rattle.ddcmp_frame.specs.Scan.{IsSound, view_of};
+    ghost use Rattle.ddcmp_frame.specs.Scan.{IsSoundScan, view_of};
 
     ghost Value = { ReaderView };
 
     ghost view = { λ r. view_of r.scan };
 
-    ghost invariant = { λ r. IsSound r.scan };
+    ghost invariant = { λ r. IsSoundScan r.scan };
 }
 
 impl Reader {
@@ -102,7 +102,7 @@ impl Reader {
     }
 
     /// Takes the bytes of a piece, up to and with the first that gives an item.
-    pub fn push_all(&mut self, piece: &[u8]) -> Taken
+    pub fn push_all(&mut self, piece: &[u8]) -> Pushed
         requires { self.old.offset + length piece.now < 2 ^ 64 }
         ensures counted { self.new.offset ≡ self.old.offset + result.used }
         ensures max { self.new.max ≡ self.old.max }

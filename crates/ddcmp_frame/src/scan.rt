@@ -2,11 +2,11 @@
 ghost use Rattle.std.specs.Prelude.{◌≡◌, ◌+◌, ◌<◌, ◌≤◌, ◌^◌, ◌++◌, ℕ, true, false, length, slice_index, None, vec_len, vec_capacity};
 ghost use Rattle.ddcmp_frame.specs.Spelling.{is_start as is_start_byte};
 ghost use Rattle.ddcmp_frame.specs.Reader.{open_of, kept_of};
-ghost use Rattle.ddcmp_frame.specs.Scan.{IsSound, IsReady, IsCandidate, Takes, TakesAll, view_of};
+ghost use Rattle.ddcmp_frame.specs.Scan.{IsSoundScan, IsReady, IsCandidate, TakesPiece, TakesAll, view_of};
 
 use crate::header::{Header, HeaderFault, is_start};
 use crate::held::{count_of, data_right, loss, resume};
-use crate::item::{Item, Taken};
+use crate::item::{Item, Pushed};
 
 /// What the next byte belongs to.
 #[derive(Clone, Copy)]
@@ -48,11 +48,11 @@ pub(crate) struct Scan {
 
 impl Scan {
     /// Takes bytes of a piece, up to the first that gives an item.
-    pub(crate) fn take_all(&mut self, piece: &[u8]) -> Taken
-        requires sound { IsSound self.old }
+    pub(crate) fn take_all(&mut self, piece: &[u8]) -> Pushed
+        requires sound { IsSoundScan self.old }
         requires fits { self.old.offset + length piece.now < 2 ^ 64 }
         requires lent { self.old.lent ≡ 0 }
-        ensures sound { IsSound self.new }
+        ensures sound { IsSoundScan self.new }
         ensures takes { TakesAll (view_of self.old) piece.now result.used result.item
             (view_of self.new) }
     {
@@ -63,22 +63,22 @@ impl Scan {
             match taken.item {
                 None => {}
                 Some(_) => {
-                    return Taken {
+                    return Pushed {
                         used,
                         item: taken.item,
                     };
                 }
             }
         }
-        Taken { used, item: None }
+        Pushed { used, item: None }
     }
 
     /// Takes at least one byte of a piece, and at most those that belong to the same phase.
-    pub(crate) fn take(&mut self, piece: &[u8]) -> Taken
+    pub(crate) fn take(&mut self, piece: &[u8]) -> Pushed
         requires ready { IsReady self.old piece.now }
-        ensures sound { IsSound self.new }
+        ensures sound { IsSoundScan self.new }
         ensures lent { result.item ≡ None → self.new.lent ≡ 0 }
-        ensures takes { Takes (view_of self.old) piece.now result.used result.item
+        ensures takes { TakesPiece (view_of self.old) piece.now result.used result.item
             (view_of self.new) }
     {
         match self.phase {
@@ -90,18 +90,18 @@ impl Scan {
     }
 
     /// Passes over bytes up to the next start byte, which is the first of a header.
-    fn seek(&mut self, piece: &[u8]) -> Taken
+    fn seek(&mut self, piece: &[u8]) -> Pushed
         requires ready { IsReady self.old piece.now }
         requires phase { self.old.phase ≡ Phase.Seeking }
-        ensures sound { IsSound self.new }
+        ensures sound { IsSoundScan self.new }
         ensures lent { self.new.lent ≡ 0 }
-        ensures takes { Takes (view_of self.old) piece.now result.used result.item
+        ensures takes { TakesPiece (view_of self.old) piece.now result.used result.item
             (view_of self.new) }
     {
         let other = before_start(piece);
         if other == piece.len() {
             self.offset += other as u64;
-            return Taken {
+            return Pushed {
                 used: other,
                 item: None,
             };
@@ -110,26 +110,26 @@ impl Scan {
         keep(&mut self.buffer, &piece[other..other + 1]);
         self.offset += other as u64 + 1;
         self.phase = Phase::Header;
-        Taken {
+        Pushed {
             used: other + 1,
             item: None,
         }
     }
 
     /// Takes bytes of a header. The eighth decides what follows.
-    fn take_header(&mut self, piece: &[u8]) -> Taken
+    fn take_header(&mut self, piece: &[u8]) -> Pushed
         requires ready { IsReady self.old piece.now }
         requires phase { self.old.phase ≡ Phase.Header }
-        ensures sound { IsSound self.new }
+        ensures sound { IsSoundScan self.new }
         ensures lent { self.new.lent ≡ 0 }
-        ensures takes { Takes (view_of self.old) piece.now result.used result.item
+        ensures takes { TakesPiece (view_of self.old) piece.now result.used result.item
             (view_of self.new) }
     {
         let used = piece.len().min(8 - self.buffer.len());
         keep(&mut self.buffer, &piece[..used]);
         self.offset += used as u64;
         let Some(front) = self.buffer.first_chunk::<8>() else {
-            return Taken { used, item: None };
+            return Pushed { used, item: None };
         };
         let at = self.offset - 8;
         match candidate_at(front, self.max, at) {
@@ -138,26 +138,26 @@ impl Scan {
                 self.lost = true;
                 resume(&mut self.buffer);
                 self.phase = phase_of(&self.buffer);
-                Taken { used, item }
+                Pushed { used, item }
             }
             Candidate::Gives(item) => {
                 self.lost = false;
                 self.phase = Phase::Seeking;
-                Taken {
+                Pushed {
                     used,
                     item: Some(item),
                 }
             }
             Candidate::Begins(header, count) => {
                 self.phase = Phase::Frame { header, count };
-                Taken { used, item: None }
+                Pushed { used, item: None }
             }
             Candidate::Announces(header, count) => {
                 self.phase = Phase::TooLong {
                     skipped: 8,
                     left: count + 2,
                 };
-                Taken {
+                Pushed {
                     used,
                     item: Some(Item::TooLong(at, header)),
                 }
@@ -166,43 +166,43 @@ impl Scan {
     }
 
     /// Takes bytes of the data and their check. The last one gives the item of the frame.
-    fn take_data(&mut self, piece: &[u8], header: Header, count: usize) -> Taken
+    fn take_data(&mut self, piece: &[u8], header: Header, count: usize) -> Pushed
         requires ready { IsReady self.old piece.now }
         requires phase { self.old.phase ≡ Phase.Frame header count }
-        ensures sound { IsSound self.new }
+        ensures sound { IsSoundScan self.new }
         ensures lent { result.item ≡ None → self.new.lent ≡ 0 }
-        ensures takes { Takes (view_of self.old) piece.now result.used result.item
+        ensures takes { TakesPiece (view_of self.old) piece.now result.used result.item
             (view_of self.new) }
     {
         let used = piece.len().min(count + 10 - self.buffer.len());
         keep(&mut self.buffer, &piece[..used]);
         self.offset += used as u64;
         if self.buffer.len() < count + 10 {
-            return Taken { used, item: None };
+            return Pushed { used, item: None };
         }
         self.lost = false;
         self.phase = Phase::Seeking;
         let at = self.offset - self.buffer.len() as u64;
         if !data_right(&self.buffer, count) {
-            return Taken {
+            return Pushed {
                 used,
                 item: Some(Item::DataCheck(at, header)),
             };
         }
         self.lent = count;
-        Taken {
+        Pushed {
             used,
             item: Some(Item::Good(at, header)),
         }
     }
 
     /// Passes over bytes of a too long frame.
-    fn pass(&mut self, piece: &[u8], skipped: usize, left: usize) -> Taken
+    fn pass(&mut self, piece: &[u8], skipped: usize, left: usize) -> Pushed
         requires ready { IsReady self.old piece.now }
         requires phase { self.old.phase ≡ Phase.TooLong skipped left }
-        ensures sound { IsSound self.new }
+        ensures sound { IsSoundScan self.new }
         ensures lent { self.new.lent ≡ 0 }
-        ensures takes { Takes (view_of self.old) piece.now result.used result.item
+        ensures takes { TakesPiece (view_of self.old) piece.now result.used result.item
             (view_of self.new) }
     {
         let used = piece.len().min(left);
@@ -212,16 +212,16 @@ impl Scan {
                 skipped: skipped + used,
                 left: left - used,
             };
-            return Taken { used, item: None };
+            return Pushed { used, item: None };
         }
         self.lost = false;
         self.phase = Phase::Seeking;
-        Taken { used, item: None }
+        Pushed { used, item: None }
     }
 
     /// The number of bytes of the unfinished frame that are kept.
     pub(crate) fn kept(&self) -> usize
-        requires sound { IsSound self.now }
+        requires sound { IsSoundScan self.now }
         ensures value { result ≡ kept_of (view_of self.now) }
         ensures within { result ≤ self.now.max + 10 }
     {
@@ -233,7 +233,7 @@ impl Scan {
 
     /// The number of bytes of the unfinished frame.
     pub(crate) fn open(&self) -> usize
-        requires sound { IsSound self.now }
+        requires sound { IsSoundScan self.now }
         ensures value { result ≡ open_of (view_of self.now) }
     {
         match self.phase {

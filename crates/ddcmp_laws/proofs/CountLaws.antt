@@ -14,7 +14,7 @@ use Rattle.ddcmp_core.specs.declared.counters.Counters.{Counters}
 use Rattle.ddcmp_core.specs.declared.state.State.{State}
 use Rattle.ddcmp_core.specs.declared.state.State.TheVariants.{Halted, IStart, AStart, Running, Maintenance}
 use Rattle.ddcmp_core.specs.Table.{StationState, Limits, Frame, Data, Acked, Naked, Rep, Strt, Stack, Maint, Received, Good, BadHeader, BadData, TooLong, BadFormat, takes_data, has_room, may_restart, after_restart, after_halt, after_startup, on_data, on_by, on, Next, Idle, Sends, next, next_frame, may_start, after_start, may_send, after_accept}
-use Rattle.ddcmp_core.specs.Counting.{count_plus, nak_counts_after, counters_after_fault, counters_after_up, counters_after_up_if, counters_by, counters_on, counters_after_sent, counters_after_again, counters_after_next}
+use Rattle.ddcmp_core.specs.Counting.{no_counts, count_plus, nak_counts_after, counters_after_fault, counters_after_up, counters_after_up_if, counters_by, counters_on, counters_after_sent, counters_after_again, counters_after_next}
 use Rattle.ddcmp_core.specs.Core.{CoreView}
 use Rattle.ddcmp_proto.specs.Bytes.{received_of, after_item, after_items, items_added}
 use Rattle.ddcmp_proto.specs.declared.config.Config.{Config}
@@ -142,6 +142,16 @@ counted_on l s h c = by s.state h
     by AStart h = in_astart h
     by Running h = in_running h
     by Maintenance h = in_maintenance h
+
+-- the inbox never loses what it holds
+pub inbox_grows : (l : Limits) (s : StationState) (h : Received) → length s.inbox ≤ length (on l s h).inbox
+inbox_grows l s h = by (counted_on l s h no_counts).up
+  where
+    by : (((on l s h).inbox ≡ s.inbox) × ((counters_on l s h no_counts).messages_up ≡ no_counts.messages_up))
+        ⊎ ((length (on l s h).inbox ≡ length s.inbox + 1) × ((counters_on l s h no_counts).messages_up ≡ count_plus no_counts.messages_up 1))
+        → length s.inbox ≤ length (on l s h).inbox
+    by (inl e) = let f = ap length e.0 in omega (arith, f)
+    by (inr e) = let f = e.0 in omega (arith, f)
 
 -- ---- an end
 

@@ -9,7 +9,7 @@ use Rattle.ddcmp_frame.specs.Reading.{ReadItem, items, open_at_end, good_frames_
 use Rattle.ddcmp_frame.proofs.FrameLaws.{whole-items, whole-closed}
 use Rattle.ddcmp_frame.proofs.ReadingLaws.{items-more, items-nothing, ending-nothing, good-more}
 use Rattle.ddcmp_core.specs.declared.station_core.StartRefusal.{StartRefusal}
-use Rattle.ddcmp_core.specs.Table.{StationState, Limits, Frame, Data, Acked, Naked, Rep, Strt, Stack, Maint, Good, Next, Idle, Sends, next, next_frame, may_start, after_start, may_send, after_accept}
+use Rattle.ddcmp_core.specs.Table.{StationState, Limits, Frame, Data, Acked, Naked, Rep, Strt, Stack, Maint, Good, Next, Idle, Sends, next, next_frame, new_station, may_start, after_start, may_send, after_accept}
 use Rattle.ddcmp_core.specs.NextFrame.{SentFor, sends_strt, sends_stack, sends_nak, sends_rep, sends_data, sends_ack, sends_maint, halted_idles, starting_idles, running_idles, maintenance_idles}
 use Rattle.ddcmp_core.specs.Frames.{frame_of, header_of, message_of}
 use Rattle.ddcmp_core.specs.Core.{CoreView, IsSound, IsReceivable}
@@ -18,7 +18,7 @@ use Rattle.ddcmp_core.proofs.Sent.{sending}
 use Rattle.ddcmp_core.proofs.StartLaws.{read_sent}
 use Rattle.ddcmp_core.proofs.Sound.{sound_new, sound_on, sound_next, sound_started, sound_halted, sound_accepted, sound_taken, sound_expired}
 use Rattle.ddcmp_proto.specs.Bytes.{received_of, after_item, after_items, items_added, frame_on_line}
-use Rattle.ddcmp_proto.specs.Config.{first_refusal}
+use Rattle.ddcmp_proto.specs.Config.{first_refusal, limits_of}
 use Rattle.ddcmp_proto.specs.declared.config.Config.{Config}
 use Rattle.ddcmp_run.specs.declared.event.End.{End}
 use Rattle.ddcmp_run.specs.declared.event.End.TheVariants.{A, B}
@@ -34,12 +34,12 @@ use Rattle.ddcmp_laws.proofs.PassedLaws.{passed_items, passed_closed}
 -- ---- frames that a station sends
 
 -- a frame that any station reads that takes messages as long
-record IsWritable (f : WholeFrame) : Type 0 where
-  in_range : IsInRange f.0
-  frame : IsFrame f.0 f.1
-  receivable : (l : Limits) → length f.1 ≤ l.longest → IsReceivable l (Good (frame_of f.0 f.1))
+pub record IsWritable (f : WholeFrame) : Type 0 where
+  pub in_range : IsInRange f.0
+  pub frame : IsFrame f.0 f.1
+  pub receivable : (l : Limits) → length f.1 ≤ l.longest → IsReceivable l (Good (frame_of f.0 f.1))
 
-abbrev AllWritable : List WholeFrame → Type 0
+abbrev pub AllWritable : List WholeFrame → Type 0
 AllWritable [] = Unit {0}
 AllWritable (f ∷ rest) = IsWritable f × AllWritable rest
 
@@ -183,9 +183,9 @@ begins_placed l fill frames front all b =
 
 -- ---- an end
 
-record IsWell (x : EndState) : Type 0 where
-  sound : IsSound x.core.limits x.core.station
-  sent : AllWritable x.sent
+pub record IsWell (x : EndState) : Type 0 where
+  pub sound : IsSound x.core.limits x.core.station
+  pub sent : AllWritable x.sent
 
 sound_items : (given : List ReadItem) (k : CoreView) → AllReceivable k.limits given → IsSound k.limits k.station → IsSound (after_items given k).limits (after_items given k).station
 unfolding after_items
@@ -229,10 +229,10 @@ comes_well x y bytes all b =
 
 -- ---- a run
 
-record IsStraight (p : PairState) : Type 0 where
-  a : IsWell p.a
-  b : IsWell p.b
-  honest : p.honest ≡ true
+pub record IsStraight (p : PairState) : Type 0 where
+  pub a : IsWell p.a
+  pub b : IsWell p.b
+  pub honest : p.honest ≡ true
 
 both_true : (x y : Bool) → x ≡ true → y ≡ true → (x && y) ≡ true
 both_true true y e f = f
@@ -242,7 +242,7 @@ straight_clear : (refusal : Option StartRefusal) (p : PairState) → IsStraight 
 straight_clear (Some refusal) p h = h
 straight_clear None p h = record { a = record { sound = h.a.sound; sent = tt }; b = record { sound = h.b.sound; sent = tt }; honest = refl }
 
-straight_event : (e : Event) (p : PairState) → IsFaithful (after_event e p) → IsStraight p → IsStraight (after_event e p)
+pub straight_event : (e : Event) (p : PairState) → IsFaithful (after_event e p) → IsStraight p → IsStraight (after_event e p)
 unfolding after_event
 straight_event (event.Arrive A bytes) p f h = record {
   a = well_event (event.Arrive A bytes) p.a (comes_well p.a p.b bytes h.b.sent f.to_a) h.a;
@@ -276,11 +276,12 @@ straight_run (e ∷ rest) p f h = straight_run rest (after_event e p) f.1 (strai
 stored_none : (limit longest : ℕ) → 1 ≤ limit → limit ≤ 255 → 1 ≤ longest → longest ≤ 16383 → IsStored limit longest []
 stored_none limit longest a b c d = record { limit_min = a; limit_max = b; longest_min = c; longest_max = d; count = omega arith; lengths = λ i h. absurd (omega (arith, h)) }
 
-well_new : (config : Config) → first_refusal config ≡ None → IsWell (new_end config)
-well_new config e = record {
-  sound = sound_new _ (stored_none config.window config.max (grind (arith)) (grind (arith)) (grind (arith)) (grind (arith))) (stored_none config.inbox config.max (grind (arith)) (grind (arith)) (grind (arith)) (grind (arith)));
-  sent = tt;
-}
+pub sound_made : (config : Config) → first_refusal config ≡ None → IsSound (limits_of config) new_station
+sound_made config e =
+    sound_new (limits_of config) (stored_none config.window config.max (grind (arith)) (grind (arith)) (grind (arith)) (grind (arith))) (stored_none config.inbox config.max (grind (arith)) (grind (arith)) (grind (arith)) (grind (arith)))
+
+pub well_new : (config : Config) → first_refusal config ≡ None → IsWell (new_end config)
+well_new config e = record { sound = sound_made config e; sent = tt }
 
 pub faithful_is_honest : (first second : Config) (events : List Event) → first_refusal first ≡ None → first_refusal second ≡ None → StaysFaithful events (new_pair first second) → (run events (new_pair first second)).honest ≡ true
 faithful_is_honest first second events f g stays =

@@ -7,3 +7,10 @@ pub mod CountLaws
 pub mod PassedLaws
 pub mod FaithfulLaws
 pub mod DamageLaws
+pub mod RecoveredLaws
+pub mod PositionLaws
+pub mod ClearSteps
+pub mod ClearReads
+pub mod ClearLaws
+pub mod ClearRuns
+pub mod CarriedLaws

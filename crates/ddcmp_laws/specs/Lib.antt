@@ -6,3 +6,6 @@ pub mod Calls
 pub mod Counted
 pub mod Faithful
 pub mod Damage
+pub mod Recovered
+pub mod Positions
+pub mod Clear

@@ -6,7 +6,7 @@ use Rattle.ddcmp_frame.specs.Naks.{subtype_of}
 use Rattle.ddcmp_core.specs.declared.notice.Notice.{Notice}
 use Rattle.ddcmp_core.specs.declared.notice.Notice.TheVariants as notice
 use Rattle.ddcmp_core.specs.declared.state.State.TheVariants.{Halted, AStart}
-use Rattle.ddcmp_core.specs.declared.state.Reply.TheVariants.{Quiet, Ack}
+use Rattle.ddcmp_core.specs.declared.state.Owed.TheVariants.{Quiet, Ack}
 use Rattle.ddcmp_core.specs.declared.state.Timer.TheVariants.{Off}
 use Rattle.ddcmp_core.specs.Table.{StationState, Data, Acked, Naked, Strt, Stack, Received, Good, BadHeader, BadData, TooLong, BadFormat, next, next_frame, acknowledged_by, Maint}
 

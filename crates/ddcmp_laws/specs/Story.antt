@@ -1,5 +1,5 @@
 -- One run of two ends, written out: what happens, and what is answered.
-use Rattle.std.specs.Prelude.{◌≡◌, ℕ, true, false, List, [], ◌∷◌, ◌++◌}
+use Rattle.std.specs.Prelude.{◌≡◌, ℕ, true, false, List, [], ◌∷◌, ◌++◌, take, drop}
 use Rattle.ddcmp_core.specs.declared.notice.Notice.{Notice}
 use Rattle.ddcmp_core.specs.declared.notice.Notice.TheVariants as notice
 use Rattle.ddcmp_core.specs.declared.counters.Counters.{Counters}
@@ -49,6 +49,11 @@ second_bytes =
 abbrev pub rep_2_bytes : List ℕ
 rep_2_bytes =
     0x05 ∷ 0x03 ∷ 0x00 ∷ 0x00 ∷ 0x02 ∷ 0x01 ∷ 0x84 ∷ 0xF5 ∷ []
+
+-- REP with NUM 1
+abbrev pub rep_1_bytes : List ℕ
+rep_1_bytes =
+    0x05 ∷ 0x03 ∷ 0x00 ∷ 0x00 ∷ 0x01 ∷ 0x01 ∷ 0x84 ∷ 0x05 ∷ []
 
 -- NAK 3, the reply to a REP, with RESP 0
 abbrev pub nak_3_bytes : List ℕ
@@ -291,6 +296,39 @@ want_of_room =
 abbrev pub second_run : List Happening
 second_run = startup ++ (faults ++ want_of_room)
 
+-- ---- a third run, over a line that loses nothing
+
+-- Both ends start at once. A sends a message, and its timer runs out before the message has come,
+-- which it does in two pieces. The REP behind it is answered by the same ACK.
+abbrev pub clear_run : List Happening
+clear_run =
+    (event.Start A, reply.Started 0)
+    ∷ (event.Start B, reply.Started 0)
+    ∷ (event.Poll A, reply.Wrote strt_bytes)
+    ∷ (event.Poll B, reply.Wrote strt_bytes)
+    ∷ (event.Arrive B strt_bytes, told [])
+    ∷ (event.Arrive A strt_bytes, told [])
+    ∷ (event.Poll A, reply.Wrote stack_bytes)
+    ∷ (event.Poll B, reply.Wrote stack_bytes)
+    ∷ (event.Arrive B stack_bytes, told (notice.Running ∷ []))
+    ∷ (event.Arrive A stack_bytes, told (notice.Running ∷ []))
+    ∷ (event.Poll A, reply.Wrote ack_0_bytes)
+    ∷ (event.Poll B, reply.Wrote ack_0_bytes)
+    ∷ (event.Arrive B ack_0_bytes, told [])
+    ∷ (event.Arrive A ack_0_bytes, told [])
+    ∷ (event.Send A abc, reply.Accepted (number 1))
+    ∷ (event.Poll A, reply.Wrote first_bytes)
+    ∷ (event.Arrive B (take 5 first_bytes), told [])
+    ∷ (event.Expire A, reply.Expired true)
+    ∷ (event.Poll A, reply.Wrote rep_1_bytes)
+    ∷ (event.Arrive B (drop 5 first_bytes ++ rep_1_bytes), told (notice.HandedUp ∷ []))
+    ∷ (event.Poll B, reply.Wrote ack_1_bytes)
+    ∷ (event.Arrive A ack_1_bytes, told (notice.Acknowledged 1 ∷ []))
+    ∷ (event.Poll A, reply.Idle)
+    ∷ (event.Poll B, reply.Idle)
+    ∷ (event.Take B, reply.Took abc)
+    ∷ []
+
 abbrev pub event_in : Happening → Event
 event_in h = h.0
 
@@ -352,6 +390,18 @@ second_counts_of_b = record no_counts {
   too_longs = 1;
   formats = 1;
 }
+
+-- In the third A sent a message of 3 bytes and a REP.
+abbrev pub clear_counts_of_a : Counters
+clear_counts_of_a = record no_counts {
+  messages_sent = 1;
+  bytes_sent = 3;
+  rep_sent = 1;
+  expiries = 1;
+}
+
+abbrev pub clear_counts_of_b : Counters
+clear_counts_of_b = record no_counts { messages_up = 1; bytes_up = 3; rep_received = 1 }
 
 -- All was handed up and acknowledged: these messages at each end. The line was honest, and neither
 -- end began twice. And the ends have counted this.

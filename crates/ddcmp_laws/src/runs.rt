@@ -1,13 +1,16 @@
 //! What holds of every run of two ends.
-ghost use Rattle.std.specs.Prelude.{◌≡◌, ◌++◌, ℕ, List, true, None};
+ghost use Rattle.std.specs.Prelude.{◌≡◌, ◌+◌, ◌%◌, ◌++◌, ℕ, List, length, true, None};
+ghost use Rattle.ddcmp_core.specs.Seq.{Seq as SeqValue};
 ghost use Rattle.ddcmp_proto.specs.Config.{first_refusal};
 ghost use Rattle.ddcmp_proto.specs.declared.config.Config.{Config as ConfigValue};
 ghost use Rattle.ddcmp_run.specs.declared.event.End.{End as EndValue};
 ghost use Rattle.ddcmp_run.specs.declared.event.Event.{Event as EventValue};
-ghost use Rattle.ddcmp_run.specs.declared.event.Event.TheVariants.{Poll};
-ghost use Rattle.ddcmp_run.specs.declared.event.Reply.TheVariants.{Wrote};
-ghost use Rattle.ddcmp_run.specs.Run.{PairState, at, after_event, reply_to, run, new_pair};
+ghost use Rattle.ddcmp_run.specs.declared.event.Event.TheVariants.{Send, Poll};
+ghost use Rattle.ddcmp_run.specs.declared.event.Reply.TheVariants.{Accepted, Wrote};
+ghost use Rattle.ddcmp_run.specs.Run.{PairState, at, after_event, reply_to, run, new_pair, is_clean};
 ghost use Rattle.ddcmp_laws.specs.Faithful.{written, StaysFaithful};
+ghost use Rattle.ddcmp_laws.specs.Positions.{CarryPositions, IsNumberedLink};
+ghost use Rattle.ddcmp_laws.specs.Clear.{StaysClear, WastesNothing};
 ghost use Rattle.ddcmp_laws.specs.Counted.{NeverClears, HasCounted};
 
 /// Counters count what was done: in every run in which the line isn't cleared, whatever arrives,
@@ -28,4 +31,48 @@ pub fn faithful_is_honest()
         → first_refusal first ≡ None → first_refusal second ≡ None
         → StaysFaithful events (new_pair first second)
         → (run events (new_pair first second)).honest ≡ true }
+{}
+
+/// Numbers are positions: in every honest and clean run R, N, A and T of each end that began, and
+/// the numbers and messages of the frames on their way, are those of two links without bounds,
+/// modulo 256.
+pub fn numbers_are_positions()
+    ensures { (first second : ConfigValue) (events : List EventValue)
+        → first_refusal first ≡ None → first_refusal second ≡ None
+        → (run events (new_pair first second)).honest ≡ true
+        → is_clean (run events (new_pair first second)) ≡ true
+        → IsNumberedLink (run events (new_pair first second)).a
+        (run events (new_pair first second)).b
+        × IsNumberedLink (run events (new_pair first second)).b
+        (run events (new_pair first second)).a }
+{}
+
+/// The number that `send` answers, and that of each data message that was ever sent, for the first
+/// time or again, is the position of the message among those that the end accepted, modulo 256.
+pub fn messages_carry_positions()
+    ensures answered { (first second : ConfigValue) (events : List EventValue) (end : EndValue)
+        (message : List ℕ) (number : SeqValue)
+        → first_refusal first ≡ None → first_refusal second ≡ None
+        → (run events (new_pair first second)).honest ≡ true
+        → is_clean (run events (new_pair first second)) ≡ true
+        → reply_to (Send end message) (run events (new_pair first second)) ≡ Accepted number
+        → number.0 ≡ (length (at end (run events (new_pair first second))).given + 1) % 256 }
+    ensures sent { (first second : ConfigValue) (events : List EventValue) (end : EndValue)
+        → first_refusal first ≡ None → first_refusal second ≡ None
+        → (run events (new_pair first second)).honest ≡ true
+        → is_clean (run events (new_pair first second)) ≡ true
+        → CarryPositions (at end (run events (new_pair first second))).given
+        (at end (run events (new_pair first second))).sent }
+{}
+
+/// A clear line wastes nothing: between two ends that take messages of the same lengths, where
+/// after each event what arrived at each end is a beginning of what the other wrote and no inbox is
+/// full, and no end halts, no NAK is ever sent, and each message is sent once, in its order,
+/// whatever timers run out.
+pub fn clear_line_wastes_nothing()
+    ensures { (first second : ConfigValue) (events : List EventValue)
+        → first_refusal first ≡ None → first_refusal second ≡ None → first.max ≡ second.max
+        → StaysClear events (new_pair first second)
+        → WastesNothing (run events (new_pair first second)).a
+        × WastesNothing (run events (new_pair first second)).b }
 {}

@@ -1,8 +1,9 @@
-//! Two runs of two ends, written out.
+//! Three runs of two ends, written out.
 ghost use Rattle.std.specs.Prelude.{◌≡◌, [], ◌∷◌, map};
 ghost use Rattle.ddcmp_run.specs.Run.{run, new_pair};
 ghost use Rattle.ddcmp_laws.specs.Vectors.{abc};
-ghost use Rattle.ddcmp_laws.specs.Story.{de, f, g, usual, tight, written_run, second_run, event_in, reply_in, replies_to, EndsWell, counts_of_a, counts_of_b, second_counts_of_a, second_counts_of_b};
+ghost use Rattle.ddcmp_laws.specs.Story.{de, f, g, usual, tight, written_run, second_run, clear_run, event_in, reply_in, replies_to, EndsWell, counts_of_a, counts_of_b, second_counts_of_a, second_counts_of_b, clear_counts_of_a, clear_counts_of_b};
+ghost use Rattle.ddcmp_laws.specs.Clear.{StaysClear};
 
 /// A startup, messages both ways, of which one is lost and one is damaged, a lost ACK, and the
 /// repair of each: every frame on the line, every notice and every number is the one that is
@@ -21,4 +22,14 @@ pub fn second_run_is_answered()
         ≡ map reply_in second_run }
     ensures ends { EndsWell (run (map event_in second_run) (new_pair tight tight))
         [] (abc ∷ de ∷ []) second_counts_of_a second_counts_of_b }
+{}
+
+/// The same of a run over a clear line, in which a timer runs out all the same: so the law that such
+/// a line wastes nothing speaks of runs in which messages are sent and asked for.
+pub fn clear_run_is_answered()
+    ensures clear { StaysClear (map event_in clear_run) (new_pair usual usual) }
+    ensures replies { replies_to (map event_in clear_run) (new_pair usual usual)
+        ≡ map reply_in clear_run }
+    ensures ends { EndsWell (run (map event_in clear_run) (new_pair usual usual))
+        [] (abc ∷ []) clear_counts_of_a clear_counts_of_b }
 {}

@@ -1,5 +1,5 @@
 -- Whether nothing is left to be done, as an answer.
-use Rattle.std.proofs.Common.{◌≡◌, Bool, refl, sym, bytes_eq, true, false}
+use Rattle.std.proofs.Common.{◌≡◌, refl}
 use Rattle.std.proofs.Common.{Decides}
 use Rattle.std.proofs.lemmas.Bool.Decides.{Decides-and, Decides-like, Decides-eqb}
 use Rattle.std.proofs.lemmas.Slice.Eq.{slice_eq-Decides, bytes_eq-Decides}

@@ -1,5 +1,5 @@
 -- The place that a pair keeps, as more is sent and more arrives.
-use Rattle.std.proofs.Common.{◌≡◌, ℕ, suc, ◌+◌, ◌<◌, ◌≤◌, Bool, true, false, List, [], ◌∷◌, ◌++◌, length, take, get_or, refl, sym, ◌∙◌, ap, subst, arith, add-one, append-nil, length-append, Option, Some, None}
+use Rattle.std.proofs.Common.{◌≡◌, ℕ, ◌+◌, ◌<◌, ◌≤◌, true, false, List, [], ◌∷◌, ◌++◌, length, take, get_or, refl, sym, ◌∙◌, ap, subst, arith, add-one, append-nil, length-append, Option, Some, None}
 use Rattle.std.specs.Prelude.{is_some, IfSome, Result, Ok, Err, IsOk, OnErr}
 use Rattle.std.proofs.Math.Seq.{take-suc}
 use Rattle.ddcmp_frame.specs.declared.item.Item.{Item}

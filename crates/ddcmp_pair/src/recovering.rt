@@ -157,8 +157,22 @@ impl Pair {
         if self.handed_up(to) != self.given(from) {
             return false;
         }
+        self.is_run();
+        if self.clean() && self.honest() {
+            return true;
+        }
+        self.is_same_as_given(from, to)
+    }
+
+    /// Whether each message handed up at an end is the one that the other accepted in its place.
+    fn is_same_as_given(&self, from: End, to: End) -> bool
+        requires other { to ≡ other from }
+        requires length { length (handed_up (at to self.now)) ≡ length (at from self.now).given }
+        ensures { IsTrue result ↔ ((at from self.now).given ≡ handed_up (at to self.now)) }
+    {
+        let mut out = [0; MAX_COUNT as usize];
         for i in 0..self.given(from) {
-            if !self.is_handed_up_at(to, i, self.given_at(from, i)) {
+            if !self.is_handed_up_at(to, i, self.given_at(from, i), &mut out) {
                 return false;
             }
         }
@@ -166,14 +180,15 @@ impl Pair {
     }
 
     /// Whether message `i` of those handed up at an end, counted from 0, is this one.
-    fn is_handed_up_at(&self, end: End, i: usize, message: &[u8]) -> bool
-        requires { i < length (handed_up (at end self.now)) }
-        ensures { IsTrue result ↔ (slice_index_or (handed_up (at end self.now)) i []
+    fn is_handed_up_at(&self, end: End, i: usize, message: &[u8], out: &mut [u8]) -> bool
+        requires message { i < length (handed_up (at end self.now)) }
+        requires room { MAX_COUNT ≤ length out.old }
+        ensures same { IsTrue result ↔ (slice_index_or (handed_up (at end self.now)) i []
             ≡ message.now) }
+        ensures room { length out.new ≡ length out.old }
     {
         self.station(end).holds();
-        let mut out = [0; MAX_COUNT as usize];
-        let length = self.handed_up_at(end, i, &mut out);
+        let length = self.handed_up_at(end, i, out);
         is_same(&out[..length], message)
     }
 }

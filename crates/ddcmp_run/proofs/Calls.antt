@@ -4,7 +4,7 @@ use Rattle.std.specs.Prelude.{option_to_list}
 use Rattle.std.proofs.lemmas.List.{drop-append-le}
 use Rattle.ddcmp_core.specs.declared.state.State.{State}
 use Rattle.ddcmp_core.specs.declared.state.State.TheVariants.{Halted, IStart, AStart, Running, Maintenance}
-use Rattle.ddcmp_core.specs.declared.state.Reply.{Reply}
+use Rattle.ddcmp_core.specs.declared.state.Owed.{Owed}
 use Rattle.ddcmp_core.specs.declared.state.Timer.{Timer}
 use Rattle.ddcmp_core.specs.declared.state.Timer.TheVariants.{Off, Fresh, On}
 use Rattle.ddcmp_core.specs.Store.{first_message}
@@ -37,12 +37,12 @@ fits_station x y fs fs' s taken e f h = record {
 }
 
 -- flags and timer play no part
-pub stands_flags : (x : Face) (due : Bool) (reply : Reply) (rep : Bool) (timer : Timer) (n t : ℕ) → Stands x n t
+pub stands_flags : (x : Face) (due : Bool) (reply : Owed) (rep : Bool) (timer : Timer) (n t : ℕ) → Stands x n t
     → Stands (record x { station = record x.station { due = due; reply = reply; rep = rep; timer = timer } }) n t
 stands_flags x due reply rep timer n t (not_begun s p g u) = not_begun s p g u
 stands_flags x due reply rep timer n t (begun s c p) = begun s c p
 
-pub fits_flags : (x y : Face) (fs fs' : List Frame) (due : Bool) (reply : Reply) (rep : Bool) (timer : Timer) → Fits x y fs fs'
+pub fits_flags : (x y : Face) (fs fs' : List Frame) (due : Bool) (reply : Owed) (rep : Bool) (timer : Timer) → Fits x y fs fs'
     → Fits (record x { station = record x.station { due = due; reply = reply; rep = rep; timer = timer } }) y fs fs'
 fits_flags x y fs fs' due reply rep timer h =
     fits_station x y fs fs' (record x.station { due = due; reply = reply; rep = rep; timer = timer }) x.taken refl (stands_flags x due reply rep timer) h

@@ -2,9 +2,9 @@
 use Rattle.std.proofs.Common.{◌≡◌, ℕ, suc, ◌+◌, ◌-◌, ◌%◌, ◌<◌, ◌≤◌, max, Bool, true, false, List, [], ◌∷◌, ◌++◌, length, Some, refl, sym, ap, ◌∙◌, subst, arith, append_assoc, length-append}
 use Rattle.std.specs.Prelude.{◌==◌, nat_lt, slice_get, slice_index_or}
 use Rattle.ddcmp_core.specs.Numbers.{next_number}
-use Rattle.ddcmp_frame.specs.declared.nak.Nak.TheVariants as reason
-use Rattle.ddcmp_core.specs.declared.state.Reply.TheVariants.{Ack, Nak}
-use Rattle.ddcmp_core.specs.Table.{Limits, StationState, Frame, newly_acknowledged, after_ack, after_offer}
+use Rattle.ddcmp_core.specs.Inbox.{answer_to_offer}
+use Rattle.ddcmp_core.specs.declared.state.Owed.{Owed}
+use Rattle.ddcmp_core.specs.Table.{Limits, StationState, Frame, incoming, newly_acknowledged, after_ack, reply_to_offer, after_offer}
 use Rattle.ddcmp_run.specs.Link.{IsReached, link_of}
 use Rattle.ddcmp_run.proofs.Reached.{reached-forward, reached-back}
 use Rattle.ddcmp_run.proofs.Modulo.{next-near, forward-near, back-between}
@@ -170,16 +170,21 @@ counts_offer s w given acked sent next up up' num e c = record {
   sent_given = c.sent_given;
 }
 
+-- what is owed for data that come
+abbrev owed : Limits → StationState → ℕ → Owed
+owed l s num = reply_to_offer (answer_to_offer l.room (incoming s) num) s.reply
+
 -- data are taken, find no room, or aren't the next
 taken : (l : Limits) (s : StationState) (num : ℕ) (m : List ℕ) → (num == next_number s.r) ≡ true → nat_lt (length s.inbox) l.room ≡ true
-    → after_offer l s num m ≡ record s { r = num; inbox = s.inbox ++ m ∷ []; reply = Ack }
+    → after_offer l s num m ≡ record s { r = num; inbox = s.inbox ++ m ∷ []; reply = owed l s num }
 taken l s num m e d = rw (e, d) refl
 
 no-room : (l : Limits) (s : StationState) (num : ℕ) (m : List ℕ) → (num == next_number s.r) ≡ true → nat_lt (length s.inbox) l.room ≡ false
-    → after_offer l s num m ≡ record s { reply = Nak reason.NoBuffer }
+    → after_offer l s num m ≡ record s { reply = owed l s num }
 no-room l s num m e d = rw (e, d) refl
 
-out-of-sequence : (l : Limits) (s : StationState) (num : ℕ) (m : List ℕ) → (num == next_number s.r) ≡ false → after_offer l s num m ≡ s
+out-of-sequence : (l : Limits) (s : StationState) (num : ℕ) (m : List ℕ) → (num == next_number s.r) ≡ false
+    → after_offer l s num m ≡ record s { reply = owed l s num }
 out-of-sequence l s num m e = rw e refl
 
 pub use_position : (x y : Face) (fs fs' : List Frame) (k num : ℕ) (message : List ℕ) (h : Pending x y fs fs' (suc k ∷ []) []) → num ≡ suc k % 256
@@ -197,10 +202,10 @@ use_position x y fs fs' k num message h e g s c p = by (num == next_number x.sta
 
     by : (b : Bool) → (num == next_number x.station.r) ≡ b → (d : Bool) → nat_lt (length x.station.inbox) x.limits.room ≡ d
         → Fits (record x { station = after_offer x.limits x.station num message }) y fs fs'
-    by false t d room = with x.station (out-of-sequence x.limits x.station num message t) lost
+    by false t d room = with _ (out-of-sequence x.limits x.station num message t) (fits_flags x y fs fs' _ _ _ _ lost)
     by true t false room =
         with _ (no-room x.limits x.station num message t room)
-        (fits_flags x y fs fs' x.station.due (Nak reason.NoBuffer) x.station.rep x.station.timer lost)
+        (fits_flags x y fs fs' _ _ _ _ lost)
     by true t true room =
         with _ (taken x.limits x.station num message t room) (
         let near = forward-near y.limits.window (suc k) h.forward' (link_of y.given y.acknowledged h.sent' (up x) (suc k ∷ h.forward') h.back') h.reached' refl in

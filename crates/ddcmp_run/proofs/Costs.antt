@@ -3,8 +3,8 @@ use Rattle.std.proofs.Common.{◌≡◌, ℕ, ◌+◌, ◌-◌, ◌*◌, ◌<◌
 use Rattle.std.specs.Prelude.{◌==◌}
 use Rattle.ddcmp_core.specs.declared.state.State.{State}
 use Rattle.ddcmp_core.specs.declared.state.State.TheVariants.{Halted, IStart, AStart, Running, Maintenance}
-use Rattle.ddcmp_core.specs.declared.state.Reply.{Reply}
-use Rattle.ddcmp_core.specs.declared.state.Reply.TheVariants.{Quiet, Ack, Nak}
+use Rattle.ddcmp_core.specs.declared.state.Owed.{Owed}
+use Rattle.ddcmp_core.specs.declared.state.Owed.TheVariants.{Quiet, Ack, Nak}
 use Rattle.ddcmp_frame.specs.declared.nak.Nak.TheVariants as reason
 use Rattle.ddcmp_run.proofs.Views.{View, Ordered, Crossing, c_strt, c_stack, c_nak, c_rep, c_data, c_ack, c_waits, c_rests, hears_strt, hears_stack, hears_nak, hears_rep, hears_ack, hears_data}
 
@@ -13,7 +13,7 @@ cost_due IStart true = 3
 cost_due AStart true = 2
 cost_due _ _ = 0
 
-abbrev cost_reply : ℕ → Reply → ℕ
+abbrev cost_reply : ℕ → Owed → ℕ
 cost_reply W Quiet = 0
 cost_reply W Ack = 1
 cost_reply W (Nak c) = 1 + 2 * W
@@ -30,7 +30,7 @@ due_most IStart true = omega arith
 due_most AStart true = omega arith
 due_most _ _ = omega arith
 
-reply_most : (W : ℕ) (r : Reply) → cost_reply W r ≤ 1 + 2 * W
+reply_most : (W : ℕ) (r : Owed) → cost_reply W r ≤ 1 + 2 * W
 reply_most W Quiet = omega arith
 reply_most W Ack = omega arith
 reply_most W (Nak c) = omega arith
@@ -46,7 +46,7 @@ rep_falls : (W : ℕ) (b c : Bool) → cost_rep W (cond b c false) ≤ cost_rep 
 rep_falls W true c = omega arith
 rep_falls W false c = omega arith
 
-reply_up : (W : ℕ) (b : Bool) (r : Reply) → cost_reply W (cond b Ack r) ≤ cost_reply W r + 1
+reply_up : (W : ℕ) (b : Bool) (r : Owed) → cost_reply W (cond b Ack r) ≤ cost_reply W r + 1
 reply_up W true r = omega arith
 reply_up W false r = omega arith
 

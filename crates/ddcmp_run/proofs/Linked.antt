@@ -168,7 +168,7 @@ linked-poll x y h =
 -- ---- bytes arrive
 
 -- no end begins anew where none is told
-none-anew : (notices : List Notice) → NoRestart notices → restarts_in notices ≡ 0
+pub none-anew : (notices : List Notice) → NoRestart notices → restarts_in notices ≡ 0
 none-anew [] q = refl
 none-anew (n ∷ notices) q = by n (q 0 n (omega arith)) (none-anew notices (λ i d h. q (suc i) d (omega arith)))
   where
@@ -192,7 +192,7 @@ pub record LinkedArrival (bytes : List ℕ) (x y : EndState) : Type 0 where
   pub linked : Linked (after_arrival_here bytes x) y
   pub quiet : NoRestart (notices_at bytes x)
 
-same-starts : (n k : ℕ) → n ≤ 1 → k ≡ 0 → count_plus n k ≡ n
+pub same-starts : (n k : ℕ) → n ≤ 1 → k ≡ 0 → count_plus n k ≡ n
 same-starts n k l z = omega (arith, l, z)
 
 arrived : (bytes : List ℕ) (x y : EndState) (next : ℕ) → x.starts ≤ 1

@@ -6,7 +6,7 @@ use Rattle.ddcmp_core.specs.declared.state.State.TheVariants.{Halted, IStart, AS
 use Rattle.ddcmp_core.specs.Table.{is_starting}
 use Rattle.ddcmp_core.specs.Core.{IsSound}
 use Rattle.ddcmp_run.specs.InOrder.{IsRun}
-use Rattle.ddcmp_run.specs.Recovery.{is_ready, IsRepaired}
+use Rattle.ddcmp_run.specs.Recovery.{is_ready, larger_window, IsRepaired}
 use Rattle.ddcmp_run.specs.Run.{EndState, PairState, after_event, new_pair}
 use Rattle.ddcmp_run.proofs.Reached.{reached-in-order, reached-counts}
 use Rattle.ddcmp_run.proofs.Relation.{face, StateFits}
@@ -15,7 +15,8 @@ use Rattle.ddcmp_run.proofs.Linked.{Linked, linked-turned}
 use Rattle.ddcmp_run.proofs.Ordered.{run-holds, run-event}
 use Rattle.ddcmp_run.proofs.Alone.{Alone, BothAlone, alone-run, alone-begun}
 use Rattle.ddcmp_run.proofs.Steady.{Shows, IsKept}
-use Rattle.ddcmp_run.proofs.Repairs.{ready-repaired}
+use Rattle.ddcmp_run.proofs.Rounds.{Recovers}
+use Rattle.ddcmp_run.proofs.Repairs.{ready-recovers, ready-repaired}
 
 nothing-given : (p : State) (given : List (List ℕ)) → is_starting p ≡ true → StateFits p given → given ≡ []
 nothing-given Halted given e f = absurd (cc e)
@@ -52,7 +53,7 @@ run-alone p r = subst (λ (q : PairState). BothAlone q) r.leads (alone-run r.eve
 began-once : (m n : ℕ) → (nat_le m 1 && nat_le n 1) ≡ true → (m ≤ 1) × (n ≤ 1)
 began-once m n c = (grind (arith, c), grind (arith, c))
 
-kept : IsKept (λ p. IsRun p)
+pub kept : IsKept (λ p. IsRun p)
 kept = record {
   event = λ e p r. run-event e p (after_event e p) refl r;
   from_a = λ p r honest clean w. shows-of p.a p.b ((run-holds p r).linked honest clean) (run-alone p r).a (began-once p.a.starts p.b.starts clean).0 w.a;
@@ -61,3 +62,7 @@ kept = record {
 
 pub run-repaired : (p : PairState) → IsRun p → IsSound p.a.core.limits p.a.core.station → IsSound p.b.core.limits p.b.core.station → is_ready p ≡ true → IsRepaired p
 run-repaired p r a b e = ready-repaired (λ q. IsRun q) kept p r (run-alone p r) a b e
+
+pub run-recovers : (p : PairState) → IsRun p → IsSound p.a.core.limits p.a.core.station → IsSound p.b.core.limits p.b.core.station → is_ready p ≡ true
+    → Recovers (λ q. IsRun q) kept (larger_window p) p
+run-recovers p r a b e = ready-recovers (λ q. IsRun q) kept p r (run-alone p r) a b e

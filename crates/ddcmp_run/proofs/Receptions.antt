@@ -4,11 +4,9 @@ use Rattle.std.specs.Prelude.{◌==◌}
 use Rattle.ddcmp_core.specs.Sequence.{distance}
 use Rattle.ddcmp_core.specs.Numbers.{is_within, next_number}
 use Rattle.ddcmp_frame.specs.declared.nak.Nak.{Nak as Reason}
-use Rattle.ddcmp_frame.specs.declared.nak.Nak.TheVariants as reason
 use Rattle.ddcmp_core.specs.declared.state.State.{State}
 use Rattle.ddcmp_core.specs.declared.state.State.TheVariants.{Halted, IStart, AStart, Running, Maintenance}
-use Rattle.ddcmp_core.specs.declared.state.Reply.{Reply}
-use Rattle.ddcmp_core.specs.declared.state.Reply.TheVariants.{Ack, Nak}
+use Rattle.ddcmp_core.specs.declared.state.Owed.{Owed}
 use Rattle.ddcmp_core.specs.declared.state.Timer.{Timer}
 use Rattle.ddcmp_core.specs.declared.state.Timer.TheVariants.{Off}
 use Rattle.ddcmp_core.specs.declared.notice.Notice.TheVariants as notice
@@ -122,19 +120,19 @@ hear_nak x y fs fs' resp why p (wire_nak {q = q} e no_wire) h =
 quiet : (x y : Face) (fs fs' : List Frame) → Fits x y fs fs' → Fits (record x { acknowledged = x.acknowledged + 0 }) y fs fs'
 quiet x y fs fs' h = let a : x.acknowledged ≡ x.acknowledged + 0 = omega arith in subst (λ n. Fits (record x { acknowledged = n }) y fs fs') a h
 
-flags : (x y : Face) (fs fs' : List Frame) (due : Bool) (reply : Reply) (rep : Bool) (timer : Timer) → Fits x y fs fs'
+flags : (x y : Face) (fs fs' : List Frame) (due : Bool) (reply : Owed) (rep : Bool) (timer : Timer) → Fits x y fs fs'
     → Fits (record x { station = record x.station { due = due; reply = reply; rep = rep; timer = timer }; acknowledged = x.acknowledged + 0 }) y fs fs'
 flags x y fs fs' due reply rep timer h = quiet _ y fs fs' (fits_flags x y fs fs' due reply rep timer h)
 
 -- another state, of an end that has been started
-stands_state : (x : Face) (p q : State) (n t : ℕ) (due : Bool) (reply : Reply) (timer : Timer) → x.station.state ≡ p → (p ≡ Halted → ⊥)
+stands_state : (x : Face) (p q : State) (n t : ℕ) (due : Bool) (reply : Owed) (timer : Timer) → x.station.state ≡ p → (p ≡ Halted → ⊥)
     → (StateFits p x.given → StateFits q x.given) → Stands x n t
     → Stands (record x { station = record x.station { state = q; due = due; reply = reply; timer = timer } }) n t
 stands_state x p q n t due reply timer e up f s =
     let b = awake x n t (λ h. up (sym e ∙ h)) s in
     begun b.started b.counts (f (subst (λ st. StateFits st x.given) e b.state))
 
-state_to : (x y : Face) (fs fs' : List Frame) (p q : State) (due : Bool) (reply : Reply) (timer : Timer) → x.station.state ≡ p → (p ≡ Halted → ⊥)
+state_to : (x y : Face) (fs fs' : List Frame) (p q : State) (due : Bool) (reply : Owed) (timer : Timer) → x.station.state ≡ p → (p ≡ Halted → ⊥)
     → (StateFits p x.given → StateFits q x.given) → Fits x y fs fs'
     → Fits (record x { station = record x.station { state = q; due = due; reply = reply; timer = timer }; acknowledged = x.acknowledged + 0 }) y fs fs'
 state_to x y fs fs' p q due reply timer e up f h =
@@ -192,18 +190,18 @@ hears_by x y fs Maintenance e f rest c n =
     let b = awake x c.pending.sent c.pending.next (λ h. let z = sym e ∙ h in cc) c.pending.stands in
     let never : StateFits Maintenance x.given = subst (λ st. StateFits st x.given) e b.state in
     absurd never
-hears_by x y fs IStart e Strt rest c n = state_to x y fs rest IStart AStart true x.station.reply Off e starting-awake (λ g. g) (passes x y fs Strt rest c)
-hears_by x y fs IStart e Stack rest c n = state_to x y fs rest IStart Running false Ack Off e starting-awake (λ g. tt) (passes x y fs Stack rest c)
+hears_by x y fs IStart e Strt rest c n = state_to x y fs rest IStart AStart _ _ _ e starting-awake (λ g. g) (passes x y fs Strt rest c)
+hears_by x y fs IStart e Stack rest c n = state_to x y fs rest IStart Running _ _ _ e starting-awake (λ g. tt) (passes x y fs Stack rest c)
 hears_by x y fs IStart e f rest c n = quiet x y fs rest (passes x y fs f rest c)
-hears_by x y fs AStart e Strt rest c n = flags x y fs rest true x.station.reply x.station.rep x.station.timer (passes x y fs Strt rest c)
-hears_by x y fs AStart e Stack rest c n = state_to x y fs rest AStart Running false Ack Off e answering-awake (λ g. tt) (passes x y fs Stack rest c)
+hears_by x y fs AStart e Strt rest c n = flags x y fs rest _ _ _ _ (passes x y fs Strt rest c)
+hears_by x y fs AStart e Stack rest c n = state_to x y fs rest AStart Running _ _ _ e answering-awake (λ g. tt) (passes x y fs Stack rest c)
 hears_by x y fs AStart e (Acked resp) rest c n = by (resp == 0)
   where
     by : (b : Bool) → Fits (record x {
       station = cond b (after_startup x.station) x.station;
       acknowledged = x.acknowledged + acknowledged_by (cond b (Some notice.Running) None);
     }) y fs rest
-    by true = state_to x y fs rest AStart Running false x.station.reply Off e answering-awake (λ g. tt) (passes x y fs (Acked resp) rest c)
+    by true = state_to x y fs rest AStart Running _ _ _ e answering-awake (λ g. tt) (passes x y fs (Acked resp) rest c)
     by false = quiet x y fs rest (passes x y fs (Acked resp) rest c)
 hears_by x y fs AStart e (Data resp num message) rest c n = by (resp == 0) refl
   where
@@ -216,9 +214,8 @@ hears_by x y fs AStart e (Data resp num message) rest c n = by (resp == 0) refl
     by true t = first_data x y fs rest resp num message e (grind (arith)) c
 hears_by x y fs AStart e f rest c n = quiet x y fs rest (passes x y fs f rest c)
 hears_by x y fs Running e Strt rest c n = absurd (let z = n refl in cc)
-hears_by x y fs Running e Stack rest c n = flags x y fs rest x.station.due Ack x.station.rep x.station.timer (passes x y fs Stack rest c)
-hears_by x y fs Running e (Rep num) rest c n =
-    flags x y fs rest x.station.due (cond (num == x.station.r) Ack (Nak reason.ReplyToRep)) x.station.rep x.station.timer (passes x y fs (Rep num) rest c)
+hears_by x y fs Running e Stack rest c n = flags x y fs rest _ _ _ _ (passes x y fs Stack rest c)
+hears_by x y fs Running e (Rep num) rest c n = flags x y fs rest _ _ _ _ (passes x y fs (Rep num) rest c)
 hears_by x y fs Running e (Maint m) rest c n = quiet x y fs rest (passes x y fs (Maint m) rest c)
 hears_by x y fs Running e (Acked resp) rest c n =
     subst (λ n. Fits (record x { station = after_ack x.station resp; acknowledged = x.acknowledged + n }) y fs rest)
@@ -240,10 +237,10 @@ fits_frame x y fs lost f rest n h = hears_by x y fs x.station.state refl f rest 
 
 faults_by : (x y : Face) (fs fs' : List Frame) (p : State) (h : Received) → is_fault h ≡ true → Fits x y fs fs' → Fits (hearing_by p x h) y fs fs'
 faults_by x y fs fs' p (Good f) e h = absurd (cc)
-faults_by x y fs fs' Running BadHeader e h = flags x y fs fs' x.station.due (Nak reason.HeaderCheck) x.station.rep x.station.timer h
-faults_by x y fs fs' Running (BadData b) e h = flags x y fs fs' x.station.due (cond b (Nak reason.DataCheck) x.station.reply) x.station.rep x.station.timer h
-faults_by x y fs fs' Running (TooLong b) e h = flags x y fs fs' x.station.due (cond b (Nak reason.TooLong) x.station.reply) x.station.rep x.station.timer h
-faults_by x y fs fs' Running BadFormat e h = flags x y fs fs' x.station.due (Nak reason.Format) x.station.rep x.station.timer h
+faults_by x y fs fs' Running BadHeader e h = flags x y fs fs' _ _ _ _ h
+faults_by x y fs fs' Running (BadData b) e h = flags x y fs fs' _ _ _ _ h
+faults_by x y fs fs' Running (TooLong b) e h = flags x y fs fs' _ _ _ _ h
+faults_by x y fs fs' Running BadFormat e h = flags x y fs fs' _ _ _ _ h
 faults_by x y fs fs' Halted h e f = quiet x y fs fs' f
 faults_by x y fs fs' IStart h e f = quiet x y fs fs' f
 faults_by x y fs fs' AStart h e f = quiet x y fs fs' f

@@ -60,13 +60,17 @@ module _ (Holds : PairState → Type 0) (k : IsKept Holds) where
         done = r.done;
       }
 
-  pub ready-repaired : (p : PairState) → Holds p → BothAlone p → IsSound p.a.core.limits p.a.core.station → IsSound p.b.core.limits p.b.core.station → is_ready p ≡ true → IsRepaired p
-  ready-repaired p h alone a b e =
+  pub ready-recovers : (p : PairState) → Holds p → BothAlone p → IsSound p.a.core.limits p.a.core.station → IsSound p.b.core.limits p.b.core.station → is_ready p ≡ true
+      → Recovers Holds k (larger_window p) p
+  ready-recovers p h alone a b e =
       let z = both (p.honest && is_clean p) _ e in
       let honest = both p.honest (is_clean p) z.0 in
       let y = both (is_ready_here p.a && is_ready_here p.b) (p.a.core.limits.longest == p.b.core.limits.longest) z.1 in
       let here = both (is_ready_here p.a) (is_ready_here p.b) y.0 in
       let W = larger_window p in
-      repaired-by p (steady-recovers Holds k W p refl
+      steady-recovers Holds k W p refl
       (steady-mailed Holds k W p (inl h) honest.0 honest.1
-      (calm W p.a alone.a a (omega arith) here.0) (calm W p.b alone.b b (omega arith) here.1) (same-is _ _ y.1) refl))
+      (calm W p.a alone.a a (omega arith) here.0) (calm W p.b alone.b b (omega arith) here.1) (same-is _ _ y.1) refl)
+
+  pub ready-repaired : (p : PairState) → Holds p → BothAlone p → IsSound p.a.core.limits p.a.core.station → IsSound p.b.core.limits p.b.core.station → is_ready p ≡ true → IsRepaired p
+  ready-repaired p h alone a b e = repaired-by p (ready-recovers p h alone a b e)

@@ -8,8 +8,8 @@ use Rattle.ddcmp_core.specs.Numbers.{next_number, is_within}
 use Rattle.ddcmp_core.specs.declared.state.State.{State}
 use Rattle.ddcmp_core.specs.declared.state.State.TheVariants.{Halted, IStart, AStart, Running, Maintenance}
 use Rattle.ddcmp_core.specs.Inbox.{Incoming, answer_to_offer}
-use Rattle.ddcmp_core.specs.declared.state.Reply.{Reply}
-use Rattle.ddcmp_core.specs.declared.state.Reply.TheVariants.{Quiet, Ack, Nak}
+use Rattle.ddcmp_core.specs.declared.state.Owed.{Owed}
+use Rattle.ddcmp_core.specs.declared.state.Owed.TheVariants.{Quiet, Ack, Nak}
 use Rattle.ddcmp_core.specs.declared.state.Timer.TheVariants.{Off}
 use Rattle.ddcmp_core.specs.declared.notice.Notice.TheVariants as notice
 use Rattle.ddcmp_core.specs.Table.{StationState, Limits, Frame, Data, Acked, Naked, Rep, Strt, Stack, Good, incoming, before_next, newly_acknowledged, after_ack, after_offer, reply_to_offer, takes_data, on_nak, on_data, on_by, notice_by, acknowledged_by, after_startup, after_data}
@@ -103,7 +103,7 @@ module _ (s : StationState) (w : ℕ) (given : List (List ℕ)) (acked sent next
       within_bytes = omega (arith, c.a_is, c.n_is, c.small, lo, hi, c.sent_given, c.window)
 
 -- what is owed for a message that comes in its order or not, where there is room
-reply_up : (room : ℕ) (i : Incoming) (num : ℕ) (reply : Reply) → nat_lt (length i.inbox) room ≡ true → reply_to_offer (answer_to_offer room i num) reply ≡ cond (num == next_number i.r) Ack reply
+reply_up : (room : ℕ) (i : Incoming) (num : ℕ) (reply : Owed) → nat_lt (length i.inbox) room ≡ true → reply_to_offer (answer_to_offer room i num) reply ≡ cond (num == next_number i.r) Ack reply
 reply_up room i num reply g = by (num == next_number i.r) refl
   where
     by : (b : Bool) → (num == next_number i.r) ≡ b → reply_to_offer (answer_to_offer room i num) reply ≡ cond b Ack reply

@@ -4,8 +4,8 @@ use Rattle.std.specs.Prelude.{◌==◌, slice_get, slice_index_or}
 use Rattle.std.proofs.lemmas.List.{get_or-drop}
 use Rattle.ddcmp_core.specs.Numbers.{next_number}
 use Rattle.ddcmp_core.specs.declared.state.State.TheVariants.{Halted, Running, Maintenance}
-use Rattle.ddcmp_core.specs.declared.state.Reply.{Reply}
-use Rattle.ddcmp_core.specs.declared.state.Reply.TheVariants.{Quiet}
+use Rattle.ddcmp_core.specs.declared.state.Owed.{Owed}
+use Rattle.ddcmp_core.specs.declared.state.Owed.TheVariants.{Quiet}
 use Rattle.ddcmp_core.specs.declared.state.Timer.{Timer}
 use Rattle.ddcmp_core.specs.declared.state.Timer.TheVariants.{Fresh}
 use Rattle.ddcmp_core.specs.Frames.{frame_of, header_of, message_of}
@@ -31,10 +31,10 @@ abbrev pub after_sending : Face → Next → Face
 after_sending x t = record x { station = after_next t x.station }
 
 -- x after it sent a frame, where what else may change in a running station does
-abbrev sender : Face → Bool → ℕ → ℕ → Reply → Bool → Timer → Face
+abbrev sender : Face → Bool → ℕ → ℕ → Owed → Bool → Timer → Face
 sender x due n t reply rep timer = record x { station = record x.station { due = due; n = n; t = t; reply = reply; rep = rep; timer = timer } }
 
-fits_sends : (x y : Face) (fs fs' new : List Frame) (h : Fits x y fs fs') (due : Bool) (n t : ℕ) (reply : Reply) (rep : Bool) (timer : Timer) (ks qs : List ℕ) (sent next : ℕ)
+fits_sends : (x y : Face) (fs fs' new : List Frame) (h : Fits x y fs fs') (due : Bool) (n t : ℕ) (reply : Owed) (rep : Bool) (timer : Timer) (ks qs : List ℕ) (sent next : ℕ)
     → Wire x.given new ks qs → IsReached x.limits.window (link_of x.given x.acknowledged sent (up y) (h.forward ++ ks) h.back)
     → IsReached y.limits.window (link_of y.given y.acknowledged h.sent' (up x) h.forward' (h.back' ++ qs))
     → Stands (sender x due n t reply rep timer) sent next → Fits (sender x due n t reply rep timer) y (fs ++ new) fs'
@@ -57,13 +57,13 @@ fits_sends x y fs fs' new h due n t reply rep timer ks qs sent next w r r' s = r
   wire' = h.wire';
 }
 
-stands_sends : (x : Face) (due : Bool) (reply : Reply) (rep : Bool) (timer : Timer) (n t : ℕ) → Stands x n t
+stands_sends : (x : Face) (due : Bool) (reply : Owed) (rep : Bool) (timer : Timer) (n t : ℕ) → Stands x n t
     → Stands (sender x due x.station.n x.station.t reply rep timer) n t
 stands_sends x due reply rep timer n t (not_begun s p g u) = not_begun s p g u
 stands_sends x due reply rep timer n t (begun s c p) = begun s c p
 
 -- a frame that carries neither a position nor a count
-fits_plain : (x y : Face) (fs fs' new : List Frame) (due : Bool) (reply : Reply) (rep : Bool) (timer : Timer) → Wire x.given new [] []
+fits_plain : (x y : Face) (fs fs' new : List Frame) (due : Bool) (reply : Owed) (rep : Bool) (timer : Timer) → Wire x.given new [] []
     → Fits x y fs fs' → Fits (sender x due x.station.n x.station.t reply rep timer) y (fs ++ new) fs'
 fits_plain x y fs fs' new due reply rep timer w h =
     fits_sends x y fs fs' new h due _ _ reply rep timer [] [] h.sent h.next w
@@ -72,7 +72,7 @@ fits_plain x y fs fs' new due reply rep timer w h =
     (stands_sends x due reply rep timer h.sent h.next h.stands)
 
 -- a frame that carries a count
-fits_counted : (x y : Face) (fs fs' new : List Frame) (due : Bool) (reply : Reply) (rep : Bool) (timer : Timer) → Wire x.given new [] (length (up x) ∷ [])
+fits_counted : (x y : Face) (fs fs' new : List Frame) (due : Bool) (reply : Owed) (rep : Bool) (timer : Timer) → Wire x.given new [] (length (up x) ∷ [])
     → Fits x y fs fs' → Fits (sender x due x.station.n x.station.t reply rep timer) y (fs ++ new) fs'
 fits_counted x y fs fs' new due reply rep timer w h =
     fits_sends x y fs fs' new h due _ _ reply rep timer [] (length (up x) ∷ []) h.sent h.next w

@@ -3,15 +3,15 @@ use Rattle.std.proofs.Common.{◌≡◌, ℕ, ◌+◌, ◌≤◌, ◌⊎◌, inl
 use Rattle.std.specs.Prelude.{◌==◌}
 use Rattle.ddcmp_core.specs.declared.state.State.{State}
 use Rattle.ddcmp_core.specs.declared.state.State.TheVariants.{Halted, IStart, AStart, Running, Maintenance}
-use Rattle.ddcmp_core.specs.declared.state.Reply.{Reply}
-use Rattle.ddcmp_core.specs.declared.state.Reply.TheVariants.{Quiet, Ack, Nak}
+use Rattle.ddcmp_core.specs.declared.state.Owed.{Owed}
+use Rattle.ddcmp_core.specs.declared.state.Owed.TheVariants.{Quiet, Ack, Nak}
 use Rattle.ddcmp_frame.specs.declared.nak.Nak.{Nak as Reason}
 use Rattle.ddcmp_frame.specs.declared.nak.Nak.TheVariants as reason
 use Rattle.ddcmp_core.specs.Table.{is_starting}
 use Rattle.ddcmp_core.specs.NextFrame.{is_nak}
 use Rattle.ddcmp_run.proofs.Views.{View, Ordered, Crossing, c_strt, c_stack, c_nak, c_rep, c_data, c_ack, c_waits, c_rests, tells, comes_up, hears_strt, hears_stack, hears_nak, hears_rep, hears_ack, hears_data}
 
-abbrev pub is_quiet : Reply → Bool
+abbrev pub is_quiet : Owed → Bool
 is_quiet Quiet = true
 is_quiet _ = false
 

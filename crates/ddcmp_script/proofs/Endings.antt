@@ -1,22 +1,29 @@
 -- What the answers to a script say.
-use Rattle.std.proofs.Common.{◌≡◌, ◌≢◌, ℕ, ◌+◌, Bool, true, false, List, [], ◌∷◌, ◌++◌, length, take, refl, sym, ap, subst, ◌∙◌, Option, Some, None, Result, Ok, Err}
-use Rattle.std.specs.Prelude.{◌↔◌, IsOk}
-use Rattle.std.specs.Io.KnownBytes.{Appends, Consumes, IsAtEnd}
+use Rattle.std.proofs.Common.{inl, inr, ◌<◌, arith, length-append, ◌≡◌, ◌≢◌, ℕ, ◌+◌, Bool, true, false, List, [], ◌∷◌, ◌++◌, length, take, refl, sym, ap, subst, ◌∙◌, Option, Some, None, Result, Ok, Err}
+use Rattle.std.specs.Prelude.{◌↔◌, ◌⊎◌, ◌-◌, ◌^◌, IsOk, IsTrue}
+use Rattle.std.specs.Io.KnownBytes.{Appends, Consumes, IsAtEnd, Keeps}
 use Rattle.std.proofs.KnownBytes.{Appends-nil}
 use Rattle.std.proofs.lemmas.List.{append-nil}
+use Rattle.ddcmp_io.specs.Input.{GaveMost}
+use Rattle.ddcmp_io.specs.declared.device.Worst.{Worst}
+use Rattle.ddcmp_io.specs.declared.device.Worst.TheVariants as worst
+use Rattle.ddcmp_io.specs.declared.device.Got.{Got}
+use Rattle.ddcmp_io.specs.declared.device.Got.TheVariants.{Bytes, Idle, Failed}
+use Rattle.ddcmp_io.specs.Device.{ReadGives}
+use Rattle.ddcmp_io.proofs.Inputs.{read-all, Read as Counts}
 use Rattle.ddcmp_io.specs.Written.{Known, Output, HoldsBy, Holds, HandsOver, AppendsPart}
 use Rattle.ddcmp_io.proofs.WrittenLaws.{sends-then, part-append}
 use Rattle.ddcmp_run.specs.Run.{PairState}
-use Rattle.ddcmp_script.specs.declared.command.Reading.{Reading}
+use Rattle.ddcmp_script.specs.declared.command.ParsedLine.{ParsedLine}
 use Rattle.ddcmp_script.specs.declared.performing.Stop.{Stop}
 use Rattle.ddcmp_script.specs.declared.performing.Stop.TheVariants as stop
 use Rattle.ddcmp_script.specs.declared.script_fault.ScriptFault.{ScriptFault}
 use Rattle.ddcmp_script.specs.declared.script_fault.ScriptFault.TheVariants.{Line, Hex, Read, Write, Memory, Carrier}
 use Rattle.ddcmp_script.specs.ScriptWords.{lines_of}
-use Rattle.ddcmp_script.specs.ScriptText.{last_line}
+use Rattle.ddcmp_script.specs.ScriptText.{totals_line}
 use Rattle.ddcmp_carrier.specs.Carriages.{Carriage}
-use Rattle.ddcmp_script.specs.Script.{Between, AllFit, nothing_between, after_lines, text_of_lines, carriages_of_lines, Fits, lines_done}
-use Rattle.ddcmp_script.specs.ScriptEnds.{text_then, Around, around, StoppedAt, Broken, text_behind, Plays}
+use Rattle.ddcmp_script.specs.Script.{Between, AllFit, nothing_between, after_lines, text_of_lines, carriages_of_lines, IsScriptLine, lines_done}
+use Rattle.ddcmp_script.specs.ScriptEnds.{text_then, Around, around, PausedBefore, StoppedAt, Broken, text_behind, Plays}
 use Rattle.ddcmp_script.specs.ScriptProgress.{fresh, HasDone, HasDoneAll, Stops}
 use Rattle.ddcmp_io.proofs.TextLaws.{sends-nothing}
 use Rattle.ddcmp_script.proofs.Scenes.{carries-nothing}
@@ -49,7 +56,7 @@ wrote-part sink o text h = part-of o.broken sink o.sink o.waiting text (h.holds 
 -- ---- a stop
 
 module _ (input : List ℕ) (x : Around) where
-  stopped-wrote : (Reads : Reading → Type 0) (n : ℕ) (W V : List ℕ → Type 0) → ((t : List ℕ) → W t → V t) → StoppedAt Reads n input x W → StoppedAt Reads n input x V
+  stopped-wrote : (Reads : ParsedLine → Type 0) (n : ℕ) (W V : List ℕ → Type 0) → ((t : List ℕ) → W t → V t) → StoppedAt Reads n input x W → StoppedAt Reads n input x V
   stopped-wrote Reads n W V f s = record {
     done = s.done;
     line = s.line;
@@ -69,7 +76,7 @@ module _ (input : List ℕ) (x : Around) where
     written = f (text_then x.pair s.done) s.behind s.written;
   }
 
-  stopped-breaks : (Reads : Reading → Type 0) (n : ℕ) (W : List ℕ → Type 0) → StoppedAt Reads n input x W → Broken input x (λ text behind. W text)
+  stopped-breaks : (Reads : ParsedLine → Type 0) (n : ℕ) (W : List ℕ → Type 0) → StoppedAt Reads n input x W → Broken input x (λ text behind. W text)
   stopped-breaks Reads n W s = record {
     done = s.done;
     behind = s.line ∷ s.behind;
@@ -117,9 +124,9 @@ module _ (input : List ℕ) (x : Around) where
 
   -- ---- the end of the input
 
-  module _ (sink : Known) (a b o : Output) (last : HasDoneAll input (fresh sink) a x) (told : HandsOver a b (last_line x.pair_after)) (flushed : HandsOver b o []) where
-    told_all : HandsOver (fresh sink) o (text_then x.pair last.done ++ last_line x.pair_after)
-    told_all = sends-more (text_then x.pair last.done ++ last_line x.pair_after) (sends-then last.did.written told) flushed
+  module _ (sink : Known) (a b o : Output) (last : HasDoneAll input (fresh sink) a x) (told : HandsOver a b (totals_line x.pair_after)) (flushed : HandsOver b o []) where
+    told_all : HandsOver (fresh sink) o (text_then x.pair last.done ++ totals_line x.pair_after)
+    told_all = sends-more (text_then x.pair last.done ++ totals_line x.pair_after) (sends-then last.did.written told) flushed
 
     pub plays-whole : o.broken ≡ false → o.waiting ≡ [] → Plays input x (Appends sink o.sink) (AppendsPart sink o.sink) (Ok tt)
     plays-whole whole empty = record {
@@ -167,6 +174,16 @@ module _ (input : List ℕ) (x : Around) where
     did = record { pair = h.did.pair; carried = h.did.carried; written = wrote-all sink o _ h.did.written whole empty };
   }
 
+  pub paused-before : (rest line : List ℕ) (number : ℕ) (lines : Between) (sink : Known) (o : Output) → HasDone input rest line number lines (fresh sink) o x → o.broken ≡ false → o.waiting ≡ []
+      → PausedBefore rest input x (Appends sink o.sink)
+  paused-before rest line number lines sink o h whole empty = record {
+    done = h.done;
+    line = line;
+    begins = h.begins;
+    begun = h.begun;
+    did = record { pair = h.did.pair; carried = h.did.carried; written = wrote-all sink o _ h.did.written whole empty };
+  }
+
   pub plays-unwritten : (rest line : List ℕ) (number : ℕ) (lines : Between) (sink : Known) (o : Output) → HasDone input rest line number lines (fresh sink) o x → Plays input x (Appends sink o.sink) (AppendsPart sink o.sink) (Err Write)
   plays-unwritten rest line number lines sink o h =
       broken-part sink o (has-broken rest line number lines (fresh sink) o h)
@@ -177,6 +194,20 @@ pub left-after : (left later : Known) (rest bytes : List ℕ) → left ≡ Some 
 left-after None later rest bytes e h = let bad : ◌≡◌ {A = Option (List ℕ)} None (Some rest) = e in absurd (cc)
 left-after (Some xs) None rest bytes e h = absurd h
 left-after (Some xs) (Some ys) rest bytes e h = let same : rest ≡ xs = cc in (ys, refl, same ∙ h)
+
+-- a read that gave no bytes leaves what was left
+pub kept-by : (got : Got) (old new : Known) (buf : List ℕ) → ((n : ℕ) → got ≡ Bytes n → ⊥) → ReadGives old new got buf → Keeps old new
+kept-by (Bytes n) old new buf not h = absurd (not n refl)
+kept-by Idle old new buf not h = h
+kept-by Failed old new buf not h = h
+
+pub kept-left : (left later : Known) (rest xs : List ℕ) → left ≡ Some rest → later ≡ Some xs → Keeps left later → rest ≡ xs
+kept-left None later rest xs e f k = let bad : ◌≡◌ {A = Option (List ℕ)} None (Some rest) = e in absurd (cc)
+kept-left (Some a) None rest xs e f k = absurd k
+kept-left (Some a) (Some b) rest xs e f k =
+    let first : rest ≡ a = cc in
+    let last : b ≡ xs = cc in
+    first ∙ sym k ∙ last
 
 take-nothing : (buf : List ℕ) → take 0 buf ≡ []
 take-nothing [] = refl
@@ -210,7 +241,7 @@ begun-has input p d log sink b line number lines page el en es ep eb =
 
 -- ---- exactly where every line fits and nothing fails
 
-fit-at : (a : List (List ℕ)) (line : List ℕ) (b : List (List ℕ)) → AllFit (a ++ line ∷ b) → Fits line
+fit-at : (a : List (List ℕ)) (line : List ℕ) (b : List (List ℕ)) → AllFit (a ++ line ∷ b) → IsScriptLine line
 unfolding AllFit
 fit-at [] line b h = h.0
 fit-at (x ∷ a) line b h = fit-at a line b h.1
@@ -218,25 +249,67 @@ fit-at (x ∷ a) line b h = fit-at a line b h.1
 abbrev pub Answer : Type 0
 Answer = Result (Unit {0}) ScriptFault
 
-module _ (input : List ℕ) (x : Around) (W V : List ℕ → Type 0) where
-  abbrev pub Succeeds : Answer → Type 0
-  Succeeds result = AllFit (lines_of input) × (result ≢ Err Read) × (result ≢ Err Write) × (result ≢ Err Memory) × (result ≢ Err Carrier)
+fine-or : (w : Worst) → (w ≢ worst.Fine → ⊥) → w ≡ worst.Fine
+fine-or worst.Fine h = refl
+fine-or worst.Idle h = absurd (h (λ e. let bad : ◌≡◌ {A = Worst} worst.Idle worst.Fine = e in cc))
+fine-or worst.Failed h = absurd (h (λ e. let bad : ◌≡◌ {A = Worst} worst.Failed worst.Fine = e in cc))
 
-  fits-there : (Reads : Reading → Type 0) (n : ℕ) (s : StoppedAt Reads n input x W) → AllFit (lines_of input) → Fits s.line
+not-true : (b : Bool) → (IsTrue b → ⊥) → b ≡ false
+not-true false h = refl
+not-true true h = absurd (h refl)
+
+true-not : (b : Bool) → IsTrue b → b ≡ false → ⊥
+true-not b t f = let bad : ◌≡◌ {A = Bool} true false = sym t ∙ f in cc
+
+-- a source that gave fewer has given less than the most
+pub not-most : (k : ℕ) (before left : Known) → Counts k before left → (input rest : List ℕ) → before ≡ Some input → left ≡ Some rest → length input < length rest + (2 ^ 64 - 1) → k ≢ 2 ^ 64 - 1
+not-most k before left r input rest b l few most =
+    let all : input ≡ r.0 ++ rest = subst (λ x. Consumes (Some input) x r.0) l (subst (λ x. Consumes x left r.0) b r.2) in
+    absurd (omega (arith, r.1, ap length all ∙ length-append r.0 rest, few, most))
+
+-- a source that gave the most bytes has given so many
+pub most-read : (k : ℕ) (before left : Known) (input : List ℕ) → Counts k before left → before ≡ Some input → GaveMost before left → k ≡ 2 ^ 64 - 1
+most-read k None left input r e m = let bad : ◌≡◌ {A = Option (List ℕ)} None (Some input) = e in absurd (cc)
+most-read k (Some a) None input r e m = absurd r.2
+most-read k (Some a) (Some b) input r e m = read-all k (Some a) (Some b) r a b refl refl m
+
+module _ (input : List ℕ) (x : Around) (W V : List ℕ → Type 0) (state : Worst) (most : Type 0) (w c : Bool) where
+  abbrev pub Succeeds : Answer → Type 0
+  Succeeds result = AllFit (lines_of input) × (state ≡ worst.Fine) × (most → ⊥) × (w ≡ false) × (c ≡ false) × (result ≢ Err Memory)
+
+  -- what an answer says of the devices
+  pub record ToldBy (result : Answer) : Type 0 where
+    pub read : state ≢ worst.Fine → result ≡ Err Read
+    pub read_only : result ≡ Err Read → (state ≢ worst.Fine) ⊎ most
+    pub read_most : most → result ≡ Err Read
+    pub write : (result ≡ Err Write) ↔ IsTrue w
+    pub carried : (result ≡ Err Carrier) ↔ IsTrue c
+
+  fits-there : (Reads : ParsedLine → Type 0) (n : ℕ) (s : StoppedAt Reads n input x W) → AllFit (lines_of input) → IsScriptLine s.line
   fits-there Reads n s h = fit-at (lines_done s.done) s.line s.behind (subst AllFit (sym s.begins.lines) h)
 
-  then-fits : (result : Answer) → Plays input x W V result → IsOk result → Succeeds result
-  then-fits (Ok u) s ok = (subst AllFit (sym (append-nil (lines_done s.done)) ∙ s.begins.lines) s.begins.fit, λ e. cc, λ e. cc, λ e. cc, λ e. cc)
-  then-fits (Err fault) s ok = let bad : ◌≡◌ {A = Bool} false true = ok in absurd (cc)
+  then-fits : (result : Answer) → Plays input x W V result → ToldBy result → IsOk result → Succeeds result
+  then-fits (Ok u) s told ok = (
+    subst AllFit (sym (append-nil (lines_done s.done)) ∙ s.begins.lines) s.begins.fit,
+    fine-or state (λ bad. let e : ◌≡◌ {A = Answer} (Ok u) (Err Read) = told.read bad in absurd (cc)),
+    λ m. let e : ◌≡◌ {A = Answer} (Ok u) (Err Read) = told.read_most m in absurd (cc),
+    not-true w (λ t. let e : ◌≡◌ {A = Answer} (Ok u) (Err Write) = told.write.1 t in absurd (cc)),
+    not-true c (λ t. let e : ◌≡◌ {A = Answer} (Ok u) (Err Carrier) = told.carried.1 t in absurd (cc)),
+    λ e. cc,
+  )
+  then-fits (Err fault) s told ok = let bad : ◌≡◌ {A = Bool} false true = ok in absurd (cc)
 
-  only-then : (result : Answer) → Plays input x W V result → Succeeds result → IsOk result
-  only-then (Ok u) s h = refl
-  only-then (Err (Line n)) s h = absurd ((fits-there _ n s h.0).0 s.reads)
-  only-then (Err (Hex n)) s h = absurd ((fits-there _ n s h.0).1 s.reads)
-  only-then (Err Read) s h = absurd (h.1 refl)
-  only-then (Err Write) s h = absurd (h.2 refl)
-  only-then (Err Memory) s h = absurd (h.3 refl)
-  only-then (Err Carrier) s h = absurd (h.4 refl)
+  only-then : (result : Answer) → Plays input x W V result → ToldBy result → Succeeds result → IsOk result
+  only-then (Ok u) s told h = refl
+  only-then (Err (Line n)) s told h = absurd ((fits-there _ n s h.0).0 s.reads)
+  only-then (Err (Hex n)) s told h = absurd ((fits-there _ n s h.0).1 s.reads)
+  only-then (Err Read) s told h = elim (told.read_only refl) [
+    | inl worse ↦ absurd (worse h.1)
+    | inr m ↦ absurd (h.2 m)
+  ]
+  only-then (Err Write) s told h = absurd (true-not w (told.write.0 refl) h.3)
+  only-then (Err Memory) s told h = absurd (h.5 refl)
+  only-then (Err Carrier) s told h = absurd (true-not c (told.carried.0 refl) h.4)
 
-  pub ok-exactly : (result : Answer) → Plays input x W V result → IsOk result ↔ Succeeds result
-  ok-exactly result s = (then-fits result s, only-then result s)
+  pub ok-exactly : (result : Answer) → Plays input x W V result → ToldBy result → IsOk result ↔ Succeeds result
+  ok-exactly result s told = (then-fits result s told, only-then result s told)

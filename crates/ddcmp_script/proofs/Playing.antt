@@ -7,16 +7,14 @@ use Rattle.ddcmp_io.specs.Device.{Logs}
 use Rattle.ddcmp_io.specs.Written.{Output, HandsOver}
 use Rattle.ddcmp_io.proofs.WrittenLaws.{sends-then}
 use Rattle.ddcmp_run.specs.Run.{PairState}
-use Rattle.ddcmp_run.specs.Settle.{StoppedAmong}
-use Rattle.ddcmp_run.proofs.Runs.{stopped-none}
 use Rattle.ddcmp_script.specs.declared.performing.Stop.{Stop}
 use Rattle.ddcmp_script.specs.declared.performing.Stop.TheVariants.{NoCommand, NotHex, Write, Memory, Carrier}
 use Rattle.ddcmp_script.specs.ScriptWords.{reading_of, without_cr, lines_between, between_lf, lines_of}
 use Rattle.ddcmp_carrier.specs.Carriages.{Carriage}
-use Rattle.ddcmp_script.specs.Script.{Between, Scene, AreDirect, DoneLine, after_line, text_of, carriages_by, events_by, after_lines, text_of_lines, carriages_of_lines, Fits, AllFit, lines_done}
+use Rattle.ddcmp_script.specs.Script.{Between, Scene, AreDirect, AreWithin, DoneLine, after_line, text_of, carriages_by, after_lines, text_of_lines, carriages_of_lines, IsScriptLine, AllFit, lines_done}
 use Rattle.ddcmp_script.specs.ScriptSteps.{scene_of, Carries, LineEnds}
-use Rattle.ddcmp_script.specs.ScriptEnds.{scene_with, scene_then, text_then, carriages_then, Around, around, Begins, Did, StoppedBefore}
-use Rattle.ddcmp_script.specs.ScriptProgress.{HasNoLf, HasDone, HasDoneAll, Stops, Ends}
+use Rattle.ddcmp_script.specs.ScriptEnds.{HasNoLf, scene_with, scene_then, text_then, carriages_then, Around, around, Begins, Did, StoppedBefore}
+use Rattle.ddcmp_script.specs.ScriptProgress.{HasDone, HasDoneAll, Stops, PlaysOut}
 use Rattle.ddcmp_script.proofs.Cutting.{HasPart, has-part}
 use Rattle.ddcmp_io.proofs.TextLaws.{sends-as}
 
@@ -43,7 +41,7 @@ pub lines-more : (done : List DoneLine) (e : DoneLine) (behind : List (List ℕ)
 lines-more [] e behind = refl
 lines-more (d ∷ done) e behind = ap (λ t. d.line ∷ t) (lines-more done e behind)
 
-fit-more : (done : List DoneLine) (e : DoneLine) → AllFit (lines_done done) → Fits e.line → AllFit (lines_done (done ++ e ∷ []))
+fit-more : (done : List DoneLine) (e : DoneLine) → AllFit (lines_done done) → IsScriptLine e.line → AllFit (lines_done (done ++ e ∷ []))
 unfolding AllFit
 fit-more [] e all fits = (fits, tt)
 fit-more (d ∷ done) e all fits = (all.0, fit-more done e all.1 fits)
@@ -56,6 +54,11 @@ logs-then (Some a) None c xs ys p q = absurd p
 logs-then (Some a) (Some b) None xs ys p q = absurd q
 logs-then (Some a) (Some b) (Some c) xs ys p q = q ∙ ap (λ t. t ++ ys) p ∙ append_assoc a xs ys
 
+within-then : (xs ys : List Carriage) → AreWithin xs → AreWithin ys → AreWithin (xs ++ ys)
+unfolding AreWithin
+within-then [] ys p q = q
+within-then (c ∷ xs) ys p q = (p.0, within-then xs ys p.1 q)
+
 direct-then : (xs ys : List Carriage) → AreDirect xs → AreDirect ys → AreDirect (xs ++ ys)
 unfolding AreDirect
 direct-then [] ys p q = q
@@ -65,12 +68,14 @@ carries-then : (d : Bool) (a b c : Option (List Carriage)) (xs ys : List Carriag
 carries-then d a b c xs ys p q = record {
   told = logs-then a b c xs ys p.told q.told;
   direct = λ e. direct-then xs ys (p.direct e) (q.direct e);
+  within = within-then xs ys p.within q.within;
 }
 
 carries-kept : (d : Bool) (a b c : Option (List Carriage)) (xs : List Carriage) → Carries d a b xs → Logs b c [] → Carries d a c xs
 carries-kept d a b c xs p q = record {
   told = subst (Logs a c) (append-nil xs) (logs-then a b c xs [] p.told q);
   direct = p.direct;
+  within = p.within;
 }
 
 -- ---- what becomes of the next line
@@ -137,11 +142,7 @@ module _ (input line : List ℕ) (behind : List (List ℕ)) (done : List DoneLin
     done = done;
     behind = line ∷ behind;
     begins = begins;
-    stopped = (
-      [],
-      subst (StoppedAmong (events_by (reading_of line) [] (scene_then p done)) (scene_then p done).pair) (sym (pair_kept ends.0)) (stopped-none _ (scene_then p done).pair),
-      inl (carried_kept ends.2),
-    );
+    stopped = inl (pair_kept ends.0, carried_kept ends.2);
     written = sends-more (text_then p done) did.written ends.1;
   }
   line-stops number ne Carrier ends = record {
@@ -159,14 +160,14 @@ module _ (input line : List ℕ) (behind : List (List ℕ)) (done : List DoneLin
         done = done;
         behind = line ∷ behind;
         begins = begins;
-        stopped = (
-          inside.1.came,
-          inside.1.stopped,
-          elim inside.1.carried [
-            | inl nothing ↦ inl (carried_kept nothing.told)
-            | inr more ↦ inr (carries-then d log told now (carriages_then p done) _ did.carried more)
-          ],
-        );
+        stopped = elim inside.1 [
+          | inl same ↦ inl (same.0, carried_kept same.1.told)
+          | inr b ↦ inr (record {
+            came = b.came;
+            wants = b.wants;
+            carried = carries-then d log told now (carriages_then p done) _ did.carried b.carried;
+          })
+        ];
         written = sends-more (text_then p done) did.written inside.0;
       }
 
@@ -214,11 +215,7 @@ last-some (c ∷ line) h =
 -- nothing of the next line was done
 pub nothing-of-next : (behind : List (List ℕ)) (done : List DoneLine) (x : Around) (W : List ℕ → Type 0) → Did done x W → StoppedBefore behind done x
 nothing-of-next [] done x W did = (did.pair, did.carried)
-nothing-of-next (line ∷ behind) done x W did = (
-  [],
-  subst (StoppedAmong (events_by (reading_of line) [] (scene_then x.pair done)) (scene_then x.pair done).pair) (sym did.pair) (stopped-none _ (scene_then x.pair done).pair),
-  inl did.carried,
-)
+nothing-of-next (line ∷ behind) done x W did = inl (did.pair, did.carried)
 
 -- ---- what is taken
 
@@ -281,6 +278,6 @@ module _ (input line : List ℕ) (number : ℕ) (lines later : Between) (p q r :
   end-stopped some why ends =
       line-stops input line [] h.done p q r lines later d log told now start before after (begins-last some) h.did h.lines_are number h.number_is why ends
 
-  pub end-any : 0 < length line → (result : Result (Unit {0}) Stop) → LineEnds d told now (reading_of line) (scene_of q lines) (scene_of r later) before after result → Ends input number start after (around p r d log now) result
+  pub end-any : 0 < length line → (result : Result (Unit {0}) Stop) → LineEnds d told now (reading_of line) (scene_of q lines) (scene_of r later) before after result → PlaysOut input number start after (around p r d log now) result
   end-any some (Ok u) ends = end-line some ends
   end-any some (Err why) ends = end-stopped some why ends

@@ -1,5 +1,5 @@
 -- Scripts: what their lines do to two ends and to the frames between them.
-use Rattle.std.specs.Prelude.{◌≡◌, ◌≢◌, ℕ, Bool, true, false, if◌then◌else◌, nat_lt, ◌==◌, List, [], ◌∷◌, ◌++◌, length, take, drop, map, slice_set, slice_index_or, bit_xor, codes, Option, Some, None, ⊤}
+use Rattle.std.specs.Prelude.{◌≡◌, ◌≢◌, ◌≤◌, ℕ, Bool, false, if◌then◌else◌, nat_lt, ◌==◌, List, [], ◌∷◌, ◌++◌, length, take, drop, map, slice_set, slice_index_or, bit_xor, codes, Option, Some, None, ⊤}
 use Rattle.ddcmp_carrier.specs.Carriages.{Carriage}
 use Rattle.ddcmp_run.specs.declared.event.End.{End}
 use Rattle.ddcmp_run.specs.declared.event.End.TheVariants.{A, B}
@@ -7,15 +7,15 @@ use Rattle.ddcmp_run.specs.declared.event.Event.{Event}
 use Rattle.ddcmp_run.specs.declared.event.Event.TheVariants as event
 use Rattle.ddcmp_run.specs.declared.event.Reply.{Reply}
 use Rattle.ddcmp_run.specs.declared.event.Reply.TheVariants as reply
-use Rattle.ddcmp_script.specs.declared.command.Command.{Command}
-use Rattle.ddcmp_script.specs.declared.command.Command.TheVariants.{Happens, Carry, Lose, Damage, Raw, Settle, Recover, State}
-use Rattle.ddcmp_script.specs.declared.command.Reading.{Reading}
-use Rattle.ddcmp_script.specs.declared.command.Reading.TheVariants.{Skipped, Asks, NoCommand, NotHex}
+use Rattle.ddcmp_script.specs.declared.command.ScriptCommand.{ScriptCommand}
+use Rattle.ddcmp_script.specs.declared.command.ScriptCommand.TheVariants.{Happens, Carry, Lose, Damage, Raw, Settle, Recover, State}
+use Rattle.ddcmp_script.specs.declared.command.ParsedLine.{ParsedLine}
+use Rattle.ddcmp_script.specs.declared.command.ParsedLine.TheVariants.{Skipped, Asks, NoCommand, NotHex}
 use Rattle.ddcmp_run.specs.Run.{PairState, at, reply_to, end_of, run}
 use Rattle.ddcmp_run.specs.Settle.{other, settling}
 use Rattle.ddcmp_run.specs.Recovery.{recovering, recovered, is_done}
 use Rattle.ddcmp_script.specs.ScriptWords.{reading_of}
-use Rattle.ddcmp_script.specs.ScriptText.{name_of, name_before, counted_line, reply_text, settled_text, recovered_text, damage_text, station_line}
+use Rattle.ddcmp_script.specs.ScriptText.{end_name, name_before, counted_line, reply_text, settled_text, recovered_text, damage_text, station_line}
 
 -- ---- both ends, and what is between them
 
@@ -42,18 +42,18 @@ pub record Scene : Type 0 where
 -- ---- what a command does
 
 -- the events that happen, what is between the ends after, and the text that is written
-pub record Outcome : Type 0 where
+pub record Effect : Type 0 where
   pub events : List Event
   pub lines : Between
   pub text : List ℕ
 
 -- nothing happens to the ends
-abbrev pub outcome_between : Between → List ℕ → Outcome
+abbrev pub outcome_between : Between → List ℕ → Effect
 outcome_between lines text = record { events = []; lines = lines; text = text }
 
-abbrev pub outcome_at : End → List (List ℕ) → Scene → List ℕ → Outcome
+abbrev pub outcome_at : End → List (List ℕ) → Scene → List ℕ → Effect
 outcome_at e frames s text =
-    record { events = []; lines = with_frames e frames s.lines; text = name_of e ++ text }
+    record { events = []; lines = with_frames e frames s.lines; text = end_name e ++ text }
 
 -- a frame that was written goes last on its line
 abbrev pub frames_after : Reply → List (List ℕ) → List (List ℕ)
@@ -75,7 +75,7 @@ lines_after (event.Arrive e bytes) r lines = lines
 lines_after (event.Expire e) r lines = lines
 lines_after (event.Take e) r lines = lines
 
-abbrev pub outcome_of_event : Event → Scene → Outcome
+abbrev pub outcome_of_event : Event → Scene → Effect
 outcome_of_event happened s = record {
   events = happened ∷ [];
   lines = lines_after happened (reply_to happened s.pair) s.lines;
@@ -85,8 +85,8 @@ outcome_of_event happened s = record {
 -- Bytes arrive at an end: a line of their number, and then the notices.
 abbrev pub arrival_text : End → List ℕ → End → List ℕ → PairState → List ℕ
 arrival_text who words to bytes p =
-    counted_line (name_of who) words (length bytes)
-    ++ reply_text (name_of to) (reply_to (event.Arrive to bytes) p)
+    counted_line (end_name who) words (length bytes)
+    ++ reply_text (end_name to) (reply_to (event.Arrive to bytes) p)
 
 -- the part of the front that is carried: its first bytes, or all
 abbrev pub part_of : Option ℕ → List ℕ → List ℕ
@@ -102,7 +102,7 @@ taken_off n [] = []
 taken_off n (front ∷ later) = left_behind n front later
 
 -- the front of a line arrives at the other end, as the carrier gave it
-abbrev pub outcome_of_carry : End → Option ℕ → List ℕ → List (List ℕ) → Scene → Outcome
+abbrev pub outcome_of_carry : End → Option ℕ → List ℕ → List (List ℕ) → Scene → Effect
 outcome_of_carry from most came [] s = outcome_at from [] s (codes "empty\n")
 outcome_of_carry from most came (front ∷ later) s = record {
   events = event.Arrive (other from) came ∷ [];
@@ -110,11 +110,11 @@ outcome_of_carry from most came (front ∷ later) s = record {
   text = arrival_text from (codes "passed ") (other from) came s.pair;
 }
 
-abbrev pub outcome_of_lose : End → List (List ℕ) → Scene → Outcome
+abbrev pub outcome_of_lose : End → List (List ℕ) → Scene → Effect
 outcome_of_lose from [] s = outcome_at from [] s (codes "empty\n")
 outcome_of_lose from (front ∷ later) s =
     outcome_between (with_frames from later s.lines)
-    (counted_line (name_of from) (codes "lost ") (length front))
+    (counted_line (end_name from) (codes "lost ") (length front))
 
 -- byte `at` of the front is changed by exclusive or, where it has so many
 abbrev pub changed : ℕ → ℕ → List ℕ → List ℕ
@@ -129,13 +129,13 @@ with_change at by [] = []
 with_change at by (front ∷ later) =
     if nat_lt at (length front) then changed at by front ∷ later else front ∷ later
 
-abbrev pub outcome_of_damage : End → ℕ → ℕ → List (List ℕ) → Scene → Outcome
+abbrev pub outcome_of_damage : End → ℕ → ℕ → List (List ℕ) → Scene → Effect
 outcome_of_damage from at by frames s =
     outcome_at from (with_change at by frames) s
     (damage_text (length frames == 0) (has_byte at frames))
 
 -- all frames on both lines are lost, and then both ends settle
-abbrev pub outcome_of_settle : Scene → Outcome
+abbrev pub outcome_of_settle : Scene → Effect
 outcome_of_settle s = record {
   events = (settling s.pair).events;
   lines = nothing_between;
@@ -143,7 +143,7 @@ outcome_of_settle s = record {
 }
 
 -- all frames on both lines are lost, and then the line recovers
-abbrev pub outcome_of_recover : Scene → Outcome
+abbrev pub outcome_of_recover : Scene → Effect
 outcome_of_recover s = record {
   events = (recovering s.pair).events;
   lines = nothing_between;
@@ -151,7 +151,7 @@ outcome_of_recover s = record {
 }
 
 -- what a command does, where the carrier gives these bytes if it is asked
-unfoldable pub outcome_of : Command → List ℕ → Scene → Outcome
+unfoldable pub outcome_of : ScriptCommand → List ℕ → Scene → Effect
 outcome_of (Happens happened) came s = outcome_of_event happened s
 outcome_of (Carry from most) came s =
     outcome_of_carry from most came (frames_of from s.lines) s
@@ -166,7 +166,7 @@ outcome_of (Raw to bytes) came s = record {
 outcome_of Settle came s = outcome_of_settle s
 outcome_of Recover came s = outcome_of_recover s
 outcome_of (State e) came s =
-    outcome_between s.lines (station_line (name_of e) (at e s.pair).core.station)
+    outcome_between s.lines (station_line (end_name e) (at e s.pair).core.station)
 
 -- ---- the carrier
 
@@ -176,7 +176,7 @@ carriages_from from most came (front ∷ later) =
     record { from = from; bytes = part_of most front; came = came } ∷ []
 
 -- what a command hands to the carrier
-unfoldable pub carriages_of : Command → List ℕ → Scene → List Carriage
+unfoldable pub carriages_of : ScriptCommand → List ℕ → Scene → List Carriage
 carriages_of (Carry from most) came s = carriages_from from most came (frames_of from s.lines)
 carriages_of _ came s = []
 
@@ -185,6 +185,11 @@ unfoldable pub AreDirect : List Carriage → Type 0
 AreDirect [] = ⊤
 AreDirect (c ∷ rest) = (c.came ≡ c.bytes) × AreDirect rest
 
+-- no more came out than went in
+unfoldable pub AreWithin : List Carriage → Type 0
+AreWithin [] = ⊤
+AreWithin (c ∷ rest) = (length c.came ≤ length c.bytes) × AreWithin rest
+
 -- ---- lines, one after another
 
 -- a line that was done, and what the carrier gave where the line asked it
@@ -192,28 +197,28 @@ pub record DoneLine : Type 0 where
   pub line : List ℕ
   pub came : List ℕ
 
-abbrev pub after_outcome : Outcome → Scene → Scene
+abbrev pub after_outcome : Effect → Scene → Scene
 after_outcome o s = record { pair = run o.events s.pair; lines = o.lines }
 
-abbrev pub scene_after : Reading → List ℕ → Scene → Scene
+abbrev pub scene_after : ParsedLine → List ℕ → Scene → Scene
 scene_after (Asks command) came s = after_outcome (outcome_of command came s) s
 scene_after Skipped came s = s
 scene_after NoCommand came s = s
 scene_after NotHex came s = s
 
-abbrev pub text_of : Reading → List ℕ → Scene → List ℕ
+abbrev pub text_of : ParsedLine → List ℕ → Scene → List ℕ
 text_of (Asks command) came s = (outcome_of command came s).text
 text_of Skipped came s = []
 text_of NoCommand came s = []
 text_of NotHex came s = []
 
-abbrev pub events_by : Reading → List ℕ → Scene → List Event
+abbrev pub events_by : ParsedLine → List ℕ → Scene → List Event
 events_by (Asks command) came s = (outcome_of command came s).events
 events_by Skipped came s = []
 events_by NoCommand came s = []
 events_by NotHex came s = []
 
-abbrev pub carriages_by : Reading → List ℕ → Scene → List Carriage
+abbrev pub carriages_by : ParsedLine → List ℕ → Scene → List Carriage
 carriages_by (Asks command) came s = carriages_of command came s
 carriages_by Skipped came s = []
 carriages_by NoCommand came s = []
@@ -238,12 +243,12 @@ carriages_of_lines (d ∷ rest) s =
     carriages_by (reading_of d.line) d.came s ++ carriages_of_lines rest (after_line d s)
 
 -- a line is a command, or skipped
-abbrev pub Fits : List ℕ → Type 0
-Fits line = (reading_of line ≢ NoCommand) × (reading_of line ≢ NotHex)
+abbrev pub IsScriptLine : List ℕ → Type 0
+IsScriptLine line = (reading_of line ≢ NoCommand) × (reading_of line ≢ NotHex)
 
 unfoldable pub AllFit : List (List ℕ) → Type 0
 AllFit [] = ⊤
-AllFit (line ∷ rest) = Fits line × AllFit rest
+AllFit (line ∷ rest) = IsScriptLine line × AllFit rest
 
 abbrev pub lines_done : List DoneLine → List (List ℕ)
 lines_done done = map (λ d. d.line) done

@@ -1,15 +1,15 @@
 -- How a script ends: which of its lines were done, what was written, and what the pair is after.
-use Rattle.std.specs.Prelude.{◌≡◌, ◌⊎◌, ℕ, ◌+◌, Bool, List, [], ◌∷◌, ◌++◌, length, Option, Result, Ok, Err}
+use Rattle.std.specs.Prelude.{◌≡◌, ◌≢◌, ⊤, ◌⊎◌, ℕ, ◌+◌, Bool, List, [], ◌∷◌, ◌++◌, length, Option, Result, Ok, Err}
 use Rattle.ddcmp_run.specs.declared.event.End.{End}
 use Rattle.ddcmp_run.specs.Run.{PairState}
-use Rattle.ddcmp_run.specs.Settle.{StoppedAmong}
-use Rattle.ddcmp_script.specs.declared.command.Command.TheVariants as command
-use Rattle.ddcmp_script.specs.declared.command.Reading.{Reading}
-use Rattle.ddcmp_script.specs.declared.command.Reading.TheVariants as reading
+use Rattle.ddcmp_run.specs.Settle.{WantsMemory}
+use Rattle.ddcmp_script.specs.declared.command.ScriptCommand.TheVariants as command
+use Rattle.ddcmp_script.specs.declared.command.ParsedLine.{ParsedLine}
+use Rattle.ddcmp_script.specs.declared.command.ParsedLine.TheVariants as reading
 use Rattle.ddcmp_script.specs.declared.script_fault.ScriptFault.{ScriptFault}
 use Rattle.ddcmp_script.specs.declared.script_fault.ScriptFault.TheVariants.{Line, Hex, Read, Write, Memory, Carrier}
 use Rattle.ddcmp_script.specs.ScriptWords.{reading_of, lines_of}
-use Rattle.ddcmp_script.specs.ScriptText.{last_line}
+use Rattle.ddcmp_script.specs.ScriptText.{totals_line}
 use Rattle.ddcmp_carrier.specs.Carriages.{Carriage}
 use Rattle.ddcmp_script.specs.Script.{Scene, DoneLine, AllFit, nothing_between, lines_done, after_lines, text_of_lines, carriages_of_lines, events_by, carriages_by}
 use Rattle.ddcmp_script.specs.ScriptSteps.{Carries}
@@ -52,6 +52,11 @@ around p q is_direct told told_after = record {
 abbrev pub Carried : Around → List Carriage → Type 0
 Carried x all = Carries x.is_direct x.told x.told_after all
 
+-- a part of a line that is no whole line yet
+abbrev pub HasNoLf : List ℕ → Type 0
+HasNoLf [] = ⊤
+HasNoLf (c ∷ more) = (c ≢ 10) × HasNoLf more
+
 -- An input begins with these lines, each of them fits, and behind them stand others.
 pub record Begins (done : List DoneLine) (behind : List (List ℕ)) (input : List ℕ) : Type 0 where
   pub lines : lines_done done ++ behind ≡ lines_of input
@@ -67,7 +72,7 @@ pub record Did (done : List DoneLine) (x : Around) (Wrote : List ℕ → Type 0)
 pub record Finished (input : List ℕ) (x : Around) (Wrote : List ℕ → Type 0) : Type 0 where
   pub done : List DoneLine
   pub begins : Begins done [] input
-  pub did : Did done x (λ text. Wrote (text ++ last_line x.pair_after))
+  pub did : Did done x (λ text. Wrote (text ++ totals_line x.pair_after))
 
 -- Some lines were done.
 pub record Paused (input : List ℕ) (x : Around) (Wrote : List ℕ → Type 0) : Type 0 where
@@ -76,8 +81,17 @@ pub record Paused (input : List ℕ) (x : Around) (Wrote : List ℕ → Type 0) 
   pub begins : Begins done behind input
   pub did : Did done x Wrote
 
+-- Every line that LF ends, before the bytes that are left, was done, and no other.
+pub record PausedBefore (rest : List ℕ) (input : List ℕ) (x : Around) (Wrote : List ℕ → Type 0)
+    : Type 0 where
+  pub done : List DoneLine
+  pub line : List ℕ
+  pub begins : Begins done (lines_of (line ++ rest)) input
+  pub begun : HasNoLf line
+  pub did : Did done x Wrote
+
 -- All lines before line n were done, and this is how line n reads.
-pub record StoppedAt (Reads : Reading → Type 0) (n : ℕ) (input : List ℕ) (x : Around)
+pub record StoppedAt (Reads : ParsedLine → Type 0) (n : ℕ) (input : List ℕ) (x : Around)
     (Wrote : List ℕ → Type 0) : Type 0 where
   pub done : List DoneLine
   pub line : List ℕ
@@ -87,22 +101,28 @@ pub record StoppedAt (Reads : Reading → Type 0) (n : ℕ) (input : List ℕ) (
   pub reads : Reads (reading_of line)
   pub did : Did done x Wrote
 
--- Of the events of the next line, where there is one, some happened, each of them whole; and what
--- the line hands to the carrier was carried, or nothing.
-abbrev pub StoppedBefore : List (List ℕ) → List DoneLine → Around → Type 0
-StoppedBefore [] done x =
+-- nothing was done behind these lines
+abbrev pub StoppedBehind : List DoneLine → Around → Type 0
+StoppedBehind done x =
     (x.pair_after ≡ (scene_then x.pair done).pair) × Carried x (carriages_then x.pair done)
-StoppedBefore (line ∷ behind) done x =
-    (came : List ℕ)
-    × StoppedAmong (events_by (reading_of line) came (scene_then x.pair done))
-    (scene_then x.pair done).pair x.pair_after
-    × (Carried x (carriages_then x.pair done)
-    ⊎ Carried x (carriages_then x.pair done
-    ++ carriages_by (reading_of line) came (scene_then x.pair done)))
+
+-- What the line behind these hands to the carrier was carried; some of its events happened, each of
+-- them whole; and the next one asks for memory.
+pub record StoppedInside (line : List ℕ) (done : List DoneLine) (x : Around) : Type 0 where
+  pub came : List ℕ
+  pub wants : WantsMemory (events_by (reading_of line) came (scene_then x.pair done))
+      (scene_then x.pair done).pair x.pair_after
+  pub carried : Carried x (carriages_then x.pair done
+      ++ carriages_by (reading_of line) came (scene_then x.pair done))
+
+-- nothing was done behind these lines, or the next one was begun
+abbrev pub StoppedBefore : List (List ℕ) → List DoneLine → Around → Type 0
+StoppedBefore [] done x = StoppedBehind done x
+StoppedBefore (line ∷ behind) done x = StoppedBehind done x ⊎ StoppedInside line done x
 
 -- behind the text of the last line comes what has been done
 abbrev pub text_behind : List (List ℕ) → PairState → List ℕ
-text_behind [] p = last_line p
+text_behind [] p = totals_line p
 text_behind (line ∷ behind) p = []
 
 -- Some lines were done, and the next one wasn't, or only in part.
@@ -115,7 +135,7 @@ pub record Broken (input : List ℕ) (x : Around) (Wrote : List ℕ → List (Li
   pub written : Wrote (text_then x.pair done) behind
 
 -- the line asks the carrier
-abbrev pub AsksCarrier : Reading → Type 0
+abbrev pub AsksCarrier : ParsedLine → Type 0
 AsksCarrier r = (from : End) × (most : Option ℕ) × (r ≡ reading.Asks (command.Carry from most))
 
 -- What each answer to a script says of its whole input: which lines were done and how the next one

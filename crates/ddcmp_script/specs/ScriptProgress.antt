@@ -1,21 +1,16 @@
 -- How far a script has been played.
-use Rattle.std.specs.Prelude.{◌≡◌, ◌≢◌, ℕ, ◌+◌, false, List, [], ◌∷◌, ◌++◌, length, Some, Result, Ok, Err, ⊤}
+use Rattle.std.specs.Prelude.{◌≡◌, ℕ, ◌+◌, false, List, [], ◌++◌, length, Some, Result, Ok, Err}
 use Rattle.ddcmp_io.specs.Written.{Known, Output, HandsOver}
-use Rattle.ddcmp_script.specs.declared.command.Reading.TheVariants as reading
+use Rattle.ddcmp_script.specs.declared.command.ParsedLine.TheVariants as reading
 use Rattle.ddcmp_script.specs.declared.performing.Stop.{Stop}
 use Rattle.ddcmp_script.specs.declared.performing.Stop.TheVariants.{NoCommand, NotHex, Write, Memory, Carrier}
 use Rattle.ddcmp_script.specs.ScriptWords.{lines_of}
 use Rattle.ddcmp_script.specs.Script.{Between, DoneLine}
-use Rattle.ddcmp_script.specs.ScriptEnds.{Around, Begins, Did, StoppedAt, Broken, AsksCarrier, scene_then}
+use Rattle.ddcmp_script.specs.ScriptEnds.{Around, HasNoLf, Begins, Did, StoppedAt, Broken, AsksCarrier, scene_then}
 
 -- a sink, and an empty page in front of it
 abbrev pub fresh : Known → Output
 fresh sink = record { broken = false; sink = sink; waiting = [] }
-
--- a part of a line that is no whole line yet
-abbrev pub HasNoLf : List ℕ → Type 0
-HasNoLf [] = ⊤
-HasNoLf (c ∷ more) = (c ≢ 10) × HasNoLf more
 
 -- Some lines of an input were done, so many; a line was begun; and the rest is to come.
 pub record HasDone (input rest line : List ℕ) (number : ℕ) (lines : Between) (start now : Output)
@@ -50,13 +45,13 @@ Stops input number start now x Carrier =
     StoppedAt AsksCarrier (number + 1) input x (HandsOver start now)
 
 -- what was to be taken was done, or why not
-abbrev pub Takes : List ℕ → List ℕ → List ℕ → ℕ → Between → Output → Output → Around
+abbrev pub PlaysOn : List ℕ → List ℕ → List ℕ → ℕ → Between → Output → Output → Around
     → Result (Unit {0}) Stop → Type 0
-Takes input rest line number lines start now x (Ok u) =
+PlaysOn input rest line number lines start now x (Ok u) =
     HasDone input rest line number lines start now x
-Takes input rest line number lines start now x (Err stop) = Stops input number start now x stop
+PlaysOn input rest line number lines start now x (Err stop) = Stops input number start now x stop
 
 -- the same of the last line
-abbrev pub Ends : List ℕ → ℕ → Output → Output → Around → Result (Unit {0}) Stop → Type 0
-Ends input number start now x (Ok u) = HasDoneAll input start now x
-Ends input number start now x (Err stop) = Stops input number start now x stop
+abbrev pub PlaysOut : List ℕ → ℕ → Output → Output → Around → Result (Unit {0}) Stop → Type 0
+PlaysOut input number start now x (Ok u) = HasDoneAll input start now x
+PlaysOut input number start now x (Err stop) = Stops input number start now x stop

@@ -3,37 +3,44 @@ use Rattle.std.specs.Prelude.{◌≡◌, ◌⊎◌, ℕ, Bool, true, List, [], O
 use Rattle.ddcmp_io.specs.Device.{Logs}
 use Rattle.ddcmp_io.specs.Written.{Output, HandsOver}
 use Rattle.ddcmp_run.specs.declared.event.End.{End}
-use Rattle.ddcmp_script.specs.declared.command.Command.TheVariants.{Carry}
-use Rattle.ddcmp_script.specs.declared.command.Reading.{Reading}
-use Rattle.ddcmp_script.specs.declared.command.Reading.TheVariants as reading
+use Rattle.ddcmp_script.specs.declared.command.ScriptCommand.TheVariants.{Carry}
+use Rattle.ddcmp_script.specs.declared.command.ParsedLine.{ParsedLine}
+use Rattle.ddcmp_script.specs.declared.command.ParsedLine.TheVariants as reading
 use Rattle.ddcmp_script.specs.declared.performing.Stop.{Stop}
 use Rattle.ddcmp_script.specs.declared.performing.Stop.TheVariants.{NoCommand, NotHex, Write, Memory, Carrier}
 use Rattle.ddcmp_run.specs.Run.{PairState}
-use Rattle.ddcmp_run.specs.Settle.{StoppedAmong}
+use Rattle.ddcmp_run.specs.Settle.{WantsMemory}
 use Rattle.ddcmp_carrier.specs.Carriages.{Carriage}
-use Rattle.ddcmp_script.specs.Script.{events_by, Between, Scene, Outcome, AreDirect, after_outcome, scene_after, text_of, carriages_by}
+use Rattle.ddcmp_script.specs.Script.{events_by, Between, Scene, Effect, AreDirect, AreWithin, after_outcome, scene_after, text_of, carriages_by}
 
 abbrev pub scene_of : PairState → Between → Scene
 scene_of p lines = record { pair = p; lines = lines }
 
 -- all of an outcome has come, and its text was handed over
-pub record Comes (o : Outcome) (old new : Scene) (before after : Output) : Type 0 where
+pub record Comes (o : Effect) (old new : Scene) (before after : Output) : Type 0 where
   pub scene : new ≡ after_outcome o old
   pub text : HandsOver before after o.text
 
 -- what a carrier was handed, and gave
-pub record Carries (is_direct : Bool) (old new : Option (List Carriage)) (all : List Carriage) : Type 0 where
+pub record Carries (is_direct : Bool) (old new : Option (List Carriage)) (all : List Carriage)
+    : Type 0 where
   pub told : Logs old new all
   pub direct : is_direct ≡ true → AreDirect all
+  pub within : AreWithin all
 
--- Memory was refused in a line: some of its events happened, each of them whole. What the carrier
--- was handed, if it was, is what the line hands to it.
-pub record StopsInside (is_direct : Bool) (log log_after : Option (List Carriage)) (r : Reading)
+-- What a line hands to the carrier was carried; some of its events happened, each of them whole; and
+-- the next one asks for memory.
+pub record HasBegun (is_direct : Bool) (log log_after : Option (List Carriage)) (r : ParsedLine)
     (old new : Scene) : Type 0 where
   pub came : List ℕ
-  pub stopped : StoppedAmong (events_by r came old) old.pair new.pair
-  pub carried : Carries is_direct log log_after []
-      ⊎ Carries is_direct log log_after (carriages_by r came old)
+  pub wants : WantsMemory (events_by r came old) old.pair new.pair
+  pub carried : Carries is_direct log log_after (carriages_by r came old)
+
+-- nothing happened to the ends, and nothing was carried
+abbrev pub IsUntouched : Bool → Option (List Carriage) → Option (List Carriage) → Scene → Scene
+    → Type 0
+IsUntouched is_direct log log_after old new =
+    (new.pair ≡ old.pair) × Carries is_direct log log_after []
 
 -- want of memory stops a line
 abbrev pub stopped_of : {E : Type 0} → Result (Unit {0}) E → Result (Unit {0}) Stop
@@ -41,7 +48,7 @@ stopped_of (Ok u) = Ok u
 stopped_of (Err m) = Err Memory
 
 -- what became of a line
-abbrev pub LineEnds : Bool → Option (List Carriage) → Option (List Carriage) → Reading → Scene
+abbrev pub LineEnds : Bool → Option (List Carriage) → Option (List Carriage) → ParsedLine → Scene
     → Scene → Output → Output → Result (Unit {0}) Stop → Type 0
 LineEnds is_direct log log_after r old new before after (Ok u) =
     (came : List ℕ) × (r ≡ reading.NoCommand → ⊥) × (r ≡ reading.NotHex → ⊥)
@@ -54,7 +61,8 @@ LineEnds is_direct log log_after r old new before after (Err NotHex) =
 LineEnds is_direct log log_after r old new before after (Err Write) =
     (new ≡ old) × HandsOver before after [] × Logs log log_after []
 LineEnds is_direct log log_after r old new before after (Err Carrier) =
-    (from : End) × (most : Option ℕ) × (r ≡ reading.Asks (Carry from most)) × (new ≡ old) × HandsOver before after [] × Logs log log_after []
+    (from : End) × (most : Option ℕ) × (r ≡ reading.Asks (Carry from most)) × (new ≡ old)
+    × HandsOver before after [] × Logs log log_after []
 LineEnds is_direct log log_after r old new before after (Err Memory) =
     HandsOver before after []
-    × StopsInside is_direct log log_after r old new
+    × (IsUntouched is_direct log log_after old new ⊎ HasBegun is_direct log log_after r old new)

@@ -15,13 +15,13 @@ use Rattle.ddcmp_run.specs.declared.event.Reply.TheVariants as reply
 use Rattle.ddcmp_run.specs.Run.{PairState, handed_up, is_clean}
 
 -- who answers, before the words of the answer
-abbrev pub name_of : End → List ℕ
-name_of A = codes "A "
-name_of B = codes "B "
+abbrev pub end_name : End → List ℕ
+end_name A = codes "A "
+end_name B = codes "B "
 
 -- the same; nobody, where both ends are meant
 abbrev pub name_before : Option End → List ℕ
-name_before (Some e) = name_of e
+name_before (Some e) = end_name e
 name_before None = []
 
 abbrev pub start_refusal_text : StartRefusal → List ℕ
@@ -106,8 +106,8 @@ abbrev pub yes_or_no : Bool → List ℕ
 yes_or_no is = if is then codes "yes" else codes "no"
 
 -- what has been done since the line was cleared: the last line
-abbrev pub last_line : PairState → List ℕ
-last_line p =
+abbrev pub totals_line : PairState → List ℕ
+totals_line p =
     codes "honest " ++ yes_or_no p.honest ++ codes " clean " ++ yes_or_no (is_clean p)
     ++ codes " up A=" ++ decimal (length (handed_up p.a)) ++ codes " B="
     ++ decimal (length (handed_up p.b)) ++ codes " acked A=" ++ decimal p.a.acknowledged

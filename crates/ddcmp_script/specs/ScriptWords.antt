@@ -6,10 +6,10 @@ use Rattle.hex.specs.declared.error.FromHexError.{FromHexError}
 use Rattle.ddcmp_run.specs.declared.event.End.{End}
 use Rattle.ddcmp_run.specs.declared.event.End.TheVariants.{A, B}
 use Rattle.ddcmp_run.specs.declared.event.Event.TheVariants as event
-use Rattle.ddcmp_script.specs.declared.command.Command.{Command}
-use Rattle.ddcmp_script.specs.declared.command.Command.TheVariants.{Happens, Carry, Lose, Damage, Raw, Settle, Recover, State}
-use Rattle.ddcmp_script.specs.declared.command.Reading.{Reading}
-use Rattle.ddcmp_script.specs.declared.command.Reading.TheVariants.{Skipped, Asks, NoCommand, NotHex}
+use Rattle.ddcmp_script.specs.declared.command.ScriptCommand.{ScriptCommand}
+use Rattle.ddcmp_script.specs.declared.command.ScriptCommand.TheVariants.{Happens, Carry, Lose, Damage, Raw, Settle, Recover, State}
+use Rattle.ddcmp_script.specs.declared.command.ParsedLine.{ParsedLine}
+use Rattle.ddcmp_script.specs.declared.command.ParsedLine.TheVariants.{Skipped, Asks, NoCommand, NotHex}
 use Rattle.ddcmp_run.specs.Place.{same_bytes}
 
 -- ---- words
@@ -55,23 +55,23 @@ bytes_of_ok (Ok bytes) = Some bytes
 bytes_of_ok (Err e) = None
 
 -- a whole number of bytes, two digits each
-unfoldable pub bytes_in : List ℕ → Option (List ℕ)
-bytes_in word = bytes_of_ok (decode_of word)
+unfoldable pub bytes_of_digits : List ℕ → Option (List ℕ)
+bytes_of_digits word = bytes_of_ok (decode_of word)
 
 -- ---- lines of one, two, three and four words
 
-abbrev pub asked_or_none : Option Command → Reading
+abbrev pub asked_or_none : Option ScriptCommand → ParsedLine
 asked_or_none (Some command) = Asks command
 asked_or_none None = NoCommand
 
-unfoldable pub alone : List ℕ → Reading
+unfoldable pub alone : List ℕ → ParsedLine
 alone verb =
     if is_word verb (codes "clear") then Asks (Happens event.Clear)
     else if is_word verb (codes "settle") then Asks Settle
     else if is_word verb (codes "recover") then Asks Recover
     else NoCommand
 
-unfoldable pub command_at : List ℕ → End → Option Command
+unfoldable pub command_at : List ℕ → End → Option ScriptCommand
 command_at verb e =
     if is_word verb (codes "start") then Some (Happens (event.Start e))
     else if is_word verb (codes "halt") then Some (Happens (event.Halt e))
@@ -84,60 +84,60 @@ command_at verb e =
     else None
 
 -- `send` without a word has the empty message
-unfoldable pub asked_at : List ℕ → End → Reading
+unfoldable pub asked_at : List ℕ → End → ParsedLine
 asked_at verb e =
     if is_word verb (codes "send") then Asks (Happens (event.Send e []))
     else asked_or_none (command_at verb e)
 
 -- a cut is of at least one byte
-abbrev pub cut_of : End → Option ℕ → Reading
+abbrev pub cut_of : End → Option ℕ → ParsedLine
 cut_of e None = NoCommand
 cut_of e (Some n) = if nat_lt 0 n then Asks (Carry e (Some n)) else NoCommand
 
-abbrev pub sent_of : End → Option (List ℕ) → Reading
+abbrev pub sent_of : End → Option (List ℕ) → ParsedLine
 sent_of e (Some bytes) = Asks (Happens (event.Send e bytes))
 sent_of e None = NotHex
 
-abbrev pub raw_of : End → Option (List ℕ) → Reading
+abbrev pub raw_of : End → Option (List ℕ) → ParsedLine
 raw_of e (Some bytes) = Asks (Raw e bytes)
 raw_of e None = NotHex
 
-unfoldable pub asked_with : List ℕ → End → List ℕ → Reading
+unfoldable pub asked_with : List ℕ → End → List ℕ → ParsedLine
 asked_with verb e word =
     if length word == 0 then NoCommand
     else if is_word verb (codes "cut") then cut_of e (number_in word)
-    else if is_word verb (codes "send") then sent_of e (bytes_in word)
-    else if is_word verb (codes "raw") then raw_of e (bytes_in word)
+    else if is_word verb (codes "send") then sent_of e (bytes_of_digits word)
+    else if is_word verb (codes "raw") then raw_of e (bytes_of_digits word)
     else NoCommand
 
-abbrev pub damage_by : End → ℕ → Option ℕ → Reading
+abbrev pub damage_by : End → ℕ → Option ℕ → ParsedLine
 damage_by e at (Some byte) = Asks (Damage e at byte)
 damage_by e at None = NotHex
 
 -- first the number, then the byte
-abbrev pub damage_of : End → Option ℕ → Option ℕ → Reading
+abbrev pub damage_of : End → Option ℕ → Option ℕ → ParsedLine
 damage_of e None byte = NoCommand
 damage_of e (Some at) byte = damage_by e at byte
 
-unfoldable pub asked_damage : List ℕ → End → List ℕ → List ℕ → Reading
+unfoldable pub asked_damage : List ℕ → End → List ℕ → List ℕ → ParsedLine
 asked_damage verb e number byte =
     if is_word verb (codes "damage") && nat_lt 0 (length byte)
     then damage_of e (number_in number) (byte_in byte)
     else NoCommand
 
 -- by the words behind the end
-unfoldable pub asked_by : List ℕ → End → List (List ℕ) → Reading
+unfoldable pub asked_by : List ℕ → End → List (List ℕ) → ParsedLine
 asked_by verb e [] = asked_at verb e
 asked_by verb e (word ∷ []) = asked_with verb e word
 asked_by verb e (number ∷ byte ∷ []) = asked_damage verb e number byte
 asked_by verb e (word ∷ second ∷ third ∷ more) = NoCommand
 
-abbrev pub asked_of_end : List ℕ → Option End → List (List ℕ) → Reading
+abbrev pub asked_of_end : List ℕ → Option End → List (List ℕ) → ParsedLine
 asked_of_end verb None more = NoCommand
 asked_of_end verb (Some e) more = asked_by verb e more
 
 -- the first word says what is asked for, and the second at which end
-unfoldable pub asked_in : List (List ℕ) → Reading
+unfoldable pub asked_in : List (List ℕ) → ParsedLine
 asked_in [] = NoCommand
 asked_in (verb ∷ []) = alone verb
 asked_in (verb ∷ word ∷ more) = asked_of_end verb (end_named word) more
@@ -146,7 +146,7 @@ asked_in (verb ∷ word ∷ more) = asked_of_end verb (end_named word) more
 abbrev pub is_skipped : List ℕ → Bool
 is_skipped line = length line == 0 || slice_index_or line 0 0 == 35
 
-unfoldable pub reading_of : List ℕ → Reading
+unfoldable pub reading_of : List ℕ → ParsedLine
 reading_of line = if is_skipped line then Skipped else asked_in (words line)
 
 -- ---- lines of a text

@@ -3,7 +3,7 @@ ghost use Rattle.std.specs.Prelude.{◌≡◌, ◌∷◌, ◌*◌, ◌^◌, ◌<
 ghost use Rattle.std.specs.Option.{option_map_or};
 ghost use Rattle.std.specs.List.{slice_split};
 ghost use Rattle.ddcmp_run.specs.Place.{same_bytes};
-ghost use Rattle.ddcmp_script.specs.ScriptWords.{is_digit as is_digit_byte, end_named as end_of_word, number_in as number_of_word, bytes_in as bytes_of_word, byte_in as byte_of_word, alone, command_at as command_of, asked_at, cut_of, asked_with, asked_damage, asked_by, asked_in, words as words_of, reading_of};
+ghost use Rattle.ddcmp_script.specs.ScriptWords.{is_digit as is_digit_byte, end_named as end_of_word, number_in as number_of_word, bytes_of_digits as bytes_of_word, byte_in as byte_of_word, alone, command_at as command_of, asked_at, cut_of, asked_with, asked_damage, asked_by, asked_in, words as words_of, reading_of};
 
 use ddcmp_pair::{Bytes, End, Event};
 use ddcmp_station::Memory;
@@ -12,7 +12,7 @@ use std::alloc::Global;
 
 /// What a line of a script asks for.
 #[derive(Drop)]
-pub enum Command {
+pub enum ScriptCommand {
     /// An event, which is no arrival.
     Happens(Event),
     /// The front of an end's line arrives at the other end: all of it, or so many bytes.
@@ -33,10 +33,10 @@ pub enum Command {
 
 /// What a line of a script is.
 #[derive(Drop)]
-pub enum Reading {
+pub enum ParsedLine {
     /// An empty line, or a comment.
     Skipped,
-    Asks(Command),
+    Asks(ScriptCommand),
     NoCommand,
     /// A command with a word that spells no bytes.
     NotHex,
@@ -104,8 +104,8 @@ fn is_digit(byte: u8) -> bool
 }
 
 /// The bytes that a word spells in hexadecimal; none where it doesn't.
-#[tactic(auto, unfolding(crate::specs::ScriptWords::bytes_in))]
-fn bytes_in(alloc: Global, word: &[u8]) -> Result<Option<Bytes>, Memory>
+#[tactic(auto, unfolding(crate::specs::ScriptWords::bytes_of_digits))]
+fn bytes_of_digits(alloc: Global, word: &[u8]) -> Result<Option<Bytes>, Memory>
     ensures { IfOk result (λ bytes. bytes ≡ bytes_of_word word.now) }
 {
     match hex::decode(alloc, word) {
@@ -129,41 +129,41 @@ fn byte_in(word: &[u8]) -> Option<u8>
 
 /// A line of one word.
 #[tactic(auto, unfolding(crate::specs::ScriptWords::alone))]
-fn read_alone(verb: &[u8]) -> Reading
+fn read_alone(verb: &[u8]) -> ParsedLine
     ensures { result ≡ alone verb.now }
 {
     if is_word(verb, b"clear") {
-        Reading::Asks(Command::Happens(Event::Clear))
+        ParsedLine::Asks(ScriptCommand::Happens(Event::Clear))
     } else if is_word(verb, b"settle") {
-        Reading::Asks(Command::Settle)
+        ParsedLine::Asks(ScriptCommand::Settle)
     } else if is_word(verb, b"recover") {
-        Reading::Asks(Command::Recover)
+        ParsedLine::Asks(ScriptCommand::Recover)
     } else {
-        Reading::NoCommand
+        ParsedLine::NoCommand
     }
 }
 
 /// What an end is asked with no further word.
 #[tactic(auto, unfolding(crate::specs::ScriptWords::command_at))]
-fn command_at(verb: &[u8], end: End) -> Option<Command>
+fn command_at(verb: &[u8], end: End) -> Option<ScriptCommand>
     ensures { result ≡ command_of verb.now end }
 {
     if is_word(verb, b"start") {
-        Some(Command::Happens(Event::Start(end)))
+        Some(ScriptCommand::Happens(Event::Start(end)))
     } else if is_word(verb, b"halt") {
-        Some(Command::Happens(Event::Halt(end)))
+        Some(ScriptCommand::Happens(Event::Halt(end)))
     } else if is_word(verb, b"poll") {
-        Some(Command::Happens(Event::Poll(end)))
+        Some(ScriptCommand::Happens(Event::Poll(end)))
     } else if is_word(verb, b"pass") {
-        Some(Command::Carry(end, None))
+        Some(ScriptCommand::Carry(end, None))
     } else if is_word(verb, b"lose") {
-        Some(Command::Lose(end))
+        Some(ScriptCommand::Lose(end))
     } else if is_word(verb, b"expire") {
-        Some(Command::Happens(Event::Expire(end)))
+        Some(ScriptCommand::Happens(Event::Expire(end)))
     } else if is_word(verb, b"take") {
-        Some(Command::Happens(Event::Take(end)))
+        Some(ScriptCommand::Happens(Event::Take(end)))
     } else if is_word(verb, b"state") {
-        Some(Command::State(end))
+        Some(ScriptCommand::State(end))
     } else {
         None
     }
@@ -171,74 +171,74 @@ fn command_at(verb: &[u8], end: End) -> Option<Command>
 
 /// A line of two words; `send` has the empty message then.
 #[tactic(auto, unfolding(crate::specs::ScriptWords::asked_at))]
-fn read_at(alloc: Global, verb: &[u8], end: End) -> Reading
+fn read_at(alloc: Global, verb: &[u8], end: End) -> ParsedLine
     ensures { result ≡ asked_at verb.now end }
 {
     if is_word(verb, b"send") {
         let nothing = Bytes::new(Vec::new(alloc));
-        return Reading::Asks(Command::Happens(Event::Send(end, nothing)));
+        return ParsedLine::Asks(ScriptCommand::Happens(Event::Send(end, nothing)));
     }
     match command_at(verb, end) {
-        Some(command) => Reading::Asks(command),
-        None => Reading::NoCommand,
+        Some(command) => ParsedLine::Asks(command),
+        None => ParsedLine::NoCommand,
     }
 }
 
 /// A line of three words.
 #[tactic(auto, unfolding(crate::specs::ScriptWords::asked_with))]
-fn read_with(alloc: Global, verb: &[u8], end: End, word: &[u8]) -> Result<Reading, Memory>
+fn read_with(alloc: Global, verb: &[u8], end: End, word: &[u8]) -> Result<ParsedLine, Memory>
     ensures { IfOk result (λ reading. reading ≡ asked_with verb.now end word.now) }
 {
     if word.is_empty() {
-        return Ok(Reading::NoCommand);
+        return Ok(ParsedLine::NoCommand);
     }
     if is_word(verb, b"cut") {
         return Ok(read_cut(end, number_in(word)));
     }
     let sends = is_word(verb, b"send");
     if !sends && !is_word(verb, b"raw") {
-        return Ok(Reading::NoCommand);
+        return Ok(ParsedLine::NoCommand);
     }
-    let Some(bytes) = bytes_in(alloc, word)? else {
-        return Ok(Reading::NotHex);
+    let Some(bytes) = bytes_of_digits(alloc, word)? else {
+        return Ok(ParsedLine::NotHex);
     };
     if sends {
-        Ok(Reading::Asks(Command::Happens(Event::Send(end, bytes))))
+        Ok(ParsedLine::Asks(ScriptCommand::Happens(Event::Send(end, bytes))))
     } else {
-        Ok(Reading::Asks(Command::Raw(end, bytes)))
+        Ok(ParsedLine::Asks(ScriptCommand::Raw(end, bytes)))
     }
 }
 
 /// A cut of no bytes is none.
-fn read_cut(end: End, number: Option<u32>) -> Reading
+fn read_cut(end: End, number: Option<u32>) -> ParsedLine
     ensures { result ≡ cut_of end number }
 {
     match number {
-        Some(n) if 0 < n => Reading::Asks(Command::Carry(end, Some(n))),
-        _ => Reading::NoCommand,
+        Some(n) if 0 < n => ParsedLine::Asks(ScriptCommand::Carry(end, Some(n))),
+        _ => ParsedLine::NoCommand,
     }
 }
 
 /// A line of four words.
 #[tactic(auto, unfolding(crate::specs::ScriptWords::asked_damage))]
-fn read_damage(verb: &[u8], end: End, number: &[u8], word: &[u8]) -> Reading
+fn read_damage(verb: &[u8], end: End, number: &[u8], word: &[u8]) -> ParsedLine
     ensures { result ≡ asked_damage verb.now end number.now word.now }
 {
     if !is_word(verb, b"damage") || word.is_empty() {
-        return Reading::NoCommand;
+        return ParsedLine::NoCommand;
     }
     let Some(at) = number_in(number) else {
-        return Reading::NoCommand;
+        return ParsedLine::NoCommand;
     };
     match byte_in(word) {
-        Some(byte) => Reading::Asks(Command::Damage(end, at, byte)),
-        None => Reading::NotHex,
+        Some(byte) => ParsedLine::Asks(ScriptCommand::Damage(end, at, byte)),
+        None => ParsedLine::NotHex,
     }
 }
 
 /// The words behind the second.
 #[tactic(auto, unfolding(crate::specs::ScriptWords::asked_by, crate::specs::ScriptWords::words))]
-fn read_further(alloc: Global, verb: &[u8], end: End, words: &[u8]) -> Result<Reading, Memory>
+fn read_further(alloc: Global, verb: &[u8], end: End, words: &[u8]) -> Result<ParsedLine, Memory>
     ensures { IfOk result (λ reading. reading ≡ asked_by verb.now end (words_of words.now)) }
 {
     let (word, rest) = cut(words);
@@ -247,14 +247,14 @@ fn read_further(alloc: Global, verb: &[u8], end: End, words: &[u8]) -> Result<Re
     };
     let (byte, rest) = cut(rest);
     if rest.is_some() {
-        return Ok(Reading::NoCommand);
+        return Ok(ParsedLine::NoCommand);
     }
     Ok(read_damage(verb, end, word, byte))
 }
 
 /// Reads the words of a line.
 #[tactic(auto, unfolding(crate::specs::ScriptWords::asked_in, crate::specs::ScriptWords::words))]
-fn read_words(alloc: Global, line: &[u8]) -> Result<Reading, Memory>
+fn read_words(alloc: Global, line: &[u8]) -> Result<ParsedLine, Memory>
     ensures { IfOk result (λ reading. reading ≡ asked_in (words_of line.now)) }
 {
     let (verb, rest) = cut(line);
@@ -263,7 +263,7 @@ fn read_words(alloc: Global, line: &[u8]) -> Result<Reading, Memory>
     };
     let (word, rest) = cut(rest);
     let Some(end) = end_named(word) else {
-        return Ok(Reading::NoCommand);
+        return Ok(ParsedLine::NoCommand);
     };
     match rest {
         Some(rest) => read_further(alloc, verb, end, rest),
@@ -273,11 +273,11 @@ fn read_words(alloc: Global, line: &[u8]) -> Result<Reading, Memory>
 
 /// Reads a line.
 #[tactic(auto, unfolding(crate::specs::ScriptWords::reading_of))]
-pub(crate) fn read_line(alloc: Global, line: &[u8]) -> Result<Reading, Memory>
+pub(crate) fn read_line(alloc: Global, line: &[u8]) -> Result<ParsedLine, Memory>
     ensures { IfOk result (λ reading. reading ≡ reading_of line.now) }
 {
     if line.is_empty() || line[0] == b'#' {
-        return Ok(Reading::Skipped);
+        return Ok(ParsedLine::Skipped);
     }
     read_words(alloc, line)
 }

@@ -2,19 +2,19 @@
 ghost use Rattle.std.specs.Prelude.{◌≡◌, ◌≢◌, ◌↔◌, ◌++◌, ◌∷◌, [], true, false, length, Some, None, Ok, Err, IsOk, OnOk, OnErr, List, ℕ, IsTrue, codes};
 ghost use Rattle.ddcmp_io.specs.Device.{Logs};
 ghost use Rattle.ddcmp_io.specs.Written.{HandsOver, output_of};
-ghost use Rattle.ddcmp_run.specs.Run.{PairState, at, end_of, after_event, reply_to, run};
+ghost use Rattle.ddcmp_run.specs.Run.{PairState, at, end_of, after_event, reply_to, run, asks_memory};
 ghost use Rattle.ddcmp_run.specs.Settle.{other, settling, WantsMemory};
 ghost use Rattle.ddcmp_run.specs.Recovery.{recovering};
 ghost use Rattle.ddcmp_script.specs.ScriptWords.{reading_of};
-ghost use Rattle.ddcmp_script.specs.ScriptText.{name_of, name_before, reply_text};
+ghost use Rattle.ddcmp_script.specs.ScriptText.{end_name, name_before, reply_text};
 ghost use Rattle.ddcmp_carrier.specs.Carriages.{HasCarried};
 ghost use Rattle.ddcmp_script.specs.Script.{Between, lines_after, nothing_between, frames_after, frames_of, with_frames, part_of, outcome_of, outcome_of_event, outcome_of_carry, outcome_of_lose, outcome_of_damage, outcome_of_settle, outcome_of_recover, arrival_text, after_outcome, events_by};
 ghost use Rattle.ddcmp_script.specs.ScriptSteps.{scene_of, stopped_of, Comes, Carries, LineEnds};
-ghost use Rattle.ddcmp_script.specs.declared.command.Reading.{Reading as ReadingValue};
+ghost use Rattle.ddcmp_script.specs.declared.command.ParsedLine.{ParsedLine as ReadingValue};
 ghost use Rattle.ddcmp_run.specs.declared.event.Event.TheVariants as event_value;
 ghost use Rattle.ddcmp_run.specs.declared.event.Reply.{Reply as ReplyValue};
 
-use crate::command::{Command, Reading, read_line};
+use crate::command::{ParsedLine, ScriptCommand, read_line};
 use crate::frame_lines::{FrameLeft, FrameLines};
 use crate::reply_text::{
     answerer_name, damage_name, end_name, write_bytes, write_counted, write_plain, write_recovered,
@@ -58,7 +58,7 @@ fn poll<W: Sink>(
         ≡ frames_after (reply_to (event_value.Poll end) pair.old) frames.old.items }
     ensures text { IsOk result → HandsOver (output_of W.broken W.contents writer.old page.old)
         (output_of W.broken W.contents writer.new page.new)
-        (reply_text (name_of end) (reply_to (event_value.Poll end) pair.old)) }
+        (reply_text (end_name end) (reply_to (event_value.Poll end) pair.old)) }
     ensures memory { OnErr result ((pair.new ≡ pair.old) × (frames.new.items ≡ frames.old.items)
         × (page.new ≡ page.old) × (writer.new ≡ writer.old)) }
 {
@@ -194,6 +194,7 @@ impl Stage {
             (arrival_text who words.now to bytes pair.old) }
         ensures memory { OnErr result ((pair.new ≡ pair.old)
             × (self.new.page ≡ self.old.page) × (writer.new ≡ writer.old)) }
+        ensures asks { asks_memory (event_value.Arrive to bytes) pair.old ≡ false → IsOk result }
     {
         let length = bytes.as_slice().len();
         let reply = pair.step(Event::Arrive(to, bytes))?;
@@ -217,7 +218,7 @@ impl Stage {
             × (self.new.page ≡ []) }
         ensures carrier { (result ≡ Err Stop.Carrier) ↔ IsTrue (C.broken carrier.new) }
         ensures ends { LineEnds (C.direct carrier.old) (C.told carrier.old) (C.told carrier.new)
-            (Reading.Asks (Command.Carry from most)) (scene_of pair.old self.old.lines)
+            (ParsedLine.Asks (ScriptCommand.Carry from most)) (scene_of pair.old self.old.lines)
             (scene_of pair.new self.new.lines)
             (output_of W.broken W.contents writer.old self.old.page)
             (output_of W.broken W.contents writer.new self.new.page) result }
@@ -320,7 +321,7 @@ impl Stage {
         pair: &mut Pair,
         writer: &mut W,
         carrier: &mut C,
-        command: Command,
+        command: ScriptCommand,
     ) -> Result<(), Stop>
         requires whole { C.broken carrier.old ≡ false }
         ensures write { result ≡ Err Stop.Write → IsTrue (W.broken writer.new) }
@@ -328,27 +329,29 @@ impl Stage {
             × (self.new.page ≡ []) }
         ensures carrier { (result ≡ Err Stop.Carrier) ↔ IsTrue (C.broken carrier.new) }
         ensures ends { LineEnds (C.direct carrier.old) (C.told carrier.old) (C.told carrier.new)
-            (Reading.Asks command) (scene_of pair.old self.old.lines)
+            (ParsedLine.Asks command) (scene_of pair.old self.old.lines)
             (scene_of pair.new self.new.lines)
             (output_of W.broken W.contents writer.old self.old.page)
             (output_of W.broken W.contents writer.new self.new.page) result }
         ensures direct { C.direct carrier.new ≡ C.direct carrier.old }
     {
         match command {
-            Command::Carry(from, most) => self.carry(pair, writer, carrier, from, most),
-            Command::Happens(event) => stopped(self.happen(pair, writer, event)),
-            Command::Lose(from) => {
+            ScriptCommand::Carry(from, most) => self.carry(pair, writer, carrier, from, most),
+            ScriptCommand::Happens(event) => stopped(self.happen(pair, writer, event)),
+            ScriptCommand::Lose(from) => {
                 self.lose(writer, from);
                 Ok(())
             }
-            Command::Damage(from, at, by) => {
+            ScriptCommand::Damage(from, at, by) => {
                 self.damage(writer, from, at, by);
                 Ok(())
             }
-            Command::Raw(to, bytes) => stopped(self.arrive(pair, writer, to, b"got ", to, bytes)),
-            Command::Settle => stopped(self.settle(pair, writer)),
-            Command::Recover => stopped(self.recover(pair, writer)),
-            Command::State(end) => {
+            ScriptCommand::Raw(to, bytes) => {
+                stopped(self.arrive(pair, writer, to, b"got ", to, bytes))
+            }
+            ScriptCommand::Settle => stopped(self.settle(pair, writer)),
+            ScriptCommand::Recover => stopped(self.recover(pair, writer)),
+            ScriptCommand::State(end) => {
                 write_station(&mut self.page, writer, end_name(end), pair.station(end));
                 Ok(())
             }
@@ -376,10 +379,10 @@ impl Stage {
         ensures direct { C.direct carrier.new ≡ C.direct carrier.old }
     {
         match read_line(self.alloc, line) {
-            Ok(Reading::Skipped) => Ok(()),
-            Ok(Reading::Asks(command)) => self.perform(pair, writer, carrier, command),
-            Ok(Reading::NoCommand) => Err(Stop::NoCommand),
-            Ok(Reading::NotHex) => Err(Stop::NotHex),
+            Ok(ParsedLine::Skipped) => Ok(()),
+            Ok(ParsedLine::Asks(command)) => self.perform(pair, writer, carrier, command),
+            Ok(ParsedLine::NoCommand) => Err(Stop::NoCommand),
+            Ok(ParsedLine::NotHex) => Err(Stop::NotHex),
             Err(_refused) => Err(Stop::Memory),
         }
     }

@@ -3,7 +3,7 @@ ghost use Rattle.std.specs.Prelude.{◌≡◌, ◌++◌};
 ghost use Rattle.std.specs.List.{flat_map};
 ghost use Rattle.ddcmp_io.specs.Written.{HandsOver, output_of};
 ghost use Rattle.ddcmp_station_text.specs.StationText.{notice_line};
-ghost use Rattle.ddcmp_script.specs.ScriptText.{name_of, name_before, start_refusal_text, clear_refusal_text, send_refusal_text, expired_text, counted_line, bytes_line, reply_text, timer_text, numbers_text, station_line, quiet_text, settled_text, done_text, count_text, recovered_text, damage_text};
+ghost use Rattle.ddcmp_script.specs.ScriptText.{end_name, name_before, start_refusal_text, clear_refusal_text, send_refusal_text, expired_text, counted_line, bytes_line, reply_text, timer_text, numbers_text, station_line, quiet_text, settled_text, done_text, count_text, recovered_text, damage_text};
 
 use ddcmp_io::text::{write_hex, write_number};
 use ddcmp_io::{Page, Sink};
@@ -13,7 +13,7 @@ use ddcmp_station_text::{state_name, write_notice};
 
 /// Who answers, before the words of the answer.
 pub(crate) fn end_name(end: End) -> &'static [u8]
-    ensures { result.now ≡ name_of end }
+    ensures { result.now ≡ end_name end }
 {
     match end {
         End::A => b"A ",

@@ -6,11 +6,11 @@ ghost use Rattle.ddcmp_run.specs.Run.{PairState};
 ghost use Rattle.ddcmp_run.specs.InOrder.{IsInOrder};
 ghost use Rattle.ddcmp_io.specs.Input.{GaveMost};
 ghost use Rattle.ddcmp_script.specs.ScriptWords.{lines_of, without_cr as without_cr_of};
-ghost use Rattle.ddcmp_script.specs.ScriptText.{yes_or_no as yes_or_no_text, last_line};
+ghost use Rattle.ddcmp_script.specs.ScriptText.{yes_or_no as yes_or_no_text, totals_line};
 ghost use Rattle.ddcmp_carrier.specs.Carriages.{Carriage};
 ghost use Rattle.ddcmp_script.specs.Script.{AllFit, nothing_between};
-ghost use Rattle.ddcmp_script.specs.ScriptEnds.{Around, around, Plays};
-ghost use Rattle.ddcmp_script.specs.ScriptProgress.{fresh, Ends, HasDone, IsPlaying, Stops, Takes};
+ghost use Rattle.ddcmp_script.specs.ScriptEnds.{Around, around, PausedBefore, Plays};
+ghost use Rattle.ddcmp_script.specs.ScriptProgress.{fresh, PlaysOut, HasDone, IsPlaying, Stops, PlaysOn};
 
 use crate::performing::{Stage, Stop};
 use crate::script_fault::ScriptFault;
@@ -56,7 +56,7 @@ fn yes_or_no(is: bool) -> &'static [u8]
 /// The last line: what has been done since the line was cleared.
 fn write_last_line<W: Sink>(page: &mut Page, writer: &mut W, pair: &Pair)
     ensures { HandsOver (output_of W.broken W.contents writer.old page.old)
-        (output_of W.broken W.contents writer.new page.new) (last_line pair.now) }
+        (output_of W.broken W.contents writer.new page.new) (totals_line pair.now) }
 {
     page.write(writer, b"honest ");
     page.write(writer, yes_or_no(pair.honest()));
@@ -112,7 +112,7 @@ impl Player {
             → HasDone input (10 ∷ rest) self.old.line.items self.old.number self.old.stage.lines
             start (output_of W.broken W.contents writer.old self.old.stage.page)
             (around p pair.old d log (C.told carrier.old))
-            → Takes input rest self.new.line.items self.new.number self.new.stage.lines
+            → PlaysOn input rest self.new.line.items self.new.number self.new.stage.lines
             start (output_of W.broken W.contents writer.new self.new.stage.page)
             (around p pair.new d log (C.told carrier.new)) result }
     {
@@ -150,7 +150,7 @@ impl Player {
             → HasDone input (byte ∷ rest) self.old.line.items self.old.number self.old.stage.lines
             start (output_of W.broken W.contents writer.old self.old.stage.page)
             (around p pair.old d log (C.told carrier.old))
-            → Takes input rest self.new.line.items self.new.number self.new.stage.lines
+            → PlaysOn input rest self.new.line.items self.new.number self.new.stage.lines
             start (output_of W.broken W.contents writer.new self.new.stage.page)
             (around p pair.new d log (C.told carrier.new)) result }
     {
@@ -187,7 +187,7 @@ impl Player {
             self.old.stage.lines
             start (output_of W.broken W.contents writer.old self.old.stage.page)
             (around p pair.old d log (C.told carrier.old))
-            → Takes input rest self.new.line.items self.new.number self.new.stage.lines
+            → PlaysOn input rest self.new.line.items self.new.number self.new.stage.lines
             start (output_of W.broken W.contents writer.new self.new.stage.page)
             (around p pair.new d log (C.told carrier.new)) result }
     {
@@ -250,7 +250,7 @@ impl Player {
             → HasDone input [] self.old.line.items self.old.number self.old.stage.lines
             start (output_of W.broken W.contents writer.old self.old.stage.page)
             (around p pair.old d log (C.told carrier.old))
-            → Ends input self.new.number
+            → PlaysOut input self.new.number
             start (output_of W.broken W.contents writer.new self.new.stage.page)
             (around p pair.new d log (C.told carrier.new)) result }
     {
@@ -313,6 +313,16 @@ impl Player {
         ensures read_most { self.new.seen ≡ 2 ^ 64 - 1 → result ≡ Err ScriptFault.Read }
         ensures write { (result ≡ Err ScriptFault.Write) ↔ IsTrue (W.broken writer.new) }
         ensures carrier { (result ≡ Err ScriptFault.Carrier) ↔ IsTrue (C.broken carrier.new) }
+        ensures paused { (input rest : List ℕ) (p : PairState) (d : Bool)
+            (log : Option (List Carriage)) (sink : Option (List ℕ)) → C.direct carrier.old ≡ d
+            → IsPlaying input (R.left reader.old) self.old.line.items self.old.number
+            self.old.stage.lines
+            (fresh sink) (output_of W.broken W.contents writer.old self.old.stage.page)
+            (around p pair.old d log (C.told carrier.old))
+            → result ≡ Err ScriptFault.Read → self.new.seen ≢ 2 ^ 64 - 1
+            → R.left reader.new ≡ Some rest
+            → PausedBefore rest input (around p pair.new d log (C.told carrier.new))
+            (Appends sink (W.contents writer.new)) }
         ensures plays { (input : List ℕ) (p : PairState) (d : Bool)
             (log : Option (List Carriage)) (sink : Option (List ℕ)) → C.direct carrier.old ≡ d
             → IsPlaying input (R.left reader.old) self.old.line.items self.old.number
@@ -331,7 +341,7 @@ impl Player {
             let n = match read_within(reader, &mut piece, u64::MAX - self.seen) {
                 Got::Bytes(0) => return self.finish(pair, writer, carrier),
                 Got::Bytes(n) => n,
-                Got::Idle | Got::Failed => return Err(ScriptFault::Read),
+                _ => return Err(ScriptFault::Read),
             };
             self.seen += n as u64;
             // A reader that has given the most bytes counts as failed.
@@ -367,11 +377,20 @@ pub fn script<R: Source, W: Sink, C: Carrier>(
         (Appends (W.contents writer.old) (W.contents writer.new))
         (AppendsPart (W.contents writer.old) (W.contents writer.new)) result }
 
+    // On Read every line was done that LF ends in the bytes that were read, and no other.
+    ensures paused { (input rest : List ℕ) → R.left reader.old ≡ Some input
+        → R.left reader.new ≡ Some rest → length input < length rest + (2 ^ 64 - 1)
+        → result ≡ Err ScriptFault.Read
+        → PausedBefore rest input (around pair.old pair.new (C.direct carrier.old)
+        (C.told carrier.old) (C.told carrier.new))
+        (Appends (W.contents writer.old) (W.contents writer.new)) }
+
     // Ok exactly where every line is a command or skipped, no device failed and memory was had.
     ensures ok { (input : List ℕ) → R.left reader.old ≡ Some input
-        → IsOk result ↔ (AllFit (lines_of input) × (result ≢ Err ScriptFault.Read)
-        × (result ≢ Err ScriptFault.Write) × (result ≢ Err ScriptFault.Memory)
-        × (result ≢ Err ScriptFault.Carrier)) }
+        → IsOk result ↔ (AllFit (lines_of input) × (R.state reader.new ≡ Worst.Fine)
+        × (GaveMost (R.left reader.old) (R.left reader.new) → ⊥)
+        × (W.broken writer.new ≡ false) × (C.broken carrier.new ≡ false)
+        × (result ≢ Err ScriptFault.Memory)) }
 
     // Read exactly where the reader isn't fine, or has given 2^64 - 1 bytes.
     ensures read { R.state reader.new ≢ Worst.Fine → result ≡ Err ScriptFault.Read }

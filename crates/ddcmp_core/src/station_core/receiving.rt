@@ -5,7 +5,7 @@ ghost use Rattle.ddcmp_core.specs.Frames.{is_data_header};
 
 use crate::input::Input;
 use crate::notice::Notice;
-use crate::state::{Reply, State, Timer};
+use crate::state::{Owed, State, Timer};
 use crate::station_core::Core;
 use ddcmp_frame::{ControlType, Counted, Header, Nak, Short};
 use ddcmp_window::{Offer, Seq, Store};
@@ -109,7 +109,7 @@ impl<S: Store> Core<S> {
             }
             ControlType::Stack => {
                 self.run();
-                self.reply = Reply::Ack;
+                self.reply = Owed::Ack;
                 Some(Notice::Running)
             }
             _ => None,
@@ -167,7 +167,7 @@ impl<S: Store> Core<S> {
         match header.kind {
             ControlType::Stack => {
                 self.run();
-                self.reply = Reply::Ack;
+                self.reply = Owed::Ack;
                 Some(Notice::Running)
             }
             ControlType::Strt => {
@@ -199,12 +199,12 @@ impl<S: Store> Core<S> {
                 Header::Data(data) => self.on_data(*data, message),
                 Header::Maint(_maintenance) => Some(Notice::MaintenanceSeen),
             },
-            Input::HeaderCheck => self.owe(Reply::Nak(Nak::HeaderCheck)),
-            Input::DataCheck(header) if is_data(header) => self.owe(Reply::Nak(Nak::DataCheck)),
+            Input::HeaderCheck => self.owe(Owed::Nak(Nak::HeaderCheck)),
+            Input::DataCheck(header) if is_data(header) => self.owe(Owed::Nak(Nak::DataCheck)),
             Input::DataCheck(_other) => None,
-            Input::TooLong(header) if is_data(header) => self.owe(Reply::Nak(Nak::TooLong)),
+            Input::TooLong(header) if is_data(header) => self.owe(Owed::Nak(Nak::TooLong)),
             Input::TooLong(_other) => None,
-            Input::Format => self.owe(Reply::Nak(Nak::Format)),
+            Input::Format => self.owe(Owed::Nak(Nak::Format)),
         }
     }
 
@@ -222,7 +222,7 @@ impl<S: Store> Core<S> {
     {
         match header.kind {
             ControlType::Strt => Some(self.on_strt()),
-            ControlType::Stack => self.owe(Reply::Ack),
+            ControlType::Stack => self.owe(Owed::Ack),
             ControlType::Ack => acknowledged(self.acknowledging(Seq(header.resp))),
             ControlType::Nak => {
                 self.counters.nak_received(Nak::of(header.sub));
@@ -236,7 +236,7 @@ impl<S: Store> Core<S> {
     }
 
     /// A reply to what came is to be sent.
-    fn owe(&mut self, reply: Reply) -> Option<Notice>
+    fn owe(&mut self, reply: Owed) -> Option<Notice>
         requires { is_sent_reply reply ≡ true }
         ensures state { self.new
             ≡ record self.old { station = record self.old.station { reply = reply } } }
@@ -252,9 +252,9 @@ impl<S: Store> Core<S> {
         ensures told { result ≡ None }
     {
         if num == self.inbox.last() {
-            self.owe(Reply::Ack)
+            self.owe(Owed::Ack)
         } else {
-            self.owe(Reply::Nak(Nak::ReplyToRep))
+            self.owe(Owed::Nak(Nak::ReplyToRep))
         }
     }
 
@@ -345,12 +345,12 @@ impl<S: Store> Core<S> {
         let number = Seq(header.num);
         match self.inbox.offer(number, message) {
             Offer::Accepted => {
-                self.reply = Reply::Ack;
+                self.reply = Owed::Ack;
                 self.counters.up(message.len());
                 true
             }
             Offer::NoRoom => {
-                self.reply = Reply::Nak(Nak::NoBuffer);
+                self.reply = Owed::Nak(Nak::NoBuffer);
                 false
             }
             Offer::OutOfSequence => false,

@@ -2,7 +2,7 @@
 ghost use Rattle.std.specs.Prelude.{◌≡◌, ◌<◌, ◌≤◌};
 ghost use Rattle.ddcmp_core.specs.Frames.{control_header, data_header, maint_header};
 
-use crate::state::{Reply, State, Timer};
+use crate::state::{Owed, State, Timer};
 use crate::station_core::Core;
 use ddcmp_frame::{ControlType, Counted, Flags, Header, MAX_COUNT, Short};
 use ddcmp_window::{Seq, Store};
@@ -107,7 +107,7 @@ impl<S: Store> Core<S> {
             result ≡ option_map header_of (next_frame (next_running s.reply s)) }
     {
         let r = self.inbox.last().0;
-        if let Reply::Nak(reason) = self.reply {
+        if let Owed::Nak(reason) = self.reply {
             return Some(control(ControlType::Nak, reason.sub(), NO_FLAGS, r, 0));
         }
         if self.rep {
@@ -116,7 +116,7 @@ impl<S: Store> Core<S> {
         }
         match self.sender.peek() {
             Some((number, length)) => Some(data(length, r, number.0)),
-            None if self.reply == Reply::Ack => Some(control(ControlType::Ack, 0, NO_FLAGS, r, 0)),
+            None if self.reply == Owed::Ack => Some(control(ControlType::Ack, 0, NO_FLAGS, r, 0)),
             None => None,
         }
     }
@@ -162,8 +162,8 @@ impl<S: Store> Core<S> {
             out.new ≡ with_front (option_map message_of (next_frame
             (next_running s.reply s))) out.old }
     {
-        if let Reply::Nak(reason) = self.reply {
-            self.reply = Reply::Quiet;
+        if let Owed::Nak(reason) = self.reply {
+            self.reply = Owed::Quiet;
             self.counters.nak_sent(reason);
             return 0;
         }
@@ -174,14 +174,14 @@ impl<S: Store> Core<S> {
             return 0;
         }
         // An ACK that is owed goes by itself or with data.
-        self.reply = Reply::Quiet;
+        self.reply = Owed::Quiet;
         self.advance_data(out)
     }
 
     /// Goes past the next message of the window.
     fn advance_data(&mut self, out: &mut [u8]) -> usize
         requires running { self.old.station.state ≡ State.Running }
-        requires quiet { self.old.station.reply ≡ Reply.Quiet }
+        requires quiet { self.old.station.reply ≡ Owed.Quiet }
         requires longest { self.old.limits.longest ≤ length out.old }
         ensures state { self.new ≡ record self.old {
           station = after_next (next_data self.old.station) self.old.station;

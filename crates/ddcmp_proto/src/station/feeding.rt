@@ -3,7 +3,7 @@ ghost use Rattle.std.specs.Prelude.{◌≡◌};
 
 use crate::station::Station;
 use ddcmp_core::{Input, Notice};
-use ddcmp_frame::{Item, Taken};
+use ddcmp_frame::{Item, Pushed};
 
 /// What a station made of a piece of its line.
 #[derive(Clone, Copy, Debug, PartialEq, Eq)]
@@ -67,7 +67,7 @@ impl Station {
         ensures some { 0 < result.0 }
         ensures takes { TakesPart self.old (take result.0 piece.now) self.new result.1 }
     {
-        let Taken { used, item } = self.reader.push_all(piece);
+        let Pushed { used, item } = self.reader.push_all(piece);
         match item {
             None => (used, None),
             Some(item) => (used, self.take_item(item)),

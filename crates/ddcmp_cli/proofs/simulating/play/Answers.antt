@@ -4,11 +4,14 @@ use Rattle.ddcmp_io.specs.Written.{AppendsPart}
 use Rattle.ddcmp_cli.specs.declared.ending.Ending.TheVariants.{Fault as Faulted}
 use Rattle.ddcmp_cli.specs.Endings.{ending_of, script_fault}
 use Rattle.ddcmp_script.specs.declared.script_fault.ScriptFault.TheVariants.{Read, Write}
-use Rattle.ddcmp_cli.proofs.ScriptLaws.{told, told-write, told-carrier, untold}
+use Rattle.ddcmp_cli.proofs.ScriptLaws.{told, told-read, told-write, told-carrier, untold}
 use Rattle.ddcmp_cli.proofs.simulating.play.Goals as goal
 
 pub returns-clause-read : goal.returns-clause-read
 returns-clause-read g c = λ h. told c.script.result c.in-Err.fault Read c.from.result c.in-Err.is c.from.ensures (c.script.ensures.read h)
+
+pub returns-clause-read_only : goal.returns-clause-read_only
+returns-clause-read_only g c = λ h. c.script.ensures.read_only (told-read c.script.result c.in-Err.fault c.from.result c.in-Err.is c.from.ensures h)
 
 pub returns-clause-write : goal.returns-clause-write
 returns-clause-write g c = (

@@ -1,7 +1,16 @@
-use Rattle.ddcmp_explain.specs.Text.{line_of}
 use Rattle.ddcmp_io.proofs.WrittenLaws.{sends-then}
+use Rattle.ddcmp_io.proofs.TextLaws.{sends-as}
+use Rattle.ddcmp_explain.proofs.PuttingLaws.{puts-then, puts-whole}
+use Rattle.ddcmp_explain.proofs.LineLaws.{line-with-data, line-alone}
 use Rattle.ddcmp_explain.proofs.text.write_line.Goals as goal
 
-pub returns : goal.returns
-unfolding line_of
-returns g c = sends-then (sends-then c.write_item.ensures c.write_data.ensures) c.write.ensures.sends
+pub returns-then-lends : goal.returns-then-lends
+returns-then-lends g c =
+    let front = puts-whole (puts-then c.put_item-behind_item.ensures.puts c.put-end.ensures) in
+    sends-as (line-with-data c.args.item.now c.args.data.now c.if-lends.ensures)
+    (sends-then (sends-then (sends-as front c.write.ensures.sends) c.write_hex.ensures) c.write-then-lends.ensures.sends)
+
+pub returns-else-lends : goal.returns-else-lends
+returns-else-lends g c =
+    let whole = puts-whole (puts-then c.put_item-behind_item.ensures.puts c.put-end-else-lends.ensures) in
+    sends-as (line-alone c.args.item.now c.args.data.now c.if-lends.ensures) (sends-as whole c.write-else-lends.ensures.sends)

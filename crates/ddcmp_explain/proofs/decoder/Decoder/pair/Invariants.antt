@@ -10,6 +10,7 @@ invariant-loop-i l = record {
   form : l.self.form ≡ l.initial.self.form;
   within : l.count ≤ l.i;
   inside : l.i ≤ length l.piece;
+  waits : l.wait ≤ 1024;
   decodes : (seen : List ℕ) → unexpected_in Hex seen ≡ None → left_in Hex seen ≡ option_to_list l.initial.self.high
       → Decodes Hex seen (take l.i l.piece) (record { count = l.count; unexpected = None }) l.bytes l.self.high;
 }

@@ -1,11 +1,11 @@
 use Rattle.std.proofs.Common.{◌≡◌, ◌-◌, length}
-use Rattle.ddcmp_frame.specs.Scan.{IsSound, view_of}
+use Rattle.ddcmp_frame.specs.Scan.{IsSoundScan, view_of}
 use Rattle.ddcmp_frame.proofs.ScanLaws.{TakesPart}
 use Rattle.ddcmp_frame.proofs.scan.Scan.take_all.Given as goal
 
 abbrev pub invariant-loop-used : goal.invariant-loop-used
 invariant-loop-used l = record {
-  sound : IsSound l.self;
+  sound : IsSoundScan l.self;
   lent : l.self.lent ≡ 0;
   part : TakesPart (view_of l.initial.self) l.piece l.used (view_of l.self);
 }

@@ -1,4 +1,4 @@
-use Rattle.std.proofs.Common.{refl, sym, ◌∙◌}
+use Rattle.std.proofs.Common.{sym, ◌∙◌}
 use Rattle.std.specs.Bool.{one_answer}
 use Rattle.ddcmp_pair.proofs.Done.{done-decides}
 use Rattle.ddcmp_pair.proofs.pair.Pair.done.Goals as goal

@@ -1,7 +1,6 @@
 use Rattle.std.proofs.Common.{[], subst, refl, Ok, inl}
 use Rattle.ddcmp_io.specs.Written.{output_of}
 use Rattle.ddcmp_script.specs.ScriptSteps.{scene_of, LineEnds}
-use Rattle.ddcmp_run.proofs.Runs.{stopped-none}
 use Rattle.ddcmp_script.proofs.Scenes.{carries-nothing}
 use Rattle.ddcmp_io.proofs.TextLaws.{sends-nothing}
 use Rattle.ddcmp_script.proofs.performing.Stage.do_line.Goals as goal
@@ -18,9 +17,5 @@ returns-in-Ok-Skipped-clause-ends g c =
 pub returns-in-Err-clause-ends : goal.returns-in-Err-clause-ends
 returns-in-Err-clause-ends g c = (
   sends-nothing _,
-  record {
-    came = [];
-    stopped = stopped-none _ c.args.pair.now;
-    carried = inl (carries-nothing (g.C.Carrier.direct c.args.carrier.now) (g.C.Carrier.told c.args.carrier.now));
-  },
+  inl (refl, carries-nothing (g.C.Carrier.direct c.args.carrier.now) (g.C.Carrier.told c.args.carrier.now)),
 )

@@ -2,14 +2,14 @@ use Rattle.std.proofs.Common.{[], sym, ap, subst, refl, ◌∙◌, Ok}
 use Rattle.std.specs.Prelude.{codes, OnErr}
 use Rattle.ddcmp_io.specs.Written.{HandsOver, output_of}
 use Rattle.ddcmp_core.specs.Core.{CoreView}
-use Rattle.ddcmp_run.specs.Settle.{settling, StoppedAmong}
+use Rattle.ddcmp_run.specs.Settle.{settling}
 use Rattle.ddcmp_run.specs.Recovery.{recovering}
-use Rattle.ddcmp_script.specs.declared.command.Command.TheVariants.{Happens, Lose, Damage, Raw, Settle, Recover, State}
-use Rattle.ddcmp_script.specs.declared.command.Reading.TheVariants.{Asks}
-use Rattle.ddcmp_script.specs.Script.{Outcome, outcome_of}
-use Rattle.ddcmp_script.specs.ScriptText.{name_of, station_line}
+use Rattle.ddcmp_script.specs.declared.command.ScriptCommand.TheVariants.{Happens, Lose, Damage, Raw, Settle, Recover, State}
+use Rattle.ddcmp_script.specs.declared.command.ParsedLine.TheVariants.{Asks}
+use Rattle.ddcmp_script.specs.Script.{Effect, outcome_of}
+use Rattle.ddcmp_script.specs.ScriptText.{end_name, station_line}
 use Rattle.ddcmp_script.specs.ScriptSteps.{scene_of, Comes, LineEnds, stopped_of}
-use Rattle.ddcmp_script.proofs.Scenes.{arrival-comes, comes-between, ends-well, ends-by, happens-is, none-happens, lose-is, none-lose, damage-is, none-damage, raw-is, none-raw, settle-is, none-settle, recover-is, none-recover, state-is, none-state, refused-by, refused-in}
+use Rattle.ddcmp_script.proofs.Scenes.{IsRefused, arrival-comes, comes-between, ends-well, ends-by, happens-is, none-happens, lose-is, none-lose, damage-is, none-damage, raw-is, none-raw, settle-is, none-settle, recover-is, none-recover, state-is, none-state, refused-by, refused-in}
 use Rattle.ddcmp_io.proofs.TextLaws.{sends-as}
 use Rattle.ddcmp_script.proofs.performing.Stage.perform.Goals as goal
 
@@ -55,7 +55,7 @@ returns-in-Settle-clause-ends g c =
     let t = scene_of q c.settle.new.self.lines in
     let after = output_of g.W.Sink.broken g.W.Sink.contents c.settle.new.writer c.settle.new.self.page in
     let ends : LineEnds d log log (Asks Settle) s t before after (stopped_of c.settle.result) = ends-by Settle s t before after d log (none-settle s) c.settle.result (λ ok. subst (λ o. Comes o s t before after) (sym (settle-is s)) (c.settle.ensures.comes ok))
-    (subst (λ (o : Outcome). OnErr c.settle.result (StoppedAmong o.events p q × HandsOver before after [])) (sym (settle-is s)) (refused-in c.settle.result (settling p).events g.W.Sink.broken g.W.Sink.contents p q c.args.writer.now c.settle.new.writer c.args.self.now.page c.settle.new.self.page c.settle.ensures.memory)) in
+    (subst (λ (o : Effect). OnErr c.settle.result (IsRefused o.events p q × HandsOver before after [])) (sym (settle-is s)) (refused-in c.settle.result (settling p).events g.W.Sink.broken g.W.Sink.contents p q c.args.writer.now c.settle.new.writer c.args.self.now.page c.settle.new.self.page c.settle.ensures.memory)) in
     subst (λ r. LineEnds d log log r s t before after c.stopped-in-Settle.result) (sym (ap Asks c.in-Settle.is)) (subst (LineEnds d log log (Asks Settle) s t before after) (sym c.stopped-in-Settle.ensures) ends)
 
 pub returns-in-Recover-clause-ends : goal.returns-in-Recover-clause-ends
@@ -70,7 +70,7 @@ returns-in-Recover-clause-ends g c =
     let t = scene_of q c.recover.new.self.lines in
     let after = output_of g.W.Sink.broken g.W.Sink.contents c.recover.new.writer c.recover.new.self.page in
     let ends : LineEnds d log log (Asks Recover) s t before after (stopped_of c.recover.result) = ends-by Recover s t before after d log (none-recover s) c.recover.result (λ ok. subst (λ o. Comes o s t before after) (sym (recover-is s)) (c.recover.ensures.comes ok))
-    (subst (λ (o : Outcome). OnErr c.recover.result (StoppedAmong o.events p q × HandsOver before after [])) (sym (recover-is s)) (refused-in c.recover.result (recovering p).events g.W.Sink.broken g.W.Sink.contents p q c.args.writer.now c.recover.new.writer c.args.self.now.page c.recover.new.self.page c.recover.ensures.memory)) in
+    (subst (λ (o : Effect). OnErr c.recover.result (IsRefused o.events p q × HandsOver before after [])) (sym (recover-is s)) (refused-in c.recover.result (recovering p).events g.W.Sink.broken g.W.Sink.contents p q c.args.writer.now c.recover.new.writer c.args.self.now.page c.recover.new.self.page c.recover.ensures.memory)) in
     subst (λ r. LineEnds d log log r s t before after c.stopped-in-Recover.result) (sym (ap Asks c.in-Recover.is)) (subst (LineEnds d log log (Asks Recover) s t before after) (sym c.stopped-in-Recover.ensures) ends)
 
 pub returns-in-Lose-clause-ends : goal.returns-in-Lose-clause-ends
@@ -108,4 +108,4 @@ returns-in-State-clause-ends g c =
     let t = scene_of p lines in
     let after = output_of g.W.Sink.broken g.W.Sink.contents c.write_station.new.writer c.write_station.new.page in
     subst (λ r. LineEnds d log log r s t before after (Ok tt)) (sym (ap Asks c.in-State.is)) (ends-well (State c.in-State.end) s t before after d log (none-state s c.in-State.end) (subst (λ o. Comes o s t before after) (sym (state-is c.in-State.end s)) (comes-between _ p lines lines before after refl refl
-    (sends-as (ap (λ w. station_line w c.station.result.now.core.station) c.end_name.ensures ∙ ap (λ (k : CoreView). station_line (name_of c.in-State.end) k.station) c.station.ensures.core) c.write_station.ensures))))
+    (sends-as (ap (λ w. station_line w c.station.result.now.core.station) c.end_name.ensures ∙ ap (λ (k : CoreView). station_line (end_name c.in-State.end) k.station) c.station.ensures.core) c.write_station.ensures))))

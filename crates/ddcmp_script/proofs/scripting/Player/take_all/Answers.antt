@@ -2,7 +2,7 @@ use Rattle.std.proofs.Common.{◌≡◌, ◌<◌, false, length, take, rules, re
 use Rattle.ddcmp_io.specs.Written.{output_of}
 use Rattle.ddcmp_script.specs.ScriptEnds.{around}
 use Rattle.ddcmp_script.specs.ScriptProgress.{fresh, HasDone}
-use Rattle.ddcmp_script.proofs.Endings.{has-flushed, plays-paused, plays-unwritten, left-after, none-left}
+use Rattle.ddcmp_script.proofs.Endings.{has-flushed, plays-paused, plays-unwritten, paused-before, kept-by, kept-left, left-after, none-left}
 use Rattle.ddcmp_io.proofs.Inputs.{read-more}
 use Rattle.ddcmp_script.proofs.scripting.Player.take_all.Goals as goal
 
@@ -62,8 +62,8 @@ returns-in-Bytes-eq0-clause-plays g c = λ input p d log sink de h.
     let none = none-left (g.R.Source.left c.loop-self.reader) (g.R.Source.left c.read_within.new.reader) far.0 buf c.in-Bytes-eq0.field-0 zero far.1 bytes.1 (bytes.2 zero room) in
     c.finish.ensures.plays input p d log sink (c.loop-self.invariant.direct ∙ de) (subst (λ t. HasDone input t player.line.items player.number lines (fresh sink) out x) none now)
 
-pub returns-in-Idle-clause-plays : goal.returns-in-Idle-clause-plays
-returns-in-Idle-clause-plays g c = λ input p d log sink de h.
+pub returns-in_default-clause-plays : goal.returns-in_default-clause-plays
+returns-in_default-clause-plays g c = λ input p d log sink de h.
     let player = c.loop-self.self in
     let lines = player.stage.lines in
     let a = output_of g.W.Sink.broken g.W.Sink.contents c.loop-self.writer player.stage.page in
@@ -99,3 +99,17 @@ returns-in-Err-clause-plays g c = λ input p d log sink de h.
     let left = left-after (g.R.Source.left c.loop-self.reader) (g.R.Source.left c.read_within.new.reader) far.0 piece far.1 c.in-Bytes.ensures.bytes.1 in
     let before = subst (λ t. HasDone input t player.line.items player.number lines (fresh sink) out x) left.2 now in
     c.stop.ensures.plays input (around p c.take.new.pair d log (g.C.Carrier.told c.take.new.carrier)) sink (c.in-Err.ensures.takes input left.0 p d log (fresh sink) (c.loop-self.invariant.direct ∙ de) before)
+
+pub returns-in_default-clause-paused : goal.returns-in_default-clause-paused
+returns-in_default-clause-paused g c = λ input rest p d log sink de h read few later.
+    let player = c.loop-self.self in
+    let lines = player.stage.lines in
+    let a = output_of g.W.Sink.broken g.W.Sink.contents c.loop-self.writer player.stage.page in
+    let out = output_of g.W.Sink.broken g.W.Sink.contents c.flush.new.writer c.flush.new.self in
+    let x = around p c.loop-self.pair d log (g.C.Carrier.told c.loop-self.carrier) in
+    let far = c.loop-self.invariant.so_far input p d log sink de h in
+    let now = has-flushed input x far.0 player.line.items player.number lines (fresh sink) a far.2 out c.flush.ensures.sends in
+    let same = kept-left (g.R.Source.left c.loop-self.reader) (g.R.Source.left c.read_within.new.reader) far.0 rest far.1 later (kept-by c.read_within.result _ _ _ c.in_default.not-Bytes c.read_within.ensures.bytes) in
+    let there = subst (λ t. HasDone input t player.line.items player.number lines (fresh sink) out x) same now in
+    let whole : out.broken ≡ false = search rules in
+    paused-before input x rest player.line.items player.number lines sink out there whole c.flush.ensures.empty

@@ -1,0 +1,10 @@
+pub mod Stations
+pub mod Calling
+pub mod Runs
+pub mod Seen
+pub mod Turning
+pub mod Drives
+pub mod Delivery
+pub mod Streaming
+pub mod InTurn
+pub mod Serving

@@ -1,0 +1,4 @@
+pub mod Calls
+pub mod Driven
+pub mod Served
+pub mod Streams

@@ -1,0 +1,64 @@
+-- Texts that are put one behind another, and the digits of numbers.
+use Rattle.std.proofs.Common.{◌≡◌, ℕ, zero, suc, ◌+◌, ◌-◌, ◌/◌, ◌%◌, ◌^◌, ◌<◌, ◌≤◌, List, [], ◌∷◌, ◌++◌, length, take, set, map, get_or, refl, sym, ◌∙◌, ap, subst, arith, append_assoc, length-append}
+use Rattle.std.proofs.lemmas.List.{take_more_set}
+use Rattle.std.proofs.lemmas.Fmt.{decimal_digit, decimal_step}
+use Rattle.std.specs.Fmt.{decimal}
+use Rattle.std.specs.List.{range_with_len}
+use Rattle.std.proofs.lemmas.List.FromFn.{get_or-map-range_with_len}
+use Rattle.ddcmp_explain.specs.declared.put.TheConstants.{POWERS}
+use Rattle.ddcmp_explain.specs.Putting.{Puts}
+
+-- one text behind another
+pub puts-then : {a b c : List ℕ} {i j k : ℕ} {s t : List ℕ} → Puts a i b j s → Puts b j c k t → Puts a i c k (s ++ t)
+puts-then {a} {b} {c} {i} {j} {k} {s} {t} p q = record {
+  ends = omega (arith, p.ends, q.ends, length-append s t);
+  holds = q.holds ∙ ap (λ x. x ++ t) p.holds ∙ append_assoc (take i a) s t;
+}
+
+pub puts-as : {a b : List ℕ} {i j : ℕ} {s t : List ℕ} → s ≡ t → Puts a i b j s → Puts a i b j t
+puts-as {a} {b} {i} {j} e p = subst (λ t. Puts a i b j t) e p
+
+-- a byte at its place
+pub puts-byte : (old : List ℕ) (at byte : ℕ) → at < length old → Puts old at (set old at byte) (at + 1) (byte ∷ [])
+puts-byte old at byte inside = record { ends = omega arith; holds = take_more_set old at byte inside }
+
+-- what stands in an array that held nothing
+pub puts-whole : {a b : List ℕ} {k : ℕ} {t : List ℕ} → Puts a 0 b k t → take k b ≡ t
+puts-whole p = p.holds
+
+-- ---- numbers
+
+pub decimal-two : (n : ℕ) → 10 ≤ n → n < 100 → (48 + n / 10) ∷ (48 + n % 10) ∷ [] ≡ decimal n
+decimal-two n low high =
+    sym (decimal_step n low (omega arith) ∙ ap (λ t. t ++ (48 + n % 10) ∷ []) (decimal_digit (n / 10) (omega arith)))
+
+pub decimal-three : (n : ℕ) → 100 ≤ n → n < 1000 → (48 + n / 10 / 10) ∷ (48 + n / 10 % 10) ∷ (48 + n % 10) ∷ [] ≡ decimal n
+decimal-three n low high =
+    sym (decimal_step n (omega arith) (omega arith) ∙ ap (λ t. t ++ (48 + n % 10) ∷ []) (sym (decimal-two (n / 10) (omega arith) (omega arith))))
+
+-- how many digits a number has that stands between two powers of ten
+pub decimal-long : (k n : ℕ) → 10 ^ k ≤ n → n < 10 ^ (suc k) → n < 2 ^ 64 → length (decimal n) ≡ suc k
+decimal-long zero n low high fits = ap length (decimal_digit n (omega arith))
+decimal-long (suc k) n low high fits =
+    let shorter = decimal-long k (n / 10) (omega arith) (omega arith) (omega arith) in
+    let least : 10 ≤ n = omega arith in
+    ap length (decimal_step n least fits) ∙ length-append (decimal (n / 10)) ((48 + n % 10) ∷ []) ∙ omega (arith, shorter)
+
+-- so many digits: at least the power of ten below, or one digit, and below the next power
+pub decimal-digits : (d n : ℕ) → 0 < d → (1 < d → 10 ^ (d - 1) ≤ n) → n < 10 ^ d → n < 2 ^ 64 → d ≡ length (decimal n)
+decimal-digits zero n some low high fits = absurd (omega arith)
+decimal-digits (suc zero) n some low high fits = sym (ap length (decimal_digit n (omega arith)))
+decimal-digits (suc (suc k)) n some low high fits =
+    let below : suc (suc k) - 1 ≡ suc k = omega arith in
+    sym (decimal-long (suc k) n (subst (λ d. 10 ^ d ≤ n) below (low (omega arith))) high fits)
+
+power : ℕ → ℕ
+power k = 10 ^ k
+
+powers-computed : POWERS ≡ map power (range_with_len 0 20)
+unfolding power
+powers-computed = refl
+
+pub power-at : (k : ℕ) → k < 20 → get_or POWERS k 0 ≡ 10 ^ k
+unfolding power
+power-at k h = ap (λ t. get_or t k 0) powers-computed ∙ get_or-map-range_with_len power 0 20 k k 0 h (omega arith)
