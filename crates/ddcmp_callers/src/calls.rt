@@ -4,7 +4,7 @@ ghost use Rattle.std.specs.List.{All};
 ghost use Rattle.ddcmp_core.specs.declared.counters.Counters.{Counters as CountersValue};
 ghost use Rattle.ddcmp_core.specs.Counting.{counters_on, counters_after_next, counters_after_expire};
 ghost use Rattle.ddcmp_core.specs.Laws.{tells_restart};
-ghost use Rattle.ddcmp_core.specs.Table.{Limits, StationState, Received, on, notice_of, next, next_frame, after_next, is_on, answer_to_start, after_start, after_enter_maintenance, after_halt, answer_to_send, answer_to_send_maintenance, after_accept, after_take, after_expire, after_take_arm};
+ghost use Rattle.ddcmp_core.specs.Table.{Limits, StationState, Received, on, notice_of, next, next_frame, after_next, is_on, is_fresh, answer_to_start, after_start, after_enter_maintenance, after_halt, answer_to_send, answer_to_send_maintenance, after_accept, after_take, after_expire, after_take_arm};
 ghost use Rattle.ddcmp_proto.specs.Config.{first_refusal};
 ghost use Rattle.ddcmp_proto.specs.declared.config.Config.{Config as ConfigValue};
 ghost use Rattle.ddcmp_run.specs.declared.event.End.{End as EndValue};
@@ -15,7 +15,8 @@ ghost use Rattle.ddcmp_callers.specs.Calls.{Call, Arrive, after_call, run_calls,
 
 /// Whether a station knows already that its timer was started makes no difference but to the call
 /// that asks: every other call takes two stations that are the same but for that to two such
-/// stations, and answers, writes, tells and counts the same.
+/// stations, and answers, writes, tells and counts the same. That call tells a start once, and
+/// neither starts the timer nor stops it.
 pub fn fresh_is_on()
     ensures receives { (l : Limits) (s t : StationState) (h : Received) → IsSameStation s t
         → IsSameStation (on l s h) (on l t h) × (notice_of l s h ≡ notice_of l t h) }
@@ -39,6 +40,8 @@ pub fn fresh_is_on()
         → IsSameStation (after_expire s) (after_expire t)
         × (is_on s.timer ≡ is_on t.timer) }
     ensures arms { (s : StationState) → IsSameStation s (after_take_arm s) }
+    ensures once { (s : StationState) → (is_fresh (after_take_arm s).timer ≡ false)
+        × (is_on (after_take_arm s).timer ≡ is_on s.timer) }
     ensures counts { (l : Limits) (s t : StationState) (h : Received) (c : CountersValue)
         → IsSameStation s t → (counters_on l s h c ≡ counters_on l t h c)
         × (counters_after_next s (next s) c ≡ counters_after_next t (next t) c)

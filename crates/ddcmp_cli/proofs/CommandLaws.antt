@@ -27,7 +27,7 @@ sized config w i m s =
     ) refl
 
 pub can_run : (o t : Text → Option Text) (command : Command) → HasOptions o t command → CanRun command
-can_run o t (Explain form max) h = h.1.in_range
+can_run o t (Explain form notation max) h = h.2.in_range
 can_run o t (Station served) h = tt
 can_run o t (Simulate config) h = sized config h.window.in_range h.inbox.in_range h.max.in_range h.syn.in_range
 can_run o t (Pair config) h = sized config h.window.in_range h.inbox.in_range h.max.in_range h.syn.in_range
@@ -56,7 +56,7 @@ pair-station : ◌≡◌ {A = Option Text} (Some (codes "pair")) (Some (codes "s
 pair-station e = false-true (ap has_t e)
 
 pub performed : (words : List Text) (command : Command) (input : List ℕ) (left old new : Option (List ℕ)) (ending : Ending) → IsAsked words (codes "explain") → named_by words ≡ Some (name_of command) → HasOptions (option_in words) (text_in words) command → Performs command input left old new ending → ExplainsOrNoMemory words input left old new ending
-performed words (Explain form max) input left old new ending a n h p = inr (form, max, p.0, h, p.1, p.2)
+performed words (Explain form notation max) input left old new ending a n h p = inr (form, notation, max, p.0, h, p.1, p.2)
 performed words (Simulate config) input left old new ending a n h p = absurd (names-differ (sym a.names ∙ n))
 performed words (Pair config) input left old new ending a n h p = absurd (explain-pair (sym a.names ∙ n))
 performed words (Station served) input left old new ending a n h p = absurd (explain-station (sym a.names ∙ n))
@@ -64,7 +64,7 @@ performed words (Station served) input left old new ending a n h p = absurd (exp
 -- words that ask for a station are answered by it
 pub stationed : {R : Type 0} (words : List Text) (command : Command) (reader reader_after : R) (old new : Option (List ℕ)) (ending : Ending) → IsAsked words (codes "station") → named_by words ≡ Some (name_of command) → HasOptions (option_in words) (text_in words) command
     → ((served : Served) → command ≡ Station served → (reader_after ≡ reader) × Stations served old new ending) → (reader_after ≡ reader) × StationsOrNoMemory words old new ending
-stationed words (Explain form max) reader after old new ending a n h p = absurd (explain-station (sym n ∙ a.names))
+stationed words (Explain form notation max) reader after old new ending a n h p = absurd (explain-station (sym n ∙ a.names))
 stationed words (Simulate config) reader after old new ending a n h p = absurd (simulate-station (sym n ∙ a.names))
 stationed words (Pair config) reader after old new ending a n h p = absurd (pair-station (sym n ∙ a.names))
 stationed words (Station served) reader after old new ending a n h p =

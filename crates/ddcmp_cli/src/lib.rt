@@ -7,7 +7,9 @@ pub mod program;
 mod simulating;
 mod stationing;
 
-pub use ddcmp_explain::{ExplainFault, Form, explain, explain_fault, explaining, form};
+pub use ddcmp_explain::{
+    ExplainFault, Form, Notation, explain, explain_as, explain_fault, explaining, form, notation,
+};
 pub use ddcmp_serve::{SERVED_MAX, ServeFault, serve, serve_fault, serving};
 pub use ddcmp_words::{Command, Declined, Role, Served, command, declined, read_words, served};
 pub use ending::Ending;

@@ -12,7 +12,7 @@ use crate::ending::Ending;
 use crate::fault::Fault;
 use crate::simulating::{pair, simulate};
 use crate::stationing::station;
-use ddcmp_explain::explain;
+use ddcmp_explain::explain_as;
 use ddcmp_io::{Sink, Source, Worst, write_all};
 use ddcmp_words::{Command, Declined, read_words};
 pub use ddcmp_words::{explain_is_asked, pair_is_asked, simulate_is_asked, station_is_asked};
@@ -47,7 +47,11 @@ fn perform<S: Net<Stream = TcpStream> + time::Clock, R: Source, W: Sink>(
         × Stations served (W.contents writer.old) (W.contents writer.new) result }
 {
     match command {
-        Command::Explain { form, max } => match explain(alloc, reader, writer, form, max) {
+        Command::Explain {
+            form,
+            notation,
+            max,
+        } => match explain_as(alloc, reader, writer, form, notation, max) {
             Ok(()) => Ending::Done,
             Err(fault) => Ending::Fault(Fault::from(fault)),
         },

@@ -13,12 +13,13 @@ use Rattle.ddcmp_io.specs.Written.{HoldsBy, Holds, HandsOver, Writes}
 use Rattle.ddcmp_io.specs.declared.device.WriteFailed.{WriteFailed}
 use Rattle.ddcmp_frame.proofs.ReadingLaws.{items-nothing}
 use Rattle.ddcmp_explain.specs.declared.lines.Lines.{Lines}
-use Rattle.ddcmp_explain.specs.Text.{lines, line_of}
+use Rattle.ddcmp_explain.specs.declared.notation.Notation.{Notation}
+use Rattle.ddcmp_explain.specs.Output.{lines, line_in}
 use Rattle.ddcmp_explain.specs.Progress.{HasTold}
 
-pub lines-nothing : (max : ℕ) → lines max [] ≡ []
+pub lines-nothing : (notation : Notation) (max : ℕ) → lines notation max [] ≡ []
 unfolding lines
-lines-nothing max = ap (flat_map line_of) (items-nothing max)
+lines-nothing notation max = ap (flat_map (line_in notation)) (items-nothing max)
 
 pub begun : (max : ℕ) (at : Lines) → StandsFor at.frames [] → at.frames.max ≡ max → at.items ≡ 0 → at.page ≡ [] → (broken : Bool) (start : Option (List ℕ)) → HasTold max start [] at broken start
 begun max at s m n e broken start = record {
@@ -28,26 +29,26 @@ begun max at s m n e broken start = record {
   holds = holds_none broken;
 }
   where
-    holds_none : (b : Bool) → HoldsBy b start start at.page (lines max [])
-    holds_none false = ([], Appends-nil start, lines-nothing max ∙ sym e)
+    holds_none : (b : Bool) → HoldsBy b start start at.page (lines at.notation max [])
+    holds_none false = ([], Appends-nil start, lines-nothing at.notation max ∙ sym e)
     holds_none true = (0, Appends-nil start)
 
-lines-given : (max : ℕ) (text more : List ℕ) (given : List ReadItem) → items max (text ++ more) ≡ items max text ++ given → lines max (text ++ more) ≡ lines max text ++ flat_map line_of given
+lines-given : (notation : Notation) (max : ℕ) (text more : List ℕ) (given : List ReadItem) → items max (text ++ more) ≡ items max text ++ given → lines notation max (text ++ more) ≡ lines notation max text ++ flat_map (line_in notation) given
 unfolding lines
-lines-given max text more given e = ap (flat_map line_of) e ∙ flat_map-append line_of (items max text) given
+lines-given notation max text more given e = ap (flat_map (line_in notation)) e ∙ flat_map-append (line_in notation) (items max text) given
 
 -- bytes were pushed, and the lines of what they gave were handed over
 pub told-more : (max : ℕ) (start sink new : Option (List ℕ)) (text more : List ℕ) (given : List ReadItem) (was at : Lines) (broken after : Bool) → HasTold max start text was broken sink
-    → at.frames.max ≡ was.frames.max → StandsFor at.frames (text ++ more) → items was.frames.max (text ++ more) ≡ items was.frames.max text ++ given → at.items ≡ was.items + length given
-    → HandsOver (record { broken = broken; sink = sink; waiting = was.page }) (record { broken = after; sink = new; waiting = at.page }) (flat_map line_of given)
+    → at.frames.max ≡ was.frames.max → at.notation ≡ was.notation → StandsFor at.frames (text ++ more) → items was.frames.max (text ++ more) ≡ items was.frames.max text ++ given → at.items ≡ was.items + length given
+    → HandsOver (record { broken = broken; sink = sink; waiting = was.page }) (record { broken = after; sink = new; waiting = at.page }) (flat_map (line_in was.notation) given)
     → HasTold max start (text ++ more) at after new
-told-more max start sink new text more given was at broken after h m stands gave count sent =
+told-more max start sink new text more given was at broken after h m same stands gave count sent =
     let grown : items max (text ++ more) ≡ items max text ++ given = subst (λ n. items n (text ++ more) ≡ items n text ++ given) h.max_is gave in
     record {
       stands = stands;
       max_is = m ∙ h.max_is;
       counted = count ∙ ap (λ n. n + length given) h.counted ∙ sym (length-append (items max text) given) ∙ ap length (sym grown);
-      holds = subst (λ t. Holds start t (record { broken = after; sink = new; waiting = at.page })) (sym (lines-given max text more given grown)) (sent.holds start (lines max text) h.holds);
+      holds = subst (λ t. Holds start t (record { broken = after; sink = new; waiting = at.page })) (sym (ap (λ n. lines n max (text ++ more)) same ∙ lines-given was.notation max text more given grown)) (sent.holds start (lines was.notation max text) h.holds);
     }
 
 -- a part of a piece, and then more of it

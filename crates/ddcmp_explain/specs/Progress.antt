@@ -8,7 +8,7 @@ use Rattle.ddcmp_explain.specs.declared.explain_fault.ExplainFault.{ExplainFault
 use Rattle.ddcmp_explain.specs.declared.lines.Lines.{Lines}
 use Rattle.ddcmp_explain.specs.declared.explainer.Explainer.{Explainer}
 use Rattle.ddcmp_explain.specs.Digits.{bytes_of, left_in, unexpected_in}
-use Rattle.ddcmp_explain.specs.Text.{lines}
+use Rattle.ddcmp_explain.specs.Output.{lines}
 use Rattle.ddcmp_explain.specs.Explains.{Tells}
 
 -- The reader stands for the text, its items are counted, and of their lines the sink has got some
@@ -18,7 +18,7 @@ pub record HasTold (max : ℕ) (start : Known) (text : List ℕ) (at : Lines) (b
   pub stands : StandsFor at.frames text
   pub max_is : at.frames.max ≡ max
   pub counted : at.items ≡ length (items max text)
-  pub holds : Holds start (lines max text)
+  pub holds : Holds start (lines at.notation max text)
       (record { broken = broken; sink = sink; waiting = at.page })
 
 -- All that was seen of an input has been decoded, and the lines of its whole bytes were written.
@@ -28,11 +28,11 @@ pub record Progress (max : ℕ) (start : Known) (seen : List ℕ) (at : Explaine
   pub left : left_in at.decoder.form seen ≡ option_to_list at.decoder.high
   pub long : length seen ≡ at.seen
   pub told : HasTold max start (bytes_of at.decoder.form seen) at.lines broken sink
-  pub written : Appends start sink (lines max (bytes_of at.decoder.form seen))
+  pub written : Appends start sink (lines at.lines.notation max (bytes_of at.decoder.form seen))
 
 -- What was seen has been explained, or a fault ends the explaining with it.
 abbrev pub Takes : ℕ → Known → List ℕ → Explainer → Bool → Known
     → Result (Unit {0}) ExplainFault → Type 0
 Takes max start seen at broken sink (Ok u) = Progress max start seen at broken sink
 Takes max start seen at broken sink (Err fault) =
-    (left : Known) → Tells at.decoder.form max seen left start sink (Err fault)
+    (left : Known) → Tells at.decoder.form at.lines.notation max seen left start sink (Err fault)

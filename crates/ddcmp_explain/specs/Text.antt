@@ -1,6 +1,5 @@
 -- The text that says what bytes of a line are, line by line.
-use Rattle.std.specs.Prelude.{[], ℕ, ◌++◌, Bool, true, false, List, length, codes, decimal, if◌then◌else◌}
-use Rattle.std.specs.List.{flat_map}
+use Rattle.std.specs.Prelude.{[], ℕ, ◌++◌, Bool, true, false, List, codes, decimal, if◌then◌else◌}
 use Rattle.ddcmp_frame.specs.declared.header.Flags.{Flags}
 use Rattle.ddcmp_frame.specs.declared.header.ControlType.{ControlType}
 use Rattle.ddcmp_frame.specs.declared.header.ControlType.TheVariants.{Ack, Nak, Rep, Strt, Stack}
@@ -12,7 +11,7 @@ use Rattle.ddcmp_frame.specs.declared.header.HeaderFault.TheVariants.{NotAStart,
 use Rattle.ddcmp_frame.specs.declared.item.Item.{Item}
 use Rattle.ddcmp_frame.specs.declared.item.Item.TheVariants.{Good, HeaderCheck, DataCheck, TooLong, Format}
 use Rattle.hex.specs.Hex.{encode_lower}
-use Rattle.ddcmp_frame.specs.Reading.{ReadItem, items, open_at_end}
+use Rattle.ddcmp_frame.specs.Reading.{ReadItem}
 
 abbrev pub kind_text : ControlType → List ℕ
 kind_text Ack = codes "ACK"
@@ -76,15 +75,8 @@ data_text item lent = if lends item then codes " " ++ encode_lower lent else []
 unfoldable pub line_of : ReadItem → List ℕ
 line_of given = item_text given.0 ++ data_text given.0 given.1 ++ codes "\n"
 
--- the lines of the items of some bytes
-unfoldable pub lines : ℕ → List ℕ → List ℕ
-lines max bytes = flat_map line_of (items max bytes)
-
+-- how many items there are, how many bytes, and how many of these are of an unfinished frame
 abbrev pub totals : ℕ → ℕ → ℕ → List ℕ
 totals count bytes left_open =
     codes "items=" ++ decimal count ++ codes " bytes=" ++ decimal bytes
     ++ codes " open=" ++ decimal left_open ++ codes "\n"
-
--- how many items there are, how many bytes, and how many of these are of an unfinished frame
-abbrev pub last_line : ℕ → List ℕ → List ℕ
-last_line max bytes = totals (length (items max bytes)) (length bytes) (open_at_end max bytes)

@@ -8,11 +8,12 @@ ghost use Rattle.ddcmp_io.specs.Input.{GaveMost};
 use crate::explain_fault::ExplainFault;
 use crate::explainer::Explainer;
 use crate::form::Form;
+use crate::notation::Notation;
 use ddcmp_frame::Reader;
 use ddcmp_io::{Sink, Source, Worst};
 use std::alloc::Global;
 
-/// Writes the line of each item of what the input spells, and a last line of totals.
+/// Writes the line of each item of what the input spells, and a last line of totals, in words.
 pub fn explain<R: Source, W: Sink>(
     alloc: Global,
     reader: &mut R,
@@ -27,7 +28,43 @@ pub fn explain<R: Source, W: Sink>(
 
     // Where the input is known: what was written, and when each answer comes.
     ensures told { (input : List ℕ) → R.left reader.old ≡ Some input
-        → Explains form max input (R.left reader.new)
+        → Explains form Notation.Plain max input (R.left reader.new)
+        (W.contents writer.old) (W.contents writer.new) result }
+    ensures ok { (input : List ℕ) → R.left reader.old ≡ Some input
+        → IsOk result ↔ ((refusal form input ≡ None) × (length input < 2 ^ 64 - 1)
+        × (R.state reader.new ≡ Worst.Fine) × (W.broken writer.new ≡ false)
+        × (result ≢ Err ExplainFault.Memory)) }
+
+    // Read exactly where the reader isn't fine, or has given 2^64 - 1 bytes with no write failing.
+    ensures read { R.state reader.new ≢ Worst.Fine → result ≡ Err ExplainFault.Read }
+    ensures read_only { result ≡ Err ExplainFault.Read
+        → (R.state reader.new ≢ Worst.Fine) ⊎ GaveMost (R.left reader.old) (R.left reader.new) }
+    ensures read_most { (input rest : List ℕ)
+        → R.left reader.old ≡ Some input → R.left reader.new ≡ Some rest
+        → length input ≡ length rest + (2 ^ 64 - 1)
+        → (result ≡ Err ExplainFault.Read) ⊎ (result ≡ Err ExplainFault.Write) }
+    ensures write { (result ≡ Err ExplainFault.Write) ↔ IsTrue (W.broken writer.new) }
+{
+    explain_as(alloc, reader, writer, form, Notation::Plain, max)
+}
+
+/// Writes the line of each item of what the input spells, and a last line of totals, in a notation.
+pub fn explain_as<R: Source, W: Sink>(
+    alloc: Global,
+    reader: &mut R,
+    writer: &mut W,
+    form: Form,
+    notation: Notation,
+    max: u16,
+) -> Result<(), ExplainFault>
+    requires fine { R.state reader.old ≡ Worst.Fine }
+    requires whole { W.broken writer.old ≡ false }
+    requires low { 0 < max }
+    requires high { max ≤ MAX_COUNT }
+
+    // Where the input is known: what was written, and when each answer comes.
+    ensures told { (input : List ℕ) → R.left reader.old ≡ Some input
+        → Explains form notation max input (R.left reader.new)
         (W.contents writer.old) (W.contents writer.new) result }
     ensures ok { (input : List ℕ) → R.left reader.old ≡ Some input
         → IsOk result ↔ ((refusal form input ≡ None) × (length input < 2 ^ 64 - 1)
@@ -46,7 +83,7 @@ pub fn explain<R: Source, W: Sink>(
 {
     match Reader::new(alloc, max) {
         Ok(frames) => {
-            let mut explainer = Explainer::new(frames, form);
+            let mut explainer = Explainer::new(frames, form, notation);
             explainer.take_all(reader, writer)
         }
         Err(_refused) => Err(ExplainFault::Memory),

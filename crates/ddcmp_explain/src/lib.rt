@@ -10,10 +10,13 @@ pub mod form;
 mod hex_digits;
 mod hex_text;
 mod hex_values;
+mod json;
 mod lines;
+pub mod notation;
 mod put;
 mod text;
 
 pub use explain_fault::ExplainFault;
-pub use explaining::explain;
+pub use explaining::{explain, explain_as};
 pub use form::Form;
+pub use notation::Notation;

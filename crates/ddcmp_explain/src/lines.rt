@@ -3,9 +3,9 @@ ghost use Rattle.std.specs.Prelude.{◌≡◌, ◌+◌, ◌<◌, ◌≤◌, ◌^
 ghost use Rattle.std.specs.Prelude.{Option, is_err, length, take};
 ghost use Rattle.ddcmp_frame.specs.Reader.{StandsFor};
 ghost use Rattle.ddcmp_io.specs.Written.{Writes};
-ghost use Rattle.ddcmp_explain.specs.Text.{lines, last_line};
+ghost use Rattle.ddcmp_explain.specs.Output.{lines, last_line};
 
-use crate::text::{write_line, write_totals};
+use crate::notation::Notation;
 use ddcmp_frame::{Pushed, Reader};
 use ddcmp_io::{Page, Sink, WriteFailed};
 
@@ -13,6 +13,7 @@ use ddcmp_io::{Page, Sink, WriteFailed};
 #[derive(Drop)]
 pub(crate) struct Lines {
     pub(crate) frames: Reader,
+    pub(crate) notation: Notation,
     pub(crate) items: u64,
     pub(crate) page: Page,
     ghost counted: { items ≤ frames.offset },
@@ -22,15 +23,17 @@ impl Lines {
     ghost use Rattle.ddcmp_explain.specs.Progress.{HasTold};
 
     /// No bytes so far, for a reader of none.
-    pub(crate) fn new(frames: Reader) -> Self
+    pub(crate) fn new(frames: Reader, notation: Notation) -> Self
         requires { StandsFor frames [] }
         ensures max { result.frames.max ≡ frames.max }
+        ensures notation { result.notation ≡ notation }
         ensures offset { result.frames.offset ≡ 0 }
         ensures told { (broken : Bool) (start : Option (List ℕ))
             → HasTold frames.max start [] result broken start }
     {
         Lines {
             frames,
+            notation,
             items: 0,
             page: Page::new(),
         }
@@ -44,6 +47,7 @@ impl Lines {
         ensures used { result ≤ length bytes.now }
         ensures some { 0 < result }
         ensures max { self.new.frames.max ≡ self.old.frames.max }
+        ensures notation { self.new.notation ≡ self.old.notation }
         ensures offset { self.new.frames.offset ≡ self.old.frames.offset + result }
         ensures told { (max : ℕ) (start : Option (List ℕ)) (text : List ℕ)
             → HasTold max start text self.old (W.broken writer.old) (W.contents writer.old)
@@ -54,7 +58,9 @@ impl Lines {
         match item {
             Some(item) => {
                 self.items += 1;
-                write_line(&mut self.page, writer, &item, self.frames.data());
+                let data = self.frames.data();
+                self.notation
+                    .write_item(&mut self.page, writer, &item, data);
             }
             None => {}
         }
@@ -65,6 +71,7 @@ impl Lines {
     pub(crate) fn push_all<W: Sink>(&mut self, writer: &mut W, bytes: &[u8])
         requires { self.old.frames.offset + length bytes.now < 2 ^ 64 }
         ensures max { self.new.frames.max ≡ self.old.frames.max }
+        ensures notation { self.new.notation ≡ self.old.notation }
         ensures offset { self.new.frames.offset ≡ self.old.frames.offset + length bytes.now }
         ensures told { (max : ℕ) (start : Option (List ℕ)) (text : List ℕ)
             → HasTold max start text self.old (W.broken writer.old) (W.contents writer.old)
@@ -80,12 +87,13 @@ impl Lines {
     /// Writes all lines that wait.
     pub(crate) fn flush<W: Sink>(&mut self, writer: &mut W) -> Result<(), WriteFailed>
         ensures max { self.new.frames.max ≡ self.old.frames.max }
+        ensures notation { self.new.notation ≡ self.old.notation }
         ensures offset { self.new.frames.offset ≡ self.old.frames.offset }
         ensures broken { W.broken writer.new ≡ is_err result }
         ensures told { (max : ℕ) (start : Option (List ℕ)) (text : List ℕ)
             → HasTold max start text self.old (W.broken writer.old) (W.contents writer.old)
             → HasTold max start text self.new (W.broken writer.new) (W.contents writer.new)
-            × Writes start (W.contents writer.new) result (lines max text) }
+            × Writes start (W.contents writer.new) result (lines self.old.notation max text) }
     {
         self.page.flush(writer)
     }
@@ -96,11 +104,13 @@ impl Lines {
         ensures broken { W.broken writer.new ≡ is_err result }
         ensures told { (max : ℕ) (start : Option (List ℕ)) (text : List ℕ)
             → HasTold max start text self.old (W.broken writer.old) (W.contents writer.old)
-            → Writes start (W.contents writer.new) result (lines max text ++ last_line max text) }
+            → Writes start (W.contents writer.new) result
+            (lines self.old.notation max text ++ last_line self.old.notation max text) }
     {
         let bytes = self.frames.offset();
         let left_open = self.frames.open() as u64;
-        write_totals(&mut self.page, writer, self.items, bytes, left_open);
+        self.notation
+            .write_last(&mut self.page, writer, self.items, bytes, left_open);
         self.page.flush(writer)
     }
 }

@@ -164,7 +164,7 @@ pub(crate) fn put_item(line: &mut [u8; LINE], item: &Item) -> usize
 
 /// Whether an item lends data.
 #[inline(always)]
-fn lends(item: &Item) -> bool
+pub(crate) fn lends(item: &Item) -> bool
     ensures { result ≡ lends_data item.now }
 {
     match item {

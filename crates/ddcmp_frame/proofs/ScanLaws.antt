@@ -19,7 +19,7 @@ use Rattle.ddcmp_frame.specs.Reader.{ReaderView, Summarises, StandsFor, LentBesi
 use Rattle.ddcmp_frame.specs.Scan.{IsSoundScan, HasHeader, HasFrame, FitsPhase, bytes_in, skipped_in, left_in, view_of, GrowsBy, TakesPiece, TakesAll}
 use Rattle.ddcmp_frame.proofs.Tests.{ltb-is, ltb-isnt, false-true, some-none}
 use Rattle.ddcmp_frame.proofs.WireLaws.{frame_length-counted}
-use Rattle.ddcmp_frame.proofs.ReadingLaws.{read-none, read-some, read-nothing, items-more, ending-more, ending-offset, ending-suffix, row-passes, row-waits, row-by}
+use Rattle.ddcmp_frame.proofs.ReadingLaws.{read-none, read-some, read-nothing, items-more, ending-more, ending-offset, ending-suffix, row-nothing, row-passes, row-waits, row-by}
 use Rattle.ddcmp_frame.proofs.PushLaws.{next_place, holding, passing, passed, counts-more, row-told, length_by-counts, when, unless, LossTold}
 use Rattle.ddcmp_frame.proofs.FrameLaws.{append-cancel}
 use Rattle.ddcmp_frame.proofs.TableLaws.{read-too-long, read-passing}
@@ -445,6 +445,24 @@ eight-taken s piece used x sound phase within few is full =
       before = omega (arith, t.before, t.len);
       more = t.more (s.offset + used - 8) (omega (arith, t.before, t.len));
     }
+
+-- a header stands whole at the front of a piece, where nothing is held
+pub record WholeHeader (s : Scan) (u : List ℕ) : Type 0 where
+  pub more : More (view_of s) u u s.offset
+  pub quiet : Quiet (view_of s) u s.offset
+
+pub whole-header : (s : Scan) (u : List ℕ) → s.phase ≡ phase.Seeking → length u ≡ 8 → is_start (slice_index u 0) ≡ true → WholeHeader s u
+whole-header s u phase eight start =
+    let nothing : bytes_in s.phase s.buffer.items ≡ [] = ap (λ p. bytes_in p s.buffer.items) phase in
+    record {
+      more = record { none = ap left_in phase; bytes = ap (λ t. t ++ u) (sym nothing); at_front = omega (arith, ap length nothing) };
+      quiet = λ n less. ap (λ t. row s.max (next_place s.offset s.lost (t ++ take n u))) nothing ∙ by n less;
+    }
+  where
+    by : (n : ℕ) → n < length u → row s.max (next_place s.offset s.lost (take n u)) ≡ None
+    by zero less = row-nothing s.max (next_place s.offset s.lost []) refl
+    by (suc n) less =
+        row-waits s.max (next_place s.offset s.lost (take (suc n) u)) (ap is_start (index-take (suc n) 0 u (omega arith)) ∙ start) (omega (arith, length-take-le (suc n) u (omega arith)))
 
 -- what a scan has after it took bytes, as its fields say
 pub after-taking : (v w : ReaderView) (piece : List ℕ) (used : ℕ) → length (take used piece) ≡ used → w.max ≡ v.max → w.offset ≡ v.offset + used → After v w (take used piece) w.lost w.bytes w.skipped w.left

@@ -1,5 +1,5 @@
 //! A scan of a line for frames, step by step. `Reader` is what callers see of it.
-ghost use Rattle.std.specs.Prelude.{◌≡◌, ◌+◌, ◌<◌, ◌≤◌, ◌^◌, ◌++◌, ℕ, true, false, length, slice_index, None, vec_len, vec_capacity};
+ghost use Rattle.std.specs.Prelude.{◌≡◌, ◌+◌, ◌<◌, ◌≤◌, ◌^◌, ◌++◌, ℕ, true, false, length, slice_index, take, None, vec_len, vec_capacity};
 ghost use Rattle.ddcmp_frame.specs.Spelling.{is_start as is_start_byte};
 ghost use Rattle.ddcmp_frame.specs.Reader.{open_of, kept_of};
 ghost use Rattle.ddcmp_frame.specs.Scan.{IsSoundScan, IsReady, IsCandidate, TakesPiece, TakesAll, view_of};
@@ -82,7 +82,10 @@ impl Scan {
             (view_of self.new) }
     {
         match self.phase {
-            Phase::Seeking => self.seek(piece),
+            Phase::Seeking => match piece.first_chunk::<8>() {
+                Some(front) if is_start(front[0]) => self.take_whole_header(piece, front),
+                _ => self.seek(piece),
+            },
             Phase::Header => self.take_header(piece),
             Phase::Frame { header, count } => self.take_data(piece, header, count),
             Phase::TooLong { skipped, left } => self.pass(piece, skipped, left),
@@ -113,6 +116,50 @@ impl Scan {
         Pushed {
             used: other + 1,
             item: None,
+        }
+    }
+
+    /// Takes a header that stands whole at the front of a piece. One that is a frame isn't copied.
+    fn take_whole_header(&mut self, piece: &[u8], front: &[u8; 8]) -> Pushed
+        requires ready { IsReady self.old piece.now }
+        requires phase { self.old.phase ≡ Phase.Seeking }
+        requires front { front.now ≡ take 8 piece.now }
+        requires start { is_start_byte (slice_index front.now 0) ≡ true }
+        ensures sound { IsSoundScan self.new }
+        ensures lent { self.new.lent ≡ 0 }
+        ensures takes { TakesPiece (view_of self.old) piece.now result.used result.item
+            (view_of self.new) }
+    {
+        let at = self.offset;
+        match candidate_at(front, self.max, at) {
+            Candidate::Fails => self.seek(piece),
+            Candidate::Gives(item) => {
+                self.offset += 8;
+                self.lost = false;
+                Pushed {
+                    used: 8,
+                    item: Some(item),
+                }
+            }
+            Candidate::Begins(header, count) => {
+                self.buffer.clear();
+                keep(&mut self.buffer, front);
+                self.offset += 8;
+                self.phase = Phase::Frame { header, count };
+                Pushed {
+                    used: 8,
+                    item: None,
+                }
+            }
+            Candidate::Announces(header, count) => {
+                self.offset += 8;
+                let left = count + 2;
+                self.phase = Phase::TooLong { skipped: 8, left };
+                Pushed {
+                    used: 8,
+                    item: Some(Item::TooLong(at, header)),
+                }
+            }
         }
     }
 

@@ -1,6 +1,6 @@
 // The text of explain, against worked rows.
 use crate::same::is;
-use ddcmp_cli::{ExplainFault, Form, explain};
+use ddcmp_cli::{ExplainFault, Form, Notation, explain, explain_as};
 use ddcmp_frame::failing::{Pieces, Taken};
 use ddcmp_frame::{Sink, Source, Worst};
 use std::process::Abort;
@@ -81,6 +81,43 @@ fn tells(
     let told = explains(rt, call);
     is(rt, &told.answer, answer);
     is(rt, told.writer.bytes(), text);
+}
+
+/// What a call answers and writes as JSON.
+fn explains_as_json(
+    rt: &(impl Abort + AllocGlobal),
+    call: Call<'_>,
+) -> (Result<(), ExplainFault>, Taken<256>) {
+    assert!(rt; 0 < call.max && call.max <= 16383 && 0 < call.read && 0 < call.write);
+    let mut reader = Pieces::of(call.input).at_most(call.read);
+    let mut writer = Taken::new()
+        .at_most(call.write)
+        .failing_at(call.write_fails_at);
+    let json = Notation::Json;
+    let answer = explain_as(
+        rt.alloc(),
+        &mut reader,
+        &mut writer,
+        call.form,
+        json,
+        call.max,
+    );
+    (answer, writer)
+}
+
+/// A call has this answer and writes this as JSON, in large pieces and in small ones.
+fn json_row(
+    rt: &(impl Abort + AllocGlobal),
+    input: &[u8],
+    answer: &Result<(), ExplainFault>,
+    text: &[u8],
+) {
+    let call = Call::of(input, Form::Hex, 1500);
+    for pieces in [call, call.in_pieces(1, 1), call.in_pieces(3, 7)] {
+        let (told, writer) = explains_as_json(rt, pieces);
+        is(rt, &told, answer);
+        is(rt, writer.bytes(), text);
+    }
 }
 
 /// The same in large pieces, byte by byte, and in small pieces.
@@ -328,4 +365,31 @@ fn raw_input(rt: HostRuntime) {
         0x81, 0, 0, 0, 1, 1, 0xDE, 0x41, 5, 4, 0, 0, 0, 1, 0x30, 0x55, 5, 1, 0, 0, 0, 1, 0xFC, 0x55,
     ];
     raw_row(&rt, &formats, formats_text());
+}
+
+#[test]
+fn objects_of_json(rt: HostRuntime) {
+    let text = b"{\"offset\":0,\"item\":\"DATA\",\"count\":3,\"q\":0,\"s\":0,\"resp\":0,\"num\":1,\
+        \"addr\":1,\"data\":\"616263\"}\n{\"items\":1,\"bytes\":13,\"open\":0}\n";
+    json_row(&rt, b"8103000001019a416162633897", &Ok(()), text);
+    let text = b"{\"offset\":0,\"item\":\"data check\",\"of\":\"DATA\",\"count\":3,\"q\":0,\"s\":0,\
+        \"resp\":0,\"num\":1,\"addr\":1}\n{\"items\":1,\"bytes\":13,\"open\":0}\n";
+    json_row(&rt, b"8103000001019a416162633896", &Ok(()), text);
+    let text = b"{\"offset\":0,\"item\":\"format\",\"count\":0}\n\
+        {\"offset\":8,\"item\":\"format\",\"type\":4}\n";
+    let input = b"810000000101de41 0504000000013055 0";
+    json_row(&rt, input, &Err(ExplainFault::Odd), text);
+}
+
+/// A write of JSON fails: what was written before it stays.
+#[test]
+fn a_write_of_json_fails(rt: HostRuntime) {
+    let text = b"{\"offset\":0,\"item\":\"header check\"}\n";
+    let failing = Call {
+        write_fails_at: 4,
+        ..Call::of(b"81 050100000001fc55", Form::Hex, 1500).in_pieces(usize::MAX, 9)
+    };
+    let (told, writer) = explains_as_json(&rt, failing);
+    is(&rt, told, Err(ExplainFault::Write));
+    is(&rt, writer.bytes(), &text[..27]);
 }

@@ -14,7 +14,7 @@ use Rattle.clap.proofs.WalkLemmas.{first_value-rows, one_text-rows}
 use Rattle.clap.specs.declared.parser.matches.ArgMatches.{ArgMatches}
 use Rattle.clap.specs.declared.parser.matches.ArgMatches.TheViews.{out-ArgMatches}
 use Rattle.clap.proofs.OnLiterals.{clap_on_literals}
-use Rattle.ddcmp_words.specs.Words.{program, named_by, option_in, text_in, role_of, MOST, HasFlag, HasForm, HasNumber, HasOptions, HasSizes, IsAsked}
+use Rattle.ddcmp_words.specs.Words.{program, named_by, option_in, text_in, role_of, MOST, HasFlag, HasForm, HasNotation, HasNumber, HasOptions, HasSizes, IsAsked}
 use Rattle.ddcmp_core.specs.Limits.{MAX_COUNT, MAX_WINDOW}
 use Rattle.ddcmp_proto.specs.declared.config.Config.{Config}
 use Rattle.ddcmp_proto.specs.declared.config.TheConstants.{MAX_INBOX, MAX_SYN}
@@ -77,9 +77,10 @@ sizes_as o p config e h = record {
 
 pub has_options_as : (o p t u : Text → Option Text) (made : Command) → ((id : Text) → o id ≡ p id) → ((id : Text) → t id ≡ u id)
     → HasOptions o t made → HasOptions p u made
-has_options_as o p t u (Explain form max) e w h = (
+has_options_as o p t u (Explain form notation max) e w h = (
   subst (λ t. HasForm t form) (e (codes "raw")) h.0,
-  subst (λ t. HasNumber 1 MAX_COUNT MAX_COUNT t max) (e (codes "max")) h.1,
+  subst (λ t. HasNotation t notation) (e (codes "json")) h.1,
+  subst (λ t. HasNumber 1 MAX_COUNT MAX_COUNT t max) (e (codes "max")) h.2,
 )
 has_options_as o p t u (Simulate config) e w h = sizes_as o p config e h
 has_options_as o p t u (Pair config) e w h = sizes_as o p config e h

@@ -4,6 +4,8 @@ use Rattle.std.specs.Option.{option_map, option_and_then}
 use Rattle.std.specs.Str.{bytes_eq}
 use Rattle.ddcmp_explain.specs.declared.form.Form.{Form}
 use Rattle.ddcmp_explain.specs.declared.form.Form.TheVariants.{Hex, Raw}
+use Rattle.ddcmp_explain.specs.declared.notation.Notation.{Notation}
+use Rattle.ddcmp_explain.specs.declared.notation.Notation.TheVariants.{Plain, Json}
 use Rattle.ddcmp_words.specs.declared.command.Command.{Command}
 use Rattle.ddcmp_words.specs.declared.command.Command.TheVariants.{Explain, Simulate, Pair, Station}
 use Rattle.ddcmp_words.specs.declared.served.Role.{Role}
@@ -43,7 +45,9 @@ required rule = record rule { required = true }
 -- `ddcmp explain`
 abbrev pub explain_app : App
 explain_app =
-    with_rule (with_rule (new_app (codes "explain")) (flag_rule (codes "raw")))
+    with_rule (with_rule (with_rule (new_app (codes "explain"))
+    (flag_rule (codes "raw")))
+    (flag_rule (codes "json")))
     (number_rule (codes "max") 1 MAX_COUNT)
 
 -- the sizes of both ends, and whether they begin anew by themselves
@@ -92,7 +96,7 @@ program =
 
 -- the word that names a command
 abbrev pub name_of : Command → Text
-name_of (Explain form max) = codes "explain"
+name_of (Explain form notation max) = codes "explain"
 name_of (Simulate config) = codes "simulate"
 name_of (Pair config) = codes "pair"
 name_of (Station served) = codes "station"
@@ -124,6 +128,12 @@ pub record HasForm (raw : Option Text) (form : Form) : Type 0 where
   pub given : raw ≡ Some (codes "true") → form ≡ Raw
   pub left_out : raw ≡ Some (codes "false") → form ≡ Hex
   pub absent : raw ≡ None → form ≡ Hex
+
+-- objects of JSON where `--json` was given, else words
+pub record HasNotation (json : Option Text) (notation : Notation) : Type 0 where
+  pub given : json ≡ Some (codes "true") → notation ≡ Json
+  pub left_out : json ≡ Some (codes "false") → notation ≡ Plain
+  pub absent : json ≡ None → notation ≡ Plain
 
 -- whether an option that stands alone was given
 pub record HasFlag (text : Option Text) (is_given : Bool) : Type 0 where
@@ -163,8 +173,9 @@ pub record HasStation (option text : Text → Option Text) (served : Served) : T
 
 -- a command with the options that were given: as they are read, and as they were written
 abbrev pub HasOptions : (option text : Text → Option Text) → Command → Type 0
-HasOptions option text (Explain form max) =
+HasOptions option text (Explain form notation max) =
     HasForm (option (codes "raw")) form
+    × HasNotation (option (codes "json")) notation
     × HasNumber 1 MAX_COUNT MAX_COUNT (option (codes "max")) max
 HasOptions option text (Simulate config) = HasSizes option config
 HasOptions option text (Pair config) = HasSizes option config

@@ -5,14 +5,18 @@ ghost use Rattle.ddcmp_words.specs.Words.{IsAsked, option_in, text_in, program};
 
 use clap::error::ErrorKind as WordsFault;
 
-/// The words `ddcmp explain` ask for the command that explains, without its options; `--raw` and
-/// `--max 1500` are read. `ddcmp --help` asks for help, and `ddcmp --version` for the version.
+/// The words `ddcmp explain` ask for the command that explains, without its options; `--raw`,
+/// `--json` and `--max 1500` are read. `ddcmp --help` asks for help, and `ddcmp --version` for the version.
 pub fn explain_is_asked()
     ensures plain { IsAsked (codes "ddcmp" ∷ codes "explain" ∷ []) (codes "explain") }
     ensures not_raw { option_in (codes "ddcmp" ∷ codes "explain" ∷ []) (codes "raw")
         ≡ Some (codes "false") }
+    ensures not_json { option_in (codes "ddcmp" ∷ codes "explain" ∷ []) (codes "json")
+        ≡ Some (codes "false") }
     ensures no_maximum { option_in (codes "ddcmp" ∷ codes "explain" ∷ []) (codes "max") ≡ None }
     ensures raw { option_in (codes "ddcmp" ∷ codes "explain" ∷ codes "--raw" ∷ []) (codes "raw")
+        ≡ Some (codes "true") }
+    ensures json { option_in (codes "ddcmp" ∷ codes "explain" ∷ codes "--json" ∷ []) (codes "json")
         ≡ Some (codes "true") }
     ensures maximum { option_in
         (codes "ddcmp" ∷ codes "explain" ∷ codes "--max" ∷ codes "1500" ∷ []) (codes "max")

@@ -3,9 +3,9 @@ ghost use Rattle.std.specs.Prelude.{◌≡◌, ◌≢◌, ◌⊎◌, ◌↔◌, 
 ghost use Rattle.std.specs.Prelude.{codes, map, unwrap_or, [], false, List, ℕ};
 ghost use Rattle.std.specs.Option.{option_and_then};
 ghost use Rattle.ddcmp_words.specs.Words.{Declines, IsAsked, IsName, Reads, name_of, program};
-ghost use Rattle.ddcmp_words.specs.Words.{HasFlag, HasForm, HasNumber, HasOptions, HasSizes};
-ghost use Rattle.ddcmp_words.specs.Words.{HasStation, explain_app, pair_app, simulate_app};
-ghost use Rattle.ddcmp_words.specs.Words.{station_app};
+ghost use Rattle.ddcmp_words.specs.Words.{HasFlag, HasForm, HasNotation, HasNumber, HasOptions};
+ghost use Rattle.ddcmp_words.specs.Words.{HasSizes, HasStation, explain_app, pair_app};
+ghost use Rattle.ddcmp_words.specs.Words.{simulate_app, station_app};
 ghost use Rattle.ddcmp_words.specs.Words.{flag_rule, number_rule, role_of, text_rule};
 ghost use Rattle.ddcmp_words.specs.Words.{with_sizes as with_sizes_of};
 ghost use Rattle.clap.specs.Words.{kind_of, app_of, new_app, rule_of, first_of, first_value};
@@ -18,7 +18,7 @@ use crate::served::{Role, Served};
 use clap::error::ErrorKind;
 use clap::{Arg, ArgAction, ArgMatches, Error};
 use ddcmp_core::{MAX_COUNT, MAX_WINDOW};
-use ddcmp_explain::Form;
+use ddcmp_explain::{Form, Notation};
 use ddcmp_proto::{Config, MAX_INBOX, MAX_SYN};
 use std::alloc::{AllocError, Global};
 
@@ -26,7 +26,11 @@ use std::alloc::{AllocError, Global};
 #[derive(Clone, Copy, Debug, PartialEq, Eq)]
 pub enum Command<'a> {
     /// Explain the input in this form, for a reader of at most `max` bytes of data.
-    Explain { form: Form, max: u16 },
+    Explain {
+        form: Form,
+        notation: Notation,
+        max: u16,
+    },
     /// Run a script between two ends of these sizes.
     Simulate(Config),
     /// The same, and the bytes that pass go over a TCP connection.
@@ -78,6 +82,7 @@ fn explain_parser<'a>(alloc: Global) -> Result<clap::Command<'a>, AllocError>
             "raw",
             "Read bytes as they are, not hexadecimal digits",
         ))?
+        .arg(flag(alloc, "json", "Write an object of JSON in each line"))?
         .arg(number(
             alloc,
             "max",
@@ -281,6 +286,17 @@ fn form_given(options: &ArgMatches<'_>) -> Form
     }
 }
 
+/// Objects of JSON, or words.
+fn notation_given(options: &ArgMatches<'_>) -> Notation
+    ensures { HasNotation (one_text (found_of options.now) (codes "json")) result }
+{
+    if options.get_flag("json") {
+        Notation::Json
+    } else {
+        Notation::Plain
+    }
+}
+
 /// Whether an option that stands alone was given.
 fn flag_given(options: &ArgMatches<'_>, name: &str) -> bool
     ensures { HasFlag (one_text (found_of options.now) name.now) result }
@@ -320,6 +336,7 @@ fn explain_with<'a>(options: &ArgMatches<'a>) -> Command<'a>
 {
     Command::Explain {
         form: form_given(options),
+        notation: notation_given(options),
         max: number_given(options, "max", 1, MAX_COUNT as u32, MAX_COUNT as u32) as u16,
     }
 }

@@ -76,6 +76,32 @@ impl End {
     }
 }
 
+/// The next frame of one end arrives at the other.
+fn carry(rt: &(impl Print + AllocGlobal), from: &mut End, to: &mut End) -> io::Result<()> {
+    let mut piece = [0; 128];
+    let n = from.write(&mut piece);
+    to.receive(rt, &piece[..n])
+}
+
+/// The ends start.
+fn start(rt: &(impl Print + AllocGlobal), a: &mut End, b: &mut End) -> io::Result<()> {
+    a.start(rt)?;
+    b.start(rt)?;
+    carry(rt, a, b)?;
+    carry(rt, b, a)
+}
+
+/// A owes an ACK, and then has a message. Both frames go in one piece.
+fn send_a_message(rt: &(impl Print + AllocGlobal), a: &mut End, b: &mut End) -> io::Result<()> {
+    let mut piece = [0; 256];
+    let ack = a.write(&mut piece);
+    a.send(rt, b"abc")?;
+    let n = ack + a.write(&mut piece[ack..]);
+    b.receive(rt, &piece[..n])?;
+    b.take(rt)?;
+    carry(rt, b, a)
+}
+
 pub fn run(rt: &(impl Print + AllocGlobal)) -> io::Result<()> {
     let Some(mut a) = End::new(rt.alloc(), "A") else {
         return println!(rt; "no memory for A");
@@ -83,20 +109,6 @@ pub fn run(rt: &(impl Print + AllocGlobal)) -> io::Result<()> {
     let Some(mut b) = End::new(rt.alloc(), "B") else {
         return println!(rt; "no memory for B");
     };
-    a.start(rt)?;
-    b.start(rt)?;
-    let mut piece = [0; 256]; // room for two frames
-    let n = a.write(&mut piece);
-    b.receive(rt, &piece[..n])?;
-    let n = b.write(&mut piece);
-    a.receive(rt, &piece[..n])?;
-
-    // A owes an ACK, and then has a message. Both frames go in one piece.
-    let ack = a.write(&mut piece);
-    a.send(rt, b"abc")?;
-    let n = ack + a.write(&mut piece[ack..]);
-    b.receive(rt, &piece[..n])?;
-    b.take(rt)?;
-    let n = b.write(&mut piece);
-    a.receive(rt, &piece[..n])
+    start(rt, &mut a, &mut b)?;
+    send_a_message(rt, &mut a, &mut b)
 }

@@ -30,3 +30,11 @@ returns-clause-help c = refl
 pub returns-clause-version : goal.returns-clause-version
 unfolding clap_on_literals
 returns-clause-version c = refl
+
+pub returns-clause-not_json : goal.returns-clause-not_json
+unfolding clap_on_literals option_in
+returns-clause-not_json c = refl
+
+pub returns-clause-json : goal.returns-clause-json
+unfolding clap_on_literals option_in
+returns-clause-json c = refl

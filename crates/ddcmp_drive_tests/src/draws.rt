@@ -1,0 +1,37 @@
+//! Numbers drawn from a seed.
+ghost use Rattle.std.specs.Prelude.{◌≤◌, ◌<◌, length};
+
+/// A sequence of numbers that looks like chance and is the same for the same seed (splitmix64).
+#[derive(Drop)]
+pub struct Draws {
+    pub state: u64,
+}
+
+impl Draws {
+    pub fn next(&mut self) -> u64 {
+        self.state = self.state.wrapping_add(0x9E37_79B9_7F4A_7C15);
+        let mut mixed = self.state;
+        mixed = (mixed ^ (mixed >> 30)).wrapping_mul(0xBF58_476D_1CE4_E5B9);
+        mixed = (mixed ^ (mixed >> 27)).wrapping_mul(0x94D0_49BB_1331_11EB);
+        mixed ^ (mixed >> 31)
+    }
+
+    /// A number up to this one.
+    pub fn up_to(&mut self, most: u8) -> u8
+        ensures { result ≤ most }
+    {
+        (self.next() % (most as u64 + 1)) as u8
+    }
+
+    /// Once in so many times.
+    pub fn once_in(&mut self, times: u64) -> bool
+        requires { 0 < times }
+    {
+        self.next() % times == 0
+    }
+
+    /// One of these.
+    pub fn among<T: Copy>(&mut self, choices: [T; 4]) -> T {
+        choices[self.up_to(3) as usize]
+    }
+}

@@ -1,0 +1,6 @@
+use Rattle.ddcmp_explain.proofs.PuttingLaws.{puts-then}
+use Rattle.ddcmp_explain.proofs.json.put_start.Goals as goal
+
+pub returns-clause-puts : goal.returns-clause-puts
+returns-clause-puts c =
+    puts-then (puts-then c.put-at_offset.ensures c.put_number-behind_offset.ensures.puts) c.put.ensures

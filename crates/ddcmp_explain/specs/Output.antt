@@ -1,0 +1,26 @@
+-- What is written in each notation.
+use Rattle.std.specs.Prelude.{ℕ, List, length}
+use Rattle.std.specs.List.{flat_map}
+use Rattle.ddcmp_frame.specs.Reading.{ReadItem, items, open_at_end}
+use Rattle.ddcmp_explain.specs.declared.notation.Notation.{Notation}
+use Rattle.ddcmp_explain.specs.declared.notation.Notation.TheVariants.{Plain, Json}
+use Rattle.ddcmp_explain.specs.Text.{line_of, totals}
+use Rattle.ddcmp_explain.specs.Json.{json_line_of, json_totals}
+
+-- the line of an item with the data that it lends
+abbrev pub line_in : Notation → ReadItem → List ℕ
+line_in Plain given = line_of given
+line_in Json given = json_line_of given
+
+-- the lines of the items of some bytes
+unfoldable pub lines : Notation → ℕ → List ℕ → List ℕ
+lines notation max bytes = flat_map (line_in notation) (items max bytes)
+
+abbrev pub totals_in : Notation → ℕ → ℕ → ℕ → List ℕ
+totals_in Plain count bytes left_open = totals count bytes left_open
+totals_in Json count bytes left_open = json_totals count bytes left_open
+
+-- how many items there are, how many bytes, and how many of these are of an unfinished frame
+abbrev pub last_line : Notation → ℕ → List ℕ → List ℕ
+last_line notation max bytes =
+    totals_in notation (length (items max bytes)) (length bytes) (open_at_end max bytes)

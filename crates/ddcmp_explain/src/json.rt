@@ -1,0 +1,250 @@
+//! The lines as JSON.
+ghost use Rattle.std.specs.Prelude.{◌≡◌, ◌+◌, ◌≤◌, ◌++◌, codes, decimal, length};
+ghost use Rattle.ddcmp_io.specs.Written.{HandsOver, output_of};
+ghost use Rattle.ddcmp_explain.specs.Putting.{Puts};
+ghost use Rattle.ddcmp_explain.specs.Text.{flag_text, kind_text};
+ghost use Rattle.ddcmp_explain.specs.Json.{json_counted, json_fault, json_fields, json_header};
+ghost use Rattle.ddcmp_explain.specs.Json.{json_item, json_line_of, json_reason, json_start};
+ghost use Rattle.ddcmp_explain.specs.Json.{json_totals, member, quoted, reason_name};
+
+use crate::hex_text::write_hex;
+use crate::put::{LINE, put, put_byte, put_number};
+use crate::text::lends;
+use ddcmp_frame::{ControlType, Counted, Flags, Header, HeaderFault, Item, Nak, Short};
+use ddcmp_io::text::write_number;
+use ddcmp_io::{Page, Sink};
+
+/// A member whose value is a number of one byte; `name` is its text up to that.
+fn put_member(line: &mut [u8; LINE], at: usize, name: &[u8], number: u8) -> usize
+    requires { at + length name.now + 3 ≤ LINE }
+    ensures puts { Puts line.old at line.new result (name.now ++ decimal number) }
+    ensures within { result ≤ at + length name.now + 3 }
+{
+    let at_number = put(line, at, name);
+    put_byte(line, at_number, number)
+}
+
+fn flag_members(flags: Flags) -> &'static [u8; 12]
+    ensures { result.now
+        ≡ member (codes "q") (flag_text flags.q) ++ member (codes "s") (flag_text flags.s) }
+{
+    match (flags.q, flags.s) {
+        (false, false) => b",\"q\":0,\"s\":0",
+        (false, true) => b",\"q\":0,\"s\":1",
+        (true, false) => b",\"q\":1,\"s\":0",
+        (true, true) => b",\"q\":1,\"s\":1",
+    }
+}
+
+/// The fields that all headers have.
+fn put_fields(line: &mut [u8; LINE], at: usize, flags: Flags, resp: u8, num: u8, addr: u8) -> usize
+    requires { at + 44 ≤ LINE }
+    ensures puts { Puts line.old at line.new result (json_fields flags resp num addr) }
+    ensures within { result ≤ at + 44 }
+{
+    let behind_flags = put(line, at, flag_members(flags));
+    let behind_resp = put_member(line, behind_flags, b",\"resp\":", resp);
+    let behind_num = put_member(line, behind_resp, b",\"num\":", num);
+    put_member(line, behind_num, b",\"addr\":", addr)
+}
+
+fn kind_value(kind: ControlType) -> &'static [u8]
+    ensures value { result.now ≡ quoted (kind_text kind) }
+    ensures within { length result.now ≤ 7 }
+{
+    match kind {
+        ControlType::Ack => b"\"ACK\"",
+        ControlType::Nak => b"\"NAK\"",
+        ControlType::Rep => b"\"REP\"",
+        ControlType::Strt => b"\"STRT\"",
+        ControlType::Stack => b"\"STACK\"",
+    }
+}
+
+fn reason_member(reason: Nak) -> &'static [u8]
+    ensures member { result.now ≡ member (codes "reason") (quoted (reason_name reason)) }
+    ensures within { length result.now ≤ 42 }
+{
+    match reason {
+        Nak::HeaderCheck => b",\"reason\":\"header check\"",
+        Nak::DataCheck => b",\"reason\":\"data check\"",
+        Nak::ReplyToRep => b",\"reason\":\"reply to REP\"",
+        Nak::NoBuffer => b",\"reason\":\"buffer temporarily unavailable\"",
+        Nak::Overrun => b",\"reason\":\"receive overrun\"",
+        Nak::TooLong => b",\"reason\":\"message too long\"",
+        Nak::Format => b",\"reason\":\"header format error\"",
+        Nak::Other(_) => b",\"reason\":\"other\"",
+    }
+}
+
+/// Why a NAK was sent, from its SUBTYPE.
+fn put_reason(line: &mut [u8; LINE], at: usize, kind: ControlType, sub: u8) -> usize
+    requires { at + 42 ≤ LINE }
+    ensures puts { Puts line.old at line.new result (json_reason kind sub) }
+    ensures within { result ≤ at + 42 }
+{
+    match kind {
+        ControlType::Nak => put(line, at, reason_member(Nak::of(sub))),
+        ControlType::Ack | ControlType::Rep | ControlType::Strt | ControlType::Stack => {
+            put(line, at, b"")
+        }
+    }
+}
+
+fn put_control(line: &mut [u8; LINE], at: usize, header: &Short) -> usize
+    requires { at + 103 ≤ LINE }
+    ensures puts { Puts line.old at line.new result
+        (quoted (kind_text header.now.kind) ++ member (codes "sub") (decimal header.now.sub)
+        ++ json_reason header.now.kind header.now.sub
+        ++ json_fields header.now.flags header.now.resp header.now.num header.now.addr) }
+    ensures within { result ≤ at + 103 }
+{
+    let behind_kind = put(line, at, kind_value(header.kind));
+    let behind_sub = put_member(line, behind_kind, b",\"sub\":", header.sub);
+    let behind_reason = put_reason(line, behind_sub, header.kind, header.sub);
+    put_fields(
+        line,
+        behind_reason,
+        header.flags,
+        header.resp,
+        header.num,
+        header.addr,
+    )
+}
+
+fn put_counted(line: &mut [u8; LINE], at: usize, header: &Counted) -> usize
+    requires { at + 73 ≤ LINE }
+    ensures puts { Puts line.old at line.new result (json_counted header.now) }
+    ensures within { result ≤ at + 73 }
+{
+    let at_count = put(line, at, b",\"count\":");
+    let behind_count = put_number(line, at_count, header.count as u64);
+    put_fields(
+        line,
+        behind_count,
+        header.flags,
+        header.resp,
+        header.num,
+        header.addr,
+    )
+}
+
+/// The name of a header as a value, and its fields.
+fn put_header(line: &mut [u8; LINE], at: usize, header: &Header) -> usize
+    requires { at + 103 ≤ LINE }
+    ensures puts { Puts line.old at line.new result (json_header header.now) }
+    ensures within { result ≤ at + 103 }
+{
+    match header {
+        Header::Data(h) => {
+            let behind_name = put(line, at, b"\"DATA\"");
+            put_counted(line, behind_name, h)
+        }
+        Header::Maint(h) => {
+            let behind_name = put(line, at, b"\"MAINT\"");
+            put_counted(line, behind_name, h)
+        }
+        Header::Control(h) => put_control(line, at, h),
+    }
+}
+
+fn put_fault(line: &mut [u8; LINE], at: usize, fault: &HeaderFault) -> usize
+    requires { at + 16 ≤ LINE }
+    ensures puts { Puts line.old at line.new result (json_fault fault.now) }
+    ensures within { result ≤ at + 16 }
+{
+    match fault {
+        HeaderFault::BadType(code) => put_member(line, at, b",\"type\":", *code),
+        HeaderFault::CountZero => put(line, at, b",\"count\":0"),
+        HeaderFault::NotAStart => put(line, at, b",\"fault\":\"start\""),
+        HeaderFault::Check => put(line, at, b",\"fault\":\"check\""),
+    }
+}
+
+/// The beginning of an object: the offset, and a text behind it.
+fn put_start(line: &mut [u8; LINE], offset: u64, text: &[u8]) -> usize
+    requires { length text.now ≤ 22 }
+    ensures puts { Puts line.old 0 line.new result (json_start offset ++ text.now) }
+    ensures within { result ≤ 30 + length text.now }
+{
+    let at_offset = put(line, 0, b"{\"offset\":");
+    let behind_offset = put_number(line, at_offset, offset);
+    put(line, behind_offset, text)
+}
+
+/// The header of a frame that was damaged or too long.
+fn put_damaged(line: &mut [u8; LINE], at: usize, header: &Header) -> usize
+    requires { at + 109 ≤ LINE }
+    ensures puts { Puts line.old at line.new result
+        (member (codes "of") (json_header header.now)) }
+    ensures within { result ≤ at + 109 }
+{
+    let at_header = put(line, at, b",\"of\":");
+    put_header(line, at_header, header)
+}
+
+/// What an item is, without the end of its object.
+#[tactic(auto, unfolding(crate::specs::Json::json_item))]
+fn put_item(line: &mut [u8; LINE], item: &Item) -> usize
+    ensures puts { Puts line.old 0 line.new result (json_item item.now) }
+    ensures within { result ≤ 161 }
+{
+    match item {
+        Item::Good(offset, header) => {
+            let at_header = put_start(line, *offset, b",\"item\":");
+            put_header(line, at_header, header)
+        }
+        Item::HeaderCheck(offset) => put_start(line, *offset, b",\"item\":\"header check\""),
+        Item::DataCheck(offset, header) => {
+            let behind_item = put_start(line, *offset, b",\"item\":\"data check\"");
+            put_damaged(line, behind_item, header)
+        }
+        Item::TooLong(offset, header) => {
+            let behind_item = put_start(line, *offset, b",\"item\":\"too long\"");
+            put_damaged(line, behind_item, header)
+        }
+        Item::Format(offset, fault) => {
+            let behind_item = put_start(line, *offset, b",\"item\":\"format\"");
+            put_fault(line, behind_item, fault)
+        }
+    }
+}
+
+/// The line of an item, with the data that it lends.
+#[inline(never)]
+pub(crate) fn write_json_line<W: Sink>(page: &mut Page, writer: &mut W, item: &Item, data: &[u8])
+    ensures { HandsOver (output_of W.broken W.contents writer.old page.old)
+        (output_of W.broken W.contents writer.new page.new) (json_line_of (item.now, «data».now)) }
+{
+    let mut line = [0; LINE];
+    let behind_item = put_item(&mut line, item);
+    if lends(item) {
+        let end = put(&mut line, behind_item, b",\"data\":\"");
+        page.write(writer, &line[..end]);
+        write_hex(page, writer, data);
+        page.write(writer, b"\"}\n");
+    } else {
+        let end = put(&mut line, behind_item, b"}\n");
+        page.write(writer, &line[..end]);
+    }
+}
+
+/// The last line: how many items, how many bytes, and how many of these of an unfinished frame.
+pub(crate) fn write_json_totals<W: Sink>(
+    page: &mut Page,
+    writer: &mut W,
+    items: u64,
+    bytes: u64,
+    left_open: u64,
+)
+    ensures { HandsOver (output_of W.broken W.contents writer.old page.old)
+        (output_of W.broken W.contents writer.new page.new) (json_totals items bytes left_open) }
+{
+    page.write(writer, b"{\"items\":");
+    write_number(page, writer, items);
+    page.write(writer, b",\"bytes\":");
+    write_number(page, writer, bytes);
+    page.write(writer, b",\"open\":");
+    write_number(page, writer, left_open);
+    page.write(writer, b"}\n");
+}
