@@ -5,6 +5,6 @@ pub use Rattle.ddcmp_script.specs.Script
 pub use Rattle.ddcmp_script.specs.ScriptSteps
 pub use Rattle.ddcmp_script.specs.ScriptEnds
 pub use Rattle.ddcmp_script.specs.ScriptProgress
-pub use Rattle.ddcmp_script.specs.ScriptText
-pub use Rattle.ddcmp_script.specs.ScriptWords
+pub use Rattle.ddcmp_script_text.specs.ScriptText
+pub use Rattle.ddcmp_script_text.specs.ScriptWords
 pub use Rattle.ddcmp_station_text.specs.StationText

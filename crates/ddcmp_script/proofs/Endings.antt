@@ -14,13 +14,13 @@ use Rattle.ddcmp_io.proofs.Inputs.{read-all, Read as Counts}
 use Rattle.ddcmp_io.specs.Written.{Known, Output, HoldsBy, Holds, HandsOver, AppendsPart}
 use Rattle.ddcmp_io.proofs.WrittenLaws.{sends-then, part-append}
 use Rattle.ddcmp_run.specs.Run.{PairState}
-use Rattle.ddcmp_script.specs.declared.command.ParsedLine.{ParsedLine}
+use Rattle.ddcmp_script_text.specs.declared.command.ParsedLine.{ParsedLine}
 use Rattle.ddcmp_script.specs.declared.performing.Stop.{Stop}
 use Rattle.ddcmp_script.specs.declared.performing.Stop.TheVariants as stop
 use Rattle.ddcmp_script.specs.declared.script_fault.ScriptFault.{ScriptFault}
 use Rattle.ddcmp_script.specs.declared.script_fault.ScriptFault.TheVariants.{Line, Hex, Read, Write, Memory, Carrier}
-use Rattle.ddcmp_script.specs.ScriptWords.{lines_of}
-use Rattle.ddcmp_script.specs.ScriptText.{totals_line}
+use Rattle.ddcmp_script_text.specs.ScriptWords.{lines_of}
+use Rattle.ddcmp_script_text.specs.ScriptText.{totals_line}
 use Rattle.ddcmp_carrier.specs.Carriages.{Carriage}
 use Rattle.ddcmp_script.specs.Script.{Between, AllFit, nothing_between, after_lines, text_of_lines, carriages_of_lines, IsScriptLine, lines_done}
 use Rattle.ddcmp_script.specs.ScriptEnds.{text_then, Around, around, PausedBefore, StoppedAt, Broken, text_behind, Plays}

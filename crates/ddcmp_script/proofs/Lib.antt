@@ -1,4 +1,3 @@
-pub mod Cutting
 pub mod Endings
 pub mod Playing
 pub mod Scenes

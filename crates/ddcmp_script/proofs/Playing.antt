@@ -9,13 +9,13 @@ use Rattle.ddcmp_io.proofs.WrittenLaws.{sends-then}
 use Rattle.ddcmp_run.specs.Run.{PairState}
 use Rattle.ddcmp_script.specs.declared.performing.Stop.{Stop}
 use Rattle.ddcmp_script.specs.declared.performing.Stop.TheVariants.{NoCommand, NotHex, Write, Memory, Carrier}
-use Rattle.ddcmp_script.specs.ScriptWords.{reading_of, without_cr, lines_between, between_lf, lines_of}
+use Rattle.ddcmp_script_text.specs.ScriptWords.{reading_of, without_cr, lines_between, between_lf, lines_of}
 use Rattle.ddcmp_carrier.specs.Carriages.{Carriage}
 use Rattle.ddcmp_script.specs.Script.{Between, Scene, AreDirect, AreWithin, DoneLine, after_line, text_of, carriages_by, after_lines, text_of_lines, carriages_of_lines, IsScriptLine, AllFit, lines_done}
 use Rattle.ddcmp_script.specs.ScriptSteps.{scene_of, Carries, LineEnds}
 use Rattle.ddcmp_script.specs.ScriptEnds.{HasNoLf, scene_with, scene_then, text_then, carriages_then, Around, around, Begins, Did, StoppedBefore}
 use Rattle.ddcmp_script.specs.ScriptProgress.{HasDone, HasDoneAll, Stops, PlaysOut}
-use Rattle.ddcmp_script.proofs.Cutting.{HasPart, has-part}
+use Rattle.ddcmp_script_text.proofs.Cutting.{HasPart, has-part}
 use Rattle.ddcmp_io.proofs.TextLaws.{sends-as}
 
 -- ---- one line more

@@ -6,9 +6,9 @@ use Rattle.ddcmp_core.specs.Store.{first_message}
 use Rattle.std.proofs.lemmas.List.{append-nil}
 use Rattle.ddcmp_io.specs.Device.{Logs}
 use Rattle.ddcmp_io.specs.Written.{Output, HandsOver, output_of}
-use Rattle.ddcmp_script.specs.declared.command.ScriptCommand.{ScriptCommand}
-use Rattle.ddcmp_script.specs.declared.command.ScriptCommand.TheVariants.{Happens, Carry, Lose, Damage, Raw, Settle, Recover, State}
-use Rattle.ddcmp_script.specs.declared.command.ParsedLine.TheVariants.{Asks}
+use Rattle.ddcmp_script_text.specs.declared.command.ScriptCommand.{ScriptCommand}
+use Rattle.ddcmp_script_text.specs.declared.command.ScriptCommand.TheVariants.{Happens, Carry, Lose, Damage, Raw, Settle, Recover, State}
+use Rattle.ddcmp_script_text.specs.declared.command.ParsedLine.TheVariants.{Asks}
 use Rattle.ddcmp_run.specs.declared.event.End.{End}
 use Rattle.ddcmp_run.specs.declared.event.End.TheVariants.{A, B}
 use Rattle.ddcmp_run.specs.declared.event.Event.{Event}
@@ -18,7 +18,7 @@ use Rattle.ddcmp_run.specs.declared.event.Reply.TheVariants as reply
 use Rattle.ddcmp_script.specs.declared.performing.Stop.TheVariants.{Memory}
 use Rattle.ddcmp_run.specs.Run.{PairState, at, end_of, line_bytes, wrote, reply_to, after_event, asks_memory, run}
 use Rattle.ddcmp_run.specs.Settle.{other, WantsMemory}
-use Rattle.ddcmp_script.specs.ScriptText.{end_name, name_before, reply_text, bytes_line, counted_line, station_line}
+use Rattle.ddcmp_script_text.specs.ScriptText.{end_name, name_before, reply_text, bytes_line, counted_line, station_line}
 use Rattle.ddcmp_carrier.specs.Carriages.{Carriage, HasCarried}
 use Rattle.ddcmp_script.specs.Script.{Between, Scene, Effect, AreDirect, AreWithin, frames_of, with_frames, taken_off, part_of, frames_after, lines_after, outcome_of_event, outcome_of_carry, outcome_of_lose, outcome_of_damage, outcome_of_settle, outcome_of_recover, outcome_of, arrival_text, after_outcome, carriages_from, carriages_of}
 use Rattle.ddcmp_script.specs.ScriptSteps.{scene_of, Comes, Carries, stopped_of, LineEnds}
@@ -34,26 +34,6 @@ pub polled-idle : (e : End) (p : PairState) → ((bytes : List ℕ) → reply_to
 unfolding reply_to
 polled-idle A p n = idle-or-wrote (line_bytes p.a) n
 polled-idle B p n = idle-or-wrote (line_bytes p.b) n
-
-pub text-of-idle : (who : List ℕ) → reply_text who reply.Idle ≡ who ++ codes "idle\n"
-unfolding reply_text
-text-of-idle who = refl
-
-pub text-of-wrote : (who bytes : List ℕ) → reply_text who (reply.Wrote bytes) ≡ bytes_line who (codes "wrote ") bytes
-unfolding reply_text
-text-of-wrote who bytes = refl
-
-pub text-of-took : (who bytes : List ℕ) → reply_text who (reply.Took bytes) ≡ bytes_line who (codes "took ") bytes
-unfolding reply_text
-text-of-took who bytes = refl
-
-pub text-of-started : (who : List ℕ) (n : ℕ) → reply_text who (reply.Started n) ≡ counted_line who (codes "started dropped=") n
-unfolding reply_text
-text-of-started who n = refl
-
-pub text-of-nothing : (who : List ℕ) → reply_text who reply.Nothing ≡ who ++ codes "nothing\n"
-unfolding reply_text
-text-of-nothing who = refl
 
 -- an event has come
 pub comes-event : (ev : Event) (p q : PairState) (lines after : Between) (before now : Output)

@@ -3,13 +3,13 @@ use Rattle.std.specs.Prelude.{◌≡◌, ◌≢◌, ⊤, ◌⊎◌, ℕ, ◌+◌
 use Rattle.ddcmp_run.specs.declared.event.End.{End}
 use Rattle.ddcmp_run.specs.Run.{PairState}
 use Rattle.ddcmp_run.specs.Settle.{WantsMemory}
-use Rattle.ddcmp_script.specs.declared.command.ScriptCommand.TheVariants as command
-use Rattle.ddcmp_script.specs.declared.command.ParsedLine.{ParsedLine}
-use Rattle.ddcmp_script.specs.declared.command.ParsedLine.TheVariants as reading
+use Rattle.ddcmp_script_text.specs.declared.command.ScriptCommand.TheVariants as command
+use Rattle.ddcmp_script_text.specs.declared.command.ParsedLine.{ParsedLine}
+use Rattle.ddcmp_script_text.specs.declared.command.ParsedLine.TheVariants as reading
 use Rattle.ddcmp_script.specs.declared.script_fault.ScriptFault.{ScriptFault}
 use Rattle.ddcmp_script.specs.declared.script_fault.ScriptFault.TheVariants.{Line, Hex, Read, Write, Memory, Carrier}
-use Rattle.ddcmp_script.specs.ScriptWords.{reading_of, lines_of}
-use Rattle.ddcmp_script.specs.ScriptText.{totals_line}
+use Rattle.ddcmp_script_text.specs.ScriptWords.{reading_of, lines_of}
+use Rattle.ddcmp_script_text.specs.ScriptText.{totals_line}
 use Rattle.ddcmp_carrier.specs.Carriages.{Carriage}
 use Rattle.ddcmp_script.specs.Script.{Scene, DoneLine, AllFit, nothing_between, lines_done, after_lines, text_of_lines, carriages_of_lines, events_by, carriages_by}
 use Rattle.ddcmp_script.specs.ScriptSteps.{Carries}

@@ -1,10 +1,10 @@
 -- How far a script has been played.
 use Rattle.std.specs.Prelude.{◌≡◌, ℕ, ◌+◌, false, List, [], ◌++◌, length, Some, Result, Ok, Err}
 use Rattle.ddcmp_io.specs.Written.{Known, Output, HandsOver}
-use Rattle.ddcmp_script.specs.declared.command.ParsedLine.TheVariants as reading
+use Rattle.ddcmp_script_text.specs.declared.command.ParsedLine.TheVariants as reading
 use Rattle.ddcmp_script.specs.declared.performing.Stop.{Stop}
 use Rattle.ddcmp_script.specs.declared.performing.Stop.TheVariants.{NoCommand, NotHex, Write, Memory, Carrier}
-use Rattle.ddcmp_script.specs.ScriptWords.{lines_of}
+use Rattle.ddcmp_script_text.specs.ScriptWords.{lines_of}
 use Rattle.ddcmp_script.specs.Script.{Between, DoneLine}
 use Rattle.ddcmp_script.specs.ScriptEnds.{Around, HasNoLf, Begins, Did, StoppedAt, Broken, AsksCarrier, scene_then}
 

@@ -1,10 +1,8 @@
 //! Scripts: lines of text that say what happens between two ends, over a carrier of their frames.
 #![tactic(auto)]
 
-mod command;
 mod frame_lines;
 mod performing;
-mod reply_text;
 mod script_fault;
 mod scripting;
 

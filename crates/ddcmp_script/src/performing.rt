@@ -5,24 +5,23 @@ ghost use Rattle.ddcmp_io.specs.Written.{HandsOver, output_of};
 ghost use Rattle.ddcmp_run.specs.Run.{PairState, at, end_of, after_event, reply_to, run, asks_memory};
 ghost use Rattle.ddcmp_run.specs.Settle.{other, settling, WantsMemory};
 ghost use Rattle.ddcmp_run.specs.Recovery.{recovering};
-ghost use Rattle.ddcmp_script.specs.ScriptWords.{reading_of};
-ghost use Rattle.ddcmp_script.specs.ScriptText.{end_name, name_before, reply_text};
+ghost use Rattle.ddcmp_script_text.specs.ScriptWords.{reading_of};
+ghost use Rattle.ddcmp_script_text.specs.ScriptText.{end_name, name_before, reply_text};
 ghost use Rattle.ddcmp_carrier.specs.Carriages.{HasCarried};
 ghost use Rattle.ddcmp_script.specs.Script.{Between, lines_after, nothing_between, frames_after, frames_of, with_frames, part_of, outcome_of, outcome_of_event, outcome_of_carry, outcome_of_lose, outcome_of_damage, outcome_of_settle, outcome_of_recover, arrival_text, after_outcome, events_by};
 ghost use Rattle.ddcmp_script.specs.ScriptSteps.{scene_of, stopped_of, Comes, Carries, LineEnds};
-ghost use Rattle.ddcmp_script.specs.declared.command.ParsedLine.{ParsedLine as ReadingValue};
+ghost use Rattle.ddcmp_script_text.specs.declared.command.ParsedLine.{ParsedLine as ReadingValue};
 ghost use Rattle.ddcmp_run.specs.declared.event.Event.TheVariants as event_value;
 ghost use Rattle.ddcmp_run.specs.declared.event.Reply.{Reply as ReplyValue};
 
-use crate::command::{ParsedLine, ScriptCommand, read_line};
 use crate::frame_lines::{FrameLeft, FrameLines};
-use crate::reply_text::{
-    answerer_name, damage_name, end_name, write_bytes, write_counted, write_plain, write_recovered,
-    write_reply, write_settled, write_station,
-};
 use ddcmp_carrier::Carrier;
 use ddcmp_io::{Page, Sink};
 use ddcmp_pair::{Bytes, End, Event, Pair, Reply};
+use ddcmp_script_text::{
+    ParsedLine, ScriptCommand, answerer_name, damage_name, end_name, read_line, write_bytes,
+    write_counted, write_plain, write_recovered, write_reply, write_settled, write_station,
+};
 use ddcmp_station::Memory;
 use std::alloc::Global;
 use std::collections::VecDeque;

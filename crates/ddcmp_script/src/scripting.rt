@@ -5,8 +5,8 @@ ghost use Rattle.ddcmp_io.specs.Written.{AppendsPart, HandsOver, Output, output_
 ghost use Rattle.ddcmp_run.specs.Run.{PairState};
 ghost use Rattle.ddcmp_run.specs.InOrder.{IsInOrder};
 ghost use Rattle.ddcmp_io.specs.Input.{GaveMost};
-ghost use Rattle.ddcmp_script.specs.ScriptWords.{lines_of, without_cr as without_cr_of};
-ghost use Rattle.ddcmp_script.specs.ScriptText.{yes_or_no as yes_or_no_text, totals_line};
+ghost use Rattle.ddcmp_script_text.specs.ScriptWords.{lines_of, without_cr as without_cr_of};
+ghost use Rattle.ddcmp_script_text.specs.ScriptText.{yes_or_no as yes_or_no_text, totals_line};
 ghost use Rattle.ddcmp_carrier.specs.Carriages.{Carriage};
 ghost use Rattle.ddcmp_script.specs.Script.{AllFit, nothing_between};
 ghost use Rattle.ddcmp_script.specs.ScriptEnds.{Around, around, PausedBefore, Plays};
@@ -36,7 +36,7 @@ struct Player {
 }
 
 /// A line without the CR at its end.
-#[tactic(auto, unfolding(crate::specs::ScriptWords::without_cr))]
+#[tactic(auto, unfolding(ddcmp_script_text::specs::ScriptWords::without_cr))]
 fn without_cr(line: &[u8]) -> &[u8]
     ensures { result.now ≡ without_cr_of line.now }
 {

@@ -1,8 +1,9 @@
 use Rattle.std.proofs.Common.{ap, sym, refl, ◌∙◌, ◌++◌}
 use Rattle.std.specs.Prelude.{codes}
 use Rattle.ddcmp_script.specs.Script.{frames_after}
-use Rattle.ddcmp_script.specs.ScriptText.{end_name, reply_text, bytes_line}
-use Rattle.ddcmp_script.proofs.Scenes.{polled-idle, text-of-wrote, text-of-idle}
+use Rattle.ddcmp_script_text.specs.ScriptText.{end_name, reply_text, bytes_line}
+use Rattle.ddcmp_script.proofs.Scenes.{polled-idle}
+use Rattle.ddcmp_script_text.proofs.ReplyLaws.{text-of-wrote, text-of-idle}
 use Rattle.ddcmp_io.proofs.TextLaws.{sends-as}
 use Rattle.ddcmp_script.proofs.performing.poll.Goals as goal
 

@@ -4,10 +4,10 @@ use Rattle.ddcmp_io.specs.Written.{HandsOver, output_of}
 use Rattle.ddcmp_core.specs.Core.{CoreView}
 use Rattle.ddcmp_run.specs.Settle.{settling}
 use Rattle.ddcmp_run.specs.Recovery.{recovering}
-use Rattle.ddcmp_script.specs.declared.command.ScriptCommand.TheVariants.{Happens, Lose, Damage, Raw, Settle, Recover, State}
-use Rattle.ddcmp_script.specs.declared.command.ParsedLine.TheVariants.{Asks}
+use Rattle.ddcmp_script_text.specs.declared.command.ScriptCommand.TheVariants.{Happens, Lose, Damage, Raw, Settle, Recover, State}
+use Rattle.ddcmp_script_text.specs.declared.command.ParsedLine.TheVariants.{Asks}
 use Rattle.ddcmp_script.specs.Script.{Effect, outcome_of}
-use Rattle.ddcmp_script.specs.ScriptText.{end_name, station_line}
+use Rattle.ddcmp_script_text.specs.ScriptText.{end_name, station_line}
 use Rattle.ddcmp_script.specs.ScriptSteps.{scene_of, Comes, LineEnds, stopped_of}
 use Rattle.ddcmp_script.proofs.Scenes.{IsRefused, arrival-comes, comes-between, ends-well, ends-by, happens-is, none-happens, lose-is, none-lose, damage-is, none-damage, raw-is, none-raw, settle-is, none-settle, recover-is, none-recover, state-is, none-state, refused-by, refused-in}
 use Rattle.ddcmp_io.proofs.TextLaws.{sends-as}

@@ -1,6 +1,6 @@
 use Rattle.std.proofs.Common.{sym}
-use Rattle.ddcmp_script.proofs.Cutting.{read-too-many}
-use Rattle.ddcmp_script.proofs.command.read_further.Goals as goal
+use Rattle.ddcmp_script_text.proofs.Cutting.{read-too-many}
+use Rattle.ddcmp_script_text.proofs.command.read_further.Goals as goal
 
 pub returns-then-is_some : goal.returns-then-is_some
 returns-then-is_some c =

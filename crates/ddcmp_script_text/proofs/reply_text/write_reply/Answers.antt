@@ -1,9 +1,9 @@
 use Rattle.std.proofs.Common.{ap, sym, ◌∙◌}
 use Rattle.std.specs.Prelude.{codes}
-use Rattle.ddcmp_script.specs.ScriptText.{reply_text, bytes_line}
-use Rattle.ddcmp_script.proofs.Scenes.{text-of-started, text-of-wrote, text-of-took, text-of-nothing}
+use Rattle.ddcmp_script_text.specs.ScriptText.{reply_text, bytes_line}
+use Rattle.ddcmp_script_text.proofs.ReplyLaws.{text-of-started, text-of-wrote, text-of-took, text-of-nothing}
 use Rattle.ddcmp_io.proofs.TextLaws.{sends-as}
-use Rattle.ddcmp_script.proofs.reply_text.write_reply.Goals as goal
+use Rattle.ddcmp_script_text.proofs.reply_text.write_reply.Goals as goal
 
 pub returns-in-Started : goal.returns-in-Started
 returns-in-Started g c =

@@ -3,10 +3,10 @@ ghost use Rattle.std.specs.Prelude.{◌≡◌, ◌∷◌, ◌*◌, ◌^◌, ◌<
 ghost use Rattle.std.specs.Option.{option_map_or};
 ghost use Rattle.std.specs.List.{slice_split};
 ghost use Rattle.ddcmp_run.specs.Place.{same_bytes};
-ghost use Rattle.ddcmp_script.specs.ScriptWords.{is_digit as is_digit_byte, end_named as end_of_word, number_in as number_of_word, bytes_of_digits as bytes_of_word, byte_in as byte_of_word, alone, command_at as command_of, asked_at, cut_of, asked_with, asked_damage, asked_by, asked_in, words as words_of, reading_of};
+ghost use Rattle.ddcmp_script_text.specs.ScriptWords.{is_digit as is_digit_byte, end_named as end_of_word, number_in as number_of_word, bytes_of_digits as bytes_of_word, byte_in as byte_of_word, alone, command_at as command_of, asked_at, cut_of, asked_with, asked_damage, asked_by, asked_in, words as words_of, reading_of};
 
-use ddcmp_pair::{Bytes, End, Event};
-use ddcmp_station::Memory;
+use ddcmp_proto::Memory;
+use ddcmp_run::{Bytes, End, Event};
 use hex::FromHexError;
 use std::alloc::Global;
 
@@ -273,7 +273,7 @@ fn read_words(alloc: Global, line: &[u8]) -> Result<ParsedLine, Memory>
 
 /// Reads a line.
 #[tactic(auto, unfolding(crate::specs::ScriptWords::reading_of))]
-pub(crate) fn read_line(alloc: Global, line: &[u8]) -> Result<ParsedLine, Memory>
+pub fn read_line(alloc: Global, line: &[u8]) -> Result<ParsedLine, Memory>
     ensures { IfOk result (λ reading. reading ≡ reading_of line.now) }
 {
     if line.is_empty() || line[0] == b'#' {

@@ -1,6 +1,6 @@
 use Rattle.std.proofs.Common.{sym, ◌∙◌}
-use Rattle.ddcmp_script.proofs.Cutting.{read-one-end}
-use Rattle.ddcmp_script.proofs.command.read_words.Goals as goal
+use Rattle.ddcmp_script_text.proofs.Cutting.{read-one-end}
+use Rattle.ddcmp_script_text.proofs.command.read_words.Goals as goal
 
 pub returns-in-None : goal.returns-in-None
 returns-in-None c =

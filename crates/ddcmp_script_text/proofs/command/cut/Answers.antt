@@ -1,6 +1,6 @@
 use Rattle.std.proofs.Common.{arith}
-use Rattle.ddcmp_script.proofs.Cutting.{cut-found, cut-none}
-use Rattle.ddcmp_script.proofs.command.cut.Goals as goal
+use Rattle.ddcmp_script_text.proofs.Cutting.{cut-found, cut-none}
+use Rattle.ddcmp_script_text.proofs.command.cut.Goals as goal
 
 pub returns-then-line-at-eq32 : goal.returns-then-line-at-eq32
 returns-then-line-at-eq32 c =

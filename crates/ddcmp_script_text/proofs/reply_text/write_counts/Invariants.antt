@@ -1,8 +1,8 @@
 use Rattle.std.proofs.Common.{take}
 use Rattle.std.specs.List.{flat_map}
 use Rattle.ddcmp_io.specs.Written.{HandsOver, output_of}
-use Rattle.ddcmp_script.specs.ScriptText.{count_text}
-use Rattle.ddcmp_script.proofs.reply_text.write_counts.Given as goal
+use Rattle.ddcmp_script_text.specs.ScriptText.{count_text}
+use Rattle.ddcmp_script_text.proofs.reply_text.write_counts.Given as goal
 
 abbrev pub invariant-loop-exchanges : goal.invariant-loop-exchanges
 invariant-loop-exchanges g l =

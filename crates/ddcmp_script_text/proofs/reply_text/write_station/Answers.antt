@@ -1,9 +1,9 @@
 use Rattle.std.proofs.Common.{ap, ◌∙◌}
 use Rattle.std.specs.Prelude.{decimal}
 use Rattle.ddcmp_io.proofs.WrittenLaws.{sends-then}
-use Rattle.ddcmp_script.specs.ScriptText.{timer_text}
+use Rattle.ddcmp_script_text.specs.ScriptText.{timer_text}
 use Rattle.ddcmp_io.proofs.TextLaws.{sends-as}
-use Rattle.ddcmp_script.proofs.reply_text.write_station.Goals as goal
+use Rattle.ddcmp_script_text.proofs.reply_text.write_station.Goals as goal
 
 pub returns : goal.returns
 returns g c =

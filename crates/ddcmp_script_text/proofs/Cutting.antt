@@ -9,8 +9,8 @@ use Rattle.std.specs.Borrow.{Bor}
 use Rattle.std.specs.Option.{option_map_or}
 use Rattle.std.specs.List.{slice_split, onto_first}
 use Rattle.ddcmp_run.specs.declared.event.End.{End}
-use Rattle.ddcmp_script.specs.declared.command.ParsedLine.TheVariants.{NoCommand}
-use Rattle.ddcmp_script.specs.ScriptWords.{end_named, asked_at, asked_by, asked_of_end, asked_in, words}
+use Rattle.ddcmp_script_text.specs.declared.command.ParsedLine.TheVariants.{NoCommand}
+use Rattle.ddcmp_script_text.specs.ScriptWords.{end_named, asked_at, asked_by, asked_of_end, asked_in, words}
 
 -- no element of the list is c
 abbrev pub Lacks : ℕ → List ℕ → Type 0

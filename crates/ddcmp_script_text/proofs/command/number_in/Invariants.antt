@@ -1,6 +1,6 @@
 use Rattle.std.proofs.Common.{◌≡◌, ◌<◌, ◌≤◌, drop, length}
-use Rattle.ddcmp_script.specs.ScriptWords.{number_behind}
-use Rattle.ddcmp_script.proofs.command.number_in.Given as goal
+use Rattle.ddcmp_script_text.specs.ScriptWords.{number_behind}
+use Rattle.ddcmp_script_text.proofs.command.number_in.Given as goal
 
 abbrev pub invariant-loop-i : goal.invariant-loop-i
 invariant-loop-i l = record {

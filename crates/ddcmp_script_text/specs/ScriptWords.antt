@@ -6,10 +6,10 @@ use Rattle.hex.specs.declared.error.FromHexError.{FromHexError}
 use Rattle.ddcmp_run.specs.declared.event.End.{End}
 use Rattle.ddcmp_run.specs.declared.event.End.TheVariants.{A, B}
 use Rattle.ddcmp_run.specs.declared.event.Event.TheVariants as event
-use Rattle.ddcmp_script.specs.declared.command.ScriptCommand.{ScriptCommand}
-use Rattle.ddcmp_script.specs.declared.command.ScriptCommand.TheVariants.{Happens, Carry, Lose, Damage, Raw, Settle, Recover, State}
-use Rattle.ddcmp_script.specs.declared.command.ParsedLine.{ParsedLine}
-use Rattle.ddcmp_script.specs.declared.command.ParsedLine.TheVariants.{Skipped, Asks, NoCommand, NotHex}
+use Rattle.ddcmp_script_text.specs.declared.command.ScriptCommand.{ScriptCommand}
+use Rattle.ddcmp_script_text.specs.declared.command.ScriptCommand.TheVariants.{Happens, Carry, Lose, Damage, Raw, Settle, Recover, State}
+use Rattle.ddcmp_script_text.specs.declared.command.ParsedLine.{ParsedLine}
+use Rattle.ddcmp_script_text.specs.declared.command.ParsedLine.TheVariants.{Skipped, Asks, NoCommand, NotHex}
 use Rattle.ddcmp_run.specs.Place.{same_bytes}
 
 -- ---- words

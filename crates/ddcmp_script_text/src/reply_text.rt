@@ -3,16 +3,16 @@ ghost use Rattle.std.specs.Prelude.{◌≡◌, ◌++◌};
 ghost use Rattle.std.specs.List.{flat_map};
 ghost use Rattle.ddcmp_io.specs.Written.{HandsOver, output_of};
 ghost use Rattle.ddcmp_station_text.specs.StationText.{notice_line};
-ghost use Rattle.ddcmp_script.specs.ScriptText.{end_name, name_before, start_refusal_text, clear_refusal_text, send_refusal_text, expired_text, counted_line, bytes_line, reply_text, timer_text, numbers_text, station_line, quiet_text, settled_text, done_text, count_text, recovered_text, damage_text};
+ghost use Rattle.ddcmp_script_text.specs.ScriptText.{end_name, name_before, start_refusal_text, clear_refusal_text, send_refusal_text, expired_text, counted_line, bytes_line, reply_text, timer_text, numbers_text, station_line, quiet_text, settled_text, done_text, count_text, recovered_text, damage_text};
 
 use ddcmp_io::text::{write_hex, write_number};
 use ddcmp_io::{Page, Sink};
-use ddcmp_pair::{End, Reply};
-use ddcmp_station::{Notice, SendRefusal, StartRefusal, Station};
+use ddcmp_proto::{Notice, SendRefusal, StartRefusal, Station};
+use ddcmp_run::{End, Reply};
 use ddcmp_station_text::{state_name, write_notice};
 
 /// Who answers, before the words of the answer.
-pub(crate) fn end_name(end: End) -> &'static [u8]
+pub fn end_name(end: End) -> &'static [u8]
     ensures { result.now ≡ end_name end }
 {
     match end {
@@ -22,7 +22,7 @@ pub(crate) fn end_name(end: End) -> &'static [u8]
 }
 
 /// The same; nobody, where both ends are meant.
-pub(crate) fn answerer_name(end: Option<End>) -> &'static [u8]
+pub fn answerer_name(end: Option<End>) -> &'static [u8]
     ensures { result.now ≡ name_before end }
 {
     match end {
@@ -76,7 +76,7 @@ fn write_notices<W: Sink>(page: &mut Page, writer: &mut W, who: &[u8], notices: 
 }
 
 /// A line with a number in it.
-pub(crate) fn write_counted<W: Sink>(
+pub fn write_counted<W: Sink>(
     page: &mut Page,
     writer: &mut W,
     who: &[u8],
@@ -93,7 +93,7 @@ pub(crate) fn write_counted<W: Sink>(
 }
 
 /// A line of words alone, which end it.
-pub(crate) fn write_plain<W: Sink>(page: &mut Page, writer: &mut W, who: &[u8], words: &[u8])
+pub fn write_plain<W: Sink>(page: &mut Page, writer: &mut W, who: &[u8], words: &[u8])
     ensures { HandsOver (output_of W.broken W.contents writer.old page.old)
         (output_of W.broken W.contents writer.new page.new) (who.now ++ words.now) }
 {
@@ -102,13 +102,7 @@ pub(crate) fn write_plain<W: Sink>(page: &mut Page, writer: &mut W, who: &[u8], 
 }
 
 /// A line with bytes in it.
-pub(crate) fn write_bytes<W: Sink>(
-    page: &mut Page,
-    writer: &mut W,
-    who: &[u8],
-    words: &[u8],
-    bytes: &[u8],
-)
+pub fn write_bytes<W: Sink>(page: &mut Page, writer: &mut W, who: &[u8], words: &[u8], bytes: &[u8])
     ensures { HandsOver (output_of W.broken W.contents writer.old page.old)
         (output_of W.broken W.contents writer.new page.new) (bytes_line who.now words.now bytes.now) }
 {
@@ -120,7 +114,7 @@ pub(crate) fn write_bytes<W: Sink>(
 
 /// The text of an answer.
 #[tactic(auto, unfolding(crate::specs::ScriptText::reply_text))]
-pub(crate) fn write_reply<W: Sink>(page: &mut Page, writer: &mut W, who: &[u8], reply: &Reply)
+pub fn write_reply<W: Sink>(page: &mut Page, writer: &mut W, who: &[u8], reply: &Reply)
     ensures { HandsOver (output_of W.broken W.contents writer.old page.old)
         (output_of W.broken W.contents writer.new page.new) (reply_text who.now reply.now) }
 {
@@ -173,7 +167,7 @@ fn write_numbers<W: Sink>(page: &mut Page, writer: &mut W, station: &Station)
 }
 
 /// The line of a station.
-pub(crate) fn write_station<W: Sink>(page: &mut Page, writer: &mut W, who: &[u8], station: &Station)
+pub fn write_station<W: Sink>(page: &mut Page, writer: &mut W, who: &[u8], station: &Station)
     ensures { HandsOver (output_of W.broken W.contents writer.old page.old)
         (output_of W.broken W.contents writer.new page.new) (station_line who.now station.now.core.station) }
 {
@@ -194,7 +188,7 @@ fn settled_name(quiet: bool) -> &'static [u8]
 }
 
 /// The line of a settle.
-pub(crate) fn write_settled<W: Sink>(page: &mut Page, writer: &mut W, exchanges: u32, quiet: bool)
+pub fn write_settled<W: Sink>(page: &mut Page, writer: &mut W, exchanges: u32, quiet: bool)
     ensures { HandsOver (output_of W.broken W.contents writer.old page.old)
         (output_of W.broken W.contents writer.new page.new) (settled_text exchanges quiet) }
 {
@@ -229,12 +223,7 @@ fn write_counts<W: Sink>(page: &mut Page, writer: &mut W, counts: &[u32])
 }
 
 /// The line of a recovery.
-pub(crate) fn write_recovered<W: Sink>(
-    page: &mut Page,
-    writer: &mut W,
-    exchanges: &[u32],
-    is_done: bool,
-)
+pub fn write_recovered<W: Sink>(page: &mut Page, writer: &mut W, exchanges: &[u32], is_done: bool)
     ensures { HandsOver (output_of W.broken W.contents writer.old page.old)
         (output_of W.broken W.contents writer.new page.new)
         (recovered_text exchanges.now is_done) }
@@ -245,7 +234,7 @@ pub(crate) fn write_recovered<W: Sink>(
 }
 
 /// What became of a byte that was to be changed.
-pub(crate) fn damage_name(is_empty: bool, is_there: bool) -> &'static [u8]
+pub fn damage_name(is_empty: bool, is_there: bool) -> &'static [u8]
     ensures { result.now ≡ damage_text is_empty is_there }
 {
     if is_empty {

@@ -1,0 +1,3 @@
+pub mod ScriptText
+pub mod ScriptWords
+pub use Rattle.ddcmp_station_text.specs.StationText

@@ -1,0 +1,17 @@
+//! The text of scripts: what a line asks for, and what is written of an answer. Nothing happens
+//! here: `ddcmp_script` does what a line asks for.
+//!
+//! ```text
+//! send A 616263     asks that the station at A is given the message `abc`
+//! A accepted 1      is written when it took it as its message number 1
+//! ```
+#![tactic(auto)]
+
+mod command;
+mod reply_text;
+
+pub use command::{ParsedLine, ScriptCommand, read_line};
+pub use reply_text::{
+    answerer_name, damage_name, end_name, write_bytes, write_counted, write_plain, write_recovered,
+    write_reply, write_settled, write_station,
+};
