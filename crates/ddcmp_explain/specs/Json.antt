@@ -87,6 +87,10 @@ json_item (TooLong offset h) =
 json_item (Format offset fault) =
     json_start offset ++ member (codes "item") (quoted (codes "format")) ++ json_fault fault
 
+-- the line of an item, up to the data that it lends
+abbrev pub json_front : Item → List ℕ
+json_front item = json_item item ++ (if lends item then codes ",\"data\":\"" else codes "}\n")
+
 -- the data of a good frame, in hexadecimal
 abbrev pub json_data : Item → List ℕ → List ℕ
 json_data item lent =

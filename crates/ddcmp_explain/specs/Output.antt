@@ -1,16 +1,27 @@
 -- What is written in each notation.
-use Rattle.std.specs.Prelude.{ℕ, List, length}
+use Rattle.std.specs.Prelude.{ℕ, List, codes, length}
 use Rattle.std.specs.List.{flat_map}
+use Rattle.ddcmp_frame.specs.declared.item.Item.{Item}
 use Rattle.ddcmp_frame.specs.Reading.{ReadItem, items, open_at_end}
 use Rattle.ddcmp_explain.specs.declared.notation.Notation.{Notation}
 use Rattle.ddcmp_explain.specs.declared.notation.Notation.TheVariants.{Plain, Json}
-use Rattle.ddcmp_explain.specs.Text.{line_of, totals}
-use Rattle.ddcmp_explain.specs.Json.{json_line_of, json_totals}
+use Rattle.ddcmp_explain.specs.Text.{front_text, line_of, totals}
+use Rattle.ddcmp_explain.specs.Json.{json_front, json_line_of, json_totals}
 
 -- the line of an item with the data that it lends
 abbrev pub line_in : Notation → ReadItem → List ℕ
 line_in Plain given = line_of given
 line_in Json given = json_line_of given
+
+-- the same up to the data that it lends
+abbrev pub front_in : Notation → Item → List ℕ
+front_in Plain item = front_text item
+front_in Json item = json_front item
+
+-- what stands behind data
+abbrev pub behind_in : Notation → List ℕ
+behind_in Plain = codes "\n"
+behind_in Json = codes "\"}\n"
 
 -- the lines of the items of some bytes
 unfoldable pub lines : Notation → ℕ → List ℕ → List ℕ

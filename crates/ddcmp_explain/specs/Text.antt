@@ -67,6 +67,10 @@ lends (DataCheck offset h) = false
 lends (TooLong offset h) = false
 lends (Format offset fault) = false
 
+-- the line of an item, up to the data that it lends
+abbrev pub front_text : Item → List ℕ
+front_text item = item_text item ++ (if lends item then codes " " else codes "\n")
+
 -- the data of a good frame, in hexadecimal
 abbrev pub data_text : Item → List ℕ → List ℕ
 data_text item lent = if lends item then codes " " ++ encode_lower lent else []

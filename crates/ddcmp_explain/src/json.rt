@@ -1,18 +1,15 @@
 //! The lines as JSON.
 ghost use Rattle.std.specs.Prelude.{◌≡◌, ◌+◌, ◌≤◌, ◌++◌, codes, decimal, length};
-ghost use Rattle.ddcmp_io.specs.Written.{HandsOver, output_of};
+ghost use Rattle.std.specs.Prelude.{if◌then◌else◌};
 ghost use Rattle.ddcmp_explain.specs.Putting.{Puts};
-ghost use Rattle.ddcmp_explain.specs.Text.{flag_text, kind_text};
+ghost use Rattle.ddcmp_explain.specs.Text.{flag_text, kind_text, lends as lends_data};
 ghost use Rattle.ddcmp_explain.specs.Json.{json_counted, json_fault, json_fields, json_header};
-ghost use Rattle.ddcmp_explain.specs.Json.{json_item, json_line_of, json_reason, json_start};
+ghost use Rattle.ddcmp_explain.specs.Json.{json_front, json_item, json_reason, json_start};
 ghost use Rattle.ddcmp_explain.specs.Json.{json_totals, member, quoted, reason_name};
 
-use crate::hex_text::write_hex;
 use crate::put::{LINE, put, put_byte, put_number};
 use crate::text::lends;
 use ddcmp_frame::{ControlType, Counted, Flags, Header, HeaderFault, Item, Nak, Short};
-use ddcmp_io::text::write_number;
-use ddcmp_io::{Page, Sink};
 
 /// A member whose value is a number of one byte; `name` is its text up to that.
 fn put_member(line: &mut [u8; LINE], at: usize, name: &[u8], number: u8) -> usize
@@ -210,41 +207,41 @@ fn put_item(line: &mut [u8; LINE], item: &Item) -> usize
     }
 }
 
-/// The line of an item, with the data that it lends.
-#[inline(never)]
-pub(crate) fn write_json_line<W: Sink>(page: &mut Page, writer: &mut W, item: &Item, data: &[u8])
-    ensures { HandsOver (output_of W.broken W.contents writer.old page.old)
-        (output_of W.broken W.contents writer.new page.new) (json_line_of (item.now, «data».now)) }
+/// What stands behind an item: the name of the data that it lends, or the end of its object.
+fn item_end(item: &Item) -> &'static [u8]
+    ensures value { result.now
+        ≡ (if lends_data item.now then codes ",\"data\":\"" else codes "}\n") }
+    ensures within { length result.now ≤ 9 }
 {
-    let mut line = [0; LINE];
-    let behind_item = put_item(&mut line, item);
-    if lends(item) {
-        let end = put(&mut line, behind_item, b",\"data\":\"");
-        page.write(writer, &line[..end]);
-        write_hex(page, writer, data);
-        page.write(writer, b"\"}\n");
-    } else {
-        let end = put(&mut line, behind_item, b"}\n");
-        page.write(writer, &line[..end]);
-    }
+    if lends(item) { b",\"data\":\"" } else { b"}\n" }
+}
+
+/// The line of an item, up to the data that it lends.
+#[inline(never)]
+pub(crate) fn put_json_front(line: &mut [u8; LINE], item: &Item) -> usize
+    ensures puts { Puts line.old 0 line.new result (json_front item.now) }
+    ensures within { result ≤ 170 }
+{
+    let behind_item = put_item(line, item);
+    put(line, behind_item, item_end(item))
 }
 
 /// The last line: how many items, how many bytes, and how many of these of an unfinished frame.
-pub(crate) fn write_json_totals<W: Sink>(
-    page: &mut Page,
-    writer: &mut W,
+#[inline(never)]
+pub(crate) fn put_json_totals(
+    line: &mut [u8; LINE],
     items: u64,
     bytes: u64,
     left_open: u64,
-)
-    ensures { HandsOver (output_of W.broken W.contents writer.old page.old)
-        (output_of W.broken W.contents writer.new page.new) (json_totals items bytes left_open) }
+) -> usize
+    ensures puts { Puts line.old 0 line.new result (json_totals items bytes left_open) }
+    ensures within { result ≤ 90 }
 {
-    page.write(writer, b"{\"items\":");
-    write_number(page, writer, items);
-    page.write(writer, b",\"bytes\":");
-    write_number(page, writer, bytes);
-    page.write(writer, b",\"open\":");
-    write_number(page, writer, left_open);
-    page.write(writer, b"}\n");
+    let at_items = put(line, 0, b"{\"items\":");
+    let behind_items = put_number(line, at_items, items);
+    let at_bytes = put(line, behind_items, b",\"bytes\":");
+    let behind_bytes = put_number(line, at_bytes, bytes);
+    let at_open = put(line, behind_bytes, b",\"open\":");
+    let behind_open = put_number(line, at_open, left_open);
+    put(line, behind_open, b"}\n")
 }

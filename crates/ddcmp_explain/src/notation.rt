@@ -1,9 +1,13 @@
 //! How lines are written.
+ghost use Rattle.std.specs.Prelude.{◌≤◌};
 ghost use Rattle.ddcmp_io.specs.Written.{HandsOver, output_of};
-ghost use Rattle.ddcmp_explain.specs.Output.{line_in, totals_in};
+ghost use Rattle.ddcmp_explain.specs.Output.{behind_in, front_in, line_in, totals_in};
+ghost use Rattle.ddcmp_explain.specs.Putting.{Puts};
 
-use crate::json::{write_json_line, write_json_totals};
-use crate::text::{write_line, write_totals};
+use crate::hex_text::write_hex;
+use crate::json::{put_json_front, put_json_totals};
+use crate::put::LINE;
+use crate::text::{lends, put_front, put_totals};
 use ddcmp_frame::Item;
 use ddcmp_io::{Page, Sink};
 
@@ -17,6 +21,30 @@ pub enum Notation {
 }
 
 impl Notation {
+    /// The line of an item, up to the data that it lends.
+    #[inline(always)]
+    fn put_front(self, line: &mut [u8; LINE], item: &Item) -> usize
+        ensures puts { Puts line.old 0 line.new result (front_in self item.now) }
+        ensures within { result ≤ 170 }
+    {
+        match self {
+            Notation::Plain => put_front(line, item),
+            Notation::Json => put_json_front(line, item),
+        }
+    }
+
+    /// What stands behind data.
+    #[inline(always)]
+    fn write_behind<W: Sink>(self, page: &mut Page, writer: &mut W)
+        ensures { HandsOver (output_of W.broken W.contents writer.old page.old)
+            (output_of W.broken W.contents writer.new page.new) (behind_in self) }
+    {
+        match self {
+            Notation::Plain => page.write(writer, b"\n"),
+            Notation::Json => page.write(writer, b"\"}\n"),
+        }
+    }
+
     /// The line of an item, with the data that it lends.
     #[inline(always)]
     pub(crate) fn write_item<W: Sink>(
@@ -30,9 +58,23 @@ impl Notation {
             (output_of W.broken W.contents writer.new page.new)
             (line_in self (item.now, «data».now)) }
     {
+        let mut line = [0; LINE];
+        let end = self.put_front(&mut line, item);
+        page.write(writer, &line[..end]);
+        if lends(item) {
+            write_hex(page, writer, data);
+            self.write_behind(page, writer);
+        }
+    }
+
+    /// The text of the last line.
+    fn put_totals(self, line: &mut [u8; LINE], items: u64, bytes: u64, left_open: u64) -> usize
+        ensures puts { Puts line.old 0 line.new result (totals_in self items bytes left_open) }
+        ensures within { result ≤ 90 }
+    {
         match self {
-            Notation::Plain => write_line(page, writer, item, data),
-            Notation::Json => write_json_line(page, writer, item, data),
+            Notation::Plain => put_totals(line, items, bytes, left_open),
+            Notation::Json => put_json_totals(line, items, bytes, left_open),
         }
     }
 
@@ -49,9 +91,8 @@ impl Notation {
             (output_of W.broken W.contents writer.new page.new)
             (totals_in self items bytes left_open) }
     {
-        match self {
-            Notation::Plain => write_totals(page, writer, items, bytes, left_open),
-            Notation::Json => write_json_totals(page, writer, items, bytes, left_open),
-        }
+        let mut line = [0; LINE];
+        let end = self.put_totals(&mut line, items, bytes, left_open);
+        page.write(writer, &line[..end]);
     }
 }

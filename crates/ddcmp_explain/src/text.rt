@@ -1,16 +1,13 @@
 //! The text of items.
 ghost use Rattle.std.specs.Prelude.{◌≡◌, ◌+◌, ◌≤◌, ◌++◌, codes, decimal, length};
-ghost use Rattle.ddcmp_io.specs.Written.{HandsOver, output_of};
+ghost use Rattle.std.specs.Prelude.{if◌then◌else◌};
 ghost use Rattle.ddcmp_explain.specs.Putting.{Puts};
 ghost use Rattle.ddcmp_explain.specs.Text.{kind_text, flags_text, fields_text, counted_text};
-ghost use Rattle.ddcmp_explain.specs.Text.{header_text, fault_text, item_text, lends as lends_data, line_of};
-ghost use Rattle.ddcmp_explain.specs.Text.{totals};
+ghost use Rattle.ddcmp_explain.specs.Text.{header_text, fault_text, item_text, lends as lends_data};
+ghost use Rattle.ddcmp_explain.specs.Text.{front_text, totals};
 
-use crate::hex_text::write_hex;
 use crate::put::{LINE, put, put_byte, put_number};
 use ddcmp_frame::{ControlType, Counted, Flags, Header, HeaderFault, Item, Short};
-use ddcmp_io::text::write_number;
-use ddcmp_io::{Page, Sink};
 
 /// The name of a control frame, up to the number that follows it.
 #[inline(always)]
@@ -142,7 +139,7 @@ fn put_labelled(line: &mut [u8; LINE], offset: u64, label: &[u8], header: &Heade
 
 /// What an item is, without the data that it lends.
 #[tactic(auto, unfolding(crate::specs::Text::item_text))]
-pub(crate) fn put_item(line: &mut [u8; LINE], item: &Item) -> usize
+fn put_item(line: &mut [u8; LINE], item: &Item) -> usize
     ensures puts { Puts line.old 0 line.new result (item_text item.now) }
     ensures within { result ≤ 98 }
 {
@@ -177,40 +174,34 @@ pub(crate) fn lends(item: &Item) -> bool
     }
 }
 
-/// The line of an item, with the data that it lends.
-pub(crate) fn write_line<W: Sink>(page: &mut Page, writer: &mut W, item: &Item, data: &[u8])
-    ensures { HandsOver (output_of W.broken W.contents writer.old page.old)
-        (output_of W.broken W.contents writer.new page.new) (line_of (item.now, «data».now)) }
+/// What stands behind an item: a blank before the data that it lends, or the end of its line.
+#[inline(always)]
+fn item_end(item: &Item) -> &'static [u8; 1]
+    ensures { result.now ≡ (if lends_data item.now then codes " " else codes "\n") }
 {
-    let mut line = [0; LINE];
-    let behind_item = put_item(&mut line, item);
-    if lends(item) {
-        let end = put(&mut line, behind_item, b" ");
-        page.write(writer, &line[..end]);
-        write_hex(page, writer, data);
-        page.write(writer, b"\n");
-    } else {
-        let end = put(&mut line, behind_item, b"\n");
-        page.write(writer, &line[..end]);
-    }
+    if lends(item) { b" " } else { b"\n" }
+}
+
+/// The line of an item, up to the data that it lends.
+#[inline(always)]
+pub(crate) fn put_front(line: &mut [u8; LINE], item: &Item) -> usize
+    ensures puts { Puts line.old 0 line.new result (front_text item.now) }
+    ensures within { result ≤ 99 }
+{
+    let behind_item = put_item(line, item);
+    put(line, behind_item, item_end(item))
 }
 
 /// The last line: how many items, how many bytes, and how many of these of an unfinished frame.
-pub(crate) fn write_totals<W: Sink>(
-    page: &mut Page,
-    writer: &mut W,
-    items: u64,
-    bytes: u64,
-    left_open: u64,
-)
-    ensures { HandsOver (output_of W.broken W.contents writer.old page.old)
-        (output_of W.broken W.contents writer.new page.new) (totals items bytes left_open) }
+pub(crate) fn put_totals(line: &mut [u8; LINE], items: u64, bytes: u64, left_open: u64) -> usize
+    ensures puts { Puts line.old 0 line.new result (totals items bytes left_open) }
+    ensures within { result ≤ 80 }
 {
-    page.write(writer, b"items=");
-    write_number(page, writer, items);
-    page.write(writer, b" bytes=");
-    write_number(page, writer, bytes);
-    page.write(writer, b" open=");
-    write_number(page, writer, left_open);
-    page.write(writer, b"\n");
+    let at_items = put(line, 0, b"items=");
+    let behind_items = put_number(line, at_items, items);
+    let at_bytes = put(line, behind_items, b" bytes=");
+    let behind_bytes = put_number(line, at_bytes, bytes);
+    let at_open = put(line, behind_bytes, b" open=");
+    let behind_open = put_number(line, at_open, left_open);
+    put(line, behind_open, b"\n")
 }
