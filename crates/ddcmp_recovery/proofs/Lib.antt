@@ -1,0 +1,3 @@
+mod Prices
+mod Ways
+mod Settling

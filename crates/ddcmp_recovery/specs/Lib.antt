@@ -1,0 +1,2 @@
+pub mod LossFree
+pub mod Price

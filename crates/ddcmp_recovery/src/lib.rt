@@ -1,0 +1,5 @@
+//! Recovery in any order: what a line without loss comes to, whatever the order in which its ends
+//! are asked and bytes arrive. Functions that do nothing, whose contracts are the laws.
+#![tactic(auto)]
+
+pub mod settles;
