@@ -1,4 +1,5 @@
 pub mod HexValues
+pub mod ByteTexts
 pub mod DigitLaws
 pub mod DecodingLaws
 pub mod LinesLaws

@@ -1,6 +1,7 @@
 -- Texts that are put one behind another, and the digits of numbers.
-use Rattle.std.proofs.Common.{◌≡◌, ℕ, zero, suc, ◌+◌, ◌-◌, ◌/◌, ◌%◌, ◌^◌, ◌<◌, ◌≤◌, List, [], ◌∷◌, ◌++◌, length, take, set, map, get_or, refl, sym, ◌∙◌, ap, subst, arith, append_assoc, length-append}
-use Rattle.std.proofs.lemmas.List.{take_more_set}
+use Rattle.std.proofs.Common.{◌≡◌, ℕ, zero, suc, ◌+◌, ◌-◌, ◌/◌, ◌%◌, ◌^◌, ◌<◌, ◌≤◌, List, [], ◌∷◌, ◌++◌, length, take, map, get_or, refl, sym, ◌∙◌, ap, drop, subst, arith, append_assoc, length-append}
+use Rattle.std.proofs.Math.Seq.{take-add}
+use Rattle.std.proofs.lemmas.List.{take-take, take_at, drop_at, length-take}
 use Rattle.std.proofs.lemmas.Fmt.{decimal_digit, decimal_step}
 use Rattle.std.specs.Fmt.{decimal}
 use Rattle.std.specs.List.{range_with_len}
@@ -18,9 +19,18 @@ puts-then {a} {b} {c} {i} {j} {k} {s} {t} p q = record {
 pub puts-as : {a b : List ℕ} {i j : ℕ} {s t : List ℕ} → s ≡ t → Puts a i b j s → Puts a i b j t
 puts-as {a} {b} {i} {j} e p = subst (λ t. Puts a i b j t) e p
 
--- a byte at its place
-pub puts-byte : (old : List ℕ) (at byte : ℕ) → at < length old → Puts old at (set old at byte) (at + 1) (byte ∷ [])
-puts-byte old at byte inside = record { ends = omega arith; holds = take_more_set old at byte inside }
+-- the front of a text: what stands behind it is of no account
+pub puts-front : {a b : List ℕ} {i j : ℕ} {s : List ℕ} (k : ℕ) → i ≤ length a → k ≤ length s → Puts a i b j s → Puts a i b (i + k) (take k s)
+puts-front {a} {b} {i} {j} {s} k inside short p =
+    let front = length-take i a in
+    record {
+      ends = omega (arith, length-take k s);
+      holds = sym (take-take (i + k) j b (omega (arith, p.ends)))
+          ∙ ap (take (i + k)) p.holds
+          ∙ take-add i k (take i a ++ s)
+          ∙ ap (λ x. x ++ take k (drop i (take i a ++ s))) (take_at (take i a) s i (omega (arith, front)))
+          ∙ ap (λ x. take i a ++ take k x) (drop_at (take i a) s i (omega (arith, front)));
+    }
 
 -- what stands in an array that held nothing
 pub puts-whole : {a b : List ℕ} {k : ℕ} {t : List ℕ} → Puts a 0 b k t → take k b ≡ t

@@ -2,6 +2,7 @@
 //! and sink.
 #![tactic(auto)]
 
+mod byte_texts;
 mod decoder;
 pub mod explain_fault;
 mod explainer;

@@ -1,8 +1,9 @@
 //! The text of a line, put together piece by piece in an array before it goes to a page. The place
 //! at which the next piece goes is handed on as a value, so that it can stay in a register.
-ghost use Rattle.std.specs.Prelude.{◌≡◌, ◌+◌, ◌<◌, ◌≤◌, ◌∷◌, [], decimal, length};
+ghost use Rattle.std.specs.Prelude.{◌≡◌, ◌+◌, ◌-◌, ◌^◌, ◌<◌, ◌≤◌, decimal, length};
 ghost use Rattle.ddcmp_explain.specs.Putting.{Puts};
 
+use crate::byte_texts::byte_text;
 use itoa::write_digits;
 
 /// More than the text of an item takes, without its data.
@@ -19,17 +20,6 @@ pub(crate) fn put(line: &mut [u8; LINE], at: usize, text: &[u8]) -> usize
     end
 }
 
-/// Puts a digit.
-#[inline(always)]
-fn put_digit(line: &mut [u8; LINE], at: usize, digit: u8) -> usize
-    requires room { at < LINE }
-    requires digit { digit < 10 }
-    ensures { Puts line.old at line.new result ((48 + digit) ∷ []) }
-{
-    line[at] = b'0' + digit;
-    at + 1
-}
-
 /// Puts a number of one byte.
 #[inline(always)]
 pub(crate) fn put_byte(line: &mut [u8; LINE], at: usize, number: u8) -> usize
@@ -37,16 +27,9 @@ pub(crate) fn put_byte(line: &mut [u8; LINE], at: usize, number: u8) -> usize
     ensures puts { Puts line.old at line.new result (decimal number) }
     ensures within { result ≤ at + 3 }
 {
-    if number < 10 {
-        return put_digit(line, at, number);
-    }
-    if number < 100 {
-        let second = put_digit(line, at, number / 10);
-        return put_digit(line, second, number % 10);
-    }
-    let second = put_digit(line, at, number / 10 / 10);
-    let third = put_digit(line, second, number / 10 % 10);
-    put_digit(line, third, number % 10)
+    let text = byte_text(number);
+    let _behind_three = put(line, at, &text[..3]);
+    at + usize::from(text[3])
 }
 
 /// Puts a number of any size.
@@ -58,6 +41,22 @@ pub(crate) fn put_number(line: &mut [u8; LINE], at: usize, number: u64) -> usize
     let end = at + digits_in(number);
     let _begins = write_digits(number, line, end);
     end
+}
+
+/// A few digits that a number has at least: offsets are mostly long.
+#[inline(always)]
+fn fewest_digits(number: u64) -> usize
+    ensures some { 0 < result }
+    ensures most { result ≤ 9 }
+    ensures reached { 1 < result → 10 ^ (result - 1) ≤ number }
+{
+    if number < 100_000 {
+        1
+    } else if number < 100_000_000 {
+        6
+    } else {
+        9
+    }
 }
 
 /// The powers of ten that fit: entry `k` has `k + 1` digits.
@@ -91,7 +90,7 @@ fn digits_in(number: u64) -> usize
     ensures value { result ≡ length (decimal number) }
     ensures within { result ≤ 20 }
 {
-    let mut digits = 1;
+    let mut digits = fewest_digits(number);
     while digits < POWERS.len() && POWERS[digits] <= number {
         digits += 1;
     }

@@ -1,18 +1,16 @@
-use Rattle.std.proofs.Common.{sym, arith}
-use Rattle.std.proofs.lemmas.Fmt.{decimal_digit}
-use Rattle.ddcmp_explain.proofs.PuttingLaws.{puts-then, puts-as, decimal-two, decimal-three}
+use Rattle.std.proofs.Common.{get_or, arith, sym, subst, ◌∙◌, ◌+◌}
+use Rattle.std.specs.Fmt.{decimal}
+use Rattle.std.proofs.lemmas.List.{take-take, length-take}
+use Rattle.ddcmp_explain.specs.Putting.{Puts}
+use Rattle.ddcmp_explain.proofs.PuttingLaws.{puts-front, puts-as}
 use Rattle.ddcmp_explain.proofs.put.put_byte.Goals as goal
-
-pub returns-then-number-lt10-clause-puts : goal.returns-then-number-lt10-clause-puts
-returns-then-number-lt10-clause-puts c =
-    puts-as (sym (decimal_digit c.args.number c.if-number-lt10.true)) c.put_digit.ensures
-
-pub returns-then-number-lt100-clause-puts : goal.returns-then-number-lt100-clause-puts
-returns-then-number-lt100-clause-puts c =
-    puts-as (decimal-two c.args.number c.if-number-lt10.false c.if-number-lt100.true)
-    (puts-then c.put_digit-second.ensures c.put_digit-then-number-lt100.ensures)
 
 pub returns-clause-puts : goal.returns-clause-puts
 returns-clause-puts c =
-    puts-as (decimal-three c.args.number c.if-number-lt100.false (omega arith))
-    (puts-then (puts-then c.put_digit-second-2.ensures c.put_digit-third.ensures) c.put_digit-2.ensures)
+    let at = c.args.at in
+    let text = c.byte_text-text.result.now in
+    let digits = get_or text 3 0 in
+    let put = c.put-behind_three in
+    let within = c.byte_text-text.ensures.within in
+    subst (λ k. Puts c.args.line.now at put.new.line (at + k) (decimal c.args.number)) (sym c.from.ensures) (puts-as (take-take digits 3 text within ∙ c.byte_text-text.ensures.digits)
+    (puts-front digits (omega arith) (omega (arith, length-take 3 text, within)) put.ensures))
