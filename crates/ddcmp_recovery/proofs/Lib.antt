@@ -1,3 +1,4 @@
 mod Prices
 mod Ways
 mod Settling
+mod Resting

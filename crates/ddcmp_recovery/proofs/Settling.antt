@@ -84,7 +84,7 @@ record Reached (w : ℕ) (x : EndState) (bytes way : List ℕ) : Type 0 where
   fine : Fine w (after_arrival_here bytes x) (drop (length bytes) way)
   falls : price_of_end w (after_arrival_here bytes x) (drop (length bytes) way) ≤ price_of_end w x way
 
-drop_front : (bytes rest : List ℕ) → drop (length bytes) (bytes ++ rest) ≡ rest
+pub drop_front : (bytes rest : List ℕ) → drop (length bytes) (bytes ++ rest) ≡ rest
 drop_front [] rest = refl
 drop_front (b ∷ bytes) rest = drop_front bytes rest
 
@@ -172,8 +172,8 @@ pub record Settles (w : ℕ) (l : Line) : Type 0 where
   pub b : Fine w l.pair.b l.to_b
   pub same : l.pair.a.core.limits.longest ≡ l.pair.b.core.limits.longest
 
-record Stepped (w : ℕ) (e : Event) (l : Line) : Type 0 where
-  kept : Settles w (after_on_line e l)
+pub record Stepped (w : ℕ) (e : Event) (l : Line) : Type 0 where
+  pub kept : Settles w (after_on_line e l)
   falls : frames_of (reply_to e l.pair) + price w (after_on_line e l) ≤ price w l + added_by w e l.pair
 
 longest_same : (bytes : List ℕ) (x : EndState) → (after_arrival_here bytes x).core.limits.longest ≡ x.core.limits.longest
@@ -191,7 +191,7 @@ took_none : (o : Option (List ℕ)) → frames_of (took o) ≡ 0
 took_none None = refl
 took_none (Some m) = refl
 
-steps : (w : ℕ) (e : Event) (l : Line) → LosesNothing e l → Settles w l → Stepped w e l
+pub steps : (w : ℕ) (e : Event) (l : Line) → LosesNothing e l → Settles w l → Stepped w e l
 unfolding after_event reply_to
 steps w (event.Poll A) l n h =
     let p = polls w l.pair.a l.pair.b l.to_a l.to_b h.same h.a h.b in
@@ -223,7 +223,7 @@ steps w event.Clear l n h = absurd n
 
 -- ---- a list of events
 
-pair_is : (e : Event) (l : Line) → (after_on_line e l).pair ≡ after_event e l.pair
+pub pair_is : (e : Event) (l : Line) → (after_on_line e l).pair ≡ after_event e l.pair
 pair_is (event.Poll A) l = refl
 pair_is (event.Poll B) l = refl
 pair_is (event.Arrive A bytes) l = refl

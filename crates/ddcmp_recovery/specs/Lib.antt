@@ -1,2 +1,3 @@
 pub mod LossFree
 pub mod Price
+pub mod Rests

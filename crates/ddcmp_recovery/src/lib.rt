@@ -2,4 +2,5 @@
 //! are asked and bytes arrive. Functions that do nothing, whose contracts are the laws.
 #![tactic(auto)]
 
+pub mod rests;
 pub mod settles;
