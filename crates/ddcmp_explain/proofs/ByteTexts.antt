@@ -26,7 +26,8 @@ entry-of : (n : ℕ) → n < 256 → get_or BYTE_TEXTS n [] ≡ entry n
 entry-of n h = ap (λ t. get_or t n []) entries-computed ∙ get_or-map-range_with_len entry 0 256 n n [] h (omega arith)
 
 abbrev pub IsText : ℕ → List ℕ → Type 0
-IsText n text = (take (get_or text 3 0) text ≡ decimal n) × (get_or text 3 0 ≤ 3)
+IsText n text =
+    (take (get_or text 3 0) (get_or text 0 0 ∷ get_or text 1 0 ∷ get_or text 2 0 ∷ []) ≡ decimal n) × (get_or text 3 0 ≤ 3)
 
 pub is-text : (n : ℕ) → n < 256 → IsText n (get_or BYTE_TEXTS n [])
 unfolding entry text_by

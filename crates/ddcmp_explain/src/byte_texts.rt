@@ -1,17 +1,18 @@
 //! Numbers of one byte as text.
-ghost use Rattle.std.specs.Prelude.{◌≡◌, ◌≤◌, decimal, slice_index, take};
+ghost use Rattle.std.specs.Prelude.{◌≡◌, ◌≤◌, decimal, take};
 
-/// The digits of a number, with blanks behind them up to three bytes, and in the fourth byte how
-/// many digits they are. They go by a table, since the numbers of frames come in no order that a
-/// branch could foresee.
+/// The digits of a number, with blanks behind them up to three bytes, and how many digits they are.
+/// They go by a table, since the numbers of frames come in no order that a branch could foresee.
 #[inline(always)]
-pub(crate) fn byte_text(number: u8) -> &'static [u8; 4]
-    ensures digits { take (slice_index result.now 3) result.now ≡ decimal number }
-    ensures within { slice_index result.now 3 ≤ 3 }
+pub(crate) fn byte_text(number: u8) -> ([u8; 3], usize)
+    ensures digits { take result.1 result.0 ≡ decimal number }
+    ensures within { result.1 ≤ 3 }
 {
-    &BYTE_TEXTS[usize::from(number)]
+    let [first, second, third, length] = BYTE_TEXTS[usize::from(number)];
+    ([first, second, third], usize::from(length))
 }
 
+// Entry `n` has the digits of `n`, and how many they are.
 #[rattlefmt::skip]
 static BYTE_TEXTS: [[u8; 4]; 256] = [
     [b'0', b' ', b' ', 1], [b'1', b' ', b' ', 1], [b'2', b' ', b' ', 1], [b'3', b' ', b' ', 1],

@@ -7,7 +7,7 @@ ghost use Rattle.ddcmp_explain.specs.Json.{json_counted, json_fault, json_fields
 ghost use Rattle.ddcmp_explain.specs.Json.{json_front, json_item, json_reason, json_start};
 ghost use Rattle.ddcmp_explain.specs.Json.{json_totals, member, quoted, reason_name};
 
-use crate::put::{LINE, put, put_byte, put_number};
+use crate::put::{LINE, put, put_byte, put_number, put_slice};
 use crate::text::lends;
 use ddcmp_frame::{ControlType, Counted, Flags, Header, HeaderFault, Item, Nak, Short};
 
@@ -17,7 +17,7 @@ fn put_member(line: &mut [u8; LINE], at: usize, name: &[u8], number: u8) -> usiz
     ensures puts { Puts line.old at line.new result (name.now ++ decimal number) }
     ensures within { result ≤ at + length name.now + 3 }
 {
-    let at_number = put(line, at, name);
+    let at_number = put_slice(line, at, name);
     put_byte(line, at_number, number)
 }
 
@@ -81,9 +81,9 @@ fn put_reason(line: &mut [u8; LINE], at: usize, kind: ControlType, sub: u8) -> u
     ensures within { result ≤ at + 42 }
 {
     match kind {
-        ControlType::Nak => put(line, at, reason_member(Nak::of(sub))),
+        ControlType::Nak => put_slice(line, at, reason_member(Nak::of(sub))),
         ControlType::Ack | ControlType::Rep | ControlType::Strt | ControlType::Stack => {
-            put(line, at, b"")
+            put_slice(line, at, b"")
         }
     }
 }
@@ -96,7 +96,7 @@ fn put_control(line: &mut [u8; LINE], at: usize, header: &Short) -> usize
         ++ json_fields header.now.flags header.now.resp header.now.num header.now.addr) }
     ensures within { result ≤ at + 103 }
 {
-    let behind_kind = put(line, at, kind_value(header.kind));
+    let behind_kind = put_slice(line, at, kind_value(header.kind));
     let behind_sub = put_member(line, behind_kind, b",\"sub\":", header.sub);
     let behind_reason = put_reason(line, behind_sub, header.kind, header.sub);
     put_fields(
@@ -166,7 +166,7 @@ fn put_start(line: &mut [u8; LINE], offset: u64, text: &[u8]) -> usize
 {
     let at_offset = put(line, 0, b"{\"offset\":");
     let behind_offset = put_number(line, at_offset, offset);
-    put(line, behind_offset, text)
+    put_slice(line, behind_offset, text)
 }
 
 /// The header of a frame that was damaged or too long.
@@ -223,7 +223,7 @@ pub(crate) fn put_json_front(line: &mut [u8; LINE], item: &Item) -> usize
     ensures within { result ≤ 170 }
 {
     let behind_item = put_item(line, item);
-    put(line, behind_item, item_end(item))
+    put_slice(line, behind_item, item_end(item))
 }
 
 /// The last line: how many items, how many bytes, and how many of these of an unfinished frame.

@@ -9,9 +9,32 @@ use itoa::write_digits;
 /// More than the text of an item takes, without its data.
 pub(crate) const LINE: usize = 192;
 
-/// Puts a text behind the first `at` bytes, and tells where it ends.
+/// Puts a text of a length that the compiler knows behind the first `at` bytes, and tells where it
+/// ends. It is stored at once, where a copy between slices first asks whether they overlap.
 #[inline(always)]
-pub(crate) fn put(line: &mut [u8; LINE], at: usize, text: &[u8]) -> usize
+pub(crate) fn put<const N: usize>(line: &mut [u8; LINE], at: usize, text: &[u8; N]) -> usize
+    requires { at + N ≤ LINE }
+    ensures { Puts line.old at line.new result text.now }
+{
+    let end = at + N;
+    store(&mut line[at..end], text);
+    end
+}
+
+/// Stores a text in a place of its length.
+#[inline(always)]
+fn store<const N: usize>(place: &mut [u8], text: &[u8; N])
+    requires { length place.old ≡ N }
+    ensures { place.new ≡ text.now }
+{
+    match place.as_mut_array::<N>() {
+        Some(array) => *array = *text,
+        None => unreachable!(),
+    }
+}
+
+/// Puts a text of any length.
+pub(crate) fn put_slice(line: &mut [u8; LINE], at: usize, text: &[u8]) -> usize
     requires { at + length text.now ≤ LINE }
     ensures { Puts line.old at line.new result text.now }
 {
@@ -27,9 +50,9 @@ pub(crate) fn put_byte(line: &mut [u8; LINE], at: usize, number: u8) -> usize
     ensures puts { Puts line.old at line.new result (decimal number) }
     ensures within { result ≤ at + 3 }
 {
-    let text = byte_text(number);
-    let _behind_three = put(line, at, &text[..3]);
-    at + usize::from(text[3])
+    let (digits, length) = byte_text(number);
+    let _behind_three = put(line, at, &digits);
+    at + length
 }
 
 /// Puts a number of any size.

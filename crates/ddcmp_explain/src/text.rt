@@ -1,5 +1,5 @@
 //! The text of items.
-ghost use Rattle.std.specs.Prelude.{◌≡◌, ◌+◌, ◌≤◌, ◌++◌, codes, decimal, length};
+ghost use Rattle.std.specs.Prelude.{◌≡◌, ◌+◌, ◌≤◌, ◌++◌, codes, decimal};
 ghost use Rattle.std.specs.Prelude.{if◌then◌else◌};
 ghost use Rattle.ddcmp_explain.specs.Putting.{Puts};
 ghost use Rattle.ddcmp_explain.specs.Text.{kind_text, flags_text, fields_text, counted_text};
@@ -126,8 +126,13 @@ fn put_fault(line: &mut [u8; LINE], at: usize, fault: &HeaderFault) -> usize
 
 /// An offset, a label and a header.
 #[inline(always)]
-fn put_labelled(line: &mut [u8; LINE], offset: u64, label: &[u8], header: &Header) -> usize
-    requires { length label.now ≤ 12 }
+fn put_labelled<const N: usize>(
+    line: &mut [u8; LINE],
+    offset: u64,
+    label: &[u8; N],
+    header: &Header,
+) -> usize
+    requires { N ≤ 12 }
     ensures puts { Puts line.old 0 line.new result
         (decimal offset ++ label.now ++ header_text header.now) }
     ensures within { result ≤ 98 }
