@@ -15,9 +15,11 @@ mod json;
 mod lines;
 pub mod notation;
 mod put;
+pub mod single_lines;
 mod text;
 
 pub use explain_fault::ExplainFault;
 pub use explaining::{explain, explain_as};
 pub use form::Form;
 pub use notation::Notation;
+pub use single_lines::{write_item, write_last};

@@ -1,0 +1,4 @@
+pub mod Tapped
+pub mod Passing
+pub mod InMemory
+pub use Rattle.ddcmp_explain.specs.Output

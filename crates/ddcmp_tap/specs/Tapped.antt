@@ -1,0 +1,42 @@
+-- What a tap writes of each direction: the lines that `explain` writes of its bytes, and in front of
+-- each the milliseconds, where they are asked for, and from which side it is.
+use Rattle.std.specs.Prelude.{ℕ, List, ◌++◌, codes, decimal, drop, Option, Some, None}
+use Rattle.std.specs.List.{flat_map}
+use Rattle.ddcmp_frame.specs.Reading.{ReadItem}
+use Rattle.ddcmp_explain.specs.declared.notation.Notation.{Notation}
+use Rattle.ddcmp_explain.specs.declared.notation.Notation.TheVariants.{Plain, Json}
+use Rattle.ddcmp_explain.specs.Output.{line_in, last_line}
+use Rattle.ddcmp_tap.specs.declared.side.Side.{Side}
+use Rattle.ddcmp_tap.specs.declared.side.Side.TheVariants.{Caller, Called}
+
+abbrev pub mark_of : Side → List ℕ
+mark_of Caller = codes ">"
+mark_of Called = codes "<"
+
+abbrev pub plain_front : Option ℕ → Side → List ℕ
+plain_front None side = mark_of side ++ codes " "
+plain_front (Some ms) side = decimal ms ++ codes " " ++ mark_of side ++ codes " "
+
+-- the first members of an object, without the comma behind them
+abbrev pub json_front : Option ℕ → Side → List ℕ
+json_front None side = codes "{\"from\":\"" ++ mark_of side ++ codes "\""
+json_front (Some ms) side =
+    codes "{\"from\":\"" ++ mark_of side ++ codes "\",\"ms\":" ++ decimal ms
+
+-- a line with what stands in front of it; an object of JSON has it as its first members
+abbrev pub fronted : Notation → Option ℕ → Side → List ℕ → List ℕ
+fronted Plain stamp side line = plain_front stamp side ++ line
+fronted Json stamp side line = json_front stamp side ++ (codes "," ++ drop 1 line)
+
+-- the line of an item with the data that it lends
+abbrev pub tapped_line : Notation → Option ℕ → Side → ReadItem → List ℕ
+tapped_line notation stamp side given = fronted notation stamp side (line_in notation given)
+
+-- the lines of items that were told at the same time
+unfoldable pub tapped_lines : Notation → Option ℕ → Side → List ReadItem → List ℕ
+tapped_lines notation stamp side given = flat_map (tapped_line notation stamp side) given
+
+-- the last line of a direction
+abbrev pub tapped_last : Notation → Option ℕ → Side → ℕ → List ℕ → List ℕ
+tapped_last notation stamp side max bytes =
+    fronted notation stamp side (last_line notation max bytes)

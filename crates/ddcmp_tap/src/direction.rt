@@ -1,0 +1,179 @@
+//! One direction of a tap: bytes that came from a side, to be handed on as they are and explained.
+ghost use Rattle.std.specs.Prelude.{◌≡◌, ◌+◌, ◌<◌, ◌≤◌, ◌++◌, [], ℕ, List, IfOk, IsOk, drop};
+ghost use Rattle.std.specs.Prelude.{false, length, take, true, ◌&&◌, ◌==◌};
+ghost use Rattle.ddcmp_frame.specs.Limits.{MAX_COUNT};
+ghost use Rattle.ddcmp_tap.specs.Passing.{HasTold, Passes, Tells, came_of, room_of};
+ghost use Rattle.ddcmp_tap.specs.Tapped.{tapped_last};
+
+use crate::queue::Queue;
+use crate::side::Side;
+use crate::telling::Telling;
+use crate::text::{NoMemory, Text};
+use ddcmp_explain::Notation;
+use ddcmp_frame::Reader;
+use std::alloc::Global;
+use std::marker::Model;
+
+/// What came from one side. Bytes wait here until they were handed on to the other side and
+/// explained.
+#[derive(Drop)]
+pub struct Direction {
+    queue: Queue,
+    telling: Telling,
+    text: Text,
+    ended: bool,
+}
+
+impl Model for Direction {
+    ghost use Rattle.std.specs.Prelude.{◌+◌, ◌<◌, ◌^◌, length};
+    ghost use Rattle.ddcmp_tap.specs.Passing.{DirectionView};
+
+    ghost Value = { DirectionView };
+
+    ghost view = { λ d. record {
+      side = d.telling.side;
+      notation = d.telling.notation;
+      queue = d.queue;
+      ended = d.ended;
+      frames = d.telling.frames;
+      items = d.telling.items;
+      text = d.text.bytes.items;
+    } };
+
+    ghost invariant = { λ d. d.telling.frames.offset + length d.queue.untold < 2 ^ 64 };
+}
+
+impl Direction {
+    /// A direction that no bytes have come from. Of its memory only that for text isn't taken yet.
+    pub fn new(
+        alloc: Global,
+        side: Side,
+        notation: Notation,
+        max: u16,
+    ) -> Result<Direction, NoMemory>
+        requires low { 0 < max }
+        requires high { max ≤ MAX_COUNT }
+        ensures passes { IfOk result (λ made. Passes made [] [] []) }
+        ensures side { IfOk result (λ made. made.side ≡ side) }
+        ensures notation { IfOk result (λ made. made.notation ≡ notation) }
+        ensures max { IfOk result (λ made. made.frames.max ≡ max) }
+        ensures ended { IfOk result (λ made. made.ended ≡ false) }
+    {
+        let Ok(queue) = Queue::new(alloc) else {
+            return Err(NoMemory);
+        };
+        let Ok(frames) = Reader::new(alloc, max) else {
+            return Err(NoMemory);
+        };
+        Ok(Direction {
+            queue,
+            telling: Telling {
+                side,
+                notation,
+                frames,
+                items: 0,
+            },
+            text: Text::new(alloc),
+            ended: false,
+        })
+    }
+
+    /// How many bytes may come now. A direction whose bytes were all handed on and explained takes
+    /// 65,536, and one that has had 2^64 - 1 bytes none.
+    pub fn room(&self) -> usize
+        ensures value { result ≡ room_of self.now }
+        ensures most { result + length self.now.queue.waiting ≤ 65536 }
+        ensures whole { self.now.queue.waiting ≡ [] → self.now.queue.untold ≡ []
+            → self.now.queue.room ≡ 65536 }
+    {
+        let room = self.queue.room();
+        let countable = u64::MAX - self.telling.frames.offset() - self.queue.untold().len() as u64;
+        if countable < room as u64 {
+            countable as usize
+        } else {
+            room
+        }
+    }
+
+    /// Bytes came from the side.
+    pub fn push(&mut self, bytes: &[u8])
+        requires { length bytes.now ≤ room_of self.old }
+        ensures passes { (came handed told : List ℕ) → Passes self.old came handed told
+            → Passes self.new (came ++ bytes.now) handed told }
+        ensures waiting { self.new.queue.waiting ≡ self.old.queue.waiting ++ bytes.now }
+        ensures stays { self.new ≡ record self.old { queue = self.new.queue } }
+    {
+        self.queue.push(bytes);
+    }
+
+    /// What is to be handed on to the other side.
+    pub fn waiting(&self) -> &[u8]
+        ensures { result.now ≡ self.now.queue.waiting }
+    {
+        self.queue.waiting()
+    }
+
+    /// The other side took the first `n` of what waited.
+    pub fn took(&mut self, n: usize)
+        requires { n ≤ length self.old.queue.waiting }
+        ensures passes { (came handed told : List ℕ) → Passes self.old came handed told
+            → Passes self.new came (handed ++ take n self.old.queue.waiting) told }
+        ensures waiting { self.new.queue.waiting ≡ drop n self.old.queue.waiting }
+        ensures stays { self.new ≡ record self.old { queue = self.new.queue } }
+    {
+        self.queue.took(n);
+    }
+
+    /// The side sends no more.
+    pub fn end(&mut self)
+        ensures { self.new ≡ record self.old { ended = true } }
+    {
+        self.ended = true;
+    }
+
+    /// Whether the side sends no more.
+    pub fn has_ended(&self) -> bool
+        ensures { result ≡ self.now.ended }
+    {
+        self.ended
+    }
+
+    /// Makes the text of what came since the last call: the lines of the items that it completes.
+    pub fn explain(&mut self, stamp: Option<u64>) -> Result<(), NoMemory>
+        ensures passes { IsOk result → (came handed told : List ℕ)
+            → Passes self.old came handed told → Passes self.new came handed came
+            × Tells self.old.notation self.old.side self.old.frames.max stamp told
+            self.old.queue.untold [] self.new.text }
+        ensures waiting { self.new.queue.waiting ≡ self.old.queue.waiting }
+        ensures side { self.new.side ≡ self.old.side }
+        ensures notation { self.new.notation ≡ self.old.notation }
+        ensures max { self.new.frames.max ≡ self.old.frames.max }
+        ensures ended { self.new.ended ≡ self.old.ended }
+    {
+        self.text.clear();
+        let told = self
+            .telling
+            .tell(&mut self.text, stamp, self.queue.untold());
+        self.queue.told();
+        told
+    }
+
+    /// Makes the text of the last line, of all that was explained.
+    pub fn finish(&mut self, stamp: Option<u64>) -> Result<(), NoMemory>
+        ensures last { IsOk result → (told : List ℕ)
+            → HasTold self.old.frames self.old.items told
+            → self.new.text ≡ tapped_last self.old.notation stamp self.old.side
+            self.old.frames.max told }
+        ensures stays { self.new ≡ record self.old { text = self.new.text } }
+    {
+        self.text.clear();
+        self.telling.finish(&mut self.text, stamp)
+    }
+
+    /// The text that was made last.
+    pub fn text(&self) -> &[u8]
+        ensures { result.now ≡ self.now.text }
+    {
+        self.text.bytes.as_slice()
+    }
+}

@@ -1,0 +1,118 @@
+// What a direction hands on and says, against lines that were written by hand.
+use ddcmp_tap::{Direction, Notation, ROOM, Side};
+use std::process::Abort;
+
+/// A start byte alone, a DATA frame with `abc`, and an ACK.
+const BYTES: &[u8] =
+    b"\x81\x81\x03\x00\x00\x01\x01\x9a\x41abc\x38\x97\x05\x01\x00\x00\x00\x01\xfc\x55";
+
+const SAID: &[u8] = b"> 0 header check
+> 1 DATA count=3 q=0 s=0 resp=0 num=1 addr=1 616263
+> 14 ACK sub=0 q=0 s=0 resp=0 num=0 addr=1
+";
+
+const LAST: &[u8] = b"> items=3 bytes=22 open=0\n";
+
+fn direction(rt: &(impl Abort + AllocGlobal), side: Side, notation: Notation) -> Direction {
+    match Direction::new(rt.alloc(), side, notation, 16383) {
+        Ok(made) => made,
+        Err(_refused) => panic!(rt; "no memory"),
+    }
+}
+
+/// Bytes come and are explained.
+fn comes(
+    rt: &(impl Abort + AllocGlobal),
+    direction: &mut Direction,
+    bytes: &[u8],
+    stamp: Option<u64>,
+) {
+    assert!(rt; bytes.len() <= direction.room());
+    direction.push(bytes);
+    assert!(rt; direction.explain(stamp).is_ok());
+}
+
+/// The text of bytes that come in two pieces, and their last line.
+fn said(
+    rt: &(impl Abort + AllocGlobal),
+    cut: usize,
+    side: Side,
+    notation: Notation,
+    stamp: Option<u64>,
+) -> Vec<u8> {
+    assert!(rt; cut <= BYTES.len());
+    let mut text = Vec::new(rt.alloc());
+    let mut made = direction(rt, side, notation);
+    comes(rt, &mut made, &BYTES[..cut], stamp);
+    assert!(rt; text.extend_from_slice(made.text()).is_ok());
+    comes(rt, &mut made, &BYTES[cut..], stamp);
+    assert!(rt; text.extend_from_slice(made.text()).is_ok());
+    assert!(rt; made.waiting() == BYTES);
+    assert!(rt; made.finish(stamp).is_ok());
+    assert!(rt; text.extend_from_slice(made.text()).is_ok());
+    text
+}
+
+#[test]
+fn lines_at_every_cut(rt: HostRuntime) {
+    for cut in 0..BYTES.len() {
+        let text = said(&rt, cut, Side::Caller, Notation::Plain, None);
+        assert!(&rt; text.as_slice().starts_with(SAID));
+        assert!(&rt; text.as_slice().ends_with(LAST));
+        assert_eq!(&rt; text.len(), SAID.len() + LAST.len());
+    }
+}
+
+#[test]
+fn what_stands_in_front(rt: HostRuntime) {
+    let stamped = said(&rt, 3, Side::Called, Notation::Plain, Some(1207));
+    let objects = said(&rt, 3, Side::Called, Notation::Json, None);
+    let both = said(&rt, 3, Side::Caller, Notation::Json, Some(0));
+    assert!(&rt;
+        stamped
+            .as_slice()
+            .starts_with(b"1207 < 0 header check\n1207 < 1 DATA count=3 ")
+    );
+    assert!(&rt;
+        stamped
+            .as_slice()
+            .ends_with(b"\n1207 < items=3 bytes=22 open=0\n")
+    );
+    assert!(&rt;
+        objects.as_slice().starts_with(
+            b"{\"from\":\"<\",\"offset\":0,\"item\":\"header check\"}\n{\"from\":\"<\",\"offset\":1,"
+        )
+    );
+    assert!(&rt;
+        objects.as_slice().ends_with(
+            b",\"addr\":1}\n{\"from\":\"<\",\"items\":3,\"bytes\":22,\"open\":0}\n"
+        )
+    );
+    assert!(&rt;
+        both.as_slice().starts_with(
+            b"{\"from\":\">\",\"ms\":0,\"offset\":0,\"item\":\"header check\"}\n"
+        )
+    );
+    assert!(&rt;
+        both.as_slice().ends_with(
+            b"\n{\"from\":\">\",\"ms\":0,\"items\":3,\"bytes\":22,\"open\":0}\n"
+        )
+    );
+}
+
+#[test]
+fn room_until_all_is_written(rt: HostRuntime) {
+    let mut made = direction(&rt, Side::Caller, Notation::Plain);
+    let full = [0; ROOM];
+    comes(&rt, &mut made, &full, None);
+    assert_eq!(&rt; made.room(), 0);
+    assert_eq!(&rt; made.waiting().len(), ROOM);
+    made.took(ROOM - 1);
+    assert_eq!(&rt; made.room(), 0);
+    assert_eq!(&rt; made.waiting().len(), 1);
+    made.took(1);
+    assert_eq!(&rt; made.room(), ROOM);
+    assert!(&rt; !made.has_ended());
+    made.end();
+    assert!(&rt; made.has_ended());
+}
