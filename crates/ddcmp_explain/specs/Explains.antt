@@ -45,7 +45,8 @@ Tells form notation max seen left old new (Err (NotHex index)) =
 Tells form notation max seen left old new (Err Read) =
     ((unexpected_in form seen ≡ None) ⊎ (length seen ≡ 2 ^ 64 - 1))
     × Appends old new (lines notation max (bytes_of form seen))
-Tells form notation max seen left old new (Err Write) = AppendsPart old new (explained form notation max seen)
+Tells form notation max seen left old new (Err Write) =
+    AppendsPart old new (explained form notation max seen)
 Tells form notation max seen left old new (Err Memory) = (seen ≡ []) × Appends old new []
 
 -- What explain did with an input: what it saw of it and what is left, and what the sink held and

@@ -101,6 +101,8 @@ impl Direction {
         ensures passes { (came handed told : List ℕ) → Passes self.old came handed told
             → Passes self.new (came ++ bytes.now) handed told }
         ensures waiting { self.new.queue.waiting ≡ self.old.queue.waiting ++ bytes.now }
+        ensures untold { self.new.queue.untold ≡ self.old.queue.untold ++ bytes.now }
+        ensures room { self.new.queue.room + length bytes.now ≡ self.old.queue.room }
         ensures stays { self.new ≡ record self.old { queue = self.new.queue } }
     {
         self.queue.push(bytes);
@@ -119,6 +121,8 @@ impl Direction {
         ensures passes { (came handed told : List ℕ) → Passes self.old came handed told
             → Passes self.new came (handed ++ take n self.old.queue.waiting) told }
         ensures waiting { self.new.queue.waiting ≡ drop n self.old.queue.waiting }
+        ensures untold { self.new.queue.untold ≡ self.old.queue.untold }
+        ensures room { self.old.queue.room ≤ self.new.queue.room }
         ensures stays { self.new ≡ record self.old { queue = self.new.queue } }
     {
         self.queue.took(n);
@@ -145,6 +149,10 @@ impl Direction {
             × Tells self.old.notation self.old.side self.old.frames.max stamp told
             self.old.queue.untold [] self.new.text }
         ensures waiting { self.new.queue.waiting ≡ self.old.queue.waiting }
+
+        // Where memory was refused too: no byte is read twice.
+        ensures untold { self.new.queue.untold ≡ [] }
+        ensures room { self.old.queue.room ≤ self.new.queue.room }
         ensures side { self.new.side ≡ self.old.side }
         ensures notation { self.new.notation ≡ self.old.notation }
         ensures max { self.new.frames.max ≡ self.old.frames.max }
