@@ -41,6 +41,7 @@ impl Lines {
 
     /// Takes bytes up to the first that completes an item, and hands over its line. It tells how
     /// many.
+    #[inline(always)]
     fn push<W: Sink>(&mut self, writer: &mut W, bytes: &[u8]) -> usize
         requires some { 0 < length bytes.now }
         requires fits { self.old.frames.offset + length bytes.now < 2 ^ 64 }

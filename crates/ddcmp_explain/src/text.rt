@@ -53,6 +53,7 @@ fn put_fields(line: &mut [u8; LINE], at: usize, flags: Flags, resp: u8, num: u8,
     put_byte(line, at_addr, addr)
 }
 
+#[inline(always)]
 fn put_control(line: &mut [u8; LINE], at: usize, header: &Short) -> usize
     requires { at + 47 ≤ LINE }
     ensures puts { Puts line.old at line.new result
@@ -144,6 +145,7 @@ fn put_labelled<const N: usize>(
 
 /// What an item is, without the data that it lends.
 #[tactic(auto, unfolding(crate::specs::Text::item_text))]
+#[inline(always)]
 fn put_item(line: &mut [u8; LINE], item: &Item) -> usize
     ensures puts { Puts line.old 0 line.new result (item_text item.now) }
     ensures within { result ≤ 98 }

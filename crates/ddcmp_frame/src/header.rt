@@ -184,12 +184,14 @@ pub enum HeaderFault {
     CountZero,
 }
 
+#[inline(always)]
 pub(crate) fn is_start(byte: u8) -> bool
     ensures { result ≡ is_start_byte byte }
 {
     byte == CONTROL_START || byte == DATA_START || byte == MAINT_START
 }
 
+#[inline(always)]
 fn kind_of(code: u8) -> Option<ControlType>
     ensures { result ≡ kind_of_code code }
 {
@@ -205,6 +207,7 @@ fn kind_of(code: u8) -> Option<ControlType>
 
 /// Whether the last two of eight bytes are the check of the first six.
 #[tactic(auto, unfolding(crate::specs::Spelling::is_check_right))]
+#[inline(always)]
 fn check_holds(bytes: &[u8; 8]) -> bool
     ensures { result ≡ check_holds_in bytes.now }
 {
@@ -212,6 +215,7 @@ fn check_holds(bytes: &[u8; 8]) -> bool
     bytes[6] == right[0] && bytes[7] == right[1]
 }
 
+#[inline(always)]
 fn flags_in(bytes: &[u8; 8]) -> Flags
     ensures { result ≡ flags_of bytes.now }
 {
@@ -221,6 +225,7 @@ fn flags_in(bytes: &[u8; 8]) -> Flags
     }
 }
 
+#[inline(always)]
 fn short_in(kind: ControlType, bytes: &[u8; 8]) -> Short
     ensures { result ≡ short_of kind bytes.now }
 {
@@ -234,6 +239,7 @@ fn short_in(kind: ControlType, bytes: &[u8; 8]) -> Short
     }
 }
 
+#[inline(always)]
 fn counted_in(bytes: &[u8; 8]) -> Option<Counted>
     ensures { result ≡ counted_or_none bytes.now }
 {
@@ -252,6 +258,7 @@ fn counted_in(bytes: &[u8; 8]) -> Option<Counted>
 
 impl Header {
     /// The header that eight bytes are, or the first fault.
+    #[inline(always)]
     pub fn parse(bytes: &[u8; 8]) -> Result<Header, HeaderFault>
         // A header and its check are read as this header, and nothing else is read as one.
         ensures found { IfOk result (λ h. Spells h (take 6 bytes.now) × HasCheck bytes.now) }
@@ -275,6 +282,7 @@ impl Header {
     }
 
     #[tactic(auto, unfolding(crate::specs::Spelling::parsed))]
+    #[inline(always)]
     fn parse_exactly(bytes: &[u8; 8]) -> Result<Header, HeaderFault>
         ensures { result ≡ parsed bytes.now }
     {

@@ -36,6 +36,7 @@ pub(crate) fn resume(buffer: &mut Vec<u8>)
 }
 
 /// COUNT, where the header has one.
+#[inline(always)]
 pub(crate) fn count_of(header: &Header) -> Option<usize>
     ensures value { result ≡ count_in header.now }
     ensures small { (n : ℕ) → result ≡ Some n → (0 < n) × (n ≤ MAX_COUNT) }

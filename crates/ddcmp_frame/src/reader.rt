@@ -102,6 +102,7 @@ impl Reader {
     }
 
     /// Takes the bytes of a piece, up to and with the first that gives an item.
+    #[inline(always)]
     pub fn push_all(&mut self, piece: &[u8]) -> Pushed
         requires { self.old.offset + length piece.now < 2 ^ 64 }
         ensures counted { self.new.offset ≡ self.old.offset + result.used }
@@ -129,6 +130,7 @@ impl Reader {
     }
 
     /// The data of the good item that the last push gave, else none.
+    #[inline(always)]
     pub fn data(&self) -> &[u8]
         ensures { result.now ≡ self.now.lent }
     {

@@ -48,6 +48,7 @@ pub(crate) struct Scan {
 
 impl Scan {
     /// Takes bytes of a piece, up to the first that gives an item.
+    #[inline(always)]
     pub(crate) fn take_all(&mut self, piece: &[u8]) -> Pushed
         requires sound { IsSoundScan self.old }
         requires fits { self.old.offset + length piece.now < 2 ^ 64 }
@@ -74,6 +75,7 @@ impl Scan {
     }
 
     /// Takes at least one byte of a piece, and at most those that belong to the same phase.
+    #[inline(always)]
     pub(crate) fn take(&mut self, piece: &[u8]) -> Pushed
         requires ready { IsReady self.old piece.now }
         ensures sound { IsSoundScan self.new }
@@ -120,6 +122,7 @@ impl Scan {
     }
 
     /// Takes a header that stands whole at the front of a piece. One that is a frame isn't copied.
+    #[inline(always)]
     fn take_whole_header(&mut self, piece: &[u8], front: &[u8; 8]) -> Pushed
         requires ready { IsReady self.old piece.now }
         requires phase { self.old.phase ≡ Phase.Seeking }
@@ -329,6 +332,7 @@ fn keep(buffer: &mut Vec<u8>, bytes: &[u8])
 }
 
 /// What eight bytes are that begin with a start byte, at the offset `at`.
+#[inline(always)]
 fn candidate_at(front: &[u8; 8], max: u16, at: u64) -> Candidate
     requires start { is_start_byte (slice_index front.now 0) ≡ true }
     ensures { IsCandidate max at front.now result }

@@ -41,6 +41,7 @@ impl Page {
     }
 
     /// Hands over a text of any length: it waits, or goes out after what waited.
+    #[inline(always)]
     pub fn write<W: Sink>(&mut self, writer: &mut W, text: &[u8])
         ensures sends { HandsOver (output_of W.broken W.contents writer.old self.old)
             (output_of W.broken W.contents writer.new self.new) text.now }
@@ -78,6 +79,7 @@ impl Page {
     }
 
     /// How many bytes more it has room for.
+    #[inline(always)]
     fn room(&self) -> usize
         ensures { length self.now + result ≡ PAGE }
     {
@@ -85,6 +87,7 @@ impl Page {
     }
 
     /// Appends a text to what waits.
+    #[inline(always)]
     fn append(&mut self, text: &[u8])
         requires { length self.old + length text.now ≤ PAGE }
         ensures { self.new ≡ self.old ++ text.now }

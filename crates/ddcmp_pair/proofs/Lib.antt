@@ -1,3 +1,4 @@
 pub mod Done
 pub mod Feeding
+pub mod KeptLaws
 pub mod Placed

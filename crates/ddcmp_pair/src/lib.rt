@@ -2,6 +2,8 @@
 #![tactic(auto)]
 
 mod ends;
+mod frames;
+mod messages;
 mod pair;
 mod recovering;
 mod running;

@@ -2,9 +2,11 @@
 mod hearing;
 mod speaking;
 
-use ddcmp_frame::{Header, Reader};
+use crate::frames::Frames;
+use crate::messages::Messages;
+use ddcmp_frame::Reader;
 use ddcmp_proto::{Config, ConfigRefusal, Memory, Station};
-use ddcmp_run::{Bytes, Event, Reply};
+use ddcmp_run::{Event, Reply};
 use std::alloc::Global;
 use std::marker::Model;
 
@@ -15,9 +17,9 @@ pub(crate) struct Side {
     station: Station,
     /// Reads what arrives a second time, for the place of its good frames.
     reader: Reader,
-    given: Vec<Bytes>,
-    taken: Vec<Bytes>,
-    sent: Vec<(Header, Bytes)>,
+    given: Messages,
+    taken: Messages,
+    sent: Frames,
     arrived: Vec<u8>,
     acknowledged: u64,
     starts: u32,
@@ -27,7 +29,7 @@ pub(crate) struct Side {
 }
 
 impl Model for Side {
-    ghost use Rattle.std.specs.Prelude.{◌≡◌, ◌+◌, vec_len};
+    ghost use Rattle.std.specs.Prelude.{◌≡◌, ◌+◌, ◌<◌, ◌^◌, length, vec_len};
     ghost use Rattle.ddcmp_pair.specs.Sides.{SideView, IsSoundEnd, HasRead};
 
     ghost Value = { SideView };
@@ -36,9 +38,9 @@ impl Model for Side {
       state = record {
         core = s.station.core;
         syn = s.station.syn;
-        given = s.given.items;
-        taken = s.taken.items;
-        sent = s.sent.items;
+        given = s.given.all;
+        taken = s.taken.all;
+        sent = s.sent.all;
         arrived = s.arrived.items;
         acknowledged = s.acknowledged;
         starts = s.starts;
@@ -50,14 +52,15 @@ impl Model for Side {
         × IsSoundEnd (record {
           core = s.station.core;
           syn = s.station.syn;
-          given = s.given.items;
-          taken = s.taken.items;
-          sent = s.sent.items;
+          given = s.given.all;
+          taken = s.taken.all;
+          sent = s.sent.all;
           arrived = s.arrived.items;
           acknowledged = s.acknowledged;
           starts = s.starts;
         })
-        × (vec_len s.buffer ≡ s.station.syn + s.station.core.limits.longest + 10) };
+        × (vec_len s.buffer ≡ s.station.syn + s.station.core.limits.longest + 10)
+        × (length s.given.all < 2 ^ 63) };
 }
 
 impl Side {
@@ -92,9 +95,9 @@ impl Side {
             alloc,
             station,
             reader,
-            given: Vec::new(alloc),
-            taken: Vec::new(alloc),
-            sent: Vec::new(alloc),
+            given: Messages::new(alloc),
+            taken: Messages::new(alloc),
+            sent: Frames::new(alloc),
             arrived: Vec::new(alloc),
             acknowledged: 0,
             starts: 0,
@@ -104,13 +107,13 @@ impl Side {
     }
 
     /// Does what happens at this end; `sent` is what the other end has sent.
-    pub(crate) fn apply(&mut self, event: &Event, sent: &[(Header, Bytes)]) -> Result<Reply, Memory>
-        requires { IsPlaced self.old sent.now }
+    pub(crate) fn apply(&mut self, event: &Event, sent: &Frames) -> Result<Reply, Memory>
+        requires { IsPlaced self.old sent.now.all }
         ensures state { IsOk result → self.new.state ≡ after_event_here event.now self.old.state }
         ensures reply { IfOk result (λ reply. reply ≡ reply_here event.now self.old.state) }
-        ensures placed { IsPlaced self.new sent.now }
+        ensures placed { IsPlaced self.new sent.now.all }
         ensures honest { IsOk result → is_some self.new.place
-            ≡ (is_honest_here event.now self.old.state sent.now && is_some self.old.place) }
+            ≡ (is_honest_here event.now self.old.state sent.now.all && is_some self.old.place) }
         ensures memory { OnErr result (self.new ≡ self.old) }
         ensures asks { asks_here event.now self.old.state ≡ false → IsOk result }
     {
@@ -171,7 +174,7 @@ impl Side {
         requires { i < length self.now.state.given }
         ensures { result.now ≡ slice_index_or self.now.state.given i [] }
     {
-        self.given[i].as_slice()
+        self.given.at(i)
     }
 
     /// The number of messages handed up.
@@ -196,7 +199,7 @@ impl Side {
         if left <= waiting {
             return self.station.waiting_at((waiting - left) as u8, out);
         }
-        let message = self.taken[i].as_slice();
+        let message = self.taken.at(i);
         out[..message.len()].copy_from_slice(message);
         message.len()
     }
@@ -223,8 +226,8 @@ impl Side {
     }
 
     /// The frames sent.
-    pub(crate) fn sent(&self) -> &[(Header, Bytes)]
-        ensures { result.now ≡ self.now.state.sent }
+    pub(crate) fn sent(&self) -> &Frames
+        ensures { result.now.all ≡ self.now.state.sent }
     {
         &self.sent
     }

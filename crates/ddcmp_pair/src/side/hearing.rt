@@ -8,11 +8,12 @@ ghost use Rattle.ddcmp_proto.specs.Bytes.{after_piece, notices_of_piece};
 ghost use Rattle.ddcmp_run.specs.Place.{same_frame, place_after as place_after_of, place_next, place_of};
 ghost use Rattle.ddcmp_run.specs.Run.{acknowledged_in, restarts_by, restarts_in};
 
+use crate::frames::Frames;
 use crate::side::Side;
 use ddcmp_core::Notice;
 use ddcmp_frame::{Header, Item, Reader};
 use ddcmp_proto::{Memory, Station};
-use ddcmp_run::{Bytes, Notices, Reply};
+use ddcmp_run::{Notices, Reply};
 
 /// What was told, and what of it is counted.
 #[derive(Drop)]
@@ -82,26 +83,14 @@ fn feed_all(station: &mut Station, arrived: &[u8], from: usize, heard: &mut Hear
     }
 }
 
-/// Whether a frame that was sent is this one.
-fn is_frame(sent: &(Header, Bytes), header: &Header, data: &[u8]) -> bool
-    ensures { IsTrue result ↔ ((header.now ≡ sent.now.0) × («data».now ≡ sent.now.1)) }
-{
-    sent.0 == *header && sent.1.as_slice() == data
-}
-
 /// One past the first frame, from `place` on, that is this one.
-fn place_after(
-    sent: &[(Header, Bytes)],
-    place: usize,
-    header: &Header,
-    data: &[u8],
-) -> Option<usize>
-    requires { place ≤ length sent.now }
-    ensures value { result ≡ place_after_of (header.now, «data».now) sent.now place }
-    ensures within { IfSome result (λ n. n ≤ length sent.now) }
+fn place_after(sent: &Frames, place: usize, header: &Header, data: &[u8]) -> Option<usize>
+    requires { place ≤ length sent.now.all }
+    ensures value { result ≡ place_after_of (header.now, «data».now) sent.now.all place }
+    ensures within { IfSome result (λ n. n ≤ length sent.now.all) }
 {
     for i in place..sent.len() {
-        if is_frame(&sent[i], header, data) {
+        if sent.is_at(i, header, data) {
             return Some(i + 1);
         }
     }
@@ -109,15 +98,10 @@ fn place_after(
 }
 
 /// The place after what a byte gave: a good frame is looked for behind the one before it.
-fn next_place(
-    item: Option<Item>,
-    data: &[u8],
-    sent: &[(Header, Bytes)],
-    place: Option<usize>,
-) -> Option<usize>
-    requires { IfSome place (λ n. n ≤ length sent.now) }
-    ensures value { result ≡ place_next item «data».now sent.now place }
-    ensures within { IfSome result (λ n. n ≤ length sent.now) }
+fn next_place(item: Option<Item>, data: &[u8], sent: &Frames, place: Option<usize>) -> Option<usize>
+    requires { IfSome place (λ n. n ≤ length sent.now.all) }
+    ensures value { result ≡ place_next item «data».now sent.now.all place }
+    ensures within { IfSome result (λ n. n ≤ length sent.now.all) }
 {
     match item {
         Some(Item::Good(_at, header)) => place_after(sent, place?, &header, data),
@@ -130,26 +114,28 @@ fn follow(
     reader: &mut Reader,
     arrived: &[u8],
     from: usize,
-    sent: &[(Header, Bytes)],
+    sent: &Frames,
     place: Option<usize>,
 ) -> Option<usize>
     requires from { from ≤ length arrived.now }
     requires stands { StandsFor reader.old (take from arrived.now) }
     requires placed { (n : ℕ) → place ≡ Some n
-        → (place_of (good_frames reader.old.max (take from arrived.now)) sent.now ≡ Some n)
-        × (n ≤ length sent.now) }
+        → (place_of (good_frames reader.old.max (take from arrived.now)) sent.now.all ≡ Some n)
+        × (n ≤ length sent.now.all) }
     ensures stands { StandsFor reader.new arrived.now }
     ensures max { reader.new.max ≡ reader.old.max }
     ensures placed { (n : ℕ) → result ≡ Some n
-        → (place_of (good_frames reader.old.max arrived.now) sent.now ≡ Some n)
-        × (n ≤ length sent.now) }
+        → (place_of (good_frames reader.old.max arrived.now) sent.now.all ≡ Some n)
+        × (n ≤ length sent.now.all) }
     ensures known { is_some result ≡ (is_some
-        (place_of (good_frames reader.old.max arrived.now) sent.now) && is_some place) }
+        (place_of (good_frames reader.old.max arrived.now) sent.now.all) && is_some place) }
 {
     let mut place = place;
-    for at in from..arrived.len() {
-        let item = reader.push(arrived[at]);
-        place = next_place(item, reader.data(), sent, place);
+    let mut at = from;
+    while at < arrived.len() {
+        let pushed = reader.push_all(&arrived[at..]);
+        at += pushed.used;
+        place = next_place(pushed.item, reader.data(), sent, place);
     }
     place
 }
@@ -160,16 +146,16 @@ impl Side {
     ghost use Rattle.ddcmp_pair.specs.Sides.{IsPlaced};
 
     /// Bytes arrive.
-    pub(super) fn arrive(&mut self, bytes: &[u8], sent: &[(Header, Bytes)]) -> Result<Reply, Memory>
-        requires { IsPlaced self.old sent.now }
+    pub(super) fn arrive(&mut self, bytes: &[u8], sent: &Frames) -> Result<Reply, Memory>
+        requires { IsPlaced self.old sent.now.all }
         ensures state { IsOk result → self.new.state
             ≡ after_arrival_here bytes.now self.old.state }
         ensures reply { IfOk result (λ reply. reply
             ≡ Reply.Notices (notices_at bytes.now self.old.state)) }
-        ensures placed { IsPlaced self.new sent.now }
+        ensures placed { IsPlaced self.new sent.now.all }
         ensures honest { IsOk result → is_some self.new.place ≡ (is_some (place_of
             (good_frames self.old.state.core.limits.longest
-            (self.old.state.arrived ++ bytes.now)) sent.now) && is_some self.old.place) }
+            (self.old.state.arrived ++ bytes.now)) sent.now.all) && is_some self.old.place) }
         ensures memory { OnErr result (self.new ≡ self.old) }
         ensures asks { length bytes.now ≡ 0 → IsOk result }
     {

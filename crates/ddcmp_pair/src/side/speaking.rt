@@ -1,13 +1,17 @@
 //! What the user of an end sends and takes, and the frames that it writes.
-ghost use Rattle.std.specs.Prelude.{◌≡◌, ◌+◌, ◌≤◌, ◌++◌, ℕ, List, [], length, replicate, Some, option_map, unwrap_or, vec_len, vec_capacity};
+ghost use Rattle.std.specs.Prelude.{◌≡◌, ◌+◌, ◌<◌, ◌≤◌, ◌++◌, ℕ, List, [], length, replicate, Some};
+ghost use Rattle.std.specs.Prelude.{option_map, option_to_list, unwrap_or, vec_capacity, vec_len};
 ghost use Rattle.ddcmp_frame.specs.declared.codes.TheConstants.{SYN};
 ghost use Rattle.ddcmp_frame.specs.Wire.{wire, IsFrame};
 ghost use Rattle.ddcmp_frame.specs.Reader.{frame_length as length_of_frame};
 ghost use Rattle.ddcmp_core.specs.Table.{next, next_frame};
-ghost use Rattle.ddcmp_core.specs.Frames.{header_of, message_of};
+ghost use Rattle.ddcmp_core.specs.Frames.{header_of};
 ghost use Rattle.ddcmp_core.specs.Core.{IsSound};
 ghost use Rattle.ddcmp_proto.specs.Bytes.{frame_on_line, after_poll};
+ghost use Rattle.ddcmp_run.specs.Run.{whole_frame};
 
+use crate::frames::Frames;
+use crate::messages::append;
 use crate::side::Side;
 use ddcmp_frame::Header;
 use ddcmp_frame::codes::HEADER_BYTES;
@@ -36,15 +40,15 @@ fn data_of<'a>(line: &'a [u8], syn: u8, header: &Header) -> &'a [u8]
     &line[from..from + data_length(header)]
 }
 
-/// Polls the next frame, which has this header, by way of a buffer, and appends its bytes on the
-/// line and its data.
+/// Polls the next frame, which has this header, by way of a buffer, appends its bytes on the line
+/// and keeps it.
 fn poll_into(
     station: &mut Station,
     syn: u8,
     header: &Header,
     buffer: &mut [u8],
     line: &mut Vec<u8>,
-    kept: &mut Vec<u8>,
+    sent: &mut Frames,
 )
     requires header { Some header.now
         ≡ option_map header_of (next_frame (next station.old.core.station)) }
@@ -53,18 +57,19 @@ fn poll_into(
     requires buffer { syn + station.old.core.limits.longest + 10 ≤ length buffer.old }
     requires line { vec_len line.old + (syn + length_of_frame header.now) ≤ vec_capacity line.old }
     requires kept { (message : List ℕ) → IsFrame header.now message
-        → vec_len kept.old + length message ≤ vec_capacity kept.old }
+        → length message ≤ sent.old.spare_bytes }
+    requires one { 0 < sent.old.spare }
     ensures station { station.new
         ≡ record station.old { core = after_poll station.old.core } }
     ensures buffer { length buffer.new ≡ length buffer.old }
     ensures line { line.new.items ≡ line.old.items ++ unwrap_or
         (option_map (frame_on_line syn) (next_frame (next station.old.core.station))) [] }
-    ensures kept { kept.new.items ≡ kept.old.items ++ unwrap_or
-        (option_map message_of (next_frame (next station.old.core.station))) [] }
+    ensures kept { sent.new.all ≡ sent.old.all ++ option_to_list
+        (option_map whole_frame (next_frame (next station.old.core.station))) }
 {
     if let Some(length) = station.poll(buffer) {
         append(line, &buffer[..length]);
-        append(kept, data_of(&buffer[..length], syn, header));
+        sent.push_reserved(*header, data_of(&buffer[..length], syn, header));
     }
 }
 
@@ -87,11 +92,10 @@ impl Side {
         if let Some(refusal) = self.station.send_refusal(message) {
             return Ok(Reply::SendRefused(refusal));
         }
-        let kept = Vec::from_slice(self.alloc, message)?;
-        self.given.reserve(1)?;
+        self.given.reserve(message.len())?;
         match self.station.send(message) {
             Ok(number) => {
-                self.given.push_reserved(Bytes::new(kept));
+                self.given.push_reserved(message);
                 Ok(Reply::Accepted(number))
             }
             Err(refusal) => Ok(Reply::SendRefused(refusal)),
@@ -112,17 +116,15 @@ impl Side {
         };
         let syn = self.station.config().syn;
         let mut line = Vec::with_capacity(self.alloc, syn as usize + header.frame_length())?;
-        let mut kept = Vec::with_capacity(self.alloc, data_length(&header))?;
-        self.sent.reserve(1)?;
+        self.sent.reserve(data_length(&header))?;
         poll_into(
             &mut self.station,
             syn,
             &header,
             &mut self.buffer,
             &mut line,
-            &mut kept,
+            &mut self.sent,
         );
-        self.sent.push_reserved((header, Bytes::new(kept)));
         Ok(Reply::Wrote(Bytes::new(line)))
     }
 
@@ -140,27 +142,14 @@ impl Side {
         }
         let length = self.station.waiting_length(0);
         let mut message = Vec::with_capacity(self.alloc, length)?;
-        let mut kept = Vec::with_capacity(self.alloc, length)?;
-        self.taken.reserve(1)?;
+        self.taken.reserve(length)?;
         match self.station.take(&mut self.buffer) {
             None => Ok(Reply::Nothing),
             Some(length) => {
                 append(&mut message, &self.buffer[..length]);
-                append(&mut kept, &self.buffer[..length]);
-                self.taken.push_reserved(Bytes::new(kept));
+                self.taken.push_reserved(&self.buffer[..length]);
                 Ok(Reply::Took(Bytes::new(message)))
             }
         }
-    }
-}
-
-/// Appends bytes where there is room for them.
-fn append(list: &mut Vec<u8>, bytes: &[u8])
-    requires { vec_len list.old + length bytes.now ≤ vec_capacity list.old }
-    ensures { list.new.items ≡ list.old.items ++ bytes.now }
-{
-    match list.extend_from_slice(bytes) {
-        Ok(()) => {}
-        Err(_full) => unreachable!(),
     }
 }

@@ -17,7 +17,7 @@ invariant_of-self-2 c =
     let longest = ap (λ l. l.longest) limits in
     let halted = is_halted old.station.state in
     let ack = c.self.inside.acknowledged in
-    let given = length c.self.inside.given.items in
+    let given = length c.self.inside.given.all in
     let out = length old.station.out in
     let left = length c.feed_all.new.station.core.station.out in
     let more = c.feed_all.new.heard.acknowledged in
@@ -33,6 +33,7 @@ invariant_of-self-2 c =
         short = λ k below. (let before = i.1.short k below in omega (arith, before, longest));
       },
       (let syn = f.syn in omega (arith, buffer, syn, longest)),
+      i.3,
     )
 
 pub returns-clause-placed : goal.returns-clause-placed
@@ -41,7 +42,7 @@ returns-clause-placed c = λ n e.
     let p = c.follow-self-inside.ensures.placed n e in
     let limits = ap (λ k. k.limits) f.state ∙ after_piece-limits _ _ c.self.inside.station.core in
     let max = c.self.invariant.0.max_is ∙ sym (ap (λ l. l.longest) limits) in (
-      ap (λ m. place_of (good_frames m c.extend_from_slice.new.self.items) c.args.sent.now) (sym max)
-          ∙ ap (λ t. place_of (good_frames c.self.inside.reader.max t) c.args.sent.now) (sym c.deref.ensures.value) ∙ p.0,
+      ap (λ m. place_of (good_frames m c.extend_from_slice.new.self.items) c.args.sent.now.all) (sym max)
+          ∙ ap (λ t. place_of (good_frames c.self.inside.reader.max t) c.args.sent.now.all) (sym c.deref.ensures.value) ∙ p.0,
       p.1,
     )

@@ -11,9 +11,9 @@ returns-in_default-clause-state c = λ ok.
     let x : EndState = record {
       core = s.station.core;
       syn = s.station.syn;
-      given = s.given.items;
-      taken = s.taken.items;
-      sent = s.sent.items;
+      given = s.given.all;
+      taken = s.taken.all;
+      sent = s.sent.all;
       arrived = s.arrived.items;
       acknowledged = s.acknowledged;
       starts = s.starts;
@@ -45,4 +45,5 @@ invariant_of-self-2 c =
         short = λ k below. (let before = i.1.short k below in omega (arith, before, longest));
       },
       omega (arith, buffer, syn, longest, c.poll_into.ensures.buffer),
+      i.3,
     )

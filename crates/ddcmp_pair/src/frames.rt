@@ -1,0 +1,94 @@
+//! Frames that are kept: their headers, and their data one behind another.
+ghost use Rattle.std.specs.Prelude.{◌≡◌, ◌↔◌, ◌<◌, ◌≤◌, ◌++◌, ◌∷◌, [], IsOk, IsTrue, get_or, length};
+ghost use Rattle.ddcmp_run.specs.Place.{WholeFrame};
+
+use crate::messages::Messages;
+use ddcmp_frame::Header;
+use std::alloc::{AllocError, Global};
+use std::marker::Model;
+
+/// Frames in their order.
+#[derive(Drop)]
+pub(crate) struct Frames {
+    headers: Vec<Header>,
+    data: Messages,
+}
+
+impl Model for Frames {
+    ghost use Rattle.std.specs.Prelude.{◌≡◌, ◌-◌, length, min, vec_capacity, vec_len, zip};
+    ghost use Rattle.ddcmp_pair.specs.Kept.{FramesView};
+
+    ghost Value = { FramesView };
+
+    ghost view = { λ f. record {
+      all = zip f.headers.items f.data.all;
+      spare_bytes = f.data.spare_bytes;
+      spare = min (vec_capacity f.headers - vec_len f.headers) f.data.spare;
+    } };
+
+    ghost invariant = { λ f. length f.headers.items ≡ length f.data.all };
+}
+
+impl Frames {
+    /// No frames.
+    pub(crate) fn new(alloc: Global) -> Frames
+        ensures { result.all ≡ [] }
+    {
+        Frames {
+            headers: Vec::new(alloc),
+            data: Messages::new(alloc),
+        }
+    }
+
+    /// Forgets all.
+    pub(crate) fn clear(&mut self)
+        ensures { self.new.all ≡ [] }
+    {
+        self.headers.clear();
+        self.data.clear();
+    }
+
+    /// How many they are.
+    pub(crate) fn len(&self) -> usize
+        ensures { result ≡ length self.now.all }
+    {
+        self.headers.len()
+    }
+
+    /// Whether frame `i`, counted from 0, is this one.
+    pub(crate) fn is_at(&self, i: usize, header: &Header, data: &[u8]) -> bool
+        requires { i < length self.now.all }
+        ensures { (d : WholeFrame)
+            → IsTrue result ↔ ((header.now ≡ (get_or self.now.all i d).0)
+            × («data».now ≡ (get_or self.now.all i d).1)) }
+    {
+        is_same(&self.headers[i], self.data.at(i), header, data)
+    }
+
+    /// Has room for one more frame with data of this length.
+    pub(crate) fn reserve(&mut self, length: usize) -> Result<(), AllocError>
+        ensures all { self.new.all ≡ self.old.all }
+        ensures bytes { IsOk result → length ≤ self.new.spare_bytes }
+        ensures one { IsOk result → 0 < self.new.spare }
+    {
+        self.headers.reserve(1)?;
+        self.data.reserve(length)
+    }
+
+    /// Keeps one more frame, for which there is room.
+    pub(crate) fn push_reserved(&mut self, header: Header, data: &[u8])
+        requires bytes { length «data».now ≤ self.old.spare_bytes }
+        requires one { 0 < self.old.spare }
+        ensures { self.new.all ≡ self.old.all ++ (header, «data».now) ∷ [] }
+    {
+        self.headers.push_reserved(header);
+        self.data.push_reserved(data);
+    }
+}
+
+/// Whether a frame that was sent is this one.
+fn is_same(sent: &Header, sent_data: &[u8], header: &Header, data: &[u8]) -> bool
+    ensures { IsTrue result ↔ ((header.now ≡ sent.now) × («data».now ≡ sent_data.now)) }
+{
+    *sent == *header && sent_data == data
+}
