@@ -1,5 +1,5 @@
 //! What carries the bytes of frames from one end to the other.
-ghost use Rattle.std.specs.Prelude.{◌≡◌, ◌∷◌, [], length, take, true, false, None, Some, is_err, IfOk, OnErr, Bool, List, ℕ, Option};
+ghost use Rattle.std.specs.Prelude.{◌≡◌, ◌∷◌, [], length, take, true, false, None, Some, is_err, IfOk, IsOk, IsTrue, OnErr, Bool, List, ℕ, Option};
 
 use ddcmp_run::End;
 use ddcmp_station::LineFault;
@@ -16,6 +16,9 @@ pub trait Carrier {
     // Whether it gives what goes in.
     ghost direct: { Self → Bool } = { λ _. false };
 
+    // Whether no carry fails.
+    ghost sure: { Self → Bool } = { λ _. false };
+
     // Whether a carry has failed.
     ghost broken: { Self → Bool };
 
@@ -28,11 +31,19 @@ pub trait Carrier {
             (told self.new) (record { from = from; bytes = bytes.now; came = take n out.new })) }
         ensures nothing { OnErr result (Logs (told self.old) (told self.new) []) }
         ensures direct { direct self.new ≡ direct self.old }
+        ensures sure { sure self.old ≡ true → IsOk result }
         ensures broken { broken self.new ≡ is_err result };
 
     /// Whether a carry has failed.
     fn failed(&self) -> bool
         ensures { result ≡ broken self.now };
+
+    /// Whether no carry fails, so that nothing need be written before one.
+    fn is_sure(&self) -> bool
+        ensures { IsTrue result → sure self.now ≡ true }
+    {
+        false
+    }
 }
 
 /// Gives what went in.
@@ -41,6 +52,8 @@ pub struct Direct;
 
 impl Carrier for Direct {
     ghost direct = { λ _. true };
+
+    ghost sure = { λ _. true };
 
     ghost broken = { λ _. false };
 
@@ -51,5 +64,9 @@ impl Carrier for Direct {
 
     fn failed(&self) -> bool {
         false
+    }
+
+    fn is_sure(&self) -> bool {
+        true
     }
 }

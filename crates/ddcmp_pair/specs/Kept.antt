@@ -1,6 +1,5 @@
 -- Messages and frames that are kept one behind another in one piece of memory.
-use Rattle.std.specs.Prelude.{◌≡◌, ℕ, ◌-◌, ◌≤◌, List, [], ◌∷◌, drop, length, take, zip}
-use Rattle.ddcmp_frame.specs.declared.header.Header.{Header}
+use Rattle.std.specs.Prelude.{◌≡◌, ℕ, ◌-◌, ◌≤◌, List, [], ◌∷◌, drop, take}
 use Rattle.ddcmp_run.specs.Place.{WholeFrame}
 
 -- bytes from a place on, cut where messages end

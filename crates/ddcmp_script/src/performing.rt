@@ -16,7 +16,7 @@ ghost use Rattle.ddcmp_run.specs.declared.event.Reply.{Reply as ReplyValue};
 
 use crate::frame_lines::{FrameLeft, FrameLines};
 use ddcmp_carrier::Carrier;
-use ddcmp_io::{Page, Sink};
+use ddcmp_io::{Page, Sink, WriteFailed};
 use ddcmp_pair::{Bytes, End, Event, Pair, Reply};
 use ddcmp_script_text::{
     ParsedLine, ScriptCommand, answerer_name, damage_name, end_name, read_line, write_bytes,
@@ -79,6 +79,24 @@ fn first_of(bytes: &[u8], most: Option<u32>) -> &[u8]
         Some(n) if (n as usize) < bytes.len() => &bytes[..n as usize],
         _ => bytes,
     }
+}
+
+/// Writes what waits before a carry that may fail, so that one device has failed at most.
+fn flush_before<W: Sink, C: Carrier>(
+    page: &mut Page,
+    writer: &mut W,
+    carrier: &C,
+) -> Result<(), WriteFailed>
+    ensures sends { HandsOver (output_of W.broken W.contents writer.old page.old)
+        (output_of W.broken W.contents writer.new page.new) [] }
+    ensures broken { OnErr result (IsTrue (W.broken writer.new)) }
+    ensures whole { IsOk result → C.sure carrier.now ≡ false
+        → (W.broken writer.new ≡ false) × (page.new ≡ []) }
+{
+    if carrier.is_sure() {
+        return Ok(());
+    }
+    page.flush(writer)
 }
 
 /// Want of memory stops a line.
@@ -232,8 +250,7 @@ impl Stage {
         let Ok(mut out) = Vec::from_elem(self.alloc, 0u8, length) else {
             return Err(Stop::Memory);
         };
-        // One device has failed at most.
-        if self.page.flush(writer).is_err() {
+        if flush_before(&mut self.page, writer, carrier).is_err() {
             return Err(Stop::Write);
         }
         match carrier.carry(from, bytes, &mut out) {

@@ -1,5 +1,4 @@
-use Rattle.std.proofs.Common.{◌≡◌, [], ◌∙◌, ap, arith, get_or, length, sym, subst}
-use Rattle.ddcmp_run.specs.Place.{WholeFrame}
+use Rattle.std.proofs.Common.{[], ◌∙◌, ap, arith, get_or, length, sym}
 use Rattle.ddcmp_pair.proofs.KeptLaws.{zip-at, zip-length}
 use Rattle.ddcmp_pair.proofs.frames.Frames.is_at.Goals as goal
 

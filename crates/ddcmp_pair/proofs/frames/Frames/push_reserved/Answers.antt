@@ -1,4 +1,4 @@
-use Rattle.std.proofs.Common.{◌∷◌, [], ◌++◌, ◌∙◌, ap, sym}
+use Rattle.std.proofs.Common.{◌∷◌, [], ◌++◌, ◌∙◌, ap}
 use Rattle.ddcmp_pair.proofs.KeptLaws.{zip-more}
 use Rattle.ddcmp_pair.proofs.frames.Frames.push_reserved.Goals as goal
 

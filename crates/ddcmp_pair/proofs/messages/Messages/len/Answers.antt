@@ -1,4 +1,4 @@
-use Rattle.std.proofs.Common.{◌∙◌, ap, length, sym, arith}
+use Rattle.std.proofs.Common.{ap, length, arith}
 use Rattle.ddcmp_pair.proofs.KeptLaws.{cut-length}
 use Rattle.ddcmp_pair.proofs.messages.Messages.len.Goals as goal
 

@@ -1,5 +1,4 @@
-use Rattle.std.proofs.Common.{◌≡◌, ◌+◌, ◌∷◌, [], ◌++◌, ◌∙◌, ap, arith, length, length-append, subst, sym}
-use Rattle.ddcmp_pair.specs.Kept.{AreEnds, cut_from}
+use Rattle.std.proofs.Common.{◌≡◌, ◌+◌, ◌∷◌, [], ◌++◌, ◌∙◌, ap, arith, length, length-append}
 use Rattle.ddcmp_pair.proofs.KeptLaws.{cut-length, cut-more, ends-more}
 use Rattle.ddcmp_pair.proofs.messages.Messages.push_reserved.Goals as goal
 

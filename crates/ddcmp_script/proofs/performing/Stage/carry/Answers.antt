@@ -54,7 +54,7 @@ returns-in-Ok-arrive-clause-ends g c =
     let before = output_of g.W.Sink.broken g.W.Sink.contents c.args.writer.now c.args.self.now.page in
     let after = output_of g.W.Sink.broken g.W.Sink.contents c.arrive.new.writer c.arrive.new.self.page in
     carry-well from c.args.most p q lines c.take_off.new.self before after d log now front (drop 1 (frames_of from lines)) came c.in-Some.ensures carried within (c.in-Ok-arrive.ensures.pair refl ∙ ap (λ e. after_event (event.Arrive e came) p) to_is) later
-    (sends-as (ap (λ e. arrival_text from (codes "passed ") e came p) to_is) (sends-then c.flush.ensures.sends (c.in-Ok-arrive.ensures.text refl)))
+    (sends-as (ap (λ e. arrival_text from (codes "passed ") e came p) to_is) (sends-then c.flush_before.ensures.sends (c.in-Ok-arrive.ensures.text refl)))
 
 pub returns-in-Err-arrive-clause-ends : goal.returns-in-Err-arrive-clause-ends
 returns-in-Err-arrive-clause-ends g c =
@@ -78,4 +78,4 @@ returns-in-Err-arrive-clause-ends g c =
     let before = output_of g.W.Sink.broken g.W.Sink.contents c.args.writer.now c.args.self.now.page in
     let after = output_of g.W.Sink.broken g.W.Sink.contents c.arrive.new.writer c.arrive.new.self.page in
     carry-lost from c.args.most p c.arrive.new.pair lines c.arrive.new.self.lines before after d log now front (drop 1 (frames_of from lines)) came c.in-Some.ensures carried within refused.0 asks
-    (sends-then c.flush.ensures.sends (outputs-same g.W.Sink.broken g.W.Sink.contents _ _ _ _ refused.1 refused.2))
+    (sends-then c.flush_before.ensures.sends (outputs-same g.W.Sink.broken g.W.Sink.contents _ _ _ _ refused.1 refused.2))
