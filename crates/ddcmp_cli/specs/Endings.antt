@@ -17,7 +17,7 @@ use Rattle.ddcmp_explain.specs.declared.form.Form.{Form}
 use Rattle.ddcmp_explain.specs.declared.notation.Notation.{Notation}
 use Rattle.clap.specs.Words.{Text}
 use Rattle.ddcmp_words.specs.declared.command.Command.{Command}
-use Rattle.ddcmp_words.specs.declared.command.Command.TheVariants.{Explain, Simulate, Pair, Station}
+use Rattle.ddcmp_words.specs.declared.command.Command.TheVariants.{Explain, Simulate, Pair, Station, Tap}
 use Rattle.ddcmp_words.specs.declared.served.Served.{Served}
 use Rattle.ddcmp_serve.specs.declared.serve_fault.ServeFault.{ServeFault}
 use Rattle.ddcmp_serve.specs.declared.serve_fault.ServeFault.TheVariants as serving
@@ -30,6 +30,7 @@ use Rattle.ddcmp_core.specs.Limits.{MAX_COUNT}
 use Rattle.ddcmp_explain.specs.Explains.{Explains}
 use Rattle.ddcmp_serve.specs.Serving.{Serves}
 use Rattle.ddcmp_station.specs.Driving.{Devices}
+use Rattle.ddcmp_cli.specs.TapEndings.{Taps}
 use Rattle.hex.specs.Hex.{decode_of}
 use Rattle.hex.specs.declared.error.FromHexError.{FromHexError}
 
@@ -120,6 +121,7 @@ CanRun (Explain form notation max) = (1 ≤ max) × (max ≤ MAX_COUNT)
 CanRun (Simulate config) = first_refusal config ≡ None
 CanRun (Pair config) = first_refusal config ≡ None
 CanRun (Station served) = ⊤
+CanRun (Tap tapped) = (1 ≤ tapped.max) × (tapped.max ≤ MAX_COUNT)
 
 -- A script was played between two new ends of these sizes, over a carrier that is direct or not,
 -- and the ending tells the answer; or there was no memory for the ends.
@@ -191,6 +193,7 @@ Performs (Simulate config) input left old new ending =
 Performs (Pair config) input left old new ending = Pairs config input left old new ending
 Performs (Station served) input left old new ending =
     (left ≡ Some input) × Stations served old new ending
+Performs (Tap tapped) input left old new ending = (left ≡ Some input) × Taps old new ending
 
 -- a text was written whole, or a write failed
 abbrev pub Shows : List ℕ → Known → Known → Ending → Type 0

@@ -6,14 +6,19 @@ pub mod fault;
 pub mod program;
 mod simulating;
 mod stationing;
+mod tapping;
 
 pub use ddcmp_explain::{
     ExplainFault, Form, Notation, explain, explain_as, explain_fault, explaining, form, notation,
 };
+pub use ddcmp_pump::{TapFault, tap_fault};
 pub use ddcmp_serve::{SERVED_MAX, ServeFault, serve, serve_fault, serving};
-pub use ddcmp_words::{Command, Declined, Role, Served, command, declined, read_words, served};
+pub use ddcmp_words::{
+    Command, Declined, Role, Served, Tapped, command, declined, read_words, served, tapped,
+};
 pub use ending::Ending;
 pub use fault::Fault;
 pub use program::{
     explain_is_asked, pair_is_asked, run, run_args, simulate_is_asked, station_is_asked,
+    tap_is_asked,
 };

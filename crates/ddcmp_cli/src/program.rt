@@ -6,16 +6,21 @@ ghost use Rattle.ddcmp_io.specs.Input.{GaveMost};
 ghost use Rattle.ddcmp_words.specs.Words.{IsOutOfOrder, IsAsked, Asks, name_of};
 ghost use Rattle.ddcmp_words.specs.declared.served.Served.{Served as ServedValue};
 ghost use Rattle.ddcmp_cli.specs.Endings.{CanRun, Ends, ExplainsOrNoMemory, Performs, Shows};
+ghost use Rattle.ddcmp_words.specs.declared.tapped.Tapped.{Tapped as TappedValue};
 ghost use Rattle.ddcmp_cli.specs.Endings.{is_refusal, Stations, StationsOrNoMemory};
+ghost use Rattle.ddcmp_cli.specs.TapEndings.{Taps};
 
 use crate::ending::Ending;
 use crate::fault::Fault;
 use crate::simulating::{pair, simulate};
 use crate::stationing::station;
+use crate::tapping::tap;
 use ddcmp_explain::explain_as;
 use ddcmp_io::{Sink, Source, Worst, write_all};
 use ddcmp_words::{Command, Declined, read_words};
-pub use ddcmp_words::{explain_is_asked, pair_is_asked, simulate_is_asked, station_is_asked};
+pub use ddcmp_words::{
+    explain_is_asked, pair_is_asked, simulate_is_asked, station_is_asked, tap_is_asked,
+};
 use std::alloc::{AllocError, Global};
 use std::io::ErrorKind;
 use std::net::{Net, TcpStream};
@@ -37,14 +42,18 @@ fn perform<S: Net<Stream = TcpStream> + time::Clock, R: Source, W: Sink>(
         (W.contents writer.new) result }
     ensures read { R.state reader.new ≢ Worst.Fine → result ≡ Ending.Fault Fault.Read }
     ensures read_only { name_of command.entry ≢ codes "station"
-        → result ≡ Ending.Fault Fault.Read → (R.state reader.new ≢ Worst.Fine)
+        → name_of command.entry ≢ codes "tap" → result ≡ Ending.Fault Fault.Read → (R.state reader.new ≢ Worst.Fine)
         ⊎ GaveMost (R.left reader.old) (R.left reader.new) }
     ensures write { name_of command.entry ≢ codes "station"
-        → (result ≡ Ending.Fault Fault.Write) ↔ IsTrue (W.broken writer.new) }
+        → name_of command.entry ≢ codes "tap" → (result ≡ Ending.Fault Fault.Write) ↔ IsTrue (W.broken writer.new) }
     ensures whole { result ≡ Ending.Done → W.broken writer.new ≡ false }
     ensures stations { (served : ServedValue) → command.entry ≡ Command.Station served
         → (reader.new ≡ reader.old)
         × Stations served (W.contents writer.old) (W.contents writer.new) result }
+    ensures taps { (tapped : TappedValue) → command.entry ≡ Command.Tap tapped
+        → (reader.new ≡ reader.old)
+        × Taps (W.contents writer.old) (W.contents writer.new) result
+        × (IsTrue (W.broken writer.new) → result ≡ Ending.Fault Fault.Write) }
 {
     match command {
         Command::Explain {
@@ -58,6 +67,7 @@ fn perform<S: Net<Stream = TcpStream> + time::Clock, R: Source, W: Sink>(
         Command::Simulate(config) => simulate(alloc, config, reader, writer),
         Command::Pair(config) => pair(system, alloc, config, reader, writer),
         Command::Station(served) => station(system, alloc, &served, writer),
+        Command::Tap(tapped) => tap(system, alloc, &tapped, writer),
     }
 }
 
@@ -94,15 +104,21 @@ pub fn run<S: Net<Stream = TcpStream> + time::Clock, R: Source, W: Sink>(
         → IsTrue (is_refusal result) × (reader.new ≡ reader.old) × (writer.new ≡ writer.old) }
     ensures read { R.state reader.new ≢ Worst.Fine → result ≡ Ending.Fault Fault.Read }
     ensures read_only { (Asks (map (λ word. word.now) words.now) (codes "station") → ⊥)
+        → (Asks (map (λ word. word.now) words.now) (codes "tap") → ⊥)
         → result ≡ Ending.Fault Fault.Read → (R.state reader.new ≢ Worst.Fine)
         ⊎ GaveMost (R.left reader.old) (R.left reader.new) }
     ensures write { (Asks (map (λ word. word.now) words.now) (codes "station") → ⊥)
+        → (Asks (map (λ word. word.now) words.now) (codes "tap") → ⊥)
         → (result ≡ Ending.Fault Fault.Write) ↔ IsTrue (W.broken writer.new) }
     ensures whole { result ≡ Ending.Done → W.broken writer.new ≡ false }
     ensures stations { IsAsked (map (λ word. word.now) words.now) (codes "station")
         → (reader.new ≡ reader.old)
         × StationsOrNoMemory (map (λ word. word.now) words.now) (W.contents writer.old)
         (W.contents writer.new) result }
+    ensures taps { IsAsked (map (λ word. word.now) words.now) (codes "tap")
+        → (reader.new ≡ reader.old)
+        × Taps (W.contents writer.old) (W.contents writer.new) result
+        × (IsTrue (W.broken writer.new) → result ≡ Ending.Fault Fault.Write) }
 {
     match read_words(alloc, words) {
         Ok(command) => perform(system, alloc, command, reader, writer),
@@ -149,15 +165,23 @@ pub fn run_args<S: Net<Stream = TcpStream> + time::Clock, R: Source, W: Sink>(
     ensures untouched { OnErr args ((reader.new ≡ reader.old) × (writer.new ≡ writer.old)) }
     ensures read { R.state reader.new ≢ Worst.Fine → result ≡ Ending.Fault Fault.Read }
     ensures read_only { (IfOk args (λ words. Asks (map string_bytes words.items) (codes "station"))
+        × IsOk args → ⊥)
+        → (IfOk args (λ words. Asks (map string_bytes words.items) (codes "tap"))
         × IsOk args → ⊥) → result ≡ Ending.Fault Fault.Read → (R.state reader.new ≢ Worst.Fine)
         ⊎ GaveMost (R.left reader.old) (R.left reader.new) }
     ensures write { (IfOk args (λ words. Asks (map string_bytes words.items) (codes "station"))
+        × IsOk args → ⊥)
+        → (IfOk args (λ words. Asks (map string_bytes words.items) (codes "tap"))
         × IsOk args → ⊥) → (result ≡ Ending.Fault Fault.Write) ↔ IsTrue (W.broken writer.new) }
     ensures whole { result ≡ Ending.Done → W.broken writer.new ≡ false }
     ensures stations { IfOk args (λ words. IsAsked (map string_bytes words.items) (codes "station")
         → (reader.new ≡ reader.old)
         × StationsOrNoMemory (map string_bytes words.items) (W.contents writer.old)
         (W.contents writer.new) result) }
+    ensures taps { IfOk args (λ words. IsAsked (map string_bytes words.items) (codes "tap")
+        → (reader.new ≡ reader.old)
+        × Taps (W.contents writer.old) (W.contents writer.new) result
+        × (IsTrue (W.broken writer.new) → result ≡ Ending.Fault Fault.Write)) }
 {
     let args = match args {
         Ok(args) => args,

@@ -19,7 +19,7 @@ use Rattle.ddcmp_core.specs.Limits.{MAX_COUNT, MAX_WINDOW}
 use Rattle.ddcmp_proto.specs.declared.config.Config.{Config}
 use Rattle.ddcmp_proto.specs.declared.config.TheConstants.{MAX_INBOX, MAX_SYN}
 use Rattle.ddcmp_words.specs.declared.command.Command.{Command}
-use Rattle.ddcmp_words.specs.declared.command.Command.TheVariants.{Explain, Simulate, Pair, Station}
+use Rattle.ddcmp_words.specs.declared.command.Command.TheVariants.{Explain, Simulate, Pair, Station, Tap}
 
 pub program-simple : is_simple program ≡ true
 unfolding clap_on_literals
@@ -91,6 +91,13 @@ has_options_as o p t u (Station served) e w h = record {
   timer_ms = subst (λ t. HasNumber 0 MOST 0 t served.timer_ms) (e (codes "timer-ms")) h.timer_ms;
   send = h.send ∙ ap (λ x. unwrap_or x []) (w (codes "send"));
   restart = subst (λ t. HasFlag t served.restart) (e (codes "restart")) h.restart;
+}
+has_options_as o p t u (Tap tapped) e w h = record {
+  listen = h.listen ∙ ap (λ x. unwrap_or x []) (w (codes "listen"));
+  connect = h.connect ∙ ap (λ x. unwrap_or x []) (w (codes "connect"));
+  notation = subst (λ t. HasNotation t tapped.notation) (e (codes "json")) h.notation;
+  time = subst (λ t. HasFlag t tapped.time) (e (codes "time")) h.time;
+  max = subst (λ t. HasNumber 1 MAX_COUNT MAX_COUNT t tapped.max) (e (codes "max")) h.max;
 }
 
 -- a command has the options that the words give

@@ -7,10 +7,11 @@ use Rattle.ddcmp_explain.specs.declared.form.Form.TheVariants.{Hex, Raw}
 use Rattle.ddcmp_explain.specs.declared.notation.Notation.{Notation}
 use Rattle.ddcmp_explain.specs.declared.notation.Notation.TheVariants.{Plain, Json}
 use Rattle.ddcmp_words.specs.declared.command.Command.{Command}
-use Rattle.ddcmp_words.specs.declared.command.Command.TheVariants.{Explain, Simulate, Pair, Station}
+use Rattle.ddcmp_words.specs.declared.command.Command.TheVariants.{Explain, Simulate, Pair, Station, Tap}
 use Rattle.ddcmp_words.specs.declared.served.Role.{Role}
 use Rattle.ddcmp_words.specs.declared.served.Role.TheVariants.{Connect, Listen}
 use Rattle.ddcmp_words.specs.declared.served.Served.{Served}
+use Rattle.ddcmp_words.specs.declared.tapped.Tapped.{Tapped}
 use Rattle.ddcmp_words.specs.declared.declined.Declined.{Declined}
 use Rattle.ddcmp_words.specs.declared.declined.Declined.TheVariants.{Help, Version, Usage, Memory}
 use Rattle.clap.specs.declared.error.kind.ErrorKind.{ErrorKind}
@@ -82,6 +83,16 @@ station_app =
     (text_rule (codes "send")))
     (flag_rule (codes "restart"))
 
+-- `ddcmp tap`
+abbrev pub tap_app : App
+tap_app =
+    with_rule (with_rule (with_rule (with_rule (with_rule (new_app (codes "tap"))
+    (required (text_rule (codes "listen"))))
+    (required (text_rule (codes "connect"))))
+    (flag_rule (codes "json")))
+    (flag_rule (codes "time")))
+    (number_rule (codes "max") 1 MAX_COUNT)
+
 -- `ddcmp`, which wants a command
 abbrev pub bare_app : App
 bare_app =
@@ -90,9 +101,9 @@ bare_app =
 
 abbrev pub program : App
 program =
-    with_subcommand (with_subcommand
+    with_subcommand (with_subcommand (with_subcommand
     (with_subcommand (with_subcommand bare_app explain_app.top) simulate_app.top) pair_app.top)
-    station_app.top
+    station_app.top) tap_app.top
 
 -- the word that names a command
 abbrev pub name_of : Command → Text
@@ -100,11 +111,12 @@ name_of (Explain form notation max) = codes "explain"
 name_of (Simulate config) = codes "simulate"
 name_of (Pair config) = codes "pair"
 name_of (Station served) = codes "station"
+name_of (Tap tapped) = codes "tap"
 
 abbrev pub IsName : Text → Type 0
 IsName name =
     (name ≡ codes "explain") ⊎ (name ≡ codes "simulate") ⊎ (name ≡ codes "pair")
-    ⊎ (name ≡ codes "station")
+    ⊎ (name ≡ codes "station") ⊎ (name ≡ codes "tap")
 
 -- the command that the words name
 unfoldable pub named_by : List Text → Option Text
@@ -171,6 +183,14 @@ pub record HasStation (option text : Text → Option Text) (served : Served) : T
   pub send : served.send.now ≡ unwrap_or (text (codes "send")) []
   pub restart : HasFlag (option (codes "restart")) served.restart
 
+-- The options of a tap. The two addresses are always there.
+pub record HasTap (option text : Text → Option Text) (tapped : Tapped) : Type 0 where
+  pub listen : tapped.listen.now ≡ unwrap_or (text (codes "listen")) []
+  pub connect : tapped.connect.now ≡ unwrap_or (text (codes "connect")) []
+  pub notation : HasNotation (option (codes "json")) tapped.notation
+  pub time : HasFlag (option (codes "time")) tapped.time
+  pub max : HasNumber 1 MAX_COUNT MAX_COUNT (option (codes "max")) tapped.max
+
 -- a command with the options that were given: as they are read, and as they were written
 abbrev pub HasOptions : (option text : Text → Option Text) → Command → Type 0
 HasOptions option text (Explain form notation max) =
@@ -180,6 +200,7 @@ HasOptions option text (Explain form notation max) =
 HasOptions option text (Simulate config) = HasSizes option config
 HasOptions option text (Pair config) = HasSizes option config
 HasOptions option text (Station served) = HasStation option text served
+HasOptions option text (Tap tapped) = HasTap option text tapped
 
 -- the words ask for this command, and clap finds no fault with them
 abbrev pub Asks : List Text → Text → Type 0

@@ -70,3 +70,23 @@ pub fn station_is_asked()
         (codes "send") ≡ Some (codes "0Aff") }
     ensures incomplete { takes program (codes "ddcmp" ∷ codes "station" ∷ []) ≡ false }
 {}
+
+/// The words `ddcmp tap` with the two addresses ask for the command that stands between two ends
+/// of a line; the addresses are read as they were written.
+pub fn tap_is_asked()
+    ensures plain { IsAsked (codes "ddcmp" ∷ codes "tap" ∷ codes "--listen"
+        ∷ codes "127.0.0.1:7000" ∷ codes "--connect=localhost:7001" ∷ []) (codes "tap") }
+    ensures listen { text_in (codes "ddcmp" ∷ codes "tap" ∷ codes "--listen"
+        ∷ codes "127.0.0.1:7000" ∷ []) (codes "listen") ≡ Some (codes "127.0.0.1:7000") }
+    ensures connect { text_in (codes "ddcmp" ∷ codes "tap" ∷ codes "--connect=localhost:7001"
+        ∷ []) (codes "connect") ≡ Some (codes "localhost:7001") }
+    ensures json { option_in (codes "ddcmp" ∷ codes "tap" ∷ codes "--json" ∷ []) (codes "json")
+        ≡ Some (codes "true") }
+    ensures time { option_in (codes "ddcmp" ∷ codes "tap" ∷ codes "--time" ∷ []) (codes "time")
+        ≡ Some (codes "true") }
+    ensures no_time { option_in (codes "ddcmp" ∷ codes "tap" ∷ []) (codes "time")
+        ≡ Some (codes "false") }
+    ensures maximum { option_in (codes "ddcmp" ∷ codes "tap" ∷ codes "--max=1500" ∷ [])
+        (codes "max") ≡ Some (codes "1500") }
+    ensures incomplete { takes program (codes "ddcmp" ∷ codes "tap" ∷ []) ≡ false }
+{}

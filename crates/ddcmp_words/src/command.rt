@@ -15,6 +15,8 @@ ghost use Rattle.clap.specs.declared.builder.command.Command.TheViews.{out-Comma
 
 use crate::declined::Declined;
 use crate::served::{Role, Served};
+use crate::tap_words::{tap_given, tap_parser};
+use crate::tapped::Tapped;
 use clap::error::ErrorKind;
 use clap::{Arg, ArgAction, ArgMatches, Error};
 use ddcmp_core::{MAX_COUNT, MAX_WINDOW};
@@ -37,9 +39,11 @@ pub enum Command<'a> {
     Pair(Config),
     /// Drive a station over a connection.
     Station(Served<'a>),
+    /// Stand between two ends of a line over TCP.
+    Tap(Tapped<'a>),
 }
 
-fn flag<'a>(alloc: Global, name: &'a str, help: &'a str) -> Arg<'a>
+pub(crate) fn flag<'a>(alloc: Global, name: &'a str, help: &'a str) -> Arg<'a>
     ensures rule { rule_of result ≡ flag_rule name.entry.now }
     ensures local { result.global ≡ false }
 {
@@ -49,7 +53,13 @@ fn flag<'a>(alloc: Global, name: &'a str, help: &'a str) -> Arg<'a>
         .help(help)
 }
 
-fn number<'a>(alloc: Global, name: &'a str, low: u32, high: u32, help: &'a str) -> Arg<'a>
+pub(crate) fn number<'a>(
+    alloc: Global,
+    name: &'a str,
+    low: u32,
+    high: u32,
+    help: &'a str,
+) -> Arg<'a>
     ensures rule { rule_of result ≡ number_rule name.entry.now low high }
     ensures local { result.global ≡ false }
 {
@@ -61,7 +71,7 @@ fn number<'a>(alloc: Global, name: &'a str, low: u32, high: u32, help: &'a str) 
 }
 
 /// An option that takes a text.
-fn text<'a>(alloc: Global, name: &'a str, value: &'a str, help: &'a str) -> Arg<'a>
+pub(crate) fn text<'a>(alloc: Global, name: &'a str, value: &'a str, help: &'a str) -> Arg<'a>
     ensures rule { rule_of result ≡ text_rule name.entry.now }
     ensures local { result.global ≡ false }
 {
@@ -257,7 +267,8 @@ fn parser<'a>(alloc: Global) -> Result<clap::Command<'a>, AllocError>
         .subcommand(explain_parser(alloc)?)?
         .subcommand(simulate_parser(alloc)?)?
         .subcommand(pair_parser(alloc)?)?
-        .subcommand(station_parser(alloc)?)
+        .subcommand(station_parser(alloc)?)?
+        .subcommand(tap_parser(alloc)?)
 }
 
 /// A fault of the words as this crate tells it.
@@ -287,7 +298,7 @@ fn form_given(options: &ArgMatches<'_>) -> Form
 }
 
 /// Objects of JSON, or words.
-fn notation_given(options: &ArgMatches<'_>) -> Notation
+pub(crate) fn notation_given(options: &ArgMatches<'_>) -> Notation
     ensures { HasNotation (one_text (found_of options.now) (codes "json")) result }
 {
     if options.get_flag("json") {
@@ -298,14 +309,20 @@ fn notation_given(options: &ArgMatches<'_>) -> Notation
 }
 
 /// Whether an option that stands alone was given.
-fn flag_given(options: &ArgMatches<'_>, name: &str) -> bool
+pub(crate) fn flag_given(options: &ArgMatches<'_>, name: &str) -> bool
     ensures { HasFlag (one_text (found_of options.now) name.now) result }
 {
     options.get_flag(name)
 }
 
 /// A number that was given, or the usual one. The parser of the words has tested the range.
-fn number_given(options: &ArgMatches<'_>, name: &str, low: u32, high: u32, usual: u32) -> u32
+pub(crate) fn number_given(
+    options: &ArgMatches<'_>,
+    name: &str,
+    low: u32,
+    high: u32,
+    usual: u32,
+) -> u32
     requires usual { (low ≤ usual) × (usual ≤ high) }
     requires most { high ≤ 4294967295 }
     ensures { HasNumber low high usual (one_text (found_of options.now) name.now) result }
@@ -355,7 +372,7 @@ fn sizes_given(options: &ArgMatches<'_>) -> Config
 }
 
 /// A text that was given; the empty one where none was.
-fn text_given<'a>(options: &ArgMatches<'a>, name: &str) -> &'a str
+pub(crate) fn text_given<'a>(options: &ArgMatches<'a>, name: &str) -> &'a str
     ensures { result.now ≡ unwrap_or (first_value (found_of options.now) name.now) [] }
 {
     options.get_str(name).unwrap_or("")
@@ -410,8 +427,11 @@ fn asked<'a>(matches: &ArgMatches<'a>) -> Option<Command<'a>>
     if let Some(options) = matches.subcommand_matches("pair") {
         return Some(Command::Pair(sizes_given(options)));
     }
-    let options = matches.subcommand_matches("station")?;
-    Some(Command::Station(station_given(options)))
+    if let Some(options) = matches.subcommand_matches("station") {
+        return Some(Command::Station(station_given(options)));
+    }
+    let options = matches.subcommand_matches("tap")?;
+    Some(Command::Tap(tap_given(options)))
 }
 
 /// Reads the words of a command line, of which the first is the program's name.
@@ -423,6 +443,8 @@ pub fn read_words<'a>(alloc: Global, words: &'a [&'a str]) -> Result<Command<'a>
     ensures pair_asked { IsAsked (map (λ word. word.now) words.entry.now) (codes "pair")
         → IsOk result ⊎ (result ≡ Err Declined.Memory) }
     ensures station_asked { IsAsked (map (λ word. word.now) words.entry.now) (codes "station")
+        → IsOk result ⊎ (result ≡ Err Declined.Memory) }
+    ensures tap_asked { IsAsked (map (λ word. word.now) words.entry.now) (codes "tap")
         → IsOk result ⊎ (result ≡ Err Declined.Memory) }
     // What the words ask for, whatever they are.
     ensures reads { Reads (map (λ word. word.now) words.entry.now) result }

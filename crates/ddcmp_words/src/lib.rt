@@ -5,8 +5,13 @@ mod asked;
 pub mod command;
 pub mod declined;
 pub mod served;
+mod tap_words;
+pub mod tapped;
 
-pub use asked::{explain_is_asked, pair_is_asked, simulate_is_asked, station_is_asked};
+pub use asked::{
+    explain_is_asked, pair_is_asked, simulate_is_asked, station_is_asked, tap_is_asked,
+};
 pub use command::{Command, read_words};
 pub use declined::Declined;
 pub use served::{Role, Served};
+pub use tapped::Tapped;

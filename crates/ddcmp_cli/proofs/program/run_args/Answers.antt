@@ -1,8 +1,11 @@
-use Rattle.std.proofs.Common.{◌≡◌, ◌∙◌, ap, subst, List, ℕ, map, string_bytes, codes, Err, refl}
+use Rattle.std.proofs.Common.{◌≡◌, ◌∙◌, ap, subst, List, ℕ, map, string_bytes, codes, Err, refl, IsTrue}
 use Rattle.std.proofs.KnownBytes.{Keeps-refl}
 use Rattle.ddcmp_words.specs.declared.declined.Declined.TheVariants.{Memory}
 use Rattle.ddcmp_words.specs.Words.{IsAsked}
 use Rattle.ddcmp_cli.specs.Endings.{Ends, ExplainsOrNoMemory, StationsOrNoMemory}
+use Rattle.ddcmp_cli.specs.TapEndings.{Taps}
+use Rattle.ddcmp_cli.specs.declared.ending.Ending.TheVariants.{Fault as Faulted}
+use Rattle.ddcmp_cli.specs.declared.fault.Fault.TheVariants.{Write}
 use Rattle.ddcmp_cli.proofs.program.run_args.Goals as goal
 
 pub returns-clause-explains : goal.returns-clause-explains
@@ -24,3 +27,9 @@ returns-clause-stations g c = rw (c.in-Ok.is)
     (subst (λ (ws : List (List ℕ)). IsAsked ws (codes "station") → (c.run.new.reader ≡ c.args.reader.now) × StationsOrNoMemory ws (g.W.Sink.contents c.args.writer.now) (g.W.Sink.contents c.run.new.writer) c.run.result)
     (ap (map (λ word. word.now)) c.as_slice-2.ensures.value ∙ c.in-Ok-texts.ensures ∙ ap (map string_bytes) c.as_slice.ensures.value)
     c.run.ensures.stations)
+
+pub returns-clause-taps : goal.returns-clause-taps
+returns-clause-taps g c = rw (c.in-Ok.is)
+    (subst (λ (ws : List (List ℕ)). IsAsked ws (codes "tap") → (c.run.new.reader ≡ c.args.reader.now) × Taps (g.W.Sink.contents c.args.writer.now) (g.W.Sink.contents c.run.new.writer) c.run.result × (IsTrue (g.W.Sink.broken c.run.new.writer) → c.run.result ≡ Faulted Write))
+    (ap (map (λ word. word.now)) c.as_slice-2.ensures.value ∙ c.in-Ok-texts.ensures ∙ ap (map string_bytes) c.as_slice.ensures.value)
+    c.run.ensures.taps)

@@ -1,0 +1,14 @@
+use Rattle.std.proofs.Common.{◌≡◌, ◌≢◌, ◌<◌, false, length}
+use Rattle.ddcmp_io.specs.declared.device.Worst.TheVariants.{Failed}
+use Rattle.ddcmp_pump.specs.Pumping.{Ends, flow_of}
+use Rattle.ddcmp_pump.proofs.pumping.until_over.Given as goal
+
+abbrev pub invariant-loop-round : goal.invariant-loop-round
+invariant-loop-round g l = record {
+  up_fine : g.R.Source.state l.up.reader ≢ Failed;
+  down_fine : g.R.Source.state l.down.reader ≢ Failed;
+  buffer : 0 < length l.buffer;
+  up_ends : Ends (flow_of g.R.Source.left g.O.Outlet.contents g.O.Outlet.closed l.up);
+  down_ends : Ends (flow_of g.R.Source.left g.O.Outlet.contents g.O.Outlet.closed l.down);
+  whole : g.W.Sink.broken l.writer ≡ false;
+}

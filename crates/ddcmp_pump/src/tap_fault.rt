@@ -1,0 +1,27 @@
+//! Why a tap ended early.
+use std::fmt;
+
+/// Why a tap that was to go on until both sides end isn't done.
+#[derive(Clone, Copy, Debug, PartialEq, Eq)]
+pub enum TapFault {
+    /// A connection can't be made.
+    Carrier,
+    /// A side failed where it was read.
+    Read,
+    /// A side failed where it was written to.
+    Write,
+    /// What the sides say can't be written.
+    Report,
+    Memory,
+}
+
+impl fmt::Display for TapFault {
+    fn fmt<W: fmt::Write>(&self, f: &mut fmt::Formatter<W>) -> fmt::Result {
+        f.write_str(match self {
+            TapFault::Carrier => "carrier",
+            TapFault::Read => "read",
+            TapFault::Write | TapFault::Report => "write",
+            TapFault::Memory => "memory",
+        })
+    }
+}
