@@ -30,7 +30,7 @@ sized config w i m s =
     ) refl
 
 pub can_run : (o t : Text → Option Text) (command : Command) → HasOptions o t command → CanRun command
-can_run o t (Explain form notation max) h = h.2.in_range
+can_run o t (Explain form style max) h = h.2.in_range
 can_run o t (Station served) h = tt
 can_run o t (Tap tapped) h = h.max.in_range
 can_run o t (Simulate config) h = sized config h.window.in_range h.inbox.in_range h.max.in_range h.syn.in_range
@@ -43,7 +43,7 @@ other a b differ e =
     let bad : ◌≡◌ {A = Bool} false true = sym differ ∙ (bytes_eq-Decides a b).1 same in cc
 
 pub performed : (words : List Text) (command : Command) (input : List ℕ) (left old new : Option (List ℕ)) (ending : Ending) → IsAsked words (codes "explain") → named_by words ≡ Some (name_of command) → HasOptions (option_in words) (text_in words) command → Performs command input left old new ending → ExplainsOrNoMemory words input left old new ending
-performed words (Explain form notation max) input left old new ending a n h p = inr (form, notation, max, p.0, h, p.1, p.2)
+performed words (Explain form style max) input left old new ending a n h p = inr (form, style, max, p.0, h, p.1, p.2)
 performed words (Simulate config) input left old new ending a n h p = absurd (other (codes "explain") (codes "simulate") refl (sym a.names ∙ n))
 performed words (Pair config) input left old new ending a n h p = absurd (other (codes "explain") (codes "pair") refl (sym a.names ∙ n))
 performed words (Station served) input left old new ending a n h p = absurd (other (codes "explain") (codes "station") refl (sym a.names ∙ n))
@@ -52,7 +52,7 @@ performed words (Tap tapped) input left old new ending a n h p = absurd (other (
 -- words that ask for a station are answered by it
 pub stationed : {R : Type 0} (words : List Text) (command : Command) (reader reader_after : R) (old new : Option (List ℕ)) (ending : Ending) → IsAsked words (codes "station") → named_by words ≡ Some (name_of command) → HasOptions (option_in words) (text_in words) command
     → ((served : Served) → command ≡ Station served → (reader_after ≡ reader) × Stations served old new ending) → (reader_after ≡ reader) × StationsOrNoMemory words old new ending
-stationed words (Explain form notation max) reader after old new ending a n h p = absurd (other (codes "station") (codes "explain") refl (sym a.names ∙ n))
+stationed words (Explain form style max) reader after old new ending a n h p = absurd (other (codes "station") (codes "explain") refl (sym a.names ∙ n))
 stationed words (Simulate config) reader after old new ending a n h p = absurd (other (codes "station") (codes "simulate") refl (sym a.names ∙ n))
 stationed words (Pair config) reader after old new ending a n h p = absurd (other (codes "station") (codes "pair") refl (sym a.names ∙ n))
 stationed words (Station served) reader after old new ending a n h p =

@@ -14,7 +14,7 @@ use Rattle.ddcmp_station.specs.Config.{first_refusal}
 use Rattle.ddcmp_cli.specs.declared.ending.Ending.{Ending}
 use Rattle.ddcmp_cli.specs.declared.ending.Ending.TheVariants.{Done, Usage as Misused, NotText, Fault as Faulted}
 use Rattle.ddcmp_explain.specs.declared.form.Form.{Form}
-use Rattle.ddcmp_explain.specs.declared.notation.Notation.{Notation}
+use Rattle.ddcmp_explain.specs.declared.style.Style.{Style}
 use Rattle.clap.specs.Words.{Text}
 use Rattle.ddcmp_words.specs.declared.command.Command.{Command}
 use Rattle.ddcmp_words.specs.declared.command.Command.TheVariants.{Explain, Simulate, Pair, Station, Tap}
@@ -88,10 +88,10 @@ ending_of name (Err fault) = Faulted (name fault)
 abbrev pub ExplainsOrNoMemory : List Text → List ℕ → Known → Known → Known → Ending → Type 0
 ExplainsOrNoMemory words input left old new ending =
     ((ending ≡ Faulted NoMemory) × (left ≡ Some input) × Appends old new [])
-    ⊎ ((form : Form) × (notation : Notation) × (max : ℕ) × (result : Result (Unit {0}) ExplainFault)
-    × HasOptions (option_in words) (text_in words) (Explain form notation max)
+    ⊎ ((form : Form) × (style : Style) × (max : ℕ) × (result : Result (Unit {0}) ExplainFault)
+    × HasOptions (option_in words) (text_in words) (Explain form style max)
     × (ending ≡ ending_of explain_fault result)
-    × Explains form notation max input left old new result)
+    × Explains form style max input left old new result)
 
 -- the words were refused, or there was no memory for them
 abbrev pub is_refusal : Ending → Bool
@@ -117,7 +117,7 @@ shown_of NotText = Some (codes "ddcmp: a word is not text\n")
 shown_of (Faulted fault) = None
 
 abbrev pub CanRun : Command → Type 0
-CanRun (Explain form notation max) = (1 ≤ max) × (max ≤ MAX_COUNT)
+CanRun (Explain form style max) = (1 ≤ max) × (max ≤ MAX_COUNT)
 CanRun (Simulate config) = first_refusal config ≡ None
 CanRun (Pair config) = first_refusal config ≡ None
 CanRun (Station served) = ⊤
@@ -185,9 +185,9 @@ StationsOrNoMemory words old new ending =
 
 -- a command was run, and the ending tells its answer
 abbrev pub Performs : Command → List ℕ → Known → Known → Known → Ending → Type 0
-Performs (Explain form notation max) input left old new ending =
+Performs (Explain form style max) input left old new ending =
     (result : Result (Unit {0}) ExplainFault) × (ending ≡ ending_of explain_fault result)
-    × Explains form notation max input left old new result
+    × Explains form style max input left old new result
 Performs (Simulate config) input left old new ending =
     Simulates config input left old new ending
 Performs (Pair config) input left old new ending = Pairs config input left old new ending

@@ -9,7 +9,8 @@ mod stationing;
 mod tapping;
 
 pub use ddcmp_explain::{
-    ExplainFault, Form, Notation, explain, explain_as, explain_fault, explaining, form, notation,
+    ExplainFault, Form, Notation, Style, explain, explain_as, explain_fault, explain_with,
+    explaining, form, notation, style,
 };
 pub use ddcmp_pump::{TapFault, tap_fault};
 pub use ddcmp_serve::{SERVED_MAX, ServeFault, serve, serve_fault, serving};

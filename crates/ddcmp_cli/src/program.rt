@@ -15,7 +15,7 @@ use crate::fault::Fault;
 use crate::simulating::{pair, simulate};
 use crate::stationing::station;
 use crate::tapping::tap;
-use ddcmp_explain::explain_as;
+use ddcmp_explain::explain_with;
 use ddcmp_io::{Sink, Source, Worst, write_all};
 use ddcmp_words::{Command, Declined, read_words};
 pub use ddcmp_words::{
@@ -56,11 +56,9 @@ fn perform<S: Net<Stream = TcpStream> + time::Clock, R: Source, W: Sink>(
         × (IsTrue (W.broken writer.new) → result ≡ Ending.Fault Fault.Write) }
 {
     match command {
-        Command::Explain {
-            form,
-            notation,
-            max,
-        } => match explain_as(alloc, reader, writer, form, notation, max) {
+        Command::Explain { form, style, max } => match explain_with(
+            alloc, reader, writer, form, style, max,
+        ) {
             Ok(()) => Ending::Done,
             Err(fault) => Ending::Fault(Fault::from(fault)),
         },

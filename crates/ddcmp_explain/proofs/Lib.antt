@@ -6,6 +6,10 @@ pub mod LinesLaws
 pub mod ExplainLaws
 pub mod TakeLaws
 pub mod PuttingLaws
+pub mod HeadLaws
+pub mod RestLaws
+pub mod PartLaws
 pub mod LineLaws
 pub mod VectorLaws
 pub mod DigitVectors
+pub mod AdjoinLaws

@@ -9,7 +9,7 @@ use Rattle.ddcmp_explain.specs.declared.explain_fault.ExplainFault.{ExplainFault
 use Rattle.ddcmp_explain.specs.declared.explain_fault.ExplainFault.TheVariants.{Odd, NotHex, Read, Write, Memory}
 use Rattle.ddcmp_explain.specs.declared.explainer.Explainer.{Explainer}
 use Rattle.ddcmp_explain.specs.declared.form.Form.{Form}
-use Rattle.ddcmp_explain.specs.declared.notation.Notation.{Notation}
+use Rattle.ddcmp_explain.specs.declared.style.Style.{Style}
 use Rattle.ddcmp_explain.specs.Digits.{unexpected_in, left_in}
 use Rattle.ddcmp_io.specs.Input.{GaveMost}
 use Rattle.ddcmp_explain.specs.Explains.{refusal, refusal_by, Tells, Explains}
@@ -23,15 +23,15 @@ pub record SoFar (max : ℕ) (start before left : Option (List ℕ)) (at : Expla
   pub progress : Progress max start seen at broken sink
 
 -- what was seen, n bytes, and what was told of it
-abbrev pub Saw : Form → Notation → ℕ → ℕ → Option (List ℕ) → Option (List ℕ) → Option (List ℕ) → Option (List ℕ) → Result (Unit {0}) ExplainFault → Type 0
-Saw form notation max n before left old new result =
-    (seen : List ℕ) × (length seen ≡ n) × Consumes before left seen × Tells form notation max seen left old new result
+abbrev pub Saw : Form → Style → ℕ → ℕ → Option (List ℕ) → Option (List ℕ) → Option (List ℕ) → Option (List ℕ) → Result (Unit {0}) ExplainFault → Type 0
+Saw form style max n before left old new result =
+    (seen : List ℕ) × (length seen ≡ n) × Consumes before left seen × Tells form style max seen left old new result
 
 -- where the input is known so is what is left of it
-pub explains : (form : Form) (notation : Notation) (max n : ℕ) (before left old new : Option (List ℕ)) (result : Result (Unit {0}) ExplainFault) → Saw form notation max n before left old new result
-    → (input : List ℕ) → before ≡ Some input → Explains form notation max input left old new result
-explains form notation max n before None old new result s input e = absurd (subst (λ b. Consumes b None s.0) e s.2)
-explains form notation max n before (Some rest) old new result s input e =
+pub explains : (form : Form) (style : Style) (max n : ℕ) (before left old new : Option (List ℕ)) (result : Result (Unit {0}) ExplainFault) → Saw form style max n before left old new result
+    → (input : List ℕ) → before ≡ Some input → Explains form style max input left old new result
+explains form style max n before None old new result s input e = absurd (subst (λ b. Consumes b None s.0) e s.2)
+explains form style max n before (Some rest) old new result s input e =
     (s.0, rest, subst (λ b. Consumes b (Some rest) s.0) e s.2, refl, s.3)
 
 some-inj : {a b : List ℕ} → ◌≡◌ {A = Option (List ℕ)} (Some a) (Some b) → a ≡ b
@@ -41,20 +41,20 @@ some-inj h = cc
 seen_length : (input seen rest : List ℕ) → input ≡ seen ++ rest → length input ≡ length seen + length rest
 seen_length input seen rest e = ap length e ∙ length-append seen rest
 
-pub gave-most : (form : Form) (notation : Notation) (max n : ℕ) (before left old new : Option (List ℕ)) (result : Result (Unit {0}) ExplainFault) → Saw form notation max n before left old new result → n ≡ 2 ^ 64 - 1 → GaveMost before left
-gave-most form notation max n None left old new result s m = tt
-gave-most form notation max n (Some input) None old new result s m = tt
-gave-most form notation max n (Some input) (Some rest) old new result s m =
+pub gave-most : (form : Form) (style : Style) (max n : ℕ) (before left old new : Option (List ℕ)) (result : Result (Unit {0}) ExplainFault) → Saw form style max n before left old new result → n ≡ 2 ^ 64 - 1 → GaveMost before left
+gave-most form style max n None left old new result s m = tt
+gave-most form style max n (Some input) None old new result s m = tt
+gave-most form style max n (Some input) (Some rest) old new result s m =
     seen_length input s.0 rest s.2 ∙ omega (arith, s.1, m)
 
 -- a source that gave the most has failed, or a write has
-pub most-fails : (form : Form) (notation : Notation) (max : ℕ) (input rest : List ℕ) (left old new : Option (List ℕ)) (result : Result (Unit {0}) ExplainFault) → Explains form notation max input left old new result → left ≡ Some rest → length input ≡ length rest + (2 ^ 64 - 1) → (result ≡ Err Read) ⊎ (result ≡ Err Write)
-most-fails form notation max input rest left old new (Err Read) s e m = inl refl
-most-fails form notation max input rest left old new (Err Write) s e m = inr refl
-most-fails form notation max input rest left old new (Ok u) s e m = absurd (omega (arith, seen_length input s.0 s.1 s.2, ap length (some-inj (sym s.3 ∙ e)), s.4.1, m))
-most-fails form notation max input rest left old new (Err Odd) s e m = absurd (omega (arith, seen_length input s.0 s.1 s.2, ap length (some-inj (sym s.3 ∙ e)), s.4.1, m))
-most-fails form notation max input rest left old new (Err (NotHex index)) s e m = absurd (omega (arith, seen_length input s.0 s.1 s.2, ap length (some-inj (sym s.3 ∙ e)), s.4.0, m))
-most-fails form notation max input rest left old new (Err Memory) s e m = absurd (omega (arith, seen_length input s.0 s.1 s.2, ap length (some-inj (sym s.3 ∙ e)), ap length s.4.0, m))
+pub most-fails : (form : Form) (style : Style) (max : ℕ) (input rest : List ℕ) (left old new : Option (List ℕ)) (result : Result (Unit {0}) ExplainFault) → Explains form style max input left old new result → left ≡ Some rest → length input ≡ length rest + (2 ^ 64 - 1) → (result ≡ Err Read) ⊎ (result ≡ Err Write)
+most-fails form style max input rest left old new (Err Read) s e m = inl refl
+most-fails form style max input rest left old new (Err Write) s e m = inr refl
+most-fails form style max input rest left old new (Ok u) s e m = absurd (omega (arith, seen_length input s.0 s.1 s.2, ap length (some-inj (sym s.3 ∙ e)), s.4.1, m))
+most-fails form style max input rest left old new (Err Odd) s e m = absurd (omega (arith, seen_length input s.0 s.1 s.2, ap length (some-inj (sym s.3 ∙ e)), s.4.1, m))
+most-fails form style max input rest left old new (Err (NotHex index)) s e m = absurd (omega (arith, seen_length input s.0 s.1 s.2, ap length (some-inj (sym s.3 ∙ e)), s.4.0, m))
+most-fails form style max input rest left old new (Err Memory) s e m = absurd (omega (arith, seen_length input s.0 s.1 s.2, ap length (some-inj (sym s.3 ∙ e)), ap length s.4.0, m))
 
 -- ---- exactly where the input spells whole bytes and nothing fails
 
@@ -76,11 +76,11 @@ found_by (Some i) left index e = let same : i ≡ index = cc in ap Some same
 found_by None [] index e = let e' : ◌≡◌ {A = Option ExplainFault} None (Some (NotHex index)) = e in cc
 found_by None (d ∷ ds) index e = let e' : ◌≡◌ {A = Option ExplainFault} (Some Odd) (Some (NotHex index)) = e in cc
 
-module _ (form : Form) (notation : Notation) (max : ℕ) (input : List ℕ) (left old new : Option (List ℕ)) (worst : Worst) (broken : Bool) where
+module _ (form : Form) (style : Style) (max : ℕ) (input : List ℕ) (left old new : Option (List ℕ)) (worst : Worst) (broken : Bool) where
   abbrev pub Succeeds : Result (Unit {0}) ExplainFault → Type 0
   Succeeds result = (refusal form input ≡ None) × (length input < 2 ^ 64 - 1) × (worst ≡ Fine) × (broken ≡ false) × (result ≢ Err Memory)
 
-  whole_input : (result : Result (Unit {0}) ExplainFault) → Explains form notation max input left old new result → (worst ≢ Fine → result ≡ Err Read) → (broken ≡ true → result ≡ Err Write) → IsOk result → Succeeds result
+  whole_input : (result : Result (Unit {0}) ExplainFault) → Explains form style max input left old new result → (worst ≢ Fine → result ≡ Err Read) → (broken ≡ true → result ≡ Err Write) → IsOk result → Succeeds result
   whole_input (Ok u) s f w ok =
       let same : input ≡ s.0 = s.2 ∙ ap (λ t. s.0 ++ t) s.4.0 ∙ append-nil s.0 in (
         ap (refusal form) same ∙ s.4.2,
@@ -94,7 +94,7 @@ module _ (form : Form) (notation : Notation) (max : ℕ) (input : List ℕ) (lef
   none-not : (fault : ExplainFault) → refusal form input ≡ None → refusal form input ≡ Some fault → ⊥
   none-not fault n r = let bad : ◌≡◌ {A = Option ExplainFault} None (Some fault) = sym n ∙ r in cc
 
-  only_then : (result : Result (Unit {0}) ExplainFault) → Explains form notation max input left old new result → (result ≡ Err Read → (worst ≢ Fine) ⊎ GaveMost (Some input) left) → (result ≡ Err Write → broken ≡ true) → Succeeds result → IsOk result
+  only_then : (result : Result (Unit {0}) ExplainFault) → Explains form style max input left old new result → (result ≡ Err Read → (worst ≢ Fine) ⊎ GaveMost (Some input) left) → (result ≡ Err Write → broken ≡ true) → Succeeds result → IsOk result
   only_then (Ok u) s f w h = refl
   only_then (Err Odd) s f w h =
       absurd (none-not Odd h.0 (ap (refusal form) (s.2 ∙ ap (λ t. s.0 ++ t) s.4.0 ∙ append-nil s.0) ∙ s.4.2))
@@ -107,5 +107,5 @@ module _ (form : Form) (notation : Notation) (max : ℕ) (input : List ℕ) (lef
   only_then (Err Write) s f w h = let bad : ◌≡◌ {A = Bool} false true = sym h.3 ∙ w refl in cc
   only_then (Err Memory) s f w h = absurd (h.4 refl)
 
-  pub ok-exactly : (result : Result (Unit {0}) ExplainFault) → Explains form notation max input left old new result → (worst ≢ Fine → result ≡ Err Read) → (result ≡ Err Read → (worst ≢ Fine) ⊎ GaveMost (Some input) left) → (result ≡ Err Write) ↔ IsTrue broken → IsOk result ↔ Succeeds result
+  pub ok-exactly : (result : Result (Unit {0}) ExplainFault) → Explains form style max input left old new result → (worst ≢ Fine → result ≡ Err Read) → (result ≡ Err Read → (worst ≢ Fine) ⊎ GaveMost (Some input) left) → (result ≡ Err Write) ↔ IsTrue broken → IsOk result ↔ Succeeds result
   ok-exactly result s read only write = (whole_input result s read write.1, only_then result s only write.0)

@@ -4,9 +4,9 @@ use Rattle.std.specs.Io.KnownBytes.{Appends, IsAtEnd}
 use Rattle.ddcmp_explain.specs.declared.explain_fault.ExplainFault.{ExplainFault}
 use Rattle.ddcmp_explain.specs.declared.explain_fault.ExplainFault.TheVariants.{Odd, NotHex, Read, Write, Memory}
 use Rattle.ddcmp_explain.specs.declared.form.Form.{Form}
-use Rattle.ddcmp_explain.specs.declared.notation.Notation.{Notation}
+use Rattle.ddcmp_explain.specs.declared.style.Style.{Style}
 use Rattle.ddcmp_explain.specs.Digits.{bytes_of, unexpected_in, left_in}
-use Rattle.ddcmp_explain.specs.Output.{lines, last_line}
+use Rattle.ddcmp_explain.specs.Discarded.{lines_in, end_in}
 use Rattle.ddcmp_io.specs.Written.{AppendsPart, Known}
 
 abbrev pub refusal_by : Option ℕ → List ℕ → Option ExplainFault
@@ -21,10 +21,10 @@ refusal form input = refusal_by (unexpected_in form input) (left_in form input)
 
 -- the whole text: the lines of the items of the whole bytes, and the last line where nothing is
 -- refused
-unfoldable pub explained : Form → Notation → ℕ → List ℕ → List ℕ
-explained form notation max input =
-    lines notation max (bytes_of form input)
-    ++ (if is_none (refusal form input) then last_line notation max (bytes_of form input) else [])
+unfoldable pub explained : Form → Style → ℕ → List ℕ → List ℕ
+explained form style max input =
+    lines_in style max (bytes_of form input)
+    ++ (if is_none (refusal form input) then end_in style max (bytes_of form input) else [])
 
 -- what explain answers
 abbrev pub Answer : Type 0
@@ -32,26 +32,26 @@ Answer = Result (Unit {0}) ExplainFault
 
 -- What the input that was seen says for each answer: whether it was seen to its end and what it
 -- is refused for, and what was written.
-abbrev pub Tells : Form → Notation → ℕ → List ℕ → Known → Known → Known → Answer → Type 0
-Tells form notation max seen left old new (Ok u) =
+abbrev pub Tells : Form → Style → ℕ → List ℕ → Known → Known → Known → Answer → Type 0
+Tells form style max seen left old new (Ok u) =
     IsAtEnd left × (length seen < 2 ^ 64 - 1) × (refusal form seen ≡ None)
-    × Appends old new (explained form notation max seen)
-Tells form notation max seen left old new (Err Odd) =
+    × Appends old new (explained form style max seen)
+Tells form style max seen left old new (Err Odd) =
     IsAtEnd left × (length seen < 2 ^ 64 - 1) × (refusal form seen ≡ Some Odd)
-    × Appends old new (explained form notation max seen)
-Tells form notation max seen left old new (Err (NotHex index)) =
+    × Appends old new (explained form style max seen)
+Tells form style max seen left old new (Err (NotHex index)) =
     (length seen < 2 ^ 64 - 1) × (refusal form seen ≡ Some (NotHex index))
-    × Appends old new (explained form notation max seen)
-Tells form notation max seen left old new (Err Read) =
+    × Appends old new (explained form style max seen)
+Tells form style max seen left old new (Err Read) =
     ((unexpected_in form seen ≡ None) ⊎ (length seen ≡ 2 ^ 64 - 1))
-    × Appends old new (lines notation max (bytes_of form seen))
-Tells form notation max seen left old new (Err Write) =
-    AppendsPart old new (explained form notation max seen)
-Tells form notation max seen left old new (Err Memory) = (seen ≡ []) × Appends old new []
+    × Appends old new (lines_in style max (bytes_of form seen))
+Tells form style max seen left old new (Err Write) =
+    AppendsPart old new (explained form style max seen)
+Tells form style max seen left old new (Err Memory) = (seen ≡ []) × Appends old new []
 
 -- What explain did with an input: what it saw of it and what is left, and what the sink held and
 -- holds.
-abbrev pub Explains : Form → Notation → ℕ → List ℕ → Known → Known → Known → Answer → Type 0
-Explains form notation max input left old new result =
+abbrev pub Explains : Form → Style → ℕ → List ℕ → Known → Known → Known → Answer → Type 0
+Explains form style max input left old new result =
     (seen rest : List ℕ) × (input ≡ seen ++ rest) × (left ≡ Some rest)
-    × Tells form notation max seen (Some rest) old new result
+    × Tells form style max seen (Some rest) old new result

@@ -3,6 +3,8 @@ pub mod Decoding
 pub mod Text
 pub mod Json
 pub mod Output
+pub mod Discarded
+pub mod Heads
 pub mod Explains
 pub mod Progress
 pub mod Putting

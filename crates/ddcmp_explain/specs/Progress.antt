@@ -1,15 +1,27 @@
 -- How far an input has been explained.
-use Rattle.std.specs.Prelude.{◌≡◌, ℕ, Bool, List, length, option_to_list, None, Result, Ok, Err}
+use Rattle.std.specs.Prelude.{◌≡◌, ℕ, ◌+◌, Bool, true, false, List, length, option_to_list, None, Result, Ok, Err}
 use Rattle.std.specs.Io.KnownBytes.{Appends}
 use Rattle.ddcmp_frame.specs.Reader.{StandsFor}
-use Rattle.ddcmp_frame.specs.Reading.{items}
+use Rattle.ddcmp_frame.specs.Reading.{ReadItem, ending, items}
 use Rattle.ddcmp_io.specs.Written.{Holds, Known}
 use Rattle.ddcmp_explain.specs.declared.explain_fault.ExplainFault.{ExplainFault}
 use Rattle.ddcmp_explain.specs.declared.lines.Lines.{Lines}
 use Rattle.ddcmp_explain.specs.declared.explainer.Explainer.{Explainer}
 use Rattle.ddcmp_explain.specs.Digits.{bytes_of, left_in, unexpected_in}
-use Rattle.ddcmp_explain.specs.Output.{lines}
+use Rattle.ddcmp_explain.specs.Discarded.{lines_in, reached}
 use Rattle.ddcmp_explain.specs.Explains.{Tells}
+use Rattle.ddcmp_explain.specs.Heads.{Heads}
+use Rattle.ddcmp_explain.specs.declared.head.Head.{Head}
+
+-- where what was passed over is told, how far the items reach
+abbrev pub ReachesTo : Bool → List ReadItem → ℕ → ℕ → Type 0
+ReachesTo false given offset taken = Unit {0}
+ReachesTo true given offset taken = reached 0 given ≡ offset + taken
+
+-- and how the frame begins that is still open
+abbrev pub BeginsWith : Bool → Head → List ℕ → Type 0
+BeginsWith false head rest = Unit {0}
+BeginsWith true head rest = Heads head rest
 
 -- The reader stands for the text, its items are counted, and of their lines the sink has got some
 -- since it held `start` and the rest waits.
@@ -18,7 +30,9 @@ pub record HasTold (max : ℕ) (start : Known) (text : List ℕ) (at : Lines) (b
   pub stands : StandsFor at.frames text
   pub max_is : at.frames.max ≡ max
   pub counted : at.items ≡ length (items max text)
-  pub holds : Holds start (lines at.notation max text)
+  pub reaches : ReachesTo at.style.discarded (items max text) at.reached.offset at.reached.taken
+  pub head : BeginsWith at.style.discarded at.head (ending max text).rest
+  pub holds : Holds start (lines_in at.style max text)
       (record { broken = broken; sink = sink; waiting = at.page })
 
 -- All that was seen of an input has been decoded, and the lines of its whole bytes were written.
@@ -28,11 +42,11 @@ pub record Progress (max : ℕ) (start : Known) (seen : List ℕ) (at : Explaine
   pub left : left_in at.decoder.form seen ≡ option_to_list at.decoder.high
   pub long : length seen ≡ at.seen
   pub told : HasTold max start (bytes_of at.decoder.form seen) at.lines broken sink
-  pub written : Appends start sink (lines at.lines.notation max (bytes_of at.decoder.form seen))
+  pub written : Appends start sink (lines_in at.lines.style max (bytes_of at.decoder.form seen))
 
 -- What was seen has been explained, or a fault ends the explaining with it.
 abbrev pub Takes : ℕ → Known → List ℕ → Explainer → Bool → Known
     → Result (Unit {0}) ExplainFault → Type 0
 Takes max start seen at broken sink (Ok u) = Progress max start seen at broken sink
 Takes max start seen at broken sink (Err fault) =
-    (left : Known) → Tells at.decoder.form at.lines.notation max seen left start sink (Err fault)
+    (left : Known) → Tells at.decoder.form at.lines.style max seen left start sink (Err fault)

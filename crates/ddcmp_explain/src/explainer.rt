@@ -9,7 +9,7 @@ use crate::decoder::Decoder;
 use crate::explain_fault::ExplainFault;
 use crate::form::Form;
 use crate::lines::Lines;
-use crate::notation::Notation;
+use crate::style::Style;
 use ddcmp_frame::Reader;
 use ddcmp_io::input::read_within;
 use ddcmp_io::{Got, Sink, Source, Worst};
@@ -31,16 +31,16 @@ impl Explainer {
     ghost use Rattle.ddcmp_explain.specs.Progress.{Progress, Takes};
 
     /// Nothing so far, for a reader of none.
-    pub(crate) fn new(frames: Reader, form: Form, notation: Notation) -> Self
+    pub(crate) fn new(frames: Reader, form: Form, style: Style) -> Self
         requires { StandsFor frames [] }
         ensures form { result.decoder.form ≡ form }
-        ensures notation { result.lines.notation ≡ notation }
+        ensures style { result.lines.style ≡ style }
         ensures progress { (start : Option (List ℕ))
             → Progress frames.max start [] result false start }
     {
         Explainer {
             decoder: Decoder::new(form),
-            lines: Lines::new(frames, notation),
+            lines: Lines::new(frames, style),
             seen: 0,
         }
     }
@@ -50,7 +50,7 @@ impl Explainer {
         requires size { length piece.now ≤ PIECE }
         requires room { self.old.seen + length piece.now < 2 ^ 64 }
         ensures form { self.new.decoder.form ≡ self.old.decoder.form }
-        ensures notation { self.new.lines.notation ≡ self.old.lines.notation }
+        ensures style { self.new.lines.style ≡ self.old.lines.style }
         ensures seen { self.new.seen ≡ self.old.seen + length piece.now }
         ensures most { result ≡ Err ExplainFault.Read → self.new.seen ≡ 2 ^ 64 - 1 }
         ensures write { (result ≡ Err ExplainFault.Write) ↔ IsTrue (W.broken writer.new) }
@@ -84,7 +84,7 @@ impl Explainer {
         ensures tells { (max : ℕ) (start : Option (List ℕ)) (seen : List ℕ) (left : Option (List ℕ))
             → Progress max start seen self.old (W.broken writer.old) (W.contents writer.old)
             → IsAtEnd left → length seen < 2 ^ 64 - 1
-            → Tells self.old.decoder.form self.old.lines.notation max seen left start
+            → Tells self.old.decoder.form self.old.lines.style max seen left start
             (W.contents writer.new) result }
     {
         if self.decoder.high.is_some() {
@@ -113,7 +113,7 @@ impl Explainer {
             (W.broken writer.old) (W.contents writer.old)
             → (seen : List ℕ) × (length seen ≡ self.new.seen)
             × Consumes (R.left reader.old) (R.left reader.new) seen
-            × Tells self.old.decoder.form self.old.lines.notation max seen (R.left reader.new)
+            × Tells self.old.decoder.form self.old.lines.style max seen (R.left reader.new)
             (W.contents writer.old) (W.contents writer.new) result }
     {
         let mut piece = [0; PIECE];

@@ -127,7 +127,7 @@ fn put_counted(line: &mut [u8; LINE], at: usize, header: &Counted) -> usize
 }
 
 /// The name of a header as a value, and its fields.
-fn put_header(line: &mut [u8; LINE], at: usize, header: &Header) -> usize
+pub(crate) fn put_header(line: &mut [u8; LINE], at: usize, header: &Header) -> usize
     requires { at + 103 ≤ LINE }
     ensures puts { Puts line.old at line.new result (json_header header.now) }
     ensures within { result ≤ at + 103 }
@@ -159,7 +159,7 @@ fn put_fault(line: &mut [u8; LINE], at: usize, fault: &HeaderFault) -> usize
 }
 
 /// The beginning of an object: the offset, and a text behind it.
-fn put_start(line: &mut [u8; LINE], offset: u64, text: &[u8]) -> usize
+pub(crate) fn put_start(line: &mut [u8; LINE], offset: u64, text: &[u8]) -> usize
     requires { length text.now ≤ 22 }
     ensures puts { Puts line.old 0 line.new result (json_start offset ++ text.now) }
     ensures within { result ≤ 30 + length text.now }

@@ -4,22 +4,27 @@
 
 mod byte_texts;
 mod decoder;
+mod discarded;
 pub mod explain_fault;
 mod explainer;
 pub mod explaining;
 pub mod form;
+mod head;
 mod hex_digits;
 mod hex_text;
 mod hex_values;
 mod json;
+pub mod laws;
 mod lines;
 pub mod notation;
 mod put;
 pub mod single_lines;
+pub mod style;
 mod text;
 
 pub use explain_fault::ExplainFault;
-pub use explaining::{explain, explain_as};
+pub use explaining::{explain, explain_as, explain_with};
 pub use form::Form;
 pub use notation::Notation;
 pub use single_lines::{write_item, write_last};
+pub use style::Style;

@@ -1,21 +1,53 @@
 //! The lines of the items of bytes, and the last line.
-ghost use Rattle.std.specs.Prelude.{◌≡◌, ◌+◌, ◌<◌, ◌≤◌, ◌^◌, ◌++◌, [], Bool, List, ℕ};
+ghost use Rattle.std.specs.Prelude.{◌≡◌, ◌+◌, ◌<◌, ◌≤◌, ◌^◌, ◌++◌, ◌∷◌, [], Bool, List, ℕ, true};
 ghost use Rattle.std.specs.Prelude.{Option, is_err, length, take};
 ghost use Rattle.ddcmp_frame.specs.Reader.{StandsFor};
-ghost use Rattle.ddcmp_io.specs.Written.{Writes};
-ghost use Rattle.ddcmp_explain.specs.Output.{lines, last_line};
+ghost use Rattle.ddcmp_frame.specs.Reading.{Place, open_at_end};
+ghost use Rattle.ddcmp_frame.specs.Step.{item_offset};
+ghost use Rattle.ddcmp_io.specs.Written.{HandsOver, Writes, output_of};
+ghost use Rattle.ddcmp_explain.specs.Discarded.{behind, end_in, lines_in, opened, part_lines, rest_by};
+ghost use Rattle.ddcmp_explain.specs.Discarded.{passed, taken_by};
+ghost use Rattle.ddcmp_explain.specs.Heads.{Heads};
 
-use crate::notation::Notation;
-use ddcmp_frame::{Pushed, Reader};
+use crate::discarded::{frame_length, write_open, write_passed};
+use crate::head::Head;
+use crate::style::Style;
+use ddcmp_frame::{Item, Pushed, Reader};
 use ddcmp_io::{Page, Sink, WriteFailed};
+
+/// The last item: its offset, and how many bytes it takes.
+#[derive(Clone, Copy)]
+pub(crate) struct Reached {
+    pub(crate) offset: u64,
+    pub(crate) taken: u64,
+}
+
+/// The offset of an item, and how many bytes it takes.
+fn reached_by(item: &Item) -> Reached
+    ensures offset { result.offset ≡ item_offset item.now }
+    ensures taken { result.taken ≡ taken_by item.now }
+{
+    let (offset, taken) = match item {
+        Item::Good(offset, header)
+        | Item::DataCheck(offset, header)
+        | Item::TooLong(offset, header) => (*offset, frame_length(header)),
+        Item::HeaderCheck(offset) => (*offset, 0),
+        Item::Format(offset, _) => (*offset, 8),
+    };
+    Reached { offset, taken }
+}
 
 /// What the bytes so far say, on its way to a sink.
 #[derive(Drop)]
 pub(crate) struct Lines {
     pub(crate) frames: Reader,
-    pub(crate) notation: Notation,
+    pub(crate) style: Style,
     pub(crate) items: u64,
     pub(crate) page: Page,
+    // Where what was passed over is told: how far the items reach, and how the frame begins that is
+    // still open.
+    pub(crate) reached: Reached,
+    pub(crate) head: Head,
     ghost counted: { items ≤ frames.offset },
 }
 
@@ -23,19 +55,24 @@ impl Lines {
     ghost use Rattle.ddcmp_explain.specs.Progress.{HasTold};
 
     /// No bytes so far, for a reader of none.
-    pub(crate) fn new(frames: Reader, notation: Notation) -> Self
+    pub(crate) fn new(frames: Reader, style: Style) -> Self
         requires { StandsFor frames [] }
         ensures max { result.frames.max ≡ frames.max }
-        ensures notation { result.notation ≡ notation }
+        ensures style { result.style ≡ style }
         ensures offset { result.frames.offset ≡ 0 }
         ensures told { (broken : Bool) (start : Option (List ℕ))
             → HasTold frames.max start [] result broken start }
     {
         Lines {
             frames,
-            notation,
+            style,
             items: 0,
             page: Page::new(),
+            reached: Reached {
+                offset: 0,
+                taken: 0,
+            },
+            head: Head::new(),
         }
     }
 
@@ -48,19 +85,23 @@ impl Lines {
         ensures used { result ≤ length bytes.now }
         ensures some { 0 < result }
         ensures max { self.new.frames.max ≡ self.old.frames.max }
-        ensures notation { self.new.notation ≡ self.old.notation }
+        ensures style { self.new.style ≡ self.old.style }
         ensures offset { self.new.frames.offset ≡ self.old.frames.offset + result }
         ensures told { (max : ℕ) (start : Option (List ℕ)) (text : List ℕ)
             → HasTold max start text self.old (W.broken writer.old) (W.contents writer.old)
             → HasTold max start (text ++ take result bytes.now) self.new
             (W.broken writer.new) (W.contents writer.new) }
     {
+        if self.style.discarded {
+            return self.push_one(writer, bytes[0]);
+        }
         let Pushed { used, item } = self.frames.push_all(bytes);
         match item {
             Some(item) => {
                 self.items += 1;
                 let data = self.frames.data();
-                self.notation
+                self.style
+                    .notation
                     .write_item(&mut self.page, writer, &item, data);
             }
             None => {}
@@ -68,11 +109,119 @@ impl Lines {
         used
     }
 
+    /// Takes a byte, and hands over the line of the item that it completes, and before it that of
+    /// what was passed over.
+    fn push_one<W: Sink>(&mut self, writer: &mut W, byte: u8) -> usize
+        requires fits { self.old.frames.offset + 1 < 2 ^ 64 }
+        requires discarded { self.old.style.discarded ≡ true }
+        ensures one { result ≡ 1 }
+        ensures max { self.new.frames.max ≡ self.old.frames.max }
+        ensures style { self.new.style ≡ self.old.style }
+        ensures offset { self.new.frames.offset ≡ self.old.frames.offset + 1 }
+        ensures told { (max : ℕ) (start : Option (List ℕ)) (text : List ℕ)
+            → HasTold max start text self.old (W.broken writer.old) (W.contents writer.old)
+            → HasTold max start (text ++ byte ∷ []) self.new
+            (W.broken writer.new) (W.contents writer.new) }
+    {
+        let item = self.frames.push(byte);
+        self.head.follow(byte, self.frames.open());
+        match item {
+            Some(item) => {
+                self.items += 1;
+                self.reach(writer, &item);
+                let data = self.frames.data();
+                self.style
+                    .notation
+                    .write_item(&mut self.page, writer, &item, data);
+            }
+            None => {}
+        }
+        1
+    }
+
+    /// Hands over the line of what was passed over before an item.
+    fn reach<W: Sink>(&mut self, writer: &mut W, item: &Item)
+        ensures frames { self.new.frames ≡ self.old.frames }
+        ensures style { self.new.style ≡ self.old.style }
+        ensures items { self.new.items ≡ self.old.items }
+        ensures head { self.new.head ≡ self.old.head }
+        ensures reached { self.new.reached.offset + self.new.reached.taken ≡ behind item.now }
+        ensures passed { HandsOver (output_of W.broken W.contents writer.old self.old.page)
+            (output_of W.broken W.contents writer.new self.new.page)
+            (part_lines self.old.style.notation
+            (passed (self.old.reached.offset + self.old.reached.taken) (item_offset item.now))) }
+    {
+        let reached = reached_by(item);
+        self.pass_to(writer, reached.offset);
+        self.reached = reached;
+    }
+
+    /// Hands over the line of what was passed over up to an offset.
+    fn pass_to<W: Sink>(&mut self, writer: &mut W, to: u64)
+        ensures frames { self.new.frames ≡ self.old.frames }
+        ensures style { self.new.style ≡ self.old.style }
+        ensures items { self.new.items ≡ self.old.items }
+        ensures head { self.new.head ≡ self.old.head }
+        ensures passed { HandsOver (output_of W.broken W.contents writer.old self.old.page)
+            (output_of W.broken W.contents writer.new self.new.page)
+            (part_lines self.old.style.notation
+            (passed (self.old.reached.offset + self.old.reached.taken) to)) }
+    {
+        let Reached { offset, taken } = self.reached;
+        if offset < to && taken < to - offset {
+            let from = offset + taken;
+            write_passed(&mut self.page, writer, self.style.notation, from, to - from);
+        }
+    }
+
+    /// Hands over what is told of the bytes behind the last item.
+    fn tell_rest<W: Sink>(&mut self, writer: &mut W, end: u64, left_open: u64)
+        ensures frames { self.new.frames ≡ self.old.frames }
+        ensures style { self.new.style ≡ self.old.style }
+        ensures items { self.new.items ≡ self.old.items }
+        ensures told { (p : Place) → Heads self.old.head p.rest → p.offset ≡ end
+            → length p.rest ≡ left_open
+            → HandsOver (output_of W.broken W.contents writer.old self.old.page)
+            (output_of W.broken W.contents writer.new self.new.page)
+            (part_lines self.old.style.notation
+            (passed (self.old.reached.offset + self.old.reached.taken) end ++ opened p)) }
+    {
+        self.pass_to(writer, end);
+        if 0 < left_open {
+            write_open(
+                &mut self.page,
+                writer,
+                self.style.notation,
+                end,
+                &self.head.header(),
+                left_open,
+            );
+        }
+    }
+
+    /// Hands over what is told of the bytes behind the last item, where that is told.
+    fn tell_end<W: Sink>(&mut self, writer: &mut W, bytes: u64, left_open: u64)
+        ensures frames { self.new.frames ≡ self.old.frames }
+        ensures style { self.new.style ≡ self.old.style }
+        ensures items { self.new.items ≡ self.old.items }
+        ensures told { (max : ℕ) (start : Option (List ℕ)) (text : List ℕ)
+            → HasTold max start text self.old (W.broken writer.old) (W.contents writer.old)
+            → bytes ≡ length text → left_open ≡ open_at_end max text
+            → HandsOver (output_of W.broken W.contents writer.old self.old.page)
+            (output_of W.broken W.contents writer.new self.new.page)
+            (rest_by self.old.style.discarded self.old.style.notation max text) }
+    {
+        if !self.style.discarded {
+            return;
+        }
+        self.tell_rest(writer, bytes.saturating_sub(left_open), left_open);
+    }
+
     /// Takes bytes, and hands over the lines of the items that they complete.
     pub(crate) fn push_all<W: Sink>(&mut self, writer: &mut W, bytes: &[u8])
         requires { self.old.frames.offset + length bytes.now < 2 ^ 64 }
         ensures max { self.new.frames.max ≡ self.old.frames.max }
-        ensures notation { self.new.notation ≡ self.old.notation }
+        ensures style { self.new.style ≡ self.old.style }
         ensures offset { self.new.frames.offset ≡ self.old.frames.offset + length bytes.now }
         ensures told { (max : ℕ) (start : Option (List ℕ)) (text : List ℕ)
             → HasTold max start text self.old (W.broken writer.old) (W.contents writer.old)
@@ -88,13 +237,13 @@ impl Lines {
     /// Writes all lines that wait.
     pub(crate) fn flush<W: Sink>(&mut self, writer: &mut W) -> Result<(), WriteFailed>
         ensures max { self.new.frames.max ≡ self.old.frames.max }
-        ensures notation { self.new.notation ≡ self.old.notation }
+        ensures style { self.new.style ≡ self.old.style }
         ensures offset { self.new.frames.offset ≡ self.old.frames.offset }
         ensures broken { W.broken writer.new ≡ is_err result }
         ensures told { (max : ℕ) (start : Option (List ℕ)) (text : List ℕ)
             → HasTold max start text self.old (W.broken writer.old) (W.contents writer.old)
             → HasTold max start text self.new (W.broken writer.new) (W.contents writer.new)
-            × Writes start (W.contents writer.new) result (lines self.old.notation max text) }
+            × Writes start (W.contents writer.new) result (lines_in self.old.style max text) }
     {
         self.page.flush(writer)
     }
@@ -106,11 +255,13 @@ impl Lines {
         ensures told { (max : ℕ) (start : Option (List ℕ)) (text : List ℕ)
             → HasTold max start text self.old (W.broken writer.old) (W.contents writer.old)
             → Writes start (W.contents writer.new) result
-            (lines self.old.notation max text ++ last_line self.old.notation max text) }
+            (lines_in self.old.style max text ++ end_in self.old.style max text) }
     {
         let bytes = self.frames.offset();
         let left_open = self.frames.open() as u64;
-        self.notation
+        self.tell_end(writer, bytes, left_open);
+        self.style
+            .notation
             .write_last(&mut self.page, writer, self.items, bytes, left_open);
         self.page.flush(writer)
     }

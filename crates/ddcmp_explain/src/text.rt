@@ -91,7 +91,7 @@ fn put_counted(line: &mut [u8; LINE], at: usize, header: &Counted) -> usize
 }
 
 #[inline(always)]
-fn put_header(line: &mut [u8; LINE], at: usize, header: &Header) -> usize
+pub(crate) fn put_header(line: &mut [u8; LINE], at: usize, header: &Header) -> usize
     requires { at + 66 ≤ LINE }
     ensures puts { Puts line.old at line.new result (header_text header.now) }
     ensures within { result ≤ at + 66 }

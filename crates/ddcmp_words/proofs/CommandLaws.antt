@@ -77,9 +77,12 @@ sizes_as o p config e h = record {
 
 pub has_options_as : (o p t u : Text → Option Text) (made : Command) → ((id : Text) → o id ≡ p id) → ((id : Text) → t id ≡ u id)
     → HasOptions o t made → HasOptions p u made
-has_options_as o p t u (Explain form notation max) e w h = (
+has_options_as o p t u (Explain form style max) e w h = (
   subst (λ t. HasForm t form) (e (codes "raw")) h.0,
-  subst (λ t. HasNotation t notation) (e (codes "json")) h.1,
+  record {
+    notation = subst (λ t. HasNotation t style.notation) (e (codes "json")) h.1.notation;
+    discarded = subst (λ t. HasFlag t style.discarded) (e (codes "discarded")) h.1.discarded;
+  },
   subst (λ t. HasNumber 1 MAX_COUNT MAX_COUNT t max) (e (codes "max")) h.2,
 )
 has_options_as o p t u (Simulate config) e w h = sizes_as o p config e h

@@ -6,6 +6,7 @@ use Rattle.ddcmp_explain.specs.declared.form.Form.{Form}
 use Rattle.ddcmp_explain.specs.declared.form.Form.TheVariants.{Hex, Raw}
 use Rattle.ddcmp_explain.specs.declared.notation.Notation.{Notation}
 use Rattle.ddcmp_explain.specs.declared.notation.Notation.TheVariants.{Plain, Json}
+use Rattle.ddcmp_explain.specs.declared.style.Style.{Style}
 use Rattle.ddcmp_words.specs.declared.command.Command.{Command}
 use Rattle.ddcmp_words.specs.declared.command.Command.TheVariants.{Explain, Simulate, Pair, Station, Tap}
 use Rattle.ddcmp_words.specs.declared.served.Role.{Role}
@@ -46,9 +47,10 @@ required rule = record rule { required = true }
 -- `ddcmp explain`
 abbrev pub explain_app : App
 explain_app =
-    with_rule (with_rule (with_rule (new_app (codes "explain"))
+    with_rule (with_rule (with_rule (with_rule (new_app (codes "explain"))
     (flag_rule (codes "raw")))
     (flag_rule (codes "json")))
+    (flag_rule (codes "discarded")))
     (number_rule (codes "max") 1 MAX_COUNT)
 
 -- the sizes of both ends, and whether they begin anew by themselves
@@ -107,7 +109,7 @@ program =
 
 -- the word that names a command
 abbrev pub name_of : Command → Text
-name_of (Explain form notation max) = codes "explain"
+name_of (Explain form style max) = codes "explain"
 name_of (Simulate config) = codes "simulate"
 name_of (Pair config) = codes "pair"
 name_of (Station served) = codes "station"
@@ -153,6 +155,11 @@ pub record HasFlag (text : Option Text) (is_given : Bool) : Type 0 where
   pub left_out : text ≡ Some (codes "false") → is_given ≡ false
   pub absent : text ≡ None → is_given ≡ false
 
+-- how lines are written, and whether bytes that no item takes have lines
+pub record HasStyle (option : Text → Option Text) (style : Style) : Type 0 where
+  pub notation : HasNotation (option (codes "json")) style.notation
+  pub discarded : HasFlag (option (codes "discarded")) style.discarded
+
 -- a number in its range: the one that was given, else the usual one
 pub record HasNumber (low high usual : ℕ) (text : Option Text) (n : ℕ) : Type 0 where
   pub in_range : (low ≤ n) × (n ≤ high)
@@ -193,9 +200,9 @@ pub record HasTap (option text : Text → Option Text) (tapped : Tapped) : Type 
 
 -- a command with the options that were given: as they are read, and as they were written
 abbrev pub HasOptions : (option text : Text → Option Text) → Command → Type 0
-HasOptions option text (Explain form notation max) =
+HasOptions option text (Explain form style max) =
     HasForm (option (codes "raw")) form
-    × HasNotation (option (codes "json")) notation
+    × HasStyle option style
     × HasNumber 1 MAX_COUNT MAX_COUNT (option (codes "max")) max
 HasOptions option text (Simulate config) = HasSizes option config
 HasOptions option text (Pair config) = HasSizes option config

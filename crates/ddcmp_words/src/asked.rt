@@ -6,7 +6,7 @@ ghost use Rattle.ddcmp_words.specs.Words.{IsAsked, option_in, text_in, program};
 use clap::error::ErrorKind as WordsFault;
 
 /// The words `ddcmp explain` ask for the command that explains, without its options; `--raw`,
-/// `--json` and `--max 1500` are read. `ddcmp --help` asks for help, and `ddcmp --version` for the
+/// `--json`, `--discarded` and `--max 1500` are read. `ddcmp --help` asks for help, and `ddcmp --version` for the
 /// version.
 pub fn explain_is_asked()
     ensures plain { IsAsked (codes "ddcmp" ∷ codes "explain" ∷ []) (codes "explain") }
@@ -19,6 +19,10 @@ pub fn explain_is_asked()
         ≡ Some (codes "true") }
     ensures json { option_in (codes "ddcmp" ∷ codes "explain" ∷ codes "--json" ∷ []) (codes "json")
         ≡ Some (codes "true") }
+    ensures not_discarded { option_in (codes "ddcmp" ∷ codes "explain" ∷ []) (codes "discarded")
+        ≡ Some (codes "false") }
+    ensures discarded { option_in (codes "ddcmp" ∷ codes "explain" ∷ codes "--discarded" ∷ [])
+        (codes "discarded") ≡ Some (codes "true") }
     ensures maximum { option_in
         (codes "ddcmp" ∷ codes "explain" ∷ codes "--max" ∷ codes "1500" ∷ []) (codes "max")
         ≡ Some (codes "1500") }

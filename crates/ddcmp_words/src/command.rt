@@ -4,7 +4,7 @@ ghost use Rattle.std.specs.Prelude.{codes, map, unwrap_or, [], false, List, ℕ}
 ghost use Rattle.std.specs.Option.{option_and_then};
 ghost use Rattle.ddcmp_words.specs.Words.{Declines, IsAsked, IsName, Reads, name_of, program};
 ghost use Rattle.ddcmp_words.specs.Words.{HasFlag, HasForm, HasNotation, HasNumber, HasOptions};
-ghost use Rattle.ddcmp_words.specs.Words.{HasSizes, HasStation, explain_app, pair_app};
+ghost use Rattle.ddcmp_words.specs.Words.{HasSizes, HasStation, HasStyle, explain_app, pair_app};
 ghost use Rattle.ddcmp_words.specs.Words.{simulate_app, station_app};
 ghost use Rattle.ddcmp_words.specs.Words.{flag_rule, number_rule, role_of, text_rule};
 ghost use Rattle.ddcmp_words.specs.Words.{with_sizes as with_sizes_of};
@@ -20,7 +20,7 @@ use crate::tapped::Tapped;
 use clap::error::ErrorKind;
 use clap::{Arg, ArgAction, ArgMatches, Error};
 use ddcmp_core::{MAX_COUNT, MAX_WINDOW};
-use ddcmp_explain::{Form, Notation};
+use ddcmp_explain::{Form, Notation, Style};
 use ddcmp_proto::{Config, MAX_INBOX, MAX_SYN};
 use std::alloc::{AllocError, Global};
 
@@ -28,11 +28,7 @@ use std::alloc::{AllocError, Global};
 #[derive(Clone, Copy, Debug, PartialEq, Eq)]
 pub enum Command<'a> {
     /// Explain the input in this form, for a reader of at most `max` bytes of data.
-    Explain {
-        form: Form,
-        notation: Notation,
-        max: u16,
-    },
+    Explain { form: Form, style: Style, max: u16 },
     /// Run a script between two ends of these sizes.
     Simulate(Config),
     /// The same, and the bytes that pass go over a TCP connection.
@@ -93,6 +89,11 @@ fn explain_parser<'a>(alloc: Global) -> Result<clap::Command<'a>, AllocError>
             "Read bytes as they are, not hexadecimal digits",
         ))?
         .arg(flag(alloc, "json", "Write an object of JSON in each line"))?
+        .arg(flag(
+            alloc,
+            "discarded",
+            "Tell bytes that were passed over too, and the frame that is unfinished",
+        ))?
         .arg(number(
             alloc,
             "max",
@@ -308,6 +309,16 @@ pub(crate) fn notation_given(options: &ArgMatches<'_>) -> Notation
     }
 }
 
+/// How lines are written, and of what.
+fn style_given(options: &ArgMatches<'_>) -> Style
+    ensures { HasStyle (one_text (found_of options.now)) result }
+{
+    Style {
+        notation: notation_given(options),
+        discarded: flag_given(options, "discarded"),
+    }
+}
+
 /// Whether an option that stands alone was given.
 pub(crate) fn flag_given(options: &ArgMatches<'_>, name: &str) -> bool
     ensures { HasFlag (one_text (found_of options.now) name.now) result }
@@ -353,7 +364,7 @@ fn explain_with<'a>(options: &ArgMatches<'a>) -> Command<'a>
 {
     Command::Explain {
         form: form_given(options),
-        notation: notation_given(options),
+        style: style_given(options),
         max: number_given(options, "max", 1, MAX_COUNT as u32, MAX_COUNT as u32) as u16,
     }
 }

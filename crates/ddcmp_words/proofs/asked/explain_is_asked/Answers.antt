@@ -38,3 +38,11 @@ returns-clause-not_json c = refl
 pub returns-clause-json : goal.returns-clause-json
 unfolding clap_on_literals option_in
 returns-clause-json c = refl
+
+pub returns-clause-not_discarded : goal.returns-clause-not_discarded
+unfolding clap_on_literals option_in
+returns-clause-not_discarded c = refl
+
+pub returns-clause-discarded : goal.returns-clause-discarded
+unfolding clap_on_literals option_in
+returns-clause-discarded c = refl

@@ -1,12 +1,18 @@
 use Rattle.std.proofs.Common.{rules, ◌≡◌, ◌∙◌, ap₂, codes}
 use Rattle.std.proofs.lemmas.Result.{IfOk-weaker}
-use Rattle.clap.specs.Words.{app_of, new_app, with_rule}
-use Rattle.ddcmp_words.specs.Words.{flag_rule}
+use Rattle.clap.specs.Words.{AddsArg, App, Rule, app_of, new_app, rule_of, with_rule}
+use Rattle.clap.specs.declared.builder.command.Command.{Command}
+use Rattle.clap.specs.declared.builder.arg.Arg.{Arg}
+use Rattle.std.proofs.Common.{false}
 use Rattle.ddcmp_words.proofs.command.explain_parser.Goals as goal
+
+grows : (old new : Command) (a : Arg) (app : App) (rule : Rule) → AddsArg old a new → a.global ≡ false → app_of old ≡ app → rule_of a ≡ rule → app_of new ≡ with_rule app rule
+grows old new a app rule h l e r = h.shape l ∙ ap₂ with_rule e r
 
 pub returns-clause-app : goal.returns-clause-app
 returns-clause-app c =
     let about : app_of c.about.result ≡ new_app (codes "explain") = search rules in
-    let first : app_of c.in_ok-arg.field-0 ≡ with_rule (new_app (codes "explain")) (flag_rule (codes "raw")) = c.in_ok-arg.ensures.shape c.flag.ensures.local ∙ ap₂ with_rule about c.flag.ensures.rule in
-    let second : app_of c.in_ok-arg-2.field-0 ≡ with_rule (with_rule (new_app (codes "explain")) (flag_rule (codes "raw"))) (flag_rule (codes "json")) = c.in_ok-arg-2.ensures.shape c.flag-2.ensures.local ∙ ap₂ with_rule first c.flag-2.ensures.rule in
-    IfOk-weaker c.arg-3.result _ _ (λ made h. h.shape c.number.ensures.local ∙ ap₂ with_rule second c.number.ensures.rule) c.arg-3.ensures
+    let one = grows _ _ _ _ _ c.in_ok-arg.ensures c.flag.ensures.local about c.flag.ensures.rule in
+    let two = grows _ _ _ _ _ c.in_ok-arg-2.ensures c.flag-2.ensures.local one c.flag-2.ensures.rule in
+    let three = grows _ _ _ _ _ c.in_ok-arg-3.ensures c.flag-3.ensures.local two c.flag-3.ensures.rule in
+    IfOk-weaker c.arg-4.result _ _ (λ made h. grows _ _ _ _ _ h c.number.ensures.local three c.number.ensures.rule) c.arg-4.ensures

@@ -2,7 +2,7 @@ use Rattle.std.proofs.Common.{false, refl, sym, subst, ap, ◌∙◌}
 use Rattle.std.specs.Prelude.{option_to_list}
 use Rattle.std.specs.Io.KnownBytes.{Appends}
 use Rattle.std.proofs.KnownBytes.{Appends-nil}
-use Rattle.ddcmp_explain.specs.Output.{lines}
+use Rattle.ddcmp_explain.specs.Discarded.{lines_in}
 use Rattle.ddcmp_explain.specs.Progress.{HasTold}
 use Rattle.ddcmp_explain.proofs.DigitLaws.{nothing-unexpected, nothing-spelled, nothing-left}
 use Rattle.ddcmp_explain.proofs.LinesLaws.{lines-nothing}
@@ -11,12 +11,12 @@ use Rattle.ddcmp_explain.proofs.explainer.Explainer.new.Goals as goal
 pub returns-clause-progress : goal.returns-clause-progress
 returns-clause-progress c = λ start.
     let max = c.args.frames.max in
-    let notation = c.new-2.result.notation in
+    let style = c.new-2.result.style in
     let none = nothing-spelled c.new.result.form in
     record {
       expected = nothing-unexpected c.new.result.form;
       left = nothing-left c.new.result.form ∙ ap option_to_list (sym c.new.ensures.none);
       long = refl;
       told = subst (λ b. HasTold max start b c.new-2.result false start) (sym none) (c.new-2.ensures.told false start);
-      written = subst (Appends start start) (sym (ap (lines notation max) none ∙ lines-nothing notation max)) (Appends-nil start);
+      written = subst (Appends start start) (sym (ap (lines_in style max) none ∙ lines-nothing style max)) (Appends-nil start);
     }

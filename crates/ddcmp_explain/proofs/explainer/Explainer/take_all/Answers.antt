@@ -14,7 +14,7 @@ returns-in_err-take-in-Bytes-clause-tells g c = λ max begun.
       so_far.seen ++ piece,
       length-append so_far.seen piece ∙ omega (arith, so_far.progress.long, c.in_err-take-in-Bytes.ensures.seen, long),
       Consumes-trans _ _ left so_far.seen piece so_far.consumed c.in-Bytes.ensures.bytes.1,
-      subst (λ form. Tells form c.args.self.now.lines.notation max (so_far.seen ++ piece) left (g.W.Sink.contents c.args.writer.now) (g.W.Sink.contents c.take.new.writer) (Err c.in_err-take-in-Bytes.field-0.0)) (c.in_err-take-in-Bytes.ensures.form ∙ c.loop-self.invariant.form)
-          (subst (λ notation. Tells c.take.new.self.decoder.form notation max (so_far.seen ++ piece) left (g.W.Sink.contents c.args.writer.now) (g.W.Sink.contents c.take.new.writer) (Err c.in_err-take-in-Bytes.field-0.0)) (c.in_err-take-in-Bytes.ensures.notation ∙ c.loop-self.invariant.notation)
+      subst (λ form. Tells form c.args.self.now.lines.style max (so_far.seen ++ piece) left (g.W.Sink.contents c.args.writer.now) (g.W.Sink.contents c.take.new.writer) (Err c.in_err-take-in-Bytes.field-0.0)) (c.in_err-take-in-Bytes.ensures.form ∙ c.loop-self.invariant.form)
+          (subst (λ style. Tells c.take.new.self.decoder.form style max (so_far.seen ++ piece) left (g.W.Sink.contents c.args.writer.now) (g.W.Sink.contents c.take.new.writer) (Err c.in_err-take-in-Bytes.field-0.0)) (c.in_err-take-in-Bytes.ensures.style ∙ c.loop-self.invariant.style)
           (c.in_err-take-in-Bytes.ensures.takes max _ so_far.seen so_far.progress left)),
     )

@@ -10,7 +10,7 @@ invariant-loop-self g l = record {
   whole : g.W.Sink.broken l.writer ≡ false;
   room : length l.piece ≡ 4096;
   form : l.self.decoder.form ≡ l.initial.self.decoder.form;
-  notation : l.self.lines.notation ≡ l.initial.self.lines.notation;
+  style : l.self.lines.style ≡ l.initial.self.lines.style;
   so_far : (max : ℕ) → Progress max (g.W.Sink.contents l.initial.writer) [] l.initial.self (g.W.Sink.broken l.initial.writer) (g.W.Sink.contents l.initial.writer)
       → SoFar max (g.W.Sink.contents l.initial.writer) (g.R.Source.left l.initial.reader) (g.R.Source.left l.reader) l.self (g.W.Sink.broken l.writer) (g.W.Sink.contents l.writer);
 }

@@ -14,7 +14,7 @@ loop-used-preserved g c =
     record {
       within = omega (arith, length-take (length bytes - n) (drop n bytes), length-drop n bytes);
       max = p.ensures.max ∙ now.max;
-      notation = p.ensures.notation ∙ now.notation;
+      style = p.ensures.style ∙ now.style;
       offset = omega arith;
       told = λ max start text h.
           subst (λ t. HasTold max start t p.new.self (g.W.Sink.broken p.new.writer) (g.W.Sink.contents p.new.writer)) (taken-more text bytes n k) (p.ensures.told max start _ (now.told max start text h));

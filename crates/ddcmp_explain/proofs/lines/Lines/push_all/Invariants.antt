@@ -6,7 +6,7 @@ abbrev pub invariant-loop-used : goal.invariant-loop-used
 invariant-loop-used g l = record {
   within : l.used ≤ length l.bytes;
   max : l.self.frames.max ≡ l.initial.self.frames.max;
-  notation : l.self.notation ≡ l.initial.self.notation;
+  style : l.self.style ≡ l.initial.self.style;
   offset : l.self.frames.offset ≡ l.initial.self.frames.offset + l.used;
   told : (max : ℕ) (start : Option (List ℕ)) (text : List ℕ)
       → HasTold max start text l.initial.self (g.W.Sink.broken l.initial.writer) (g.W.Sink.contents l.initial.writer)

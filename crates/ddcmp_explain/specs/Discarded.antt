@@ -1,0 +1,158 @@
+-- What is written of the bytes that no item takes.
+use Rattle.std.specs.Prelude.{◌≡◌, ℕ, ◌+◌, ◌-◌, nat_lt, Bool, true, false, List, [], ◌∷◌, ◌++◌, codes, decimal, length, take, if◌then◌else◌, Option, Some, None}
+use Rattle.std.specs.List.{flat_map}
+use Rattle.std.specs.Result.{result_ok}
+use Rattle.ddcmp_frame.specs.declared.header.Header.{Header}
+use Rattle.ddcmp_frame.specs.declared.item.Item.{Item}
+use Rattle.ddcmp_frame.specs.declared.item.Item.TheVariants.{Good, HeaderCheck, DataCheck, TooLong, Format}
+use Rattle.ddcmp_frame.specs.Reader.{frame_length}
+use Rattle.ddcmp_frame.specs.Reading.{ReadItem, Place, items, ending}
+use Rattle.ddcmp_frame.specs.Spelling.{parsed}
+use Rattle.ddcmp_frame.specs.Step.{item_offset}
+use Rattle.ddcmp_explain.specs.declared.notation.Notation.{Notation}
+use Rattle.ddcmp_explain.specs.declared.notation.Notation.TheVariants.{Plain, Json}
+use Rattle.ddcmp_explain.specs.declared.style.Style.{Style}
+use Rattle.ddcmp_explain.specs.Text.{header_text}
+use Rattle.ddcmp_explain.specs.Json.{json_header, json_start, member, quoted}
+use Rattle.ddcmp_explain.specs.Output.{line_in, lines, last_line}
+
+-- ---- which bytes are in which line
+
+-- how many bytes an item takes: a frame that is damaged or too long all that its header counts, and
+-- a loss of synchronism none, since its start byte is passed over
+abbrev pub taken_by : Item → ℕ
+taken_by (Good offset h) = frame_length h
+taken_by (HeaderCheck offset) = 0
+taken_by (DataCheck offset h) = frame_length h
+taken_by (TooLong offset h) = frame_length h
+taken_by (Format offset fault) = 8
+
+-- the offset behind an item
+abbrev pub behind : Item → ℕ
+behind item = item_offset item + taken_by item
+
+-- What a line is of: an item; the bytes from an offset on that were passed over, and how many; the
+-- place of the frame that is still open.
+pub data Part : Type 0 where
+  Told : ReadItem → Part
+  Passed : ℕ → ℕ → Part
+  Open : Place → Part
+
+abbrev pub passed : ℕ → ℕ → List Part
+passed from to = if nat_lt from to then Passed from (to - from) ∷ [] else []
+
+-- items, and what was passed over before each, from an offset on
+unfoldable pub parts_from : ℕ → List ReadItem → List Part
+parts_from at [] = []
+parts_from at (given ∷ later) =
+    passed at (item_offset given.0) ++ Told given ∷ parts_from (behind given.0) later
+
+-- the offset behind the last of some items
+unfoldable pub reached : ℕ → List ReadItem → ℕ
+reached at [] = at
+reached at (given ∷ later) = reached (behind given.0) later
+
+abbrev pub opened : Place → List Part
+opened p = if nat_lt 0 (length p.rest) then Open p ∷ [] else []
+
+-- what is told of the rest once the bytes have come to their end
+abbrev pub last_parts : ℕ → List ℕ → List Part
+last_parts max bytes =
+    passed (reached 0 (items max bytes)) (ending max bytes).offset ++ opened (ending max bytes)
+
+abbrev pub parts : ℕ → List ℕ → List Part
+parts max bytes = parts_from 0 (items max bytes) ++ last_parts max bytes
+
+-- the offset of the first byte in a line
+abbrev pub offset_of : Part → ℕ
+offset_of (Told given) = item_offset given.0
+offset_of (Passed from count) = from
+offset_of (Open p) = p.offset
+
+-- how many bytes are in a line, where the frame that is open begins at `end`: a frame that is too
+-- long and still open has them in the line that says so
+abbrev pub count_in : ℕ → Part → ℕ
+count_in end (Told given) = if nat_lt end (behind given.0) then 0 else taken_by given.0
+count_in end (Passed from count) = count
+count_in end (Open p) = length p.rest
+
+-- each line begins where the one before it ends, and so from an offset up to another
+abbrev pub Adjoin : ℕ → ℕ → List Part → ℕ → Type 0
+Adjoin end from [] to = from ≡ to
+Adjoin end from (part ∷ later) to =
+    (offset_of part ≡ from) × Adjoin end (from + count_in end part) later to
+
+-- the number of bytes in all lines
+unfoldable pub count_in_all : ℕ → List Part → ℕ
+count_in_all end [] = 0
+count_in_all end (part ∷ later) = count_in end part + count_in_all end later
+
+-- ---- the lines
+
+abbrev pub passed_text : Notation → ℕ → ℕ → List ℕ
+passed_text Plain from count =
+    decimal from ++ codes " discarded " ++ decimal count ++ codes "\n"
+passed_text Json from count =
+    json_start from ++ member (codes "discarded") (decimal count) ++ codes "}\n"
+
+-- the header of a frame that is open, where it is whole
+abbrev pub open_header : List ℕ → Option Header
+open_header bytes = if nat_lt (length bytes) 8 then None else result_ok (parsed (take 8 bytes))
+
+-- what is open, up to its numbers
+abbrev pub open_front : Notation → ℕ → Option Header → List ℕ
+open_front Plain offset None = decimal offset ++ codes " unfinished header"
+open_front Plain offset (Some h) = decimal offset ++ codes " unfinished " ++ header_text h
+open_front Json offset None =
+    json_start offset ++ member (codes "unfinished") (quoted (codes "header"))
+open_front Json offset (Some h) =
+    json_start offset ++ member (codes "unfinished") (json_header h)
+
+-- how many bytes it has, of how many
+abbrev pub open_end : Notation → ℕ → ℕ → List ℕ
+open_end Plain have whole =
+    codes " " ++ decimal have ++ codes " of " ++ decimal whole ++ codes "\n"
+open_end Json have whole =
+    member (codes "have") (decimal have) ++ member (codes "of") (decimal whole) ++ codes "}\n"
+
+abbrev pub open_length : Option Header → ℕ
+open_length None = 8
+open_length (Some h) = frame_length h
+
+abbrev pub open_text : Notation → ℕ → Option Header → ℕ → List ℕ
+open_text notation offset header have =
+    open_front notation offset header ++ open_end notation have (open_length header)
+
+abbrev pub part_line : Notation → Part → List ℕ
+part_line notation (Told given) = line_in notation given
+part_line notation (Passed from count) = passed_text notation from count
+part_line notation (Open p) =
+    open_text notation p.offset (open_header p.rest) (length p.rest)
+
+-- the lines of some parts
+unfoldable pub part_lines : Notation → List Part → List ℕ
+part_lines notation told = flat_map (part_line notation) told
+
+-- ---- with or without them
+
+-- items alone
+abbrev pub items_in : Notation → Style
+items_in notation = record { notation = notation; discarded = false }
+
+abbrev pub lines_by : Bool → Notation → ℕ → List ℕ → List ℕ
+lines_by false notation max bytes = lines notation max bytes
+lines_by true notation max bytes = part_lines notation (parts_from 0 (items max bytes))
+
+-- the lines of the items of some bytes, and of what was passed over before each where that is told
+abbrev pub lines_in : Style → ℕ → List ℕ → List ℕ
+lines_in style max bytes = lines_by style.discarded style.notation max bytes
+
+-- what is told at the end of the bytes that no item took
+abbrev pub rest_by : Bool → Notation → ℕ → List ℕ → List ℕ
+rest_by false notation max bytes = []
+rest_by true notation max bytes = part_lines notation (last_parts max bytes)
+
+-- what is written at the end: what no item took where that is told, and the last line
+abbrev pub end_in : Style → ℕ → List ℕ → List ℕ
+end_in style max bytes =
+    rest_by style.discarded style.notation max bytes ++ last_line style.notation max bytes

@@ -1,0 +1,158 @@
+//! The lines of bytes that no item takes.
+ghost use Rattle.std.specs.Prelude.{◌≡◌, ◌+◌, ◌≤◌, ◌++◌, Option, codes, decimal};
+ghost use Rattle.std.specs.Option.{option_map};
+ghost use Rattle.ddcmp_frame.specs.Reader.{frame_length as length_of};
+ghost use Rattle.ddcmp_io.specs.Written.{HandsOver, output_of};
+ghost use Rattle.ddcmp_explain.specs.Discarded.{open_end, open_front, open_length as length_of_open};
+ghost use Rattle.ddcmp_explain.specs.Discarded.{open_text, passed_text};
+ghost use Rattle.ddcmp_explain.specs.Putting.{Puts};
+
+use crate::json::{put_header as put_json_header, put_start};
+use crate::notation::Notation;
+use crate::put::{LINE, put, put_number};
+use crate::text::put_header;
+use ddcmp_frame::Header;
+use ddcmp_io::{Page, Sink};
+
+fn put_passed(line: &mut [u8; LINE], notation: Notation, from: u64, count: u64) -> usize
+    ensures puts { Puts line.old 0 line.new result (passed_text notation from count) }
+    ensures within { result ≤ 80 }
+{
+    match notation {
+        Notation::Plain => {
+            let behind_offset = put_number(line, 0, from);
+            let at_count = put(line, behind_offset, b" discarded ");
+            let behind_count = put_number(line, at_count, count);
+            put(line, behind_count, b"\n")
+        }
+        Notation::Json => {
+            let at_count = put_start(line, from, b",\"discarded\":");
+            let behind_count = put_number(line, at_count, count);
+            put(line, behind_count, b"}\n")
+        }
+    }
+}
+
+/// The line of bytes that were passed over: the offset of the first, and how many.
+pub(crate) fn write_passed<W: Sink>(
+    page: &mut Page,
+    writer: &mut W,
+    notation: Notation,
+    from: u64,
+    count: u64,
+)
+    ensures { HandsOver (output_of W.broken W.contents writer.old page.old)
+        (output_of W.broken W.contents writer.new page.new) (passed_text notation from count) }
+{
+    let mut line = [0; LINE];
+    let end = put_passed(&mut line, notation, from, count);
+    page.write(writer, &line[..end]);
+}
+
+/// What is open, up to its numbers, in words.
+fn put_open_words(line: &mut [u8; LINE], offset: u64, header: &Option<Header>) -> usize
+    ensures puts { Puts line.old 0 line.new result (open_front Notation.Plain offset header.now) }
+    ensures within { result ≤ 110 }
+{
+    let behind_offset = put_number(line, 0, offset);
+    match header {
+        None => put(line, behind_offset, b" unfinished header"),
+        Some(header) => {
+            let at_header = put(line, behind_offset, b" unfinished ");
+            put_header(line, at_header, header)
+        }
+    }
+}
+
+/// The same as members of an object of JSON.
+fn put_open_members(line: &mut [u8; LINE], offset: u64, header: &Option<Header>) -> usize
+    ensures puts { Puts line.old 0 line.new result (open_front Notation.Json offset header.now) }
+    ensures within { result ≤ 160 }
+{
+    match header {
+        None => put_start(line, offset, b",\"unfinished\":\"header\""),
+        Some(header) => {
+            let at_header = put_start(line, offset, b",\"unfinished\":");
+            put_json_header(line, at_header, header)
+        }
+    }
+}
+
+fn put_open_front(
+    line: &mut [u8; LINE],
+    notation: Notation,
+    offset: u64,
+    header: &Option<Header>,
+) -> usize
+    ensures puts { Puts line.old 0 line.new result (open_front notation offset header.now) }
+    ensures within { result ≤ 160 }
+{
+    match notation {
+        Notation::Plain => put_open_words(line, offset, header),
+        Notation::Json => put_open_members(line, offset, header),
+    }
+}
+
+/// How many bytes are there, of how many.
+fn put_open_end(line: &mut [u8; LINE], notation: Notation, have: u64, whole: u64) -> usize
+    ensures puts { Puts line.old 0 line.new result (open_end notation have whole) }
+    ensures within { result ≤ 80 }
+{
+    match notation {
+        Notation::Plain => {
+            let at_have = put(line, 0, b" ");
+            let behind_have = put_number(line, at_have, have);
+            let at_whole = put(line, behind_have, b" of ");
+            let behind_whole = put_number(line, at_whole, whole);
+            put(line, behind_whole, b"\n")
+        }
+        Notation::Json => {
+            let at_have = put(line, 0, b",\"have\":");
+            let behind_have = put_number(line, at_have, have);
+            let at_whole = put(line, behind_have, b",\"of\":");
+            let behind_whole = put_number(line, at_whole, whole);
+            put(line, behind_whole, b"}\n")
+        }
+    }
+}
+
+/// The number of bytes of a frame on the line.
+pub(crate) fn frame_length(header: &Header) -> u64
+    ensures value { result ≡ length_of header.now }
+    ensures most { result ≤ 16393 }
+{
+    match header {
+        Header::Data(h) | Header::Maint(h) => h.count as u64 + 10,
+        Header::Control(_) => 8,
+    }
+}
+
+fn open_length(header: &Option<Header>) -> u64
+    ensures { result ≡ length_of_open header.now }
+{
+    match header {
+        None => 8,
+        Some(header) => frame_length(header),
+    }
+}
+
+/// The line of the frame that is still open: its offset, its header where that is whole, and how
+/// many of its bytes came.
+pub(crate) fn write_open<W: Sink>(
+    page: &mut Page,
+    writer: &mut W,
+    notation: Notation,
+    offset: u64,
+    header: &Option<Header>,
+    have: u64,
+)
+    ensures { HandsOver (output_of W.broken W.contents writer.old page.old)
+        (output_of W.broken W.contents writer.new page.new)
+        (open_text notation offset header.now have) }
+{
+    let mut line = [0; LINE];
+    let end = put_open_front(&mut line, notation, offset, header);
+    page.write(writer, &line[..end]);
+    let end = put_open_end(&mut line, notation, have, open_length(header));
+    page.write(writer, &line[..end]);
+}

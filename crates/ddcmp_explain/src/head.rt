@@ -1,0 +1,75 @@
+//! How the frame begins that is still open.
+ghost use Rattle.std.specs.Prelude.{◌≡◌, ◌+◌, ◌-◌, ◌<◌, ◌≤◌, ◌++◌, ◌∷◌, [], List, ℕ, drop, length, take};
+ghost use Rattle.ddcmp_explain.specs.Heads.{Heads, Follows};
+ghost use Rattle.ddcmp_explain.specs.Discarded.{open_header};
+
+use ddcmp_frame::Header;
+
+/// The number of bytes of the frame that is still open, and the first eight of them.
+#[derive(Clone, Copy)]
+pub(crate) struct Head {
+    pub(crate) count: usize,
+    pub(crate) bytes: [u8; 8],
+}
+
+impl Head {
+    /// Nothing is open.
+    pub(crate) fn new() -> Self
+        ensures { Heads result [] }
+    {
+        Head {
+            count: 0,
+            bytes: [0; 8],
+        }
+    }
+
+    /// Takes a byte, after which so many bytes are open.
+    pub(crate) fn follow(&mut self, byte: u8, left_open: usize)
+        ensures { (rest more : List ℕ) → Heads self.old rest → Follows rest byte more
+            → left_open ≡ length more → Heads self.new more }
+    {
+        if self.count < left_open {
+            if self.count < 8 {
+                self.append(byte);
+            }
+        } else if self.count < 8 {
+            self.shift(byte, left_open);
+        }
+        self.count = left_open;
+    }
+
+    /// Keeps a byte behind those that are held.
+    fn append(&mut self, byte: u8)
+        requires few { self.old.count < 8 }
+        ensures count { self.new.count ≡ self.old.count }
+        ensures long { length self.new.bytes ≡ 8 }
+        ensures bytes { take (self.old.count + 1) self.new.bytes
+            ≡ take self.old.count self.old.bytes ++ byte ∷ [] }
+    {
+        self.bytes[self.count] = byte;
+    }
+
+    /// Keeps the last bytes of those that were held and this one.
+    fn shift(&mut self, byte: u8, left_open: usize)
+        requires few { self.old.count < 8 }
+        requires fewer { left_open ≤ self.old.count }
+        ensures { take left_open self.new.bytes ≡ drop (self.old.count + 1 - left_open)
+            (take self.old.count self.old.bytes ++ byte ∷ []) }
+    {
+        self.append(byte);
+        let held = self.bytes;
+        let end = self.count + 1;
+        self.bytes[..left_open].copy_from_slice(&held[end - left_open..end]);
+    }
+
+    /// The header, where it is whole.
+    pub(crate) fn header(&self) -> Option<Header>
+        ensures { (rest : List ℕ) → Heads self.now rest → result ≡ open_header rest }
+    {
+        if self.count < 8 {
+            None
+        } else {
+            Header::parse(&self.bytes).ok()
+        }
+    }
+}
