@@ -62,7 +62,7 @@ stationed words (Tap tapped) reader after old new ending a n h p = absurd (other
 
 -- words that ask for a tap are answered by it
 pub tapped : (Answered : Type 0) (words : List Text) (command : Command) → IsAsked words (codes "tap") → named_by words ≡ Some (name_of command) → ((tapped : Tapped) → command ≡ Tap tapped → Answered) → Answered
-tapped A words (Explain form notation max) a n p = absurd (other (codes "tap") (codes "explain") refl (sym a.names ∙ n))
+tapped A words (Explain form style max) a n p = absurd (other (codes "tap") (codes "explain") refl (sym a.names ∙ n))
 tapped A words (Simulate config) a n p = absurd (other (codes "tap") (codes "simulate") refl (sym a.names ∙ n))
 tapped A words (Pair config) a n p = absurd (other (codes "tap") (codes "pair") refl (sym a.names ∙ n))
 tapped A words (Station served) a n p = absurd (other (codes "tap") (codes "station") refl (sym a.names ∙ n))

@@ -1,1 +1,2 @@
 pub mod StationText
+pub mod CountersText

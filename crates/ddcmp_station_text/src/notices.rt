@@ -8,7 +8,8 @@ use ddcmp_io::text::write_number;
 use ddcmp_io::{Page, Sink};
 use ddcmp_proto::Notice;
 
-fn notice_name(notice: Notice) -> &'static [u8]
+/// The name of a notice; a blank ends it where a number follows.
+pub fn notice_name(notice: Notice) -> &'static [u8]
     ensures { result.now ≡ notice_word notice }
 {
     match notice {
@@ -26,7 +27,8 @@ fn notice_name(notice: Notice) -> &'static [u8]
     }
 }
 
-fn notice_number(notice: Notice) -> Option<u8>
+/// The number of a notice, where it has one.
+pub fn notice_number(notice: Notice) -> Option<u8>
     ensures { result ≡ notice_number_of notice }
 {
     match notice {
