@@ -33,8 +33,8 @@ pub can_run : (o t : Text → Option Text) (command : Command) → HasOptions o 
 can_run o t (Explain form style max) h = h.2.in_range
 can_run o t (Station served) h = tt
 can_run o t (Tap tapped) h = h.max.in_range
-can_run o t (Simulate config) h = sized config h.window.in_range h.inbox.in_range h.max.in_range h.syn.in_range
-can_run o t (Pair config) h = sized config h.window.in_range h.inbox.in_range h.max.in_range h.syn.in_range
+can_run o t (Simulate config view) h = sized config h.0.window.in_range h.0.inbox.in_range h.0.max.in_range h.0.syn.in_range
+can_run o t (Pair config view) h = sized config h.0.window.in_range h.0.inbox.in_range h.0.max.in_range h.0.syn.in_range
 
 -- Names that differ as texts aren't one name. A new command costs one line of each law below.
 other : (a b : Text) → bytes_eq a b ≡ false → ◌≡◌ {A = Option Text} (Some a) (Some b) → ⊥
@@ -44,8 +44,8 @@ other a b differ e =
 
 pub performed : (words : List Text) (command : Command) (input : List ℕ) (left old new : Option (List ℕ)) (ending : Ending) → IsAsked words (codes "explain") → named_by words ≡ Some (name_of command) → HasOptions (option_in words) (text_in words) command → Performs command input left old new ending → ExplainsOrNoMemory words input left old new ending
 performed words (Explain form style max) input left old new ending a n h p = inr (form, style, max, p.0, h, p.1, p.2)
-performed words (Simulate config) input left old new ending a n h p = absurd (other (codes "explain") (codes "simulate") refl (sym a.names ∙ n))
-performed words (Pair config) input left old new ending a n h p = absurd (other (codes "explain") (codes "pair") refl (sym a.names ∙ n))
+performed words (Simulate config view) input left old new ending a n h p = absurd (other (codes "explain") (codes "simulate") refl (sym a.names ∙ n))
+performed words (Pair config view) input left old new ending a n h p = absurd (other (codes "explain") (codes "pair") refl (sym a.names ∙ n))
 performed words (Station served) input left old new ending a n h p = absurd (other (codes "explain") (codes "station") refl (sym a.names ∙ n))
 performed words (Tap tapped) input left old new ending a n h p = absurd (other (codes "explain") (codes "tap") refl (sym a.names ∙ n))
 
@@ -53,8 +53,8 @@ performed words (Tap tapped) input left old new ending a n h p = absurd (other (
 pub stationed : {R : Type 0} (words : List Text) (command : Command) (reader reader_after : R) (old new : Option (List ℕ)) (ending : Ending) → IsAsked words (codes "station") → named_by words ≡ Some (name_of command) → HasOptions (option_in words) (text_in words) command
     → ((served : Served) → command ≡ Station served → (reader_after ≡ reader) × Stations served old new ending) → (reader_after ≡ reader) × StationsOrNoMemory words old new ending
 stationed words (Explain form style max) reader after old new ending a n h p = absurd (other (codes "station") (codes "explain") refl (sym a.names ∙ n))
-stationed words (Simulate config) reader after old new ending a n h p = absurd (other (codes "station") (codes "simulate") refl (sym a.names ∙ n))
-stationed words (Pair config) reader after old new ending a n h p = absurd (other (codes "station") (codes "pair") refl (sym a.names ∙ n))
+stationed words (Simulate config view) reader after old new ending a n h p = absurd (other (codes "station") (codes "simulate") refl (sym a.names ∙ n))
+stationed words (Pair config view) reader after old new ending a n h p = absurd (other (codes "station") (codes "pair") refl (sym a.names ∙ n))
 stationed words (Station served) reader after old new ending a n h p =
     let s = p served refl in
     (s.0, inr (served, h, s.1))
@@ -63,7 +63,7 @@ stationed words (Tap tapped) reader after old new ending a n h p = absurd (other
 -- words that ask for a tap are answered by it
 pub tapped : (Answered : Type 0) (words : List Text) (command : Command) → IsAsked words (codes "tap") → named_by words ≡ Some (name_of command) → ((tapped : Tapped) → command ≡ Tap tapped → Answered) → Answered
 tapped A words (Explain form style max) a n p = absurd (other (codes "tap") (codes "explain") refl (sym a.names ∙ n))
-tapped A words (Simulate config) a n p = absurd (other (codes "tap") (codes "simulate") refl (sym a.names ∙ n))
-tapped A words (Pair config) a n p = absurd (other (codes "tap") (codes "pair") refl (sym a.names ∙ n))
+tapped A words (Simulate config view) a n p = absurd (other (codes "tap") (codes "simulate") refl (sym a.names ∙ n))
+tapped A words (Pair config view) a n p = absurd (other (codes "tap") (codes "pair") refl (sym a.names ∙ n))
 tapped A words (Station served) a n p = absurd (other (codes "tap") (codes "station") refl (sym a.names ∙ n))
 tapped A words (Tap t) a n p = p t refl

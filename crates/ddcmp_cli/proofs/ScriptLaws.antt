@@ -57,9 +57,9 @@ pub told-carrier : (r : Result (Unit {0}) ScriptFault) (fault : ScriptFault) (ma
 told-carrier r fault made e m k = e ∙ ap Err (carried fault (sym m ∙ faulted made Carrier k))
 
 -- what a carrier that tells nothing did is known of none
-pub untold : (input : List ℕ) (before p q : PairState) (is_direct : Bool) (t u : Option (List Carriage)) (Wrote WrotePart : List ℕ → Type 0) (r : Result (Unit {0}) ScriptFault)
-    → before ≡ p → t ≡ None → u ≡ None → Plays input (around before q is_direct t u) Wrote WrotePart r → Plays input (around p q is_direct None None) Wrote WrotePart r
-untold input before p q is_direct t u Wrote WrotePart r e n m h =
-    subst (λ b. Plays input (around b q is_direct None None) Wrote WrotePart r) e
-    (subst (λ x. Plays input (around before q is_direct x None) Wrote WrotePart r) n
-    (subst (λ y. Plays input (around before q is_direct t y) Wrote WrotePart r) m h))
+pub untold : (counted : Bool) (input : List ℕ) (before p q : PairState) (is_direct : Bool) (t u : Option (List Carriage)) (Wrote WrotePart : List ℕ → Type 0) (r : Result (Unit {0}) ScriptFault)
+    → before ≡ p → t ≡ None → u ≡ None → Plays counted input (around before q is_direct t u) Wrote WrotePart r → Plays counted input (around p q is_direct None None) Wrote WrotePart r
+untold counted input before p q is_direct t u Wrote WrotePart r e n m h =
+    subst (λ b. Plays counted input (around b q is_direct None None) Wrote WrotePart r) e
+    (subst (λ x. Plays counted input (around before q is_direct x None) Wrote WrotePart r) n
+    (subst (λ y. Plays counted input (around before q is_direct t y) Wrote WrotePart r) m h))

@@ -19,6 +19,7 @@ use Rattle.clap.specs.Words.{Text}
 use Rattle.ddcmp_words.specs.declared.command.Command.{Command}
 use Rattle.ddcmp_words.specs.declared.command.Command.TheVariants.{Explain, Simulate, Pair, Station, Tap}
 use Rattle.ddcmp_words.specs.declared.served.Served.{Served}
+use Rattle.ddcmp_words.specs.declared.view.View.{View}
 use Rattle.ddcmp_serve.specs.declared.serve_fault.ServeFault.{ServeFault}
 use Rattle.ddcmp_serve.specs.declared.serve_fault.ServeFault.TheVariants as serving
 use Rattle.ddcmp_station.specs.declared.driving.LineFault.TheVariants as line
@@ -118,32 +119,40 @@ shown_of (Faulted fault) = None
 
 abbrev pub CanRun : Command → Type 0
 CanRun (Explain form style max) = (1 ≤ max) × (max ≤ MAX_COUNT)
-CanRun (Simulate config) = first_refusal config ≡ None
-CanRun (Pair config) = first_refusal config ≡ None
+CanRun (Simulate config view) = first_refusal config ≡ None
+CanRun (Pair config view) = first_refusal config ≡ None
 CanRun (Station served) = ⊤
 CanRun (Tap tapped) = (1 ≤ tapped.max) × (tapped.max ≤ MAX_COUNT)
 
 -- A script was played between two new ends of these sizes, over a carrier that is direct or not,
 -- and the ending tells the answer; or there was no memory for the ends.
-abbrev pub PlaysBetween : Bool → Config → List ℕ → Known → Known → Known → Ending → Type 0
-PlaysBetween is_direct config input left old new ending =
+abbrev pub PlaysBetween : Bool → Config → Bool → List ℕ → Known → Known → Known → Ending → Type 0
+PlaysBetween is_direct config counted input left old new ending =
     ((ending ≡ Faulted NoMemory) × (left ≡ Some input) × Appends old new [])
     ⊎ ((result : Result (Unit {0}) ScriptFault) × (after : PairState)
     × (ending ≡ ending_of script_fault result)
-    × Plays input (around (new_pair config config) after is_direct None None) (Appends old new)
-    (AppendsPart old new) result)
+    × Plays counted input (around (new_pair config config) after is_direct None None)
+    (Appends old new) (AppendsPart old new) result)
 
 -- A script was played over a line that gives what goes in and doesn't fail.
-abbrev pub Simulates : Config → List ℕ → Known → Known → Known → Ending → Type 0
-Simulates config input left old new ending =
-    PlaysBetween true config input left old new ending × (ending ≢ Faulted Carrier)
+abbrev pub Simulates : Config → Bool → List ℕ → Known → Known → Known → Ending → Type 0
+Simulates config counted input left old new ending =
+    PlaysBetween true config counted input left old new ending × (ending ≢ Faulted Carrier)
 
 -- A script was played over a connection, or that couldn't be made. What a connection gives isn't
 -- known.
-abbrev pub Pairs : Config → List ℕ → Known → Known → Known → Ending → Type 0
-Pairs config input left old new ending =
+abbrev pub Pairs : Config → Bool → List ℕ → Known → Known → Known → Ending → Type 0
+Pairs config counted input left old new ending =
     ((ending ≡ Faulted Carrier) × (left ≡ Some input) × Appends old new [])
-    ⊎ PlaysBetween false config input left old new ending
+    ⊎ PlaysBetween false config counted input left old new ending
+
+-- What is said of a run, by how it is to be shown: both pictures at once are refused; of one picture
+-- nothing is said here; and where none is asked for, the text is written.
+abbrev pub ShowsRun : Bool → Bool → (Ending → Type 0) → (Ending → Type 0) → Ending → Type 0
+ShowsRun true true Refused Written ending = (is_refusal ending ≡ true) × Refused ending
+ShowsRun true false Refused Written ending = ⊤
+ShowsRun false true Refused Written ending = ⊤
+ShowsRun false false Refused Written ending = Written ending
 
 -- A station was served over some connection, with this message to send, and the ending tells the
 -- answer. Where there was no memory nothing was written.
@@ -188,9 +197,12 @@ abbrev pub Performs : Command → List ℕ → Known → Known → Known → End
 Performs (Explain form style max) input left old new ending =
     (result : Result (Unit {0}) ExplainFault) × (ending ≡ ending_of explain_fault result)
     × Explains form style max input left old new result
-Performs (Simulate config) input left old new ending =
-    Simulates config input left old new ending
-Performs (Pair config) input left old new ending = Pairs config input left old new ending
+Performs (Simulate config view) input left old new ending =
+    ShowsRun view.svg view.ladder (λ e. (left ≡ Some input) × Keeps old new)
+    (λ e. Simulates config view.counters input left old new e) ending
+Performs (Pair config view) input left old new ending =
+    ShowsRun view.svg view.ladder (λ e. (left ≡ Some input) × Keeps old new)
+    (λ e. Pairs config view.counters input left old new e) ending
 Performs (Station served) input left old new ending =
     (left ≡ Some input) × Stations served old new ending
 Performs (Tap tapped) input left old new ending = (left ≡ Some input) × Taps old new ending

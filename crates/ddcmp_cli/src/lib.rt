@@ -1,6 +1,7 @@
 //! The command `ddcmp`: runs what its words ask for, and turns faults into statuses.
 #![tactic(auto)]
 
+mod drawing;
 pub mod ending;
 pub mod fault;
 pub mod program;
@@ -15,7 +16,8 @@ pub use ddcmp_explain::{
 pub use ddcmp_pump::{TapFault, tap_fault};
 pub use ddcmp_serve::{SERVED_MAX, ServeFault, serve, serve_fault, serving};
 pub use ddcmp_words::{
-    Command, Declined, Role, Served, Tapped, command, declined, read_words, served, tapped,
+    Command, Declined, Role, Served, Tapped, View, command, declined, read_words, served, tapped,
+    view,
 };
 pub use ending::Ending;
 pub use fault::Fault;

@@ -10,9 +10,9 @@ ghost use Rattle.ddcmp_words.specs.declared.tapped.Tapped.{Tapped as TappedValue
 ghost use Rattle.ddcmp_cli.specs.Endings.{is_refusal, Stations, StationsOrNoMemory};
 ghost use Rattle.ddcmp_cli.specs.TapEndings.{Taps};
 
+use crate::drawing::{show_pair, show_simulation};
 use crate::ending::Ending;
 use crate::fault::Fault;
-use crate::simulating::{pair, simulate};
 use crate::stationing::station;
 use crate::tapping::tap;
 use ddcmp_explain::explain_with;
@@ -42,10 +42,11 @@ fn perform<S: Net<Stream = TcpStream> + time::Clock, R: Source, W: Sink>(
         (W.contents writer.new) result }
     ensures read { R.state reader.new ≢ Worst.Fine → result ≡ Ending.Fault Fault.Read }
     ensures read_only { name_of command.entry ≢ codes "station"
-        → name_of command.entry ≢ codes "tap" → result ≡ Ending.Fault Fault.Read → (R.state reader.new ≢ Worst.Fine)
-        ⊎ GaveMost (R.left reader.old) (R.left reader.new) }
+        → name_of command.entry ≢ codes "tap" → result ≡ Ending.Fault Fault.Read
+        → (R.state reader.new ≢ Worst.Fine) ⊎ GaveMost (R.left reader.old) (R.left reader.new) }
     ensures write { name_of command.entry ≢ codes "station"
-        → name_of command.entry ≢ codes "tap" → (result ≡ Ending.Fault Fault.Write) ↔ IsTrue (W.broken writer.new) }
+        → name_of command.entry ≢ codes "tap"
+        → (result ≡ Ending.Fault Fault.Write) ↔ IsTrue (W.broken writer.new) }
     ensures whole { result ≡ Ending.Done → W.broken writer.new ≡ false }
     ensures stations { (served : ServedValue) → command.entry ≡ Command.Station served
         → (reader.new ≡ reader.old)
@@ -62,8 +63,8 @@ fn perform<S: Net<Stream = TcpStream> + time::Clock, R: Source, W: Sink>(
             Ok(()) => Ending::Done,
             Err(fault) => Ending::Fault(Fault::from(fault)),
         },
-        Command::Simulate(config) => simulate(alloc, config, reader, writer),
-        Command::Pair(config) => pair(system, alloc, config, reader, writer),
+        Command::Simulate(config, view) => show_simulation(alloc, config, view, reader, writer),
+        Command::Pair(config, view) => show_pair(system, alloc, config, view, reader, writer),
         Command::Station(served) => station(system, alloc, &served, writer),
         Command::Tap(tapped) => tap(system, alloc, &tapped, writer),
     }

@@ -8,7 +8,7 @@ use crate::ending::Ending;
 use crate::fault::Fault;
 use ddcmp_io::{Sink, Source, Worst};
 use ddcmp_net::Sockets;
-use ddcmp_script::{Carrier, Direct, script};
+use ddcmp_script::{Carrier, Direct, script_with};
 use ddcmp_station::Config;
 use std::alloc::Global;
 use std::net::{Net, TcpStream};
@@ -17,6 +17,7 @@ use std::net::{Net, TcpStream};
 fn play<R: Source, W: Sink, C: Carrier>(
     alloc: Global,
     config: Config,
+    counted: bool,
     carrier: &mut C,
     reader: &mut R,
     writer: &mut W,
@@ -27,7 +28,7 @@ fn play<R: Source, W: Sink, C: Carrier>(
     requires silent { (c : C) → C.told c ≡ None }
     requires sizes { first_refusal config ≡ None }
     ensures plays { (input : List ℕ) → R.left reader.old ≡ Some input
-        → PlaysBetween (C.direct carrier.old) config input (R.left reader.new)
+        → PlaysBetween (C.direct carrier.old) config counted input (R.left reader.new)
         (W.contents writer.old) (W.contents writer.new) result }
     ensures read { R.state reader.new ≢ Worst.Fine → result ≡ Ending.Fault Fault.Read }
     ensures read_only { result ≡ Ending.Fault Fault.Read → (R.state reader.new ≢ Worst.Fine)
@@ -38,7 +39,7 @@ fn play<R: Source, W: Sink, C: Carrier>(
     let Ok(mut pair) = ddcmp_pair::Pair::new(alloc, config, config) else {
         return Ending::Fault(Fault::Memory);
     };
-    match script(alloc, &mut pair, reader, writer, carrier) {
+    match script_with(alloc, &mut pair, reader, writer, carrier, counted) {
         Ok(()) => Ending::Done,
         Err(fault) => Ending::Fault(Fault::from(fault)),
     }
@@ -48,6 +49,7 @@ fn play<R: Source, W: Sink, C: Carrier>(
 pub(crate) fn simulate<R: Source, W: Sink>(
     alloc: Global,
     config: Config,
+    counted: bool,
     reader: &mut R,
     writer: &mut W,
 ) -> Ending
@@ -55,14 +57,14 @@ pub(crate) fn simulate<R: Source, W: Sink>(
     requires whole { W.broken writer.old ≡ false }
     requires sizes { first_refusal config ≡ None }
     ensures simulates { (input : List ℕ) → R.left reader.old ≡ Some input
-        → Simulates config input (R.left reader.new) (W.contents writer.old)
+        → Simulates config counted input (R.left reader.new) (W.contents writer.old)
         (W.contents writer.new) result }
     ensures read { R.state reader.new ≢ Worst.Fine → result ≡ Ending.Fault Fault.Read }
     ensures read_only { result ≡ Ending.Fault Fault.Read → (R.state reader.new ≢ Worst.Fine)
         ⊎ GaveMost (R.left reader.old) (R.left reader.new) }
     ensures write { (result ≡ Ending.Fault Fault.Write) ↔ IsTrue (W.broken writer.new) }
 {
-    play(alloc, config, &mut Direct, reader, writer)
+    play(alloc, config, counted, &mut Direct, reader, writer)
 }
 
 /// Runs a script over a connection, which is made first.
@@ -70,6 +72,7 @@ pub(crate) fn pair<N: Net<Stream = TcpStream>, R: Source, W: Sink>(
     net: &N,
     alloc: Global,
     config: Config,
+    counted: bool,
     reader: &mut R,
     writer: &mut W,
 ) -> Ending
@@ -77,7 +80,7 @@ pub(crate) fn pair<N: Net<Stream = TcpStream>, R: Source, W: Sink>(
     requires whole { W.broken writer.old ≡ false }
     requires sizes { first_refusal config ≡ None }
     ensures pairs { (input : List ℕ) → R.left reader.old ≡ Some input
-        → Pairs config input (R.left reader.new) (W.contents writer.old)
+        → Pairs config counted input (R.left reader.new) (W.contents writer.old)
         (W.contents writer.new) result }
     ensures read { R.state reader.new ≢ Worst.Fine → result ≡ Ending.Fault Fault.Read }
     ensures read_only { result ≡ Ending.Fault Fault.Read → (R.state reader.new ≢ Worst.Fine)
@@ -87,5 +90,5 @@ pub(crate) fn pair<N: Net<Stream = TcpStream>, R: Source, W: Sink>(
     let Ok(mut sockets) = Sockets::new(net) else {
         return Ending::Fault(Fault::Carrier);
     };
-    play(alloc, config, &mut sockets, reader, writer)
+    play(alloc, config, counted, &mut sockets, reader, writer)
 }

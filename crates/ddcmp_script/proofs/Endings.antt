@@ -20,7 +20,7 @@ use Rattle.ddcmp_script.specs.declared.performing.Stop.TheVariants as stop
 use Rattle.ddcmp_script.specs.declared.script_fault.ScriptFault.{ScriptFault}
 use Rattle.ddcmp_script.specs.declared.script_fault.ScriptFault.TheVariants.{Line, Hex, Read, Write, Memory, Carrier}
 use Rattle.ddcmp_script_text.specs.ScriptWords.{lines_of}
-use Rattle.ddcmp_script_text.specs.ScriptText.{totals_line}
+use Rattle.ddcmp_script_text.specs.ScriptText.{closing_text}
 use Rattle.ddcmp_carrier.specs.Carriages.{Carriage}
 use Rattle.ddcmp_script.specs.Script.{Between, AllFit, nothing_between, after_lines, text_of_lines, carriages_of_lines, IsScriptLine, lines_done}
 use Rattle.ddcmp_script.specs.ScriptEnds.{text_then, Around, around, PausedBefore, StoppedAt, Broken, text_behind, Plays}
@@ -55,7 +55,7 @@ wrote-part sink o text h = part-of o.broken sink o.sink o.waiting text (h.holds 
 
 -- ---- a stop
 
-module _ (input : List ℕ) (x : Around) where
+module _ (counted : Bool) (input : List ℕ) (x : Around) where
   stopped-wrote : (Reads : ParsedLine → Type 0) (n : ℕ) (W V : List ℕ → Type 0) → ((t : List ℕ) → W t → V t) → StoppedAt Reads n input x W → StoppedAt Reads n input x V
   stopped-wrote Reads n W V f s = record {
     done = s.done;
@@ -99,43 +99,43 @@ module _ (input : List ℕ) (x : Around) where
   stops-break number start a stop.Memory s = s
   stops-break number start a stop.Carrier s = stopped-breaks _ _ (HandsOver start a) s
 
-  broken-part : (sink : Known) (o : Output) → Broken input x (λ text behind. HandsOver (fresh sink) o text) → Broken input x (λ text behind. AppendsPart sink o.sink (text ++ text_behind behind x.pair_after))
-  broken-part sink o s = broken-wrote _ _ (λ t b h. part-append sink o.sink t (text_behind b x.pair_after) (wrote-part sink o t h)) s
+  broken-part : (sink : Known) (o : Output) → Broken input x (λ text behind. HandsOver (fresh sink) o text) → Broken input x (λ text behind. AppendsPart sink o.sink (text ++ text_behind counted behind x.pair_after))
+  broken-part sink o s = broken-wrote _ _ (λ t b h. part-append sink o.sink t (text_behind counted b x.pair_after) (wrote-part sink o t h)) s
 
   -- the text of a stop couldn't be written
-  pub plays-write : (number : ℕ) (sink : Known) (o : Output) (why : Stop) → Stops input number (fresh sink) o x why → Plays input x (Appends sink o.sink) (AppendsPart sink o.sink) (Err Write)
+  pub plays-write : (number : ℕ) (sink : Known) (o : Output) (why : Stop) → Stops input number (fresh sink) o x why → Plays counted input x (Appends sink o.sink) (AppendsPart sink o.sink) (Err Write)
   plays-write number sink o why s = broken-part sink o (stops-break number (fresh sink) o why s)
 
   module _ (number : ℕ) (sink : Known) (o : Output) (whole : o.broken ≡ false) (empty : o.waiting ≡ []) where
     all : (t : List ℕ) → HandsOver (fresh sink) o t → Appends sink o.sink t
     all t h = wrote-all sink o t h whole empty
 
-    pub plays-line : Stops input number (fresh sink) o x stop.NoCommand → Plays input x (Appends sink o.sink) (AppendsPart sink o.sink) (Err (Line (number + 1)))
+    pub plays-line : Stops input number (fresh sink) o x stop.NoCommand → Plays counted input x (Appends sink o.sink) (AppendsPart sink o.sink) (Err (Line (number + 1)))
     plays-line s = stopped-wrote _ _ (HandsOver (fresh sink) o) (Appends sink o.sink) all s
 
-    pub plays-hex : Stops input number (fresh sink) o x stop.NotHex → Plays input x (Appends sink o.sink) (AppendsPart sink o.sink) (Err (Hex (number + 1)))
+    pub plays-hex : Stops input number (fresh sink) o x stop.NotHex → Plays counted input x (Appends sink o.sink) (AppendsPart sink o.sink) (Err (Hex (number + 1)))
     plays-hex s = stopped-wrote _ _ (HandsOver (fresh sink) o) (Appends sink o.sink) all s
 
-    pub plays-memory : Stops input number (fresh sink) o x stop.Memory → Plays input x (Appends sink o.sink) (AppendsPart sink o.sink) (Err Memory)
+    pub plays-memory : Stops input number (fresh sink) o x stop.Memory → Plays counted input x (Appends sink o.sink) (AppendsPart sink o.sink) (Err Memory)
     plays-memory s = broken-wrote _ _ (λ t b h. all t h) s
 
-    pub plays-carrier : Stops input number (fresh sink) o x stop.Carrier → Plays input x (Appends sink o.sink) (AppendsPart sink o.sink) (Err Carrier)
+    pub plays-carrier : Stops input number (fresh sink) o x stop.Carrier → Plays counted input x (Appends sink o.sink) (AppendsPart sink o.sink) (Err Carrier)
     plays-carrier s = (number + 1, stopped-wrote _ _ (HandsOver (fresh sink) o) (Appends sink o.sink) all s)
 
   -- ---- the end of the input
 
-  module _ (sink : Known) (a b o : Output) (last : HasDoneAll input (fresh sink) a x) (told : HandsOver a b (totals_line x.pair_after)) (flushed : HandsOver b o []) where
-    told_all : HandsOver (fresh sink) o (text_then x.pair last.done ++ totals_line x.pair_after)
-    told_all = sends-more (text_then x.pair last.done ++ totals_line x.pair_after) (sends-then last.did.written told) flushed
+  module _ (sink : Known) (a b o : Output) (last : HasDoneAll input (fresh sink) a x) (told : HandsOver a b (closing_text counted x.pair_after)) (flushed : HandsOver b o []) where
+    told_all : HandsOver (fresh sink) o (text_then x.pair last.done ++ closing_text counted x.pair_after)
+    told_all = sends-more (text_then x.pair last.done ++ closing_text counted x.pair_after) (sends-then last.did.written told) flushed
 
-    pub plays-whole : o.broken ≡ false → o.waiting ≡ [] → Plays input x (Appends sink o.sink) (AppendsPart sink o.sink) (Ok tt)
+    pub plays-whole : o.broken ≡ false → o.waiting ≡ [] → Plays counted input x (Appends sink o.sink) (AppendsPart sink o.sink) (Ok tt)
     plays-whole whole empty = record {
       done = last.done;
       begins = last.begins;
       did = record { pair = last.did.pair; carried = last.did.carried; written = wrote-all sink o _ told_all whole empty };
     }
 
-    pub plays-cut : Plays input x (Appends sink o.sink) (AppendsPart sink o.sink) (Err Write)
+    pub plays-cut : Plays counted input x (Appends sink o.sink) (AppendsPart sink o.sink) (Err Write)
     plays-cut = record {
       done = last.done;
       behind = [];
@@ -166,7 +166,7 @@ module _ (input : List ℕ) (x : Around) where
       written = h.did.written;
     }
 
-  pub plays-paused : (rest line : List ℕ) (number : ℕ) (lines : Between) (sink : Known) (o : Output) → HasDone input rest line number lines (fresh sink) o x → o.broken ≡ false → o.waiting ≡ [] → Plays input x (Appends sink o.sink) (AppendsPart sink o.sink) (Err Read)
+  pub plays-paused : (rest line : List ℕ) (number : ℕ) (lines : Between) (sink : Known) (o : Output) → HasDone input rest line number lines (fresh sink) o x → o.broken ≡ false → o.waiting ≡ [] → Plays counted input x (Appends sink o.sink) (AppendsPart sink o.sink) (Err Read)
   plays-paused rest line number lines sink o h whole empty = record {
     done = h.done;
     behind = lines_of (line ++ rest);
@@ -184,7 +184,7 @@ module _ (input : List ℕ) (x : Around) where
     did = record { pair = h.did.pair; carried = h.did.carried; written = wrote-all sink o _ h.did.written whole empty };
   }
 
-  pub plays-unwritten : (rest line : List ℕ) (number : ℕ) (lines : Between) (sink : Known) (o : Output) → HasDone input rest line number lines (fresh sink) o x → Plays input x (Appends sink o.sink) (AppendsPart sink o.sink) (Err Write)
+  pub plays-unwritten : (rest line : List ℕ) (number : ℕ) (lines : Between) (sink : Known) (o : Output) → HasDone input rest line number lines (fresh sink) o x → Plays counted input x (Appends sink o.sink) (AppendsPart sink o.sink) (Err Write)
   plays-unwritten rest line number lines sink o h =
       broken-part sink o (has-broken rest line number lines (fresh sink) o h)
 
@@ -273,7 +273,7 @@ most-read k None left input r e m = let bad : ◌≡◌ {A = Option (List ℕ)} 
 most-read k (Some a) None input r e m = absurd r.2
 most-read k (Some a) (Some b) input r e m = read-all k (Some a) (Some b) r a b refl refl m
 
-module _ (input : List ℕ) (x : Around) (W V : List ℕ → Type 0) (state : Worst) (most : Type 0) (w c : Bool) where
+module _ (counted : Bool) (input : List ℕ) (x : Around) (W V : List ℕ → Type 0) (state : Worst) (most : Type 0) (w c : Bool) where
   abbrev pub Succeeds : Answer → Type 0
   Succeeds result = AllFit (lines_of input) × (state ≡ worst.Fine) × (most → ⊥) × (w ≡ false) × (c ≡ false) × (result ≢ Err Memory)
 
@@ -288,7 +288,7 @@ module _ (input : List ℕ) (x : Around) (W V : List ℕ → Type 0) (state : Wo
   fits-there : (Reads : ParsedLine → Type 0) (n : ℕ) (s : StoppedAt Reads n input x W) → AllFit (lines_of input) → IsScriptLine s.line
   fits-there Reads n s h = fit-at (lines_done s.done) s.line s.behind (subst AllFit (sym s.begins.lines) h)
 
-  then-fits : (result : Answer) → Plays input x W V result → ToldBy result → IsOk result → Succeeds result
+  then-fits : (result : Answer) → Plays counted input x W V result → ToldBy result → IsOk result → Succeeds result
   then-fits (Ok u) s told ok = (
     subst AllFit (sym (append-nil (lines_done s.done)) ∙ s.begins.lines) s.begins.fit,
     fine-or state (λ bad. let e : ◌≡◌ {A = Answer} (Ok u) (Err Read) = told.read bad in absurd (cc)),
@@ -299,7 +299,7 @@ module _ (input : List ℕ) (x : Around) (W V : List ℕ → Type 0) (state : Wo
   )
   then-fits (Err fault) s told ok = let bad : ◌≡◌ {A = Bool} false true = ok in absurd (cc)
 
-  only-then : (result : Answer) → Plays input x W V result → ToldBy result → Succeeds result → IsOk result
+  only-then : (result : Answer) → Plays counted input x W V result → ToldBy result → Succeeds result → IsOk result
   only-then (Ok u) s told h = refl
   only-then (Err (Line n)) s told h = absurd ((fits-there _ n s h.0).0 s.reads)
   only-then (Err (Hex n)) s told h = absurd ((fits-there _ n s h.0).1 s.reads)
@@ -311,5 +311,5 @@ module _ (input : List ℕ) (x : Around) (W V : List ℕ → Type 0) (state : Wo
   only-then (Err Memory) s told h = absurd (h.5 refl)
   only-then (Err Carrier) s told h = absurd (true-not c (told.carried.0 refl) h.4)
 
-  pub ok-exactly : (result : Answer) → Plays input x W V result → ToldBy result → IsOk result ↔ Succeeds result
+  pub ok-exactly : (result : Answer) → Plays counted input x W V result → ToldBy result → IsOk result ↔ Succeeds result
   ok-exactly result s told = (then-fits result s told, only-then result s told)

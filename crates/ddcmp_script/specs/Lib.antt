@@ -6,3 +6,4 @@ pub use Rattle.ddcmp_script_text.specs.ScriptText
 pub use Rattle.ddcmp_script_text.specs.ScriptWords
 pub use Rattle.ddcmp_carrier.specs.Carriages
 pub use Rattle.ddcmp_station_text.specs.StationText
+pub use Rattle.ddcmp_station_text.specs.CountersText

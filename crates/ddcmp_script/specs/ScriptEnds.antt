@@ -9,7 +9,7 @@ use Rattle.ddcmp_script_text.specs.declared.command.ParsedLine.TheVariants as re
 use Rattle.ddcmp_script.specs.declared.script_fault.ScriptFault.{ScriptFault}
 use Rattle.ddcmp_script.specs.declared.script_fault.ScriptFault.TheVariants.{Line, Hex, Read, Write, Memory, Carrier}
 use Rattle.ddcmp_script_text.specs.ScriptWords.{reading_of, lines_of}
-use Rattle.ddcmp_script_text.specs.ScriptText.{totals_line}
+use Rattle.ddcmp_script_text.specs.ScriptText.{closing_text}
 use Rattle.ddcmp_carrier.specs.Carriages.{Carriage}
 use Rattle.ddcmp_script.specs.Script.{Scene, DoneLine, AllFit, nothing_between, lines_done, after_lines, text_of_lines, carriages_of_lines, events_by, carriages_by}
 use Rattle.ddcmp_script.specs.ScriptSteps.{Carries}
@@ -69,10 +69,11 @@ pub record Did (done : List DoneLine) (x : Around) (Wrote : List ℕ → Type 0)
   pub written : Wrote (text_then x.pair done)
 
 -- All lines were done, and the last line of the text was written too.
-pub record Finished (input : List ℕ) (x : Around) (Wrote : List ℕ → Type 0) : Type 0 where
+pub record Finished (counted : Bool) (input : List ℕ) (x : Around) (Wrote : List ℕ → Type 0)
+    : Type 0 where
   pub done : List DoneLine
   pub begins : Begins done [] input
-  pub did : Did done x (λ text. Wrote (text ++ totals_line x.pair_after))
+  pub did : Did done x (λ text. Wrote (text ++ closing_text counted x.pair_after))
 
 -- Some lines were done.
 pub record Paused (input : List ℕ) (x : Around) (Wrote : List ℕ → Type 0) : Type 0 where
@@ -121,9 +122,9 @@ StoppedBefore [] done x = StoppedBehind done x
 StoppedBefore (line ∷ behind) done x = StoppedBehind done x ⊎ StoppedInside line done x
 
 -- behind the text of the last line comes what has been done
-abbrev pub text_behind : List (List ℕ) → PairState → List ℕ
-text_behind [] p = totals_line p
-text_behind (line ∷ behind) p = []
+abbrev pub text_behind : Bool → List (List ℕ) → PairState → List ℕ
+text_behind counted [] p = closing_text counted p
+text_behind counted (line ∷ behind) p = []
 
 -- Some lines were done, and the next one wasn't, or only in part.
 pub record Broken (input : List ℕ) (x : Around) (Wrote : List ℕ → List (List ℕ) → Type 0)
@@ -140,16 +141,17 @@ AsksCarrier r = (from : End) × (most : Option ℕ) × (r ≡ reading.Asks (comm
 
 -- What each answer to a script says of its whole input: which lines were done and how the next one
 -- reads, what the pair and its carrier are after, and what was written, or a beginning of it.
-abbrev pub Plays : List ℕ → Around → (List ℕ → Type 0) → (List ℕ → Type 0)
+-- `counted` is whether counters are asked for.
+abbrev pub Plays : Bool → List ℕ → Around → (List ℕ → Type 0) → (List ℕ → Type 0)
     → Result (Unit {0}) ScriptFault → Type 0
-Plays input x Wrote WrotePart (Ok u) = Finished input x Wrote
-Plays input x Wrote WrotePart (Err (Line n)) =
+Plays counted input x Wrote WrotePart (Ok u) = Finished counted input x Wrote
+Plays counted input x Wrote WrotePart (Err (Line n)) =
     StoppedAt (λ r. r ≡ reading.NoCommand) n input x Wrote
-Plays input x Wrote WrotePart (Err (Hex n)) =
+Plays counted input x Wrote WrotePart (Err (Hex n)) =
     StoppedAt (λ r. r ≡ reading.NotHex) n input x Wrote
-Plays input x Wrote WrotePart (Err Read) = Paused input x Wrote
-Plays input x Wrote WrotePart (Err Write) =
-    Broken input x (λ text behind. WrotePart (text ++ text_behind behind x.pair_after))
-Plays input x Wrote WrotePart (Err Memory) = Broken input x (λ text behind. Wrote text)
-Plays input x Wrote WrotePart (Err Carrier) =
+Plays counted input x Wrote WrotePart (Err Read) = Paused input x Wrote
+Plays counted input x Wrote WrotePart (Err Write) =
+    Broken input x (λ text behind. WrotePart (text ++ text_behind counted behind x.pair_after))
+Plays counted input x Wrote WrotePart (Err Memory) = Broken input x (λ text behind. Wrote text)
+Plays counted input x Wrote WrotePart (Err Carrier) =
     (n : ℕ) × StoppedAt AsksCarrier n input x Wrote

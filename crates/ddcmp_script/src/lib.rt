@@ -9,4 +9,4 @@ mod scripting;
 pub use ddcmp_carrier::{Carrier, Direct, End, LineFault};
 pub use ddcmp_pair::Pair;
 pub use script_fault::ScriptFault;
-pub use scripting::script;
+pub use scripting::{script, script_with, write_closing};

@@ -6,7 +6,7 @@ ghost use Rattle.ddcmp_run.specs.Run.{PairState};
 ghost use Rattle.ddcmp_run.specs.InOrder.{IsInOrder};
 ghost use Rattle.ddcmp_io.specs.Input.{GaveMost};
 ghost use Rattle.ddcmp_script_text.specs.ScriptWords.{lines_of, without_cr as without_cr_of};
-ghost use Rattle.ddcmp_script_text.specs.ScriptText.{yes_or_no as yes_or_no_text, totals_line};
+ghost use Rattle.ddcmp_script_text.specs.ScriptText.{yes_or_no as yes_or_no_text, totals_line, counters_lines, closing_text};
 ghost use Rattle.ddcmp_carrier.specs.Carriages.{Carriage};
 ghost use Rattle.ddcmp_script.specs.Script.{AllFit, nothing_between};
 ghost use Rattle.ddcmp_script.specs.ScriptEnds.{Around, around, PausedBefore, Plays};
@@ -19,6 +19,8 @@ use ddcmp_io::input::read_within;
 use ddcmp_io::text::write_number;
 use ddcmp_io::{Got, Page, Sink, Source, Worst};
 use ddcmp_pair::{End, Pair};
+use ddcmp_script_text::end_name;
+use ddcmp_station_text::write_counters;
 use std::alloc::Global;
 
 /// How many bytes of a script are read at once.
@@ -71,6 +73,39 @@ fn write_last_line<W: Sink>(page: &mut Page, writer: &mut W, pair: &Pair)
     page.write(writer, b" B=");
     write_number(page, writer, pair.acknowledged(End::B));
     page.write(writer, b"\n");
+}
+
+/// A line of the counters of each station.
+fn write_both_counters<W: Sink>(page: &mut Page, writer: &mut W, pair: &Pair)
+    ensures { HandsOver (output_of W.broken W.contents writer.old page.old)
+        (output_of W.broken W.contents writer.new page.new) (counters_lines pair.now) }
+{
+    let first = pair.station(End::A).counters();
+    write_counters(page, writer, end_name(End::A), first);
+    let second = pair.station(End::B).counters();
+    write_counters(page, writer, end_name(End::B), second);
+}
+
+/// The counters, and the last line.
+fn write_counted_closing<W: Sink>(page: &mut Page, writer: &mut W, pair: &Pair)
+    ensures { HandsOver (output_of W.broken W.contents writer.old page.old)
+        (output_of W.broken W.contents writer.new page.new)
+        (counters_lines pair.now ++ totals_line pair.now) }
+{
+    write_both_counters(page, writer, pair);
+    write_last_line(page, writer, pair);
+}
+
+/// The end of the text: the counters, where they are asked for, and the last line.
+pub fn write_closing<W: Sink>(page: &mut Page, writer: &mut W, pair: &Pair, counted: bool)
+    ensures { HandsOver (output_of W.broken W.contents writer.old page.old)
+        (output_of W.broken W.contents writer.new page.new) (closing_text counted pair.now) }
+{
+    if counted {
+        write_counted_closing(page, writer, pair);
+    } else {
+        write_last_line(page, writer, pair);
+    }
 }
 
 impl Player {
@@ -210,10 +245,10 @@ impl Player {
         ensures read { result ≢ ScriptFault.Read }
         ensures write { (result ≡ ScriptFault.Write) ↔ IsTrue (W.broken writer.new) }
         ensures carrier { (result ≡ ScriptFault.Carrier) ↔ (stop ≡ Stop.Carrier) }
-        ensures plays { (input : List ℕ) (x : Around) (sink : Option (List ℕ))
+        ensures plays { (counted : Bool) (input : List ℕ) (x : Around) (sink : Option (List ℕ))
             → Stops input self.old.number (fresh sink)
             (output_of W.broken W.contents writer.old self.old.stage.page) x stop
-            → Plays input x (Appends sink (W.contents writer.new))
+            → Plays counted input x (Appends sink (W.contents writer.new))
             (AppendsPart sink (W.contents writer.new)) (Err result) }
     {
         if stop == Stop::Carrier {
@@ -266,6 +301,7 @@ impl Player {
         pair: &mut Pair,
         writer: &mut W,
         carrier: &mut C,
+        counted: bool,
     ) -> Result<(), ScriptFault>
         requires whole { C.broken carrier.old ≡ false }
         requires few { self.old.number < 2 ^ 64 - 1 }
@@ -278,7 +314,7 @@ impl Player {
             → HasDone input [] self.old.line.items self.old.number self.old.stage.lines
             (fresh sink) (output_of W.broken W.contents writer.old self.old.stage.page)
             (around p pair.old d log (C.told carrier.old))
-            → Plays input (around p pair.new d log (C.told carrier.new))
+            → Plays counted input (around p pair.new d log (C.told carrier.new))
             (Appends sink (W.contents writer.new))
             (AppendsPart sink (W.contents writer.new)) result }
     {
@@ -286,7 +322,7 @@ impl Player {
             Ok(()) => {}
             Err(stop) => return Err(self.stop(writer, stop)),
         }
-        write_last_line(&mut self.stage.page, writer, pair);
+        write_closing(&mut self.stage.page, writer, pair, counted);
         match self.stage.page.flush(writer) {
             Ok(()) => Ok(()),
             Err(_failed) => Err(ScriptFault::Write),
@@ -300,6 +336,7 @@ impl Player {
         reader: &mut R,
         writer: &mut W,
         carrier: &mut C,
+        counted: bool,
     ) -> Result<(), ScriptFault>
         requires fine { R.state reader.old ≡ Worst.Fine }
         requires whole { C.broken carrier.old ≡ false }
@@ -329,7 +366,7 @@ impl Player {
             self.old.stage.lines
             (fresh sink) (output_of W.broken W.contents writer.old self.old.stage.page)
             (around p pair.old d log (C.told carrier.old))
-            → Plays input (around p pair.new d log (C.told carrier.new))
+            → Plays counted input (around p pair.new d log (C.told carrier.new))
             (Appends sink (W.contents writer.new))
             (AppendsPart sink (W.contents writer.new)) result }
     {
@@ -339,7 +376,7 @@ impl Player {
                 return Err(ScriptFault::Write);
             }
             let n = match read_within(reader, &mut piece, u64::MAX - self.seen) {
-                Got::Bytes(0) => return self.finish(pair, writer, carrier),
+                Got::Bytes(0) => return self.finish(pair, writer, carrier, counted),
                 Got::Bytes(n) => n,
                 _ => return Err(ScriptFault::Read),
             };
@@ -372,7 +409,58 @@ pub fn script<R: Source, W: Sink, C: Carrier>(
 
     // Where the input is known: which lines were done, what was written, and what the pair is.
     ensures told { (input : List ℕ) → R.left reader.old ≡ Some input
-        → Plays input (around pair.old pair.new (C.direct carrier.old)
+        → Plays false input (around pair.old pair.new (C.direct carrier.old)
+        (C.told carrier.old) (C.told carrier.new))
+        (Appends (W.contents writer.old) (W.contents writer.new))
+        (AppendsPart (W.contents writer.old) (W.contents writer.new)) result }
+
+    // On Read every line was done that LF ends in the bytes that were read, and no other.
+    ensures paused { (input rest : List ℕ) → R.left reader.old ≡ Some input
+        → R.left reader.new ≡ Some rest → length input < length rest + (2 ^ 64 - 1)
+        → result ≡ Err ScriptFault.Read
+        → PausedBefore rest input (around pair.old pair.new (C.direct carrier.old)
+        (C.told carrier.old) (C.told carrier.new))
+        (Appends (W.contents writer.old) (W.contents writer.new)) }
+
+    // Ok exactly where every line is a command or skipped, no device failed and memory was had.
+    ensures ok { (input : List ℕ) → R.left reader.old ≡ Some input
+        → IsOk result ↔ (AllFit (lines_of input) × (R.state reader.new ≡ Worst.Fine)
+        × (GaveMost (R.left reader.old) (R.left reader.new) → ⊥)
+        × (W.broken writer.new ≡ false) × (C.broken carrier.new ≡ false)
+        × (result ≢ Err ScriptFault.Memory)) }
+
+    // Read exactly where the reader isn't fine, or has given 2^64 - 1 bytes.
+    ensures read { R.state reader.new ≢ Worst.Fine → result ≡ Err ScriptFault.Read }
+    ensures read_only { result ≡ Err ScriptFault.Read
+        → (R.state reader.new ≢ Worst.Fine) ⊎ GaveMost (R.left reader.old) (R.left reader.new) }
+    ensures read_most { (input rest : List ℕ)
+        → R.left reader.old ≡ Some input → R.left reader.new ≡ Some rest
+        → length input ≡ length rest + (2 ^ 64 - 1) → result ≡ Err ScriptFault.Read }
+    ensures write { (result ≡ Err ScriptFault.Write) ↔ IsTrue (W.broken writer.new) }
+    ensures carried { (result ≡ Err ScriptFault.Carrier) ↔ IsTrue (C.broken carrier.new) }
+    // Whatever is answered, messages are in order.
+    ensures order { IsInOrder pair.new }
+{
+    script_with(alloc, pair, reader, writer, carrier, false)
+}
+
+/// Does what the lines of a script say, and writes what comes of each, the counters of both stations
+/// where they are asked for, and a last line of what has been done.
+pub fn script_with<R: Source, W: Sink, C: Carrier>(
+    alloc: Global,
+    pair: &mut Pair,
+    reader: &mut R,
+    writer: &mut W,
+    carrier: &mut C,
+    counted: bool,
+) -> Result<(), ScriptFault>
+    requires fine { R.state reader.old ≡ Worst.Fine }
+    requires whole { W.broken writer.old ≡ false }
+    requires carrier { C.broken carrier.old ≡ false }
+
+    // Where the input is known: which lines were done, what was written, and what the pair is.
+    ensures told { (input : List ℕ) → R.left reader.old ≡ Some input
+        → Plays counted input (around pair.old pair.new (C.direct carrier.old)
         (C.told carrier.old) (C.told carrier.new))
         (Appends (W.contents writer.old) (W.contents writer.new))
         (AppendsPart (W.contents writer.old) (W.contents writer.new)) result }
@@ -405,7 +493,7 @@ pub fn script<R: Source, W: Sink, C: Carrier>(
     ensures order { IsInOrder pair.new }
 {
     let mut player = Player::new(alloc);
-    let done = player.take_all(pair, reader, writer, carrier);
+    let done = player.take_all(pair, reader, writer, carrier, counted);
     pair.is_run();
     done
 }

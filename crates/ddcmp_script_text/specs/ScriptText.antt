@@ -8,6 +8,7 @@ use Rattle.ddcmp_core.specs.SendRefusal.{SendRefusal}
 use Rattle.ddcmp_core.specs.SendRefusal.TheVariants.{WrongState, Empty, TooLong, WindowFull}
 use Rattle.ddcmp_core.specs.Table.{StationState, is_on}
 use Rattle.ddcmp_station_text.specs.StationText.{notice_line, state_text}
+use Rattle.ddcmp_station_text.specs.CountersText.{counters_line}
 use Rattle.ddcmp_run.specs.declared.event.End.{End}
 use Rattle.ddcmp_run.specs.declared.event.End.TheVariants.{A, B}
 use Rattle.ddcmp_run.specs.declared.event.Reply.{Reply}
@@ -112,3 +113,13 @@ totals_line p =
     ++ codes " up A=" ++ decimal (length (handed_up p.a)) ++ codes " B="
     ++ decimal (length (handed_up p.b)) ++ codes " acked A=" ++ decimal p.a.acknowledged
     ++ codes " B=" ++ decimal p.b.acknowledged ++ codes "\n"
+
+-- what both stations have counted, a line each
+abbrev pub counters_lines : PairState → List ℕ
+counters_lines p =
+    counters_line (end_name A) p.a.core.counters ++ counters_line (end_name B) p.b.core.counters
+
+-- the end of the text: the counters, where they are asked for, and the last line
+abbrev pub closing_text : Bool → PairState → List ℕ
+closing_text counted p =
+    if counted then counters_lines p ++ totals_line p else totals_line p

@@ -12,6 +12,7 @@ mod reply_text;
 
 pub use command::{ParsedLine, ScriptCommand, read_line};
 pub use reply_text::{
-    answerer_name, damage_name, end_name, write_bytes, write_counted, write_plain, write_recovered,
-    write_reply, write_settled, write_station,
+    answerer_name, clear_refusal_name, damage_name, end_name, expired_name, send_refusal_name,
+    start_refusal_name, write_bytes, write_counted, write_plain, write_recovered, write_reply,
+    write_settled, write_station,
 };

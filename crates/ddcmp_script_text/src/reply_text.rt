@@ -31,7 +31,8 @@ pub fn answerer_name(end: Option<End>) -> &'static [u8]
     }
 }
 
-fn start_refusal_name(refusal: StartRefusal) -> &'static [u8]
+/// Why a start is refused, as a line.
+pub fn start_refusal_name(refusal: StartRefusal) -> &'static [u8]
     ensures { result.now ≡ start_refusal_text refusal }
 {
     match refusal {
@@ -40,7 +41,8 @@ fn start_refusal_name(refusal: StartRefusal) -> &'static [u8]
     }
 }
 
-fn clear_refusal_name(refusal: StartRefusal) -> &'static [u8]
+/// Why the line isn't cleared, as a line.
+pub fn clear_refusal_name(refusal: StartRefusal) -> &'static [u8]
     ensures { result.now ≡ clear_refusal_text refusal }
 {
     match refusal {
@@ -49,7 +51,8 @@ fn clear_refusal_name(refusal: StartRefusal) -> &'static [u8]
     }
 }
 
-fn send_refusal_name(refusal: SendRefusal) -> &'static [u8]
+/// Why a message isn't taken, as a line.
+pub fn send_refusal_name(refusal: SendRefusal) -> &'static [u8]
     ensures { result.now ≡ send_refusal_text refusal }
 {
     match refusal {
@@ -60,7 +63,8 @@ fn send_refusal_name(refusal: SendRefusal) -> &'static [u8]
     }
 }
 
-fn expired_name(was_on: bool) -> &'static [u8]
+/// Whether a timer ran out, as a line.
+pub fn expired_name(was_on: bool) -> &'static [u8]
     ensures { result.now ≡ expired_text was_on }
 {
     if was_on { b"expired\n" } else { b"timer off\n" }

@@ -14,10 +14,11 @@ use Rattle.clap.proofs.WalkLemmas.{first_value-rows, one_text-rows}
 use Rattle.clap.specs.declared.parser.matches.ArgMatches.{ArgMatches}
 use Rattle.clap.specs.declared.parser.matches.ArgMatches.TheViews.{out-ArgMatches}
 use Rattle.clap.proofs.OnLiterals.{clap_on_literals}
-use Rattle.ddcmp_words.specs.Words.{program, named_by, option_in, text_in, role_of, MOST, HasFlag, HasForm, HasNotation, HasNumber, HasOptions, HasSizes, IsAsked}
+use Rattle.ddcmp_words.specs.Words.{program, named_by, option_in, text_in, role_of, MOST, HasFlag, HasForm, HasNotation, HasNumber, HasOptions, HasSizes, HasView, IsAsked}
 use Rattle.ddcmp_core.specs.Limits.{MAX_COUNT, MAX_WINDOW}
 use Rattle.ddcmp_proto.specs.declared.config.Config.{Config}
 use Rattle.ddcmp_proto.specs.declared.config.TheConstants.{MAX_INBOX, MAX_SYN}
+use Rattle.ddcmp_words.specs.declared.view.View.{View}
 use Rattle.ddcmp_words.specs.declared.command.Command.{Command}
 use Rattle.ddcmp_words.specs.declared.command.Command.TheVariants.{Explain, Simulate, Pair, Station, Tap}
 
@@ -75,6 +76,13 @@ sizes_as o p config e h = record {
   restart = subst (λ t. HasFlag t config.restart) (e (codes "restart")) h.restart;
 }
 
+view_as : (o p : Text → Option Text) (view : View) → ((id : Text) → o id ≡ p id) → HasView o view → HasView p view
+view_as o p view e h = record {
+  svg = subst (λ t. HasFlag t view.svg) (e (codes "svg")) h.svg;
+  ladder = subst (λ t. HasFlag t view.ladder) (e (codes "ladder")) h.ladder;
+  counters = subst (λ t. HasFlag t view.counters) (e (codes "counters")) h.counters;
+}
+
 pub has_options_as : (o p t u : Text → Option Text) (made : Command) → ((id : Text) → o id ≡ p id) → ((id : Text) → t id ≡ u id)
     → HasOptions o t made → HasOptions p u made
 has_options_as o p t u (Explain form style max) e w h = (
@@ -85,8 +93,8 @@ has_options_as o p t u (Explain form style max) e w h = (
   },
   subst (λ t. HasNumber 1 MAX_COUNT MAX_COUNT t max) (e (codes "max")) h.2,
 )
-has_options_as o p t u (Simulate config) e w h = sizes_as o p config e h
-has_options_as o p t u (Pair config) e w h = sizes_as o p config e h
+has_options_as o p t u (Simulate config view) e w h = (sizes_as o p config e h.0, view_as o p view e h.1)
+has_options_as o p t u (Pair config view) e w h = (sizes_as o p config e h.0, view_as o p view e h.1)
 has_options_as o p t u (Station served) e w h = record {
   role = h.role ∙ ap (λ x. role_of (unwrap_or x [])) (w (codes "role"));
   addr = h.addr ∙ ap (λ x. unwrap_or x []) (w (codes "addr"));

@@ -13,6 +13,7 @@ use Rattle.ddcmp_words.specs.declared.served.Role.{Role}
 use Rattle.ddcmp_words.specs.declared.served.Role.TheVariants.{Connect, Listen}
 use Rattle.ddcmp_words.specs.declared.served.Served.{Served}
 use Rattle.ddcmp_words.specs.declared.tapped.Tapped.{Tapped}
+use Rattle.ddcmp_words.specs.declared.view.View.{View}
 use Rattle.ddcmp_words.specs.declared.declined.Declined.{Declined}
 use Rattle.ddcmp_words.specs.declared.declined.Declined.TheVariants.{Help, Version, Usage, Memory}
 use Rattle.clap.specs.declared.error.kind.ErrorKind.{ErrorKind}
@@ -63,13 +64,21 @@ with_sizes app =
     (number_rule (codes "syn") 0 MAX_SYN))
     (flag_rule (codes "restart"))
 
+-- how a run is shown
+abbrev pub with_view : App → App
+with_view app =
+    with_rule (with_rule (with_rule app
+    (flag_rule (codes "svg")))
+    (flag_rule (codes "ladder")))
+    (flag_rule (codes "counters"))
+
 -- `ddcmp simulate`
 abbrev pub simulate_app : App
-simulate_app = with_sizes (new_app (codes "simulate"))
+simulate_app = with_view (with_sizes (new_app (codes "simulate")))
 
 -- `ddcmp pair`
 abbrev pub pair_app : App
-pair_app = with_sizes (new_app (codes "pair"))
+pair_app = with_view (with_sizes (new_app (codes "pair")))
 
 abbrev pub MOST : ℕ
 MOST = 4294967295
@@ -110,8 +119,8 @@ program =
 -- the word that names a command
 abbrev pub name_of : Command → Text
 name_of (Explain form style max) = codes "explain"
-name_of (Simulate config) = codes "simulate"
-name_of (Pair config) = codes "pair"
+name_of (Simulate config view) = codes "simulate"
+name_of (Pair config view) = codes "pair"
 name_of (Station served) = codes "station"
 name_of (Tap tapped) = codes "tap"
 
@@ -174,6 +183,12 @@ pub record HasSizes (option : Text → Option Text) (config : Config) : Type 0 w
   pub syn : HasNumber 0 MAX_SYN 0 (option (codes "syn")) config.syn
   pub restart : HasFlag (option (codes "restart")) config.restart
 
+-- how a run is shown
+pub record HasView (option : Text → Option Text) (view : View) : Type 0 where
+  pub svg : HasFlag (option (codes "svg")) view.svg
+  pub ladder : HasFlag (option (codes "ladder")) view.ladder
+  pub counters : HasFlag (option (codes "counters")) view.counters
+
 -- who opens the connection, by its word
 abbrev pub role_of : Text → Option Role
 role_of word =
@@ -204,8 +219,8 @@ HasOptions option text (Explain form style max) =
     HasForm (option (codes "raw")) form
     × HasStyle option style
     × HasNumber 1 MAX_COUNT MAX_COUNT (option (codes "max")) max
-HasOptions option text (Simulate config) = HasSizes option config
-HasOptions option text (Pair config) = HasSizes option config
+HasOptions option text (Simulate config view) = HasSizes option config × HasView option view
+HasOptions option text (Pair config view) = HasSizes option config × HasView option view
 HasOptions option text (Station served) = HasStation option text served
 HasOptions option text (Tap tapped) = HasTap option text tapped
 

@@ -6,8 +6,8 @@ ghost use Rattle.ddcmp_words.specs.Words.{IsAsked, option_in, text_in, program};
 use clap::error::ErrorKind as WordsFault;
 
 /// The words `ddcmp explain` ask for the command that explains, without its options; `--raw`,
-/// `--json`, `--discarded` and `--max 1500` are read. `ddcmp --help` asks for help, and `ddcmp --version` for the
-/// version.
+/// `--json`, `--discarded` and `--max 1500` are read. `ddcmp --help` asks for help, and
+/// `ddcmp --version` for the version.
 pub fn explain_is_asked()
     ensures plain { IsAsked (codes "ddcmp" ∷ codes "explain" ∷ []) (codes "explain") }
     ensures not_raw { option_in (codes "ddcmp" ∷ codes "explain" ∷ []) (codes "raw")
@@ -33,7 +33,7 @@ pub fn explain_is_asked()
 {}
 
 /// The words `ddcmp simulate` ask for the command that runs a script, without its options;
-/// `--window 255`, `--syn=16` and `--restart` are read.
+/// `--window 255`, `--syn=16`, `--restart`, `--svg`, `--ladder` and `--counters` are read.
 pub fn simulate_is_asked()
     ensures plain { IsAsked (codes "ddcmp" ∷ codes "simulate" ∷ []) (codes "simulate") }
     ensures no_window { option_in (codes "ddcmp" ∷ codes "simulate" ∷ []) (codes "window") ≡ None }
@@ -45,6 +45,14 @@ pub fn simulate_is_asked()
         (codes "syn") ≡ Some (codes "16") }
     ensures restart { option_in (codes "ddcmp" ∷ codes "simulate" ∷ codes "--restart" ∷ [])
         (codes "restart") ≡ Some (codes "true") }
+    ensures no_svg { option_in (codes "ddcmp" ∷ codes "simulate" ∷ []) (codes "svg")
+        ≡ Some (codes "false") }
+    ensures svg { option_in (codes "ddcmp" ∷ codes "simulate" ∷ codes "--svg" ∷ []) (codes "svg")
+        ≡ Some (codes "true") }
+    ensures ladder { option_in (codes "ddcmp" ∷ codes "simulate" ∷ codes "--ladder" ∷ [])
+        (codes "ladder") ≡ Some (codes "true") }
+    ensures counters { option_in (codes "ddcmp" ∷ codes "simulate" ∷ codes "--counters" ∷ [])
+        (codes "counters") ≡ Some (codes "true") }
 {}
 
 /// The words `ddcmp pair` ask for the command that runs a script over a connection, with the
@@ -58,6 +66,10 @@ pub fn pair_is_asked()
         (codes "syn") ≡ Some (codes "16") }
     ensures restart { option_in (codes "ddcmp" ∷ codes "pair" ∷ codes "--restart" ∷ [])
         (codes "restart") ≡ Some (codes "true") }
+    ensures ladder { option_in (codes "ddcmp" ∷ codes "pair" ∷ codes "--ladder" ∷ [])
+        (codes "ladder") ≡ Some (codes "true") }
+    ensures counters { option_in (codes "ddcmp" ∷ codes "pair" ∷ codes "--counters" ∷ [])
+        (codes "counters") ≡ Some (codes "true") }
 {}
 
 /// The words `ddcmp station` with the four options that can't be left out ask for the command that

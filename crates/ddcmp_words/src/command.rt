@@ -7,7 +7,8 @@ ghost use Rattle.ddcmp_words.specs.Words.{HasFlag, HasForm, HasNotation, HasNumb
 ghost use Rattle.ddcmp_words.specs.Words.{HasSizes, HasStation, HasStyle, explain_app, pair_app};
 ghost use Rattle.ddcmp_words.specs.Words.{simulate_app, station_app};
 ghost use Rattle.ddcmp_words.specs.Words.{flag_rule, number_rule, role_of, text_rule};
-ghost use Rattle.ddcmp_words.specs.Words.{with_sizes as with_sizes_of};
+ghost use Rattle.ddcmp_words.specs.Words.{HasView, with_sizes as with_sizes_of};
+ghost use Rattle.ddcmp_words.specs.Words.{with_view as with_view_of};
 ghost use Rattle.clap.specs.Words.{kind_of, app_of, new_app, rule_of, first_of, first_value};
 ghost use Rattle.clap.specs.Words.{found_of, one_of, one_text};
 ghost use Rattle.clap.specs.Words.{subcommand_name_of, subcommand_rows_of};
@@ -17,6 +18,7 @@ use crate::declined::Declined;
 use crate::served::{Role, Served};
 use crate::tap_words::{tap_given, tap_parser};
 use crate::tapped::Tapped;
+use crate::view::View;
 use clap::error::ErrorKind;
 use clap::{Arg, ArgAction, ArgMatches, Error};
 use ddcmp_core::{MAX_COUNT, MAX_WINDOW};
@@ -29,10 +31,10 @@ use std::alloc::{AllocError, Global};
 pub enum Command<'a> {
     /// Explain the input in this form, for a reader of at most `max` bytes of data.
     Explain { form: Form, style: Style, max: u16 },
-    /// Run a script between two ends of these sizes.
-    Simulate(Config),
+    /// Run a script between two ends of these sizes, and show it so.
+    Simulate(Config, View),
     /// The same, and the bytes that pass go over a TCP connection.
-    Pair(Config),
+    Pair(Config, View),
     /// Drive a station over a connection.
     Station(Served<'a>),
     /// Stand between two ends of a line over TCP.
@@ -148,6 +150,30 @@ fn with_sizes<'a>(
         ))
 }
 
+/// How a run is shown.
+fn with_view<'a>(alloc: Global, command: clap::Command<'a>) -> Result<clap::Command<'a>, AllocError>
+    ensures app { IfOk result (λ made. app_of made ≡ with_view_of (app_of command.entry)) }
+    ensures local { (fields_of command.entry).has_globals ≡ false
+        → IfOk result (λ made. (fields_of made).has_globals ≡ false) }
+{
+    command
+        .arg(flag(
+            alloc,
+            "svg",
+            "Draw the run as a document in SVG, in place of the text",
+        ))?
+        .arg(flag(
+            alloc,
+            "ladder",
+            "Draw the run as a ladder of text, in place of the text",
+        ))?
+        .arg(flag(
+            alloc,
+            "counters",
+            "Write what both stations have counted, before the last line",
+        ))
+}
+
 /// The lines of a script, for a newcomer.
 fn script_help() -> &'static str {
     "\
@@ -177,7 +203,7 @@ fn simulate_parser<'a>(alloc: Global) -> Result<clap::Command<'a>, AllocError>
     let command = clap::Command::new(alloc, "simulate")
         .about("Runs a script between two stations A and B, read from standard input")
         .after_help(script_help());
-    with_sizes(alloc, command)
+    with_view(alloc, with_sizes(alloc, command)?)
 }
 
 fn pair_parser<'a>(alloc: Global) -> Result<clap::Command<'a>, AllocError>
@@ -187,7 +213,7 @@ fn pair_parser<'a>(alloc: Global) -> Result<clap::Command<'a>, AllocError>
     let command = clap::Command::new(alloc, "pair")
         .about("Runs a script as simulate does, and what passes goes over a TCP connection")
         .after_help(script_help());
-    with_sizes(alloc, command)
+    with_view(alloc, with_sizes(alloc, command)?)
 }
 
 /// `station` without its options.
@@ -382,6 +408,17 @@ fn sizes_given(options: &ArgMatches<'_>) -> Config
     }
 }
 
+/// How the run is to be shown.
+fn view_given(options: &ArgMatches<'_>) -> View
+    ensures { HasView (one_text (found_of options.now)) result }
+{
+    View {
+        svg: flag_given(options, "svg"),
+        ladder: flag_given(options, "ladder"),
+        counters: flag_given(options, "counters"),
+    }
+}
+
 /// A text that was given; the empty one where none was.
 pub(crate) fn text_given<'a>(options: &ArgMatches<'a>, name: &str) -> &'a str
     ensures { result.now ≡ unwrap_or (first_value (found_of options.now) name.now) [] }
@@ -433,10 +470,10 @@ fn asked<'a>(matches: &ArgMatches<'a>) -> Option<Command<'a>>
         return Some(explain_with(options));
     }
     if let Some(options) = matches.subcommand_matches("simulate") {
-        return Some(Command::Simulate(sizes_given(options)));
+        return Some(Command::Simulate(sizes_given(options), view_given(options)));
     }
     if let Some(options) = matches.subcommand_matches("pair") {
-        return Some(Command::Pair(sizes_given(options)));
+        return Some(Command::Pair(sizes_given(options), view_given(options)));
     }
     if let Some(options) = matches.subcommand_matches("station") {
         return Some(Command::Station(station_given(options)));

@@ -7,6 +7,7 @@ pub mod declined;
 pub mod served;
 mod tap_words;
 pub mod tapped;
+pub mod view;
 
 pub use asked::{
     explain_is_asked, pair_is_asked, simulate_is_asked, station_is_asked, tap_is_asked,
@@ -15,3 +16,4 @@ pub use command::{Command, read_words};
 pub use declined::Declined;
 pub use served::{Role, Served};
 pub use tapped::Tapped;
+pub use view::View;

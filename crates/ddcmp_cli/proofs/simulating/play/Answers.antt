@@ -8,32 +8,32 @@ use Rattle.ddcmp_cli.proofs.ScriptLaws.{told, told-read, told-write, told-carrie
 use Rattle.ddcmp_cli.proofs.simulating.play.Goals as goal
 
 pub returns-clause-read : goal.returns-clause-read
-returns-clause-read g c = λ h. told c.script.result c.in-Err.fault Read c.from.result c.in-Err.is c.from.ensures (c.script.ensures.read h)
+returns-clause-read g c = λ h. told c.script_with.result c.in-Err.fault Read c.from.result c.in-Err.is c.from.ensures (c.script_with.ensures.read h)
 
 pub returns-clause-read_only : goal.returns-clause-read_only
-returns-clause-read_only g c = λ h. c.script.ensures.read_only (told-read c.script.result c.in-Err.fault c.from.result c.in-Err.is c.from.ensures h)
+returns-clause-read_only g c = λ h. c.script_with.ensures.read_only (told-read c.script_with.result c.in-Err.fault c.from.result c.in-Err.is c.from.ensures h)
 
 pub returns-clause-write : goal.returns-clause-write
 returns-clause-write g c = (
-  λ h. c.script.ensures.write.0 (told-write c.script.result c.in-Err.fault c.from.result c.in-Err.is c.from.ensures h),
-  λ b. told c.script.result c.in-Err.fault Write c.from.result c.in-Err.is c.from.ensures (c.script.ensures.write.1 b),
+  λ h. c.script_with.ensures.write.0 (told-write c.script_with.result c.in-Err.fault c.from.result c.in-Err.is c.from.ensures h),
+  λ b. told c.script_with.result c.in-Err.fault Write c.from.result c.in-Err.is c.from.ensures (c.script_with.ensures.write.1 b),
 )
 
 pub returns-clause-carried : goal.returns-clause-carried
-returns-clause-carried g c = λ h. c.script.ensures.carried.0 (told-carrier c.script.result c.in-Err.fault c.from.result c.in-Err.is c.from.ensures h)
+returns-clause-carried g c = λ h. c.script_with.ensures.carried.0 (told-carrier c.script_with.result c.in-Err.fault c.from.result c.in-Err.is c.from.ensures h)
 
-pub returns-in-Ok-script-clause-plays : goal.returns-in-Ok-script-clause-plays
-returns-in-Ok-script-clause-plays g c = λ input e. inr (
-  c.script.result,
-  c.script.new.pair,
-  sym (ap (ending_of script_fault) c.in-Ok-script.is),
-  untold input _ _ c.script.new.pair (g.C.Carrier.direct c.args.carrier.now) (g.C.Carrier.told c.args.carrier.now) (g.C.Carrier.told c.script.new.carrier) (Appends (g.W.Sink.contents c.args.writer.now) (g.W.Sink.contents c.script.new.writer)) (AppendsPart (g.W.Sink.contents c.args.writer.now) (g.W.Sink.contents c.script.new.writer)) c.script.result c.in-Ok.ensures.made (c.requires.silent c.args.carrier.now) (c.requires.silent c.script.new.carrier) (c.script.ensures.told input e),
+pub returns-in-Ok-script_with-clause-plays : goal.returns-in-Ok-script_with-clause-plays
+returns-in-Ok-script_with-clause-plays g c = λ input e. inr (
+  c.script_with.result,
+  c.script_with.new.pair,
+  sym (ap (ending_of script_fault) c.in-Ok-script_with.is),
+  untold c.args.counted input _ _ c.script_with.new.pair (g.C.Carrier.direct c.args.carrier.now) (g.C.Carrier.told c.args.carrier.now) (g.C.Carrier.told c.script_with.new.carrier) (Appends (g.W.Sink.contents c.args.writer.now) (g.W.Sink.contents c.script_with.new.writer)) (AppendsPart (g.W.Sink.contents c.args.writer.now) (g.W.Sink.contents c.script_with.new.writer)) c.script_with.result c.in-Ok.ensures.made (c.requires.silent c.args.carrier.now) (c.requires.silent c.script_with.new.carrier) (c.script_with.ensures.told input e),
 )
 
 pub returns-clause-plays : goal.returns-clause-plays
 returns-clause-plays g c = λ input e. inr (
-  c.script.result,
-  c.script.new.pair,
+  c.script_with.result,
+  c.script_with.new.pair,
   ap Faulted c.from.ensures ∙ sym (ap (ending_of script_fault) c.in-Err.is),
-  untold input _ _ c.script.new.pair (g.C.Carrier.direct c.args.carrier.now) (g.C.Carrier.told c.args.carrier.now) (g.C.Carrier.told c.script.new.carrier) (Appends (g.W.Sink.contents c.args.writer.now) (g.W.Sink.contents c.script.new.writer)) (AppendsPart (g.W.Sink.contents c.args.writer.now) (g.W.Sink.contents c.script.new.writer)) c.script.result c.in-Ok.ensures.made (c.requires.silent c.args.carrier.now) (c.requires.silent c.script.new.carrier) (c.script.ensures.told input e),
+  untold c.args.counted input _ _ c.script_with.new.pair (g.C.Carrier.direct c.args.carrier.now) (g.C.Carrier.told c.args.carrier.now) (g.C.Carrier.told c.script_with.new.carrier) (Appends (g.W.Sink.contents c.args.writer.now) (g.W.Sink.contents c.script_with.new.writer)) (AppendsPart (g.W.Sink.contents c.args.writer.now) (g.W.Sink.contents c.script_with.new.writer)) c.script_with.result c.in-Ok.ensures.made (c.requires.silent c.args.carrier.now) (c.requires.silent c.script_with.new.carrier) (c.script_with.ensures.told input e),
 )

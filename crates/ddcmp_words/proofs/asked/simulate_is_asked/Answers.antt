@@ -26,3 +26,19 @@ returns-clause-syn c = refl
 pub returns-clause-restart : goal.returns-clause-restart
 unfolding clap_on_literals option_in
 returns-clause-restart c = refl
+
+pub returns-clause-no_svg : goal.returns-clause-no_svg
+unfolding clap_on_literals option_in
+returns-clause-no_svg c = refl
+
+pub returns-clause-svg : goal.returns-clause-svg
+unfolding clap_on_literals option_in
+returns-clause-svg c = refl
+
+pub returns-clause-ladder : goal.returns-clause-ladder
+unfolding clap_on_literals option_in
+returns-clause-ladder c = refl
+
+pub returns-clause-counters : goal.returns-clause-counters
+unfolding clap_on_literals option_in
+returns-clause-counters c = refl

@@ -25,7 +25,7 @@ loop-self-preserved g c = record {
       let out = output_of g.W.Sink.broken g.W.Sink.contents c.flush.new.writer c.flush.new.self in
       let x = around p c.loop-self.pair d log (g.C.Carrier.told c.loop-self.carrier) in
       let far = c.loop-self.invariant.so_far input p d log sink de h in
-      let now = has-flushed input x far.0 player.line.items player.number lines (fresh sink) a far.2 out c.flush.ensures.sends in
+      let now = has-flushed c.args.counted input x far.0 player.line.items player.number lines (fresh sink) a far.2 out c.flush.ensures.sends in
       let piece = take c.in-Bytes.n c.read_within.new.buf in
       let left = left-after (g.R.Source.left c.loop-self.reader) (g.R.Source.left c.read_within.new.reader) far.0 piece far.1 c.in-Bytes.ensures.bytes.1 in
       let before = subst (λ t. HasDone input t player.line.items player.number lines (fresh sink) out x) left.2 now in
@@ -43,8 +43,8 @@ returns-then-is_err-clause-plays g c = λ input p d log sink de h.
     let out = output_of g.W.Sink.broken g.W.Sink.contents c.flush.new.writer c.flush.new.self in
     let x = around p c.loop-self.pair d log (g.C.Carrier.told c.loop-self.carrier) in
     let far = c.loop-self.invariant.so_far input p d log sink de h in
-    let now = has-flushed input x far.0 player.line.items player.number lines (fresh sink) a far.2 out c.flush.ensures.sends in
-    plays-unwritten input x far.0 player.line.items player.number lines sink out now
+    let now = has-flushed c.args.counted input x far.0 player.line.items player.number lines (fresh sink) a far.2 out c.flush.ensures.sends in
+    plays-unwritten c.args.counted input x far.0 player.line.items player.number lines sink out now
 
 pub returns-in-Bytes-eq0-clause-plays : goal.returns-in-Bytes-eq0-clause-plays
 returns-in-Bytes-eq0-clause-plays g c = λ input p d log sink de h.
@@ -54,7 +54,7 @@ returns-in-Bytes-eq0-clause-plays g c = λ input p d log sink de h.
     let out = output_of g.W.Sink.broken g.W.Sink.contents c.flush.new.writer c.flush.new.self in
     let x = around p c.loop-self.pair d log (g.C.Carrier.told c.loop-self.carrier) in
     let far = c.loop-self.invariant.so_far input p d log sink de h in
-    let now = has-flushed input x far.0 player.line.items player.number lines (fresh sink) a far.2 out c.flush.ensures.sends in
+    let now = has-flushed c.args.counted input x far.0 player.line.items player.number lines (fresh sink) a far.2 out c.flush.ensures.sends in
     let bytes = c.in-Bytes-eq0.ensures.bytes in
     let buf = c.read_within.new.buf in
     let zero : c.in-Bytes-eq0.field-0 ≡ 0 = search rules in
@@ -70,9 +70,9 @@ returns-in_default-clause-plays g c = λ input p d log sink de h.
     let out = output_of g.W.Sink.broken g.W.Sink.contents c.flush.new.writer c.flush.new.self in
     let x = around p c.loop-self.pair d log (g.C.Carrier.told c.loop-self.carrier) in
     let far = c.loop-self.invariant.so_far input p d log sink de h in
-    let now = has-flushed input x far.0 player.line.items player.number lines (fresh sink) a far.2 out c.flush.ensures.sends in
+    let now = has-flushed c.args.counted input x far.0 player.line.items player.number lines (fresh sink) a far.2 out c.flush.ensures.sends in
     let whole : out.broken ≡ false = search rules in
-    plays-paused input x far.0 player.line.items player.number lines sink out now whole c.flush.ensures.empty
+    plays-paused c.args.counted input x far.0 player.line.items player.number lines sink out now whole c.flush.ensures.empty
 
 pub returns-then-self-clause-plays : goal.returns-then-self-clause-plays
 returns-then-self-clause-plays g c = λ input p d log sink de h.
@@ -82,9 +82,9 @@ returns-then-self-clause-plays g c = λ input p d log sink de h.
     let out = output_of g.W.Sink.broken g.W.Sink.contents c.flush.new.writer c.flush.new.self in
     let x = around p c.loop-self.pair d log (g.C.Carrier.told c.loop-self.carrier) in
     let far = c.loop-self.invariant.so_far input p d log sink de h in
-    let now = has-flushed input x far.0 player.line.items player.number lines (fresh sink) a far.2 out c.flush.ensures.sends in
+    let now = has-flushed c.args.counted input x far.0 player.line.items player.number lines (fresh sink) a far.2 out c.flush.ensures.sends in
     let whole : out.broken ≡ false = search rules in
-    plays-paused input x far.0 player.line.items player.number lines sink out now whole c.flush.ensures.empty
+    plays-paused c.args.counted input x far.0 player.line.items player.number lines sink out now whole c.flush.ensures.empty
 
 pub returns-in-Err-clause-plays : goal.returns-in-Err-clause-plays
 returns-in-Err-clause-plays g c = λ input p d log sink de h.
@@ -94,11 +94,11 @@ returns-in-Err-clause-plays g c = λ input p d log sink de h.
     let out = output_of g.W.Sink.broken g.W.Sink.contents c.flush.new.writer c.flush.new.self in
     let x = around p c.loop-self.pair d log (g.C.Carrier.told c.loop-self.carrier) in
     let far = c.loop-self.invariant.so_far input p d log sink de h in
-    let now = has-flushed input x far.0 player.line.items player.number lines (fresh sink) a far.2 out c.flush.ensures.sends in
+    let now = has-flushed c.args.counted input x far.0 player.line.items player.number lines (fresh sink) a far.2 out c.flush.ensures.sends in
     let piece = take c.in-Bytes.n c.read_within.new.buf in
     let left = left-after (g.R.Source.left c.loop-self.reader) (g.R.Source.left c.read_within.new.reader) far.0 piece far.1 c.in-Bytes.ensures.bytes.1 in
     let before = subst (λ t. HasDone input t player.line.items player.number lines (fresh sink) out x) left.2 now in
-    c.stop.ensures.plays input (around p c.take.new.pair d log (g.C.Carrier.told c.take.new.carrier)) sink (c.in-Err.ensures.takes input left.0 p d log (fresh sink) (c.loop-self.invariant.direct ∙ de) before)
+    c.stop.ensures.plays c.args.counted input (around p c.take.new.pair d log (g.C.Carrier.told c.take.new.carrier)) sink (c.in-Err.ensures.takes input left.0 p d log (fresh sink) (c.loop-self.invariant.direct ∙ de) before)
 
 pub returns-in_default-clause-paused : goal.returns-in_default-clause-paused
 returns-in_default-clause-paused g c = λ input rest p d log sink de h read few later.
@@ -108,8 +108,8 @@ returns-in_default-clause-paused g c = λ input rest p d log sink de h read few 
     let out = output_of g.W.Sink.broken g.W.Sink.contents c.flush.new.writer c.flush.new.self in
     let x = around p c.loop-self.pair d log (g.C.Carrier.told c.loop-self.carrier) in
     let far = c.loop-self.invariant.so_far input p d log sink de h in
-    let now = has-flushed input x far.0 player.line.items player.number lines (fresh sink) a far.2 out c.flush.ensures.sends in
+    let now = has-flushed c.args.counted input x far.0 player.line.items player.number lines (fresh sink) a far.2 out c.flush.ensures.sends in
     let same = kept-left (g.R.Source.left c.loop-self.reader) (g.R.Source.left c.read_within.new.reader) far.0 rest far.1 later (kept-by c.read_within.result _ _ _ c.in_default.not-Bytes c.read_within.ensures.bytes) in
     let there = subst (λ t. HasDone input t player.line.items player.number lines (fresh sink) out x) same now in
     let whole : out.broken ≡ false = search rules in
-    paused-before input x rest player.line.items player.number lines sink out there whole c.flush.ensures.empty
+    paused-before c.args.counted input x rest player.line.items player.number lines sink out there whole c.flush.ensures.empty

@@ -4,7 +4,7 @@ use Rattle.ddcmp_io.specs.Written.{AppendsPart}
 use Rattle.ddcmp_script.specs.ScriptEnds.{around}
 use Rattle.ddcmp_io.proofs.Inputs.{gave-most, read-all}
 use Rattle.ddcmp_script.proofs.Endings.{begun-has, most-read, not-most, ok-exactly}
-use Rattle.ddcmp_script.proofs.scripting.script.Goals as goal
+use Rattle.ddcmp_script.proofs.scripting.script_with.Goals as goal
 
 pub returns-clause-read_only : goal.returns-clause-read_only
 returns-clause-read_only g c = λ e. elim (c.take_all-done.ensures.read_only e) [
@@ -44,7 +44,7 @@ returns-clause-ok g c = λ input left.
     let x = around c.args.pair.now made.pair (g.C.Carrier.direct c.args.carrier.now) (g.C.Carrier.told c.args.carrier.now) (g.C.Carrier.told made.carrier) in
     let sink = g.W.Sink.contents c.args.writer.now in
     let after = g.W.Sink.contents made.writer in
-    ok-exactly input x (Appends sink after) (AppendsPart sink after) _ _ _ _ c.take_all-done.result (returns-clause-told g c input left) (record {
+    ok-exactly c.args.counted input x (Appends sink after) (AppendsPart sink after) _ _ _ _ c.take_all-done.result (returns-clause-told g c input left) (record {
       read = done.read;
       read_only = returns-clause-read_only g c;
       read_most = λ m. done.read_most (most-read made.self.seen _ _ input done.consumed left m);

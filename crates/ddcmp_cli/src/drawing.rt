@@ -1,0 +1,173 @@
+//! Showing a run between two ends: as text, or as a picture.
+ghost use Rattle.std.specs.Prelude.{◌≡◌, ◌≢◌, ◌⊎◌, ◌↔◌, false, true, None, Some, IsTrue, List, ℕ};
+ghost use Rattle.std.specs.Io.KnownBytes.{Keeps};
+ghost use Rattle.ddcmp_io.specs.Input.{GaveMost};
+ghost use Rattle.ddcmp_station.specs.Config.{first_refusal};
+ghost use Rattle.ddcmp_cli.specs.Endings.{is_refusal, Pairs, ShowsRun, Simulates};
+
+use crate::ending::Ending;
+use crate::fault::Fault;
+use crate::simulating::{pair, simulate};
+use ddcmp_io::{Sink, Source, Worst};
+use ddcmp_net::Sockets;
+use ddcmp_picture::{Picture, draw};
+use ddcmp_script::{Carrier, Direct};
+use ddcmp_station::Config;
+use ddcmp_words::View;
+use std::alloc::Global;
+use std::net::{Net, TcpStream};
+
+/// What is told where both pictures are asked for.
+const TWO_PICTURES: &str = "\
+error: '--svg' and '--ladder' can't be used together
+
+For more information, try '--help'.
+";
+
+/// Words that ask for both pictures.
+fn two_pictures(alloc: Global) -> Ending
+    ensures { is_refusal result ≡ true }
+{
+    match String::from_str(alloc, TWO_PICTURES) {
+        Ok(text) => Ending::Usage(text),
+        Err(_refused) => Ending::Fault(Fault::Memory),
+    }
+}
+
+/// Draws a script between two ends of the same sizes.
+fn draw_over<R: Source, W: Sink, C: Carrier>(
+    alloc: Global,
+    config: Config,
+    picture: Picture,
+    counted: bool,
+    carrier: &mut C,
+    reader: &mut R,
+    writer: &mut W,
+) -> Ending
+    requires fine { R.state reader.old ≡ Worst.Fine }
+    requires whole { W.broken writer.old ≡ false }
+    requires carrier { C.broken carrier.old ≡ false }
+    requires sizes { first_refusal config ≡ None }
+    ensures read { R.state reader.new ≢ Worst.Fine → result ≡ Ending.Fault Fault.Read }
+    ensures read_only { result ≡ Ending.Fault Fault.Read → (R.state reader.new ≢ Worst.Fine)
+        ⊎ GaveMost (R.left reader.old) (R.left reader.new) }
+    ensures write { (result ≡ Ending.Fault Fault.Write) ↔ IsTrue (W.broken writer.new) }
+    ensures carried { result ≡ Ending.Fault Fault.Carrier → IsTrue (C.broken carrier.new) }
+{
+    let Ok(mut pair) = ddcmp_pair::Pair::new(alloc, config, config) else {
+        return Ending::Fault(Fault::Memory);
+    };
+    match draw(alloc, &mut pair, reader, writer, carrier, picture, counted) {
+        Ok(()) => Ending::Done,
+        Err(fault) => Ending::Fault(Fault::from(fault)),
+    }
+}
+
+/// Runs a script over a line that gives what goes in, and shows it.
+pub(crate) fn show_simulation<R: Source, W: Sink>(
+    alloc: Global,
+    config: Config,
+    view: View,
+    reader: &mut R,
+    writer: &mut W,
+) -> Ending
+    requires fine { R.state reader.old ≡ Worst.Fine }
+    requires whole { W.broken writer.old ≡ false }
+    requires sizes { first_refusal config ≡ None }
+    ensures shows { (input : List ℕ) → R.left reader.old ≡ Some input
+        → ShowsRun view.svg view.ladder (λ e. (R.left reader.new ≡ Some input)
+        × Keeps (W.contents writer.old) (W.contents writer.new))
+        (λ e. Simulates config view.counters input (R.left reader.new) (W.contents writer.old)
+        (W.contents writer.new) e) result }
+    ensures read { R.state reader.new ≢ Worst.Fine → result ≡ Ending.Fault Fault.Read }
+    ensures read_only { result ≡ Ending.Fault Fault.Read → (R.state reader.new ≢ Worst.Fine)
+        ⊎ GaveMost (R.left reader.old) (R.left reader.new) }
+    ensures write { (result ≡ Ending.Fault Fault.Write) ↔ IsTrue (W.broken writer.new) }
+{
+    let counted = view.counters;
+    match (view.svg, view.ladder) {
+        (true, true) => two_pictures(alloc),
+        (true, false) => draw_over(
+            alloc,
+            config,
+            Picture::Svg,
+            counted,
+            &mut Direct,
+            reader,
+            writer,
+        ),
+        (false, true) => draw_over(
+            alloc,
+            config,
+            Picture::Ladder,
+            counted,
+            &mut Direct,
+            reader,
+            writer,
+        ),
+        (false, false) => simulate(alloc, config, counted, reader, writer),
+    }
+}
+
+/// Draws a script over a connection, which is made first.
+fn draw_pair<N: Net<Stream = TcpStream>, R: Source, W: Sink>(
+    net: &N,
+    alloc: Global,
+    config: Config,
+    picture: Picture,
+    counted: bool,
+    reader: &mut R,
+    writer: &mut W,
+) -> Ending
+    requires fine { R.state reader.old ≡ Worst.Fine }
+    requires whole { W.broken writer.old ≡ false }
+    requires sizes { first_refusal config ≡ None }
+    ensures read { R.state reader.new ≢ Worst.Fine → result ≡ Ending.Fault Fault.Read }
+    ensures read_only { result ≡ Ending.Fault Fault.Read → (R.state reader.new ≢ Worst.Fine)
+        ⊎ GaveMost (R.left reader.old) (R.left reader.new) }
+    ensures write { (result ≡ Ending.Fault Fault.Write) ↔ IsTrue (W.broken writer.new) }
+{
+    let Ok(mut sockets) = Sockets::new(net) else {
+        return Ending::Fault(Fault::Carrier);
+    };
+    draw_over(
+        alloc,
+        config,
+        picture,
+        counted,
+        &mut sockets,
+        reader,
+        writer,
+    )
+}
+
+/// Runs a script over a connection, which is made first, and shows it.
+pub(crate) fn show_pair<N: Net<Stream = TcpStream>, R: Source, W: Sink>(
+    net: &N,
+    alloc: Global,
+    config: Config,
+    view: View,
+    reader: &mut R,
+    writer: &mut W,
+) -> Ending
+    requires fine { R.state reader.old ≡ Worst.Fine }
+    requires whole { W.broken writer.old ≡ false }
+    requires sizes { first_refusal config ≡ None }
+    ensures shows { (input : List ℕ) → R.left reader.old ≡ Some input
+        → ShowsRun view.svg view.ladder (λ e. (R.left reader.new ≡ Some input)
+        × Keeps (W.contents writer.old) (W.contents writer.new))
+        (λ e. Pairs config view.counters input (R.left reader.new) (W.contents writer.old)
+        (W.contents writer.new) e) result }
+    ensures read { R.state reader.new ≢ Worst.Fine → result ≡ Ending.Fault Fault.Read }
+    ensures read_only { result ≡ Ending.Fault Fault.Read → (R.state reader.new ≢ Worst.Fine)
+        ⊎ GaveMost (R.left reader.old) (R.left reader.new) }
+    ensures write { (result ≡ Ending.Fault Fault.Write) ↔ IsTrue (W.broken writer.new) }
+{
+    let counted = view.counters;
+    match (view.svg, view.ladder) {
+        (true, true) => two_pictures(alloc),
+        (true, false) => draw_pair(net, alloc, config, Picture::Svg, counted, reader, writer),
+        (false, true) => draw_pair(net, alloc, config, Picture::Ladder, counted, reader, writer),
+        (false, false) => pair(net, alloc, config, counted, reader, writer),
+    }
+}

@@ -1,0 +1,139 @@
+//! The labels of frames, and the words for what ends do.
+ghost use Rattle.std.specs.Prelude.{◌≤◌, length};
+
+use crate::short_text::ShortText;
+use ddcmp_frame::{ControlType, Counted, Header, Short};
+use ddcmp_pair::{Notice, Station};
+use ddcmp_station_text::{notice_name, notice_number, state_name};
+
+/// The fill before a frame.
+const SYN: u8 = 0x96;
+
+/// How many bytes of fill stand in front.
+fn fill_before(bytes: &[u8]) -> usize
+    ensures { result ≤ length bytes.now }
+{
+    for i in 0..bytes.len() {
+        if bytes[i] != SYN {
+            return i;
+        }
+    }
+    bytes.len()
+}
+
+/// The eight bytes behind the SYN fill.
+fn header_bytes(bytes: &[u8]) -> Option<[u8; 8]> {
+    let frame = &bytes[fill_before(bytes)..];
+    if frame.len() < 8 {
+        return None;
+    }
+    let mut header = [0; 8];
+    header.copy_from_slice(&frame[..8]);
+    Some(header)
+}
+
+/// What the bytes of a line begin with, where that is a header.
+fn header_of(bytes: &[u8]) -> Option<Header> {
+    let header = header_bytes(bytes)?;
+    match Header::parse(&header) {
+        Ok(header) => Some(header),
+        Err(_fault) => None,
+    }
+}
+
+fn control_label(header: &Short) -> ShortText {
+    let text = ShortText::new();
+    match header.kind {
+        ControlType::Ack => text.with(b"ACK resp=").with_number(header.resp as u64),
+        ControlType::Nak => text
+            .with(b"NAK ")
+            .with_number(header.sub as u64)
+            .with(b" resp=")
+            .with_number(header.resp as u64),
+        ControlType::Rep => text.with(b"REP ").with_number(header.num as u64),
+        ControlType::Strt => text.with(b"STRT"),
+        ControlType::Stack => text.with(b"STACK"),
+    }
+}
+
+/// Behind the label of a frame with data stands how many bytes they are.
+fn with_count(text: ShortText, count: u64) -> ShortText {
+    let counted = text.with(b" (").with_number(count);
+    if count == 1 {
+        counted.with(b" byte)")
+    } else {
+        counted.with(b" bytes)")
+    }
+}
+
+fn data_label(header: &Counted) -> ShortText {
+    let text = ShortText::new()
+        .with(b"DATA ")
+        .with_number(header.num as u64)
+        .with(b" resp=")
+        .with_number(header.resp as u64);
+    with_count(text, header.count as u64)
+}
+
+fn header_label(header: &Header) -> ShortText {
+    match header {
+        Header::Data(fields) => data_label(fields),
+        Header::Maint(fields) => with_count(ShortText::new().with(b"MAINT"), fields.count as u64),
+        Header::Control(fields) => control_label(fields),
+    }
+}
+
+/// The label of a frame, by its header; of other bytes the digits.
+pub(crate) fn label_of(bytes: &[u8]) -> ShortText {
+    match header_of(bytes) {
+        Some(header) => header_label(&header),
+        None => ShortText::new().with(b"bytes: ").with_bytes(bytes),
+    }
+}
+
+/// A notice, as the text of a script has it.
+pub(crate) fn notice_text(notice: Notice) -> ShortText {
+    let text = ShortText::new().with(b"notice ").with(notice_name(notice));
+    match notice_number(notice) {
+        Some(number) => text.with_number(number as u64),
+        None => text,
+    }
+}
+
+/// The state of a station and its numbers.
+pub(crate) fn numbers_text(station: &Station) -> ShortText {
+    let numbers = station.numbers();
+    ShortText::new()
+        .with(state_name(station.state()))
+        .with(b" R=")
+        .with_number(numbers.r.0 as u64)
+        .with(b" N=")
+        .with_number(numbers.n.0 as u64)
+        .with(b" A=")
+        .with_number(numbers.a.0 as u64)
+        .with(b" T=")
+        .with_number(numbers.t.0 as u64)
+}
+
+/// What a station holds, and whether its timer runs.
+pub(crate) fn holding_text(station: &Station) -> ShortText {
+    let text = ShortText::new()
+        .with(b"out=")
+        .with_number(station.outgoing() as u64)
+        .with(b" in=")
+        .with_number(station.waiting() as u64);
+    if station.timer_on() {
+        text.with(b" timer=on")
+    } else {
+        text.with(b" timer=off")
+    }
+}
+
+/// A line of the text of a script, without the LF that ends it.
+pub(crate) fn without_lf(line: &[u8]) -> &[u8] {
+    if !line.is_empty() && line[line.len() - 1] == b'\n' {
+        &line[..line.len() - 1]
+    } else {
+        line
+    }
+}

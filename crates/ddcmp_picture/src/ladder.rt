@@ -1,0 +1,148 @@
+//! A ladder: a line of text for each step, 78 columns wide.
+use crate::mark::{Fate, Mark, Trip};
+use ddcmp_io::{Page, Sink};
+use ddcmp_pair::End;
+
+/// The columns of a line.
+const WIDTH: usize = 78;
+
+/// Where the frames of A turn into those that are on their way, and those of B.
+const NEAR_A: usize = 33;
+
+const NEAR_B: usize = 44;
+
+/// Where a lost frame of A ends, and one of B.
+const HALF_A: usize = 38;
+
+const HALF_B: usize = 39;
+
+/// A line on its way.
+#[derive(Drop)]
+struct Row {
+    bytes: [u8; WIDTH],
+}
+
+impl Row {
+    /// The lines of both ends, and nothing between them.
+    fn new() -> Self {
+        let mut bytes = [b' '; WIDTH];
+        bytes[0] = b'|';
+        bytes[WIDTH - 1] = b'|';
+        Row { bytes }
+    }
+
+    /// A byte between both lines.
+    fn set(&mut self, at: usize, byte: u8) {
+        if 0 < at && at < WIDTH - 1 {
+            self.bytes[at] = byte;
+        }
+    }
+
+    fn put(&mut self, at: usize, text: &[u8]) {
+        for i in 0..text.len() {
+            self.set(at.saturating_add(i), text[i]);
+        }
+    }
+
+    fn fill(&mut self, from: usize, to: usize, byte: u8) {
+        for at in from..to.min(WIDTH) {
+            self.set(at, byte);
+        }
+    }
+
+    /// An arrow at the line of A: `outer` is at the line, and `inner` ends it at `reach` or, where
+    /// the label is long, behind that.
+    fn put_at_a(&mut self, outer: &[u8], label: &[u8], stroke: u8, inner: u8, reach: usize) {
+        let start = outer.len().saturating_add(1);
+        let behind = start.saturating_add(label.len()).saturating_add(1);
+        let end = reach.max(behind.saturating_add(1));
+        self.put(1, outer);
+        self.put(start, label);
+        self.fill(behind, end, stroke);
+        self.set(end, inner);
+    }
+
+    /// The same at the line of B.
+    fn put_at_b(&mut self, outer: &[u8], label: &[u8], stroke: u8, inner: u8, reach: usize) {
+        let end = (WIDTH - 1).saturating_sub(outer.len());
+        let start = end.saturating_sub(label.len());
+        let before = start.saturating_sub(1);
+        let head = reach.min(before.saturating_sub(2));
+        self.put(end, outer);
+        self.put(start, label);
+        self.fill(head.saturating_add(1), before, stroke);
+        self.set(head, inner);
+    }
+
+    fn put_note(&mut self, at: End, text: &[u8]) {
+        match at {
+            End::A => self.put(2, text),
+            End::B => self.put((WIDTH - 2).saturating_sub(text.len()), text),
+        }
+    }
+
+    fn put_across(&mut self, text: &[u8]) {
+        self.put((WIDTH / 2).saturating_sub(text.len() / 2), text);
+    }
+
+    fn put_departure(&mut self, trip: &Trip) {
+        match trip.from {
+            End::A => self.put_at_a(b"-- ", trip.label.as_slice(), b'-', b'>', NEAR_A),
+            End::B => self.put_at_b(b" -", trip.label.as_slice(), b'-', b'<', NEAR_B),
+        }
+    }
+
+    fn put_end(&mut self, trip: &Trip, fate: Fate) {
+        let label = match fate {
+            Fate::Lost => fate.label(trip).with(b", lost"),
+            _ => fate.label(trip),
+        };
+        let text = label.as_slice();
+        let stroke = if trip.is_damaged { b'~' } else { b'-' };
+        match (trip.from, fate) {
+            (End::A, Fate::Arrived) => self.put_at_b(b" ->", text, stroke, stroke, NEAR_B),
+            (End::B, Fate::Arrived) => self.put_at_a(b"<- ", text, stroke, stroke, NEAR_A),
+            (End::A, Fate::Cut { .. }) => self.put_at_b(b" -|", text, stroke, stroke, NEAR_B),
+            (End::B, Fate::Cut { .. }) => self.put_at_a(b"|- ", text, stroke, stroke, NEAR_A),
+            (End::A, _) => self.put_at_a(b"-- ", text, stroke, b'X', HALF_A),
+            (End::B, _) => self.put_at_b(b" -", text, stroke, b'X', HALF_B),
+        }
+    }
+
+    fn put_appearance(&mut self, at: End, label: &[u8]) {
+        match at {
+            End::A => self.put_at_a(b"<- ", label, b'.', b'.', NEAR_A),
+            End::B => self.put_at_b(b" ->", label, b'.', b'.', NEAR_B),
+        }
+    }
+
+    fn put_mark(&mut self, mark: &Mark) {
+        match mark {
+            Mark::Note { at, text, .. } => self.put_note(*at, text.as_slice()),
+            Mark::Across(text) => self.put_across(text.as_slice()),
+            Mark::Departs(trip) => self.put_departure(trip),
+            Mark::Ends(trip, fate) => self.put_end(trip, *fate),
+            Mark::Appears { at, label } => self.put_appearance(*at, label.as_slice()),
+        }
+    }
+}
+
+/// The names of both ends.
+pub(crate) fn write_ladder_head<W: Sink>(page: &mut Page, writer: &mut W) {
+    let mut head = [b' '; WIDTH];
+    head[0] = b'A';
+    head[WIDTH - 1] = b'B';
+    page.write(writer, &head);
+    page.write(writer, b"\n");
+}
+
+/// The line of a step.
+pub(crate) fn write_ladder<W: Sink>(page: &mut Page, writer: &mut W, mark: &Mark) {
+    if let Mark::Ends(_, Fate::OnItsWay) = mark {
+        return;
+    }
+    let mut row = Row::new();
+    row.put_mark(mark);
+    page.write(writer, &row.bytes);
+    page.write(writer, b"\n");
+}

@@ -1,0 +1,64 @@
+//! What a step of a run puts into a picture.
+use crate::short_text::ShortText;
+use ddcmp_pair::End;
+
+/// A frame on its way.
+#[derive(Clone, Copy, Drop)]
+pub(crate) struct Trip {
+    pub(crate) from: End,
+    /// The row in which it left.
+    pub(crate) row: u64,
+    pub(crate) label: ShortText,
+    pub(crate) is_damaged: bool,
+}
+
+/// How a trip ends.
+#[derive(Clone, Copy, Debug, PartialEq, Eq)]
+pub(crate) enum Fate {
+    /// It arrived, or the last part of it did.
+    Arrived,
+    /// Only so many bytes of those that were left have arrived.
+    Cut { part: usize, of: usize },
+    Lost,
+    /// The run was over before.
+    OnItsWay,
+}
+
+/// What a step of a run puts into a picture.
+#[derive(Clone, Copy, Drop)]
+pub(crate) enum Mark {
+    /// Words beside the line of an end; or in the row of what arrived there just before.
+    Note {
+        at: End,
+        text: ShortText,
+        is_beside: bool,
+    },
+    /// Words that concern both ends.
+    Across(ShortText),
+    Departs(Trip),
+    Ends(Trip, Fate),
+    /// Bytes that nobody sent arrive at an end.
+    Appears {
+        at: End,
+        label: ShortText,
+    },
+}
+
+impl Fate {
+    /// The label of a trip with this end.
+    pub(crate) fn label(self, trip: &Trip) -> ShortText {
+        let label = if trip.is_damaged {
+            trip.label.with(b", damaged")
+        } else {
+            trip.label
+        };
+        match self {
+            Fate::Cut { part, of } => label
+                .with(b", ")
+                .with_number(part as u64)
+                .with(b" of ")
+                .with_number(of as u64),
+            Fate::Arrived | Fate::Lost | Fate::OnItsWay => label,
+        }
+    }
+}

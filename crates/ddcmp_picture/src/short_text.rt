@@ -1,0 +1,72 @@
+//! Short texts: labels and notes.
+use itoa::Buffer;
+
+/// The most bytes that a short text has; what is behind them is left out.
+const ROOM: usize = 96;
+
+/// A text of ASCII that is short.
+#[derive(Clone, Copy, Drop)]
+pub(crate) struct ShortText {
+    bytes: [u8; ROOM],
+    len: usize,
+}
+
+/// The digit of a number below 16.
+fn digit(nibble: u8) -> u8 {
+    if nibble < 10 {
+        b'0' + nibble
+    } else {
+        b'a' + (nibble.min(15) - 10)
+    }
+}
+
+impl ShortText {
+    pub(crate) fn new() -> Self {
+        ShortText {
+            bytes: [b' '; ROOM],
+            len: 0,
+        }
+    }
+
+    pub(crate) fn as_slice(&self) -> &[u8] {
+        &self.bytes[..self.len.min(ROOM)]
+    }
+
+    fn push(&mut self, byte: u8) {
+        if self.len < ROOM {
+            self.bytes[self.len] = byte;
+            self.len += 1;
+        }
+    }
+
+    /// The same, and this text behind it.
+    pub(crate) fn with(mut self, text: &[u8]) -> Self {
+        for byte in text {
+            self.push(*byte);
+        }
+        self
+    }
+
+    /// The same, and a number behind it.
+    pub(crate) fn with_number(self, number: u64) -> Self {
+        let mut buffer = Buffer::new();
+        self.with(buffer.format(number).as_bytes())
+    }
+
+    /// The same, and bytes in hexadecimal digits behind it; of many the first alone.
+    pub(crate) fn with_bytes(mut self, bytes: &[u8]) -> Self {
+        let is_long = bytes.len() > 10;
+        let shown = if is_long { &bytes[..6] } else { bytes };
+        for byte in shown {
+            self.push(digit(*byte / 16));
+            self.push(digit(*byte % 16));
+        }
+        if is_long {
+            return self
+                .with(b".. (")
+                .with_number(bytes.len() as u64)
+                .with(b" bytes)");
+        }
+        self
+    }
+}

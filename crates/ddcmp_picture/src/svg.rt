@@ -1,0 +1,439 @@
+//! A time-sequence diagram in SVG: two upright lines, and time goes down, a row a step.
+use crate::mark::{Fate, Mark, Trip};
+use ddcmp_io::text::write_number;
+use ddcmp_io::{Page, Sink};
+use ddcmp_pair::End;
+
+/// Where the lines of both ends are, and the middle between them.
+const LINE_A: u64 = 240;
+
+const LINE_B: u64 = 560;
+
+const MIDDLE: u64 = 400;
+
+/// Where the first row is, and how far apart rows are.
+const TOP: u64 = 62;
+
+const STEP: u64 = 24;
+
+/// How far a label may be turned: where a frame was long on its way, it stands level.
+const STEEPEST: u64 = 640;
+
+/// A line of the caption has about so many characters.
+const CAPTION: usize = 110;
+
+const STYLE: &[u8] = b"<style>\
+.end{stroke:#555;stroke-width:1.5}\
+.a,.b{fill:none;stroke-width:1.6}.a{stroke:#003f7a}.b{stroke:#c76a00}\
+.damaged{stroke-dasharray:7 4}.raw{stroke-dasharray:2 3}\
+text{fill:#111;stroke:#fff;stroke-width:3px;paint-order:stroke;stroke-linejoin:round}\
+.name{font-size:16px;font-weight:bold}.across{font-style:italic}\
+</style>\n\
+<defs>\
+<marker id=\"head-a\" viewBox=\"0 0 10 10\" refX=\"10\" refY=\"5\" markerWidth=\"7\" \
+markerHeight=\"7\" orient=\"auto\"><path d=\"M0 0L10 5L0 10z\" fill=\"#003f7a\"/></marker>\
+<marker id=\"head-b\" viewBox=\"0 0 10 10\" refX=\"10\" refY=\"5\" markerWidth=\"7\" \
+markerHeight=\"7\" orient=\"auto\"><path d=\"M0 0L10 5L0 10z\" fill=\"#c76a00\"/></marker>\
+</defs>\n";
+
+/// How high a row is.
+fn height_of(row: u64) -> u64 {
+    row.saturating_mul(STEP).saturating_add(TOP)
+}
+
+fn line_of(end: End) -> u64 {
+    match end {
+        End::A => LINE_A,
+        End::B => LINE_B,
+    }
+}
+
+/// The class of what an end sends.
+fn class_of(end: End) -> &'static [u8] {
+    match end {
+        End::A => b"a",
+        End::B => b"b",
+    }
+}
+
+/// An attribute with a number.
+fn write_attribute<W: Sink>(page: &mut Page, writer: &mut W, name: &[u8], value: u64) {
+    page.write(writer, b" ");
+    page.write(writer, name);
+    page.write(writer, b"=\"");
+    write_number(page, writer, value);
+    page.write(writer, b"\"");
+}
+
+/// A text at a place, anchored at its start, its middle or its end.
+fn write_text<W: Sink>(page: &mut Page, writer: &mut W, x: u64, y: u64, how: &[u8], text: &[u8]) {
+    page.write(writer, b"<text");
+    write_attribute(page, writer, b"x", x);
+    write_attribute(page, writer, b"y", y);
+    page.write(writer, b" ");
+    page.write(writer, how);
+    page.write(writer, b">");
+    page.write(writer, text);
+    page.write(writer, b"</text>\n");
+}
+
+/// A dot on the line of an end.
+fn write_dot<W: Sink>(page: &mut Page, writer: &mut W, at: End, y: u64) {
+    page.write(writer, b"<circle");
+    write_attribute(page, writer, b"cx", line_of(at));
+    write_attribute(page, writer, b"cy", y);
+    page.write(writer, b" r=\"3\" fill=\"#555\"/>");
+}
+
+/// Words beside the line of an end.
+fn write_note<W: Sink>(page: &mut Page, writer: &mut W, at: End, y: u64, text: &[u8]) {
+    let base = y.saturating_add(4);
+    match at {
+        End::A => write_text(
+            page,
+            writer,
+            LINE_A - 12,
+            base,
+            b"text-anchor=\"end\"",
+            text,
+        ),
+        End::B => write_text(
+            page,
+            writer,
+            LINE_B + 12,
+            base,
+            b"text-anchor=\"start\"",
+            text,
+        ),
+    }
+}
+
+/// The root of a number, without its fraction, from 1 to 1000.
+fn root(n: u64) -> u64 {
+    let mut root = 1;
+    for next in 2..1001u64 {
+        if next * next <= n {
+            root = next;
+        }
+    }
+    root
+}
+
+/// A part of 1 in thousandths.
+fn write_thousandths<W: Sink>(page: &mut Page, writer: &mut W, n: u64) {
+    if n >= 1000 {
+        return page.write(writer, b"1");
+    }
+    page.write(writer, b"0.");
+    write_number(page, writer, n / 100);
+    write_number(page, writer, n / 10 % 10);
+    write_number(page, writer, n % 10);
+}
+
+/// A line from one place to another, or a part of an arrow.
+#[derive(Clone, Copy, Drop)]
+struct Stroke {
+    from: End,
+    x1: u64,
+    y1: u64,
+    x2: u64,
+    y2: u64,
+}
+
+impl Stroke {
+    /// What a trip becomes that ends in this row.
+    fn of(trip: &Trip, fate: Fate, row: u64) -> Stroke {
+        let x2 = match fate {
+            Fate::Arrived | Fate::Cut { .. } => line_of(trip.from.other()),
+            Fate::Lost | Fate::OnItsWay => MIDDLE,
+        };
+        Stroke {
+            from: trip.from,
+            x1: line_of(trip.from),
+            y1: height_of(trip.row),
+            x2,
+            y2: height_of(row),
+        }
+    }
+
+    /// Where it is after so many quarters.
+    fn place(&self, quarters: u64) -> (u64, u64) {
+        let x = (self.x1.saturating_mul(4u64.saturating_sub(quarters))).saturating_add(
+            self.x2.saturating_mul(quarters),
+        ) / 4;
+        let down = self.y2.saturating_sub(self.y1) / 4;
+        (x, self.y1.saturating_add(down.saturating_mul(quarters)))
+    }
+
+    fn write<W: Sink>(&self, page: &mut Page, writer: &mut W, class: &[u8], has_head: bool) {
+        page.write(writer, b"<line class=\"");
+        page.write(writer, class_of(self.from));
+        page.write(writer, class);
+        page.write(writer, b"\"");
+        write_attribute(page, writer, b"x1", self.x1);
+        write_attribute(page, writer, b"y1", self.y1);
+        write_attribute(page, writer, b"x2", self.x2);
+        write_attribute(page, writer, b"y2", self.y2);
+        if has_head {
+            page.write(writer, b" marker-end=\"url(#head-");
+            page.write(writer, class_of(self.from));
+            page.write(writer, b")\"");
+        }
+        page.write(writer, b"/>\n");
+    }
+
+    /// Words above it, turned as it is, from where it begins.
+    fn write_label<W: Sink>(&self, page: &mut Page, writer: &mut W, text: &[u8]) {
+        let across = self.x1.max(self.x2) - self.x1.min(self.x2);
+        let down = self.y2.saturating_sub(self.y1);
+        if down > STEEPEST || across > STEEPEST {
+            return self.write_level_label(page, writer, text);
+        }
+        let length = root(across * across + down * down);
+        let cosine = across.saturating_mul(1000) / length.max(1);
+        let sine = down.saturating_mul(1000) / length.max(1);
+        let (rises, falls, how): (&[u8], &[u8], &[u8]) = match self.from {
+            End::A => (b" ", b" -", b" x=\"10\" y=\"-"),
+            End::B => (b" -", b" ", b" text-anchor=\"end\" x=\"-10\" y=\"-"),
+        };
+        page.write(writer, b"<text transform=\"matrix(");
+        write_thousandths(page, writer, cosine);
+        page.write(writer, rises);
+        write_thousandths(page, writer, sine);
+        page.write(writer, falls);
+        write_thousandths(page, writer, sine);
+        page.write(writer, b" ");
+        write_thousandths(page, writer, cosine);
+        page.write(writer, b" ");
+        write_number(page, writer, self.x1);
+        page.write(writer, b" ");
+        write_number(page, writer, self.y1);
+        page.write(writer, b")\"");
+        page.write(writer, how);
+        page.write(writer, if self.x2 == MIDDLE { b"9\">" } else { b"5\">" });
+        page.write(writer, text);
+        page.write(writer, b"</text>\n");
+    }
+
+    fn write_level_label<W: Sink>(&self, page: &mut Page, writer: &mut W, text: &[u8]) {
+        let y = self.y1.saturating_sub(3);
+        match self.from {
+            End::A => write_text(page, writer, LINE_A + 10, y, b"text-anchor=\"start\"", text),
+            End::B => write_text(page, writer, LINE_B - 10, y, b"text-anchor=\"end\"", text),
+        }
+    }
+
+    /// How a trip ends, at its end.
+    fn write_fate<W: Sink>(&self, page: &mut Page, writer: &mut W, fate: Fate) {
+        match fate {
+            Fate::Arrived => {}
+            Fate::Cut { .. } => {
+                let shape: &[u8] = match self.from {
+                    End::A => b"m-5 -8v16",
+                    End::B => b"m5 -8v16",
+                };
+                self.write_shape(page, writer, self.x2, shape);
+            }
+            Fate::Lost => {
+                self.write_shape(page, writer, self.x2, b"m-6 -6l12 12m0 -12l-12 12");
+                self.write_lost(page, writer);
+            }
+            Fate::OnItsWay => self.write_shape(page, writer, self.x2, b"m-4 0l4 4l4 -4l-4 -4z"),
+        }
+    }
+
+    /// Words behind the cross of a frame that was lost.
+    fn write_lost<W: Sink>(&self, page: &mut Page, writer: &mut W) {
+        let y = self.y2.saturating_add(4);
+        let (x, how): (u64, &[u8]) = match self.from {
+            End::A => (MIDDLE + 12, b"text-anchor=\"start\""),
+            End::B => (MIDDLE - 12, b"text-anchor=\"end\""),
+        };
+        write_text(page, writer, x, y, how, b"lost");
+    }
+
+    /// A shape at the end.
+    fn write_shape<W: Sink>(&self, page: &mut Page, writer: &mut W, x: u64, shape: &[u8]) {
+        page.write(writer, b"<path class=\"");
+        page.write(writer, class_of(self.from));
+        page.write(writer, b"\" style=\"stroke-width:2.5\" d=\"M");
+        write_number(page, writer, x);
+        page.write(writer, b" ");
+        write_number(page, writer, self.y2);
+        page.write(writer, shape);
+        page.write(writer, b"\"/>\n");
+    }
+
+    /// What marks a frame that was damaged.
+    fn write_damage<W: Sink>(&self, page: &mut Page, writer: &mut W) {
+        let (x, y) = self.place(3);
+        page.write(writer, b"<path fill=\"#111\" d=\"M");
+        write_number(page, writer, x);
+        page.write(writer, b" ");
+        write_number(page, writer, y);
+        page.write(writer, b"m0 -7l7 7l-7 7l-7 -7z\"/>\n");
+    }
+}
+
+fn write_trip<W: Sink>(page: &mut Page, writer: &mut W, trip: &Trip, fate: Fate, row: u64) {
+    let stroke = Stroke::of(trip, fate, row);
+    let class: &[u8] = if trip.is_damaged { b" damaged" } else { b"" };
+    stroke.write(page, writer, class, fate == Fate::Arrived);
+    stroke.write_fate(page, writer, fate);
+    if trip.is_damaged {
+        stroke.write_damage(page, writer);
+    }
+    stroke.write_label(page, writer, fate.label(trip).as_slice());
+}
+
+/// Bytes that nobody sent.
+fn write_appearance<W: Sink>(page: &mut Page, writer: &mut W, at: End, row: u64, label: &[u8]) {
+    let y = height_of(row);
+    let stroke = Stroke {
+        from: at.other(),
+        x1: MIDDLE,
+        y1: y,
+        x2: line_of(at),
+        y2: y,
+    };
+    stroke.write(page, writer, b" raw", true);
+    let base = y.saturating_sub(5);
+    match at {
+        End::A => write_text(
+            page,
+            writer,
+            LINE_A + 12,
+            base,
+            b"text-anchor=\"start\"",
+            label,
+        ),
+        End::B => write_text(
+            page,
+            writer,
+            LINE_B - 12,
+            base,
+            b"text-anchor=\"end\"",
+            label,
+        ),
+    }
+}
+
+/// What a mark is in the rows of a document.
+pub(crate) fn write_element<W: Sink>(page: &mut Page, writer: &mut W, row: u64, mark: &Mark) {
+    match mark {
+        Mark::Note {
+            at,
+            text,
+            is_beside,
+        } => {
+            let here = if *is_beside {
+                height_of(row.saturating_sub(1))
+            } else {
+                write_dot(page, writer, *at, height_of(row));
+                height_of(row)
+            };
+            write_note(page, writer, *at, here, text.as_slice());
+        }
+        Mark::Across(text) => {
+            let y = height_of(row).saturating_add(4);
+            let how = b"text-anchor=\"middle\" class=\"across\"";
+            write_text(page, writer, MIDDLE, y, how, text.as_slice());
+        }
+        // Its arrow is drawn once its end is known.
+        Mark::Departs(_trip) => {}
+        Mark::Ends(trip, fate) => write_trip(page, writer, trip, *fate, row),
+        Mark::Appears { at, label } => write_appearance(page, writer, *at, row, label.as_slice()),
+    }
+}
+
+/// The first line of a caption, which a long one has up to a blank, and what stands behind it.
+fn first_line(text: &[u8]) -> (&[u8], &[u8]) {
+    for i in 0..text.len() {
+        if text[i] == b'\n' || (i >= CAPTION && text[i] == b' ') {
+            return (&text[..i], &text[i + 1..]);
+        }
+    }
+    (text, &text[text.len()..])
+}
+
+/// Writes a caption line by line.
+fn write_caption<W: Sink>(page: &mut Page, writer: &mut W, top: u64, text: &[u8]) {
+    let mut y = top;
+    let mut rest = text;
+    for _byte in 0..text.len() {
+        if rest.is_empty() {
+            return;
+        }
+        let (line, behind) = first_line(rest);
+        write_text(page, writer, MIDDLE, y, b"text-anchor=\"middle\"", line);
+        y = y.saturating_add(18);
+        rest = behind;
+    }
+}
+
+/// How many lines a caption has.
+fn caption_lines(text: &[u8]) -> u64 {
+    let mut lines: u64 = 0;
+    let mut rest = text;
+    for _byte in 0..text.len() {
+        if rest.is_empty() {
+            return lines;
+        }
+        let (_line, behind) = first_line(rest);
+        lines = lines.saturating_add(1);
+        rest = behind;
+    }
+    lines
+}
+
+/// What stands before the rows, up to the lines of both ends.
+fn write_head<W: Sink>(page: &mut Page, writer: &mut W, foot: u64, height: u64, caption: &[u8]) {
+    page.write(writer, b"<svg xmlns=\"http://www.w3.org/2000/svg\"");
+    write_attribute(page, writer, b"width", 840);
+    write_attribute(page, writer, b"height", height);
+    page.write(writer, b" viewBox=\"-20 0 840 ");
+    write_number(page, writer, height);
+    page.write(
+        writer,
+        b"\" role=\"img\" aria-labelledby=\"title desc\" \
+        font-family=\"DejaVu Sans,Verdana,Arial,sans-serif\" font-size=\"12\">\n\
+        <title id=\"title\">DDCMP: a run between the stations A and B</title>\n\
+        <desc id=\"desc\">Time goes down. An arrow is a frame, from where it was sent to where it \
+        arrived. A lost one ends in a cross, a damaged one is dashed and has a diamond, and of one \
+        that ends in a bar only a part arrived. ",
+    );
+    page.write(writer, caption);
+    page.write(writer, b"</desc>\n");
+    page.write(writer, STYLE);
+    page.write(
+        writer,
+        b"<rect x=\"-20\" width=\"840\" height=\"100%\" fill=\"#fff\"/>\n",
+    );
+    for end in [End::A, End::B] {
+        page.write(writer, b"<line class=\"end\"");
+        write_attribute(page, writer, b"x1", line_of(end));
+        write_attribute(page, writer, b"y1", TOP - 24);
+        write_attribute(page, writer, b"x2", line_of(end));
+        write_attribute(page, writer, b"y2", foot);
+        page.write(writer, b"/>\n");
+    }
+    let how = b"text-anchor=\"middle\" class=\"name\"";
+    write_text(page, writer, LINE_A, TOP - 32, how, b"A");
+    write_text(page, writer, LINE_B, TOP - 32, how, b"B");
+}
+
+/// A whole document: these elements in so many rows, and a caption below them.
+pub(crate) fn write_document<W: Sink>(
+    page: &mut Page,
+    writer: &mut W,
+    elements: &[u8],
+    rows: u64,
+    caption: &[u8],
+) {
+    let foot = height_of(rows);
+    let below = caption_lines(caption).saturating_mul(18).saturating_add(24);
+    write_head(page, writer, foot, foot.saturating_add(below), caption);
+    page.write(writer, elements);
+    write_caption(page, writer, foot.saturating_add(26), caption);
+    page.write(writer, b"</svg>\n");
+}

@@ -1,0 +1,100 @@
+//! Worked pictures of runs between two ends. The input has scripts one after another, each behind a
+//! line that says how it is drawn; the picture goes to the output, and then the answer. Over a
+//! connection it is the same.
+#![tactic(auto)]
+
+ghost use Rattle.std.specs.Prelude.{◌≡◌, false};
+
+use ddcmp_frame::{FromRead, ToWrite};
+use ddcmp_line::{Carrier, Config, Direct, Pair, Sockets};
+use ddcmp_picture::{Picture, draw};
+use std::io::{self, Read, Write};
+
+/// What stands before the words for a script.
+const MARK: &str = "=== ";
+
+/// How a script is drawn: `ladder` or `svg`, and `counters`.
+#[derive(Clone, Copy, Drop)]
+struct Wanted {
+    picture: Picture,
+    counted: bool,
+}
+
+fn wanted_in(head: &str) -> Option<Wanted> {
+    let mut words = head.split(' ');
+    let picture = match words.next()? {
+        "ladder" => Picture::Ladder,
+        "svg" => Picture::Svg,
+        _ => return None,
+    };
+    let counted = words.next()? == "counters";
+    Some(Wanted { picture, counted })
+}
+
+/// The sizes of both ends: small ones, and those of a larger SYN fill are told by their word.
+fn config_of(head: &str) -> Config {
+    let syn = if head.ends_with("syn") { 4 } else { 0 };
+    Config {
+        window: 3,
+        inbox: 2,
+        max: 1500,
+        syn,
+        restart: false,
+    }
+}
+
+/// Draws a script between two new ends, and gives the picture and its answer.
+fn play<C: Carrier>(
+    rt: &HostRuntime,
+    head: &str,
+    wanted: &Wanted,
+    lines: &str,
+    carrier: &mut C,
+) -> io::Result<Vec<u8>>
+    requires { C.broken carrier.old ≡ false }
+{
+    let config = config_of(head);
+    let Ok(mut pair) = Pair::new(rt.alloc(), config, config) else {
+        return Ok(Vec::from_array(rt.alloc(), *b"no pair\n")?);
+    };
+    let mut reader = FromRead::new(lines.as_bytes());
+    let mut writer = ToWrite::new(Vec::new(rt.alloc()));
+    let answer = draw(
+        rt.alloc(),
+        &mut pair,
+        &mut reader,
+        &mut writer,
+        carrier,
+        wanted.picture,
+        wanted.counted,
+    );
+    let mut text = writer.into_inner();
+    writeln!(text, "{answer:?}")?;
+    Ok(text)
+}
+
+fn run(rt: &HostRuntime, head: &str, lines: &str) -> io::Result<()> {
+    println!(rt; "{MARK}{head}")?;
+    let Some(wanted) = wanted_in(head) else {
+        return println!(rt; "no picture");
+    };
+    let text = play(rt, head, &wanted, lines, &mut Direct)?;
+    rt.stdout().write_all(text.as_slice())?;
+    let over = play(rt, head, &wanted, lines, &mut Sockets::new(rt)?)?;
+    if over != text {
+        println!(rt; "over a connection:")?;
+        rt.stdout().write_all(over.as_slice())?;
+    }
+    Ok(())
+}
+
+fn main(rt: HostRuntime) -> io::Result<()> {
+    let mut input = String::new(rt.alloc());
+    rt.stdin().read_to_string(&mut input)?;
+    for part in input.as_str().split(MARK).skip(1) {
+        if let Some((head, lines)) = part.split_once('\n') {
+            run(&rt, head, lines)?;
+        }
+    }
+    Ok(())
+}
