@@ -1,4 +1,4 @@
--- What one direction of a tap hands on, and what is written of it.
+-- What a tap hands on in both directions, and what it writes.
 use Rattle.std.specs.Prelude.{◌≡◌, ◌⊎◌, ℕ, Bool, true, false, List, [], ◌∷◌, ◌++◌, All, drop, is_some, length, ⊤, Option, Some, None, Result, Ok, Err}
 use Rattle.std.specs.Io.KnownBytes.{Appends, Consumes, IsAtEnd, Keeps}
 use Rattle.ddcmp_io.specs.Written.{AppendsPart, Known}
@@ -12,9 +12,54 @@ use Rattle.ddcmp_pump.specs.declared.flow.Flow.{Flow}
 use Rattle.ddcmp_pump.specs.declared.tap_fault.TapFault.{TapFault}
 use Rattle.ddcmp_pump.specs.declared.tap_fault.TapFault.TheVariants.{Carrier, Read, Write, Report, Memory}
 
+-- bytes of a side that were told together, and the moment, where it is told
+pub record Piece : Type 0 where
+  pub side : Side
+  pub stamp : Option ℕ
+  pub bytes : List ℕ
+
+-- the bytes of a piece, where it is of this side
+abbrev pub of_side : Side → Side → List ℕ → List ℕ
+of_side Caller Caller bytes = bytes
+of_side Caller Called bytes = []
+of_side Called Caller bytes = []
+of_side Called Called bytes = bytes
+
+-- what pieces have of a side; of pieces the last comes first
+unfoldable pub said : Side → List Piece → List ℕ
+said side [] = []
+said side (p ∷ before) = said side before ++ of_side side p.side p.bytes
+
 -- the items that bytes add to those before them
 abbrev pub items_added : ℕ → List ℕ → List ℕ → List ReadItem
 items_added max told more = drop (length (items max told)) (items max (told ++ more))
+
+-- the lines of pieces: of each those that it adds to what its side had said
+unfoldable pub pieces_text : Notation → ℕ → List Piece → List ℕ
+pieces_text notation max [] = []
+pieces_text notation max (p ∷ before) =
+    pieces_text notation max before
+    ++ tapped_lines notation p.stamp p.side (items_added max (said p.side before) p.bytes)
+
+-- all that a tap writes: those lines, and a last one of each side
+abbrev pub tap_text : Notation → ℕ → Option ℕ → List Piece → List ℕ
+tap_text notation max stamp pieces =
+    pieces_text notation max pieces
+    ++ (tapped_last notation stamp Caller max (said Caller pieces)
+    ++ tapped_last notation stamp Called max (said Called pieces))
+
+-- the moments stand where they are asked for
+abbrev pub AreStamped : Bool → List Piece → Type 0
+AreStamped timed pieces = All (λ (p : Piece). is_some p.stamp ≡ timed) pieces
+
+-- a tap went on until both sides had ended or one had failed
+abbrev pub HasSaid : Result (Unit {0}) TapFault → Type 0
+HasSaid (Ok u) = ⊤
+HasSaid (Err Read) = ⊤
+HasSaid (Err Write) = ⊤
+HasSaid (Err Carrier) = ⊥
+HasSaid (Err Report) = ⊥
+HasSaid (Err Memory) = ⊥
 
 -- a fault of a side, and one of what is written
 abbrev pub IsOfSide : TapFault → Type 0
@@ -31,6 +76,14 @@ WritesText old new (Err Write) text = Appends old new text
 WritesText old new (Err Carrier) text = Keeps old new
 WritesText old new (Err Report) text = AppendsPart old new text
 WritesText old new (Err Memory) text = AppendsPart old new text
+
+-- what a tap wrote of pieces of what both sides said
+pub record Says (notation : Notation) (timed : Bool) (max : ℕ) (old new : Known)
+    (result : Result (Unit {0}) TapFault) : Type 0 where
+  pub pieces : List Piece
+  pub stamp : Option ℕ
+  pub stamped : AreStamped timed pieces × (is_some stamp ≡ timed)
+  pub wrote : WritesText old new result (tap_text notation max stamp pieces)
 
 -- One direction with its devices: its bytes, what its reader has left and what its outlet took,
 -- where these are known, and whether the end was handed on.
@@ -70,3 +123,94 @@ abbrev pub TellsOf : DirectionView → Option ℕ → Known → Known
 TellsOf was stamp old new result told =
     WritesText old new result
     (tapped_lines was.notation stamp was.side (items_added was.frames.max told was.queue.untold))
+
+-- One direction since a beginning: what pieces have of it came, and what the outlet took of that
+-- is its front.
+pub record HasFlown (start now : FlowView) (told : List ℕ) : Type 0 where
+  pub handed : List ℕ
+  pub given : Consumes start.left now.left told
+  pub taken : Appends start.sent now.sent handed
+  pub passes : Passes now.direction told handed told
+
+-- the same where not all that came was told
+pub record HasMoved (start now : FlowView) : Type 0 where
+  pub came : List ℕ
+  pub handed : List ℕ
+  pub waiting : List ℕ
+  pub given : Consumes start.left now.left came
+  pub taken : Appends start.sent now.sent handed
+  pub in_order : came ≡ handed ++ waiting
+
+-- a direction from this side, told like this
+abbrev pub IsOf : Side → Notation → ℕ → DirectionView → Type 0
+IsOf side notation max d =
+    (d.side ≡ side) × (d.notation ≡ notation) × (d.frames.max ≡ max)
+
+-- How the directions of a tap begin: nothing has come.
+pub record Begins (side : Side) (notation : Notation) (max : ℕ) (flow : FlowView) : Type 0 where
+  pub passes : Passes flow.direction [] [] []
+  pub is_of : IsOf side notation max flow.direction
+  pub not_closed : flow.closed ≡ false
+  pub not_ended : flow.direction.ended ≡ false
+
+-- A tap that runs: all that came was told.
+pub record Runs (notation : Notation) (timed : Bool) (max : ℕ) (up0 up down0 down : FlowView)
+    (old new : Known) : Type 0 where
+  pub pieces : List Piece
+  pub stamped : AreStamped timed pieces
+  pub text : Appends old new (pieces_text notation max pieces)
+  pub up_is : IsOf Caller notation max up.direction
+  pub down_is : IsOf Called notation max down.direction
+  pub rising : HasFlown up0 up (said Caller pieces)
+  pub falling : HasFlown down0 down (said Called pieces)
+
+-- A tap that stopped in the middle: not all that came was told.
+pub record Stopped (notation : Notation) (timed : Bool) (max : ℕ) (up0 up down0 down : FlowView)
+    (old new : Known) : Type 0 where
+  pub pieces : List Piece
+  pub stamped : AreStamped timed pieces
+  pub text : AppendsPart old new (pieces_text notation max pieces)
+  pub rising : HasMoved up0 up
+  pub falling : HasMoved down0 down
+
+-- a tap after a turn
+abbrev pub Turns : Notation → Bool → ℕ → FlowView → FlowView → FlowView → FlowView → Known → Known
+    → Result Bool TapFault → Type 0
+Turns notation timed max up0 up down0 down old new (Ok moved) =
+    Runs notation timed max up0 up down0 down old new
+Turns notation timed max up0 up down0 down old new (Err Read) =
+    Runs notation timed max up0 up down0 down old new
+Turns notation timed max up0 up down0 down old new (Err Write) =
+    Runs notation timed max up0 up down0 down old new
+Turns notation timed max up0 up down0 down old new (Err Carrier) = ⊥
+Turns notation timed max up0 up down0 down old new (Err Report) =
+    Stopped notation timed max up0 up down0 down old new
+Turns notation timed max up0 up down0 down old new (Err Memory) =
+    Stopped notation timed max up0 up down0 down old new
+
+-- a tap that is over
+abbrev pub Stops : Notation → Bool → ℕ → FlowView → FlowView → FlowView → FlowView → Known → Known
+    → Result (Unit {0}) TapFault → Type 0
+Stops notation timed max up0 up down0 down old new (Ok u) =
+    Runs notation timed max up0 up down0 down old new
+Stops notation timed max up0 up down0 down old new (Err Read) =
+    Runs notation timed max up0 up down0 down old new
+Stops notation timed max up0 up down0 down old new (Err Write) =
+    Runs notation timed max up0 up down0 down old new
+Stops notation timed max up0 up down0 down old new (Err Carrier) = ⊥
+Stops notation timed max up0 up down0 down old new (Err Report) =
+    Stopped notation timed max up0 up down0 down old new
+Stops notation timed max up0 up down0 down old new (Err Memory) =
+    Stopped notation timed max up0 up down0 down old new
+
+-- What became of a tap: its text, and what was handed on each way. Where it is done all that came
+-- was, and the end too.
+pub record Pumps (notation : Notation) (timed : Bool) (max : ℕ) (up0 up down0 down : FlowView)
+    (old new : Known) (result : Result (Unit {0}) TapFault) : Type 0 where
+  pub says : Says notation timed max old new result
+  pub rising : HasMoved up0 up
+  pub falling : HasMoved down0 down
+  pub said_all : HasSaid result → (said Caller says.pieces ≡ rising.came)
+      × (said Called says.pieces ≡ falling.came)
+  pub done : result ≡ Ok tt → (rising.waiting ≡ []) × (falling.waiting ≡ [])
+      × (up.closed ≡ true) × (down.closed ≡ true) × IsAtEnd up.left × IsAtEnd down.left

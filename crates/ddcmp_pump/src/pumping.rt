@@ -1,9 +1,13 @@
 //! Both directions of a tap, until both have ended.
 
-ghost use Rattle.std.specs.Prelude.{◌≡◌, ◌≢◌, ◌<◌, ◌↔◌, Err, IsOk, IsTrue, Ok, false, is_some};
-ghost use Rattle.std.specs.Prelude.{length, true};
-ghost use Rattle.ddcmp_pump.specs.Pumping.{Ends, IsOfSide, Moves, flow_of};
+ghost use Rattle.std.specs.Prelude.{◌≡◌, ◌≢◌, ◌<◌, ◌↔◌, Bool, Err, IsOk, IsTrue, Ok, ℕ};
+ghost use Rattle.std.specs.Prelude.{false, is_some, length, true};
+ghost use Rattle.ddcmp_io.specs.Written.{Known};
+ghost use Rattle.ddcmp_explain.specs.declared.notation.Notation.{Notation};
+ghost use Rattle.ddcmp_pump.specs.Pumping.{Begins, Ends, HasSaid, FlowView, IsOfSide, Moves, Pumps};
+ghost use Rattle.ddcmp_pump.specs.Pumping.{Runs, Stops, Turns, flow_of};
 ghost use Rattle.ddcmp_pump.specs.declared.tap_fault.TapFault.{TapFault as TapFaultValue};
+ghost use Rattle.ddcmp_tap.specs.declared.side.Side.TheVariants.{Caller as CallerSide, Called as CalledSide};
 
 use crate::flow::Flow;
 use crate::outlet::Outlet;
@@ -64,6 +68,11 @@ fn turn<R: Source, O: Outlet, W: Sink>(
     requires up_ends { Ends (flow_of R.left O.contents O.closed up.old) }
     requires down_ends { Ends (flow_of R.left O.contents O.closed down.old) }
     requires whole { W.broken writer.old ≡ false }
+    ensures runs { (notation : Notation) (timed : Bool) (max : ℕ) (up0 down0 : FlowView) (start : Known)
+        → is_some stamp ≡ timed → Runs notation timed max up0 (flow_of R.left O.contents O.closed up.old) down0
+        (flow_of R.left O.contents O.closed down.old) start (W.contents writer.old)
+        → Turns notation timed max up0 (flow_of R.left O.contents O.closed up.new) down0
+        (flow_of R.left O.contents O.closed down.new) start (W.contents writer.new) result }
     ensures up_ends { Ends (flow_of R.left O.contents O.closed up.new) }
     ensures down_ends { Ends (flow_of R.left O.contents O.closed down.new) }
     ensures up_fine { IsOk result → R.state up.new.reader ≢ Worst.Failed }
@@ -99,6 +108,11 @@ fn until_over<R: Source, O: Outlet, K: Readiness, C: Clock, W: Sink>(
     requires up_ends { Ends (flow_of R.left O.contents O.closed up.old) }
     requires down_ends { Ends (flow_of R.left O.contents O.closed down.old) }
     requires whole { W.broken writer.old ≡ false }
+    ensures runs { (notation : Notation) (max : ℕ) (up0 down0 : FlowView) (start : Known)
+        → Runs notation timed max up0 (flow_of R.left O.contents O.closed up.old) down0
+        (flow_of R.left O.contents O.closed down.old) start (W.contents writer.old)
+        → Stops notation timed max up0 (flow_of R.left O.contents O.closed up.new) down0
+        (flow_of R.left O.contents O.closed down.new) start (W.contents writer.new) result }
     ensures met { result ≢ Err TapFault.Carrier }
     ensures broken { (result ≡ Err TapFault.Report) ↔ IsTrue (W.broken writer.new) }
     ensures up_ends { Ends (flow_of R.left O.contents O.closed up.new) }
@@ -121,6 +135,39 @@ fn until_over<R: Source, O: Outlet, K: Readiness, C: Clock, W: Sink>(
     Err(TapFault::Read)
 }
 
+/// Writes the two last lines of a tap that went on until both sides had ended or one had failed.
+fn conclude<R: Source, O: Outlet, C: Clock, W: Sink>(
+    up: &mut Flow<R, O>,
+    down: &mut Flow<R, O>,
+    clock: &mut C,
+    timed: bool,
+    writer: &mut W,
+    ended: Result<(), TapFault>,
+) -> Result<(), TapFault>
+    requires whole { W.broken writer.old ≡ false }
+    requires up_ends { Ends (flow_of R.left O.contents O.closed up.old) }
+    requires down_ends { Ends (flow_of R.left O.contents O.closed down.old) }
+    requires said { HasSaid ended }
+    requires done { ended ≡ Ok tt → (O.closed up.old.outlet ≡ true) × (O.closed down.old.outlet ≡ true) }
+    ensures pumps { (notation : Notation) (max : ℕ) (up0 down0 : FlowView) (start : Known)
+        → Runs notation timed max up0 (flow_of R.left O.contents O.closed up.old) down0
+        (flow_of R.left O.contents O.closed down.old) start (W.contents writer.old)
+        → Pumps notation timed max up0 (flow_of R.left O.contents O.closed up.new) down0
+        (flow_of R.left O.contents O.closed down.new) start (W.contents writer.new) result }
+    ensures met { result ≢ Err TapFault.Carrier }
+    ensures broken { (result ≡ Err TapFault.Report) ↔ IsTrue (W.broken writer.new) }
+{
+    let at = stamp(clock, timed);
+    match up.tell_end(writer, at) {
+        Ok(()) => {}
+        Err(fault) => return Err(fault),
+    }
+    match down.tell_end(writer, at) {
+        Ok(()) => ended,
+        Err(fault) => Err(fault),
+    }
+}
+
 /// Hands on what comes from each side to the other and says what it is, until both have ended or one
 /// has failed; then come the two last lines.
 pub fn pump<R: Source, O: Outlet, K: Readiness, C: Clock, W: Sink>(
@@ -138,17 +185,21 @@ pub fn pump<R: Source, O: Outlet, K: Readiness, C: Clock, W: Sink>(
     requires up_ends { Ends (flow_of R.left O.contents O.closed up.old) }
     requires down_ends { Ends (flow_of R.left O.contents O.closed down.old) }
     requires whole { W.broken writer.old ≡ false }
+    ensures pumps { (notation : Notation) (max : ℕ)
+        → Begins CallerSide notation max (flow_of R.left O.contents O.closed up.old)
+        → Begins CalledSide notation max (flow_of R.left O.contents O.closed down.old)
+        → Pumps notation timed max (flow_of R.left O.contents O.closed up.old) (flow_of R.left O.contents O.closed up.new)
+        (flow_of R.left O.contents O.closed down.old) (flow_of R.left O.contents O.closed down.new)
+        (W.contents writer.old) (W.contents writer.new) result }
     ensures met { result ≢ Err TapFault.Carrier }
     ensures broken { (result ≡ Err TapFault.Report) ↔ IsTrue (W.broken writer.new) }
 {
-    let ended = until_over(up, down, readiness, clock, timed, buffer, writer);
-    match ended {
-        Err(TapFault::Report | TapFault::Memory) => {}
-        _ => {
-            let at = stamp(clock, timed);
-            up.tell_end(writer, at)?;
-            down.tell_end(writer, at)?;
-        }
+    match until_over(up, down, readiness, clock, timed, buffer, writer) {
+        Ok(()) => conclude(up, down, clock, timed, writer, Ok(())),
+        Err(TapFault::Read) => conclude(up, down, clock, timed, writer, Err(TapFault::Read)),
+        Err(TapFault::Write) => conclude(up, down, clock, timed, writer, Err(TapFault::Write)),
+        Err(TapFault::Report) => Err(TapFault::Report),
+        Err(TapFault::Memory) => Err(TapFault::Memory),
+        Err(TapFault::Carrier) => Err(TapFault::Carrier),
     }
-    ended
 }
