@@ -2,4 +2,8 @@
 #![tactic(auto)]
 
 #[cfg(test)]
+mod inboxes;
+#[cfg(test)]
+mod senders;
+#[cfg(test)]
 mod stores;
