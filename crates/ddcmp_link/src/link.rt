@@ -62,7 +62,7 @@ impl Link {
     ghost use Rattle.ddcmp_station.specs.Driving.{core_after_halt};
     ghost use Rattle.ddcmp_link.specs.Linking.{link_made, with_state, with_core, started, anew, after_wake, wakes_at, takes_message, after_offered, answer_to_offered, puts_frame, after_frame, after_frames, is_held_back, frame_of_link, after_sent, countable, totals_after_feed, after_taking, delivered, holds_back};
 
-    /// A halted link: `timer_ms` milliseconds after it was started the timer runs out.
+    /// A halted link, whose timer runs out `timer_ms` milliseconds after it was started.
     pub fn new(alloc: Global, config: Config, timer_ms: u32) -> Result<Link, ConfigRefusal>
         ensures made { IfOk result (λ l. l ≡ link_made config timer_ms l.station.line) }
         ensures stands { IfOk result (λ l. StandsFor l.station.line []) }
@@ -119,10 +119,10 @@ impl Link {
         ensures cleared { StandsFor self.new.station.line [] }
         ensures answer { result ≡ answer_to_start (after_halt self.old.station.core.station) }
     {
-        self.station.halt();
+        self.halt();
         self.station.clear_line();
         self.outbox.clear();
-        self.station.start()
+        self.start()
     }
 
     /// Looks after the timer. Call it last before a wait, and first after it.
@@ -160,7 +160,7 @@ impl Link {
     pub fn has_room(&self) -> bool
         ensures { result ≡ takes_message self.now }
     {
-        self.station.state() == State::Running && self.station.room()
+        self.state() == State::Running && self.station.room()
     }
 
     /// Accepts a message to be sent.
@@ -312,9 +312,7 @@ impl Link {
     pub fn is_delivered(&self) -> bool
         ensures { result ≡ delivered self.now }
     {
-        self.station.outgoing() == 0
-            && self.outbox.waiting().is_empty()
-            && self.station.next_header().is_none()
+        self.lost() == 0 && self.unsent().is_empty() && self.station.next_header().is_none()
     }
 
     /// The state of the station.
