@@ -1,0 +1,13 @@
+pub mod Linking
+pub use Rattle.ddcmp_station.specs.Driving
+pub use Rattle.ddcmp_proto.specs.Config
+pub use Rattle.ddcmp_proto.specs.Bytes
+pub use Rattle.ddcmp_proto.specs.Station
+pub use Rattle.ddcmp_frame.specs.Reader
+pub use Rattle.ddcmp_frame.specs.Reading
+pub use Rattle.ddcmp_frame.specs.Wire
+pub use Rattle.ddcmp_window.specs.Store
+pub use Rattle.ddcmp_core.specs.Table
+pub use Rattle.ddcmp_core.specs.Frames
+pub use Rattle.ddcmp_core.specs.Counting
+pub use Rattle.ddcmp_core.specs.Core

@@ -1,0 +1,5 @@
+//! Links over queues in memory.
+#![tactic(auto)]
+
+#[cfg(test)]
+mod streams;
