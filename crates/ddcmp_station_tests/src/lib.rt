@@ -2,8 +2,8 @@
 #![tactic(auto)]
 
 #[cfg(test)]
-mod calls;
+mod bench;
 #[cfg(test)]
-mod same;
+mod calls;
 #[cfg(test)]
 mod sizes;

@@ -1,15 +1,9 @@
 //! Stations of many sizes, and sizes that are refused.
-ghost use Rattle.std.specs.Prelude.{◌≡◌, false};
-
-use crate::same::is;
 use ddcmp_station::{Config, ConfigRefusal, State, Station};
 use std::alloc::Global;
 use std::process::Abort;
 
-pub fn config_of(window: u16, inbox: u16, max: u16, syn: u8) -> Config
-    ensures { result
-        ≡ record { window = window; inbox = inbox; max = max; syn = syn; restart = false } }
-{
+fn config_of(window: u16, inbox: u16, max: u16, syn: u8) -> Config {
     Config {
         window,
         inbox,
@@ -28,60 +22,90 @@ fn made(alloc: Global, config: Config) -> Result<State, ConfigRefusal> {
 }
 
 fn makes(rt: &(impl Abort + AllocGlobal), config: Config) {
-    is(rt, made(rt.alloc(), config), Ok(State::Halted));
+    assert!(rt; made(rt.alloc(), config) == Ok(State::Halted));
 }
 
-fn refuses(rt: &(impl Abort + AllocGlobal), config: Config, refusal: ConfigRefusal) {
-    is(rt, made(rt.alloc(), config), Err(refusal));
+/// Window, inbox, longest message and fill, and why no station has these sizes.
+type Sizes = (u16, u16, u16, u8, Option<ConfigRefusal>);
+
+/// What is told of sizes that are wrong in several ways, and stations of unusual sizes.
+const TESTED_IN_ORDER: &[Sizes] = &[
+    (0, 0, 0, 17, Some(ConfigRefusal::Window)),
+    (7, 0, 0, 17, Some(ConfigRefusal::Inbox)),
+    (7, 256, 0, 17, Some(ConfigRefusal::Inbox)),
+    (7, 8, 0, 17, Some(ConfigRefusal::Max)),
+    (7, 8, 16384, 17, Some(ConfigRefusal::Max)),
+    (7, 8, 1500, 17, Some(ConfigRefusal::Syn)),
+    (256, 8, 1500, 0, Some(ConfigRefusal::Window)),
+    (128, 8, 1500, 0, None),
+    (255, 8, 1500, 0, None),
+    (1, 1, 1, 16, None),
+];
+
+/// Each size at its ends and between.
+const MANY: &[(u16, u16, u16, u8)] = &[
+    (1, 8, 1500, 0),
+    (128, 8, 1500, 0),
+    (255, 8, 1500, 0),
+    (7, 1, 1500, 0),
+    (7, 128, 1500, 0),
+    (7, 255, 1500, 0),
+    (7, 8, 1, 0),
+    (7, 8, 8192, 0),
+    (7, 8, 16383, 0),
+    (7, 8, 1500, 8),
+    (7, 8, 1500, 16),
+    (255, 255, 16383, 16),
+];
+
+fn tested_in_order() -> &'static [Sizes] {
+    TESTED_IN_ORDER
+}
+
+fn many() -> &'static [(u16, u16, u16, u8)] {
+    MANY
+}
+
+/// Whether a halted station is made, or none for this reason.
+fn is_answered(alloc: Global, config: Config, refusal: Option<ConfigRefusal>) -> bool {
+    match (made(alloc, config), refusal) {
+        (Ok(state), None) => state == State::Halted,
+        (Err(told), Some(refusal)) => told == refusal,
+        _ => false,
+    }
 }
 
 #[test]
 fn sizes_are_tested_in_order(rt: HostRuntime) {
-    refuses(&rt, config_of(0, 0, 0, 17), ConfigRefusal::Window);
-    refuses(&rt, config_of(7, 0, 0, 17), ConfigRefusal::Inbox);
-    refuses(&rt, config_of(7, 256, 0, 17), ConfigRefusal::Inbox);
-    refuses(&rt, config_of(7, 8, 0, 17), ConfigRefusal::Max);
-    refuses(&rt, config_of(7, 8, 16384, 17), ConfigRefusal::Max);
-    refuses(&rt, config_of(7, 8, 1500, 17), ConfigRefusal::Syn);
-    refuses(&rt, config_of(256, 8, 1500, 0), ConfigRefusal::Window);
-    makes(&rt, config_of(128, 8, 1500, 0));
-    makes(&rt, config_of(255, 8, 1500, 0));
-    makes(&rt, config_of(1, 1, 1, 16));
+    for (window, inbox, max, syn, refusal) in tested_in_order() {
+        let config = config_of(*window, *inbox, *max, *syn);
+        assert!(rt;
+            is_answered(rt.alloc(), config, *refusal),
+            "{window} {inbox} {max} {syn}"
+        );
+    }
 }
 
 /// With both choices of a restart.
-fn makes_both(rt: &(impl Abort + AllocGlobal), config: Config) {
-    makes(rt, config);
-    let restart = true;
-    makes(rt, Config { restart, ..config });
-}
-
-/// Each size at its ends and between.
 #[test]
 fn stations_of_many_sizes(rt: HostRuntime) {
-    makes_both(&rt, config_of(1, 8, 1500, 0));
-    makes_both(&rt, config_of(128, 8, 1500, 0));
-    makes_both(&rt, config_of(255, 8, 1500, 0));
-    makes_both(&rt, config_of(7, 1, 1500, 0));
-    makes_both(&rt, config_of(7, 128, 1500, 0));
-    makes_both(&rt, config_of(7, 255, 1500, 0));
-    makes_both(&rt, config_of(7, 8, 1, 0));
-    makes_both(&rt, config_of(7, 8, 8192, 0));
-    makes_both(&rt, config_of(7, 8, 16383, 0));
-    makes_both(&rt, config_of(7, 8, 1500, 8));
-    makes_both(&rt, config_of(7, 8, 1500, 16));
-    makes_both(&rt, config_of(255, 255, 16383, 16));
+    for (window, inbox, max, syn) in many() {
+        let config = config_of(*window, *inbox, *max, *syn);
+        makes(&rt, config);
+        let restart = true;
+        makes(&rt, Config { restart, ..config });
+    }
 }
 
 /// Whether memory is refused to a station.
 fn is_refused(rt: &(impl Abort + AllocGlobal)) -> bool {
     match made(rt.alloc(), config_of(2, 2, 8, 0)) {
         Ok(state) => {
-            is(rt, state, State::Halted);
+            assert!(rt; state == State::Halted);
             false
         }
         Err(refusal) => {
-            is(rt, refusal, ConfigRefusal::Memory);
+            assert!(rt; refusal == ConfigRefusal::Memory);
             true
         }
     }
