@@ -1,0 +1,2 @@
+pub mod LengthsLaws
+pub mod HexLinesLaws

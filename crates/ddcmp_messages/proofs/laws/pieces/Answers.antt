@@ -1,0 +1,9 @@
+use Rattle.ddcmp_messages.proofs.LengthsLaws.{after_more, entries_of_more}
+use Rattle.ddcmp_messages.proofs.HexLinesLaws.{after_more as after_more_digits, entries_of_more as entries_of_more_digits}
+use Rattle.ddcmp_messages.proofs.laws.pieces.Goals as goal
+
+pub returns-clause-lengths : goal.returns-clause-lengths
+returns-clause-lengths c u w v = (after_more u w v, entries_of_more u w v)
+
+pub returns-clause-lines : goal.returns-clause-lines
+returns-clause-lines c u w v = (after_more_digits u w v, entries_of_more_digits u w v)

@@ -1,0 +1,21 @@
+//! What comes of the bytes of an input.
+
+/// What a byte completed.
+#[derive(Clone, Copy, Debug, PartialEq, Eq)]
+pub enum Entry {
+    /// A message.
+    Message,
+    /// A line that isn't hexadecimal: another character, or an odd number of digits.
+    NotHexadecimal,
+    /// A message that is longer than the longest, or in binary one of no bytes.
+    TooLong,
+}
+
+/// What came of a piece of the input.
+#[derive(Clone, Copy, Debug, PartialEq, Eq)]
+pub struct Pushed {
+    /// How many bytes were used. The caller pushes the rest.
+    pub used: usize,
+    /// What the last of these bytes completed. Without one all bytes were used.
+    pub entry: Option<Entry>,
+}

@@ -1,0 +1,148 @@
+//! Messages in binary.
+ghost use Rattle.std.specs.Prelude.{◌≡◌};
+
+use crate::entry::{Entry, Pushed};
+use std::alloc::{AllocError, Global};
+use std::marker::Model;
+
+/// Where in the input the next byte stands.
+#[derive(Clone, Copy, Debug, PartialEq, Eq)]
+pub enum Place {
+    /// Before a length.
+    Start,
+    /// Behind its high byte.
+    Half(u8),
+    /// In a message of which so many bytes are to come.
+    Inside(u16),
+    /// In one that is passed over.
+    Passing(u16),
+}
+
+/// Takes messages of an input that has each after its length as two bytes, the high one first.
+#[derive(Drop)]
+pub struct Lengths {
+    max: u16,
+    place: Place,
+    message: Vec<u8>,
+}
+
+impl Model for Lengths {
+    ghost use Rattle.std.specs.Prelude.{◌≤◌, vec_len, vec_capacity};
+    ghost use Rattle.ddcmp_messages.specs.Lengths.{LengthsView, HasRoom};
+
+    ghost Value = { LengthsView };
+
+    ghost view = { λ l. record { max = l.max; place = l.place; message = l.message.items } };
+
+    ghost invariant = { λ l. (l.max ≤ vec_capacity l.message)
+        × HasRoom l.place (vec_len l.message) (vec_capacity l.message) };
+}
+
+impl Lengths {
+    ghost use Rattle.std.specs.Prelude.{◌≡◌, ◌+◌, ◌<◌, ◌≤◌, ℕ, [], Some, IfOk, None, length, take, option_to_list};
+    ghost use Rattle.ddcmp_messages.specs.Lengths.{begun, after_length, entry_of_length, after_byte, entry_of_byte, after_bytes, entries_of_bytes, is_start};
+
+    /// Nothing has come. It takes all the memory that it will need.
+    pub fn new(alloc: Global, max: u16) -> Result<Lengths, AllocError>
+        ensures { IfOk result (λ made. made ≡ begun max) }
+    {
+        Ok(Lengths {
+            max,
+            place: Place::Start,
+            message: Vec::with_capacity(alloc, max as usize)?,
+        })
+    }
+
+    /// Takes a byte: what it completes.
+    pub fn push(&mut self, byte: u8) -> Option<Entry>
+        ensures state { self.new ≡ after_byte byte self.old }
+        ensures entry { result ≡ entry_of_byte byte self.old }
+    {
+        match self.place {
+            Place::Start => {
+                self.place = Place::Half(byte);
+                None
+            }
+            Place::Half(high) => self.begin(high as u16 * 256 + byte as u16),
+            Place::Inside(left) => {
+                match self.message.push(byte) {
+                    Ok(()) => {}
+                    Err(_) => unreachable!(),
+                }
+                if left <= 1 {
+                    self.place = Place::Start;
+                    Some(Entry::Message)
+                } else {
+                    self.place = Place::Inside(left - 1);
+                    None
+                }
+            }
+            Place::Passing(left) => {
+                self.place = if left <= 1 {
+                    Place::Start
+                } else {
+                    Place::Passing(left - 1)
+                };
+                None
+            }
+        }
+    }
+
+    /// A message of this length begins.
+    fn begin(&mut self, length: u16) -> Option<Entry>
+        ensures state { self.new ≡ after_length length self.old }
+        ensures entry { result ≡ entry_of_length length self.old.max }
+    {
+        if length == 0 {
+            self.place = Place::Start;
+            return Some(Entry::TooLong);
+        }
+        if length > self.max {
+            self.place = Place::Passing(length);
+            return Some(Entry::TooLong);
+        }
+        self.message.clear();
+        self.place = Place::Inside(length);
+        None
+    }
+
+    /// Takes bytes of a piece, up to the first that completes something.
+    pub fn push_all(&mut self, piece: &[u8]) -> Pushed
+        ensures used { result.used ≤ length piece.now }
+        // The last byte used completed it, and no byte before it completed anything.
+        ensures first { (n : ℕ) (entry : Entry) → result.entry ≡ Some entry → result.used ≡ n + 1
+            → entries_of_bytes (take n piece.now) self.old ≡ [] }
+        ensures whole { result.entry ≡ None → result.used ≡ length piece.now }
+        ensures state { self.new ≡ after_bytes (take result.used piece.now) self.old }
+        ensures entries { entries_of_bytes (take result.used piece.now) self.old
+            ≡ option_to_list result.entry }
+    {
+        for used in 0..piece.len() {
+            let entry = self.push(piece[used]);
+            if entry.is_some() {
+                return Pushed {
+                    used: used + 1,
+                    entry,
+                };
+            }
+        }
+        Pushed {
+            used: piece.len(),
+            entry: None,
+        }
+    }
+
+    /// The message that came last, where the last byte completed it.
+    pub fn message(&self) -> &[u8]
+        ensures { result.now ≡ self.now.message }
+    {
+        &self.message
+    }
+
+    /// Whether the next byte begins a length: no message is cut at the end of the input.
+    pub fn is_whole(&self) -> bool
+        ensures { result ≡ is_start self.now.place }
+    {
+        self.place == Place::Start
+    }
+}
