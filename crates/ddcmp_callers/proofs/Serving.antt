@@ -27,10 +27,10 @@ from_start restart call old h = ap (λ n. driven n call old.core []) h.syn ∙ a
 not_memory : (told : Result Driven LineFault) (failed : Bool) (answer : Result (Unit {0}) ServeFault) → answer ≡ served_answer told failed → answer ≢ Err (Line Memory) → told ≢ Err Memory
 not_memory told failed answer e n m = n (e ∙ ap (λ t. served_answer t failed) m)
 
-pub served : (ms turns : ℕ) (restart : Bool) (send : List ℕ) (devices : Devices) (failed : Bool) (report report_after : Known) (answer : Result (Unit {0}) ServeFault) → answer ≢ Err (Line Memory)
-    → Serves ms turns restart send devices failed report report_after answer → (call : DriveCall) × IsServed ms restart send call devices failed report report_after
-served ms turns restart send devices failed report report_after answer n s =
-    let saw : List UserCall → Type 0 = λ calls. OffersOnce send calls × WritesOut failed report report_after (report_text calls s.driven s.new.core.station.state) in
+pub served : (ms turns : ℕ) (restart counted : Bool) (send : List ℕ) (devices : Devices) (failed : Bool) (report report_after : Known) (answer : Result (Unit {0}) ServeFault) → answer ≢ Err (Line Memory)
+    → Serves ms turns restart counted send devices failed report report_after answer → (call : DriveCall) × IsServed ms restart counted send call devices failed report report_after
+served ms turns restart counted send devices failed report report_after answer n s =
+    let saw : List UserCall → Type 0 = λ calls. OffersOnce send calls × WritesOut failed report report_after (report_text counted calls s.driven s.new.core) in
     let c = drives_by_a_call ms turns s.old s.new devices saw s.driven (not_memory s.driven failed answer s.answers n) s.drives in
     let call = c.0 in
     let d : IsDriven ms call s.old s.new devices saw = c.1 in
@@ -42,7 +42,7 @@ served ms turns restart send devices failed report report_after answer n s =
         timer = d.timer;
         sent = d.sent;
         told = s.driven;
-        state = s.new.core.station.state;
+        core = s.new.core;
         consumed = d.consumed;
         appended = d.appended;
         text = sym (ap (λ (x : Driving). x.text) e) ∙ d.text [] s.begun.line;

@@ -2,7 +2,7 @@
 use Rattle.std.specs.Prelude.{◌≡◌, ℕ, Bool, List, [], ◌∷◌, Result}
 use Rattle.std.specs.Io.KnownBytes.{Appends, Consumes}
 use Rattle.ddcmp_io.specs.Written.{Known}
-use Rattle.ddcmp_core.specs.declared.state.State.{State}
+use Rattle.ddcmp_core.specs.Core.{CoreView}
 use Rattle.ddcmp_station.specs.declared.driving.Driven.{Driven}
 use Rattle.ddcmp_station.specs.declared.driving.LineFault.{LineFault}
 use Rattle.ddcmp_station.specs.Driving.{Devices, bytes_read}
@@ -13,12 +13,12 @@ use Rattle.ddcmp_callers.specs.Driven.{DriveCall, after_drives, begun, seen_of}
 -- A served station is a new one that was started and driven by this call: it took from the source
 -- what its turns read and brought the sink what they wrote, or where it broke off a beginning of that.
 -- Its user gave the message once, and what the user saw is the report.
-pub record IsServed (milliseconds : ℕ) (restart : Bool) (send : List ℕ) (call : DriveCall)
+pub record IsServed (milliseconds : ℕ) (restart counted : Bool) (send : List ℕ) (call : DriveCall)
     (devices : Devices) (failed : Bool) (report report_after : Known) : Type 0 where
   pub timer : call.milliseconds ≡ milliseconds
   pub sent : List ℕ
   pub told : Result Driven LineFault
-  pub state : State
+  pub core : CoreView
   pub consumed : Consumes devices.left devices.left_after (bytes_read call.turns)
   pub appended : Appends devices.sink devices.sink_after sent
   pub text : (after_drives 0 (call ∷ []) (begun (usual_config restart))).text
@@ -26,4 +26,4 @@ pub record IsServed (milliseconds : ℕ) (restart : Bool) (send : List ℕ) (cal
   pub written : Begins sent (after_drives 0 (call ∷ []) (begun (usual_config restart))).written
   pub offered : OffersOnce send (seen_of (usual_config restart) (call ∷ []))
   pub reported : WritesOut failed report report_after
-      (report_text (seen_of (usual_config restart) (call ∷ [])) told state)
+      (report_text counted (seen_of (usual_config restart) (call ∷ [])) told core)

@@ -12,11 +12,11 @@ ghost use Rattle.ddcmp_callers.specs.Served.{IsServed};
 /// What the contract of `serve` says is that a new station was started and driven by one call of
 /// `drive`, so that the laws of driven stations speak of it.
 pub fn served_is_driven()
-    ensures { (milliseconds turns : ℕ) (restart : Bool) (send : List ℕ) (devices : Devices)
+    ensures { (milliseconds turns : ℕ) (restart counted : Bool) (send : List ℕ) (devices : Devices)
         (failed : Bool) (report report_after : Known)
         (answer : Result (Unit {0}) ServeFaultValue)
         → answer ≢ Err (Line Memory)
-        → Serves milliseconds turns restart send devices failed report report_after answer
+        → Serves milliseconds turns restart counted send devices failed report report_after answer
         → (call : DriveCall)
-        × IsServed milliseconds restart send call devices failed report report_after }
+        × IsServed milliseconds restart counted send call devices failed report report_after }
 {}

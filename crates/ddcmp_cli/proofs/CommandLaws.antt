@@ -1,12 +1,12 @@
 -- What the words ask for, once the command that they name was run.
-use Rattle.ddcmp_cli.specs.Endings.{CanRun, Performs, ExplainsOrNoMemory, Stations, StationsOrNoMemory}
+use Rattle.ddcmp_cli.specs.Endings.{CanRun, Performs, ExplainsOrNoMemory, file_named, Stations, StationsOrNoMemory}
 use Rattle.ddcmp_cli.specs.declared.ending.Ending.{Ending}
 use Rattle.std.specs.Str.{bytes_eq}
 use Rattle.std.proofs.lemmas.Slice.Eq.{bytes_eq-Decides}
-use Rattle.std.proofs.Common.{Bool, false, inr, ◌≤◌, ℕ, codes, ◌≡◌, ◌∙◌, ap, sym, refl, true, List, Option, Some, None}
+use Rattle.std.proofs.Common.{Bool, false, inr, ◌≤◌, ℕ, codes, ◌≡◌, ◌∙◌, ap, sym, refl, true, ◌≢◌, List, Option, Some, None}
 use Rattle.std.proofs.lemmas.Bool.{le-leb}
 use Rattle.clap.specs.Words.{Text}
-use Rattle.ddcmp_words.specs.Words.{named_by, name_of, option_in, text_in, HasOptions, IsAsked}
+use Rattle.ddcmp_words.specs.Words.{named_by, name_of, file_of, option_in, text_in, HasOptions, IsAsked}
 use Rattle.ddcmp_core.specs.Limits.{MAX_COUNT, MAX_WINDOW}
 use Rattle.ddcmp_proto.specs.declared.config.Config.{Config}
 use Rattle.ddcmp_proto.specs.declared.config.TheConstants.{MAX_INBOX, MAX_SYN}
@@ -30,7 +30,7 @@ sized config w i m s =
     ) refl
 
 pub can_run : (o t : Text → Option Text) (command : Command) → HasOptions o t command → CanRun command
-can_run o t (Explain form style max) h = h.2.in_range
+can_run o t (Explain form style max file) h = h.2.in_range
 can_run o t (Station served) h = tt
 can_run o t (Tap tapped) h = h.max.in_range
 can_run o t (Simulate config view) h = sized config h.0.window.in_range h.0.inbox.in_range h.0.max.in_range h.0.syn.in_range
@@ -42,17 +42,17 @@ other a b differ e =
     let same : a ≡ b = cc in
     let bad : ◌≡◌ {A = Bool} false true = sym differ ∙ (bytes_eq-Decides a b).1 same in cc
 
-pub performed : (words : List Text) (command : Command) (input : List ℕ) (left old new : Option (List ℕ)) (ending : Ending) → IsAsked words (codes "explain") → named_by words ≡ Some (name_of command) → HasOptions (option_in words) (text_in words) command → Performs command input left old new ending → ExplainsOrNoMemory words input left old new ending
-performed words (Explain form style max) input left old new ending a n h p = inr (form, style, max, p.0, h, p.1, p.2)
-performed words (Simulate config view) input left old new ending a n h p = absurd (other (codes "explain") (codes "simulate") refl (sym a.names ∙ n))
-performed words (Pair config view) input left old new ending a n h p = absurd (other (codes "explain") (codes "pair") refl (sym a.names ∙ n))
-performed words (Station served) input left old new ending a n h p = absurd (other (codes "explain") (codes "station") refl (sym a.names ∙ n))
-performed words (Tap tapped) input left old new ending a n h p = absurd (other (codes "explain") (codes "tap") refl (sym a.names ∙ n))
+pub performed : (held : Text → Option (List ℕ)) (words : List Text) (command : Command) (input : List ℕ) (left old new : Option (List ℕ)) (ending : Ending) → IsAsked words (codes "explain") → named_by words ≡ Some (name_of command) → HasOptions (option_in words) (text_in words) command → Performs held command input left old new ending → ExplainsOrNoMemory held words input left old new ending
+performed held words (Explain form style max file) input left old new ending a n h p = inr (form, style, max, file, h, p)
+performed held words (Simulate config view) input left old new ending a n h p = absurd (other (codes "explain") (codes "simulate") refl (sym a.names ∙ n))
+performed held words (Pair config view) input left old new ending a n h p = absurd (other (codes "explain") (codes "pair") refl (sym a.names ∙ n))
+performed held words (Station served) input left old new ending a n h p = absurd (other (codes "explain") (codes "station") refl (sym a.names ∙ n))
+performed held words (Tap tapped) input left old new ending a n h p = absurd (other (codes "explain") (codes "tap") refl (sym a.names ∙ n))
 
 -- words that ask for a station are answered by it
 pub stationed : {R : Type 0} (words : List Text) (command : Command) (reader reader_after : R) (old new : Option (List ℕ)) (ending : Ending) → IsAsked words (codes "station") → named_by words ≡ Some (name_of command) → HasOptions (option_in words) (text_in words) command
     → ((served : Served) → command ≡ Station served → (reader_after ≡ reader) × Stations served old new ending) → (reader_after ≡ reader) × StationsOrNoMemory words old new ending
-stationed words (Explain form style max) reader after old new ending a n h p = absurd (other (codes "station") (codes "explain") refl (sym a.names ∙ n))
+stationed words (Explain form style max file) reader after old new ending a n h p = absurd (other (codes "station") (codes "explain") refl (sym a.names ∙ n))
 stationed words (Simulate config view) reader after old new ending a n h p = absurd (other (codes "station") (codes "simulate") refl (sym a.names ∙ n))
 stationed words (Pair config view) reader after old new ending a n h p = absurd (other (codes "station") (codes "pair") refl (sym a.names ∙ n))
 stationed words (Station served) reader after old new ending a n h p =
@@ -62,8 +62,25 @@ stationed words (Tap tapped) reader after old new ending a n h p = absurd (other
 
 -- words that ask for a tap are answered by it
 pub tapped : (Answered : Type 0) (words : List Text) (command : Command) → IsAsked words (codes "tap") → named_by words ≡ Some (name_of command) → ((tapped : Tapped) → command ≡ Tap tapped → Answered) → Answered
-tapped A words (Explain form style max) a n p = absurd (other (codes "tap") (codes "explain") refl (sym a.names ∙ n))
+tapped A words (Explain form style max file) a n p = absurd (other (codes "tap") (codes "explain") refl (sym a.names ∙ n))
 tapped A words (Simulate config view) a n p = absurd (other (codes "tap") (codes "simulate") refl (sym a.names ∙ n))
 tapped A words (Pair config view) a n p = absurd (other (codes "tap") (codes "pair") refl (sym a.names ∙ n))
 tapped A words (Station served) a n p = absurd (other (codes "tap") (codes "station") refl (sym a.names ∙ n))
 tapped A words (Tap t) a n p = p t refl
+
+-- where the words name no file, the command reads none
+pub reads_no_file : (words : List Text) (command : Command) → HasOptions (option_in words) (text_in words) command → file_of (text_in words (codes "file")) ≡ None → file_named command ≡ None
+reads_no_file words (Explain form style max file) h e = h.3 ∙ e
+reads_no_file words (Simulate config view) h e = refl
+reads_no_file words (Pair config view) h e = refl
+reads_no_file words (Station served) h e = refl
+reads_no_file words (Tap tapped) h e = refl
+
+-- and where they name one, it reads one
+pub reads_a_file : (A : Type 0) (words : List Text) (command : Command) → IsAsked words (codes "explain") → named_by words ≡ Some (name_of command) → HasOptions (option_in words) (text_in words) command
+    → file_of (text_in words (codes "file")) ≢ None → (file_named command ≢ None → A) → A
+reads_a_file A words (Explain form style max file) a n h some then = then (λ e. some (sym h.3 ∙ e))
+reads_a_file A words (Simulate config view) a n h some then = absurd (other (codes "explain") (codes "simulate") refl (sym a.names ∙ n))
+reads_a_file A words (Pair config view) a n h some then = absurd (other (codes "explain") (codes "pair") refl (sym a.names ∙ n))
+reads_a_file A words (Station served) a n h some then = absurd (other (codes "explain") (codes "station") refl (sym a.names ∙ n))
+reads_a_file A words (Tap tapped) a n h some then = absurd (other (codes "explain") (codes "tap") refl (sym a.names ∙ n))

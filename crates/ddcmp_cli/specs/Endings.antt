@@ -1,5 +1,6 @@
 -- How the program ends.
 use Rattle.std.specs.Prelude.{⊤, length, ◌<◌, None, codes, string_bytes, Bool, true, false, ◌≡◌, ◌≢◌, ◌⊎◌, ◌≤◌, ℕ, List, [], Option, Some, Result, Ok, Err}
+use Rattle.std.specs.Option.{option_map}
 use Rattle.std.specs.Io.KnownBytes.{Appends, Keeps}
 use Rattle.ddcmp_explain.specs.declared.explain_fault.ExplainFault.{ExplainFault}
 use Rattle.ddcmp_explain.specs.declared.explain_fault.ExplainFault.TheVariants as explaining
@@ -12,7 +13,8 @@ use Rattle.ddcmp_script.specs.ScriptEnds.{around, Plays}
 use Rattle.ddcmp_proto.specs.declared.config.Config.{Config}
 use Rattle.ddcmp_station.specs.Config.{first_refusal}
 use Rattle.ddcmp_cli.specs.declared.ending.Ending.{Ending}
-use Rattle.ddcmp_cli.specs.declared.ending.Ending.TheVariants.{Done, Usage as Misused, NotText, Fault as Faulted}
+use Rattle.ddcmp_cli.specs.declared.ending.Ending.TheVariants.{Done, Usage as Misused, NotText, Unopened, Fault as Faulted}
+use Rattle.std.specs.Borrow.{Bor}
 use Rattle.ddcmp_explain.specs.declared.form.Form.{Form}
 use Rattle.ddcmp_explain.specs.declared.style.Style.{Style}
 use Rattle.clap.specs.Words.{Text}
@@ -78,27 +80,68 @@ abbrev pub status_of : Ending → ℕ
 status_of Done = 0
 status_of (Misused text) = 2
 status_of NotText = 2
+status_of (Unopened name why) = 3
 status_of (Faulted fault) = fault_status fault
 
 abbrev pub ending_of : {F : Type 0} → (F → Fault) → Result (Unit {0}) F → Ending
 ending_of name (Ok u) = Done
 ending_of name (Err fault) = Faulted (name fault)
 
--- the input was explained with the options that the words give, and the ending tells the answer;
--- or there was no memory for the words
-abbrev pub ExplainsOrNoMemory : List Text → List ℕ → Known → Known → Known → Ending → Type 0
-ExplainsOrNoMemory words input left old new ending =
+-- some input was explained, and the ending tells the answer
+abbrev pub ExplainsTo : Form → Style → ℕ → List ℕ → Known → Known → Known → Ending → Type 0
+ExplainsTo form style max input left old new ending =
+    (result : Result (Unit {0}) ExplainFault) × (ending ≡ ending_of explain_fault result)
+    × Explains form style max input left old new result
+
+-- the ending tells that the file of this name can't be opened
+abbrev pub IsUnopened : List ℕ → Ending → Type 0
+IsUnopened name Done = ⊥
+IsUnopened name (Misused text) = ⊥
+IsUnopened name NotText = ⊥
+IsUnopened name (Unopened told why) = string_bytes told ≡ name
+IsUnopened name (Faulted fault) = ⊥
+
+-- What became of a file: it can't be opened, or there was no memory to tell so, and nothing was
+-- written; or what it holds was explained, where that is known.
+abbrev pub ExplainsFile : List ℕ → Known → Form → Style → ℕ → Known → Known → Ending → Type 0
+ExplainsFile name held form style max old new ending =
+    (IsUnopened name ending × Keeps old new) ⊎ ((ending ≡ Faulted NoMemory) × Keeps old new)
+    ⊎ ((content : List ℕ) → held ≡ Some content
+    → (rest : Known) × ExplainsTo form style max content rest old new ending)
+
+-- standard input was explained, or a file, and then standard input wasn't read; of each name `held`
+-- says what the file holds
+abbrev pub ExplainsFrom : (List ℕ → Known) → Option (Bor (List ℕ)) → Form → Style → ℕ → List ℕ
+    → Known → Known → Known → Ending → Type 0
+ExplainsFrom held None form style max input left old new ending =
+    ExplainsTo form style max input left old new ending
+ExplainsFrom held (Some name) form style max input left old new ending =
+    (left ≡ Some input) × ExplainsFile name.now (held name.now) form style max old new ending
+
+-- what the words name was explained with the options that they give, or there was no memory for
+-- the words
+abbrev pub ExplainsOrNoMemory : (List ℕ → Known) → List Text → List ℕ → Known → Known → Known
+    → Ending → Type 0
+ExplainsOrNoMemory held words input left old new ending =
     ((ending ≡ Faulted NoMemory) × (left ≡ Some input) × Appends old new [])
-    ⊎ ((form : Form) × (style : Style) × (max : ℕ) × (result : Result (Unit {0}) ExplainFault)
-    × HasOptions (option_in words) (text_in words) (Explain form style max)
-    × (ending ≡ ending_of explain_fault result)
-    × Explains form style max input left old new result)
+    ⊎ ((form : Form) × (style : Style) × (max : ℕ) × (file : Option (Bor (List ℕ)))
+    × HasOptions (option_in words) (text_in words) (Explain form style max file)
+    × ExplainsFrom held file form style max input left old new ending)
+
+-- the name of the file that a command reads in place of standard input
+abbrev pub file_named : Command → Option (List ℕ)
+file_named (Explain form style max file) = option_map (λ name. name.now) file
+file_named (Simulate config view) = None
+file_named (Pair config view) = None
+file_named (Station served) = None
+file_named (Tap tapped) = None
 
 -- the words were refused, or there was no memory for them
 abbrev pub is_refusal : Ending → Bool
 is_refusal Done = false
 is_refusal (Misused text) = true
 is_refusal NotText = false
+is_refusal (Unopened name why) = false
 is_refusal (Faulted Odd) = false
 is_refusal (Faulted (NotHex index)) = false
 is_refusal (Faulted Read) = false
@@ -115,10 +158,11 @@ abbrev pub shown_of : Ending → Option (List ℕ)
 shown_of Done = Some []
 shown_of (Misused text) = Some (string_bytes text)
 shown_of NotText = Some (codes "ddcmp: a word is not text\n")
+shown_of (Unopened name why) = None
 shown_of (Faulted fault) = None
 
 abbrev pub CanRun : Command → Type 0
-CanRun (Explain form style max) = (1 ≤ max) × (max ≤ MAX_COUNT)
+CanRun (Explain form style max file) = (1 ≤ max) × (max ≤ MAX_COUNT)
 CanRun (Simulate config view) = first_refusal config ≡ None
 CanRun (Pair config view) = first_refusal config ≡ None
 CanRun (Station served) = ⊤
@@ -162,7 +206,8 @@ pub record ServesOver (served : Served) (message : List ℕ) (old new : Known) (
   pub failed : Bool
   pub ends : ending ≡ ending_of serve_fault answer
   pub serves : answer ≢ Err serving.Config → (devices : Devices)
-      × Serves served.timer_ms served.turns served.restart message devices failed old new answer
+      × Serves served.timer_ms served.turns served.restart served.counters message devices failed
+      old new answer
   pub kept : ending ≡ Faulted NoMemory → Keeps old new
 
 -- the connection can't be made, or a station is served over it
@@ -192,20 +237,20 @@ StationsOrNoMemory words old new ending =
     ⊎ ((served : Served) × HasStation (option_in words) (text_in words) served
     × Stations served old new ending)
 
--- a command was run, and the ending tells its answer
-abbrev pub Performs : Command → List ℕ → Known → Known → Known → Ending → Type 0
-Performs (Explain form style max) input left old new ending =
-    (result : Result (Unit {0}) ExplainFault) × (ending ≡ ending_of explain_fault result)
-    × Explains form style max input left old new result
-Performs (Simulate config view) input left old new ending =
+-- A command was run, and the ending tells its answer. Of each name `held` says what the file holds.
+abbrev pub Performs : (List ℕ → Known) → Command → List ℕ → Known → Known → Known → Ending
+    → Type 0
+Performs held (Explain form style max file) input left old new ending =
+    ExplainsFrom held file form style max input left old new ending
+Performs held (Simulate config view) input left old new ending =
     ShowsRun view.svg view.ladder (λ e. (left ≡ Some input) × Keeps old new)
     (λ e. Simulates config view.counters input left old new e) ending
-Performs (Pair config view) input left old new ending =
+Performs held (Pair config view) input left old new ending =
     ShowsRun view.svg view.ladder (λ e. (left ≡ Some input) × Keeps old new)
     (λ e. Pairs config view.counters input left old new e) ending
-Performs (Station served) input left old new ending =
+Performs held (Station served) input left old new ending =
     (left ≡ Some input) × Stations served old new ending
-Performs (Tap tapped) input left old new ending = (left ≡ Some input) × Taps old new ending
+Performs held (Tap tapped) input left old new ending = (left ≡ Some input) × Taps old new ending
 
 -- a text was written whole, or a write failed
 abbrev pub Shows : List ℕ → Known → Known → Ending → Type 0
@@ -214,19 +259,21 @@ Shows text old new ending =
 
 -- What became of words that were read: `before` and `left` are what the source had and has left,
 -- old and new what the sink held and holds. Only a command reads, and usage writes nothing here.
-abbrev pub Answers : Result Command Declined → Known → Known → Known → Known → Ending → Type 0
-Answers (Ok command) before left old new ending =
-    (input : List ℕ) → before ≡ Some input → Performs command input left old new ending
-Answers (Err (Help text)) before left old new ending =
+abbrev pub Answers : (List ℕ → Known) → Result Command Declined → Known → Known → Known → Known
+    → Ending → Type 0
+Answers held (Ok command) before left old new ending =
+    (input : List ℕ) → before ≡ Some input → Performs held command input left old new ending
+Answers held (Err (Help text)) before left old new ending =
     (left ≡ before) × Shows (string_bytes text) old new ending
-Answers (Err (Version text)) before left old new ending =
+Answers held (Err (Version text)) before left old new ending =
     (left ≡ before) × Shows (string_bytes text) old new ending
-Answers (Err (Usage text)) before left old new ending =
+Answers held (Err (Usage text)) before left old new ending =
     (left ≡ before) × Keeps old new × (ending ≡ Misused text)
-Answers (Err Memory) before left old new ending =
+Answers held (Err Memory) before left old new ending =
     (left ≡ before) × Keeps old new × (ending ≡ Faulted NoMemory)
 
 -- the ending that words come to, whatever they are
-abbrev pub Ends : List Text → Known → Known → Known → Known → Ending → Type 0
-Ends words before left old new ending =
-    (read : Result Command Declined) × Reads words read × Answers read before left old new ending
+abbrev pub Ends : (List ℕ → Known) → List Text → Known → Known → Known → Known → Ending → Type 0
+Ends held words before left old new ending =
+    (read : Result Command Declined) × Reads words read
+    × Answers held read before left old new ending

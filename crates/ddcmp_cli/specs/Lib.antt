@@ -1,4 +1,5 @@
 pub mod Endings
+pub mod Inputs
 pub mod TapEndings
 pub use Rattle.ddcmp_explain.specs.Digits
 pub use Rattle.ddcmp_explain.specs.Text

@@ -3,6 +3,7 @@ ghost use Rattle.std.specs.Prelude.{◌≡◌};
 ghost use Rattle.ddcmp_cli.specs.Endings.{shown_of, status_of};
 
 use crate::fault::Fault;
+use crate::inputs::OpenFault;
 use std::fmt;
 
 /// How the program ended.
@@ -14,18 +15,22 @@ pub enum Ending {
     Usage(String),
     /// A word isn't text.
     NotText,
+    /// The file of this name can't be opened.
+    Unopened(String, OpenFault),
     /// A command met a fault.
     Fault(Fault),
 }
 
 impl Ending {
-    /// The exit status: 0 done, 1 input refused, 2 usage, 3 read, write, carrier, ended or memory.
+    /// The exit status: 0 done, 1 input refused, 2 usage, 3 a file, read, write,
+    /// carrier, ended or memory.
     pub fn status(&self) -> u8
         ensures { result ≡ status_of self.now }
     {
         match self {
             Ending::Done => 0,
             Ending::Usage(_) | Ending::NotText => 2,
+            Ending::Unopened(_, _) => 3,
             Ending::Fault(fault) => match fault {
                 Fault::Odd | Fault::NotHex(_) | Fault::Line(_) | Fault::Hex(_) | Fault::Message =>
                     1,
@@ -44,6 +49,13 @@ impl fmt::Display for Ending {
             Ending::Done => Ok(()),
             Ending::Usage(text) => f.write_str(text.as_str()),
             Ending::NotText => f.write_str("ddcmp: a word is not text\n"),
+            Ending::Unopened(name, why) => {
+                f.write_str("ddcmp: open ")?;
+                f.write_str(name.as_str())?;
+                f.write_str(": ")?;
+                why.fmt(f)?;
+                f.write_str("\n")
+            }
             Ending::Fault(fault) => {
                 f.write_str("ddcmp: ")?;
                 fault.fmt(f)?;

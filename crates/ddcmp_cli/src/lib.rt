@@ -3,7 +3,9 @@
 
 mod drawing;
 pub mod ending;
+mod explain_input;
 pub mod fault;
+pub mod inputs;
 pub mod program;
 mod simulating;
 mod stationing;
@@ -21,6 +23,7 @@ pub use ddcmp_words::{
 };
 pub use ending::Ending;
 pub use fault::Fault;
+pub use inputs::{Inputs, OpenFault};
 pub use program::{
     explain_is_asked, pair_is_asked, run, run_args, simulate_is_asked, station_is_asked,
     tap_is_asked,

@@ -1,21 +1,22 @@
 //! The program: words in, a command run, and how it ended.
 ghost use Rattle.std.specs.Prelude.{IfErr, OnErr, IsOk, ◌≡◌, ◌≢◌, ◌⊎◌, ◌↔◌, false, IsTrue, IfOk};
-ghost use Rattle.std.specs.Prelude.{List, ℕ, Some, codes, map, string_bytes};
+ghost use Rattle.std.specs.Prelude.{List, ℕ, None, Some, codes, map, string_bytes};
 ghost use Rattle.std.specs.IoError.{error_kind};
 ghost use Rattle.ddcmp_io.specs.Input.{GaveMost};
-ghost use Rattle.ddcmp_words.specs.Words.{IsOutOfOrder, IsAsked, Asks, name_of};
+ghost use Rattle.ddcmp_words.specs.Words.{IsOutOfOrder, IsAsked, Asks, file_of, name_of, text_in};
 ghost use Rattle.ddcmp_words.specs.declared.served.Served.{Served as ServedValue};
 ghost use Rattle.ddcmp_cli.specs.Endings.{CanRun, Ends, ExplainsOrNoMemory, Performs, Shows};
 ghost use Rattle.ddcmp_words.specs.declared.tapped.Tapped.{Tapped as TappedValue};
-ghost use Rattle.ddcmp_cli.specs.Endings.{is_refusal, Stations, StationsOrNoMemory};
+ghost use Rattle.ddcmp_cli.specs.Endings.{file_named, is_refusal, Stations, StationsOrNoMemory};
 ghost use Rattle.ddcmp_cli.specs.TapEndings.{Taps};
 
 use crate::drawing::{show_pair, show_simulation};
 use crate::ending::Ending;
+use crate::explain_input::{explain_file, explain_typed};
 use crate::fault::Fault;
+use crate::inputs::Inputs;
 use crate::stationing::station;
 use crate::tapping::tap;
-use ddcmp_explain::explain_with;
 use ddcmp_io::{Sink, Source, Worst, write_all};
 use ddcmp_words::{Command, Declined, read_words};
 pub use ddcmp_words::{
@@ -27,7 +28,7 @@ use std::net::{Net, TcpStream};
 use std::{io, time};
 
 /// Runs a command.
-fn perform<S: Net<Stream = TcpStream> + time::Clock, R: Source, W: Sink>(
+fn perform<S: Net<Stream = TcpStream> + time::Clock + Inputs, R: Source, W: Sink>(
     system: &S,
     alloc: Global,
     command: Command<'_>,
@@ -38,16 +39,18 @@ fn perform<S: Net<Stream = TcpStream> + time::Clock, R: Source, W: Sink>(
     requires whole { W.broken writer.old ≡ false }
     requires runs { CanRun command }
     ensures performs { (input : List ℕ) → R.left reader.old ≡ Some input
-        → Performs command.entry input (R.left reader.new) (W.contents writer.old)
-        (W.contents writer.new) result }
+        → Performs (S.held system.now) command.entry input (R.left reader.new)
+        (W.contents writer.old) (W.contents writer.new) result }
     ensures read { R.state reader.new ≢ Worst.Fine → result ≡ Ending.Fault Fault.Read }
     ensures read_only { name_of command.entry ≢ codes "station"
-        → name_of command.entry ≢ codes "tap" → result ≡ Ending.Fault Fault.Read
+        → name_of command.entry ≢ codes "tap" → file_named command.entry ≡ None
+        → result ≡ Ending.Fault Fault.Read
         → (R.state reader.new ≢ Worst.Fine) ⊎ GaveMost (R.left reader.old) (R.left reader.new) }
     ensures write { name_of command.entry ≢ codes "station"
         → name_of command.entry ≢ codes "tap"
         → (result ≡ Ending.Fault Fault.Write) ↔ IsTrue (W.broken writer.new) }
     ensures whole { result ≡ Ending.Done → W.broken writer.new ≡ false }
+    ensures untouched { file_named command.entry ≢ None → reader.new ≡ reader.old }
     ensures stations { (served : ServedValue) → command.entry ≡ Command.Station served
         → (reader.new ≡ reader.old)
         × Stations served (W.contents writer.old) (W.contents writer.new) result }
@@ -57,11 +60,14 @@ fn perform<S: Net<Stream = TcpStream> + time::Clock, R: Source, W: Sink>(
         × (IsTrue (W.broken writer.new) → result ≡ Ending.Fault Fault.Write) }
 {
     match command {
-        Command::Explain { form, style, max } => match explain_with(
-            alloc, reader, writer, form, style, max,
-        ) {
-            Ok(()) => Ending::Done,
-            Err(fault) => Ending::Fault(Fault::from(fault)),
+        Command::Explain {
+            form,
+            style,
+            max,
+            file,
+        } => match file {
+            None => explain_typed(system, alloc, form, style, max, reader, writer),
+            Some(name) => explain_file(system, alloc, name, form, style, max, writer),
         },
         Command::Simulate(config, view) => show_simulation(alloc, config, view, reader, writer),
         Command::Pair(config, view) => show_pair(system, alloc, config, view, reader, writer),
@@ -83,8 +89,8 @@ fn show<W: Sink>(writer: &mut W, text: &str) -> Ending
 }
 
 /// Runs the command that the words ask for, from the input to the output. The first word is the
-/// program's name; a station's connection is made by `system`, which tells it the time too.
-pub fn run<S: Net<Stream = TcpStream> + time::Clock, R: Source, W: Sink>(
+/// program's name; `system` opens files and a station's connection, and tells the time.
+pub fn run<S: Net<Stream = TcpStream> + time::Clock + Inputs, R: Source, W: Sink>(
     system: &S,
     alloc: Global,
     words: &[&str],
@@ -95,21 +101,26 @@ pub fn run<S: Net<Stream = TcpStream> + time::Clock, R: Source, W: Sink>(
     requires whole { W.broken writer.old ≡ false }
     ensures explains { (input : List ℕ) → R.left reader.old ≡ Some input
         → IsAsked (map (λ word. word.now) words.now) (codes "explain")
-        → ExplainsOrNoMemory (map (λ word. word.now) words.now) input (R.left reader.new)
-        (W.contents writer.old) (W.contents writer.new) result }
-    ensures ends { Ends (map (λ word. word.now) words.now) (R.left reader.old) (R.left reader.new)
-        (W.contents writer.old) (W.contents writer.new) result }
+        → ExplainsOrNoMemory (S.held system.now) (map (λ word. word.now) words.now) input
+        (R.left reader.new) (W.contents writer.old) (W.contents writer.new) result }
+    ensures ends { Ends (S.held system.now) (map (λ word. word.now) words.now)
+        (R.left reader.old) (R.left reader.new) (W.contents writer.old) (W.contents writer.new)
+        result }
     ensures refused { IsOutOfOrder (map (λ word. word.now) words.now)
         → IsTrue (is_refusal result) × (reader.new ≡ reader.old) × (writer.new ≡ writer.old) }
     ensures read { R.state reader.new ≢ Worst.Fine → result ≡ Ending.Fault Fault.Read }
     ensures read_only { (Asks (map (λ word. word.now) words.now) (codes "station") → ⊥)
         → (Asks (map (λ word. word.now) words.now) (codes "tap") → ⊥)
+        → file_of (text_in (map (λ word. word.now) words.now) (codes "file")) ≡ None
         → result ≡ Ending.Fault Fault.Read → (R.state reader.new ≢ Worst.Fine)
         ⊎ GaveMost (R.left reader.old) (R.left reader.new) }
     ensures write { (Asks (map (λ word. word.now) words.now) (codes "station") → ⊥)
         → (Asks (map (λ word. word.now) words.now) (codes "tap") → ⊥)
         → (result ≡ Ending.Fault Fault.Write) ↔ IsTrue (W.broken writer.new) }
     ensures whole { result ≡ Ending.Done → W.broken writer.new ≡ false }
+    ensures untouched { IsAsked (map (λ word. word.now) words.now) (codes "explain")
+        → file_of (text_in (map (λ word. word.now) words.now) (codes "file")) ≢ None
+        → reader.new ≡ reader.old }
     ensures stations { IsAsked (map (λ word. word.now) words.now) (codes "station")
         → (reader.new ≡ reader.old)
         × StationsOrNoMemory (map (λ word. word.now) words.now) (W.contents writer.old)
@@ -140,7 +151,7 @@ fn texts(alloc: Global, args: &[String]) -> Result<Vec<&str>, AllocError>
 
 /// Runs the command that the words ask for, as the system gives them: they may be no text, or
 /// have found no memory.
-pub fn run_args<S: Net<Stream = TcpStream> + time::Clock, R: Source, W: Sink>(
+pub fn run_args<S: Net<Stream = TcpStream> + time::Clock + Inputs, R: Source, W: Sink>(
     system: &S,
     alloc: Global,
     args: io::Result<Vec<String>>,
@@ -151,10 +162,11 @@ pub fn run_args<S: Net<Stream = TcpStream> + time::Clock, R: Source, W: Sink>(
     requires whole { W.broken writer.old ≡ false }
     ensures explains { (input : List ℕ) → R.left reader.old ≡ Some input
         → IfOk args (λ words. IsAsked (map string_bytes words.items) (codes "explain")
-        → ExplainsOrNoMemory (map string_bytes words.items) input (R.left reader.new)
-        (W.contents writer.old) (W.contents writer.new) result) }
-    ensures ends { IfOk args (λ words. Ends (map string_bytes words.items) (R.left reader.old)
+        → ExplainsOrNoMemory (S.held system.now) (map string_bytes words.items) input
         (R.left reader.new) (W.contents writer.old) (W.contents writer.new) result) }
+    ensures ends { IfOk args (λ words. Ends (S.held system.now) (map string_bytes words.items)
+        (R.left reader.old) (R.left reader.new) (W.contents writer.old) (W.contents writer.new)
+        result) }
     ensures refused { IfOk args (λ words. IsOutOfOrder (map string_bytes words.items)
         → IsTrue (is_refusal result) × (reader.new ≡ reader.old) × (writer.new ≡ writer.old)) }
     ensures no_memory { IfErr args (λ error. error_kind error ≡ ErrorKind.OutOfMemory
@@ -166,13 +178,18 @@ pub fn run_args<S: Net<Stream = TcpStream> + time::Clock, R: Source, W: Sink>(
     ensures read_only { (IfOk args (λ words. Asks (map string_bytes words.items) (codes "station"))
         × IsOk args → ⊥)
         → (IfOk args (λ words. Asks (map string_bytes words.items) (codes "tap"))
-        × IsOk args → ⊥) → result ≡ Ending.Fault Fault.Read → (R.state reader.new ≢ Worst.Fine)
+        × IsOk args → ⊥)
+        → IfOk args (λ words. file_of (text_in (map string_bytes words.items) (codes "file")) ≡ None)
+        → result ≡ Ending.Fault Fault.Read → (R.state reader.new ≢ Worst.Fine)
         ⊎ GaveMost (R.left reader.old) (R.left reader.new) }
     ensures write { (IfOk args (λ words. Asks (map string_bytes words.items) (codes "station"))
         × IsOk args → ⊥)
         → (IfOk args (λ words. Asks (map string_bytes words.items) (codes "tap"))
         × IsOk args → ⊥) → (result ≡ Ending.Fault Fault.Write) ↔ IsTrue (W.broken writer.new) }
     ensures whole { result ≡ Ending.Done → W.broken writer.new ≡ false }
+    ensures named { IfOk args (λ words. IsAsked (map string_bytes words.items) (codes "explain")
+        → file_of (text_in (map string_bytes words.items) (codes "file")) ≢ None
+        → reader.new ≡ reader.old) }
     ensures stations { IfOk args (λ words. IsAsked (map string_bytes words.items) (codes "station")
         → (reader.new ≡ reader.old)
         × StationsOrNoMemory (map string_bytes words.items) (W.contents writer.old)

@@ -89,6 +89,7 @@ pub(crate) fn station<S: Net<Stream = TcpStream> + time::Clock, W: Sink>(
         served.turns,
         served.timer_ms,
         served.restart,
+        served.counters,
     ) {
         Ok(()) => Ending::Done,
         Err(fault) => Ending::Fault(Fault::from(fault)),

@@ -1,9 +1,10 @@
 -- What a served station does.
-use Rattle.std.specs.Prelude.{◌≡◌, ℕ, Bool, true, false, List, [], ◌∷◌, ◌++◌, codes, decimal, Result, Ok, Err}
+use Rattle.std.specs.Prelude.{◌≡◌, ℕ, Bool, true, false, if◌then◌else◌, List, [], ◌∷◌, ◌++◌, codes, decimal, Result, Ok, Err}
 use Rattle.std.specs.List.{flat_map}
 use Rattle.std.specs.Io.KnownBytes.{Appends}
 use Rattle.hex.specs.Hex.{encode_lower}
 use Rattle.ddcmp_core.specs.declared.state.State.{State}
+use Rattle.ddcmp_core.specs.Core.{CoreView}
 use Rattle.ddcmp_core.specs.Table.{new_station, after_start}
 use Rattle.ddcmp_frame.specs.Reader.{StandsFor}
 use Rattle.ddcmp_io.specs.Written.{Known, AppendsPart}
@@ -14,6 +15,7 @@ use Rattle.ddcmp_station.specs.Config.{core_made}
 use Rattle.ddcmp_station.specs.Driving.{Devices, Drives}
 use Rattle.ddcmp_station.specs.Station.{StationView}
 use Rattle.ddcmp_station.specs.UserCalls.{UserCall, Asked, Told, Handed}
+use Rattle.ddcmp_station_text.specs.CountersText.{counters_line}
 use Rattle.ddcmp_station_text.specs.StationText.{notice_line, state_text}
 use Rattle.ddcmp_serve.specs.declared.serve_fault.ServeFault.{ServeFault}
 use Rattle.ddcmp_serve.specs.declared.serve_fault.ServeFault.TheVariants.{Line, Report}
@@ -36,6 +38,12 @@ end_text driven state =
     ++ codes " read=" ++ decimal driven.read ++ codes " written=" ++ decimal driven.written
     ++ codes "\n"
 
+-- the end of a report: the counters, where they are asked for, and the last line
+abbrev pub closing_text : Bool → Driven → CoreView → List ℕ
+closing_text counted driven k =
+    if counted then counters_line [] k.counters ++ end_text driven k.station.state
+    else end_text driven k.station.state
+
 -- the line of a report for a call of its user: of a notice, and of a message that came
 abbrev pub call_text : UserCall → List ℕ
 call_text (Asked room message) = []
@@ -46,10 +54,10 @@ call_text (Handed message) = codes "mail " ++ encode_lower message ++ codes "\n"
 abbrev pub calls_text : List UserCall → List ℕ
 calls_text calls = flat_map call_text calls
 
--- a whole report: behind the lines for all calls stands the last line, where the turns were over
-abbrev pub report_text : List UserCall → Result Driven LineFault → State → List ℕ
-report_text calls (Ok driven) state = calls_text calls ++ end_text driven state
-report_text calls (Err fault) state = calls_text calls
+-- a whole report: behind the lines for all calls stands its end, where the turns were over
+abbrev pub report_text : Bool → List UserCall → Result Driven LineFault → CoreView → List ℕ
+report_text counted calls (Ok driven) k = calls_text calls ++ closing_text counted driven k
+report_text counted calls (Err fault) k = calls_text calls
 
 -- All of a text was written, or a beginning of it, where a write failed.
 abbrev pub WritesOut : Bool → Known → Known → List ℕ → Type 0
@@ -71,16 +79,16 @@ served_answer (Ok driven) true = Err Report
 served_answer (Err fault) failed = Err (Line fault)
 
 -- A station that had just started was driven over these devices. Its user sent the message once
--- and reported all that it was told and handed, and the answer tells what came of it. `failed` is
--- whether a write of the report has failed.
-pub record Serves (milliseconds turns : ℕ) (restart : Bool) (send : List ℕ) (devices : Devices)
-    (failed : Bool) (report report_after : Known) (answer : Result (Unit {0}) ServeFault)
+-- and reported all that it was told and handed, and the answer tells what came of it. `counted` is
+-- whether the counters are asked for, and `failed` whether a write of the report has failed.
+pub record Serves (milliseconds turns : ℕ) (restart counted : Bool) (send : List ℕ)
+    (devices : Devices) (failed : Bool) (report report_after : Known) (answer : Result (Unit {0}) ServeFault)
     : Type 0 where
   pub old : StationView
   pub new : StationView
   pub driven : Result Driven LineFault
   pub begun : HasStarted restart old
   pub drives : Drives milliseconds turns old new devices (λ calls. OffersOnce send calls
-      × WritesOut failed report report_after (report_text calls driven new.core.station.state))
+      × WritesOut failed report report_after (report_text counted calls driven new.core))
       driven
   pub answers : answer ≡ served_answer driven failed

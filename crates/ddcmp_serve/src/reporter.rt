@@ -1,12 +1,13 @@
 //! The user of a served station: sends one message, and reports what happens.
-ghost use Rattle.std.specs.Prelude.{◌≡◌, [], is_err};
+ghost use Rattle.std.specs.Prelude.{◌≡◌, ◌++◌, [], is_err};
 ghost use Rattle.ddcmp_io.specs.Written.{HandsOver, output_of};
-ghost use Rattle.ddcmp_serve.specs.Serving.{end_text};
+ghost use Rattle.ddcmp_serve.specs.Serving.{closing_text, end_text};
+ghost use Rattle.ddcmp_station_text.specs.CountersText.{counters_line};
 
 use ddcmp_io::text::{write_hex, write_number};
 use ddcmp_io::{Page, Sink, WriteFailed};
-use ddcmp_station::{Driven, Notice, State, User};
-use ddcmp_station_text::{state_name, write_notice};
+use ddcmp_station::{Driven, Notice, State, Station, User};
+use ddcmp_station_text::{state_name, write_counters, write_notice};
 
 /// Sends one message as soon as it is asked for one, and writes a line of each notice and of each
 /// message that comes. A line goes out whole, before anything else happens.
@@ -70,17 +71,54 @@ fn write_totals<P: Sink>(page: &mut Page, report: &mut P, driven: &Driven, state
     page.write(report, b"\n");
 }
 
-/// Writes the last line of a report: whether it and all before it went out.
+/// The counters, and the last line.
+fn write_counted_totals<P: Sink>(
+    page: &mut Page,
+    report: &mut P,
+    driven: &Driven,
+    station: &Station,
+)
+    ensures { HandsOver (output_of P.broken P.contents report.old page.old)
+        (output_of P.broken P.contents report.new page.new)
+        (counters_line [] station.now.core.counters
+        ++ end_text driven.now station.now.core.station.state) }
+{
+    write_counters(page, report, b"", station.counters());
+    write_totals(page, report, driven, station.state());
+}
+
+/// The end of a report: the counters, where they are asked for, and the last line.
+fn write_closing<P: Sink>(
+    page: &mut Page,
+    report: &mut P,
+    driven: &Driven,
+    station: &Station,
+    counted: bool,
+)
+    ensures { HandsOver (output_of P.broken P.contents report.old page.old)
+        (output_of P.broken P.contents report.new page.new)
+        (closing_text counted driven.now station.now.core) }
+{
+    if counted {
+        write_counted_totals(page, report, driven, station);
+    } else {
+        write_totals(page, report, driven, station.state());
+    }
+}
+
+/// Writes the end of a report: whether it and all before it went out.
 pub(crate) fn write_end<P: Sink>(
     report: &mut P,
     driven: &Driven,
-    state: State,
+    station: &Station,
+    counted: bool,
 ) -> Result<(), WriteFailed>
     ensures broken { P.broken report.new ≡ is_err result }
     ensures sends { HandsOver (output_of P.broken P.contents report.old [])
-        (output_of P.broken P.contents report.new []) (end_text driven.now state) }
+        (output_of P.broken P.contents report.new [])
+        (closing_text counted driven.now station.now.core) }
 {
     let mut page = Page::new();
-    write_totals(&mut page, report, driven, state);
+    write_closing(&mut page, report, driven, station, counted);
     page.flush(report)
 }

@@ -29,8 +29,9 @@ fn usual_config(restart: bool) -> Config
 }
 
 /// Makes a station, starts it and drives it over a line for some turns. The report has a line for
-/// each notice and each message that came, as they come, and a last one. The station sends one
-/// message as soon as it runs, where `send` isn't empty.
+/// each notice and each message that came, as they come, and a last one; before that the counters,
+/// where `counted` asks for them. The station sends one message as soon as it runs, where `send`
+/// isn't empty.
 pub fn serve<R: Source, W: Sink, P: Sink, C: Clock>(
     alloc: Global,
     reader: &mut R,
@@ -41,13 +42,14 @@ pub fn serve<R: Source, W: Sink, P: Sink, C: Clock>(
     turns: u32,
     timer_ms: u32,
     restart: bool,
+    counted: bool,
 ) -> Result<(), ServeFault>
     requires fine { R.state reader.old ≢ Worst.Failed }
     requires whole { W.broken writer.old ≡ false }
     requires report { P.broken report.old ≡ false }
     requires short { length send.now ≤ 1500 }
-    ensures serves { result ≢ Err ServeFault.Config → Serves timer_ms turns restart send.now
-        (devices_of R.left R.state R.answers W.contents C.told reader.old reader.new
+    ensures serves { result ≢ Err ServeFault.Config → Serves timer_ms turns restart counted
+        send.now (devices_of R.left R.state R.answers W.contents C.told reader.old reader.new
         writer.old writer.new clock.old clock.new) (P.broken report.new) (P.contents report.old)
         (P.contents report.new) result }
 
@@ -80,7 +82,7 @@ pub fn serve<R: Source, W: Sink, P: Sink, C: Clock>(
         turns,
     ) {
         Ok(driven) => {
-            match write_end(report, &driven, station.state()) {
+            match write_end(report, &driven, &station, counted) {
                 Ok(()) => Ok(()),
                 Err(_failed) => Err(ServeFault::Report),
             }

@@ -2,7 +2,7 @@
 // written then is the matter of `worked_commands`.
 use crate::same::is;
 use ddcmp_cli::command::read_words;
-use ddcmp_cli::{Command, Declined, Ending, Fault, run, run_args};
+use ddcmp_cli::{Command, Declined, Ending, Fault, Inputs, OpenFault, run, run_args};
 use ddcmp_frame::failing::{Pieces, Taken};
 use std::alloc::Global;
 use std::io::{self, ErrorKind};
@@ -35,7 +35,15 @@ fn is_fault_told(
 #[test]
 fn endings_have_a_status_and_a_line(rt: HostRuntime) -> Result<(), Fail> {
     is_told(&rt, Ending::Done, 0, "")?;
-    is_told(&rt, Ending::NotText, 2, "ddcmp: a word is not text\n")
+    is_told(&rt, Ending::NotText, 2, "ddcmp: a word is not text\n")?;
+    let name = String::from_str(rt.alloc(), "a b")?;
+    let line = "ddcmp: open a b: permission denied\n";
+    is_told(
+        &rt,
+        Ending::Unopened(name, OpenFault::PermissionDenied),
+        3,
+        line,
+    )
 }
 
 #[test]
@@ -58,7 +66,7 @@ fn faults_of_the_system_have_a_line(rt: HostRuntime) -> Result<(), Fail> {
 
 /// What a run over memory ends as, and what it wrote; the write `fails_at` fails, 0 is none.
 fn ran(
-    rt: &(impl Abort + AllocGlobal + Net<Stream = TcpStream> + Clock),
+    rt: &(impl Abort + AllocGlobal + Net<Stream = TcpStream> + Clock + Inputs),
     words: &[&str],
     input: &[u8],
     fails_at: usize,
@@ -100,7 +108,7 @@ fn a_failed_write_and_no_words_are_told(rt: HostRuntime) {
 
 /// The program is done with these words, and has written this.
 fn writes(
-    rt: &(impl Abort + AllocGlobal + Net<Stream = TcpStream> + Clock),
+    rt: &(impl Abort + AllocGlobal + Net<Stream = TcpStream> + Clock + Inputs),
     words: &[&str],
     input: &[u8],
     text: &[u8],
@@ -154,7 +162,7 @@ fn a_far_byte_is_told(rt: HostRuntime) {
 
 /// What a run with the words of the system ends as, and what it wrote.
 fn ran_args(
-    rt: &(impl Abort + AllocGlobal + Net<Stream = TcpStream> + Clock),
+    rt: &(impl Abort + AllocGlobal + Net<Stream = TcpStream> + Clock + Inputs),
     args: io::Result<Vec<String>>,
 ) -> (u8, Taken<4096>) {
     let mut reader = Pieces::of(b"050100000001fc55");
@@ -165,7 +173,7 @@ fn ran_args(
 
 /// A run with the words of the system has this status, and has written this.
 fn has_status(
-    rt: &(impl Abort + AllocGlobal + Net<Stream = TcpStream> + Clock),
+    rt: &(impl Abort + AllocGlobal + Net<Stream = TcpStream> + Clock + Inputs),
     args: io::Result<Vec<String>>,
     status: u8,
     text: &[u8],
@@ -212,7 +220,7 @@ fn text_of(alloc: Global, words: &[&str]) -> Option<(bool, String)> {
 
 /// The text of words that ask for nothing is told whole.
 fn is_whole(
-    rt: &(impl Abort + AllocGlobal + Net<Stream = TcpStream> + Clock),
+    rt: &(impl Abort + AllocGlobal + Net<Stream = TcpStream> + Clock + Inputs),
     words: &[&str],
 ) -> Result<(), Fail> {
     let (ending, written) = ran(rt, words, b"", 0);
@@ -238,7 +246,7 @@ fn texts_are_told_whole(rt: HostRuntime) -> Result<(), Fail> {
     is_whole(&rt, &["ddcmp"])?;
     is_whole(&rt, &["ddcmp", "explode"])?;
     is_whole(&rt, &["ddcmp", "explain", "--max", "16384"])?;
-    is_whole(&rt, &["ddcmp", "explain", "--raw", "--max", "1", "more"])?;
+    is_whole(&rt, &["ddcmp", "simulate", "more"])?;
     let words = ["ddcmp", "explain", "--raw", "--max", "1", "more", "words"];
     is_whole(&rt, &words)
 }

@@ -55,6 +55,19 @@ fn reported() -> &'static [u8] {
     b"notice Running\nnotice HandedUp\nmail 616263\nturns=1 state=Running read=21 written=8\n"
 }
 
+/// The same, with the counters.
+fn counted() -> &'static [u8] {
+    b"notice Running\nnotice HandedUp\nmail 616263\n\
+        counters nak_sent_header_check=0 nak_sent_data_check=0 nak_sent_reply_to_rep=0 \
+        nak_sent_no_buffer=0 nak_sent_overrun=0 nak_sent_too_long=0 nak_sent_format=0 \
+        nak_sent_other=0 nak_received_header_check=0 nak_received_data_check=0 \
+        nak_received_reply_to_rep=0 nak_received_no_buffer=0 nak_received_overrun=0 \
+        nak_received_too_long=0 nak_received_format=0 nak_received_other=0 rep_sent=0 \
+        rep_received=0 messages_sent=0 bytes_sent=0 messages_again=0 bytes_again=0 \
+        messages_up=1 bytes_up=3 expiries=0 header_checks=0 data_checks=0 too_longs=0 formats=0\n\
+        turns=1 state=Running read=21 written=8\n"
+}
+
 /// A served station: what comes, what it sends, for how many turns and whether it begins anew; how
 /// many bytes a write takes at most, and which read, write and write of the report fails, 0 is
 /// none.
@@ -138,6 +151,7 @@ fn serves(rt: &(impl Abort + AllocGlobal), call: Call<'_>) -> Told {
         call.turns,
         1000,
         call.restart,
+        false,
     );
     Told {
         answer,
@@ -178,6 +192,26 @@ fn mail_is_reported(rt: HostRuntime) {
     row(&rt, Call::of(&came, 1), &Ok(()), reported(), strt());
     let report = b"turns=0 state=IStart read=0 written=0\n";
     row(&rt, Call::of(&[], 0), &Ok(()), report, b"");
+}
+
+/// The counters stand in front of the last line, where they are asked for.
+#[test]
+fn counters_are_reported(rt: HostRuntime) {
+    let mut report = Taken::<1024>::new();
+    let answer = serve(
+        rt.alloc(),
+        &mut Pieces::new(&[stack_and_data()]),
+        &mut Taken::<256>::new(),
+        &mut report,
+        &mut Standing,
+        b"",
+        1,
+        1000,
+        false,
+        true,
+    );
+    is(&rt, &answer, &Ok(()));
+    is(&rt, report.bytes(), counted());
 }
 
 /// One message is sent once the station runs, and only once.

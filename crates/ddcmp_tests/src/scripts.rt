@@ -1,7 +1,7 @@
 // Scripts that the program runs where a write fails, or the connection of `pair` can't be made or
 // fails. What they write else is the matter of `worked_commands`.
 use crate::same::is;
-use ddcmp_cli::{Ending, Fault, run};
+use ddcmp_cli::{Ending, Fault, Inputs, OpenFault, run};
 use ddcmp_frame::failing::{Pieces, Taken};
 use std::io::{self, ErrorKind};
 use std::net::{Net, Shutdown, SocketAddr, TcpListener, TcpStream};
@@ -11,7 +11,7 @@ use std::time::{Clock, Duration};
 /// What a script ends as on a system, and what it wrote.
 fn played(
     rt: &impl AllocGlobal,
-    system: &(impl Net<Stream = TcpStream> + Clock),
+    system: &(impl Net<Stream = TcpStream> + Clock + Inputs),
     words: &[&str],
     input: &[u8],
     fails_at: usize,
@@ -80,6 +80,20 @@ impl<S: Net<Stream = TcpStream, Listener = TcpListener>> Net for Poor<'_, S> {
     }
 }
 
+impl<S: Inputs> Inputs for Poor<'_, S> {
+    type Opened = S::Opened;
+
+    ghost held = { λ s. S.held s.system.now };
+
+    fn open(&self, name: &str) -> Result<S::Opened, OpenFault> {
+        self.system.open(name)
+    }
+
+    fn await_typing(&self, what: &str) {
+        self.system.await_typing(what)
+    }
+}
+
 impl<S: Clock> Clock for Poor<'_, S> {
     fn monotonic(&self) -> io::Result<Duration> {
         self.system.monotonic()
@@ -102,7 +116,11 @@ B passed 8\nA wrote 0507c00000014855\n"
 
 /// A script on a system that lacks this ends so, and has written this.
 fn lacks_a_carrier(
-    rt: &(impl Abort + AllocGlobal + Net<Stream = TcpStream, Listener = TcpListener> + Clock),
+    rt: &(impl Abort
+        + AllocGlobal
+        + Net<Stream = TcpStream, Listener = TcpListener>
+        + Clock
+        + Inputs),
     lacks: Lacks,
     text: &[u8],
 ) {

@@ -29,6 +29,7 @@ fn serves(alloc: Global, stream: &TcpStream) -> (Result<(), ServeFault>, Taken<2
         20,
         60000,
         false,
+        false,
     );
     (answer, report)
 }

@@ -1,7 +1,7 @@
 // Stations run by the program over connections that the test holds, and their faults. What their
 // words ask for is the matter of `worked_commands`.
 use crate::same::is;
-use ddcmp_cli::{Ending, Fault, run};
+use ddcmp_cli::{Ending, Fault, Inputs, run};
 use ddcmp_frame::failing::{Pieces, Taken};
 use std::io::{Read, Write};
 use std::net::{Net, TcpListener, TcpStream};
@@ -39,7 +39,7 @@ fn words<'a>(
 
 /// What a station ends as, and what it wrote.
 fn stationed(
-    rt: &(impl Abort + AllocGlobal + Net<Stream = TcpStream> + Clock),
+    rt: &(impl Abort + AllocGlobal + Net<Stream = TcpStream> + Clock + Inputs),
     words: &[&str],
     fails_at: usize,
 ) -> (Ending, Taken<4096>) {
@@ -68,7 +68,7 @@ fn is_carrier_fault(ending: &Ending) -> bool {
 /// A station that is to send this to `nowhere`, which is no address, has this status and writes
 /// nothing.
 fn ends_with(
-    rt: &(impl Abort + AllocGlobal + Net<Stream = TcpStream> + Clock),
+    rt: &(impl Abort + AllocGlobal + Net<Stream = TcpStream> + Clock + Inputs),
     digits: &[u8],
     status: u8,
 ) {
@@ -98,7 +98,7 @@ fn others_come_before_the_connection(rt: HostRuntime) {
 
 /// This role is usage.
 fn is_no_role(
-    rt: &(impl Abort + AllocGlobal + Net<Stream = TcpStream> + Clock),
+    rt: &(impl Abort + AllocGlobal + Net<Stream = TcpStream> + Clock + Inputs),
     role: &str,
 ) -> Result<(), Fail> {
     let all = words(role, "nowhere", "0", "0", ["--send", "zz"]);
@@ -120,7 +120,10 @@ fn other_roles_are_usage(rt: HostRuntime) -> Result<(), Fail> {
 }
 
 /// This is no message.
-fn is_no_message(rt: &(impl Abort + AllocGlobal + Net<Stream = TcpStream> + Clock), send: &str) {
+fn is_no_message(
+    rt: &(impl Abort + AllocGlobal + Net<Stream = TcpStream> + Clock + Inputs),
+    send: &str,
+) {
     let all = words("connect", "nowhere", "0", "0", ["--send", send]);
     let (ending, written) = stationed(rt, &all, 0);
     assert!(rt; is_fault_of_the_message(&ending));
@@ -129,7 +132,7 @@ fn is_no_message(rt: &(impl Abort + AllocGlobal + Net<Stream = TcpStream> + Cloc
 
 /// This is no address, in this role.
 fn is_nowhere_in<'a>(
-    rt: &(impl Abort + AllocGlobal + Net<Stream = TcpStream> + Clock),
+    rt: &(impl Abort + AllocGlobal + Net<Stream = TcpStream> + Clock + Inputs),
     addr: &'a str,
     role: &'a str,
 ) -> Result<(), Fail> {
@@ -147,7 +150,7 @@ fn is_nowhere_in<'a>(
 
 /// This is no address, in both roles.
 fn is_nowhere(
-    rt: &(impl Abort + AllocGlobal + Net<Stream = TcpStream> + Clock),
+    rt: &(impl Abort + AllocGlobal + Net<Stream = TcpStream> + Clock + Inputs),
     addr: &str,
 ) -> Result<(), Fail> {
     is_nowhere_in(rt, addr, "connect")?;

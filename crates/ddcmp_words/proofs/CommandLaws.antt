@@ -14,7 +14,7 @@ use Rattle.clap.proofs.WalkLemmas.{first_value-rows, one_text-rows}
 use Rattle.clap.specs.declared.parser.matches.ArgMatches.{ArgMatches}
 use Rattle.clap.specs.declared.parser.matches.ArgMatches.TheViews.{out-ArgMatches}
 use Rattle.clap.proofs.OnLiterals.{clap_on_literals}
-use Rattle.ddcmp_words.specs.Words.{program, named_by, option_in, text_in, role_of, MOST, HasFlag, HasForm, HasNotation, HasNumber, HasOptions, HasSizes, HasView, IsAsked}
+use Rattle.ddcmp_words.specs.Words.{program, named_by, option_in, text_in, file_of, role_of, MOST, HasFlag, HasForm, HasNotation, HasNumber, HasOptions, HasSizes, HasView, IsAsked}
 use Rattle.ddcmp_core.specs.Limits.{MAX_COUNT, MAX_WINDOW}
 use Rattle.ddcmp_proto.specs.declared.config.Config.{Config}
 use Rattle.ddcmp_proto.specs.declared.config.TheConstants.{MAX_INBOX, MAX_SYN}
@@ -85,13 +85,14 @@ view_as o p view e h = record {
 
 pub has_options_as : (o p t u : Text → Option Text) (made : Command) → ((id : Text) → o id ≡ p id) → ((id : Text) → t id ≡ u id)
     → HasOptions o t made → HasOptions p u made
-has_options_as o p t u (Explain form style max) e w h = (
+has_options_as o p t u (Explain form style max file) e w h = (
   subst (λ t. HasForm t form) (e (codes "raw")) h.0,
   record {
     notation = subst (λ t. HasNotation t style.notation) (e (codes "json")) h.1.notation;
     discarded = subst (λ t. HasFlag t style.discarded) (e (codes "discarded")) h.1.discarded;
   },
   subst (λ t. HasNumber 1 MAX_COUNT MAX_COUNT t max) (e (codes "max")) h.2,
+  h.3 ∙ ap file_of (w (codes "file")),
 )
 has_options_as o p t u (Simulate config view) e w h = (sizes_as o p config e h.0, view_as o p view e h.1)
 has_options_as o p t u (Pair config view) e w h = (sizes_as o p config e h.0, view_as o p view e h.1)
@@ -102,6 +103,7 @@ has_options_as o p t u (Station served) e w h = record {
   timer_ms = subst (λ t. HasNumber 0 MOST 0 t served.timer_ms) (e (codes "timer-ms")) h.timer_ms;
   send = h.send ∙ ap (λ x. unwrap_or x []) (w (codes "send"));
   restart = subst (λ t. HasFlag t served.restart) (e (codes "restart")) h.restart;
+  counters = subst (λ t. HasFlag t served.counters) (e (codes "counters")) h.counters;
 }
 has_options_as o p t u (Tap tapped) e w h = record {
   listen = h.listen ∙ ap (λ x. unwrap_or x []) (w (codes "listen"));

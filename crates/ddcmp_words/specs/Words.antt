@@ -41,6 +41,10 @@ number_rule name low high = record (new_rule name) {
 abbrev pub text_rule : Text → Rule
 text_rule name = record (new_rule name) { long = Some name; value_names = 1 }
 
+-- a word that stands for itself, behind no name
+abbrev pub place_rule : Text → Rule
+place_rule name = record (new_rule name) { value_names = 1 }
+
 -- an option that can't be left out
 abbrev pub required : Rule → Rule
 required rule = record rule { required = true }
@@ -48,7 +52,8 @@ required rule = record rule { required = true }
 -- `ddcmp explain`
 abbrev pub explain_app : App
 explain_app =
-    with_rule (with_rule (with_rule (with_rule (new_app (codes "explain"))
+    with_rule (with_rule (with_rule (with_rule (with_rule (new_app (codes "explain"))
+    (place_rule (codes "file")))
     (flag_rule (codes "raw")))
     (flag_rule (codes "json")))
     (flag_rule (codes "discarded")))
@@ -86,13 +91,15 @@ MOST = 4294967295
 -- `ddcmp station`
 abbrev pub station_app : App
 station_app =
-    with_rule (with_rule (with_rule (with_rule (with_rule (with_rule (new_app (codes "station"))
+    with_rule (with_rule (with_rule (with_rule (with_rule (with_rule (with_rule
+    (new_app (codes "station"))
     (required (text_rule (codes "role"))))
     (required (text_rule (codes "addr"))))
     (required (number_rule (codes "turns") 0 MOST)))
     (required (number_rule (codes "timer-ms") 0 MOST)))
     (text_rule (codes "send")))
-    (flag_rule (codes "restart"))
+    (flag_rule (codes "restart")))
+    (flag_rule (codes "counters"))
 
 -- `ddcmp tap`
 abbrev pub tap_app : App
@@ -118,7 +125,7 @@ program =
 
 -- the word that names a command
 abbrev pub name_of : Command → Text
-name_of (Explain form style max) = codes "explain"
+name_of (Explain form style max file) = codes "explain"
 name_of (Simulate config view) = codes "simulate"
 name_of (Pair config view) = codes "pair"
 name_of (Station served) = codes "station"
@@ -169,6 +176,11 @@ pub record HasStyle (option : Text → Option Text) (style : Style) : Type 0 whe
   pub notation : HasNotation (option (codes "json")) style.notation
   pub discarded : HasFlag (option (codes "discarded")) style.discarded
 
+-- the name of the file that is read; none for standard input, as for the word `-`
+abbrev pub file_of : Option Text → Option Text
+file_of None = None
+file_of (Some word) = if bytes_eq word (codes "-") then None else Some word
+
 -- a number in its range: the one that was given, else the usual one
 pub record HasNumber (low high usual : ℕ) (text : Option Text) (n : ℕ) : Type 0 where
   pub in_range : (low ≤ n) × (n ≤ high)
@@ -204,6 +216,7 @@ pub record HasStation (option text : Text → Option Text) (served : Served) : T
   pub timer_ms : HasNumber 0 MOST 0 (option (codes "timer-ms")) served.timer_ms
   pub send : served.send.now ≡ unwrap_or (text (codes "send")) []
   pub restart : HasFlag (option (codes "restart")) served.restart
+  pub counters : HasFlag (option (codes "counters")) served.counters
 
 -- The options of a tap. The two addresses are always there.
 pub record HasTap (option text : Text → Option Text) (tapped : Tapped) : Type 0 where
@@ -215,10 +228,11 @@ pub record HasTap (option text : Text → Option Text) (tapped : Tapped) : Type 
 
 -- a command with the options that were given: as they are read, and as they were written
 abbrev pub HasOptions : (option text : Text → Option Text) → Command → Type 0
-HasOptions option text (Explain form style max) =
+HasOptions option text (Explain form style max file) =
     HasForm (option (codes "raw")) form
     × HasStyle option style
     × HasNumber 1 MAX_COUNT MAX_COUNT (option (codes "max")) max
+    × (option_map (λ name. name.now) file ≡ file_of (text (codes "file")))
 HasOptions option text (Simulate config view) = HasSizes option config × HasView option view
 HasOptions option text (Pair config view) = HasSizes option config × HasView option view
 HasOptions option text (Station served) = HasStation option text served

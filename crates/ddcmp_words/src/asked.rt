@@ -5,8 +5,8 @@ ghost use Rattle.ddcmp_words.specs.Words.{IsAsked, option_in, text_in, program};
 
 use clap::error::ErrorKind as WordsFault;
 
-/// The words `ddcmp explain` ask for the command that explains, without its options; `--raw`,
-/// `--json`, `--discarded` and `--max 1500` are read. `ddcmp --help` asks for help, and
+/// The words `ddcmp explain` ask for the command that explains, without its options; the name of a
+/// file, `--raw`, `--json`, `--discarded` and `--max 1500` are read. `ddcmp --help` asks for help, and
 /// `ddcmp --version` for the version.
 pub fn explain_is_asked()
     ensures plain { IsAsked (codes "ddcmp" ∷ codes "explain" ∷ []) (codes "explain") }
@@ -26,6 +26,11 @@ pub fn explain_is_asked()
     ensures maximum { option_in
         (codes "ddcmp" ∷ codes "explain" ∷ codes "--max" ∷ codes "1500" ∷ []) (codes "max")
         ≡ Some (codes "1500") }
+    ensures no_file { text_in (codes "ddcmp" ∷ codes "explain" ∷ []) (codes "file") ≡ None }
+    ensures file { text_in (codes "ddcmp" ∷ codes "explain" ∷ codes "--raw" ∷ codes "a.bin" ∷ [])
+        (codes "file") ≡ Some (codes "a.bin") }
+    ensures standard_input { text_in (codes "ddcmp" ∷ codes "explain" ∷ codes "-" ∷ [])
+        (codes "file") ≡ Some (codes "-") }
     ensures help { fault_of program (codes "ddcmp" ∷ codes "--help" ∷ [])
         ≡ WordsFault.DisplayHelp ∷ [] }
     ensures version { fault_of program (codes "ddcmp" ∷ codes "--version" ∷ [])
@@ -84,6 +89,10 @@ pub fn station_is_asked()
         (codes "turns") ≡ Some (codes "20") }
     ensures send { text_in (codes "ddcmp" ∷ codes "station" ∷ codes "--send" ∷ codes "0Aff" ∷ [])
         (codes "send") ≡ Some (codes "0Aff") }
+    ensures counters { option_in (codes "ddcmp" ∷ codes "station" ∷ codes "--counters" ∷ [])
+        (codes "counters") ≡ Some (codes "true") }
+    ensures no_counters { option_in (codes "ddcmp" ∷ codes "station" ∷ []) (codes "counters")
+        ≡ Some (codes "false") }
     ensures incomplete { takes program (codes "ddcmp" ∷ codes "station" ∷ []) ≡ false }
 {}
 

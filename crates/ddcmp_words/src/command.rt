@@ -1,12 +1,13 @@
 //! The words of the command line.
 ghost use Rattle.std.specs.Prelude.{◌≡◌, ◌≢◌, ◌⊎◌, ◌↔◌, ◌≤◌, IsTrue, IfOk, IfSome, IsOk, None, Some};
 ghost use Rattle.std.specs.Prelude.{codes, map, unwrap_or, [], false, List, ℕ};
-ghost use Rattle.std.specs.Option.{option_and_then};
+ghost use Rattle.std.specs.Option.{option_and_then, option_map};
 ghost use Rattle.ddcmp_words.specs.Words.{Declines, IsAsked, IsName, Reads, name_of, program};
 ghost use Rattle.ddcmp_words.specs.Words.{HasFlag, HasForm, HasNotation, HasNumber, HasOptions};
 ghost use Rattle.ddcmp_words.specs.Words.{HasSizes, HasStation, HasStyle, explain_app, pair_app};
 ghost use Rattle.ddcmp_words.specs.Words.{simulate_app, station_app};
-ghost use Rattle.ddcmp_words.specs.Words.{flag_rule, number_rule, role_of, text_rule};
+ghost use Rattle.ddcmp_words.specs.Words.{file_of, flag_rule, number_rule, place_rule, role_of};
+ghost use Rattle.ddcmp_words.specs.Words.{text_rule};
 ghost use Rattle.ddcmp_words.specs.Words.{HasView, with_sizes as with_sizes_of};
 ghost use Rattle.ddcmp_words.specs.Words.{with_view as with_view_of};
 ghost use Rattle.clap.specs.Words.{kind_of, app_of, new_app, rule_of, first_of, first_value};
@@ -29,8 +30,14 @@ use std::alloc::{AllocError, Global};
 /// What the words ask for.
 #[derive(Clone, Copy, Debug, PartialEq, Eq)]
 pub enum Command<'a> {
-    /// Explain the input in this form, for a reader of at most `max` bytes of data.
-    Explain { form: Form, style: Style, max: u16 },
+    /// Explain the input in this form, for a reader of at most `max` bytes of data. The input is
+    /// the file of this name, or standard input where there is none.
+    Explain {
+        form: Form,
+        style: Style,
+        max: u16,
+        file: Option<&'a str>,
+    },
     /// Run a script between two ends of these sizes, and show it so.
     Simulate(Config, View),
     /// The same, and the bytes that pass go over a TCP connection.
@@ -79,12 +86,26 @@ pub(crate) fn text<'a>(alloc: Global, name: &'a str, value: &'a str, help: &'a s
         .help(help)
 }
 
+/// A word that stands for itself, and may be left out.
+fn place<'a>(alloc: Global, name: &'a str, value: &'a str, help: &'a str) -> Arg<'a>
+    ensures rule { rule_of result ≡ place_rule name.entry.now }
+    ensures local { result.global ≡ false }
+{
+    Arg::new(alloc, name).value_name(value).help(help)
+}
+
 fn explain_parser<'a>(alloc: Global) -> Result<clap::Command<'a>, AllocError>
     ensures app { IfOk result (λ made. app_of made ≡ explain_app) }
     ensures local { IfOk result (λ made. (fields_of made).has_globals ≡ false) }
 {
     clap::Command::new(alloc, "explain")
-        .about("Says what the bytes of a line are, read from standard input")
+        .about("Says what the bytes of a line are, read from a file or from standard input")
+        .arg(place(
+            alloc,
+            "file",
+            "FILE",
+            "The file to read; standard input where it is left out or -",
+        ))?
         .arg(flag(
             alloc,
             "raw",
@@ -272,6 +293,11 @@ fn station_parser<'a>(alloc: Global) -> Result<clap::Command<'a>, AllocError>
             alloc,
             "restart",
             "Begin anew where the peer does, if no message waits to be taken",
+        ))?
+        .arg(flag(
+            alloc,
+            "counters",
+            "Write what the station has counted, before the last line",
         ))
 }
 
@@ -392,6 +418,18 @@ fn explain_with<'a>(options: &ArgMatches<'a>) -> Command<'a>
         form: form_given(options),
         style: style_given(options),
         max: number_given(options, "max", 1, MAX_COUNT as u32, MAX_COUNT as u32) as u16,
+        file: file_given(options),
+    }
+}
+
+/// The name of the file that is to be read; none for standard input.
+fn file_given<'a>(options: &ArgMatches<'a>) -> Option<&'a str>
+    ensures { option_map (λ name. name.now) result
+        ≡ file_of (first_value (found_of options.now) (codes "file")) }
+{
+    match options.get_str("file") {
+        Some(word) => { if word == "-" { None } else { Some(word) } }
+        None => None,
     }
 }
 
@@ -445,6 +483,7 @@ fn station_given<'a>(options: &ArgMatches<'a>) -> Served<'a>
         result }
 {
     let restart = flag_given(options, "restart");
+    let counters = flag_given(options, "counters");
     Served {
         role: role_named(text_given(options, "role")),
         addr: text_given(options, "addr"),
@@ -452,6 +491,7 @@ fn station_given<'a>(options: &ArgMatches<'a>) -> Served<'a>
         timer_ms: number_given(options, "timer-ms", 0, u32::MAX, 0),
         send: text_given(options, "send"),
         restart,
+        counters,
     }
 }
 

@@ -22,4 +22,6 @@ pub struct Served<'a> {
     pub send: &'a str,
     /// Whether it begins anew where its peer does.
     pub restart: bool,
+    /// Whether the report ends with the counters too.
+    pub counters: bool,
 }

@@ -50,6 +50,7 @@ fn serves(alloc: Global) -> Told {
         1,
         1000,
         false,
+        false,
     );
     Told {
         answer,

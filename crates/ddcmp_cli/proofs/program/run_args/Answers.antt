@@ -1,7 +1,7 @@
-use Rattle.std.proofs.Common.{◌≡◌, ◌∙◌, ap, subst, List, ℕ, map, string_bytes, codes, Err, refl, IsTrue}
+use Rattle.std.proofs.Common.{◌≡◌, ◌∙◌, ap, subst, List, ℕ, map, string_bytes, codes, None, Err, ◌≢◌, refl, IsTrue}
 use Rattle.std.proofs.KnownBytes.{Keeps-refl}
 use Rattle.ddcmp_words.specs.declared.declined.Declined.TheVariants.{Memory}
-use Rattle.ddcmp_words.specs.Words.{IsAsked}
+use Rattle.ddcmp_words.specs.Words.{IsAsked, file_of, text_in}
 use Rattle.ddcmp_cli.specs.Endings.{Ends, ExplainsOrNoMemory, StationsOrNoMemory}
 use Rattle.ddcmp_cli.specs.TapEndings.{Taps}
 use Rattle.ddcmp_cli.specs.declared.ending.Ending.TheVariants.{Fault as Faulted}
@@ -10,13 +10,13 @@ use Rattle.ddcmp_cli.proofs.program.run_args.Goals as goal
 
 pub returns-clause-explains : goal.returns-clause-explains
 returns-clause-explains g c = λ input e. rw (c.in-Ok.is)
-    (subst (λ (ws : List (List ℕ)). IsAsked ws (codes "explain") → ExplainsOrNoMemory ws input (g.R.Source.left c.run.new.reader) (g.W.Sink.contents c.args.writer.now) (g.W.Sink.contents c.run.new.writer) c.run.result)
+    (subst (λ (ws : List (List ℕ)). IsAsked ws (codes "explain") → ExplainsOrNoMemory (g.S.Inputs.held c.args.system.now) ws input (g.R.Source.left c.run.new.reader) (g.W.Sink.contents c.args.writer.now) (g.W.Sink.contents c.run.new.writer) c.run.result)
     (ap (map (λ word. word.now)) c.as_slice-2.ensures.value ∙ c.in-Ok-texts.ensures ∙ ap (map string_bytes) c.as_slice.ensures.value)
     (c.run.ensures.explains input e))
 
 pub returns-clause-ends : goal.returns-clause-ends
 returns-clause-ends g c = rw (c.in-Ok.is)
-    (subst (λ (ws : List (List ℕ)). Ends ws (g.R.Source.left c.args.reader.now) (g.R.Source.left c.run.new.reader) (g.W.Sink.contents c.args.writer.now) (g.W.Sink.contents c.run.new.writer) c.run.result)
+    (subst (λ (ws : List (List ℕ)). Ends (g.S.Inputs.held c.args.system.now) ws (g.R.Source.left c.args.reader.now) (g.R.Source.left c.run.new.reader) (g.W.Sink.contents c.args.writer.now) (g.W.Sink.contents c.run.new.writer) c.run.result)
     (ap (map (λ word. word.now)) c.as_slice-2.ensures.value ∙ c.in-Ok-texts.ensures ∙ ap (map string_bytes) c.as_slice.ensures.value) c.run.ensures.ends)
 
 pub returns-in_default-clause-ends : goal.returns-in_default-clause-ends
@@ -33,3 +33,9 @@ returns-clause-taps g c = rw (c.in-Ok.is)
     (subst (λ (ws : List (List ℕ)). IsAsked ws (codes "tap") → (c.run.new.reader ≡ c.args.reader.now) × Taps (g.W.Sink.contents c.args.writer.now) (g.W.Sink.contents c.run.new.writer) c.run.result × (IsTrue (g.W.Sink.broken c.run.new.writer) → c.run.result ≡ Faulted Write))
     (ap (map (λ word. word.now)) c.as_slice-2.ensures.value ∙ c.in-Ok-texts.ensures ∙ ap (map string_bytes) c.as_slice.ensures.value)
     c.run.ensures.taps)
+
+pub returns-clause-named : goal.returns-clause-named
+returns-clause-named g c = rw (c.in-Ok.is)
+    (subst (λ (ws : List (List ℕ)). IsAsked ws (codes "explain") → file_of (text_in ws (codes "file")) ≢ None → c.run.new.reader ≡ c.args.reader.now)
+    (ap (map (λ word. word.now)) c.as_slice-2.ensures.value ∙ c.in-Ok-texts.ensures ∙ ap (map string_bytes) c.as_slice.ensures.value)
+    c.run.ensures.untouched)

@@ -1,9 +1,8 @@
 use Rattle.std.proofs.Common.{rules, refl, ap, sym, Ok, Err}
 use Rattle.ddcmp_station.specs.UserCalls.{Calls}
-use Rattle.ddcmp_serve.specs.Serving.{end_text, served_answer}
+use Rattle.ddcmp_serve.specs.Serving.{closing_text, served_answer}
 use Rattle.ddcmp_serve.specs.Reporting.{Reports}
 use Rattle.ddcmp_serve.proofs.ServingLaws.{begun-of, drives-as, comes-to, comes-to-all, usual-room}
-use Rattle.ddcmp_io.proofs.TextLaws.{sends-as}
 use Rattle.ddcmp_serve.proofs.serving.serve.Goals as goal
 
 pub returns-in-Ok-write_end-clause-serves : goal.returns-in-Ok-write_end-clause-serves
@@ -15,8 +14,8 @@ returns-in-Ok-write_end-clause-serves g c = λ _.
       driven = Ok c.in-Ok-drive.driven;
       begun = begun;
       drives = drives-as 1500 _ _ _ _ _ (Calls (Reports g.P.Sink.broken g.P.Sink.contents) c.new-user.result c.drive.new.user) _ (Ok c.in-Ok-drive.driven) begun.line (usual-room _ _ begun)
-          (λ calls asked h. comes-to g.P.Sink.broken g.P.Sink.contents c.new-user.result c.drive.new.user c.args.report.now _ c.write_end.new.report c.args.send.now _ calls
-          c.new-user.ensures.report c.new-user.ensures.send c.requires.short c.requires.report (search rules) (sends-as (ap (end_text c.in-Ok-drive.driven) c.state.ensures) c.in-Ok-write_end.ensures.sends) asked h)
+          (λ calls asked h. comes-to g.P.Sink.broken g.P.Sink.contents c.new-user.result c.drive.new.user c.args.report.now _ c.write_end.new.report c.args.send.now (closing_text c.args.counted c.in-Ok-drive.driven c.drive.new.station.core) calls
+          c.new-user.ensures.report c.new-user.ensures.send c.requires.short c.requires.report (search rules) c.in-Ok-write_end.ensures.sends asked h)
           c.in-Ok-drive.ensures.drives;
       answers = ap (served_answer (Ok c.in-Ok-drive.driven)) (sym c.in-Ok-write_end.ensures.broken);
     }
@@ -30,8 +29,8 @@ returns-in-Ok-drive-clause-serves g c = λ _.
       driven = Ok c.in-Ok-drive.driven;
       begun = begun;
       drives = drives-as 1500 _ _ _ _ _ (Calls (Reports g.P.Sink.broken g.P.Sink.contents) c.new-user.result c.drive.new.user) _ (Ok c.in-Ok-drive.driven) begun.line (usual-room _ _ begun)
-          (λ calls asked h. comes-to g.P.Sink.broken g.P.Sink.contents c.new-user.result c.drive.new.user c.args.report.now _ c.write_end.new.report c.args.send.now _ calls
-          c.new-user.ensures.report c.new-user.ensures.send c.requires.short c.requires.report (search rules) (sends-as (ap (end_text c.in-Ok-drive.driven) c.state.ensures) c.in-Err-write_end.ensures.sends) asked h)
+          (λ calls asked h. comes-to g.P.Sink.broken g.P.Sink.contents c.new-user.result c.drive.new.user c.args.report.now _ c.write_end.new.report c.args.send.now (closing_text c.args.counted c.in-Ok-drive.driven c.drive.new.station.core) calls
+          c.new-user.ensures.report c.new-user.ensures.send c.requires.short c.requires.report (search rules) c.in-Err-write_end.ensures.sends asked h)
           c.in-Ok-drive.ensures.drives;
       answers = ap (served_answer (Ok c.in-Ok-drive.driven)) (sym c.in-Err-write_end.ensures.broken);
     }

@@ -22,3 +22,11 @@ returns-clause-send c = refl
 pub returns-clause-incomplete : goal.returns-clause-incomplete
 unfolding clap_on_literals
 returns-clause-incomplete c = refl
+
+pub returns-clause-counters : goal.returns-clause-counters
+unfolding clap_on_literals option_in
+returns-clause-counters c = refl
+
+pub returns-clause-no_counters : goal.returns-clause-no_counters
+unfolding clap_on_literals option_in
+returns-clause-no_counters c = refl
