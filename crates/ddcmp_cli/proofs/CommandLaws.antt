@@ -12,9 +12,10 @@ use Rattle.ddcmp_proto.specs.declared.config.Config.{Config}
 use Rattle.ddcmp_proto.specs.declared.config.TheConstants.{MAX_INBOX, MAX_SYN}
 use Rattle.ddcmp_station.specs.Config.{first_refusal}
 use Rattle.ddcmp_words.specs.declared.command.Command.{Command}
-use Rattle.ddcmp_words.specs.declared.command.Command.TheVariants.{Explain, Simulate, Pair, Station, Tap}
+use Rattle.ddcmp_words.specs.declared.command.Command.TheVariants.{Explain, Simulate, Pair, Station, Tap, Link}
 use Rattle.ddcmp_words.specs.declared.served.Served.{Served}
 use Rattle.ddcmp_words.specs.declared.tapped.Tapped.{Tapped}
+use Rattle.ddcmp_words.specs.declared.linked.Linked.{Linked}
 
 sized : (config : Config) → (1 ≤ config.window) × (config.window ≤ MAX_WINDOW) → (1 ≤ config.inbox) × (config.inbox ≤ MAX_INBOX)
     → (1 ≤ config.max) × (config.max ≤ MAX_COUNT) → (0 ≤ config.syn) × (config.syn ≤ MAX_SYN) → first_refusal config ≡ None
@@ -33,6 +34,7 @@ pub can_run : (o t : Text → Option Text) (command : Command) → HasOptions o 
 can_run o t (Explain form style max file) h = h.2.in_range
 can_run o t (Station served) h = tt
 can_run o t (Tap tapped) h = h.max.in_range
+can_run o t (Link linked) h = tt
 can_run o t (Simulate config view) h = sized config h.0.window.in_range h.0.inbox.in_range h.0.max.in_range h.0.syn.in_range
 can_run o t (Pair config view) h = sized config h.0.window.in_range h.0.inbox.in_range h.0.max.in_range h.0.syn.in_range
 
@@ -48,6 +50,7 @@ performed held words (Simulate config view) input left old new ending a n h p = 
 performed held words (Pair config view) input left old new ending a n h p = absurd (other (codes "explain") (codes "pair") refl (sym a.names ∙ n))
 performed held words (Station served) input left old new ending a n h p = absurd (other (codes "explain") (codes "station") refl (sym a.names ∙ n))
 performed held words (Tap tapped) input left old new ending a n h p = absurd (other (codes "explain") (codes "tap") refl (sym a.names ∙ n))
+performed held words (Link linked) input left old new ending a n h p = absurd (other (codes "explain") (codes "link") refl (sym a.names ∙ n))
 
 -- words that ask for a station are answered by it
 pub stationed : {R : Type 0} (words : List Text) (command : Command) (reader reader_after : R) (old new : Option (List ℕ)) (ending : Ending) → IsAsked words (codes "station") → named_by words ≡ Some (name_of command) → HasOptions (option_in words) (text_in words) command
@@ -59,6 +62,7 @@ stationed words (Station served) reader after old new ending a n h p =
     let s = p served refl in
     (s.0, inr (served, h, s.1))
 stationed words (Tap tapped) reader after old new ending a n h p = absurd (other (codes "station") (codes "tap") refl (sym a.names ∙ n))
+stationed words (Link linked) reader after old new ending a n h p = absurd (other (codes "station") (codes "link") refl (sym a.names ∙ n))
 
 -- words that ask for a tap are answered by it
 pub tapped : (Answered : Type 0) (words : List Text) (command : Command) → IsAsked words (codes "tap") → named_by words ≡ Some (name_of command) → ((tapped : Tapped) → command ≡ Tap tapped → Answered) → Answered
@@ -67,6 +71,16 @@ tapped A words (Simulate config view) a n p = absurd (other (codes "tap") (codes
 tapped A words (Pair config view) a n p = absurd (other (codes "tap") (codes "pair") refl (sym a.names ∙ n))
 tapped A words (Station served) a n p = absurd (other (codes "tap") (codes "station") refl (sym a.names ∙ n))
 tapped A words (Tap t) a n p = p t refl
+tapped A words (Link l) a n p = absurd (other (codes "tap") (codes "link") refl (sym a.names ∙ n))
+
+-- words that ask for a link are answered by it
+pub linked : (Answered : Type 0) (words : List Text) (command : Command) → IsAsked words (codes "link") → named_by words ≡ Some (name_of command) → ((linked : Linked) → command ≡ Link linked → Answered) → Answered
+linked A words (Explain form style max file) a n p = absurd (other (codes "link") (codes "explain") refl (sym a.names ∙ n))
+linked A words (Simulate config view) a n p = absurd (other (codes "link") (codes "simulate") refl (sym a.names ∙ n))
+linked A words (Pair config view) a n p = absurd (other (codes "link") (codes "pair") refl (sym a.names ∙ n))
+linked A words (Station served) a n p = absurd (other (codes "link") (codes "station") refl (sym a.names ∙ n))
+linked A words (Tap t) a n p = absurd (other (codes "link") (codes "tap") refl (sym a.names ∙ n))
+linked A words (Link l) a n p = p l refl
 
 -- where the words name no file, the command reads none
 pub reads_no_file : (words : List Text) (command : Command) → HasOptions (option_in words) (text_in words) command → file_of (text_in words (codes "file")) ≡ None → file_named command ≡ None
@@ -75,6 +89,7 @@ reads_no_file words (Simulate config view) h e = refl
 reads_no_file words (Pair config view) h e = refl
 reads_no_file words (Station served) h e = refl
 reads_no_file words (Tap tapped) h e = refl
+reads_no_file words (Link linked) h e = refl
 
 -- and where they name one, it reads one
 pub reads_a_file : (A : Type 0) (words : List Text) (command : Command) → IsAsked words (codes "explain") → named_by words ≡ Some (name_of command) → HasOptions (option_in words) (text_in words) command
@@ -84,3 +99,4 @@ reads_a_file A words (Simulate config view) a n h some then = absurd (other (cod
 reads_a_file A words (Pair config view) a n h some then = absurd (other (codes "explain") (codes "pair") refl (sym a.names ∙ n))
 reads_a_file A words (Station served) a n h some then = absurd (other (codes "explain") (codes "station") refl (sym a.names ∙ n))
 reads_a_file A words (Tap tapped) a n h some then = absurd (other (codes "explain") (codes "tap") refl (sym a.names ∙ n))
+reads_a_file A words (Link linked) a n h some then = absurd (other (codes "explain") (codes "link") refl (sym a.names ∙ n))

@@ -13,13 +13,13 @@ use Rattle.ddcmp_script.specs.ScriptEnds.{around, Plays}
 use Rattle.ddcmp_proto.specs.declared.config.Config.{Config}
 use Rattle.ddcmp_station.specs.Config.{first_refusal}
 use Rattle.ddcmp_cli.specs.declared.ending.Ending.{Ending}
-use Rattle.ddcmp_cli.specs.declared.ending.Ending.TheVariants.{Done, Usage as Misused, NotText, Unopened, Fault as Faulted}
+use Rattle.ddcmp_cli.specs.declared.ending.Ending.TheVariants.{Done, SomeRefused, NoLine, Usage as Misused, NotText, Unopened, Fault as Faulted}
 use Rattle.std.specs.Borrow.{Bor}
 use Rattle.ddcmp_explain.specs.declared.form.Form.{Form}
 use Rattle.ddcmp_explain.specs.declared.style.Style.{Style}
 use Rattle.clap.specs.Words.{Text}
 use Rattle.ddcmp_words.specs.declared.command.Command.{Command}
-use Rattle.ddcmp_words.specs.declared.command.Command.TheVariants.{Explain, Simulate, Pair, Station, Tap}
+use Rattle.ddcmp_words.specs.declared.command.Command.TheVariants.{Explain, Simulate, Pair, Station, Tap, Link}
 use Rattle.ddcmp_words.specs.declared.served.Served.{Served}
 use Rattle.ddcmp_words.specs.declared.view.View.{View}
 use Rattle.ddcmp_serve.specs.declared.serve_fault.ServeFault.{ServeFault}
@@ -34,6 +34,7 @@ use Rattle.ddcmp_explain.specs.Explains.{Explains}
 use Rattle.ddcmp_serve.specs.Serving.{Serves}
 use Rattle.ddcmp_station.specs.Driving.{Devices}
 use Rattle.ddcmp_cli.specs.TapEndings.{Taps}
+use Rattle.ddcmp_cli.specs.LinkEndings.{IsLinkEnding}
 use Rattle.hex.specs.Hex.{decode_of}
 use Rattle.hex.specs.declared.error.FromHexError.{FromHexError}
 
@@ -78,6 +79,8 @@ fault_status Ended = 3
 
 abbrev pub status_of : Ending → ℕ
 status_of Done = 0
+status_of SomeRefused = 1
+status_of (NoLine why) = 3
 status_of (Misused text) = 2
 status_of NotText = 2
 status_of (Unopened name why) = 3
@@ -96,6 +99,8 @@ ExplainsTo form style max input left old new ending =
 -- the ending tells that the file of this name can't be opened
 abbrev pub IsUnopened : List ℕ → Ending → Type 0
 IsUnopened name Done = ⊥
+IsUnopened name SomeRefused = ⊥
+IsUnopened name (NoLine why) = ⊥
 IsUnopened name (Misused text) = ⊥
 IsUnopened name NotText = ⊥
 IsUnopened name (Unopened told why) = string_bytes told ≡ name
@@ -135,10 +140,13 @@ file_named (Simulate config view) = None
 file_named (Pair config view) = None
 file_named (Station served) = None
 file_named (Tap tapped) = None
+file_named (Link linked) = None
 
 -- the words were refused, or there was no memory for them
 abbrev pub is_refusal : Ending → Bool
 is_refusal Done = false
+is_refusal SomeRefused = false
+is_refusal (NoLine why) = false
 is_refusal (Misused text) = true
 is_refusal NotText = false
 is_refusal (Unopened name why) = false
@@ -156,6 +164,8 @@ is_refusal (Faulted NoMemory) = true
 -- what goes to standard error, but for faults
 abbrev pub shown_of : Ending → Option (List ℕ)
 shown_of Done = Some []
+shown_of SomeRefused = Some []
+shown_of (NoLine why) = None
 shown_of (Misused text) = Some (string_bytes text)
 shown_of NotText = Some (codes "ddcmp: a word is not text\n")
 shown_of (Unopened name why) = None
@@ -167,6 +177,7 @@ CanRun (Simulate config view) = first_refusal config ≡ None
 CanRun (Pair config view) = first_refusal config ≡ None
 CanRun (Station served) = ⊤
 CanRun (Tap tapped) = (1 ≤ tapped.max) × (tapped.max ≤ MAX_COUNT)
+CanRun (Link linked) = ⊤
 
 -- A script was played between two new ends of these sizes, over a carrier that is direct or not,
 -- and the ending tells the answer; or there was no memory for the ends.
@@ -251,6 +262,7 @@ Performs held (Pair config view) input left old new ending =
 Performs held (Station served) input left old new ending =
     (left ≡ Some input) × Stations served old new ending
 Performs held (Tap tapped) input left old new ending = (left ≡ Some input) × Taps old new ending
+Performs held (Link linked) input left old new ending = IsLinkEnding ending
 
 -- a text was written whole, or a write failed
 abbrev pub Shows : List ℕ → Known → Known → Ending → Type 0

@@ -1,5 +1,6 @@
 pub mod Endings
 pub mod Inputs
+pub mod LinkEndings
 pub mod TapEndings
 pub use Rattle.ddcmp_explain.specs.Digits
 pub use Rattle.ddcmp_explain.specs.Text

@@ -11,6 +11,10 @@ use std::fmt;
 pub enum Ending {
     /// All was done, help and the version included.
     Done,
+    /// All was done but what was refused of the input, which was told.
+    SomeRefused,
+    /// The line of a link can't be opened; this says why.
+    NoLine(String),
     /// The words are out of order; this says how.
     Usage(String),
     /// A word isn't text.
@@ -29,8 +33,9 @@ impl Ending {
     {
         match self {
             Ending::Done => 0,
+            Ending::SomeRefused => 1,
             Ending::Usage(_) | Ending::NotText => 2,
-            Ending::Unopened(_, _) => 3,
+            Ending::Unopened(_, _) | Ending::NoLine(_) => 3,
             Ending::Fault(fault) => match fault {
                 Fault::Odd | Fault::NotHex(_) | Fault::Line(_) | Fault::Hex(_) | Fault::Message =>
                     1,
@@ -46,7 +51,12 @@ impl fmt::Display for Ending {
 
     fn fmt<W: fmt::Write>(&self, f: &mut fmt::Formatter<W>) -> fmt::Result {
         match self {
-            Ending::Done => Ok(()),
+            Ending::Done | Ending::SomeRefused => Ok(()),
+            Ending::NoLine(why) => {
+                f.write_str("ddcmp: ")?;
+                f.write_str(why.as_str())?;
+                f.write_str("\n")
+            }
             Ending::Usage(text) => f.write_str(text.as_str()),
             Ending::NotText => f.write_str("ddcmp: a word is not text\n"),
             Ending::Unopened(name, why) => {

@@ -6,6 +6,7 @@ pub mod ending;
 mod explain_input;
 pub mod fault;
 pub mod inputs;
+mod linking;
 pub mod program;
 mod simulating;
 mod stationing;
@@ -18,13 +19,13 @@ pub use ddcmp_explain::{
 pub use ddcmp_pump::{TapFault, tap_fault};
 pub use ddcmp_serve::{SERVED_MAX, ServeFault, serve, serve_fault, serving};
 pub use ddcmp_words::{
-    Command, Declined, Role, Served, Tapped, View, command, declined, read_words, served, tapped,
-    view,
+    Command, Declined, Linked, Role, Served, Tapped, View, command, declined, linked, read_words,
+    served, tapped, view,
 };
 pub use ending::Ending;
 pub use fault::Fault;
 pub use inputs::{Inputs, OpenFault};
 pub use program::{
-    explain_is_asked, pair_is_asked, run, run_args, simulate_is_asked, station_is_asked,
-    tap_is_asked,
+    explain_is_asked, link_is_asked, pair_is_asked, run, run_args, simulate_is_asked,
+    station_is_asked, tap_is_asked,
 };

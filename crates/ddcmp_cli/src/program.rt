@@ -9,41 +9,54 @@ ghost use Rattle.ddcmp_cli.specs.Endings.{CanRun, Ends, ExplainsOrNoMemory, Perf
 ghost use Rattle.ddcmp_words.specs.declared.tapped.Tapped.{Tapped as TappedValue};
 ghost use Rattle.ddcmp_cli.specs.Endings.{file_named, is_refusal, Stations, StationsOrNoMemory};
 ghost use Rattle.ddcmp_cli.specs.TapEndings.{Taps};
+ghost use Rattle.ddcmp_words.specs.declared.linked.Linked.{Linked as LinkedValue};
+ghost use Rattle.ddcmp_cli.specs.LinkEndings.{IsLinkEnding};
 
 use crate::drawing::{show_pair, show_simulation};
 use crate::ending::Ending;
 use crate::explain_input::{explain_file, explain_typed};
 use crate::fault::Fault;
 use crate::inputs::Inputs;
+use crate::linking::link;
 use crate::stationing::station;
 use crate::tapping::tap;
 use ddcmp_io::{Sink, Source, Worst, write_all};
 use ddcmp_words::{Command, Declined, read_words};
 pub use ddcmp_words::{
-    explain_is_asked, pair_is_asked, simulate_is_asked, station_is_asked, tap_is_asked,
+    explain_is_asked, link_is_asked, pair_is_asked, simulate_is_asked, station_is_asked,
+    tap_is_asked,
 };
 use std::alloc::{AllocError, Global};
-use std::io::ErrorKind;
-use std::net::{Net, TcpStream};
+use std::fs::{File, Files};
+use std::io::{Eprint, ErrorKind};
+use std::net::{Net, TcpListener, TcpStream};
 use std::{io, time};
 
 /// Runs a command.
-fn perform<S: Net<Stream = TcpStream> + time::Clock + Inputs, R: Source, W: Sink>(
+fn perform<S, R: Source, W: Sink>(
     system: &S,
     alloc: Global,
     command: Command<'_>,
     reader: &mut R,
     writer: &mut W,
 ) -> Ending
+where
+    S: Net<Stream = TcpStream, Listener = TcpListener>
+        + Files<File = File>
+        + Eprint
+        + time::Clock
+        + Inputs,
     requires fine { R.state reader.old ≡ Worst.Fine }
     requires whole { W.broken writer.old ≡ false }
     requires runs { CanRun command }
     ensures performs { (input : List ℕ) → R.left reader.old ≡ Some input
         → Performs (S.held system.now) command.entry input (R.left reader.new)
         (W.contents writer.old) (W.contents writer.new) result }
-    ensures read { R.state reader.new ≢ Worst.Fine → result ≡ Ending.Fault Fault.Read }
+    ensures read { name_of command.entry ≢ codes "link"
+        → R.state reader.new ≢ Worst.Fine → result ≡ Ending.Fault Fault.Read }
     ensures read_only { name_of command.entry ≢ codes "station"
-        → name_of command.entry ≢ codes "tap" → file_named command.entry ≡ None
+        → name_of command.entry ≢ codes "tap" → name_of command.entry ≢ codes "link"
+        → file_named command.entry ≡ None
         → result ≡ Ending.Fault Fault.Read
         → (R.state reader.new ≢ Worst.Fine) ⊎ GaveMost (R.left reader.old) (R.left reader.new) }
     ensures write { name_of command.entry ≢ codes "station"
@@ -58,6 +71,8 @@ fn perform<S: Net<Stream = TcpStream> + time::Clock + Inputs, R: Source, W: Sink
         → (reader.new ≡ reader.old)
         × Taps (W.contents writer.old) (W.contents writer.new) result
         × (IsTrue (W.broken writer.new) → result ≡ Ending.Fault Fault.Write) }
+    ensures links { (linked : LinkedValue) → command.entry ≡ Command.Link linked
+        → IsLinkEnding result }
 {
     match command {
         Command::Explain {
@@ -73,6 +88,7 @@ fn perform<S: Net<Stream = TcpStream> + time::Clock + Inputs, R: Source, W: Sink
         Command::Pair(config, view) => show_pair(system, alloc, config, view, reader, writer),
         Command::Station(served) => station(system, alloc, &served, writer),
         Command::Tap(tapped) => tap(system, alloc, &tapped, writer),
+        Command::Link(linked) => link(system, alloc, &linked, reader, writer),
     }
 }
 
@@ -90,13 +106,19 @@ fn show<W: Sink>(writer: &mut W, text: &str) -> Ending
 
 /// Runs the command that the words ask for, from the input to the output. The first word is the
 /// program's name; `system` opens files and a station's connection, and tells the time.
-pub fn run<S: Net<Stream = TcpStream> + time::Clock + Inputs, R: Source, W: Sink>(
+pub fn run<S, R: Source, W: Sink>(
     system: &S,
     alloc: Global,
     words: &[&str],
     reader: &mut R,
     writer: &mut W,
 ) -> Ending
+where
+    S: Net<Stream = TcpStream, Listener = TcpListener>
+        + Files<File = File>
+        + Eprint
+        + time::Clock
+        + Inputs,
     requires fine { R.state reader.old ≡ Worst.Fine }
     requires whole { W.broken writer.old ≡ false }
     ensures explains { (input : List ℕ) → R.left reader.old ≡ Some input
@@ -108,9 +130,11 @@ pub fn run<S: Net<Stream = TcpStream> + time::Clock + Inputs, R: Source, W: Sink
         result }
     ensures refused { IsOutOfOrder (map (λ word. word.now) words.now)
         → IsTrue (is_refusal result) × (reader.new ≡ reader.old) × (writer.new ≡ writer.old) }
-    ensures read { R.state reader.new ≢ Worst.Fine → result ≡ Ending.Fault Fault.Read }
+    ensures read { (Asks (map (λ word. word.now) words.now) (codes "link") → ⊥)
+        → R.state reader.new ≢ Worst.Fine → result ≡ Ending.Fault Fault.Read }
     ensures read_only { (Asks (map (λ word. word.now) words.now) (codes "station") → ⊥)
         → (Asks (map (λ word. word.now) words.now) (codes "tap") → ⊥)
+        → (Asks (map (λ word. word.now) words.now) (codes "link") → ⊥)
         → file_of (text_in (map (λ word. word.now) words.now) (codes "file")) ≡ None
         → result ≡ Ending.Fault Fault.Read → (R.state reader.new ≢ Worst.Fine)
         ⊎ GaveMost (R.left reader.old) (R.left reader.new) }
@@ -129,6 +153,8 @@ pub fn run<S: Net<Stream = TcpStream> + time::Clock + Inputs, R: Source, W: Sink
         → (reader.new ≡ reader.old)
         × Taps (W.contents writer.old) (W.contents writer.new) result
         × (IsTrue (W.broken writer.new) → result ≡ Ending.Fault Fault.Write) }
+    ensures links { IsAsked (map (λ word. word.now) words.now) (codes "link")
+        → IsLinkEnding result }
 {
     match read_words(alloc, words) {
         Ok(command) => perform(system, alloc, command, reader, writer),
@@ -151,13 +177,19 @@ fn texts(alloc: Global, args: &[String]) -> Result<Vec<&str>, AllocError>
 
 /// Runs the command that the words ask for, as the system gives them: they may be no text, or
 /// have found no memory.
-pub fn run_args<S: Net<Stream = TcpStream> + time::Clock + Inputs, R: Source, W: Sink>(
+pub fn run_args<S, R: Source, W: Sink>(
     system: &S,
     alloc: Global,
     args: io::Result<Vec<String>>,
     reader: &mut R,
     writer: &mut W,
 ) -> Ending
+where
+    S: Net<Stream = TcpStream, Listener = TcpListener>
+        + Files<File = File>
+        + Eprint
+        + time::Clock
+        + Inputs,
     requires fine { R.state reader.old ≡ Worst.Fine }
     requires whole { W.broken writer.old ≡ false }
     ensures explains { (input : List ℕ) → R.left reader.old ≡ Some input
@@ -174,10 +206,13 @@ pub fn run_args<S: Net<Stream = TcpStream> + time::Clock + Inputs, R: Source, W:
     ensures not_text { IfErr args (λ error. error_kind error ≢ ErrorKind.OutOfMemory
         → result ≡ Ending.NotText) }
     ensures untouched { OnErr args ((reader.new ≡ reader.old) × (writer.new ≡ writer.old)) }
-    ensures read { R.state reader.new ≢ Worst.Fine → result ≡ Ending.Fault Fault.Read }
+    ensures read { (IfOk args (λ words. Asks (map string_bytes words.items) (codes "link"))
+        × IsOk args → ⊥) → R.state reader.new ≢ Worst.Fine → result ≡ Ending.Fault Fault.Read }
     ensures read_only { (IfOk args (λ words. Asks (map string_bytes words.items) (codes "station"))
         × IsOk args → ⊥)
         → (IfOk args (λ words. Asks (map string_bytes words.items) (codes "tap"))
+        × IsOk args → ⊥)
+        → (IfOk args (λ words. Asks (map string_bytes words.items) (codes "link"))
         × IsOk args → ⊥)
         → IfOk args (λ words. file_of (text_in (map string_bytes words.items) (codes "file")) ≡ None)
         → result ≡ Ending.Fault Fault.Read → (R.state reader.new ≢ Worst.Fine)
@@ -198,6 +233,8 @@ pub fn run_args<S: Net<Stream = TcpStream> + time::Clock + Inputs, R: Source, W:
         → (reader.new ≡ reader.old)
         × Taps (W.contents writer.old) (W.contents writer.new) result
         × (IsTrue (W.broken writer.new) → result ≡ Ending.Fault Fault.Write)) }
+    ensures links { IfOk args (λ words. IsAsked (map string_bytes words.items) (codes "link")
+        → IsLinkEnding result) }
 {
     let args = match args {
         Ok(args) => args,

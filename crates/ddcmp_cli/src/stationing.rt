@@ -1,8 +1,9 @@
 //! A station over a connection.
-ghost use Rattle.std.specs.Prelude.{◌≡◌, ◌≤◌, ◌*◌, length, false, true, option_map, IfSome};
+ghost use Rattle.std.specs.Prelude.{◌≡◌, ◌≢◌, ◌≤◌, ◌*◌, length, false, true, option_map, IfSome};
 ghost use Rattle.std.specs.Result.{result_ok};
 ghost use Rattle.hex.specs.Hex.{decode_of};
 ghost use Rattle.ddcmp_cli.specs.Endings.{is_refusal, Stations};
+ghost use Rattle.ddcmp_cli.specs.LinkEndings.{IsLinkEnding};
 
 use crate::ending::Ending;
 use crate::fault::Fault;
@@ -29,8 +30,9 @@ For more information, try '--help'.
 ";
 
 /// Words that are out of order, as this text says.
-fn usage(alloc: Global, text: &str) -> Ending
-    ensures { is_refusal result ≡ true }
+pub(crate) fn usage(alloc: Global, text: &str) -> Ending
+    ensures refusal { is_refusal result ≡ true }
+    ensures kept { IsLinkEnding result × (result ≢ Ending.Fault Fault.Write) }
 {
     match String::from_str(alloc, text) {
         Ok(text) => Ending::Usage(text),

@@ -20,7 +20,7 @@ use Rattle.ddcmp_proto.specs.declared.config.Config.{Config}
 use Rattle.ddcmp_proto.specs.declared.config.TheConstants.{MAX_INBOX, MAX_SYN}
 use Rattle.ddcmp_words.specs.declared.view.View.{View}
 use Rattle.ddcmp_words.specs.declared.command.Command.{Command}
-use Rattle.ddcmp_words.specs.declared.command.Command.TheVariants.{Explain, Simulate, Pair, Station, Tap}
+use Rattle.ddcmp_words.specs.declared.command.Command.TheVariants.{Explain, Simulate, Pair, Station, Tap, Link}
 
 pub program-simple : is_simple program ≡ true
 unfolding clap_on_literals
@@ -111,6 +111,16 @@ has_options_as o p t u (Tap tapped) e w h = record {
   notation = subst (λ t. HasNotation t tapped.notation) (e (codes "json")) h.notation;
   time = subst (λ t. HasFlag t tapped.time) (e (codes "time")) h.time;
   max = subst (λ t. HasNumber 1 MAX_COUNT MAX_COUNT t tapped.max) (e (codes "max")) h.max;
+}
+has_options_as o p t u (Link linked) e w h = record {
+  line = h.line ∙ ap (λ x. unwrap_or x []) (w (codes "line"));
+  sizes = sizes_as o p linked.config e h.sizes;
+  timer_ms = subst (λ t. HasNumber 0 MOST 3000 t linked.timer_ms) (e (codes "timer-ms")) h.timer_ms;
+  seconds = subst (λ t. HasNumber 1 MOST MOST t linked.seconds) (e (codes "seconds")) h.seconds;
+  binary = subst (λ t. HasFlag t linked.binary) (e (codes "binary")) h.binary;
+  stay = subst (λ t. HasFlag t linked.stay) (e (codes "stay")) h.stay;
+  again = subst (λ t. HasFlag t linked.again) (e (codes "again")) h.again;
+  counters = subst (λ t. HasFlag t linked.counters) (e (codes "counters")) h.counters;
 }
 
 -- a command has the options that the words give

@@ -8,11 +8,12 @@ use Rattle.ddcmp_explain.specs.declared.notation.Notation.{Notation}
 use Rattle.ddcmp_explain.specs.declared.notation.Notation.TheVariants.{Plain, Json}
 use Rattle.ddcmp_explain.specs.declared.style.Style.{Style}
 use Rattle.ddcmp_words.specs.declared.command.Command.{Command}
-use Rattle.ddcmp_words.specs.declared.command.Command.TheVariants.{Explain, Simulate, Pair, Station, Tap}
+use Rattle.ddcmp_words.specs.declared.command.Command.TheVariants.{Explain, Simulate, Pair, Station, Tap, Link}
 use Rattle.ddcmp_words.specs.declared.served.Role.{Role}
 use Rattle.ddcmp_words.specs.declared.served.Role.TheVariants.{Connect, Listen}
 use Rattle.ddcmp_words.specs.declared.served.Served.{Served}
 use Rattle.ddcmp_words.specs.declared.tapped.Tapped.{Tapped}
+use Rattle.ddcmp_words.specs.declared.linked.Linked.{Linked}
 use Rattle.ddcmp_words.specs.declared.view.View.{View}
 use Rattle.ddcmp_words.specs.declared.declined.Declined.{Declined}
 use Rattle.ddcmp_words.specs.declared.declined.Declined.TheVariants.{Help, Version, Usage, Memory}
@@ -111,6 +112,20 @@ tap_app =
     (flag_rule (codes "time")))
     (number_rule (codes "max") 1 MAX_COUNT)
 
+-- `ddcmp link`: its line, the sizes of its station, and how it goes on
+abbrev pub line_app : App
+line_app = with_rule (new_app (codes "link")) (required (text_rule (codes "line")))
+
+abbrev pub link_app : App
+link_app =
+    with_rule (with_rule (with_rule (with_rule (with_rule (with_rule (with_sizes line_app)
+    (number_rule (codes "timer-ms") 0 MOST))
+    (number_rule (codes "seconds") 1 MOST))
+    (flag_rule (codes "binary")))
+    (flag_rule (codes "stay")))
+    (flag_rule (codes "again")))
+    (flag_rule (codes "counters"))
+
 -- `ddcmp`, which wants a command
 abbrev pub bare_app : App
 bare_app =
@@ -119,9 +134,9 @@ bare_app =
 
 abbrev pub program : App
 program =
-    with_subcommand (with_subcommand (with_subcommand
+    with_subcommand (with_subcommand (with_subcommand (with_subcommand
     (with_subcommand (with_subcommand bare_app explain_app.top) simulate_app.top) pair_app.top)
-    station_app.top) tap_app.top
+    station_app.top) tap_app.top) link_app.top
 
 -- the word that names a command
 abbrev pub name_of : Command → Text
@@ -130,11 +145,12 @@ name_of (Simulate config view) = codes "simulate"
 name_of (Pair config view) = codes "pair"
 name_of (Station served) = codes "station"
 name_of (Tap tapped) = codes "tap"
+name_of (Link linked) = codes "link"
 
 abbrev pub IsName : Text → Type 0
 IsName name =
     (name ≡ codes "explain") ⊎ (name ≡ codes "simulate") ⊎ (name ≡ codes "pair")
-    ⊎ (name ≡ codes "station") ⊎ (name ≡ codes "tap")
+    ⊎ (name ≡ codes "station") ⊎ (name ≡ codes "tap") ⊎ (name ≡ codes "link")
 
 -- the command that the words name
 unfoldable pub named_by : List Text → Option Text
@@ -226,6 +242,17 @@ pub record HasTap (option text : Text → Option Text) (tapped : Tapped) : Type 
   pub time : HasFlag (option (codes "time")) tapped.time
   pub max : HasNumber 1 MAX_COUNT MAX_COUNT (option (codes "max")) tapped.max
 
+-- The options of a link. Its line is always there.
+pub record HasLink (option text : Text → Option Text) (linked : Linked) : Type 0 where
+  pub line : linked.line.now ≡ unwrap_or (text (codes "line")) []
+  pub sizes : HasSizes option linked.config
+  pub timer_ms : HasNumber 0 MOST 3000 (option (codes "timer-ms")) linked.timer_ms
+  pub seconds : HasNumber 1 MOST MOST (option (codes "seconds")) linked.seconds
+  pub binary : HasFlag (option (codes "binary")) linked.binary
+  pub stay : HasFlag (option (codes "stay")) linked.stay
+  pub again : HasFlag (option (codes "again")) linked.again
+  pub counters : HasFlag (option (codes "counters")) linked.counters
+
 -- a command with the options that were given: as they are read, and as they were written
 abbrev pub HasOptions : (option text : Text → Option Text) → Command → Type 0
 HasOptions option text (Explain form style max file) =
@@ -237,6 +264,7 @@ HasOptions option text (Simulate config view) = HasSizes option config × HasVie
 HasOptions option text (Pair config view) = HasSizes option config × HasView option view
 HasOptions option text (Station served) = HasStation option text served
 HasOptions option text (Tap tapped) = HasTap option text tapped
+HasOptions option text (Link linked) = HasLink option text linked
 
 -- the words ask for this command, and clap finds no fault with them
 abbrev pub Asks : List Text → Text → Type 0

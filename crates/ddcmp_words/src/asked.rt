@@ -115,3 +115,29 @@ pub fn tap_is_asked()
         (codes "max") ≡ Some (codes "1500") }
     ensures incomplete { takes program (codes "ddcmp" ∷ codes "tap" ∷ []) ≡ false }
 {}
+
+/// The words `ddcmp link` with a line ask for the command that runs a station over it; the name of
+/// the line is read as it was written.
+pub fn link_is_asked()
+    ensures plain { IsAsked (codes "ddcmp" ∷ codes "link" ∷ codes "--line"
+        ∷ codes "listen:127.0.0.1:7000" ∷ []) (codes "link") }
+    ensures line { text_in (codes "ddcmp" ∷ codes "link" ∷ codes "--line=device:/dev/ttyS0" ∷ [])
+        (codes "line") ≡ Some (codes "device:/dev/ttyS0") }
+    ensures window { option_in (codes "ddcmp" ∷ codes "link" ∷ codes "--window=127" ∷ [])
+        (codes "window") ≡ Some (codes "127") }
+    ensures binary { option_in (codes "ddcmp" ∷ codes "link" ∷ codes "--binary" ∷ [])
+        (codes "binary") ≡ Some (codes "true") }
+    ensures no_binary { option_in (codes "ddcmp" ∷ codes "link" ∷ []) (codes "binary")
+        ≡ Some (codes "false") }
+    ensures stay { option_in (codes "ddcmp" ∷ codes "link" ∷ codes "--stay" ∷ []) (codes "stay")
+        ≡ Some (codes "true") }
+    ensures again { option_in (codes "ddcmp" ∷ codes "link" ∷ codes "--again" ∷ [])
+        (codes "again") ≡ Some (codes "true") }
+    ensures counters { option_in (codes "ddcmp" ∷ codes "link" ∷ codes "--counters" ∷ [])
+        (codes "counters") ≡ Some (codes "true") }
+    ensures seconds { option_in (codes "ddcmp" ∷ codes "link" ∷ codes "--seconds=60" ∷ [])
+        (codes "seconds") ≡ Some (codes "60") }
+    ensures timer { option_in (codes "ddcmp" ∷ codes "link" ∷ codes "--timer-ms=500" ∷ [])
+        (codes "timer-ms") ≡ Some (codes "500") }
+    ensures incomplete { takes program (codes "ddcmp" ∷ codes "link" ∷ []) ≡ false }
+{}

@@ -2,7 +2,7 @@
 ghost use Rattle.std.specs.Prelude.{◌≡◌, ◌≢◌, ◌⊎◌, ◌↔◌, ◌≤◌, IsTrue, IfOk, IfSome, IsOk, None, Some};
 ghost use Rattle.std.specs.Prelude.{codes, map, unwrap_or, [], false, List, ℕ};
 ghost use Rattle.std.specs.Option.{option_and_then, option_map};
-ghost use Rattle.ddcmp_words.specs.Words.{Declines, IsAsked, IsName, Reads, name_of, program};
+ghost use Rattle.ddcmp_words.specs.Words.{Declines, IsAsked, IsName, Reads, bare_app, name_of, program};
 ghost use Rattle.ddcmp_words.specs.Words.{HasFlag, HasForm, HasNotation, HasNumber, HasOptions};
 ghost use Rattle.ddcmp_words.specs.Words.{HasSizes, HasStation, HasStyle, explain_app, pair_app};
 ghost use Rattle.ddcmp_words.specs.Words.{simulate_app, station_app};
@@ -16,6 +16,8 @@ ghost use Rattle.clap.specs.Words.{subcommand_name_of, subcommand_rows_of};
 ghost use Rattle.clap.specs.declared.builder.command.Command.TheViews.{out-Command as fields_of};
 
 use crate::declined::Declined;
+use crate::link_words::{link_given, link_parser};
+use crate::linked::Linked;
 use crate::served::{Role, Served};
 use crate::tap_words::{tap_given, tap_parser};
 use crate::tapped::Tapped;
@@ -46,6 +48,8 @@ pub enum Command<'a> {
     Station(Served<'a>),
     /// Stand between two ends of a line over TCP.
     Tap(Tapped<'a>),
+    /// Run a station over a line, with messages on standard input and output.
+    Link(Linked<'a>),
 }
 
 pub(crate) fn flag<'a>(alloc: Global, name: &'a str, help: &'a str) -> Arg<'a>
@@ -127,7 +131,7 @@ fn explain_parser<'a>(alloc: Global) -> Result<clap::Command<'a>, AllocError>
 }
 
 /// The options of two ends.
-fn with_sizes<'a>(
+pub(crate) fn with_sizes<'a>(
     alloc: Global,
     command: clap::Command<'a>,
 ) -> Result<clap::Command<'a>, AllocError>
@@ -310,18 +314,26 @@ What is written, as it happens:
   turns=T state=S read=R written=W   at the end: the turns made and the bytes both ways"
 }
 
-fn parser<'a>(alloc: Global) -> Result<clap::Command<'a>, AllocError>
-    ensures { IfOk result (λ made. app_of made ≡ program) }
+/// `ddcmp` without its commands.
+fn program_command<'a>(alloc: Global) -> clap::Command<'a>
+    ensures { app_of result ≡ bare_app }
 {
     clap::Command::new(alloc, "ddcmp")
         .version("0.1.0")
         .about("DDCMP, the data link protocol of DECnet")
         .subcommand_required(true)
+}
+
+fn parser<'a>(alloc: Global) -> Result<clap::Command<'a>, AllocError>
+    ensures { IfOk result (λ made. app_of made ≡ program) }
+{
+    program_command(alloc)
         .subcommand(explain_parser(alloc)?)?
         .subcommand(simulate_parser(alloc)?)?
         .subcommand(pair_parser(alloc)?)?
         .subcommand(station_parser(alloc)?)?
-        .subcommand(tap_parser(alloc)?)
+        .subcommand(tap_parser(alloc)?)?
+        .subcommand(link_parser(alloc)?)
 }
 
 /// A fault of the words as this crate tells it.
@@ -434,7 +446,7 @@ fn file_given<'a>(options: &ArgMatches<'a>) -> Option<&'a str>
 }
 
 /// The sizes of both ends, as they were given or as they are without.
-fn sizes_given(options: &ArgMatches<'_>) -> Config
+pub(crate) fn sizes_given(options: &ArgMatches<'_>) -> Config
     ensures { HasSizes (one_text (found_of options.now)) result }
 {
     Config {
@@ -518,8 +530,11 @@ fn asked<'a>(matches: &ArgMatches<'a>) -> Option<Command<'a>>
     if let Some(options) = matches.subcommand_matches("station") {
         return Some(Command::Station(station_given(options)));
     }
-    let options = matches.subcommand_matches("tap")?;
-    Some(Command::Tap(tap_given(options)))
+    if let Some(options) = matches.subcommand_matches("tap") {
+        return Some(Command::Tap(tap_given(options)));
+    }
+    let options = matches.subcommand_matches("link")?;
+    Some(Command::Link(link_given(options)))
 }
 
 /// Reads the words of a command line, of which the first is the program's name.
@@ -533,6 +548,8 @@ pub fn read_words<'a>(alloc: Global, words: &'a [&'a str]) -> Result<Command<'a>
     ensures station_asked { IsAsked (map (λ word. word.now) words.entry.now) (codes "station")
         → IsOk result ⊎ (result ≡ Err Declined.Memory) }
     ensures tap_asked { IsAsked (map (λ word. word.now) words.entry.now) (codes "tap")
+        → IsOk result ⊎ (result ≡ Err Declined.Memory) }
+    ensures link_asked { IsAsked (map (λ word. word.now) words.entry.now) (codes "link")
         → IsOk result ⊎ (result ≡ Err Declined.Memory) }
     // What the words ask for, whatever they are.
     ensures reads { Reads (map (λ word. word.now) words.entry.now) result }

@@ -4,16 +4,20 @@
 mod asked;
 pub mod command;
 pub mod declined;
+mod link_words;
+pub mod linked;
 pub mod served;
 mod tap_words;
 pub mod tapped;
 pub mod view;
 
 pub use asked::{
-    explain_is_asked, pair_is_asked, simulate_is_asked, station_is_asked, tap_is_asked,
+    explain_is_asked, link_is_asked, pair_is_asked, simulate_is_asked, station_is_asked,
+    tap_is_asked,
 };
 pub use command::{Command, read_words};
 pub use declined::Declined;
+pub use linked::Linked;
 pub use served::{Role, Served};
 pub use tapped::Tapped;
 pub use view::View;

@@ -1,5 +1,5 @@
 use Rattle.std.proofs.Common.{◌∙◌, ap, Some}
-use Rattle.ddcmp_cli.proofs.CommandLaws.{performed, stationed, tapped, reads_a_file, reads_no_file}
+use Rattle.ddcmp_cli.proofs.CommandLaws.{linked, performed, stationed, tapped, reads_a_file, reads_no_file}
 use Rattle.ddcmp_cli.proofs.program.run.Goals as goal
 
 pub returns-in-Ok-clause-explains : goal.returns-in-Ok-clause-explains
@@ -11,11 +11,15 @@ returns-in-Ok-clause-stations g c = λ asked. stationed _ c.in-Ok.command _ _ _ 
 pub returns-in-Ok-clause-taps : goal.returns-in-Ok-clause-taps
 returns-in-Ok-clause-taps g c = λ asked. tapped _ _ c.in-Ok.command asked c.in-Ok.ensures.reads.1 c.perform.ensures.taps
 
+pub returns-in-Ok-clause-links : goal.returns-in-Ok-clause-links
+returns-in-Ok-clause-links g c = λ asked. linked _ _ c.in-Ok.command asked c.in-Ok.ensures.reads.1 c.perform.ensures.links
+
 pub returns-in-Ok-clause-untouched : goal.returns-in-Ok-clause-untouched
 returns-in-Ok-clause-untouched g c = λ asked some. reads_a_file _ _ c.in-Ok.command asked c.in-Ok.ensures.reads.1 c.in-Ok.ensures.reads.2 some c.perform.ensures.untouched
 
 pub returns-in-Ok-clause-read_only : goal.returns-in-Ok-clause-read_only
-returns-in-Ok-clause-read_only g c = λ no_station no_tap no_file e.
+returns-in-Ok-clause-read_only g c = λ no_station no_tap no_link no_file e.
     c.perform.ensures.read_only (λ n. no_station (c.in-Ok.ensures.reads.0, c.in-Ok.ensures.reads.1 ∙ ap Some n))
     (λ n. no_tap (c.in-Ok.ensures.reads.0, c.in-Ok.ensures.reads.1 ∙ ap Some n))
+    (λ n. no_link (c.in-Ok.ensures.reads.0, c.in-Ok.ensures.reads.1 ∙ ap Some n))
     (reads_no_file _ c.in-Ok.command c.in-Ok.ensures.reads.2 no_file) e

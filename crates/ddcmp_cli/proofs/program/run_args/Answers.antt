@@ -4,6 +4,7 @@ use Rattle.ddcmp_words.specs.declared.declined.Declined.TheVariants.{Memory}
 use Rattle.ddcmp_words.specs.Words.{IsAsked, file_of, text_in}
 use Rattle.ddcmp_cli.specs.Endings.{Ends, ExplainsOrNoMemory, StationsOrNoMemory}
 use Rattle.ddcmp_cli.specs.TapEndings.{Taps}
+use Rattle.ddcmp_cli.specs.LinkEndings.{IsLinkEnding}
 use Rattle.ddcmp_cli.specs.declared.ending.Ending.TheVariants.{Fault as Faulted}
 use Rattle.ddcmp_cli.specs.declared.fault.Fault.TheVariants.{Write}
 use Rattle.ddcmp_cli.proofs.program.run_args.Goals as goal
@@ -39,3 +40,9 @@ returns-clause-named g c = rw (c.in-Ok.is)
     (subst (λ (ws : List (List ℕ)). IsAsked ws (codes "explain") → file_of (text_in ws (codes "file")) ≢ None → c.run.new.reader ≡ c.args.reader.now)
     (ap (map (λ word. word.now)) c.as_slice-2.ensures.value ∙ c.in-Ok-texts.ensures ∙ ap (map string_bytes) c.as_slice.ensures.value)
     c.run.ensures.untouched)
+
+pub returns-clause-links : goal.returns-clause-links
+returns-clause-links g c = rw (c.in-Ok.is)
+    (subst (λ (ws : List (List ℕ)). IsAsked ws (codes "link") → IsLinkEnding c.run.result)
+    (ap (map (λ word. word.now)) c.as_slice-2.ensures.value ∙ c.in-Ok-texts.ensures ∙ ap (map string_bytes) c.as_slice.ensures.value)
+    c.run.ensures.links)

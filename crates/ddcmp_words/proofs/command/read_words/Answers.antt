@@ -36,7 +36,12 @@ returns-in-Ok-try_get_matches_from-clause-station_asked c = λ asked.
 pub returns-in-Ok-try_get_matches_from-clause-tap_asked :
     goal.returns-in-Ok-try_get_matches_from-clause-tap_asked
 returns-in-Ok-try_get_matches_from-clause-tap_asked c = λ asked.
-    absurd (c.in-None.ensures.unnamed refl _ (inr (inr (inr (inr refl)))) (sym (named _ _ c.in-Ok-try_get_matches_from.matches c.in-Ok.ensures c.in-Ok-try_get_matches_from.ensures.matches) ∙ asked.names))
+    absurd (c.in-None.ensures.unnamed refl _ (inr (inr (inr (inr (inl refl))))) (sym (named _ _ c.in-Ok-try_get_matches_from.matches c.in-Ok.ensures c.in-Ok-try_get_matches_from.ensures.matches) ∙ asked.names))
+
+pub returns-in-Ok-try_get_matches_from-clause-link_asked :
+    goal.returns-in-Ok-try_get_matches_from-clause-link_asked
+returns-in-Ok-try_get_matches_from-clause-link_asked c = λ asked.
+    absurd (c.in-None.ensures.unnamed refl _ (inr (inr (inr (inr (inr refl))))) (sym (named _ _ c.in-Ok-try_get_matches_from.matches c.in-Ok.ensures c.in-Ok-try_get_matches_from.ensures.matches) ∙ asked.names))
 
 pub returns-in-Ok-try_get_matches_from-clause-reads :
     goal.returns-in-Ok-try_get_matches_from-clause-reads
@@ -67,4 +72,8 @@ returns-clause-station_asked c = λ asked.
 
 pub returns-clause-tap_asked : goal.returns-clause-tap_asked
 returns-clause-tap_asked c = λ asked.
+    inr (ap Err (declined-memory _ c.decline.result c.decline.ensures (c.in-Err-try_get_matches_from.ensures.passes (in_order _ _ _ c.in-Ok.ensures asked))))
+
+pub returns-clause-link_asked : goal.returns-clause-link_asked
+returns-clause-link_asked c = λ asked.
     inr (ap Err (declined-memory _ c.decline.result c.decline.ensures (c.in-Err-try_get_matches_from.ensures.passes (in_order _ _ _ c.in-Ok.ensures asked))))

@@ -1,0 +1,79 @@
+//! A link between a line and the program's streams.
+ghost use Rattle.std.specs.Prelude.{◌≡◌, ◌≢◌, ◌↔◌, IsTrue, false};
+ghost use Rattle.ddcmp_cli.specs.LinkEndings.{IsLinkEnding};
+
+use crate::ending::Ending;
+use crate::fault::Fault;
+use crate::stationing::usage;
+use ddcmp_io::{Sink, Source};
+use ddcmp_service::{Form, LineName, NotOpened, Options, Served, ServiceFault, serve_link};
+use ddcmp_words::Linked;
+use std::alloc::Global;
+use std::fs::{File, Files};
+use std::io::Eprint;
+use std::net::{Net, TcpListener, TcpStream};
+use std::time;
+
+/// What is told where the word for the line is another.
+const NO_LINE: &str = "\
+error: '--line' is connect:HOST:PORT, listen:HOST:PORT, udp:LOCAL,REMOTE or device:PATH
+
+For more information, try '--help'.
+";
+
+/// How a service is to run, on this line.
+fn options_of<'a>(linked: &Linked<'a>, line: LineName<'a>) -> Options<'a> {
+    Options {
+        line,
+        config: linked.config,
+        timer_ms: linked.timer_ms,
+        form: if linked.binary {
+            Form::Binary
+        } else {
+            Form::Digits
+        },
+        stay: linked.stay,
+        again: linked.again,
+        seconds: linked.seconds,
+        counters: linked.counters,
+    }
+}
+
+/// How the program ends where the line can't be opened.
+fn no_line(alloc: Global, fault: &NotOpened<'_>) -> Ending
+    ensures ending { IsLinkEnding result }
+    ensures told { result ≢ Ending.Fault Fault.Write }
+{
+    match fault.to_string(alloc) {
+        Ok(text) => Ending::NoLine(text),
+        Err(_refused) => Ending::Fault(Fault::Memory),
+    }
+}
+
+/// Runs a link until all of standard input is delivered, or its line ends.
+pub(crate) fn link<S, R: Source, W: Sink>(
+    system: &S,
+    alloc: Global,
+    linked: &Linked<'_>,
+    reader: &mut R,
+    writer: &mut W,
+) -> Ending
+where
+    S: Net<Stream = TcpStream, Listener = TcpListener> + Files<File = File> + Eprint + time::Clock,
+    requires whole { W.broken writer.old ≡ false }
+    ensures ending { IsLinkEnding result }
+    ensures write { (result ≡ Ending.Fault Fault.Write) ↔ IsTrue (W.broken writer.new) }
+{
+    let Some(line) = LineName::read(linked.line) else {
+        return usage(alloc, NO_LINE);
+    };
+    match serve_link(system, alloc, options_of(linked, line), reader, writer) {
+        Ok(Served::Delivered) => Ending::Done,
+        Ok(Served::SomeRefused) => Ending::SomeRefused,
+        Err(ServiceFault::Open(fault)) => no_line(alloc, &fault),
+        Err(ServiceFault::Ended) => Ending::Fault(Fault::Ended),
+        Err(ServiceFault::Read) => Ending::Fault(Fault::Read),
+        Err(ServiceFault::Write) => Ending::Fault(Fault::Write),
+        Err(ServiceFault::Memory) => Ending::Fault(Fault::Memory),
+    }
+}

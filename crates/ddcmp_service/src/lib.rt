@@ -1,0 +1,20 @@
+//! A link as a service: the line of a station on one side, messages on standard input and output on
+//! the other, until it is told to stop. What it decides is `ddcmp_link`'s; here are the system's
+//! calls: opening a line, reading and writing without waiting, and waiting for what comes first.
+#![tactic(auto)]
+
+mod fault;
+mod held;
+mod line;
+mod line_name;
+mod messages;
+mod opening;
+mod report;
+mod running;
+mod service;
+mod waiting;
+
+pub use fault::{NotOpened, ServiceFault};
+pub use line_name::LineName;
+pub use messages::Form;
+pub use service::{Options, Served, serve_link};

@@ -1,0 +1,102 @@
+//! The line of a service: a socket or a device that is read and written without waiting.
+use crate::held::Held;
+use crate::waiting::Waiting;
+use mio::net::{TcpStream, UdpSocket};
+use std::fs::File;
+use std::io::{self, ErrorKind, Read, Write};
+use std::net::SocketAddr;
+
+/// The most bytes that a serial device is given at once: so few that the write doesn't wait long.
+const DEVICE_PIECE: usize = 64;
+
+/// A line that is open.
+#[derive(Drop)]
+pub(crate) enum Line {
+    Stream(TcpStream),
+    /// A socket of datagrams, and whom it speaks to.
+    Datagrams(UdpSocket, SocketAddr),
+    Device(File),
+}
+
+/// What became of a read from a line, or of a write to it.
+#[derive(Clone, Copy, Debug, PartialEq, Eq)]
+pub(crate) enum Moved {
+    Bytes(usize),
+    /// Nothing came, or there was no room.
+    Nothing,
+    /// The line has ended or failed.
+    Ended,
+}
+
+/// What a call of the system gave.
+fn moved_by(answer: io::Result<usize>) -> Moved {
+    match answer {
+        Ok(n) => Moved::Bytes(n),
+        Err(error) => match error.kind() {
+            ErrorKind::WouldBlock | ErrorKind::Interrupted => Moved::Nothing,
+            _ => Moved::Ended,
+        },
+    }
+}
+
+/// What a datagram's call gave; a peer that isn't there yet is no end.
+fn datagram_moved(answer: io::Result<usize>) -> Moved {
+    match answer {
+        Ok(n) => Moved::Bytes(n),
+        Err(error) => match error.kind() {
+            ErrorKind::WouldBlock | ErrorKind::Interrupted => Moved::Nothing,
+            ErrorKind::ConnectionRefused => Moved::Bytes(0),
+            _ => Moved::Ended,
+        },
+    }
+}
+
+impl Line {
+    /// Whether each write is a frame of its own.
+    pub(crate) fn is_of_datagrams(&self) -> bool {
+        matches!(self, Line::Datagrams(..))
+    }
+
+    /// Reads what has come into the room at the end of what waits.
+    pub(crate) fn read(&mut self, waiting: &mut Waiting, came: &mut Held) -> Moved {
+        let got = match self {
+            Line::Stream(stream) => match moved_by(stream.read(came.space())) {
+                Moved::Bytes(0) => Moved::Ended,
+                got => got,
+            },
+            Line::Datagrams(socket, remote) => match socket.recv_from(came.space()) {
+                Ok((n, sender)) => Moved::Bytes(if sender == *remote { n } else { 0 }),
+                Err(error) => datagram_moved(Err(error)),
+            },
+            Line::Device(file) => match moved_by(file.read(came.space())) {
+                Moved::Bytes(0) => Moved::Ended,
+                got => got,
+            },
+        };
+        waiting.line_was_read(got == Moved::Nothing);
+        if let Moved::Bytes(n) = got {
+            came.came(n);
+        }
+        got
+    }
+
+    /// Writes bytes from the front of `bytes`, as far as there is room.
+    pub(crate) fn write(&mut self, waiting: &mut Waiting, bytes: &[u8]) -> Moved {
+        let took = match self {
+            Line::Stream(stream) => moved_by(stream.write(bytes)),
+            Line::Datagrams(socket, remote) => match datagram_moved(socket.send_to(
+                bytes, *remote,
+            )) {
+                // What a datagram has no room for is lost, as on a line.
+                Moved::Bytes(_) => Moved::Bytes(bytes.len()),
+                took => took,
+            },
+            Line::Device(file) => {
+                let n = bytes.len().min(DEVICE_PIECE);
+                moved_by(file.write(&bytes[..n]))
+            }
+        };
+        waiting.line_was_written(took == Moved::Nothing);
+        took
+    }
+}

@@ -1,0 +1,31 @@
+//! The names of lines.
+
+/// A line, as a word names it.
+#[derive(Clone, Copy, Debug, PartialEq, Eq)]
+pub enum LineName<'a> {
+    /// `connect:HOST:PORT`: one TCP connection to there.
+    Connect(&'a str),
+    /// `listen:HOST:PORT`: one TCP connection from whoever comes first.
+    Listen(&'a str),
+    /// `udp:LOCAL,REMOTE`: each frame is a datagram from the one address to the other.
+    Udp { local: &'a str, remote: &'a str },
+    /// `device:PATH`: a serial device that is set up already.
+    Device(&'a str),
+}
+
+impl<'a> LineName<'a> {
+    /// The line that a word names; none where it names no line.
+    pub fn read(word: &'a str) -> Option<LineName<'a>> {
+        let (kind, rest) = word.split_once(':')?;
+        match kind {
+            "connect" => Some(LineName::Connect(rest)),
+            "listen" => Some(LineName::Listen(rest)),
+            "udp" => {
+                let (local, remote) = rest.split_once(',')?;
+                Some(LineName::Udp { local, remote })
+            }
+            "device" => Some(LineName::Device(rest)),
+            _ => None,
+        }
+    }
+}

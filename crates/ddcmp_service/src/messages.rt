@@ -1,0 +1,123 @@
+//! Messages on standard input: a line of hexadecimal digits each, or bytes after their length.
+use ddcmp_messages::{Entry, HexLines, Lengths};
+use std::alloc::{AllocError, Global};
+use std::fmt;
+
+/// How messages are written on standard input and output.
+#[derive(Clone, Copy, Debug, PartialEq, Eq)]
+pub enum Form {
+    /// A line of hexadecimal digits for each.
+    Digits,
+    /// Each after its length as two bytes, high byte first.
+    Binary,
+}
+
+/// Why a part of the input is no message.
+#[derive(Clone, Copy, Debug, PartialEq, Eq)]
+pub(crate) enum Refusal {
+    NotHexadecimal,
+    /// It is longer than the longest, or in binary has no bytes.
+    TooLong,
+    /// The input ended in the middle of it.
+    Unfinished,
+}
+
+impl fmt::Display for Refusal {
+    fn fmt<W: fmt::Write>(&self, f: &mut fmt::Formatter<W>) -> fmt::Result {
+        f.write_str(match self {
+            Refusal::NotHexadecimal => "not hexadecimal",
+            Refusal::TooLong => "too long",
+            Refusal::Unfinished => "unfinished",
+        })
+    }
+}
+
+/// What a part of the input is.
+#[derive(Clone, Copy, Debug, PartialEq, Eq)]
+pub(crate) enum Part {
+    /// A message, which `Messages::message` has until more bytes are taken.
+    Message,
+    /// No message, at this line or message of the input, counted from 1.
+    Refused { at: u64, why: Refusal },
+}
+
+/// Reads messages, however the input is cut.
+#[derive(Drop)]
+pub(crate) enum Messages {
+    Digits(HexLines),
+    /// With how many messages were read.
+    Binary(Lengths, u64),
+}
+
+/// What a reader of messages met, at this line or message.
+fn part_of(entry: Entry, at: u64) -> Part {
+    match entry {
+        Entry::Message => Part::Message,
+        Entry::NotHexadecimal => Part::Refused {
+            at,
+            why: Refusal::NotHexadecimal,
+        },
+        Entry::TooLong => Part::Refused {
+            at,
+            why: Refusal::TooLong,
+        },
+    }
+}
+
+impl Messages {
+    /// A reader of messages of 1 to `max` bytes. It takes all the memory that it will need.
+    pub(crate) fn new(alloc: Global, form: Form, max: u16) -> Result<Messages, AllocError> {
+        match form {
+            Form::Digits => Ok(Messages::Digits(HexLines::new(alloc, max)?)),
+            Form::Binary => Ok(Messages::Binary(Lengths::new(alloc, max)?, 0)),
+        }
+    }
+
+    /// The message that was read last.
+    pub(crate) fn message(&self) -> &[u8] {
+        match self {
+            Messages::Digits(lines) => lines.message(),
+            Messages::Binary(lengths, _) => lengths.message(),
+        }
+    }
+
+    /// Takes bytes of the input up to the end of what is a message or is refused: how many it took,
+    /// and what that is; none where all were taken and more are wanted.
+    pub(crate) fn push(&mut self, bytes: &[u8]) -> (usize, Option<Part>) {
+        match self {
+            Messages::Digits(lines) => {
+                let pushed = lines.push_all(bytes);
+                let at = lines.number();
+                (pushed.used, pushed.entry.map(|entry| part_of(entry, at)))
+            }
+            Messages::Binary(lengths, count) => {
+                let pushed = lengths.push_all(bytes);
+                if pushed.entry.is_some() {
+                    *count = count.saturating_add(1);
+                }
+                let at = *count;
+                (pushed.used, pushed.entry.map(|entry| part_of(entry, at)))
+            }
+        }
+    }
+
+    /// The input has ended: what is left of it. A last line needs no LF.
+    pub(crate) fn finish(&mut self) -> Option<Part> {
+        match self {
+            Messages::Digits(lines) => {
+                let entry = lines.push(b'\n');
+                let at = lines.number();
+                entry.map(|entry| part_of(entry, at))
+            }
+            Messages::Binary(lengths, count) => {
+                if lengths.is_whole() {
+                    return None;
+                }
+                Some(Part::Refused {
+                    at: count.saturating_add(1),
+                    why: Refusal::Unfinished,
+                })
+            }
+        }
+    }
+}

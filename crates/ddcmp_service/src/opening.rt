@@ -1,0 +1,168 @@
+//! Opening the line that a name names.
+use crate::fault::{Attempt, NotOpened};
+use crate::line::Line;
+use crate::line_name::LineName;
+use crate::waiting::Waiting;
+use mio::net::{TcpListener, TcpStream, UdpSocket};
+use std::fs::{File, Files, OpenOptions};
+use std::io::{self, ErrorKind};
+use std::net::{self, Net, OpenListener, SocketAddr, ToSocketAddrs};
+use std::os::fd::AsRawFd;
+
+/// Opens a line, once or again and again.
+#[derive(Drop)]
+pub(crate) struct Opener<'a> {
+    name: LineName<'a>,
+    /// Who comes is taken here, once it listens.
+    listener: Option<TcpListener>,
+}
+
+/// A line, or whom to wait for.
+#[derive(Drop)]
+pub(crate) enum Opened {
+    Line(Line),
+    /// A line to whom has come.
+    Came(Line, SocketAddr),
+    /// Nobody has come yet.
+    NotYet,
+}
+
+impl<'a> Opener<'a> {
+    pub(crate) fn new(name: LineName<'a>) -> Opener<'a> {
+        Opener {
+            name,
+            listener: None,
+        }
+    }
+
+    /// Whether it takes one connection after the other.
+    pub(crate) fn is_listening(&self) -> bool {
+        self.listener.is_some()
+    }
+
+    /// What is said of an opening that failed.
+    fn fault(&self, error: &io::Error) -> NotOpened<'a> {
+        let (attempt, name) = match self.name {
+            LineName::Connect(name) => (Attempt::Connect, name),
+            LineName::Listen(name) => (Attempt::Listen, name),
+            LineName::Udp { local, .. } => (Attempt::Open, local),
+            LineName::Device(name) => (Attempt::Open, name),
+        };
+        NotOpened {
+            attempt,
+            name,
+            kind: error.kind(),
+        }
+    }
+
+    /// Listens, where the line is one of whoever comes: the address.
+    pub(crate) fn listen<N: Net<Stream = net::TcpStream, Listener = net::TcpListener>>(
+        &mut self,
+        net: &N,
+        waiting: &mut Waiting,
+    ) -> Result<Option<SocketAddr>, NotOpened<'a>> {
+        let LineName::Listen(name) = self.name else {
+            return Ok(None);
+        };
+        match listening(net, waiting, name) {
+            Ok((listener, addr)) => {
+                self.listener = Some(listener);
+                Ok(Some(addr))
+            }
+            Err(error) => Err(self.fault(&error)),
+        }
+    }
+
+    /// Opens the line, or takes who has come.
+    pub(crate) fn open<S>(
+        &mut self,
+        system: &S,
+        waiting: &mut Waiting,
+    ) -> Result<Opened, NotOpened<'a>>
+    where
+        S: Net<Stream = net::TcpStream, Listener = net::TcpListener> + Files<File = File>,
+    {
+        let opened = match self.name {
+            LineName::Connect(name) => connected(system, waiting, name),
+            LineName::Listen(_) => accepted(&self.listener, waiting),
+            LineName::Udp { local, remote } => bound(system, waiting, local, remote),
+            LineName::Device(path) => device(system, waiting, path),
+        };
+        match opened {
+            Ok(opened) => Ok(opened),
+            Err(error) => Err(self.fault(&error)),
+        }
+    }
+}
+
+/// A listener at an address, and which address it has.
+fn listening<N: Net<Stream = net::TcpStream, Listener = net::TcpListener>>(
+    net: &N,
+    waiting: &mut Waiting,
+    name: &str,
+) -> io::Result<(TcpListener, SocketAddr)> {
+    let listener = net::TcpListener::bind(net, name)?;
+    let addr = listener.local_addr()?;
+    listener.set_nonblocking(true)?;
+    let mut listener = TcpListener::from_std(listener);
+    waiting.add_listener(&mut listener)?;
+    Ok((listener, addr))
+}
+
+/// A connection as the line: it holds no bytes back to fill a packet.
+fn stream_line(waiting: &mut Waiting, mut stream: TcpStream) -> io::Result<Line> {
+    stream.set_nodelay(true)?;
+    waiting.add_socket(&mut stream)?;
+    Ok(Line::Stream(stream))
+}
+
+fn connected<N: Net<Stream = net::TcpStream>>(
+    net: &N,
+    waiting: &mut Waiting,
+    name: &str,
+) -> io::Result<Opened> {
+    let stream = net::TcpStream::connect(net, name)?;
+    stream.set_nonblocking(true)?;
+    let line = stream_line(waiting, TcpStream::from_std(stream))?;
+    Ok(Opened::Line(line))
+}
+
+fn accepted(listener: &Option<TcpListener>, waiting: &mut Waiting) -> io::Result<Opened> {
+    let Some(listener) = listener else {
+        return Ok(Opened::NotYet);
+    };
+    match listener.accept() {
+        Ok((stream, peer)) => Ok(Opened::Came(stream_line(waiting, stream)?, peer)),
+        Err(error) => match error.kind() {
+            ErrorKind::WouldBlock | ErrorKind::Interrupted | ErrorKind::ConnectionAborted => {
+                Ok(Opened::NotYet)
+            }
+            _ => Err(error),
+        },
+    }
+}
+
+/// The first address that a text names.
+fn address<N: Net>(net: &N, name: &str) -> io::Result<SocketAddr> {
+    for addr in name.to_socket_addrs(net)? {
+        return Ok(addr);
+    }
+    Err(io::Error::from(ErrorKind::InvalidInput))
+}
+
+fn bound<N: Net>(net: &N, waiting: &mut Waiting, local: &str, remote: &str) -> io::Result<Opened> {
+    let remote = address(net, remote)?;
+    let mut socket = UdpSocket::bind(net, address(net, local)?)?;
+    waiting.add_socket(&mut socket)?;
+    Ok(Opened::Line(Line::Datagrams(socket, remote)))
+}
+
+fn device<S: Files<File = File>>(
+    files: &S,
+    waiting: &mut Waiting,
+    path: &str,
+) -> io::Result<Opened> {
+    let file = OpenOptions::new().read(true).write(true).open(files, path)?;
+    waiting.add_device(file.as_raw_fd());
+    Ok(Opened::Line(Line::Device(file)))
+}

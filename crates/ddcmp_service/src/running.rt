@@ -1,0 +1,419 @@
+//! What stands between a link and the devices of a service, and the steps of its loop. Each step
+//! says whether it moved anything.
+ghost use Rattle.std.specs.Prelude.{◌≡◌, ◌≢◌, false};
+
+use crate::held::Held;
+use crate::line::{Line, Moved};
+use crate::messages::{Form, Messages, Part};
+use crate::report::Told;
+use crate::waiting::{Waiting, Wanted};
+use ddcmp_io::text::{write_hex, write_number};
+use ddcmp_io::{Got, Page, Sink, Source, Worst, write_all};
+use ddcmp_link::{Link, Notice};
+use ddcmp_station_text::{state_name, write_counters, write_notice};
+use std::alloc::{AllocError, Global};
+use std::io::Eprint;
+
+/// The bytes of standard input and of the line that are read at once.
+const PIECE: usize = 65536;
+
+/// The most bytes that standard output is given at once: a pipe that is told of has room for them.
+const OUTPUT_PIECE: usize = 4096;
+
+/// The most bytes of text that one message or notice can make.
+const MOST_TEXT: usize = 2 * 16383 + 64;
+
+/// Why a service stops.
+#[derive(Clone, Copy, Debug, PartialEq, Eq)]
+pub(crate) enum Stop {
+    /// The line has ended or failed, or the station was halted by what came.
+    Line,
+    Read,
+    Write,
+}
+
+/// The link of a service, with what waits between it and the devices.
+#[derive(Drop)]
+pub(crate) struct Desk {
+    pub(crate) link: Link,
+    form: Form,
+    messages: Messages,
+    /// What came of standard input and wasn't looked at.
+    typed: Held,
+    /// What came of the line and wasn't fed.
+    came: Held,
+    /// What standard output is to be given.
+    said: Held,
+    /// What standard error is to be given.
+    noted: Held,
+    mail: Vec<u8>,
+    pub(crate) input_is_over: bool,
+    /// Whether the input's last message was looked at.
+    input_is_read: bool,
+    /// Whether a part of the input was no message.
+    pub(crate) was_refused: bool,
+    /// Whether the line that is open has given a byte.
+    pub(crate) line_has_spoken: bool,
+}
+
+impl Desk {
+    /// Takes all the memory that it will need.
+    pub(crate) fn new(alloc: Global, link: Link, form: Form, max: u16) -> Result<Desk, AllocError> {
+        Ok(Desk {
+            link,
+            form,
+            messages: Messages::new(alloc, form, max)?,
+            typed: Held::new(alloc, PIECE)?,
+            came: Held::new(alloc, PIECE)?,
+            said: Held::new(alloc, PIECE + 2 * MOST_TEXT)?,
+            noted: Held::new(alloc, PIECE)?,
+            mail: Vec::from_elem(alloc, 0u8, max as usize)?,
+            input_is_over: false,
+            input_is_read: false,
+            was_refused: false,
+            line_has_spoken: false,
+        })
+    }
+
+    /// The input counts as ended.
+    pub(crate) fn end_input(&mut self) {
+        self.input_is_over = true;
+    }
+
+    /// What is to be waited for.
+    pub(crate) fn wanted(&self) -> Wanted {
+        Wanted {
+            input: self.wants_input(),
+            output: !self.said.is_empty(),
+            from_line: self.wants_line(),
+            to_line: !self.link.unsent().is_empty(),
+        }
+    }
+
+    fn wants_input(&self) -> bool {
+        !self.input_is_over && self.typed.is_empty() && self.link.has_room()
+    }
+
+    fn wants_line(&self) -> bool {
+        self.came.is_empty() && self.link.wants_line()
+    }
+
+    /// Whether all of the input was delivered.
+    pub(crate) fn is_done(&self) -> bool {
+        self.input_is_read && self.typed.is_empty() && self.link.is_delivered()
+    }
+
+    /// Reads standard input, where a message is wanted.
+    pub(crate) fn read_input<R: Source>(
+        &mut self,
+        reader: &mut R,
+        waiting: &mut Waiting,
+    ) -> Result<bool, Stop> {
+        if !self.wants_input() || !waiting.input.ready.to_read {
+            return Ok(false);
+        }
+        if reader.worst() == Worst::Failed {
+            return Err(Stop::Read);
+        }
+        waiting.input.has_read();
+        match reader.read(self.typed.space()) {
+            Got::Bytes(0) => self.input_is_over = true,
+            Got::Bytes(n) => self.typed.came(n),
+            Got::Idle => return Ok(false),
+            Got::Failed => return Err(Stop::Read),
+        }
+        Ok(true)
+    }
+
+    /// The next part of the input that is a message or refused.
+    fn next_part(&mut self) -> Option<Part> {
+        if !self.typed.is_empty() {
+            let (used, part) = self.messages.push(self.typed.rest());
+            self.typed.used(used);
+            return part;
+        }
+        if self.input_is_over && !self.input_is_read {
+            self.input_is_read = true;
+            return self.messages.finish();
+        }
+        None
+    }
+
+    /// Gives the station the messages that it has room for.
+    pub(crate) fn offer<E: Eprint>(&mut self, errors: &E) -> bool {
+        let mut moved = false;
+        for _message in 0..u64::MAX {
+            if !self.link.has_room() {
+                break;
+            }
+            match self.next_part() {
+                None => break,
+                Some(Part::Message) => {
+                    let _cant_be_refused = self.link.offer(self.messages.message());
+                }
+                Some(Part::Refused { at, why }) => {
+                    self.was_refused = true;
+                    let form = self.form;
+                    let _ = errors.eprintln(Told::Refused { form, at, why });
+                }
+            }
+            moved = true;
+        }
+        moved
+    }
+
+    /// Writes frames to the line, as far as it has room.
+    pub(crate) fn write_line(
+        &mut self,
+        line: &mut Line,
+        waiting: &mut Waiting,
+    ) -> Result<bool, Stop> {
+        if !line.is_of_datagrams() {
+            self.link.fill();
+        } else if self.link.unsent().is_empty() {
+            let _is_there = self.link.fill_one();
+        }
+        if self.link.unsent().is_empty() || !waiting.may_write_line() {
+            return Ok(false);
+        }
+        match line.write(waiting, self.link.unsent()) {
+            Moved::Bytes(n) => {
+                self.link.sent(n.min(self.link.unsent().len()));
+                Ok(true)
+            }
+            Moved::Nothing => Ok(false),
+            Moved::Ended => Err(Stop::Line),
+        }
+    }
+
+    /// Reads what the line has, where what came before was fed.
+    pub(crate) fn read_line(
+        &mut self,
+        line: &mut Line,
+        waiting: &mut Waiting,
+    ) -> Result<bool, Stop> {
+        if !self.wants_line() || !waiting.may_read_line() {
+            return Ok(false);
+        }
+        match line.read(waiting, &mut self.came) {
+            Moved::Bytes(_) => {
+                self.line_has_spoken = true;
+                Ok(true)
+            }
+            Moved::Nothing => Ok(false),
+            Moved::Ended => Err(Stop::Line),
+        }
+    }
+
+    /// Gives the station what came, as far as there is room for what it says of that.
+    pub(crate) fn feed(&mut self) -> Result<bool, Stop> {
+        let mut moved = false;
+        for _notice in 0..u64::MAX {
+            self.hand_mail();
+            if self.came.is_empty() || !self.link.wants_line() || !self.has_room_for_text() {
+                break;
+            }
+            let fed = self.link.feed(self.came.rest());
+            self.came.used(fed.used);
+            moved = true;
+            if let Some(notice) = fed.notice {
+                self.tell_notice(notice);
+                if notice == Notice::PeerRestarted {
+                    return Err(Stop::Line);
+                }
+            }
+        }
+        Ok(moved)
+    }
+
+    /// Whether what is said of a piece of the line has room.
+    fn has_room_for_text(&self) -> bool {
+        self.said.room() >= MOST_TEXT && self.noted.room() >= MOST_TEXT
+    }
+
+    /// Writes a line for a notice: with messages in binary to standard error.
+    fn tell_notice(&mut self, notice: Notice) {
+        let mut page = Page::new();
+        let lines = self.lines();
+        write_notice(&mut page, lines, b"", notice);
+        let _has_room = page.flush(lines);
+        if let Notice::Restarted(lost) = notice {
+            self.write_lost(lost);
+        }
+    }
+
+    /// Where notices go: with messages in binary to standard error.
+    fn lines(&mut self) -> &mut Held {
+        match self.form {
+            Form::Digits => &mut self.said,
+            Form::Binary => &mut self.noted,
+        }
+    }
+
+    /// Hands the mail out that standard output has room for.
+    pub(crate) fn hand_mail(&mut self) {
+        for _message in 0..u64::MAX {
+            self.said.settle();
+            if self.said.room() < MOST_TEXT {
+                break;
+            }
+            let mail = self.mail.as_mut_slice();
+            if mail.len() < self.link.config().max as usize {
+                break;
+            }
+            let Some(n) = self.link.take(mail) else {
+                break;
+            };
+            self.tell_mail(n);
+        }
+    }
+
+    /// Writes the mail that was taken.
+    fn tell_mail(&mut self, n: usize) {
+        let message = self.mail.as_slice().get(..n).unwrap_or(&[]);
+        match self.form {
+            Form::Digits => {
+                let mut page = Page::new();
+                page.write(&mut self.said, b"mail ");
+                write_hex(&mut page, &mut self.said, message);
+                page.write(&mut self.said, b"\n");
+                let _has_room = page.flush(&mut self.said);
+            }
+            Form::Binary => {
+                let length = u16::try_from(message.len()).unwrap_or(u16::MAX);
+                let _has_room = self.said.push(&length.to_be_bytes());
+                let _has_room = self.said.push(message);
+            }
+        }
+    }
+
+    /// Writes what standard output has room for.
+    pub(crate) fn write_output<W: Sink>(
+        &mut self,
+        writer: &mut W,
+        waiting: &mut Waiting,
+    ) -> Result<bool, Stop> {
+        if self.said.is_empty() || !waiting.output.ready.to_write {
+            return Ok(false);
+        }
+        waiting.output.has_written();
+        let rest = self.said.rest();
+        let piece = &rest[..rest.len().min(OUTPUT_PIECE)];
+        if piece.is_empty() {
+            return Ok(false);
+        }
+        if writer.failed() {
+            return Err(Stop::Write);
+        }
+        match writer.write(piece) {
+            Some(n) => {
+                self.said.used(n);
+                Ok(true)
+            }
+            None => Err(Stop::Write),
+        }
+    }
+
+    /// Writes to standard error what waits for it.
+    pub(crate) fn write_errors<E: Eprint>(&mut self, errors: &E) {
+        if let Ok(text) = str::from_utf8(self.noted.rest()) {
+            if !text.is_empty() {
+                let _ = errors.eprint(text);
+            }
+        }
+        self.noted.clear();
+    }
+
+    /// The line is no more: what came and wasn't fed is lost with it.
+    pub(crate) fn forget_line(&mut self) {
+        self.came.clear();
+        self.line_has_spoken = false;
+    }
+
+    /// Tells how many messages may not have arrived, where there are any.
+    pub(crate) fn tell_lost(&mut self) {
+        let lost = self.link.lost();
+        self.write_lost(lost);
+    }
+
+    fn write_lost(&mut self, lost: u8) {
+        if lost == 0 {
+            return;
+        }
+        let mut page = Page::new();
+        let lines = self.lines();
+        page.write(lines, b"lost ");
+        write_number(&mut page, lines, lost);
+        page.write(lines, b"\n");
+        let _has_room = page.flush(lines);
+    }
+
+    /// Hands all mail out, and writes it, however long standard output takes.
+    pub(crate) fn hand_all<W: Sink>(&mut self, writer: &mut W) -> Result<(), Stop> {
+        for _page in 0..u64::MAX {
+            self.hand_mail();
+            if self.said.is_empty() {
+                break;
+            }
+            write_whole(writer, self.said.rest())?;
+            self.said.clear();
+        }
+        Ok(())
+    }
+
+    /// Hands all mail out, and writes the last lines, however long standard output takes.
+    pub(crate) fn finish<W: Sink, E: Eprint>(
+        &mut self,
+        writer: &mut W,
+        errors: &E,
+        counters: bool,
+    ) -> Result<(), Stop> {
+        self.hand_all(writer)?;
+        self.tell_end(counters);
+        self.write_errors(errors);
+        write_whole(writer, self.said.rest())
+    }
+
+    /// The last lines.
+    fn tell_end(&mut self, counters: bool) {
+        match self.form {
+            Form::Digits => write_end(&mut self.said, &self.link, counters),
+            Form::Binary => write_end(&mut self.noted, &self.link, counters),
+        }
+    }
+}
+
+/// Writes the last lines.
+fn write_end(lines: &mut Held, link: &Link, counters: bool) {
+    let totals = link.totals();
+    let mut page = Page::new();
+    if counters {
+        write_counters(&mut page, lines, b"", link.counters());
+    }
+    page.write(lines, b"state=");
+    page.write(lines, state_name(link.state()));
+    let numbers: [(&[u8], u64); 5] = [
+        (b" read=", totals.read),
+        (b" written=", totals.written),
+        (b" sent=", totals.sent),
+        (b" acknowledged=", totals.acknowledged),
+        (b" handed=", totals.handed),
+    ];
+    for (name, number) in numbers {
+        page.write(lines, name);
+        write_number(&mut page, lines, number);
+    }
+    page.write(lines, b"\n");
+    let _has_room = page.flush(lines);
+}
+
+/// Writes bytes, however long that takes.
+fn write_whole<W: Sink>(writer: &mut W, bytes: &[u8]) -> Result<(), Stop> {
+    if writer.failed() {
+        return Err(Stop::Write);
+    }
+    match write_all(writer, bytes) {
+        Ok(()) => Ok(()),
+        Err(_failed) => Err(Stop::Write),
+    }
+}

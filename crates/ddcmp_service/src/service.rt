@@ -1,0 +1,307 @@
+//! A link over a line, from its opening to its end.
+ghost use Rattle.std.specs.Prelude.{◌≡◌, ◌↔◌, Err, IsTrue};
+
+use crate::fault::{NotOpened, ServiceFault};
+use crate::line::Line;
+use crate::line_name::LineName;
+use crate::messages::Form;
+use crate::opening::{Opened, Opener};
+use crate::report::Told;
+use crate::running::{Desk, Stop};
+use crate::waiting::{Waiting, Wanted};
+use ddcmp_io::{Sink, Source};
+use ddcmp_link::{Config, Link};
+use ddcmp_net::Elapsed;
+use ddcmp_station::Clock;
+use std::alloc::Global;
+use std::fs::{File, Files};
+use std::io::Eprint;
+use std::net::{self, Net};
+use std::time;
+
+/// How long an opening that failed waits before it is tried again, in milliseconds.
+const AGAIN_MS: u64 = 1000;
+
+/// How a service runs.
+#[derive(Clone, Copy, Debug, PartialEq, Eq)]
+pub struct Options<'a> {
+    pub line: LineName<'a>,
+    pub config: Config,
+    /// How long the station waits for an answer, in milliseconds.
+    pub timer_ms: u32,
+    pub form: Form,
+    /// Whether it goes on once all of the input was delivered.
+    pub stay: bool,
+    /// Whether it opens the line anew where that ends.
+    pub again: bool,
+    /// After how many seconds it ends as if the input did.
+    pub seconds: u32,
+    /// Whether counters are written before the last line.
+    pub counters: bool,
+}
+
+/// How a service ended that wasn't told to stop by a fault.
+#[derive(Clone, Copy, Debug, PartialEq, Eq)]
+pub enum Served {
+    /// All of the input was delivered.
+    Delivered,
+    /// All was delivered of it that was a message.
+    SomeRefused,
+}
+
+/// Why a service stopped before all was delivered.
+#[derive(Clone, Copy, Debug, PartialEq, Eq)]
+enum Ended<'a> {
+    Open(NotOpened<'a>),
+    Stopped(Stop),
+    Memory,
+}
+
+/// The moments of a service, in milliseconds since it began.
+#[derive(Clone, Copy, Debug, PartialEq, Eq)]
+struct Moments {
+    now: u64,
+    /// When it ends as if the input did.
+    end: u64,
+}
+
+impl Moments {
+    fn is_over(&self) -> bool {
+        self.end <= self.now
+    }
+
+    /// How long may be waited, where the station's timer runs out at this moment, if at any.
+    fn most(&self, deadline: Option<u64>) -> u64 {
+        let end = if self.is_over() { u64::MAX } else { self.end };
+        deadline.unwrap_or(end).min(end).saturating_sub(self.now)
+    }
+}
+
+/// Opens the line: none where the time was over first. A line that can't be opened is told, and
+/// tried again where that is asked for.
+fn open_line<'a, S>(
+    system: &S,
+    options: &Options<'a>,
+    opener: &mut Opener<'a>,
+    waiting: &mut Waiting,
+    clock: &mut Elapsed<'_, S>,
+    end: u64,
+    is_first: bool,
+) -> Result<Option<Line>, NotOpened<'a>>
+where
+    S: Net<Stream = net::TcpStream, Listener = net::TcpListener>
+        + Files<File = File>
+        + Eprint
+        + time::Clock,
+{
+    for _try in 0..u64::MAX {
+        let moments = Moments {
+            now: clock.now(),
+            end,
+        };
+        if moments.is_over() {
+            break;
+        }
+        let again = match opener.open(system, waiting) {
+            Ok(Opened::Line(line)) => return Ok(Some(line)),
+            Ok(Opened::Came(line, peer)) => {
+                let _ = system.eprintln(Told::Connected(peer));
+                return Ok(Some(line));
+            }
+            Ok(Opened::NotYet) => None,
+            Err(fault) if is_first || !options.again => return Err(fault),
+            Err(_fault) => Some(moments.now.saturating_add(AGAIN_MS)),
+        };
+        if !waiting.wait(Wanted::NOTHING, moments.most(again)) {
+            break;
+        }
+    }
+    Ok(None)
+}
+
+/// Runs the link over a line, until all is delivered.
+fn run_line<S, R: Source, W: Sink>(
+    system: &S,
+    options: &Options<'_>,
+    desk: &mut Desk,
+    line: &mut Line,
+    waiting: &mut Waiting,
+    clock: &mut Elapsed<'_, S>,
+    end: u64,
+    reader: &mut R,
+    writer: &mut W,
+) -> Result<(), Stop>
+where
+    S: Eprint + time::Clock,
+{
+    for _pass in 0..u64::MAX {
+        let moments = Moments {
+            now: clock.now(),
+            end,
+        };
+        desk.link.wake(moments.now);
+        if moments.is_over() {
+            desk.end_input();
+        }
+        let moved = pass(system, desk, line, waiting, reader, writer)?;
+        if desk.is_done() && !options.stay {
+            return Ok(());
+        }
+        if !moved && !waiting.wait(desk.wanted(), moments.most(desk.link.deadline())) {
+            return Err(Stop::Read);
+        }
+    }
+    Err(Stop::Read)
+}
+
+/// Moves what can be moved without waiting: whether anything was.
+fn pass<S: Eprint, R: Source, W: Sink>(
+    system: &S,
+    desk: &mut Desk,
+    line: &mut Line,
+    waiting: &mut Waiting,
+    reader: &mut R,
+    writer: &mut W,
+) -> Result<bool, Stop> {
+    let read = desk.read_input(reader, waiting)?;
+    let offered = desk.offer(system);
+    let sent = desk.write_line(line, waiting)?;
+    let came = desk.read_line(line, waiting)?;
+    let fed = desk.feed()?;
+    let written = desk.write_output(writer, waiting)?;
+    desk.write_errors(system);
+    Ok(read || offered || sent || came || fed || written)
+}
+
+/// Runs the link over one line after the other, until all is delivered or a line ends for good.
+fn run_lines<'a, S, R: Source, W: Sink>(
+    system: &S,
+    options: &Options<'a>,
+    desk: &mut Desk,
+    waiting: &mut Waiting,
+    reader: &mut R,
+    writer: &mut W,
+) -> Result<(), Ended<'a>>
+where
+    S: Net<Stream = net::TcpStream, Listener = net::TcpListener>
+        + Files<File = File>
+        + Eprint
+        + time::Clock,
+{
+    let mut opener = Opener::new(options.line);
+    match opener.listen(system, waiting) {
+        Ok(None) => {}
+        Ok(Some(addr)) => {
+            let _ = system.eprintln(Told::Listening(addr));
+        }
+        Err(fault) => return Err(Ended::Open(fault)),
+    }
+    let mut clock = Elapsed::new(system);
+    let end = options.seconds as u64 * 1000;
+    for opened in 0..u64::MAX {
+        let is_first = opened == 0;
+        let mut line = match open_line(
+            system,
+            options,
+            &mut opener,
+            waiting,
+            &mut clock,
+            end,
+            is_first,
+        ) {
+            Ok(Some(line)) => line,
+            Ok(None) => break,
+            Err(fault) => return Err(Ended::Open(fault)),
+        };
+        if desk.link.begin_anew().is_err() {
+            break;
+        }
+        let stop = match run_line(
+            system, options, desk, &mut line, waiting, &mut clock, end, reader, writer,
+        ) {
+            Ok(()) => return Ok(()),
+            Err(stop) => stop,
+        };
+        let goes_on = options.again || opener.is_listening() && !desk.line_has_spoken;
+        if stop != Stop::Line || !goes_on {
+            return Err(Ended::Stopped(stop));
+        }
+        desk.tell_lost();
+        desk.forget_line();
+        waiting.forget_line();
+        if desk.hand_all(writer).is_err() {
+            return Err(Ended::Stopped(Stop::Write));
+        }
+    }
+    Err(Ended::Stopped(Stop::Line))
+}
+
+/// Ends a service: the station is halted, and what is left to say is said.
+fn end<S: Eprint, W: Sink>(
+    system: &S,
+    options: &Options<'_>,
+    desk: &mut Desk,
+    writer: &mut W,
+    is_delivered: bool,
+) {
+    if !is_delivered {
+        desk.tell_lost();
+    }
+    desk.link.halt();
+    let _told_by_the_writer = desk.finish(writer, system, options.counters);
+}
+
+/// Runs a link between a line and standard input and output, which `reader` and `writer` read and
+/// write, until all of the input is delivered, or the line ends.
+pub fn serve_link<'a, S, R: Source, W: Sink>(
+    system: &S,
+    alloc: Global,
+    options: Options<'a>,
+    reader: &mut R,
+    writer: &mut W,
+) -> Result<Served, ServiceFault<'a>>
+where
+    S: Net<Stream = net::TcpStream, Listener = net::TcpListener>
+        + Files<File = File>
+        + Eprint
+        + time::Clock,
+    ensures broken { (result ≡ Err ServiceFault.Write) ↔ IsTrue (W.broken writer.new) }
+{
+    let made = make(system, alloc, &options);
+    let (desk, waiting) = match made {
+        Some(made) => made,
+        None => return fault_of(writer, Ended::Memory),
+    };
+    let (mut desk, mut waiting) = (desk, waiting);
+    let ended = run_lines(system, &options, &mut desk, &mut waiting, reader, writer);
+    end(system, &options, &mut desk, writer, ended.is_ok());
+    match ended {
+        Ok(()) if writer.failed() => Err(ServiceFault::Write),
+        Ok(()) if desk.was_refused => Ok(Served::SomeRefused),
+        Ok(()) => Ok(Served::Delivered),
+        Err(ended) => fault_of(writer, ended),
+    }
+}
+
+/// All that a service needs; none where memory, or what waits, is refused.
+fn make<N: Net>(net: &N, alloc: Global, options: &Options<'_>) -> Option<(Desk, Waiting)> {
+    let link = Link::new(alloc, options.config, options.timer_ms).ok()?;
+    let desk = Desk::new(alloc, link, options.form, options.config.max).ok()?;
+    let waiting = Waiting::new(net, alloc).ok()?;
+    Some((desk, waiting))
+}
+
+/// The fault of a service: that of the output first.
+fn fault_of<'a, W: Sink>(writer: &W, ended: Ended<'a>) -> Result<Served, ServiceFault<'a>>
+    ensures { (result ≡ Err ServiceFault.Write) ↔ IsTrue (W.broken writer.now) }
+{
+    if writer.failed() {
+        return Err(ServiceFault::Write);
+    }
+    Err(match ended {
+        Ended::Open(fault) => ServiceFault::Open(fault),
+        Ended::Stopped(Stop::Read) => ServiceFault::Read,
+        Ended::Stopped(Stop::Line | Stop::Write) => ServiceFault::Ended,
+        Ended::Memory => ServiceFault::Memory,
+    })
+}

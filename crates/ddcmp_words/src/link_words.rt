@@ -1,0 +1,114 @@
+//! The words of a link.
+ghost use Rattle.std.specs.Prelude.{◌≡◌, IfOk, codes, false};
+ghost use Rattle.clap.specs.Words.{app_of, first_value, found_of, new_app, one_text};
+ghost use Rattle.clap.specs.declared.builder.command.Command.TheViews.{out-Command as fields_of};
+ghost use Rattle.ddcmp_words.specs.Words.{HasLink, link_app, line_app};
+
+use crate::command::{
+    flag, flag_given, number, number_given, sizes_given, text, text_given, with_sizes,
+};
+use crate::linked::Linked;
+use clap::ArgMatches;
+use std::alloc::{AllocError, Global};
+
+/// What a link reads and writes, for a newcomer.
+fn link_help() -> &'static str {
+    "\
+LINE is one of:
+  connect:HOST:PORT      a TCP connection to there
+  listen:HOST:PORT       a TCP connection from whoever comes first
+  udp:LOCAL,REMOTE       each frame a datagram from the one address to the other
+  device:PATH            a serial device that is set up already
+What is read: a message in hexadecimal digits in each line of standard input.
+What is written, as it happens:
+  notice N               a notice of the station, as Running or Acknowledged 1
+  mail HEX               a message that came
+  lost N                 messages that were accepted and may not have arrived
+  state=S read=R written=W sent=M acknowledged=K handed=H
+                         at the end: the state, bytes of the line, messages
+With --binary messages are bytes after their length in two, high byte first, and the
+rest goes to standard error."
+}
+
+/// `link` with the name of its line alone.
+fn line_command<'a>(alloc: Global) -> Result<clap::Command<'a>, AllocError>
+    ensures app { IfOk result (λ made. app_of made ≡ line_app) }
+    ensures local { IfOk result (λ made. (fields_of made).has_globals ≡ false) }
+{
+    bare_command(alloc).arg(text(
+        alloc,
+        "line",
+        "LINE",
+        "The line of the station, as connect:127.0.0.1:7000",
+    )
+    .required(true))
+}
+
+/// `link` without its options.
+fn bare_command<'a>(alloc: Global) -> clap::Command<'a>
+    ensures app { app_of result ≡ new_app (codes "link") }
+    ensures local { (fields_of result).has_globals ≡ false }
+{
+    clap::Command::new(alloc, "link")
+        .about("Runs a station over a line: messages from standard input, mail to standard output")
+        .after_help(link_help())
+}
+
+/// The options of a link.
+pub(crate) fn link_parser<'a>(alloc: Global) -> Result<clap::Command<'a>, AllocError>
+    ensures app { IfOk result (λ made. app_of made ≡ link_app) }
+    ensures local { IfOk result (λ made. (fields_of made).has_globals ≡ false) }
+{
+    with_sizes(alloc, line_command(alloc)?)?
+        .arg(number(
+            alloc,
+            "timer-ms",
+            0,
+            u32::MAX,
+            "How long it waits for an answer before it asks again; 3000 by default",
+        ))?
+        .arg(number(
+            alloc,
+            "seconds",
+            1,
+            u32::MAX,
+            "End after so many seconds as if standard input had ended",
+        ))?
+        .arg(flag(
+            alloc,
+            "binary",
+            "Messages are bytes after their length, not digits",
+        ))?
+        .arg(flag(
+            alloc,
+            "stay",
+            "Go on once all of standard input was delivered",
+        ))?
+        .arg(flag(
+            alloc,
+            "again",
+            "Open the line anew where it ends, and start anew",
+        ))?
+        .arg(flag(
+            alloc,
+            "counters",
+            "Write what the station has counted, before the last line",
+        ))
+}
+
+/// The link that was asked for.
+pub(crate) fn link_given<'a>(options: &ArgMatches<'a>) -> Linked<'a>
+    ensures { HasLink (one_text (found_of options.now)) (first_value (found_of options.now))
+        result }
+{
+    Linked {
+        line: text_given(options, "line"),
+        config: sizes_given(options),
+        timer_ms: number_given(options, "timer-ms", 0, u32::MAX, 3000),
+        seconds: number_given(options, "seconds", 1, u32::MAX, u32::MAX),
+        binary: flag_given(options, "binary"),
+        stay: flag_given(options, "stay"),
+        again: flag_given(options, "again"),
+        counters: flag_given(options, "counters"),
+    }
+}
