@@ -18,6 +18,7 @@ pub use ddcmp_explain::{
 };
 pub use ddcmp_pump::{TapFault, tap_fault};
 pub use ddcmp_serve::{SERVED_MAX, ServeFault, serve, serve_fault, serving};
+pub use ddcmp_service::{Options, Served as LinkServed, ServiceFault};
 pub use ddcmp_words::{
     Command, Declined, Linked, Role, Served, Tapped, View, command, declined, linked, read_words,
     served, tapped, view,
@@ -25,6 +26,7 @@ pub use ddcmp_words::{
 pub use ending::Ending;
 pub use fault::Fault;
 pub use inputs::{Inputs, OpenFault};
+pub use linking::Lines;
 pub use program::{
     explain_is_asked, link_is_asked, pair_is_asked, run, run_args, simulate_is_asked,
     station_is_asked, tap_is_asked,

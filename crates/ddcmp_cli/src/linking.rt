@@ -9,10 +9,6 @@ use ddcmp_io::{Sink, Source};
 use ddcmp_service::{Form, LineName, NotOpened, Options, Served, ServiceFault, serve_link};
 use ddcmp_words::Linked;
 use std::alloc::Global;
-use std::fs::{File, Files};
-use std::io::Eprint;
-use std::net::{Net, TcpListener, TcpStream};
-use std::time;
 
 /// What is told where the word for the line is another.
 const NO_LINE: &str = "\
@@ -50,16 +46,43 @@ fn no_line(alloc: Global, fault: &NotOpened<'_>) -> Ending
     }
 }
 
+/// A system that lines of links are opened on.
+pub trait Lines {
+    ghost use Rattle.std.specs.Prelude.{◌≡◌, ◌↔◌, Err, IsTrue};
+    ghost use Rattle.ddcmp_service.specs.declared.fault.ServiceFault.TheVariants.{Write};
+
+    /// Opens a line and runs a link over it, between standard input and output, which `reader` and
+    /// `writer` read and write.
+    fn serve_line<'a, R: Source, W: Sink>(
+        &self,
+        alloc: Global,
+        options: Options<'a>,
+        reader: &mut R,
+        writer: &mut W,
+    ) -> Result<Served, ServiceFault<'a>>
+        ensures broken { (result ≡ Err Write) ↔ IsTrue (W.broken writer.new) };
+}
+
+impl Lines for HostRuntime {
+    fn serve_line<'a, R: Source, W: Sink>(
+        &self,
+        alloc: Global,
+        options: Options<'a>,
+        reader: &mut R,
+        writer: &mut W,
+    ) -> Result<Served, ServiceFault<'a>> {
+        serve_link(self, alloc, options, reader, writer)
+    }
+}
+
 /// Runs a link until all of standard input is delivered, or its line ends.
-pub(crate) fn link<S, R: Source, W: Sink>(
+pub(crate) fn link<S: Lines, R: Source, W: Sink>(
     system: &S,
     alloc: Global,
     linked: &Linked<'_>,
     reader: &mut R,
     writer: &mut W,
 ) -> Ending
-where
-    S: Net<Stream = TcpStream, Listener = TcpListener> + Files<File = File> + Eprint + time::Clock,
     requires whole { W.broken writer.old ≡ false }
     ensures ending { IsLinkEnding result }
     ensures write { (result ≡ Ending.Fault Fault.Write) ↔ IsTrue (W.broken writer.new) }
@@ -67,7 +90,7 @@ where
     let Some(line) = LineName::read(linked.line) else {
         return usage(alloc, NO_LINE);
     };
-    match serve_link(system, alloc, options_of(linked, line), reader, writer) {
+    match system.serve_line(alloc, options_of(linked, line), reader, writer) {
         Ok(Served::Delivered) => Ending::Done,
         Ok(Served::SomeRefused) => Ending::SomeRefused,
         Err(ServiceFault::Open(fault)) => no_line(alloc, &fault),

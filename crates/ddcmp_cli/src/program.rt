@@ -17,7 +17,7 @@ use crate::ending::Ending;
 use crate::explain_input::{explain_file, explain_typed};
 use crate::fault::Fault;
 use crate::inputs::Inputs;
-use crate::linking::link;
+use crate::linking::{Lines, link};
 use crate::stationing::station;
 use crate::tapping::tap;
 use ddcmp_io::{Sink, Source, Worst, write_all};
@@ -27,25 +27,18 @@ pub use ddcmp_words::{
     tap_is_asked,
 };
 use std::alloc::{AllocError, Global};
-use std::fs::{File, Files};
-use std::io::{Eprint, ErrorKind};
-use std::net::{Net, TcpListener, TcpStream};
+use std::io::ErrorKind;
+use std::net::{Net, TcpStream};
 use std::{io, time};
 
 /// Runs a command.
-fn perform<S, R: Source, W: Sink>(
+fn perform<S: Net<Stream = TcpStream> + time::Clock + Inputs + Lines, R: Source, W: Sink>(
     system: &S,
     alloc: Global,
     command: Command<'_>,
     reader: &mut R,
     writer: &mut W,
 ) -> Ending
-where
-    S: Net<Stream = TcpStream, Listener = TcpListener>
-        + Files<File = File>
-        + Eprint
-        + time::Clock
-        + Inputs,
     requires fine { R.state reader.old ≡ Worst.Fine }
     requires whole { W.broken writer.old ≡ false }
     requires runs { CanRun command }
@@ -106,19 +99,13 @@ fn show<W: Sink>(writer: &mut W, text: &str) -> Ending
 
 /// Runs the command that the words ask for, from the input to the output. The first word is the
 /// program's name; `system` opens files and a station's connection, and tells the time.
-pub fn run<S, R: Source, W: Sink>(
+pub fn run<S: Net<Stream = TcpStream> + time::Clock + Inputs + Lines, R: Source, W: Sink>(
     system: &S,
     alloc: Global,
     words: &[&str],
     reader: &mut R,
     writer: &mut W,
 ) -> Ending
-where
-    S: Net<Stream = TcpStream, Listener = TcpListener>
-        + Files<File = File>
-        + Eprint
-        + time::Clock
-        + Inputs,
     requires fine { R.state reader.old ≡ Worst.Fine }
     requires whole { W.broken writer.old ≡ false }
     ensures explains { (input : List ℕ) → R.left reader.old ≡ Some input
@@ -177,19 +164,13 @@ fn texts(alloc: Global, args: &[String]) -> Result<Vec<&str>, AllocError>
 
 /// Runs the command that the words ask for, as the system gives them: they may be no text, or
 /// have found no memory.
-pub fn run_args<S, R: Source, W: Sink>(
+pub fn run_args<S: Net<Stream = TcpStream> + time::Clock + Inputs + Lines, R: Source, W: Sink>(
     system: &S,
     alloc: Global,
     args: io::Result<Vec<String>>,
     reader: &mut R,
     writer: &mut W,
 ) -> Ending
-where
-    S: Net<Stream = TcpStream, Listener = TcpListener>
-        + Files<File = File>
-        + Eprint
-        + time::Clock
-        + Inputs,
     requires fine { R.state reader.old ≡ Worst.Fine }
     requires whole { W.broken writer.old ≡ false }
     ensures explains { (input : List ℕ) → R.left reader.old ≡ Some input

@@ -1,8 +1,10 @@
 // Scripts that the program runs where a write fails, or the connection of `pair` can't be made or
 // fails. What they write else is the matter of `worked_commands`.
 use crate::same::is;
-use ddcmp_cli::{Ending, Fault, Inputs, OpenFault, run};
+use ddcmp_cli::{Ending, Fault, Inputs, Lines, LinkServed, OpenFault, Options, ServiceFault, run};
 use ddcmp_frame::failing::{Pieces, Taken};
+use ddcmp_frame::{Sink, Source};
+use std::alloc::Global;
 use std::io::{self, ErrorKind};
 use std::net::{Net, Shutdown, SocketAddr, TcpListener, TcpStream};
 use std::process::Abort;
@@ -11,7 +13,7 @@ use std::time::{Clock, Duration};
 /// What a script ends as on a system, and what it wrote.
 fn played(
     rt: &impl AllocGlobal,
-    system: &(impl Net<Stream = TcpStream> + Clock + Inputs),
+    system: &(impl Net<Stream = TcpStream> + Clock + Inputs + Lines),
     words: &[&str],
     input: &[u8],
     fails_at: usize,
@@ -94,6 +96,18 @@ impl<S: Inputs> Inputs for Poor<'_, S> {
     }
 }
 
+impl<S: Lines> Lines for Poor<'_, S> {
+    fn serve_line<'a, R: Source, W: Sink>(
+        &self,
+        alloc: Global,
+        options: Options<'a>,
+        reader: &mut R,
+        writer: &mut W,
+    ) -> Result<LinkServed, ServiceFault<'a>> {
+        self.system.serve_line(alloc, options, reader, writer)
+    }
+}
+
 impl<S: Clock> Clock for Poor<'_, S> {
     fn monotonic(&self) -> io::Result<Duration> {
         self.system.monotonic()
@@ -120,7 +134,8 @@ fn lacks_a_carrier(
         + AllocGlobal
         + Net<Stream = TcpStream, Listener = TcpListener>
         + Clock
-        + Inputs),
+        + Inputs
+        + Lines),
     lacks: Lacks,
     text: &[u8],
 ) {
