@@ -1,12 +1,13 @@
-use Rattle.std.proofs.Common.{◌≡◌, ◌∙◌, ap, subst, List, ℕ, map, string_bytes, codes, None, Err, ◌≢◌, refl, IsTrue}
+use Rattle.std.proofs.Common.{Bool, true, ◌≡◌, ◌∙◌, ap, subst, List, ℕ, map, string_bytes, codes, None, Err, ◌≢◌, refl, IsTrue}
 use Rattle.std.proofs.KnownBytes.{Keeps-refl}
 use Rattle.ddcmp_words.specs.declared.declined.Declined.TheVariants.{Memory}
-use Rattle.ddcmp_words.specs.Words.{IsAsked, file_of, text_in}
+use Rattle.ddcmp_words.specs.Words.{Asks, IsAsked, file_of, text_in}
 use Rattle.ddcmp_cli.specs.Endings.{Ends, ExplainsOrNoMemory, StationsOrNoMemory}
 use Rattle.ddcmp_cli.specs.TapEndings.{Taps}
 use Rattle.ddcmp_cli.specs.LinkEndings.{IsLinkEnding}
 use Rattle.ddcmp_cli.specs.declared.ending.Ending.TheVariants.{Fault as Faulted}
-use Rattle.ddcmp_cli.specs.declared.fault.Fault.TheVariants.{Write}
+use Rattle.ddcmp_cli.specs.declared.fault.Fault.TheVariants.{Read, Write}
+use Rattle.ddcmp_io.specs.declared.device.Worst.TheVariants.{Fine}
 use Rattle.ddcmp_cli.proofs.program.run_args.Goals as goal
 
 pub returns-clause-explains : goal.returns-clause-explains
@@ -46,3 +47,9 @@ returns-clause-links g c = rw (c.in-Ok.is)
     (subst (λ (ws : List (List ℕ)). IsAsked ws (codes "link") → IsLinkEnding c.run.result)
     (ap (map (λ word. word.now)) c.as_slice-2.ensures.value ∙ c.in-Ok-texts.ensures ∙ ap (map string_bytes) c.as_slice.ensures.value)
     c.run.ensures.links)
+
+pub returns-clause-read : goal.returns-clause-read
+returns-clause-read g c = rw (c.in-Ok.is)
+    (subst (λ (ws : List (List ℕ)). (Asks ws (codes "link") × (◌≡◌ {A = Bool} true true) → ⊥) → g.R.Source.state c.run.new.reader ≢ Fine → c.run.result ≡ Faulted Read)
+    (ap (map (λ word. word.now)) c.as_slice-2.ensures.value ∙ c.in-Ok-texts.ensures ∙ ap (map string_bytes) c.as_slice.ensures.value)
+    (λ no e. c.run.ensures.read (λ asks. no (asks, refl)) e))
