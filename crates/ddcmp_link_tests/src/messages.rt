@@ -35,6 +35,23 @@ fn lines_of_digits(rt: HostRuntime) {
 }
 
 #[test]
+fn lines_that_end_with_cr(rt: HostRuntime) {
+    assert!(&rt; entry_of(&rt, b"00fF7a\r\n") == Some(Entry::Message));
+    assert!(&rt; entry_of(&rt, b"00f\r\n") == Some(Entry::NotHexadecimal));
+    assert!(&rt; entry_of(&rt, b"\r\n") == None);
+    assert!(&rt; entry_of(&rt, b"00\rfF\n") == Some(Entry::NotHexadecimal));
+    assert!(&rt; entry_of(&rt, b"\r00\n") == Some(Entry::NotHexadecimal));
+    assert!(&rt; entry_of(&rt, b"00\r\r\n") == Some(Entry::NotHexadecimal));
+    let mut lines = lines(&rt);
+    assert!(&rt; lines.push_all(b"6162\r").entry == None);
+    assert!(&rt; lines.push(b'\n') == Some(Entry::Message));
+    assert!(&rt; lines.message() == &b"ab"[..]);
+    assert!(&rt; lines.push_all(b"63\r\n").entry == Some(Entry::Message));
+    assert!(&rt; lines.message() == &b"c"[..]);
+    assert!(&rt; lines.number() == 2);
+}
+
+#[test]
 fn lines_are_counted(rt: HostRuntime) {
     let mut lines = lines(&rt);
     let first = lines.push_all(b"\n616263\nx\n62");

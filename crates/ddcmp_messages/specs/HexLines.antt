@@ -6,13 +6,15 @@ use Rattle.ddcmp_messages.specs.declared.entry.Entry.{Entry}
 use Rattle.ddcmp_messages.specs.declared.entry.Entry.TheVariants.{Message, NotHexadecimal, TooLong}
 
 -- The longest message; the number of the line, from 1; a digit whose second one is to come; why the
--- line is none; whether it is over; and the bytes that its digits spell.
+-- line is none; whether it is over; whether a carriage return came last, which a line feed takes with
+-- it; and the bytes that its digits spell.
 pub record HexView : Type 0 where
   pub max : ℕ
   pub number : ℕ
   pub high : Option ℕ
   pub refused : Option Entry
   pub ended : Bool
+  pub returned : Bool
   pub message : List ℕ
 
 abbrev pub begun : ℕ → HexView
@@ -22,6 +24,7 @@ begun max = record {
   high = None;
   refused = None;
   ended = false;
+  returned = false;
   message = [];
 }
 
@@ -32,6 +35,7 @@ line_begun v = record {
   high = None;
   refused = None;
   ended = false;
+  returned = false;
   message = [];
 }
 
@@ -87,8 +91,15 @@ entry_of_line v = entry_of_line_in v.refused v
 abbrev pub in_line : HexView → HexView
 in_line v = if v.ended then line_begun v else v
 
+-- a carriage return that no line feed follows is a character of its line
+abbrev pub return_taken : HexView → HexView
+return_taken v = if v.returned then after_digit 13 (record v { returned = false }) else v
+
 abbrev pub after_byte : ℕ → HexView → HexView
-after_byte byte v = if byte == 10 then line_ended (in_line v) else after_digit byte (in_line v)
+after_byte byte v =
+    if byte == 10 then line_ended (in_line v)
+    else if byte == 13 then record (return_taken (in_line v)) { returned = true }
+    else after_digit byte (return_taken (in_line v))
 
 abbrev pub entry_of_byte : ℕ → HexView → Option Entry
 entry_of_byte byte v = if byte == 10 then entry_of_line (in_line v) else None

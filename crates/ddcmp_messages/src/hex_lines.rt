@@ -7,6 +7,7 @@ use std::alloc::{AllocError, Global};
 use std::marker::Model;
 
 /// Takes messages of an input that has each in a line of hexadecimal digits. An empty line is none.
+/// A line ends with LF, or with CR LF.
 #[derive(Drop)]
 pub struct HexLines {
     max: u16,
@@ -18,6 +19,8 @@ pub struct HexLines {
     refused: Option<Entry>,
     /// The line is over.
     ended: bool,
+    /// A carriage return came last: part of the line's end if a line feed follows.
+    returned: bool,
     message: Vec<u8>,
 }
 
@@ -33,6 +36,7 @@ impl Model for HexLines {
       high = h.high;
       refused = h.refused;
       ended = h.ended;
+      returned = h.returned;
       message = h.message.items;
     } };
 
@@ -41,7 +45,7 @@ impl Model for HexLines {
 
 impl HexLines {
     ghost use Rattle.std.specs.Prelude.{◌≡◌, ◌+◌, ◌<◌, ◌≤◌, ℕ, [], Some, IfOk, None, length, take, option_to_list};
-    ghost use Rattle.ddcmp_messages.specs.HexLines.{begun, line_begun, after_digit, line_ended, entry_of_line, after_byte, entry_of_byte, after_bytes, entries_of_bytes};
+    ghost use Rattle.ddcmp_messages.specs.HexLines.{begun, line_begun, after_digit, return_taken, line_ended, entry_of_line, after_byte, entry_of_byte, after_bytes, entries_of_bytes};
 
     /// Nothing has come. It takes all the memory that it will need.
     pub fn new(alloc: Global, max: u16) -> Result<HexLines, AllocError>
@@ -53,6 +57,7 @@ impl HexLines {
             high: None,
             refused: None,
             ended: false,
+            returned: false,
             message: Vec::with_capacity(alloc, max as usize)?,
         })
     }
@@ -68,7 +73,12 @@ impl HexLines {
         if byte == b'\n' {
             return self.end_line();
         }
-        self.take_digit(byte);
+        self.take_return();
+        if byte == b'\r' {
+            self.returned = true;
+        } else {
+            self.take_digit(byte);
+        }
         None
     }
 
@@ -79,6 +89,7 @@ impl HexLines {
         self.high = None;
         self.refused = None;
         self.ended = false;
+        self.returned = false;
         self.message.clear();
     }
 
@@ -97,6 +108,16 @@ impl HexLines {
             return None;
         }
         Some(Entry::Message)
+    }
+
+    /// A carriage return that no line feed follows is a character of the line.
+    fn take_return(&mut self)
+        ensures { self.new ≡ return_taken self.old }
+    {
+        if self.returned {
+            self.returned = false;
+            self.take_digit(b'\r');
+        }
     }
 
     fn take_digit(&mut self, digit: u8)
