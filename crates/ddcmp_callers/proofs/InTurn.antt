@@ -15,25 +15,25 @@ use Rattle.ddcmp_callers.proofs.Turning.{at_end, Went, went_on, frame_written}
 
 -- ---- calls of one end
 
-abbrev at_one : End → List Call → List (End × Call)
+abbrev pub at_one : End → List Call → List (End × Call)
 at_one end calls = map (λ c. (end, c)) calls
 
-own_a : (calls : List Call) (rest : List (End × Call)) → calls_at A (at_one A calls ++ rest) ≡ calls ++ calls_at A rest
+pub own_a : (calls : List Call) (rest : List (End × Call)) → calls_at A (at_one A calls ++ rest) ≡ calls ++ calls_at A rest
 unfolding calls_at
 own_a [] rest = refl
 own_a (c ∷ calls) rest = ap (λ y. c ∷ y) (own_a calls rest)
 
-own_b : (calls : List Call) (rest : List (End × Call)) → calls_at B (at_one B calls ++ rest) ≡ calls ++ calls_at B rest
+pub own_b : (calls : List Call) (rest : List (End × Call)) → calls_at B (at_one B calls ++ rest) ≡ calls ++ calls_at B rest
 unfolding calls_at
 own_b [] rest = refl
 own_b (c ∷ calls) rest = ap (λ y. c ∷ y) (own_b calls rest)
 
-other_a : (calls : List Call) (rest : List (End × Call)) → calls_at A (at_one B calls ++ rest) ≡ calls_at A rest
+pub other_a : (calls : List Call) (rest : List (End × Call)) → calls_at A (at_one B calls ++ rest) ≡ calls_at A rest
 unfolding calls_at
 other_a [] rest = refl
 other_a (c ∷ calls) rest = other_a calls rest
 
-other_b : (calls : List Call) (rest : List (End × Call)) → calls_at B (at_one A calls ++ rest) ≡ calls_at B rest
+pub other_b : (calls : List Call) (rest : List (End × Call)) → calls_at B (at_one A calls ++ rest) ≡ calls_at B rest
 unfolding calls_at
 other_b [] rest = refl
 other_b (c ∷ calls) rest = other_b calls rest
@@ -43,7 +43,7 @@ other_b (c ∷ calls) rest = other_b calls rest
 begins_same : (a : List ℕ) → Begins a a
 begins_same a = ([], append-nil a)
 
-begins_more : (a b c : List ℕ) → Begins a b → Begins b c → Begins a c
+pub begins_more : (a b c : List ℕ) → Begins a b → Begins b c → Begins a c
 begins_more a b c p q = (p.0 ++ q.0, sym (append_assoc a p.0 q.0) ∙ ap (λ x. x ++ q.0) p.1 ∙ q.1)
 
 call_reads : (c : Call) (x : EndState) → Begins x.arrived (after_call_here c x).arrived
@@ -94,7 +94,7 @@ calls_syn (c ∷ rest) x = calls_syn rest (after_call_here c x) ∙ call_syn c x
 abbrev with_a : EndState → PairState → PairState
 with_a x p = record p { a = x }
 
-over_a : (calls : List Call) (rest : List (End × Call)) (p : PairState) → Begins (after_calls_here calls p.a).arrived (written p.b) → Begins p.b.arrived (written p.a)
+pub over_a : (calls : List Call) (rest : List (End × Call)) (p : PairState) → Begins (after_calls_here calls p.a).arrived (written p.b) → Begins p.b.arrived (written p.a)
     → ((q : PairState) → q.a ≡ after_calls_here calls p.a → q.b ≡ p.b → IsFaithful q → OverStreams rest q) → IsFaithful p → OverStreams (at_one A calls ++ rest) p
 unfolding after_calls_here
 over_a [] rest p to_a to_b more f = more p refl refl f
@@ -106,7 +106,7 @@ over_a (c ∷ calls) rest p to_a to_b more f =
     } in
     (g, over_a calls rest q to_a g.to_b more g)
 
-over_b : (calls : List Call) (rest : List (End × Call)) (p : PairState) → Begins (after_calls_here calls p.b).arrived (written p.a) → Begins p.a.arrived (written p.b)
+pub over_b : (calls : List Call) (rest : List (End × Call)) (p : PairState) → Begins (after_calls_here calls p.b).arrived (written p.a) → Begins p.a.arrived (written p.b)
     → ((q : PairState) → q.b ≡ after_calls_here calls p.b → q.a ≡ p.a → IsFaithful q → OverStreams rest q) → IsFaithful p → OverStreams (at_one B calls ++ rest) p
 unfolding after_calls_here
 over_b [] rest p to_b to_a more f = more p refl refl f

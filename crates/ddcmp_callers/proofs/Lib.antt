@@ -8,3 +8,5 @@ pub mod Delivery
 pub mod Streaming
 pub mod InTurn
 pub mod Serving
+pub mod LinkCalls
+pub mod TwoLinks

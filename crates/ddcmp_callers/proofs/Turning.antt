@@ -38,7 +38,7 @@ frame_written fill sent (Some f) = bytes_more fill sent (whole_frame f)
 
 -- ---- the parts of a turn
 
-timer_done : (now : ℕ) (deadline : Option ℕ) (x : EndState) → after_calls_here (calls_of_timer now deadline x.core) x ≡ record x { core = core_at_deadline now deadline x.core }
+pub timer_done : (now : ℕ) (deadline : Option ℕ) (x : EndState) → after_calls_here (calls_of_timer now deadline x.core) x ≡ record x { core = core_at_deadline now deadline x.core }
 unfolding after_calls_here
 timer_done now deadline x = by (is_on x.core.station.timer && is_due now deadline)
   where

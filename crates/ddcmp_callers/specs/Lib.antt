@@ -2,3 +2,4 @@ pub mod Calls
 pub mod Driven
 pub mod Served
 pub mod Streams
+pub mod Links

@@ -1,8 +1,9 @@
-//! The promise for whoever calls two stations: any calls, the turns of `drive`, and two driven
-//! stations over streams. Functions that do nothing, whose contracts are the laws.
+//! The promise for whoever calls two stations: any calls, the turns of `drive`, two driven stations
+//! over streams, and two links. Functions that do nothing, whose contracts are the laws.
 #![tactic(auto)]
 
 pub mod calls;
+pub mod links;
 pub mod served;
 pub mod streams;
 pub mod turns;
