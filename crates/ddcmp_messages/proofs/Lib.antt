@@ -1,2 +1,5 @@
 pub mod LengthsLaws
 pub mod HexLinesLaws
+pub mod BinaryLaws
+pub mod LineLaws
+pub mod SpellingLaws

@@ -1,2 +1,5 @@
 pub mod Lengths
 pub mod HexLines
+pub mod Told
+pub mod InBinary
+pub mod InLines
