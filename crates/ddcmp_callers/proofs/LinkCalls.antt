@@ -5,15 +5,13 @@ use Rattle.std.proofs.lemmas.List.{take-append-drop}
 use Rattle.ddcmp_frame.specs.Reader.{ReaderView}
 use Rattle.ddcmp_core.specs.Store.{first_message}
 use Rattle.ddcmp_core.specs.Table.{Frame, is_on, may_send, after_accept, after_halt}
-use Rattle.ddcmp_proto.specs.Bytes.{after_poll}
 use Rattle.ddcmp_proto.specs.declared.config.Config.{Config}
-use Rattle.ddcmp_station.specs.Driving.{deadline_at, is_due, core_after_take_arm, core_at_deadline, frame_bytes}
+use Rattle.ddcmp_station.specs.Driving.{deadline_at, is_due, core_after_take_arm, frame_bytes}
 use Rattle.ddcmp_link.specs.Linking.{LinkView, total_plus, with_state, started, anew, after_wake, after_offered, polls, frame_of_link, bytes_of as bytes_put, after_polled, after_frame, after_sent, after_taking}
 use Rattle.ddcmp_run.specs.Place.{WholeFrame}
-use Rattle.ddcmp_run.specs.Run.{EndState, with_station, new_end, after_start_here, after_halt_here, after_send_here, after_poll_here, after_arrival_here, after_take_here}
-use Rattle.ddcmp_laws.specs.Faithful.{bytes_of, written}
-use Rattle.ddcmp_callers.specs.Calls.{Call, Send, Poll, Expire, Arm, after_arm_here, after_call_here, after_calls_here}
-use Rattle.ddcmp_callers.specs.Driven.{calls_of_timer}
+use Rattle.ddcmp_run.specs.Run.{EndState, with_station, new_end, after_start_here, after_halt_here, after_poll_here, after_arrival_here}
+use Rattle.ddcmp_laws.specs.Faithful.{bytes_of}
+use Rattle.ddcmp_callers.specs.Calls.{Call, Poll, Expire, after_arm_here, after_calls_here}
 use Rattle.ddcmp_callers.specs.Links.{LinkCall, Starts, BeginsAnew, Halts, Wakes, Offers, FillsOne, IsSent, Feeds, Takes, station_calls, HasFed, HasDone, LinkHistory, new_history, LinkStep, after_step, IsSameEnd, IsHistory, after_history, calls_in_history, offered_in_call, offered_in, sent_in_call, sent_in}
 use Rattle.ddcmp_callers.proofs.Turning.{calls_append, frame_written, timer_done}
 

@@ -1,5 +1,5 @@
 -- Two links over streams.
-use Rattle.std.proofs.Common.{◌≡◌, ℕ, ◌+◌, ◌≤◌, Bool, true, false, cond, List, [], ◌∷◌, ◌++◌, length, refl, sym, ◌∙◌, ap, subst, arith, None}
+use Rattle.std.proofs.Common.{◌≡◌, ℕ, ◌+◌, Bool, true, false, cond, List, [], ◌∷◌, ◌++◌, length, refl, sym, ◌∙◌, ap, subst, arith, None}
 use Rattle.std.specs.Prelude.{◌&&◌}
 use Rattle.std.proofs.lemmas.List.Sums.{sum_by-append}
 use Rattle.ddcmp_frame.specs.Reader.{ReaderView}
@@ -13,7 +13,7 @@ use Rattle.ddcmp_run.specs.declared.event.End.TheVariants.{A, B}
 use Rattle.ddcmp_run.specs.InOrder.{Delivers}
 use Rattle.ddcmp_run.specs.Run.{EndState, PairState, new_pair, is_clean}
 use Rattle.ddcmp_laws.specs.Faithful.{written, Begins, IsFaithful}
-use Rattle.ddcmp_callers.specs.Calls.{Call, Poll, Expire, after_calls_here, after_call, run_calls, calls_at, starts_by, starts_in, IsStartedOnce}
+use Rattle.ddcmp_callers.specs.Calls.{Call, Poll, Expire, after_calls_here, after_call, run_calls, calls_at, starts_by, starts_in}
 use Rattle.ddcmp_callers.specs.Streams.{OverStreams}
 use Rattle.ddcmp_callers.specs.Links.{LinkCall, Starts, BeginsAnew, Halts, Wakes, Offers, FillsOne, IsSent, Feeds, Takes, station_calls, HasDone, LinkHistory, LinkStep, after_step, IsSameEnd, Links, link_at, after_step_at, AreStreams, LinkOverStreams, after_steps, starts_in_call, count_if, link_starts, AreStartedOnce, new_links, LinkReaches}
 use Rattle.ddcmp_callers.proofs.Runs.{calls_in_order, calls_clean}

@@ -1,7 +1,7 @@
 -- Links as callers of their stations: which calls of its station each call of a link is, and two links
 -- over streams.
 use Rattle.std.specs.Prelude.{◌≡◌, ℕ, ◌+◌, ◌≤◌, if◌then◌else◌, List, [], ◌∷◌, ◌++◌, length, take, option_to_list}
-use Rattle.ddcmp_frame.specs.Reader.{ReaderView, StandsFor}
+use Rattle.ddcmp_frame.specs.Reader.{ReaderView}
 use Rattle.ddcmp_core.specs.Store.{first_message}
 use Rattle.ddcmp_core.specs.Table.{after_halt, may_send}
 use Rattle.ddcmp_proto.specs.Bytes.{after_piece, notices_of_piece}

@@ -1,0 +1,94 @@
+//! What joins the laws of links to the code: for each call of a link a function that makes it, whose
+//! contract says that it is that call of a history.
+ghost use Rattle.std.specs.Prelude.{◌≡◌, ◌≤◌, ◌∷◌, ◌++◌, ℕ, List, [], if◌then◌else◌, is_ok, length, take, option_map, option_to_list};
+ghost use Rattle.ddcmp_frame.specs.Reader.{StandsFor};
+ghost use Rattle.ddcmp_core.specs.Table.{acknowledged_by};
+ghost use Rattle.ddcmp_proto.specs.Bytes.{notices_of_piece};
+ghost use Rattle.ddcmp_run.specs.Run.{acknowledged_in};
+ghost use Rattle.ddcmp_callers.specs.Links.{Starts, BeginsAnew, Halts, Wakes, Offers, FillsOne, IsSent, Feeds, Takes, HasDone, accepted_by, taken_by};
+
+use ddcmp_link::{Fed, Link, SendRefusal, StartRefusal};
+
+/// A start of a station.
+pub fn starts(link: &mut Link) -> Result<u8, StartRefusal>
+    ensures done { (text : List ℕ) → HasDone Starts text link.old link.new }
+    ensures line { link.new.station.line ≡ link.old.station.line }
+{
+    link.start()
+}
+
+/// A start of a link whose line is clear and for whose line nothing waits.
+pub fn begins_anew(link: &mut Link) -> Result<u8, StartRefusal>
+    ensures done { link.old.outbox.waiting ≡ [] → HasDone BeginsAnew [] link.old link.new }
+    ensures line { StandsFor link.new.station.line [] }
+{
+    link.begin_anew()
+}
+
+/// A halt.
+pub fn halts(link: &mut Link)
+    ensures done { (text : List ℕ) → HasDone Halts text link.old link.new }
+    ensures line { link.new.station.line ≡ link.old.station.line }
+{
+    link.halt();
+}
+
+/// A look after the timer.
+pub fn wakes(link: &mut Link, now: u64)
+    ensures done { (text : List ℕ) → HasDone (Wakes now) text link.old link.new }
+    ensures line { link.new.station.line ≡ link.old.station.line }
+{
+    link.wake(now);
+}
+
+/// A message that is offered. The history has it as accepted exactly where the answer is that.
+pub fn offers(link: &mut Link, message: &[u8]) -> Result<(), SendRefusal>
+    ensures done { (text : List ℕ) → HasDone (Offers message.now) text link.old link.new }
+    ensures line { link.new.station.line ≡ link.old.station.line }
+    ensures accepted { accepted_by (Offers message.now) link.old
+        ≡ (if is_ok result then message.now ∷ [] else []) }
+{
+    link.offer(message)
+}
+
+/// A frame, or none.
+pub fn fills_one(link: &mut Link) -> bool
+    ensures done { (text : List ℕ) → HasDone FillsOne text link.old link.new }
+    ensures line { link.new.station.line ≡ link.old.station.line }
+{
+    link.fill_one()
+}
+
+/// Bytes that the line took.
+pub fn is_sent(link: &mut Link, n: usize)
+    requires { n ≤ length link.old.outbox.waiting }
+    ensures done { (text : List ℕ) → HasDone (IsSent n) text link.old link.new }
+    ensures line { link.new.station.line ≡ link.old.station.line }
+{
+    link.sent(n);
+}
+
+/// Bytes that came: those that were used. The history counts what the notice tells acknowledged.
+pub fn feeds(link: &mut Link, piece: &[u8]) -> Fed
+    ensures done { (text : List ℕ) → StandsFor link.old.station.line text
+        → HasDone (Feeds (take result.used piece.now)) text link.old link.new }
+    ensures line { (text : List ℕ) → StandsFor link.old.station.line text
+        → StandsFor link.new.station.line (text ++ take result.used piece.now) }
+    ensures acknowledged { (text : List ℕ) → StandsFor link.old.station.line text
+        → acknowledged_in
+        (notices_of_piece text (take result.used piece.now) link.old.station.core)
+        ≡ acknowledged_by result.notice }
+{
+    link.feed(piece)
+}
+
+/// The first mail. The history has the bytes that were given.
+pub fn takes(link: &mut Link, out: &mut [u8]) -> Option<usize>
+    requires { link.old.station.core.limits.longest ≤ length out.old }
+    ensures done { (text : List ℕ) → HasDone Takes text link.old link.new }
+    ensures line { link.new.station.line ≡ link.old.station.line }
+    ensures mail { taken_by Takes link.old
+        ≡ option_to_list (option_map (λ n. take n out.new) result) }
+{
+    link.take(out)
+}
