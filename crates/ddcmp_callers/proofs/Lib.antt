@@ -8,5 +8,6 @@ pub mod Delivery
 pub mod Streaming
 pub mod InTurn
 pub mod Serving
+pub mod Acknowledged
 pub mod LinkCalls
 pub mod TwoLinks

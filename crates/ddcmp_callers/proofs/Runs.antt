@@ -66,10 +66,10 @@ delivers_same p q e d = delivers_armed p.a p.b (subst (λ (r : PairState). Deliv
 delivers_back : (p q : PairState) → noted p ≡ noted q → Delivers q.b q.a → Delivers p.b p.a
 delivers_back p q e d = delivers_armed p.b p.a (subst (λ (r : PairState). Delivers r.b r.a) (sym e) (armed_delivers q.b q.a d))
 
-honest_same : (p q : PairState) → noted p ≡ noted q → p.honest ≡ q.honest
+pub honest_same : (p q : PairState) → noted p ≡ noted q → p.honest ≡ q.honest
 honest_same p q e = ap (λ (r : PairState). r.honest) e
 
-clean_same : (p q : PairState) → noted p ≡ noted q → is_clean p ≡ is_clean q
+pub clean_same : (p q : PairState) → noted p ≡ noted q → is_clean p ≡ is_clean q
 clean_same p q e = ap is_clean e
 
 order_same : (p q : PairState) → noted p ≡ noted q → IsInOrder q → IsInOrder p

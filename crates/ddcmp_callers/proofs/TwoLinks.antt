@@ -7,7 +7,8 @@ use Rattle.ddcmp_core.specs.Table.{is_on}
 use Rattle.ddcmp_proto.specs.Config.{first_refusal}
 use Rattle.ddcmp_proto.specs.declared.config.Config.{Config}
 use Rattle.ddcmp_station.specs.Driving.{deadline_at, is_due, core_after_take_arm}
-use Rattle.ddcmp_link.specs.Linking.{LinkView, polls}
+use Rattle.ddcmp_core.specs.Core.{CoreView}
+use Rattle.ddcmp_link.specs.Linking.{LinkView, polls, delivered}
 use Rattle.ddcmp_run.specs.declared.event.End.{End}
 use Rattle.ddcmp_run.specs.declared.event.End.TheVariants.{A, B}
 use Rattle.ddcmp_run.specs.InOrder.{Delivers}
@@ -15,8 +16,9 @@ use Rattle.ddcmp_run.specs.Run.{EndState, PairState, new_pair, is_clean}
 use Rattle.ddcmp_laws.specs.Faithful.{written, Begins, IsFaithful}
 use Rattle.ddcmp_callers.specs.Calls.{Call, Poll, Expire, after_calls_here, after_call, run_calls, calls_at, starts_by, starts_in}
 use Rattle.ddcmp_callers.specs.Streams.{OverStreams}
-use Rattle.ddcmp_callers.specs.Links.{LinkCall, Starts, BeginsAnew, Halts, Wakes, Offers, FillsOne, IsSent, Feeds, Takes, station_calls, HasDone, LinkHistory, LinkStep, after_step, IsSameEnd, Links, link_at, after_step_at, AreStreams, LinkOverStreams, after_steps, starts_in_call, count_if, link_starts, AreStartedOnce, new_links, LinkReaches}
+use Rattle.ddcmp_callers.specs.Links.{LinkCall, Starts, BeginsAnew, Halts, Wakes, Offers, FillsOne, IsSent, Feeds, Takes, station_calls, HasDone, LinkHistory, LinkStep, after_step, IsSameEnd, Links, link_at, after_step_at, AreStreams, LinkOverStreams, after_steps, starts_in_call, count_if, link_starts, AreStartedOnce, new_links, received, LinkReaches}
 use Rattle.ddcmp_callers.proofs.Runs.{calls_in_order, calls_clean}
+use Rattle.ddcmp_callers.proofs.Acknowledged.{IsAcknowledged, calls_acknowledged, all_up, first_of_three}
 use Rattle.ddcmp_callers.proofs.Streaming.{streams_honest}
 use Rattle.ddcmp_callers.proofs.InTurn.{at_one, own_a, own_b, other_a, other_b, begins_more, over_a, over_b}
 use Rattle.ddcmp_callers.proofs.LinkCalls.{step_same, new_same}
@@ -144,6 +146,12 @@ starts_b (step ∷ rest) q = by step.0 step.1 (starts_b rest (after_step_at step
 
 -- ---- from two new links
 
+delivered_all : (x y : EndState) (h k : LinkHistory) → IsSameEnd x h → IsSameEnd y k → Delivers x y → IsAcknowledged x → delivered h.link ≡ true → received k ≡ h.accepted
+delivered_all x y h k s t d told e =
+    let none : length x.core.station.out ≡ 0 = ap (λ (c : CoreView). length c.station.out) s.core ∙ first_of_three (length h.link.station.core.station.out) _ _ e in
+    sym (ap (λ ys. ys ++ y.core.station.inbox) t.taken ∙ ap (λ (c : CoreView). k.taken ++ c.station.inbox) t.core)
+    ∙ all_up x y d (told none) ∙ s.given
+
 reaches : (x y : EndState) (h k : LinkHistory) → IsSameEnd x h → IsSameEnd y k → Delivers x y → LinkReaches h k
 reaches x y h k s t d =
     let up : y.taken ++ y.core.station.inbox ≡ k.taken ++ k.link.station.core.station.inbox =
@@ -184,3 +192,9 @@ module _ (first second : Config) (ms other_ms : ℕ) (line other_line : ReaderVi
 
   pub link_reaches_a : LinkReaches (after_steps steps links).b (after_steps steps links).a
   link_reaches_a = reaches _ _ _ _ ends.b ends.a ((calls_in_order first second calls f g).b_to_a honest clean)
+
+  pub delivered_to_b : delivered (after_steps steps links).a.link ≡ true → received (after_steps steps links).b ≡ (after_steps steps links).a.accepted
+  delivered_to_b = delivered_all _ _ _ _ ends.a ends.b ((calls_in_order first second calls f g).a_to_b honest clean) (calls_acknowledged first second calls f g honest clean).0
+
+  pub delivered_to_a : delivered (after_steps steps links).b.link ≡ true → received (after_steps steps links).a ≡ (after_steps steps links).b.accepted
+  delivered_to_a = delivered_all _ _ _ _ ends.b ends.a ((calls_in_order first second calls f g).b_to_a honest clean) (calls_acknowledged first second calls f g honest clean).1

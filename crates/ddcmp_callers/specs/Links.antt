@@ -234,10 +234,12 @@ new_links first milliseconds line second other_milliseconds other_line = record 
   b = new_history second other_milliseconds other_line;
 }
 
--- The messages that one link's user took, and behind them the mail that waits for it, are the first of
--- those that the other accepted, in their order, each once and unchanged; and the other told no more
--- of them acknowledged.
+-- the messages that a link's user took, and behind them the mail that waits for it
+abbrev pub received : LinkHistory → List (List ℕ)
+received h = h.taken ++ h.link.station.core.station.inbox
+
+-- What one link received are the first of the messages that the other accepted, in their order, each
+-- once and unchanged; and the other told no more of them acknowledged.
 pub record LinkReaches (giver taker : LinkHistory) : Type 0 where
-  pub order : IsPrefixOf (taker.taken ++ taker.link.station.core.station.inbox) giver.accepted
-  pub acknowledged : giver.acknowledged
-      ≤ length (taker.taken ++ taker.link.station.core.station.inbox)
+  pub order : IsPrefixOf (received taker) giver.accepted
+  pub acknowledged : giver.acknowledged ≤ length (received taker)
