@@ -1,8 +1,9 @@
 //! What joins the laws of links to the code: for each call of a link a function that makes it, whose
 //! contract says that it is that call of a history.
-ghost use Rattle.std.specs.Prelude.{◌≡◌, ◌≤◌, ◌∷◌, ◌++◌, ℕ, List, [], if◌then◌else◌, is_ok, length, take, option_map, option_to_list};
+ghost use Rattle.std.specs.Prelude.{◌≡◌, ◌≤◌, ◌∷◌, ◌++◌, ℕ, List, [], if◌then◌else◌, is_ok, None, min, length, take, option_map, option_to_list};
 ghost use Rattle.ddcmp_frame.specs.Reader.{StandsFor};
 ghost use Rattle.ddcmp_core.specs.Table.{acknowledged_by};
+ghost use Rattle.ddcmp_link.specs.Linking.{countable};
 ghost use Rattle.ddcmp_proto.specs.Bytes.{notices_of_piece};
 ghost use Rattle.ddcmp_run.specs.Run.{acknowledged_in};
 ghost use Rattle.ddcmp_callers.specs.Links.{Starts, BeginsAnew, Halts, Wakes, Offers, FillsOne, IsSent, Feeds, Takes, HasDone, accepted_by, taken_by};
@@ -68,7 +69,8 @@ pub fn is_sent(link: &mut Link, n: usize)
     link.sent(n);
 }
 
-/// Bytes that came: those that were used. The history counts what the notice tells acknowledged.
+/// Bytes that came: those that were used, all that can be counted where they give no notice. The
+/// history counts what the notice tells acknowledged.
 pub fn feeds(link: &mut Link, piece: &[u8]) -> Fed
     ensures done { (text : List ℕ) → StandsFor link.old.station.line text
         → HasDone (Feeds (take result.used piece.now)) text link.old link.new }
@@ -78,6 +80,8 @@ pub fn feeds(link: &mut Link, piece: &[u8]) -> Fed
         → acknowledged_in
         (notices_of_piece text (take result.used piece.now) link.old.station.core)
         ≡ acknowledged_by result.notice }
+    ensures whole { result.notice ≡ None
+        → result.used ≡ min (length piece.now) (countable link.old.station) }
 {
     link.feed(piece)
 }
