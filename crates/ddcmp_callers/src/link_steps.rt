@@ -2,8 +2,8 @@
 //! contract says that it is that call of a history.
 ghost use Rattle.std.specs.Prelude.{◌≡◌, ◌≤◌, ◌∷◌, ◌++◌, ℕ, List, [], if◌then◌else◌, is_ok, None, min, length, take, option_map, option_to_list};
 ghost use Rattle.ddcmp_frame.specs.Reader.{StandsFor};
-ghost use Rattle.ddcmp_core.specs.Table.{acknowledged_by};
-ghost use Rattle.ddcmp_link.specs.Linking.{countable};
+ghost use Rattle.ddcmp_core.specs.Table.{acknowledged_by, after_halt, answer_to_start};
+ghost use Rattle.ddcmp_link.specs.Linking.{countable, answer_to_offered, puts_frame};
 ghost use Rattle.ddcmp_proto.specs.Bytes.{notices_of_piece};
 ghost use Rattle.ddcmp_run.specs.Run.{acknowledged_in};
 ghost use Rattle.ddcmp_callers.specs.Links.{Starts, BeginsAnew, Halts, Wakes, Offers, FillsOne, IsSent, Feeds, Takes, HasDone, accepted_by, taken_by};
@@ -14,6 +14,7 @@ use ddcmp_link::{Fed, Link, SendRefusal, StartRefusal};
 pub fn starts(link: &mut Link) -> Result<u8, StartRefusal>
     ensures done { (text : List ℕ) → HasDone Starts text link.old link.new }
     ensures line { link.new.station.line ≡ link.old.station.line }
+    ensures answer { result ≡ answer_to_start link.old.station.core.station }
 {
     link.start()
 }
@@ -22,6 +23,7 @@ pub fn starts(link: &mut Link) -> Result<u8, StartRefusal>
 pub fn begins_anew(link: &mut Link) -> Result<u8, StartRefusal>
     ensures done { link.old.outbox.waiting ≡ [] → HasDone BeginsAnew [] link.old link.new }
     ensures line { StandsFor link.new.station.line [] }
+    ensures answer { result ≡ answer_to_start (after_halt link.old.station.core.station) }
 {
     link.begin_anew()
 }
@@ -46,6 +48,7 @@ pub fn wakes(link: &mut Link, now: u64)
 pub fn offers(link: &mut Link, message: &[u8]) -> Result<(), SendRefusal>
     ensures done { (text : List ℕ) → HasDone (Offers message.now) text link.old link.new }
     ensures line { link.new.station.line ≡ link.old.station.line }
+    ensures answer { result ≡ answer_to_offered message.now link.old }
     ensures accepted { accepted_by (Offers message.now) link.old
         ≡ (if is_ok result then message.now ∷ [] else []) }
 {
@@ -56,6 +59,7 @@ pub fn offers(link: &mut Link, message: &[u8]) -> Result<(), SendRefusal>
 pub fn fills_one(link: &mut Link) -> bool
     ensures done { (text : List ℕ) → HasDone FillsOne text link.old link.new }
     ensures line { link.new.station.line ≡ link.old.station.line }
+    ensures answer { result ≡ puts_frame link.old }
 {
     link.fill_one()
 }
