@@ -1,5 +1,5 @@
 //! Messages in binary.
-ghost use Rattle.std.specs.Prelude.{◌≡◌};
+ghost use Rattle.std.specs.Prelude.{◌≡◌, ◌+◌, ◌≤◌, ◌++◌, length, vec_len, vec_capacity};
 
 use crate::entry::{Entry, Pushed};
 use std::alloc::{AllocError, Global};
@@ -117,18 +117,66 @@ impl Lengths {
         ensures entries { entries_of_bytes (take result.used piece.now) self.old
             ≡ option_to_list result.entry }
     {
-        for used in 0..piece.len() {
-            let entry = self.push(piece[used]);
-            if entry.is_some() {
+        let mut used = 0;
+        while used < piece.len() {
+            let more = self.push_part(&piece[used..]);
+            used += more.used;
+            if more.entry.is_some() {
                 return Pushed {
-                    used: used + 1,
-                    entry,
+                    used,
+                    entry: more.entry,
                 };
             }
         }
+        Pushed { used, entry: None }
+    }
+
+    /// Takes the bytes of a piece that stand at one place: a byte of a length, or what there is of a
+    /// message.
+    fn push_part(&mut self, piece: &[u8]) -> Pushed
+        requires { 0 < length piece.now }
+        ensures some { 0 < result.used }
+        ensures used { result.used ≤ length piece.now }
+        ensures first { (n : ℕ) → n < result.used
+            → entries_of_bytes (take n piece.now) self.old ≡ [] }
+        ensures state { self.new ≡ after_bytes (take result.used piece.now) self.old }
+        ensures entries { entries_of_bytes (take result.used piece.now) self.old
+            ≡ option_to_list result.entry }
+    {
+        match self.place {
+            Place::Inside(left) => self.push_within(piece, left),
+            _ => Pushed {
+                used: 1,
+                entry: self.push(piece[0]),
+            },
+        }
+    }
+
+    /// Takes what there is of a message, of which so many bytes are to come.
+    fn push_within(&mut self, piece: &[u8], left: u16) -> Pushed
+        requires place { self.old.place ≡ Place.Inside left }
+        requires some { 0 < length piece.now }
+        ensures some { 0 < result.used }
+        ensures used { result.used ≤ length piece.now }
+        ensures first { (n : ℕ) → n < result.used
+            → entries_of_bytes (take n piece.now) self.old ≡ [] }
+        ensures state { self.new ≡ after_bytes (take result.used piece.now) self.old }
+        ensures entries { entries_of_bytes (take result.used piece.now) self.old
+            ≡ option_to_list result.entry }
+    {
+        if piece.len() < left as usize {
+            append(&mut self.message, piece);
+            self.place = Place::Inside(left - piece.len() as u16);
+            return Pushed {
+                used: piece.len(),
+                entry: None,
+            };
+        }
+        append(&mut self.message, &piece[..left as usize]);
+        self.place = Place::Start;
         Pushed {
-            used: piece.len(),
-            entry: None,
+            used: left as usize,
+            entry: Some(Entry::Message),
         }
     }
 
@@ -144,5 +192,17 @@ impl Lengths {
         ensures { result ≡ is_start self.now.place }
     {
         self.place == Place::Start
+    }
+}
+
+/// Puts bytes behind a message that has room for them.
+fn append(message: &mut Vec<u8>, bytes: &[u8])
+    requires { vec_len message.old + length bytes.now ≤ vec_capacity message.old }
+    ensures items { message.new.items ≡ message.old.items ++ bytes.now }
+    ensures room { vec_capacity message.old ≤ vec_capacity message.new }
+{
+    match message.extend_from_slice(bytes) {
+        Ok(()) => {}
+        Err(_) => unreachable!(),
     }
 }
