@@ -1,7 +1,5 @@
 //! A pair, and the frames that its ends wrote: they wait on the line, and arrive whole, damaged, in
 //! pieces or not at all.
-ghost use Rattle.std.specs.Prelude.{◌≤◌};
-
 use ddcmp_line::{Bytes, Config, End, Event, Memory, Pair, Recovered, Reply, Settled, State};
 use std::collections::VecDeque;
 use std::process::Abort;
@@ -32,13 +30,10 @@ impl Lines {
 pub struct Link {
     pub pair: Pair,
     lines: Lines,
-    ghost longest_a: { pair.a.core.limits.longest ≤ 1500 },
-    ghost longest_b: { pair.b.core.limits.longest ≤ 1500 },
 }
 
 impl Link {
     pub fn new(rt: &(impl Abort + AllocGlobal), first: Config, second: Config) -> Link {
-        assert!(rt; first.max <= 1500 && second.max <= 1500);
         match Pair::new(rt.alloc(), first, second) {
             Ok(pair) => Link {
                 pair,
@@ -204,10 +199,8 @@ impl Link {
         assert!(rt; self.pair.handed_up(to) <= self.pair.given(from));
         for i in 0..self.pair.handed_up(to) {
             assert!(rt; i < self.pair.given(from) && i < self.pair.handed_up(to));
-            let length = match to {
-                End::A => self.pair.handed_up_at(End::A, i, &mut out),
-                End::B => self.pair.handed_up_at(End::B, i, &mut out),
-            };
+            assert!(rt; usize::from(self.pair.config(to).max) <= LONGEST);
+            let length = self.pair.handed_up_at(to, i, &mut out);
             assert!(rt; length <= LONGEST);
             assert_eq!(rt; &out[..length], self.pair.given_at(from, i), "{to:?} {i}");
         }

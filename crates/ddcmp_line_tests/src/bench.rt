@@ -1,7 +1,4 @@
 //! A pair to which things are done one after another, and whether each is answered as it should be.
-ghost use Rattle.std.specs.Prelude.{◌≤◌};
-
-use ddcmp_pair::laws::runs;
 use ddcmp_pair::{
     Bytes, Config, End, Event, Memory, Notice, Pair, PairRefusal, Recovered, Reply, RunRefusal,
     SendRefusal, Seq, Settled, Station, run,
@@ -140,12 +137,10 @@ pub fn is_answer(reply: &Reply, answer: Answer) -> bool {
 /// The most bytes of a message at any end.
 const LONGEST: usize = 16383;
 
-/// A pair whose messages have at most so many bytes.
+/// A pair to which events happen.
 #[derive(Drop)]
 pub struct Bench {
     pair: Pair,
-    ghost longest_a: { pair.a.core.limits.longest ≤ 16383 },
-    ghost longest_b: { pair.b.core.limits.longest ≤ 16383 },
 }
 
 /// Calls whose contracts say more than tests want to know: each stands alone here, and promises
@@ -156,7 +151,6 @@ impl Bench {
         first: Config,
         second: Config,
     ) -> Result<Bench, PairRefusal> {
-        assert!(rt; first.max <= 16383 && second.max <= 16383);
         match Pair::new(rt.alloc(), first, second) {
             Ok(pair) => Ok(Bench { pair }),
             Err(refusal) => Err(refusal),
@@ -165,7 +159,6 @@ impl Bench {
 
     /// The pair of a run between ends of the usual sizes.
     pub fn of_run(alloc: Global, events: &[Event]) -> Result<Bench, RunRefusal> {
-        runs();
         match run(alloc, USUAL, USUAL, events) {
             Ok(pair) => Ok(Bench { pair }),
             Err(refusal) => Err(refusal),
@@ -231,13 +224,10 @@ impl Bench {
     /// Copies message `i` of those handed up at an end, if there are so many, and answers its
     /// length.
     fn handed_up_at(&self, end: End, i: usize, out: &mut [u8; LONGEST]) -> Option<usize> {
-        if i >= self.pair.handed_up(end) {
+        if i >= self.pair.handed_up(end) || usize::from(self.pair.config(end).max) > LONGEST {
             return None;
         }
-        match end {
-            End::A => Some(self.pair.handed_up_at(End::A, i, out)),
-            End::B => Some(self.pair.handed_up_at(End::B, i, out)),
-        }
+        Some(self.pair.handed_up_at(end, i, out))
     }
 }
 

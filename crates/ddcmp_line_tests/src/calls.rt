@@ -1,82 +1,79 @@
 //! Each call once, and pairs of many sizes.
-use crate::bench::{Bench, Step, USUAL, event_of, path};
+use crate::bench::{Bench, Step, USUAL, event_of, path, sizes};
 use ddcmp_pair::{Config, ConfigRefusal, End, Event, Pair, PairRefusal, RunRefusal, State, run};
 use std::alloc::{AllocError, Global};
 use std::process::Abort;
 use std::test::Fail;
 
-/// Sizes at both ends of their ranges.
-const SIZES: [Config; 10] = [
-    USUAL,
-    Config { window: 1, ..USUAL },
+/// Sizes at both ends of their ranges. They are a function's, since the prover takes minutes for
+/// such a table as a constant.
+fn many_sizes() -> [Config; 10] {
+    let largest = largest();
+    [
+        USUAL,
+        Config { window: 1, ..USUAL },
+        sizes(255),
+        Config { inbox: 1, ..USUAL },
+        Config {
+            inbox: 255,
+            ..USUAL
+        },
+        Config { max: 1, ..USUAL },
+        Config {
+            max: 16383,
+            ..USUAL
+        },
+        Config { syn: 16, ..USUAL },
+        Config {
+            restart: true,
+            ..USUAL
+        },
+        largest,
+    ]
+}
+
+fn largest() -> Config {
     Config {
         window: 255,
-        ..USUAL
-    },
-    Config { inbox: 1, ..USUAL },
-    Config {
         inbox: 255,
-        ..USUAL
-    },
-    Config { max: 1, ..USUAL },
-    Config {
         max: 16383,
-        ..USUAL
-    },
-    Config { syn: 16, ..USUAL },
-    Config {
+        syn: 16,
         restart: true,
-        ..USUAL
-    },
-    LARGEST,
-];
+    }
+}
 
-const LARGEST: Config = Config {
-    window: 255,
-    inbox: 255,
-    max: 16383,
-    syn: 16,
-    restart: true,
-};
+/// Sizes of which several are out of range.
+fn all_wrong() -> Config {
+    Config {
+        window: 7,
+        inbox: 256,
+        max: 0,
+        syn: 17,
+        restart: false,
+    }
+}
 
 /// Sizes out of range, and the first of them.
-const REFUSED: [(Config, ConfigRefusal); 8] = [
-    (Config { window: 0, ..USUAL }, ConfigRefusal::Window),
-    (
-        Config {
-            window: 256,
-            ..USUAL
-        },
-        ConfigRefusal::Window,
-    ),
-    (Config { inbox: 0, ..USUAL }, ConfigRefusal::Inbox),
-    (
-        Config {
-            inbox: 256,
-            ..USUAL
-        },
-        ConfigRefusal::Inbox,
-    ),
-    (Config { max: 0, ..USUAL }, ConfigRefusal::Max),
-    (
-        Config {
-            max: 16384,
-            ..USUAL
-        },
-        ConfigRefusal::Max,
-    ),
-    (Config { syn: 17, ..USUAL }, ConfigRefusal::Syn),
-    (
-        Config {
-            window: 7,
-            inbox: 256,
-            max: 0,
-            syn: 17,
-            restart: false,
-        },
-        ConfigRefusal::Inbox,
-    ),
-];
+fn refused_sizes() -> [(Config, ConfigRefusal); 8] {
+    let inbox = Config {
+        inbox: 256,
+        ..USUAL
+    };
+    let max = Config {
+        max: 16384,
+        ..USUAL
+    };
+    [
+        (sizes(0), ConfigRefusal::Window),
+        (sizes(256), ConfigRefusal::Window),
+        (Config { inbox: 0, ..USUAL }, ConfigRefusal::Inbox),
+        (inbox, ConfigRefusal::Inbox),
+        (Config { max: 0, ..USUAL }, ConfigRefusal::Max),
+        (max, ConfigRefusal::Max),
+        (Config { syn: 17, ..USUAL }, ConfigRefusal::Syn),
+        (all_wrong(), ConfigRefusal::Inbox),
+    ]
+}
 
 /// Nothing has been done, and both ends are halted.
 fn is_new(bench: &Bench) -> bool {
@@ -89,8 +86,9 @@ fn is_new(bench: &Bench) -> bool {
 
 #[test]
 fn pairs_of_many_sizes(rt: HostRuntime) {
-    for first in &SIZES {
-        for second in &SIZES {
+    let sizes = many_sizes();
+    for first in &sizes {
+        for second in &sizes {
             assert!(rt; is_new(&Bench::ample(&rt, *first, *second)));
         }
     }
@@ -107,10 +105,10 @@ fn runs_nothing(alloc: Global, first: Config, second: Config) -> Result<Pair, Ru
 }
 
 /// The sizes that a run refused.
-fn sizes_of(refused: RunRefusal) -> Option<PairRefusal> {
+fn sizes_of(refused: &RunRefusal) -> Option<PairRefusal> {
     match refused {
-        RunRefusal::First(refusal) => Some(PairRefusal::First(refusal)),
-        RunRefusal::Second(refusal) => Some(PairRefusal::Second(refusal)),
+        RunRefusal::First(refusal) => Some(PairRefusal::First(*refusal)),
+        RunRefusal::Second(refusal) => Some(PairRefusal::Second(*refusal)),
         RunRefusal::Memory {
             done: _done,
             pair: _pair,
@@ -122,7 +120,7 @@ fn sizes_of(refused: RunRefusal) -> Option<PairRefusal> {
 fn refusal_of_run(alloc: Global, first: Config, second: Config) -> Option<PairRefusal> {
     match runs_nothing(alloc, first, second) {
         Ok(_pair) => None,
-        Err(refused) => sizes_of(refused),
+        Err(refused) => sizes_of(&refused),
     }
 }
 
@@ -136,16 +134,16 @@ fn refuses(rt: &(impl Abort + AllocGlobal), first: Config, second: Config, refus
 fn refuses_at_both(rt: &(impl Abort + AllocGlobal), config: Config, refusal: ConfigRefusal) {
     let first = PairRefusal::First(refusal);
     refuses(rt, config, USUAL, first);
-    refuses(rt, config, LARGEST, first);
+    refuses(rt, config, largest(), first);
     refuses(rt, config, Config { window: 0, ..USUAL }, first);
     let second = PairRefusal::Second(refusal);
     refuses(rt, USUAL, config, second);
-    refuses(rt, LARGEST, config, second);
+    refuses(rt, largest(), config, second);
 }
 
 #[test]
 fn sizes_out_of_range_are_refused(rt: HostRuntime) {
-    for (config, refusal) in &REFUSED {
+    for (config, refusal) in &refused_sizes() {
         refuses_at_both(&rt, *config, *refusal);
     }
 }

@@ -67,46 +67,40 @@ fn tells(pair: &Pair) -> Told {
 }
 
 /// A message waits in B's inbox, and A is to send another.
-const TO_SETTLE: &[Step] = &[
-    (Action::Send(End::A, b"abc"), Answer::Accepted(1)),
-    (Action::Poll(End::A), Answer::Wrote(DATA_1)),
-    (Action::Arrive(End::B, DATA_1), HANDED_UP),
-    (Action::Send(End::A, b"abc"), Answer::Accepted(2)),
-];
+fn to_settle() -> [Step; 4] {
+    [
+        (Action::Send(End::A, b"abc"), Answer::Accepted(1)),
+        (Action::Poll(End::A), Answer::Wrote(DATA_1)),
+        (Action::Arrive(End::B, DATA_1), HANDED_UP),
+        (Action::Send(End::A, b"abc"), Answer::Accepted(2)),
+    ]
+}
 
 /// What a settle does then.
-const SETTLING: &[Step] = &[
-    (Action::Take(End::B), Answer::Took(b"abc")),
-    (Action::Poll(End::A), Answer::Wrote(DATA_2)),
-    (Action::Arrive(End::B, DATA_2), HANDED_UP),
-    (Action::Take(End::B), Answer::Took(b"abc")),
-    (Action::Poll(End::B), Answer::Wrote(ACK_2)),
-    (
-        Action::Arrive(End::A, ACK_2),
-        Answer::Notices(&[Notice::Acknowledged(2)]),
-    ),
-    (Action::Poll(End::A), Answer::Idle),
-    (Action::Poll(End::B), Answer::Idle),
-];
+fn settling() -> [Step; 8] {
+    [
+        (Action::Take(End::B), Answer::Took(b"abc")),
+        (Action::Poll(End::A), Answer::Wrote(DATA_2)),
+        (Action::Arrive(End::B, DATA_2), HANDED_UP),
+        (Action::Take(End::B), Answer::Took(b"abc")),
+        (Action::Poll(End::B), Answer::Wrote(ACK_2)),
+        (
+            Action::Arrive(End::A, ACK_2),
+            Answer::Notices(&[Notice::Acknowledged(2)]),
+        ),
+        (Action::Poll(End::A), Answer::Idle),
+        (Action::Poll(End::B), Answer::Idle),
+    ]
+}
 
 /// What each round does after it.
-const ROUND: &[Step] = &[
-    (Action::Expire(End::A), Answer::Expired(false)),
-    (Action::Expire(End::B), Answer::Expired(false)),
-    (Action::Poll(End::A), Answer::Idle),
-    (Action::Poll(End::B), Answer::Idle),
-];
-
-fn to_settle() -> &'static [Step] {
-    TO_SETTLE
-}
-
-fn settling() -> &'static [Step] {
-    SETTLING
-}
-
-fn round() -> &'static [Step] {
-    ROUND
+fn round() -> [Step; 4] {
+    [
+        (Action::Expire(End::A), Answer::Expired(false)),
+        (Action::Expire(End::B), Answer::Expired(false)),
+        (Action::Poll(End::A), Answer::Idle),
+        (Action::Poll(End::B), Answer::Idle),
+    ]
 }
 
 /// Whether a pair tells this.
@@ -177,7 +171,7 @@ impl Patient {
             Ok(settled) => assert!(rt; is_settled_at_once(settled)),
             Err(_memory) => {
                 self.refused = true;
-                assert!(rt; is_among(rt, &[settling()], &tells(self.bench.pair())));
+                assert!(rt; is_among(rt, &[&settling()], &tells(self.bench.pair())));
                 self.settles_again(rt);
                 self.expires(rt);
                 self.settles_again(rt);
@@ -194,7 +188,7 @@ impl Patient {
             Err(_memory) => {
                 self.refused = true;
                 let seen = tells(self.bench.pair());
-                assert!(rt; is_among(rt, &[settling(), round(), round()], &seen));
+                assert!(rt; is_among(rt, &[&settling(), &round(), &round()], &seen));
                 self.recovers_again(rt);
             }
         }
@@ -261,7 +255,7 @@ fn is_before(
 /// Whether a pair that was to do these steps tells this between two of them.
 fn is_among(rt: &(impl Abort + AllocGlobal), parts: &[&[Step]], seen: &Told) -> bool {
     let mut bench = Bench::running(rt, USUAL);
-    bench.plays(rt, to_settle());
+    bench.plays(rt, &to_settle());
     for steps in parts {
         if is_before(rt, &mut bench, steps, seen) {
             return true;
@@ -282,7 +276,7 @@ fn is_refused_to_steps(rt: &(impl Abort + AllocGlobal)) -> bool {
 fn is_refused_to_a_settle(rt: &(impl Abort + AllocGlobal)) -> bool {
     let mut patient = Patient::new(rt);
     patient.plays(rt, startup());
-    patient.plays(rt, to_settle());
+    patient.plays(rt, &to_settle());
     patient.settles(rt);
     patient.bench.has_many(rt, b"abc", 2);
     patient.refused
@@ -292,7 +286,7 @@ fn is_refused_to_a_settle(rt: &(impl Abort + AllocGlobal)) -> bool {
 fn is_refused_to_a_recovery(rt: &(impl Abort + AllocGlobal)) -> bool {
     let mut patient = Patient::new(rt);
     patient.plays(rt, startup());
-    patient.plays(rt, to_settle());
+    patient.plays(rt, &to_settle());
     patient.recovers(rt);
     patient.bench.has_many(rt, b"abc", 2);
     patient.refused

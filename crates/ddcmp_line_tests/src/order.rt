@@ -40,40 +40,38 @@ fn a_doubled_frame_is_handed_up_twice(rt: HostRuntime) {
 }
 
 /// Message 1 is sent, and sent again after a REP and a NAK.
-const SENT_TWICE: &[Step] = &[
-    (Action::Send(End::A, b"a"), Answer::Accepted(1)),
-    (Action::Poll(End::A), Answer::Wrote(FIRST)),
-    (Action::Expire(End::A), Answer::Expired(true)),
-    (
-        Action::Poll(End::A),
-        Answer::Wrote(&[0x05, 0x03, 0x00, 0x00, 0x01, 0x01, 0x84, 0x05]),
-    ),
-    (
-        Action::Arrive(End::B, &[0x05, 0x03, 0x00, 0x00, 0x01, 0x01, 0x84, 0x05]),
-        NO_NOTICE,
-    ),
-    (
-        Action::Poll(End::B),
-        Answer::Wrote(&[0x05, 0x02, 0x03, 0x00, 0x00, 0x01, 0xB8, 0x11]),
-    ),
-    (
-        Action::Arrive(End::A, &[0x05, 0x02, 0x03, 0x00, 0x00, 0x01, 0xB8, 0x11]),
-        NO_NOTICE,
-    ),
-    (Action::Poll(End::A), Answer::Wrote(FIRST)),
-    (Action::Arrive(End::B, FIRST), HANDED_UP),
-    (Action::Take(End::B), Answer::Took(b"a")),
-];
-
-fn sent_twice() -> &'static [Step] {
-    SENT_TWICE
+fn sent_twice() -> [Step; 10] {
+    [
+        (Action::Send(End::A, b"a"), Answer::Accepted(1)),
+        (Action::Poll(End::A), Answer::Wrote(FIRST)),
+        (Action::Expire(End::A), Answer::Expired(true)),
+        (
+            Action::Poll(End::A),
+            Answer::Wrote(&[0x05, 0x03, 0x00, 0x00, 0x01, 0x01, 0x84, 0x05]),
+        ),
+        (
+            Action::Arrive(End::B, &[0x05, 0x03, 0x00, 0x00, 0x01, 0x01, 0x84, 0x05]),
+            NO_NOTICE,
+        ),
+        (
+            Action::Poll(End::B),
+            Answer::Wrote(&[0x05, 0x02, 0x03, 0x00, 0x00, 0x01, 0xB8, 0x11]),
+        ),
+        (
+            Action::Arrive(End::A, &[0x05, 0x02, 0x03, 0x00, 0x00, 0x01, 0xB8, 0x11]),
+            NO_NOTICE,
+        ),
+        (Action::Poll(End::A), Answer::Wrote(FIRST)),
+        (Action::Arrive(End::B, FIRST), HANDED_UP),
+        (Action::Take(End::B), Answer::Took(b"a")),
+    ]
 }
 
 /// Of two frames that were sent the first comes last, behind 255 others.
 #[test]
 fn a_late_frame_is_handed_up_twice(rt: HostRuntime) {
     let mut bench = Bench::running(&rt, USUAL);
-    bench.plays(&rt, sent_twice());
+    bench.plays(&rt, &sent_twice());
     assert!(rt; is_acknowledged(&mut bench));
     for number in 2..=256u16 {
         bench.carries(&rt, number);
@@ -90,7 +88,7 @@ fn is_acknowledged(bench: &mut Bench) -> bool {
 /// A frame is lost, a REP shows it, and it is sent again.
 fn comes_later(rt: &(impl Abort + AllocGlobal), window: u16) {
     let mut bench = Bench::running(rt, sizes(window));
-    bench.plays(rt, sent_twice());
+    bench.plays(rt, &sent_twice());
     assert!(rt; is_acknowledged(&mut bench));
     bench.has_many(rt, b"a", 1);
 }

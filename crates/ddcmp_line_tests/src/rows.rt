@@ -52,13 +52,11 @@ fn is_lost(bench: &mut Bench, number: u8) -> bool {
 }
 
 /// After all 255 messages of the window are lost.
-const WINDOW_LOST: &[Step] = &[
-    (Action::Poll(End::A), Answer::Idle),
-    (Action::Expire(End::A), Answer::Expired(true)),
-];
-
-fn window_lost() -> &'static [Step] {
-    WINDOW_LOST
+fn window_lost() -> [Step; 2] {
+    [
+        (Action::Poll(End::A), Answer::Idle),
+        (Action::Expire(End::A), Answer::Expired(true)),
+    ]
 }
 
 /// Whether a settle has so many exchanges, and the line is quiet then.
@@ -84,7 +82,7 @@ fn the_widest_window_is_sent_again(rt: HostRuntime) {
     for number in 1..=255u8 {
         assert!(rt; is_lost(&mut bench, number), "{number}");
     }
-    bench.plays(&rt, window_lost());
+    bench.plays(&rt, &window_lost());
     assert!(rt; is_settled(&mut bench, 256));
     bench.has_many(&rt, b"a", 255);
     assert!(rt; bench.is_ready() && bench.is_done());

@@ -1,34 +1,19 @@
-//! A pair of which each message is known to fit.
-ghost use Rattle.std.specs.Prelude.{◌≤◌};
-
+//! A pair, and what is looked at of it.
 use ddcmp_pair::{Config, End, Event, Memory, Pair, Recovered, Reply, Settled, Station};
 use std::alloc::Global;
 
 /// The most bytes of a message at any end.
 pub const LONGEST: usize = 16383;
 
-/// A pair, and the most bytes of its messages.
+/// A pair to which events happen. Its calls' contracts say more than is asked for here, so each stands
+/// alone and promises nothing.
 #[derive(Drop)]
 pub struct Table {
     pair: Pair,
-    ghost longest_a: { pair.a.core.limits.longest ≤ 16383 },
-    ghost longest_b: { pair.b.core.limits.longest ≤ 16383 },
 }
 
 impl Table {
     pub fn new(alloc: Global, first: Config, second: Config) -> Option<Table> {
-        if first.max <= 16383 && second.max <= 16383 {
-            Table::of(alloc, first, second)
-        } else {
-            None
-        }
-    }
-
-    /// Of sizes whose messages fit.
-    fn of(alloc: Global, first: Config, second: Config) -> Option<Table>
-        requires first { first.max ≤ 16383 }
-        requires second { second.max ≤ 16383 }
-    {
         match Pair::new(alloc, first, second) {
             Ok(pair) => Some(Table { pair }),
             Err(_refusal) => None,
@@ -91,13 +76,10 @@ impl Table {
         i: usize,
         out: &'a mut [u8; LONGEST],
     ) -> Option<&'a [u8]> {
-        if i >= self.pair.handed_up(end) {
+        if i >= self.pair.handed_up(end) || usize::from(self.pair.config(end).max) > LONGEST {
             return None;
         }
-        let length = match end {
-            End::A => self.pair.handed_up_at(End::A, i, out),
-            End::B => self.pair.handed_up_at(End::B, i, out),
-        };
+        let length = self.pair.handed_up_at(end, i, out);
         out.get(..length)
     }
 }
