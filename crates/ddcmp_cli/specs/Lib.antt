@@ -1,3 +1,4 @@
+pub mod Connections
 pub mod Endings
 pub mod Inputs
 pub mod LinkEndings
@@ -7,5 +8,6 @@ pub use Rattle.ddcmp_explain.specs.Text
 pub use Rattle.ddcmp_explain.specs.Json
 pub use Rattle.ddcmp_explain.specs.Output
 pub use Rattle.ddcmp_explain.specs.Explains
+pub use Rattle.ddcmp_explain.specs.Dumps
 pub use Rattle.ddcmp_serve.specs.Serving
 pub use Rattle.ddcmp_words.specs.Words

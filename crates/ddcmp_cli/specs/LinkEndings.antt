@@ -1,6 +1,6 @@
 -- How a link of the command line ends.
 use Rattle.std.specs.Prelude.{⊤}
-use Rattle.ddcmp_cli.specs.declared.fault.Fault.TheVariants.{Odd, NotHex, Line, Hex, Message, Read, Write, Memory, Carrier, Ended}
+use Rattle.ddcmp_cli.specs.declared.fault.Fault.TheVariants.{Odd, NotHex, Dump, Line, Hex, Message, Read, Write, Memory, Carrier, Ended}
 use Rattle.ddcmp_cli.specs.declared.ending.Ending.{Ending}
 use Rattle.ddcmp_cli.specs.declared.ending.Ending.TheVariants.{Done, SomeRefused, NoLine, Unopened, Usage, NotText, Fault as Faulted}
 
@@ -19,6 +19,7 @@ IsLinkEnding (Unopened name why) = ⊥
 IsLinkEnding NotText = ⊥
 IsLinkEnding (Faulted Odd) = ⊥
 IsLinkEnding (Faulted (NotHex index)) = ⊥
+IsLinkEnding (Faulted (Dump fault)) = ⊥
 IsLinkEnding (Faulted (Line line)) = ⊥
 IsLinkEnding (Faulted (Hex line)) = ⊥
 IsLinkEnding (Faulted Message) = ⊥

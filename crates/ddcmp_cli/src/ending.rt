@@ -37,8 +37,12 @@ impl Ending {
             Ending::Usage(_) | Ending::NotText => 2,
             Ending::Unopened(_, _) | Ending::NoLine(_) => 3,
             Ending::Fault(fault) => match fault {
-                Fault::Odd | Fault::NotHex(_) | Fault::Line(_) | Fault::Hex(_) | Fault::Message =>
-                    1,
+                Fault::Odd
+                | Fault::NotHex(_)
+                | Fault::Dump(_)
+                | Fault::Line(_)
+                | Fault::Hex(_)
+                | Fault::Message => 1,
                 Fault::Read | Fault::Write | Fault::Memory | Fault::Carrier | Fault::Ended => 3,
             },
         }

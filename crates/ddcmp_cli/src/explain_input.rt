@@ -1,26 +1,71 @@
 //! Explaining standard input, or a file.
-ghost use Rattle.std.specs.Prelude.{◌≡◌, ◌≢◌, ◌⊎◌, ◌↔◌, ◌≤◌, false, IsTrue, List, ℕ, Some};
+ghost use Rattle.std.specs.Prelude.{◌≡◌, ◌≢◌, ◌⊎◌, ◌↔◌, ◌≤◌, false, true, IsTrue, List, ℕ, None, Some};
 ghost use Rattle.ddcmp_core.specs.Limits.{MAX_COUNT};
 ghost use Rattle.ddcmp_io.specs.Input.{GaveMost};
-ghost use Rattle.ddcmp_cli.specs.Endings.{ExplainsFile, ExplainsTo};
+ghost use Rattle.ddcmp_cli.specs.Endings.{ExplainsAs, ExplainsAsked, ExplainsDumpTo, ExplainsFile};
+ghost use Rattle.ddcmp_cli.specs.Endings.{ExplainsFrom};
+ghost use Rattle.std.specs.Option.{option_map};
+ghost use Rattle.ddcmp_cli.specs.Endings.{ExplainsTo, is_misused as is_misused_by, is_refusal};
 
 use crate::ending::Ending;
 use crate::fault::Fault;
 use crate::inputs::Inputs;
-use ddcmp_explain::{Form, Style, explain_with};
+use crate::stationing::usage;
+use ddcmp_explain::{Form, Style, explain_dump, explain_with};
 use ddcmp_io::{Sink, Source, Worst};
 use std::alloc::Global;
 
+/// What is told where `--raw` stands beside `--from`.
+const TWO_FORMS: &str = "\
+error: '--raw' and '--from' can't be used together
+
+For more information, try '--help'.
+";
+
+/// What is told where the word for what the input comes from is another.
+const NO_DUMP: &str = "\
+error: '--from' is hexdump
+
+For more information, try '--help'.
+";
+
 /// What is typed at a terminal.
-fn typed(form: Form) -> &'static str {
+fn typed(form: Form, dumped: bool) -> &'static str {
     match form {
+        Form::Hex if dumped => "a dump",
         Form::Hex => "hexadecimal digits",
         Form::Raw => "bytes",
     }
 }
 
-/// Explains a source.
-fn explain_source<R: Source, W: Sink>(
+/// Explains a dump.
+fn explain_dumped<R: Source, W: Sink>(
+    alloc: Global,
+    style: Style,
+    max: u16,
+    reader: &mut R,
+    writer: &mut W,
+) -> Ending
+    requires fine { R.state reader.old ≡ Worst.Fine }
+    requires whole { W.broken writer.old ≡ false }
+    requires low { 1 ≤ max }
+    requires high { max ≤ MAX_COUNT }
+    ensures explains { (input : List ℕ) → R.left reader.old ≡ Some input
+        → ExplainsDumpTo style max input (R.left reader.new) (W.contents writer.old)
+        (W.contents writer.new) result }
+    ensures read { R.state reader.new ≢ Worst.Fine → result ≡ Ending.Fault Fault.Read }
+    ensures read_only { result ≡ Ending.Fault Fault.Read → (R.state reader.new ≢ Worst.Fine)
+        ⊎ GaveMost (R.left reader.old) (R.left reader.new) }
+    ensures write { (result ≡ Ending.Fault Fault.Write) ↔ IsTrue (W.broken writer.new) }
+{
+    match explain_dump(alloc, reader, writer, style, max) {
+        Ok(()) => Ending::Done,
+        Err(fault) => Ending::Fault(Fault::from(fault)),
+    }
+}
+
+/// Explains digits, or bytes as they are.
+fn explain_spelled<R: Source, W: Sink>(
     alloc: Global,
     form: Form,
     style: Style,
@@ -46,11 +91,11 @@ fn explain_source<R: Source, W: Sink>(
     }
 }
 
-/// Explains standard input. Who types it is told what is read.
-pub(crate) fn explain_typed<I: Inputs, R: Source, W: Sink>(
-    inputs: &I,
+/// Explains a source.
+fn explain_source<R: Source, W: Sink>(
     alloc: Global,
     form: Form,
+    dumped: bool,
     style: Style,
     max: u16,
     reader: &mut R,
@@ -61,23 +106,53 @@ pub(crate) fn explain_typed<I: Inputs, R: Source, W: Sink>(
     requires low { 1 ≤ max }
     requires high { max ≤ MAX_COUNT }
     ensures explains { (input : List ℕ) → R.left reader.old ≡ Some input
-        → ExplainsTo form style max input (R.left reader.new) (W.contents writer.old)
+        → ExplainsAs form dumped style max input (R.left reader.new) (W.contents writer.old)
         (W.contents writer.new) result }
     ensures read { R.state reader.new ≢ Worst.Fine → result ≡ Ending.Fault Fault.Read }
     ensures read_only { result ≡ Ending.Fault Fault.Read → (R.state reader.new ≢ Worst.Fine)
         ⊎ GaveMost (R.left reader.old) (R.left reader.new) }
     ensures write { (result ≡ Ending.Fault Fault.Write) ↔ IsTrue (W.broken writer.new) }
 {
-    inputs.await_typing(typed(form));
-    explain_source(alloc, form, style, max, reader, writer)
+    match dumped {
+        true => explain_dumped(alloc, style, max, reader, writer),
+        false => explain_spelled(alloc, form, style, max, reader, writer),
+    }
+}
+
+/// Explains standard input. Who types it is told what is read.
+fn explain_typed<I: Inputs, R: Source, W: Sink>(
+    inputs: &I,
+    alloc: Global,
+    form: Form,
+    dumped: bool,
+    style: Style,
+    max: u16,
+    reader: &mut R,
+    writer: &mut W,
+) -> Ending
+    requires fine { R.state reader.old ≡ Worst.Fine }
+    requires whole { W.broken writer.old ≡ false }
+    requires low { 1 ≤ max }
+    requires high { max ≤ MAX_COUNT }
+    ensures explains { (input : List ℕ) → R.left reader.old ≡ Some input
+        → ExplainsAs form dumped style max input (R.left reader.new) (W.contents writer.old)
+        (W.contents writer.new) result }
+    ensures read { R.state reader.new ≢ Worst.Fine → result ≡ Ending.Fault Fault.Read }
+    ensures read_only { result ≡ Ending.Fault Fault.Read → (R.state reader.new ≢ Worst.Fine)
+        ⊎ GaveMost (R.left reader.old) (R.left reader.new) }
+    ensures write { (result ≡ Ending.Fault Fault.Write) ↔ IsTrue (W.broken writer.new) }
+{
+    inputs.await_typing(typed(form, dumped));
+    explain_source(alloc, form, dumped, style, max, reader, writer)
 }
 
 /// Explains a file, which is opened first.
-pub(crate) fn explain_file<I: Inputs, W: Sink>(
+fn explain_file<I: Inputs, W: Sink>(
     inputs: &I,
     alloc: Global,
     name: &str,
     form: Form,
+    dumped: bool,
     style: Style,
     max: u16,
     writer: &mut W,
@@ -85,15 +160,106 @@ pub(crate) fn explain_file<I: Inputs, W: Sink>(
     requires whole { W.broken writer.old ≡ false }
     requires low { 1 ≤ max }
     requires high { max ≤ MAX_COUNT }
-    ensures explains { ExplainsFile name.now (I.held inputs.now name.now) form style max
+    ensures explains { ExplainsFile name.now (I.held inputs.now name.now) form dumped style max
         (W.contents writer.old) (W.contents writer.new) result }
     ensures write { (result ≡ Ending.Fault Fault.Write) ↔ IsTrue (W.broken writer.new) }
 {
     match inputs.open(name) {
-        Ok(mut opened) => explain_source(alloc, form, style, max, &mut opened, writer),
+        Ok(mut opened) => explain_source(alloc, form, dumped, style, max, &mut opened, writer),
         Err(why) => match String::from_str(alloc, name) {
             Ok(name) => Ending::Unopened(name, why),
             Err(_refused) => Ending::Fault(Fault::Memory),
         },
     }
+}
+
+/// Whether the word for what the input comes from is none that is known, or stands beside bytes as
+/// they are.
+fn is_misused(form: Form, from: Option<&str>) -> bool
+    ensures { result ≡ is_misused_by form from.entry }
+{
+    match from {
+        None => false,
+        Some(word) => match form {
+            Form::Raw => true,
+            Form::Hex => word != "hexdump",
+        },
+    }
+}
+
+/// What is told of such a word.
+fn misuse(form: Form) -> &'static str {
+    match form {
+        Form::Raw => TWO_FORMS,
+        Form::Hex => NO_DUMP,
+    }
+}
+
+/// Explains a file, or standard input where there is none.
+fn explain_named<I: Inputs, R: Source, W: Sink>(
+    inputs: &I,
+    alloc: Global,
+    form: Form,
+    dumped: bool,
+    style: Style,
+    max: u16,
+    file: Option<&str>,
+    reader: &mut R,
+    writer: &mut W,
+) -> Ending
+    requires fine { R.state reader.old ≡ Worst.Fine }
+    requires whole { W.broken writer.old ≡ false }
+    requires low { 1 ≤ max }
+    requires high { max ≤ MAX_COUNT }
+    ensures explains { (input : List ℕ) → R.left reader.old ≡ Some input
+        → ExplainsFrom (I.held inputs.now) file.entry form dumped style max input
+        (R.left reader.new) (W.contents writer.old) (W.contents writer.new) result }
+    ensures read { R.state reader.new ≢ Worst.Fine → result ≡ Ending.Fault Fault.Read }
+    ensures read_only { option_map (λ name. name.now) file.entry ≡ None
+        → result ≡ Ending.Fault Fault.Read → (R.state reader.new ≢ Worst.Fine)
+        ⊎ GaveMost (R.left reader.old) (R.left reader.new) }
+    ensures write { (result ≡ Ending.Fault Fault.Write) ↔ IsTrue (W.broken writer.new) }
+    ensures untouched { option_map (λ name. name.now) file.entry ≢ None
+        → reader.new ≡ reader.old }
+{
+    match file {
+        None => explain_typed(inputs, alloc, form, dumped, style, max, reader, writer),
+        Some(name) => explain_file(inputs, alloc, name, form, dumped, style, max, writer),
+    }
+}
+
+/// Explains what the words ask for.
+pub(crate) fn explain_asked<I: Inputs, R: Source, W: Sink>(
+    inputs: &I,
+    alloc: Global,
+    form: Form,
+    from: Option<&str>,
+    style: Style,
+    max: u16,
+    file: Option<&str>,
+    reader: &mut R,
+    writer: &mut W,
+) -> Ending
+    requires fine { R.state reader.old ≡ Worst.Fine }
+    requires whole { W.broken writer.old ≡ false }
+    requires low { 1 ≤ max }
+    requires high { max ≤ MAX_COUNT }
+    ensures explains { (input : List ℕ) → R.left reader.old ≡ Some input
+        → ExplainsAsked (I.held inputs.now) form from.entry style max file.entry input
+        (R.left reader.new) (W.contents writer.old) (W.contents writer.new) result }
+    ensures read { R.state reader.new ≢ Worst.Fine → result ≡ Ending.Fault Fault.Read }
+    ensures read_only { option_map (λ name. name.now) file.entry ≡ None
+        → result ≡ Ending.Fault Fault.Read → (R.state reader.new ≢ Worst.Fine)
+        ⊎ GaveMost (R.left reader.old) (R.left reader.new) }
+    ensures write { (result ≡ Ending.Fault Fault.Write) ↔ IsTrue (W.broken writer.new) }
+    ensures untouched { option_map (λ name. name.now) file.entry ≢ None
+        → reader.new ≡ reader.old }
+{
+    if is_misused(form, from) {
+        return usage(alloc, misuse(form));
+    }
+    let dumped = from.is_some();
+    explain_named(
+        inputs, alloc, form, dumped, style, max, file, reader, writer,
+    )
 }

@@ -1,8 +1,8 @@
 //! Why a command wasn't done to its end.
 ghost use Rattle.std.specs.Prelude.{◌≡◌};
-ghost use Rattle.ddcmp_cli.specs.Endings.{explain_fault, script_fault, serve_fault};
+ghost use Rattle.ddcmp_cli.specs.Endings.{dump_fault, explain_fault, script_fault, serve_fault};
 
-use ddcmp_explain::ExplainFault;
+use ddcmp_explain::{DumpFault, ExplainFault, NotDumped};
 use ddcmp_script::ScriptFault;
 use ddcmp_serve::ServeFault;
 use ddcmp_station::LineFault;
@@ -15,6 +15,8 @@ pub enum Fault {
     Odd,
     /// The index of the first byte that is neither a digit nor blank, counted from 0.
     NotHex(u64),
+    /// A line is none of a dump.
+    Dump(NotDumped),
     /// This line of a script is no command.
     Line(u64),
     /// A word of this line has digits that aren't hexadecimal, or too few or too many of them.
@@ -40,6 +42,19 @@ impl From<ExplainFault> for Fault {
             ExplainFault::Read => Fault::Read,
             ExplainFault::Write => Fault::Write,
             ExplainFault::Memory => Fault::Memory,
+        }
+    }
+}
+
+impl From<DumpFault> for Fault {
+    ghost from_gives = { λ fault made. made ≡ dump_fault fault };
+
+    fn from(fault: DumpFault) -> Fault {
+        match fault {
+            DumpFault::Line(line) => Fault::Dump(line),
+            DumpFault::Read => Fault::Read,
+            DumpFault::Write => Fault::Write,
+            DumpFault::Memory => Fault::Memory,
         }
     }
 }
@@ -78,6 +93,7 @@ impl fmt::Display for Fault {
         match self {
             Fault::Odd => ExplainFault::Odd.fmt(f),
             Fault::NotHex(index) => ExplainFault::NotHex(*index).fmt(f),
+            Fault::Dump(line) => line.fmt(f),
             Fault::Line(line) => ScriptFault::Line(*line).fmt(f),
             Fault::Hex(line) => ScriptFault::Hex(*line).fmt(f),
             Fault::Message => f.write_str("not hexadecimal"),

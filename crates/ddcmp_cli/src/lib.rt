@@ -1,6 +1,7 @@
 //! The command `ddcmp`: runs what its words ask for, and turns faults into statuses.
 #![tactic(auto)]
 
+pub mod connections;
 mod drawing;
 pub mod ending;
 mod explain_input;
@@ -12,9 +13,10 @@ mod simulating;
 mod stationing;
 mod tapping;
 
+pub use connections::{Connection, Connections};
 pub use ddcmp_explain::{
-    ExplainFault, Form, Notation, Style, explain, explain_as, explain_fault, explain_with,
-    explaining, form, notation, style,
+    DumpFault, ExplainFault, Form, NotDumped, Notation, Style, dump_fault, dumped, explain,
+    explain_as, explain_dump, explain_fault, explain_with, explaining, form, notation, style,
 };
 pub use ddcmp_pump::{TapFault, tap_fault};
 pub use ddcmp_serve::{SERVED_MAX, ServeFault, serve, serve_fault, serving};

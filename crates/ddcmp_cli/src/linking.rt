@@ -32,6 +32,7 @@ fn options_of<'a>(linked: &Linked<'a>, line: LineName<'a>) -> Options<'a> {
         again: linked.again,
         seconds: linked.seconds,
         counters: linked.counters,
+        trace: linked.trace,
     }
 }
 

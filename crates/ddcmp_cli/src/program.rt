@@ -8,13 +8,14 @@ ghost use Rattle.ddcmp_words.specs.declared.served.Served.{Served as ServedValue
 ghost use Rattle.ddcmp_cli.specs.Endings.{CanRun, Ends, ExplainsOrNoMemory, Performs, Shows};
 ghost use Rattle.ddcmp_words.specs.declared.tapped.Tapped.{Tapped as TappedValue};
 ghost use Rattle.ddcmp_cli.specs.Endings.{file_named, is_refusal, Stations, StationsOrNoMemory};
-ghost use Rattle.ddcmp_cli.specs.TapEndings.{Taps};
+ghost use Rattle.ddcmp_cli.specs.Endings.{TapsAsked, TapsOrNoMemory};
 ghost use Rattle.ddcmp_words.specs.declared.linked.Linked.{Linked as LinkedValue};
 ghost use Rattle.ddcmp_cli.specs.LinkEndings.{IsLinkEnding};
 
+use crate::connections::Connections;
 use crate::drawing::{show_pair, show_simulation};
 use crate::ending::Ending;
-use crate::explain_input::{explain_file, explain_typed};
+use crate::explain_input::explain_asked;
 use crate::fault::Fault;
 use crate::inputs::Inputs;
 use crate::linking::{Lines, link};
@@ -32,18 +33,16 @@ use std::net::{Net, TcpStream};
 use std::{io, time};
 
 /// Runs a command.
-fn perform<S: Net<Stream = TcpStream> + time::Clock + Inputs + Lines, R: Source, W: Sink>(
-    system: &S,
-    alloc: Global,
-    command: Command<'_>,
-    reader: &mut R,
-    writer: &mut W,
-) -> Ending
+fn perform<
+    S: Net<Stream = TcpStream> + time::Clock + Inputs + Connections + Lines,
+    R: Source,
+    W: Sink,
+>(system: &S, alloc: Global, command: Command<'_>, reader: &mut R, writer: &mut W) -> Ending
     requires fine { R.state reader.old ≡ Worst.Fine }
     requires whole { W.broken writer.old ≡ false }
     requires runs { CanRun command }
     ensures performs { (input : List ℕ) → R.left reader.old ≡ Some input
-        → Performs (S.held system.now) command.entry input (R.left reader.new)
+        → Performs (S.held system.now) (S.peers system.now) command.entry input (R.left reader.new)
         (W.contents writer.old) (W.contents writer.new) result }
     ensures read { name_of command.entry ≢ codes "link"
         → R.state reader.new ≢ Worst.Fine → result ≡ Ending.Fault Fault.Read }
@@ -59,10 +58,10 @@ fn perform<S: Net<Stream = TcpStream> + time::Clock + Inputs + Lines, R: Source,
     ensures untouched { file_named command.entry ≢ None → reader.new ≡ reader.old }
     ensures stations { (served : ServedValue) → command.entry ≡ Command.Station served
         → (reader.new ≡ reader.old)
-        × Stations served (W.contents writer.old) (W.contents writer.new) result }
+        × Stations (S.peers system.now) served (W.contents writer.old) (W.contents writer.new) result }
     ensures taps { (tapped : TappedValue) → command.entry ≡ Command.Tap tapped
         → (reader.new ≡ reader.old)
-        × Taps (W.contents writer.old) (W.contents writer.new) result
+        × TapsAsked tapped (W.contents writer.old) (W.contents writer.new) result
         × (IsTrue (W.broken writer.new) → result ≡ Ending.Fault Fault.Write) }
     ensures links { (linked : LinkedValue) → command.entry ≡ Command.Link linked
         → IsLinkEnding result }
@@ -70,13 +69,11 @@ fn perform<S: Net<Stream = TcpStream> + time::Clock + Inputs + Lines, R: Source,
     match command {
         Command::Explain {
             form,
+            from,
             style,
             max,
             file,
-        } => match file {
-            None => explain_typed(system, alloc, form, style, max, reader, writer),
-            Some(name) => explain_file(system, alloc, name, form, style, max, writer),
-        },
+        } => explain_asked(system, alloc, form, from, style, max, file, reader, writer),
         Command::Simulate(config, view) => show_simulation(alloc, config, view, reader, writer),
         Command::Pair(config, view) => show_pair(system, alloc, config, view, reader, writer),
         Command::Station(served) => station(system, alloc, &served, writer),
@@ -99,20 +96,18 @@ fn show<W: Sink>(writer: &mut W, text: &str) -> Ending
 
 /// Runs the command that the words ask for, from the input to the output. The first word is the
 /// program's name; `system` opens files and a station's connection, and tells the time.
-pub fn run<S: Net<Stream = TcpStream> + time::Clock + Inputs + Lines, R: Source, W: Sink>(
-    system: &S,
-    alloc: Global,
-    words: &[&str],
-    reader: &mut R,
-    writer: &mut W,
-) -> Ending
+pub fn run<
+    S: Net<Stream = TcpStream> + time::Clock + Inputs + Connections + Lines,
+    R: Source,
+    W: Sink,
+>(system: &S, alloc: Global, words: &[&str], reader: &mut R, writer: &mut W) -> Ending
     requires fine { R.state reader.old ≡ Worst.Fine }
     requires whole { W.broken writer.old ≡ false }
     ensures explains { (input : List ℕ) → R.left reader.old ≡ Some input
         → IsAsked (map (λ word. word.now) words.now) (codes "explain")
         → ExplainsOrNoMemory (S.held system.now) (map (λ word. word.now) words.now) input
         (R.left reader.new) (W.contents writer.old) (W.contents writer.new) result }
-    ensures ends { Ends (S.held system.now) (map (λ word. word.now) words.now)
+    ensures ends { Ends (S.held system.now) (S.peers system.now) (map (λ word. word.now) words.now)
         (R.left reader.old) (R.left reader.new) (W.contents writer.old) (W.contents writer.new)
         result }
     ensures refused { IsOutOfOrder (map (λ word. word.now) words.now)
@@ -134,11 +129,12 @@ pub fn run<S: Net<Stream = TcpStream> + time::Clock + Inputs + Lines, R: Source,
         → reader.new ≡ reader.old }
     ensures stations { IsAsked (map (λ word. word.now) words.now) (codes "station")
         → (reader.new ≡ reader.old)
-        × StationsOrNoMemory (map (λ word. word.now) words.now) (W.contents writer.old)
+        × StationsOrNoMemory (S.peers system.now) (map (λ word. word.now) words.now) (W.contents writer.old)
         (W.contents writer.new) result }
     ensures taps { IsAsked (map (λ word. word.now) words.now) (codes "tap")
         → (reader.new ≡ reader.old)
-        × Taps (W.contents writer.old) (W.contents writer.new) result
+        × TapsOrNoMemory (map (λ word. word.now) words.now) (W.contents writer.old)
+        (W.contents writer.new) result
         × (IsTrue (W.broken writer.new) → result ≡ Ending.Fault Fault.Write) }
     ensures links { IsAsked (map (λ word. word.now) words.now) (codes "link")
         → IsLinkEnding result }
@@ -164,7 +160,11 @@ fn texts(alloc: Global, args: &[String]) -> Result<Vec<&str>, AllocError>
 
 /// Runs the command that the words ask for, as the system gives them: they may be no text, or
 /// have found no memory.
-pub fn run_args<S: Net<Stream = TcpStream> + time::Clock + Inputs + Lines, R: Source, W: Sink>(
+pub fn run_args<
+    S: Net<Stream = TcpStream> + time::Clock + Inputs + Connections + Lines,
+    R: Source,
+    W: Sink,
+>(
     system: &S,
     alloc: Global,
     args: io::Result<Vec<String>>,
@@ -177,7 +177,7 @@ pub fn run_args<S: Net<Stream = TcpStream> + time::Clock + Inputs + Lines, R: So
         → IfOk args (λ words. IsAsked (map string_bytes words.items) (codes "explain")
         → ExplainsOrNoMemory (S.held system.now) (map string_bytes words.items) input
         (R.left reader.new) (W.contents writer.old) (W.contents writer.new) result) }
-    ensures ends { IfOk args (λ words. Ends (S.held system.now) (map string_bytes words.items)
+    ensures ends { IfOk args (λ words. Ends (S.held system.now) (S.peers system.now) (map string_bytes words.items)
         (R.left reader.old) (R.left reader.new) (W.contents writer.old) (W.contents writer.new)
         result) }
     ensures refused { IfOk args (λ words. IsOutOfOrder (map string_bytes words.items)
@@ -208,11 +208,12 @@ pub fn run_args<S: Net<Stream = TcpStream> + time::Clock + Inputs + Lines, R: So
         → reader.new ≡ reader.old) }
     ensures stations { IfOk args (λ words. IsAsked (map string_bytes words.items) (codes "station")
         → (reader.new ≡ reader.old)
-        × StationsOrNoMemory (map string_bytes words.items) (W.contents writer.old)
+        × StationsOrNoMemory (S.peers system.now) (map string_bytes words.items) (W.contents writer.old)
         (W.contents writer.new) result) }
     ensures taps { IfOk args (λ words. IsAsked (map string_bytes words.items) (codes "tap")
         → (reader.new ≡ reader.old)
-        × Taps (W.contents writer.old) (W.contents writer.new) result
+        × TapsOrNoMemory (map string_bytes words.items) (W.contents writer.old)
+        (W.contents writer.new) result
         × (IsTrue (W.broken writer.new) → result ≡ Ending.Fault Fault.Write)) }
     ensures links { IfOk args (λ words. IsAsked (map string_bytes words.items) (codes "link")
         → IsLinkEnding result) }

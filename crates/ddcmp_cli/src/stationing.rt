@@ -5,14 +5,14 @@ ghost use Rattle.hex.specs.Hex.{decode_of};
 ghost use Rattle.ddcmp_cli.specs.Endings.{is_refusal, Stations};
 ghost use Rattle.ddcmp_cli.specs.LinkEndings.{IsLinkEnding};
 
+use crate::connections::Connections;
 use crate::ending::Ending;
 use crate::fault::Fault;
-use ddcmp_io::{FromRead, Sink, ToWrite};
-use ddcmp_net::{Elapsed, accept, connect};
+use ddcmp_io::Sink;
+use ddcmp_net::Elapsed;
 use ddcmp_serve::{SERVED_MAX, serve};
-use ddcmp_words::{Role, Served};
+use ddcmp_words::Served;
 use std::alloc::Global;
-use std::net::{Net, TcpStream};
 use std::time;
 
 /// What is told where the word for the role is another.
@@ -54,14 +54,14 @@ fn message_in<'a>(digits: &str, buffer: &'a mut [u8]) -> Option<&'a [u8]>
 }
 
 /// Opens a connection, and drives a station over it that says what happens.
-pub(crate) fn station<S: Net<Stream = TcpStream> + time::Clock, W: Sink>(
+pub(crate) fn station<S: Connections + time::Clock, W: Sink>(
     system: &S,
     alloc: Global,
     served: &Served<'_>,
     report: &mut W,
 ) -> Ending
     requires { W.broken report.old ≡ false }
-    ensures stations { Stations served.now (W.contents report.old) (W.contents report.new) result }
+    ensures stations { Stations (S.peers system.now) served.now (W.contents report.old) (W.contents report.new) result }
     ensures whole { result ≡ Ending.Done → W.broken report.new ≡ false }
 {
     let Some(role) = served.role else {
@@ -74,17 +74,13 @@ pub(crate) fn station<S: Net<Stream = TcpStream> + time::Clock, W: Sink>(
     let Some(message) = message_in(served.send, &mut buffer) else {
         return Ending::Fault(Fault::Message);
     };
-    let opened = match role {
-        Role::Connect => connect(system, served.addr),
-        Role::Listen => accept(system, served.addr),
-    };
-    let Ok(stream) = opened else {
+    let Some(mut line) = system.connection(role, served.addr) else {
         return Ending::Fault(Fault::Carrier);
     };
     match serve(
         alloc,
-        &mut FromRead::new(&stream),
-        &mut ToWrite::new(&stream),
+        &mut line.reader,
+        &mut line.writer,
         report,
         &mut Elapsed::new(system),
         message,

@@ -1,12 +1,16 @@
 //! A tap between two addresses.
 ghost use Rattle.std.specs.Prelude.{◌≡◌, ◌≤◌, IsTrue, false};
 ghost use Rattle.ddcmp_core.specs.Limits.{MAX_COUNT};
+ghost use Rattle.ddcmp_cli.specs.Endings.{TapsAsked, is_json as is_json_notation, is_refusal};
 ghost use Rattle.ddcmp_cli.specs.TapEndings.{Taps, tap_fault};
 
 use crate::ending::Ending;
 use crate::fault::Fault;
+use crate::stationing::usage;
+use ddcmp_explain::Notation;
 use ddcmp_io::Sink;
 use ddcmp_pump::TapFault;
+use ddcmp_tap::Notation as TapNotation;
 use ddcmp_words::Tapped;
 use std::alloc::Global;
 use std::net::{Net, TcpStream};
@@ -25,8 +29,33 @@ impl From<TapFault> for Fault {
     }
 }
 
+/// What is told where both JSON and a ladder are asked for.
+const TWO_NOTATIONS: &str = "\
+error: '--json' and '--ladder' can't be used together
+
+For more information, try '--help'.
+";
+
+fn is_json(notation: Notation) -> bool
+    ensures { result ≡ is_json_notation notation }
+{
+    match notation {
+        Notation::Plain => false,
+        Notation::Json => true,
+    }
+}
+
+/// How the tap tells what passes.
+fn told_as(tapped: &Tapped<'_>) -> TapNotation {
+    match (tapped.notation, tapped.ladder) {
+        (_, true) => TapNotation::Ladder,
+        (Notation::Plain, false) => TapNotation::Plain,
+        (Notation::Json, false) => TapNotation::Json,
+    }
+}
+
 /// Opens both connections, and stands between them until both sides have ended.
-pub(crate) fn tap<S: Net<Stream = TcpStream> + time::Clock, W: Sink>(
+fn tap_between<S: Net<Stream = TcpStream> + time::Clock, W: Sink>(
     system: &S,
     alloc: Global,
     tapped: &Tapped<'_>,
@@ -43,12 +72,32 @@ pub(crate) fn tap<S: Net<Stream = TcpStream> + time::Clock, W: Sink>(
         alloc,
         tapped.listen,
         tapped.connect,
-        tapped.notation,
+        told_as(tapped),
         tapped.time,
         tapped.max,
         writer,
     ) {
         Ok(()) => Ending::Done,
         Err(fault) => Ending::Fault(Fault::from(fault)),
+    }
+}
+
+/// A tap, as the words ask for it.
+pub(crate) fn tap<S: Net<Stream = TcpStream> + time::Clock, W: Sink>(
+    system: &S,
+    alloc: Global,
+    tapped: &Tapped<'_>,
+    writer: &mut W,
+) -> Ending
+    requires whole { W.broken writer.old ≡ false }
+    requires low { 1 ≤ tapped.now.max }
+    requires high { tapped.now.max ≤ MAX_COUNT }
+    ensures taps { TapsAsked tapped.now (W.contents writer.old) (W.contents writer.new) result }
+    ensures written { IsTrue (W.broken writer.new) → result ≡ Ending.Fault Fault.Write }
+{
+    let misused = tapped.ladder && is_json(tapped.notation);
+    match misused {
+        true => usage(alloc, TWO_NOTATIONS),
+        false => tap_between(system, alloc, tapped, writer),
     }
 }

@@ -1,3 +1,4 @@
+pub mod DumpLaws
 pub mod HexValues
 pub mod ByteTexts
 pub mod DigitLaws

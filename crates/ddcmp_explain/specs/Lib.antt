@@ -1,3 +1,4 @@
+pub mod Dumps
 pub mod Digits
 pub mod Decoding
 pub mod Text
@@ -8,3 +9,4 @@ pub mod Heads
 pub mod Explains
 pub mod Progress
 pub mod Putting
+pub mod Label

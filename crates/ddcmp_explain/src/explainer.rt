@@ -15,7 +15,7 @@ use ddcmp_io::input::read_within;
 use ddcmp_io::{Got, Sink, Source, Worst};
 
 /// How many bytes of input are read at once.
-const PIECE: usize = 4096;
+pub(crate) const PIECE: usize = 4096;
 
 /// What the input so far says.
 #[derive(Drop)]
@@ -46,7 +46,7 @@ impl Explainer {
     }
 
     /// Takes a piece of the input, and writes the lines of the items that it completes.
-    fn take<W: Sink>(&mut self, writer: &mut W, piece: &[u8]) -> Result<(), ExplainFault>
+    pub(crate) fn take<W: Sink>(&mut self, writer: &mut W, piece: &[u8]) -> Result<(), ExplainFault>
         requires size { length piece.now ≤ PIECE }
         requires room { self.old.seen + length piece.now < 2 ^ 64 }
         ensures form { self.new.decoder.form ≡ self.old.decoder.form }
@@ -76,7 +76,7 @@ impl Explainer {
     }
 
     /// Writes the last line of an input that spells whole bytes.
-    fn finish<W: Sink>(&mut self, writer: &mut W) -> Result<(), ExplainFault>
+    pub(crate) fn finish<W: Sink>(&mut self, writer: &mut W) -> Result<(), ExplainFault>
         requires { W.broken writer.old ≡ false }
         ensures seen { self.new.seen ≡ self.old.seen }
         ensures never_read { result ≢ Err ExplainFault.Read }

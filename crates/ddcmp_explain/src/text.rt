@@ -109,7 +109,7 @@ pub(crate) fn put_header(line: &mut [u8; LINE], at: usize, header: &Header) -> u
     }
 }
 
-fn put_fault(line: &mut [u8; LINE], at: usize, fault: &HeaderFault) -> usize
+pub(crate) fn put_fault(line: &mut [u8; LINE], at: usize, fault: &HeaderFault) -> usize
     requires { at + 8 ≤ LINE }
     ensures puts { Puts line.old at line.new result (fault_text fault.now) }
     ensures within { result ≤ at + 8 }

@@ -2,7 +2,8 @@
 ghost use Rattle.std.specs.Prelude.{◌≤◌, length};
 
 use crate::short_text::ShortText;
-use ddcmp_frame::{ControlType, Counted, Header, Short};
+use ddcmp_explain::{LABEL_ROOM, label_frame};
+use ddcmp_frame::Header;
 use ddcmp_pair::{Notice, Station};
 use ddcmp_station_text::{notice_name, notice_number, state_name};
 
@@ -41,52 +42,14 @@ fn header_of(bytes: &[u8]) -> Option<Header> {
     }
 }
 
-fn control_label(header: &Short) -> ShortText {
-    let text = ShortText::new();
-    match header.kind {
-        ControlType::Ack => text.with(b"ACK resp=").with_number(header.resp as u64),
-        ControlType::Nak => text
-            .with(b"NAK ")
-            .with_number(header.sub as u64)
-            .with(b" resp=")
-            .with_number(header.resp as u64),
-        ControlType::Rep => text.with(b"REP ").with_number(header.num as u64),
-        ControlType::Strt => text.with(b"STRT"),
-        ControlType::Stack => text.with(b"STACK"),
-    }
-}
-
-/// Behind the label of a frame with data stands how many bytes they are.
-fn with_count(text: ShortText, count: u64) -> ShortText {
-    let counted = text.with(b" (").with_number(count);
-    if count == 1 {
-        counted.with(b" byte)")
-    } else {
-        counted.with(b" bytes)")
-    }
-}
-
-fn data_label(header: &Counted) -> ShortText {
-    let text = ShortText::new()
-        .with(b"DATA ")
-        .with_number(header.num as u64)
-        .with(b" resp=")
-        .with_number(header.resp as u64);
-    with_count(text, header.count as u64)
-}
-
-fn header_label(header: &Header) -> ShortText {
-    match header {
-        Header::Data(fields) => data_label(fields),
-        Header::Maint(fields) => with_count(ShortText::new().with(b"MAINT"), fields.count as u64),
-        Header::Control(fields) => control_label(fields),
-    }
-}
-
 /// The label of a frame, by its header; of other bytes the digits.
 pub(crate) fn label_of(bytes: &[u8]) -> ShortText {
     match header_of(bytes) {
-        Some(header) => header_label(&header),
+        Some(header) => {
+            let mut label = [0; LABEL_ROOM];
+            let end = label_frame(&mut label, &header);
+            ShortText::new().with(&label[..end])
+        }
         None => ShortText::new().with(b"bytes: ").with_bytes(bytes),
     }
 }

@@ -3,7 +3,7 @@
 ghost use Rattle.std.specs.Prelude.{◌≡◌, ◌≢◌, ◌<◌, ◌↔◌, Bool, Err, IsOk, IsTrue, Ok, ℕ};
 ghost use Rattle.std.specs.Prelude.{false, is_some, length, true};
 ghost use Rattle.ddcmp_io.specs.Written.{Known};
-ghost use Rattle.ddcmp_explain.specs.declared.notation.Notation.{Notation};
+ghost use Rattle.ddcmp_tap.specs.declared.notation.Notation.{Notation};
 ghost use Rattle.ddcmp_pump.specs.Pumping.{Begins, Ends, HasSaid, FlowView, IsOfSide, Moves, Pumps};
 ghost use Rattle.ddcmp_pump.specs.Pumping.{Runs, Stops, Turns, flow_of};
 ghost use Rattle.ddcmp_pump.specs.declared.tap_fault.TapFault.{TapFault as TapFaultValue};

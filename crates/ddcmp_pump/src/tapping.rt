@@ -1,18 +1,34 @@
 //! A tap between two addresses.
-ghost use Rattle.std.specs.Prelude.{◌≡◌, ◌≢◌, ◌<◌, ◌≤◌, ◌↔◌, Err, IsTrue, false};
+ghost use Rattle.std.specs.Prelude.{◌≡◌, ◌≢◌, ◌<◌, ◌≤◌, ◌↔◌, Err, IsTrue, false, not};
 ghost use Rattle.ddcmp_frame.specs.Limits.{MAX_COUNT};
 
 use crate::flow::Flow;
 use crate::pumping::pump;
 use crate::sockets::{Sockets, ToSocket};
 use crate::tap_fault::TapFault;
-use ddcmp_io::{FromRead, Sink};
+use ddcmp_io::{FromRead, Sink, write_all};
 use ddcmp_net::Elapsed;
 use ddcmp_tap::{Direction, Notation, ROOM, Side};
 use mio::net::TcpStream;
 use std::alloc::Global;
 use std::net::{self, Net, OpenListener, TcpListener};
 use std::{io, time};
+
+/// The head of a ladder, which says who stands on which side.
+const LADDER_HEAD: &[u8] =
+    b"> who connected to the tap                         whom the tap connected to <\n";
+
+/// Writes what stands above all that passes: whether it went out.
+fn write_head<W: Sink>(writer: &mut W, notation: Notation) -> bool
+    requires whole { W.broken writer.old ≡ false }
+    ensures broken { W.broken writer.new ≡ not result }
+{
+    match notation {
+        Notation::Plain => true,
+        Notation::Json => true,
+        Notation::Ladder => write_all(writer, LADDER_HEAD).is_ok(),
+    }
+}
 
 /// A connection that neither waits nor holds bytes back to fill a packet.
 fn prompt(stream: net::TcpStream) -> io::Result<TcpStream> {
@@ -96,6 +112,9 @@ fn between<C: time::Clock, W: Sink>(
     let Ok(mut buffer) = Vec::from_elem(alloc, 0u8, ROOM) else {
         return Err(TapFault::Memory);
     };
+    if !write_head(writer, notation) {
+        return Err(TapFault::Report);
+    }
     pump(
         &mut Flow::new(up, FromRead::new(caller), ToSocket::new(called)),
         &mut Flow::new(down, FromRead::new(called), ToSocket::new(caller)),

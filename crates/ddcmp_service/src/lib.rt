@@ -9,9 +9,11 @@ mod line;
 mod line_name;
 mod messages;
 mod opening;
+mod outlet;
 mod report;
 mod running;
 mod service;
+mod trace;
 mod waiting;
 
 pub use fault::{NotOpened, ServiceFault};

@@ -19,7 +19,7 @@ pub(crate) enum Line {
 }
 
 /// What became of a read from a line, or of a write to it.
-#[derive(Clone, Copy, Debug, PartialEq, Eq)]
+#[derive(Clone, Copy, PartialEq, Eq)]
 pub(crate) enum Moved {
     Bytes(usize),
     /// Nothing came, or there was no room.
@@ -29,7 +29,7 @@ pub(crate) enum Moved {
 }
 
 /// What a call of the system gave.
-fn moved_by(answer: io::Result<usize>) -> Moved {
+pub(crate) fn moved_by(answer: io::Result<usize>) -> Moved {
     match answer {
         Ok(n) => Moved::Bytes(n),
         Err(error) => match error.kind() {

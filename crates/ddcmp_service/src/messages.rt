@@ -1,7 +1,6 @@
 //! Messages on standard input: a line of hexadecimal digits each, or bytes after their length.
 use ddcmp_messages::{Entry, HexLines, Lengths};
 use std::alloc::{AllocError, Global};
-use std::fmt;
 
 /// How messages are written on standard input and output.
 #[derive(Clone, Copy, Debug, PartialEq, Eq)]
@@ -13,7 +12,7 @@ pub enum Form {
 }
 
 /// Why a part of the input is no message.
-#[derive(Clone, Copy, Debug, PartialEq, Eq)]
+#[derive(Clone, Copy)]
 pub(crate) enum Refusal {
     NotHexadecimal,
     /// It is longer than the longest, or in binary has no bytes.
@@ -22,18 +21,19 @@ pub(crate) enum Refusal {
     Unfinished,
 }
 
-impl fmt::Display for Refusal {
-    fn fmt<W: fmt::Write>(&self, f: &mut fmt::Formatter<W>) -> fmt::Result {
-        f.write_str(match self {
-            Refusal::NotHexadecimal => "not hexadecimal",
-            Refusal::TooLong => "too long",
-            Refusal::Unfinished => "unfinished",
-        })
+impl Refusal {
+    /// The reason in words.
+    pub(crate) fn words(self) -> &'static [u8] {
+        match self {
+            Refusal::NotHexadecimal => b"not hexadecimal",
+            Refusal::TooLong => b"too long",
+            Refusal::Unfinished => b"unfinished",
+        }
     }
 }
 
 /// What a part of the input is.
-#[derive(Clone, Copy, Debug, PartialEq, Eq)]
+#[derive(Clone, Copy)]
 pub(crate) enum Part {
     /// A message, which `Messages::message` has until more bytes are taken.
     Message,

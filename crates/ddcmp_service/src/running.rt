@@ -4,8 +4,9 @@ ghost use Rattle.std.specs.Prelude.{◌≡◌, ◌≢◌, false};
 
 use crate::held::Held;
 use crate::line::{Line, Moved};
-use crate::messages::{Form, Messages, Part};
-use crate::report::Told;
+use crate::messages::{Form, Messages, Part, Refusal};
+use crate::outlet::Outlet;
+use crate::trace::{Trace, Way};
 use crate::waiting::{Waiting, Wanted};
 use ddcmp_io::text::{write_hex, write_number};
 use ddcmp_io::{Got, Page, Sink, Source, Worst, write_all};
@@ -17,14 +18,11 @@ use std::io::Eprint;
 /// The bytes of standard input and of the line that are read at once.
 const PIECE: usize = 65536;
 
-/// The most bytes that standard output is given at once: a pipe that is told of has room for them.
-const OUTPUT_PIECE: usize = 4096;
-
 /// The most bytes of text that one message or notice can make.
-const MOST_TEXT: usize = 2 * 16383 + 64;
+pub(crate) const MOST_TEXT: usize = 2 * 16383 + 64;
 
 /// Why a service stops.
-#[derive(Clone, Copy, Debug, PartialEq, Eq)]
+#[derive(Clone, Copy, PartialEq, Eq)]
 pub(crate) enum Stop {
     /// The line has ended or failed, or the station was halted by what came.
     Line,
@@ -32,10 +30,19 @@ pub(crate) enum Stop {
     Write,
 }
 
+/// Where what is said goes, and what is told beside it.
+#[derive(Drop)]
+pub(crate) struct Streams {
+    pub(crate) output: Outlet,
+    pub(crate) errors: Outlet,
+}
+
 /// The link of a service, with what waits between it and the devices.
 #[derive(Drop)]
 pub(crate) struct Desk {
     pub(crate) link: Link,
+    streams: Streams,
+    trace: Option<Trace>,
     form: Form,
     messages: Messages,
     /// What came of standard input and wasn't looked at.
@@ -58,15 +65,25 @@ pub(crate) struct Desk {
 
 impl Desk {
     /// Takes all the memory that it will need.
-    pub(crate) fn new(alloc: Global, link: Link, form: Form, max: u16) -> Result<Desk, AllocError> {
+    pub(crate) fn new(
+        alloc: Global,
+        link: Link,
+        streams: Streams,
+        trace: Option<Trace>,
+        form: Form,
+    ) -> Result<Desk, AllocError> {
+        let max = link.config().max;
+        let most_noted = if trace.is_some() { 8 * PIECE } else { PIECE };
         Ok(Desk {
             link,
+            streams,
+            trace,
             form,
             messages: Messages::new(alloc, form, max)?,
             typed: Held::new(alloc, PIECE)?,
             came: Held::new(alloc, PIECE)?,
             said: Held::new(alloc, PIECE + 2 * MOST_TEXT)?,
-            noted: Held::new(alloc, PIECE)?,
+            noted: Held::new(alloc, most_noted)?,
             mail: Vec::from_elem(alloc, 0u8, max as usize)?,
             input_is_over: false,
             input_is_read: false,
@@ -85,6 +102,7 @@ impl Desk {
         Wanted {
             input: self.wants_input(),
             output: !self.said.is_empty(),
+            errors: !self.noted.is_empty(),
             from_line: self.wants_line(),
             to_line: !self.link.unsent().is_empty(),
         }
@@ -101,6 +119,14 @@ impl Desk {
     /// Whether all of the input was delivered.
     pub(crate) fn is_done(&self) -> bool {
         self.input_is_read && self.typed.is_empty() && self.link.is_delivered()
+    }
+
+    /// Looks after the station's timer.
+    pub(crate) fn wake(&mut self, now: u64) {
+        let has_expired = wake(&mut self.link, now);
+        if let Some(trace) = &mut self.trace {
+            trace.wake(now, has_expired, &mut self.noted);
+        }
     }
 
     /// Reads standard input, where a message is wanted.
@@ -140,10 +166,10 @@ impl Desk {
     }
 
     /// Gives the station the messages that it has room for.
-    pub(crate) fn offer<E: Eprint>(&mut self, errors: &E) -> bool {
+    pub(crate) fn offer(&mut self) -> bool {
         let mut moved = false;
         for _message in 0..u64::MAX {
-            if !self.link.has_room() {
+            if !self.link.has_room() || !self.has_room_to_note() {
                 break;
             }
             match self.next_part() {
@@ -153,13 +179,27 @@ impl Desk {
                 }
                 Some(Part::Refused { at, why }) => {
                     self.was_refused = true;
-                    let form = self.form;
-                    let _ = errors.eprintln(Told::Refused { form, at, why });
+                    self.tell_refused(at, why);
                 }
             }
             moved = true;
         }
         moved
+    }
+
+    /// Tells of a part of the input that is no message.
+    fn tell_refused(&mut self, at: u64, why: Refusal) {
+        let what: &[u8] = match self.form {
+            Form::Digits => b"ddcmp: line ",
+            Form::Binary => b"ddcmp: message ",
+        };
+        let mut page = Page::new();
+        page.write(&mut self.noted, what);
+        write_number(&mut page, &mut self.noted, at);
+        page.write(&mut self.noted, b": ");
+        page.write(&mut self.noted, why.words());
+        page.write(&mut self.noted, b"\n");
+        let _has_room = page.flush(&mut self.noted);
     }
 
     /// Writes frames to the line, as far as it has room.
@@ -178,12 +218,22 @@ impl Desk {
         }
         match line.write(waiting, self.link.unsent()) {
             Moved::Bytes(n) => {
-                self.link.sent(n.min(self.link.unsent().len()));
+                self.has_sent(n);
                 Ok(true)
             }
             Moved::Nothing => Ok(false),
             Moved::Ended => Err(Stop::Line),
         }
+    }
+
+    /// The line took the first `n` bytes.
+    fn has_sent(&mut self, n: usize) {
+        let unsent = self.link.unsent();
+        let n = n.min(unsent.len());
+        if let Some(trace) = &mut self.trace {
+            trace.tell(Way::ToLine, &unsent[..n], &mut self.noted);
+        }
+        self.link.sent(n);
     }
 
     /// Reads what the line has, where what came before was fed.
@@ -198,6 +248,9 @@ impl Desk {
         match line.read(waiting, &mut self.came) {
             Moved::Bytes(_) => {
                 self.line_has_spoken = true;
+                if let Some(trace) = &mut self.trace {
+                    trace.tell(Way::FromLine, self.came.rest(), &mut self.noted);
+                }
                 Ok(true)
             }
             Moved::Nothing => Ok(false),
@@ -227,8 +280,14 @@ impl Desk {
     }
 
     /// Whether what is said of a piece of the line has room.
-    fn has_room_for_text(&self) -> bool {
-        self.said.room() >= MOST_TEXT && self.noted.room() >= MOST_TEXT
+    fn has_room_for_text(&mut self) -> bool {
+        self.said.room() >= MOST_TEXT && self.has_room_to_note()
+    }
+
+    /// Whether what standard error is to be told of a message has room.
+    fn has_room_to_note(&mut self) -> bool {
+        self.noted.settle();
+        self.noted.room() >= MOST_TEXT
     }
 
     /// Writes a line for a notice: with messages in binary to standard error.
@@ -296,9 +355,28 @@ impl Desk {
         if self.said.is_empty() || !waiting.output.ready.to_write {
             return Ok(false);
         }
+        let output = &mut self.streams.output;
+        match output.write(self.said.rest()) {
+            Some(Moved::Bytes(n)) => {
+                self.said.used(n);
+                return Ok(true);
+            }
+            Some(Moved::Nothing) => {
+                waiting.output.has_written();
+                return Ok(false);
+            }
+            // Where it has failed, the writer learns of it.
+            Some(Moved::Ended) | None => {}
+        }
         waiting.output.has_written();
+        let most = output.most();
+        self.write_by(writer, most)
+    }
+
+    /// Has the writer write some of what is said.
+    fn write_by<W: Sink>(&mut self, writer: &mut W, most: usize) -> Result<bool, Stop> {
         let rest = self.said.rest();
-        let piece = &rest[..rest.len().min(OUTPUT_PIECE)];
+        let piece = &rest[..rest.len().min(most)];
         if piece.is_empty() {
             return Ok(false);
         }
@@ -314,20 +392,46 @@ impl Desk {
         }
     }
 
-    /// Writes to standard error what waits for it.
-    pub(crate) fn write_errors<E: Eprint>(&mut self, errors: &E) {
-        if let Ok(text) = str::from_utf8(self.noted.rest()) {
-            if !text.is_empty() {
-                let _ = errors.eprint(text);
-            }
+    /// Writes what standard error has room for: whether there was anything.
+    pub(crate) fn write_errors<E: Eprint>(&mut self, errors: &E, waiting: &mut Waiting) -> bool {
+        if self.noted.is_empty() || !waiting.errors.ready.to_write {
+            return false;
         }
-        self.noted.clear();
+        let outlet = &mut self.streams.errors;
+        match outlet.write(self.noted.rest()) {
+            Some(Moved::Bytes(n)) => {
+                self.noted.used(n);
+                return true;
+            }
+            Some(Moved::Nothing) => {
+                waiting.errors.has_written();
+                return false;
+            }
+            Some(Moved::Ended) | None => {}
+        }
+        waiting.errors.has_written();
+        let most = outlet.most();
+        self.print_errors(errors, most);
+        true
+    }
+
+    /// Prints some of what waits for standard error.
+    pub(crate) fn print_errors<E: Eprint>(&mut self, errors: &E, most: usize) {
+        let rest = self.noted.rest();
+        let n = rest.len().min(most);
+        if let Ok(text) = str::from_utf8(&rest[..n]) {
+            let _ = errors.eprint(text);
+        }
+        self.noted.used(n);
     }
 
     /// The line is no more: what came and wasn't fed is lost with it.
     pub(crate) fn forget_line(&mut self) {
         self.came.clear();
         self.line_has_spoken = false;
+        if let Some(trace) = &mut self.trace {
+            trace.begin_anew();
+        }
     }
 
     /// Tells how many messages may not have arrived, where there are any.
@@ -368,9 +472,12 @@ impl Desk {
         errors: &E,
         counters: bool,
     ) -> Result<(), Stop> {
-        self.hand_all(writer)?;
-        self.tell_end(counters);
-        self.write_errors(errors);
+        let handed = self.hand_all(writer);
+        if handed.is_ok() {
+            self.tell_end(counters);
+        }
+        self.print_errors(errors, usize::MAX);
+        handed?;
         write_whole(writer, self.said.rest())
     }
 
@@ -381,6 +488,13 @@ impl Desk {
             Form::Binary => write_end(&mut self.noted, &self.link, counters),
         }
     }
+}
+
+/// Looks after the timer of a link: whether it ran out. It stops then, and only then in a call.
+fn wake(link: &mut Link, now: u64) -> bool {
+    let was_on = link.deadline().is_some();
+    link.wake(now);
+    was_on && link.deadline().is_none()
 }
 
 /// Writes the last lines.

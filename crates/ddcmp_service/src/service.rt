@@ -1,13 +1,15 @@
 //! A link over a line, from its opening to its end.
 ghost use Rattle.std.specs.Prelude.{◌≡◌, ◌↔◌, Err, IsTrue};
 
-use crate::fault::{NotOpened, ServiceFault};
+use crate::fault::{Attempt, NotOpened, ServiceFault};
 use crate::line::Line;
 use crate::line_name::LineName;
 use crate::messages::Form;
 use crate::opening::{Opened, Opener};
+use crate::outlet::Outlet;
 use crate::report::Told;
-use crate::running::{Desk, Stop};
+use crate::running::{Desk, MOST_TEXT, Stop, Streams};
+use crate::trace::Trace;
 use crate::waiting::{Waiting, Wanted};
 use ddcmp_io::{Sink, Source};
 use ddcmp_link::{Config, Link};
@@ -15,7 +17,7 @@ use ddcmp_net::Elapsed;
 use ddcmp_station::Clock;
 use std::alloc::Global;
 use std::fs::{File, Files};
-use std::io::Eprint;
+use std::io::{Eprint, ErrorKind};
 use std::net::{self, Net};
 use std::time;
 
@@ -38,6 +40,8 @@ pub struct Options<'a> {
     pub seconds: u32,
     /// Whether counters are written before the last line.
     pub counters: bool,
+    /// Whether the frames of both ways are told on standard error.
+    pub trace: bool,
 }
 
 /// How a service ended that wasn't told to stop by a fault.
@@ -50,7 +54,7 @@ pub enum Served {
 }
 
 /// Why a service stopped before all was delivered.
-#[derive(Clone, Copy, Debug, PartialEq, Eq)]
+#[derive(Clone, Copy)]
 enum Ended<'a> {
     Open(NotOpened<'a>),
     Stopped(Stop),
@@ -58,7 +62,7 @@ enum Ended<'a> {
 }
 
 /// The moments of a service, in milliseconds since it began.
-#[derive(Clone, Copy, Debug, PartialEq, Eq)]
+#[derive(Clone, Copy)]
 struct Moments {
     now: u64,
     /// When it ends as if the input did.
@@ -139,7 +143,7 @@ where
             now: clock.now(),
             end,
         };
-        desk.link.wake(moments.now);
+        desk.wake(moments.now);
         if moments.is_over() {
             desk.end_input();
         }
@@ -164,13 +168,13 @@ fn pass<S: Eprint, R: Source, W: Sink>(
     writer: &mut W,
 ) -> Result<bool, Stop> {
     let read = desk.read_input(reader, waiting)?;
-    let offered = desk.offer(system);
+    let offered = desk.offer();
     let sent = desk.write_line(line, waiting)?;
     let came = desk.read_line(line, waiting)?;
     let fed = desk.feed()?;
     let written = desk.write_output(writer, waiting)?;
-    desk.write_errors(system);
-    Ok(read || offered || sent || came || fed || written)
+    let noted = desk.write_errors(system, waiting);
+    Ok(read || offered || sent || came || fed || written || noted)
 }
 
 /// Runs the link over one line after the other, until all is delivered or a line ends for good.
@@ -232,6 +236,7 @@ where
         if desk.hand_all(writer).is_err() {
             return Err(Ended::Stopped(Stop::Write));
         }
+        desk.print_errors(system, usize::MAX);
     }
     Err(Ended::Stopped(Stop::Line))
 }
@@ -267,28 +272,97 @@ where
         + time::Clock,
     ensures broken { (result ≡ Err ServiceFault.Write) ↔ IsTrue (W.broken writer.new) }
 {
-    let made = make(system, alloc, &options);
-    let (desk, waiting) = match made {
-        Some(made) => made,
-        None => return fault_of(writer, Ended::Memory),
-    };
-    let (mut desk, mut waiting) = (desk, waiting);
-    let ended = run_lines(system, &options, &mut desk, &mut waiting, reader, writer);
-    end(system, &options, &mut desk, writer, ended.is_ok());
+    match make_desk(system, alloc, &options) {
+        Some(mut desk) => serve_desk(system, alloc, &options, &mut desk, reader, writer),
+        None => fault_of(writer, Ended::Memory),
+    }
+}
+
+/// Runs a link that was made, between its devices.
+fn serve_desk<'a, S, R: Source, W: Sink>(
+    system: &S,
+    alloc: Global,
+    options: &Options<'a>,
+    desk: &mut Desk,
+    reader: &mut R,
+    writer: &mut W,
+) -> Result<Served, ServiceFault<'a>>
+where
+    S: Net<Stream = net::TcpStream, Listener = net::TcpListener>
+        + Files<File = File>
+        + Eprint
+        + time::Clock,
+    ensures broken { (result ≡ Err ServiceFault.Write) ↔ IsTrue (W.broken writer.new) }
+{
+    match Waiting::new(system, alloc) {
+        Ok(mut waiting) => serve(system, options, desk, &mut waiting, reader, writer),
+        Err(error) => fault_of(writer, no_epoll(error.kind())),
+    }
+}
+
+/// The system can't wait for several devices, and says why.
+fn no_epoll<'a>(kind: ErrorKind) -> Ended<'a> {
+    Ended::Open(NotOpened {
+        attempt: Attempt::Open,
+        name: "epoll",
+        kind,
+    })
+}
+
+/// Runs a link that has all that it needs.
+fn serve<'a, S, R: Source, W: Sink>(
+    system: &S,
+    options: &Options<'a>,
+    desk: &mut Desk,
+    waiting: &mut Waiting,
+    reader: &mut R,
+    writer: &mut W,
+) -> Result<Served, ServiceFault<'a>>
+where
+    S: Net<Stream = net::TcpStream, Listener = net::TcpListener>
+        + Files<File = File>
+        + Eprint
+        + time::Clock,
+    ensures broken { (result ≡ Err ServiceFault.Write) ↔ IsTrue (W.broken writer.new) }
+{
+    let ended = run_lines(system, options, desk, waiting, reader, writer);
+    end(system, options, desk, writer, ended.is_ok());
+    ending_of(ended, desk.was_refused, writer)
+}
+
+/// How a service ends that ran.
+fn ending_of<'a, W: Sink>(
+    ended: Result<(), Ended<'a>>,
+    was_refused: bool,
+    writer: &W,
+) -> Result<Served, ServiceFault<'a>>
+    ensures broken { (result ≡ Err ServiceFault.Write) ↔ IsTrue (W.broken writer.now) }
+{
     match ended {
         Ok(()) if writer.failed() => Err(ServiceFault::Write),
-        Ok(()) if desk.was_refused => Ok(Served::SomeRefused),
+        Ok(()) if was_refused => Ok(Served::SomeRefused),
         Ok(()) => Ok(Served::Delivered),
         Err(ended) => fault_of(writer, ended),
     }
 }
 
-/// All that a service needs; none where memory, or what waits, is refused.
-fn make<N: Net>(net: &N, alloc: Global, options: &Options<'_>) -> Option<(Desk, Waiting)> {
+/// The link with what stands between it and the devices; none where memory is refused.
+fn make_desk<S: Files<File = File>>(
+    files: &S,
+    alloc: Global,
+    options: &Options<'_>,
+) -> Option<Desk> {
     let link = Link::new(alloc, options.config, options.timer_ms).ok()?;
-    let desk = Desk::new(alloc, link, options.form, options.config.max).ok()?;
-    let waiting = Waiting::new(net, alloc).ok()?;
-    Some((desk, waiting))
+    let trace = if options.trace {
+        Some(Trace::new(alloc, options.config.max, MOST_TEXT).ok()?)
+    } else {
+        None
+    };
+    let streams = Streams {
+        output: Outlet::new(files, "/dev/stdout"),
+        errors: Outlet::new(files, "/dev/stderr"),
+    };
+    Desk::new(alloc, link, streams, trace, options.form).ok()
 }
 
 /// The fault of a service: that of the output first.

@@ -15,12 +15,14 @@ const INPUT: Token = Token(0);
 
 const OUTPUT: Token = Token(1);
 
-const LINE: Token = Token(2);
+const ERRORS: Token = Token(2);
 
-const CALLERS: Token = Token(3);
+const LINE: Token = Token(3);
+
+const CALLERS: Token = Token(4);
 
 /// What is known of a device: whether a read gives something now, and a write takes something.
-#[derive(Clone, Copy, Debug, PartialEq, Eq)]
+#[derive(Clone, Copy)]
 pub(crate) struct Ready {
     pub(crate) to_read: bool,
     pub(crate) to_write: bool,
@@ -45,7 +47,7 @@ impl Ready {
 }
 
 /// A descriptor that waits where it isn't ready, and so is asked for anew before each wait.
-#[derive(Drop)]
+#[derive(Clone, Copy)]
 pub(crate) struct Descriptor {
     number: RawFd,
     token: Token,
@@ -102,10 +104,11 @@ impl Descriptor {
 }
 
 /// What is waited for besides the line's sockets, which tell of themselves.
-#[derive(Clone, Copy, Debug, PartialEq, Eq)]
+#[derive(Clone, Copy)]
 pub(crate) struct Wanted {
     pub(crate) input: bool,
     pub(crate) output: bool,
+    pub(crate) errors: bool,
     pub(crate) from_line: bool,
     pub(crate) to_line: bool,
 }
@@ -114,6 +117,7 @@ impl Wanted {
     pub(crate) const NOTHING: Wanted = Wanted {
         input: false,
         output: false,
+        errors: false,
         from_line: false,
         to_line: false,
     };
@@ -126,6 +130,7 @@ pub(crate) struct Waiting {
     events: Events,
     pub(crate) input: Descriptor,
     pub(crate) output: Descriptor,
+    pub(crate) errors: Descriptor,
     /// The line, where it is a serial device.
     pub(crate) device: Option<Descriptor>,
     /// The line, where it is a socket.
@@ -133,17 +138,19 @@ pub(crate) struct Waiting {
 }
 
 impl Waiting {
-    /// Waits for standard input and output from now on.
+    /// Waits for standard input, output and error from now on.
     pub(crate) fn new<N: Net>(net: &N, alloc: Global) -> io::Result<Waiting> {
         let poll = Poll::new(net)?;
-        let events = Events::with_capacity(alloc, 4)?;
+        let events = Events::with_capacity(alloc, 5)?;
         let input = Descriptor::new(&poll, 0, INPUT, Interest::READABLE);
         let output = Descriptor::new(&poll, 1, OUTPUT, Interest::WRITABLE);
+        let errors = Descriptor::new(&poll, 2, ERRORS, Interest::WRITABLE);
         Ok(Waiting {
             poll,
             events,
             input,
             output,
+            errors,
             device: None,
             socket: Ready::NOT,
         })
@@ -211,6 +218,7 @@ impl Waiting {
     pub(crate) fn wait(&mut self, wanted: Wanted, most_ms: u64) -> bool {
         self.input.ask(&self.poll, wanted.input, false);
         self.output.ask(&self.poll, false, wanted.output);
+        self.errors.ask(&self.poll, false, wanted.errors);
         if let Some(device) = &mut self.device {
             device.ask(&self.poll, wanted.from_line, wanted.to_line);
         }
@@ -231,6 +239,7 @@ impl Waiting {
     fn is_any_ready(&self, wanted: Wanted) -> bool {
         wanted.input && self.input.ready.to_read
             || wanted.output && self.output.ready.to_write
+            || wanted.errors && self.errors.ready.to_write
             || wanted.from_line && self.may_read_line()
             || wanted.to_line && self.may_write_line()
     }
@@ -245,6 +254,7 @@ impl Waiting {
             match event.token() {
                 INPUT => self.input.ready.add(told),
                 OUTPUT => self.output.ready.add(told),
+                ERRORS => self.errors.ready.add(told),
                 LINE => add_to_line(&mut self.device, &mut self.socket, told),
                 _ => {}
             }

@@ -1,4 +1,6 @@
+pub mod Ladder
 pub mod Tapped
 pub mod Passing
 pub mod InMemory
+pub use Rattle.ddcmp_explain.specs.Label
 pub use Rattle.ddcmp_explain.specs.Output

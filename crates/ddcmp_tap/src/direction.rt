@@ -5,11 +5,11 @@ ghost use Rattle.ddcmp_frame.specs.Limits.{MAX_COUNT};
 ghost use Rattle.ddcmp_tap.specs.Passing.{HasTold, Passes, Tells, came_of, room_of};
 ghost use Rattle.ddcmp_tap.specs.Tapped.{tapped_last};
 
+use crate::notation::Notation;
 use crate::queue::Queue;
 use crate::side::Side;
 use crate::telling::Telling;
 use crate::text::{NoMemory, Text};
-use ddcmp_explain::Notation;
 use ddcmp_frame::Reader;
 use std::alloc::Global;
 use std::marker::Model;

@@ -4,13 +4,15 @@
 
 pub mod direction;
 mod front;
+pub mod notation;
 mod queue;
+mod rung;
 pub mod side;
 mod telling;
 mod text;
 
-pub use ddcmp_explain::{Notation, notation};
 pub use direction::Direction;
+pub use notation::Notation;
 pub use queue::ROOM;
 pub use side::Side;
 pub use text::NoMemory;

@@ -4,12 +4,14 @@ ghost use Rattle.std.specs.Prelude.{is_err, length, take};
 ghost use Rattle.ddcmp_explain.specs.Output.{totals_in};
 ghost use Rattle.ddcmp_io.specs.Written.{HandsOver};
 ghost use Rattle.ddcmp_tap.specs.InMemory.{output_in};
-ghost use Rattle.ddcmp_tap.specs.Tapped.{fronted, tapped_last, tapped_line};
+ghost use Rattle.ddcmp_tap.specs.Tapped.{fronted, tapped_last, tapped_line, wording_of};
 
 use crate::front::{write_json_front, write_plain_front};
+use crate::notation::Notation;
+use crate::rung::write_rung;
 use crate::side::Side;
 use crate::text::{NoMemory, Text};
-use ddcmp_explain::{Notation, write_item, write_last};
+use ddcmp_explain::{self as explain, write_item, write_last};
 use ddcmp_frame::{Item, Pushed, Reader};
 use ddcmp_io::Page;
 
@@ -55,17 +57,21 @@ fn put_item(
     match notation {
         Notation::Plain => {
             write_plain_front(page, text, stamp, side);
-            write_item(page, text, Notation::Plain, item, data);
+            write_item(page, text, explain::Notation::Plain, item, data);
             put_page(page, text)
         }
         Notation::Json => {
             write_json_front(page, text, stamp, side);
             put_page(page, text)?;
             let brace = text.bytes.as_slice().len();
-            write_item(page, text, Notation::Json, item, data);
+            write_item(page, text, explain::Notation::Json, item, data);
             put_page(page, text)?;
             text.bytes.as_mut_slice()[brace] = b',';
             Ok(())
+        }
+        Notation::Ladder => {
+            write_rung(page, text, stamp, side, item);
+            put_page(page, text)
         }
     }
 }
@@ -86,22 +92,42 @@ fn put_last(
     ensures whole { text.new.refused ≡ is_err result }
     ensures puts { IsOk result → text.new.bytes.items
         ≡ text.old.bytes.items
-        ++ fronted notation stamp side (totals_in notation items bytes left_open) }
+        ++ fronted notation stamp side
+        (totals_in (wording_of notation) items bytes left_open) }
 {
     match notation {
         Notation::Plain => {
             write_plain_front(page, text, stamp, side);
-            write_last(page, text, Notation::Plain, items, bytes, left_open);
+            write_last(
+                page,
+                text,
+                explain::Notation::Plain,
+                items,
+                bytes,
+                left_open,
+            );
             put_page(page, text)
         }
         Notation::Json => {
             write_json_front(page, text, stamp, side);
             put_page(page, text)?;
             let brace = text.bytes.as_slice().len();
-            write_last(page, text, Notation::Json, items, bytes, left_open);
+            write_last(page, text, explain::Notation::Json, items, bytes, left_open);
             put_page(page, text)?;
             text.bytes.as_mut_slice()[brace] = b',';
             Ok(())
+        }
+        Notation::Ladder => {
+            write_plain_front(page, text, stamp, side);
+            write_last(
+                page,
+                text,
+                explain::Notation::Plain,
+                items,
+                bytes,
+                left_open,
+            );
+            put_page(page, text)
         }
     }
 }

@@ -100,6 +100,27 @@ fn what_stands_in_front(rt: HostRuntime) {
     );
 }
 
+const UP: &[u8] = b"|-- header check ~~~~~~~~~~~~~~~~~~~~~~~~~~~~~~~~~~~~~~~~~~~~~~~~~~~~~~~~~~~>|
+|-- DATA 1 resp=0 (3 bytes) ------------------------------------------------>|
+|-- ACK resp=0 ------------------------------------------------------------->|
+> items=3 bytes=22 open=0
+";
+
+const DOWN: &[u8] =
+    b"7 |<~~~~~~~~~~~~~~~~~~~~~~~~~~~~~~~~~~~~~~~~~~~~~~~~~~~~~~~~~~~ header check --|
+7 |<------------------------------------------------ DATA 1 resp=0 (3 bytes) --|
+7 |<------------------------------------------------------------- ACK resp=0 --|
+7 < items=3 bytes=22 open=0
+";
+
+#[test]
+fn ladders_of_both_sides(rt: HostRuntime) {
+    let up = said(&rt, 9, Side::Caller, Notation::Ladder, None);
+    let down = said(&rt, 14, Side::Called, Notation::Ladder, Some(7));
+    assert!(&rt; up.as_slice() == UP);
+    assert!(&rt; down.as_slice() == DOWN);
+}
+
 #[test]
 fn room_until_all_is_written(rt: HostRuntime) {
     let mut made = direction(&rt, Side::Caller, Notation::Plain);

@@ -2,7 +2,9 @@
 // written then is the matter of `worked_commands`.
 use crate::same::is;
 use ddcmp_cli::command::read_words;
-use ddcmp_cli::{Command, Declined, Ending, Fault, Inputs, Lines, OpenFault, run, run_args};
+use ddcmp_cli::{
+    Command, Connections, Declined, Ending, Fault, Inputs, Lines, OpenFault, run, run_args,
+};
 use ddcmp_frame::failing::{Pieces, Taken};
 use std::alloc::Global;
 use std::io::{self, ErrorKind};
@@ -66,7 +68,13 @@ fn faults_of_the_system_have_a_line(rt: HostRuntime) -> Result<(), Fail> {
 
 /// What a run over memory ends as, and what it wrote; the write `fails_at` fails, 0 is none.
 fn ran(
-    rt: &(impl Abort + AllocGlobal + Net<Stream = TcpStream> + Clock + Inputs + Lines),
+    rt: &(impl Abort
+        + AllocGlobal
+        + Net<Stream = TcpStream>
+        + Clock
+        + Inputs
+        + Connections
+        + Lines),
     words: &[&str],
     input: &[u8],
     fails_at: usize,
@@ -108,7 +116,13 @@ fn a_failed_write_and_no_words_are_told(rt: HostRuntime) {
 
 /// The program is done with these words, and has written this.
 fn writes(
-    rt: &(impl Abort + AllocGlobal + Net<Stream = TcpStream> + Clock + Inputs + Lines),
+    rt: &(impl Abort
+        + AllocGlobal
+        + Net<Stream = TcpStream>
+        + Clock
+        + Inputs
+        + Connections
+        + Lines),
     words: &[&str],
     input: &[u8],
     text: &[u8],
@@ -162,7 +176,13 @@ fn a_far_byte_is_told(rt: HostRuntime) {
 
 /// What a run with the words of the system ends as, and what it wrote.
 fn ran_args(
-    rt: &(impl Abort + AllocGlobal + Net<Stream = TcpStream> + Clock + Inputs + Lines),
+    rt: &(impl Abort
+        + AllocGlobal
+        + Net<Stream = TcpStream>
+        + Clock
+        + Inputs
+        + Connections
+        + Lines),
     args: io::Result<Vec<String>>,
 ) -> (u8, Taken<4096>) {
     let mut reader = Pieces::of(b"050100000001fc55");
@@ -173,7 +193,13 @@ fn ran_args(
 
 /// A run with the words of the system has this status, and has written this.
 fn has_status(
-    rt: &(impl Abort + AllocGlobal + Net<Stream = TcpStream> + Clock + Inputs + Lines),
+    rt: &(impl Abort
+        + AllocGlobal
+        + Net<Stream = TcpStream>
+        + Clock
+        + Inputs
+        + Connections
+        + Lines),
     args: io::Result<Vec<String>>,
     status: u8,
     text: &[u8],
@@ -220,7 +246,13 @@ fn text_of(alloc: Global, words: &[&str]) -> Option<(bool, String)> {
 
 /// The text of words that ask for nothing is told whole.
 fn is_whole(
-    rt: &(impl Abort + AllocGlobal + Net<Stream = TcpStream> + Clock + Inputs + Lines),
+    rt: &(impl Abort
+        + AllocGlobal
+        + Net<Stream = TcpStream>
+        + Clock
+        + Inputs
+        + Connections
+        + Lines),
     words: &[&str],
 ) -> Result<(), Fail> {
     let (ending, written) = ran(rt, words, b"", 0);

@@ -1,7 +1,10 @@
 // Scripts that the program runs where a write fails, or the connection of `pair` can't be made or
 // fails. What they write else is the matter of `worked_commands`.
 use crate::same::is;
-use ddcmp_cli::{Ending, Fault, Inputs, Lines, LinkServed, OpenFault, Options, ServiceFault, run};
+use ddcmp_cli::{
+    Connection, Connections, Ending, Fault, Inputs, Lines, LinkServed, OpenFault, Options, Role,
+    ServiceFault, run,
+};
 use ddcmp_frame::failing::{Pieces, Taken};
 use ddcmp_frame::{Sink, Source};
 use std::alloc::Global;
@@ -13,7 +16,7 @@ use std::time::{Clock, Duration};
 /// What a script ends as on a system, and what it wrote.
 fn played(
     rt: &impl AllocGlobal,
-    system: &(impl Net<Stream = TcpStream> + Clock + Inputs + Lines),
+    system: &(impl Net<Stream = TcpStream> + Clock + Inputs + Connections + Lines),
     words: &[&str],
     input: &[u8],
     fails_at: usize,
@@ -96,6 +99,34 @@ impl<S: Inputs> Inputs for Poor<'_, S> {
     }
 }
 
+/// What comes to a station of such a system.
+const STACK: &[u8] = &[0x05, 0x07, 0xC0, 0x00, 0x00, 0x01, 0x48, 0x55];
+
+/// Its stations are connected to a peer that answers a start and no more.
+impl<S> Connections for Poor<'_, S> {
+    ghost use Rattle.std.specs.Prelude.{Some, true, ◌∷◌, []};
+
+    type Reader = Pieces<'static>;
+
+    type Writer = Taken<64>;
+
+    ghost peers = { λ _. record {
+      opens = λ role addr. Some true;
+      gives = λ role addr. Some (5 ∷ 7 ∷ 192 ∷ 0 ∷ 0 ∷ 1 ∷ 72 ∷ 85 ∷ []);
+    } };
+
+    fn connection(
+        &self,
+        _role: Role,
+        _addr: &str,
+    ) -> Option<Connection<Pieces<'static>, Taken<64>>> {
+        Some(Connection {
+            reader: Pieces::of(STACK),
+            writer: Taken::new(),
+        })
+    }
+}
+
 impl<S: Lines> Lines for Poor<'_, S> {
     fn serve_line<'a, R: Source, W: Sink>(
         &self,
@@ -135,6 +166,7 @@ fn lacks_a_carrier(
         + Net<Stream = TcpStream, Listener = TcpListener>
         + Clock
         + Inputs
+        + Connections
         + Lines),
     lacks: Lacks,
     text: &[u8],
@@ -160,4 +192,27 @@ fn simulate_needs_no_connection(rt: HostRuntime) {
     let system = Poor { system: &rt, lacks };
     let (ending, _written) = played(&rt, &system, &["ddcmp", "simulate"], lines(), 0);
     assert!(rt; is_done(&ending));
+}
+
+/// A station whose connection is known is served over it.
+#[test]
+fn a_station_is_served_over_memory(rt: HostRuntime) {
+    let lacks = Lacks::Connecting;
+    let system = Poor { system: &rt, lacks };
+    let words = [
+        "ddcmp",
+        "station",
+        "--role",
+        "connect",
+        "--addr",
+        "nowhere",
+        "--turns",
+        "1",
+        "--timer-ms",
+        "3000",
+    ];
+    let (ending, written) = played(&rt, &system, &words, b"", 0);
+    assert!(rt; is_done(&ending));
+    let report = b"notice Running\nturns=1 state=Running read=8 written=8\n";
+    is(&rt, written.bytes(), report.as_slice());
 }

@@ -1,7 +1,7 @@
 // Stations run by the program over connections that the test holds, and their faults. What their
 // words ask for is the matter of `worked_commands`.
 use crate::same::is;
-use ddcmp_cli::{Ending, Fault, Inputs, Lines, run};
+use ddcmp_cli::{Connections, Ending, Fault, Inputs, Lines, run};
 use ddcmp_frame::failing::{Pieces, Taken};
 use std::io::{Read, Write};
 use std::net::{Net, TcpListener, TcpStream};
@@ -39,7 +39,13 @@ fn words<'a>(
 
 /// What a station ends as, and what it wrote.
 fn stationed(
-    rt: &(impl Abort + AllocGlobal + Net<Stream = TcpStream> + Clock + Inputs + Lines),
+    rt: &(impl Abort
+        + AllocGlobal
+        + Net<Stream = TcpStream>
+        + Clock
+        + Inputs
+        + Connections
+        + Lines),
     words: &[&str],
     fails_at: usize,
 ) -> (Ending, Taken<4096>) {
@@ -68,7 +74,13 @@ fn is_carrier_fault(ending: &Ending) -> bool {
 /// A station that is to send this to `nowhere`, which is no address, has this status and writes
 /// nothing.
 fn ends_with(
-    rt: &(impl Abort + AllocGlobal + Net<Stream = TcpStream> + Clock + Inputs + Lines),
+    rt: &(impl Abort
+        + AllocGlobal
+        + Net<Stream = TcpStream>
+        + Clock
+        + Inputs
+        + Connections
+        + Lines),
     digits: &[u8],
     status: u8,
 ) {
@@ -98,7 +110,13 @@ fn others_come_before_the_connection(rt: HostRuntime) {
 
 /// This role is usage.
 fn is_no_role(
-    rt: &(impl Abort + AllocGlobal + Net<Stream = TcpStream> + Clock + Inputs + Lines),
+    rt: &(impl Abort
+        + AllocGlobal
+        + Net<Stream = TcpStream>
+        + Clock
+        + Inputs
+        + Connections
+        + Lines),
     role: &str,
 ) -> Result<(), Fail> {
     let all = words(role, "nowhere", "0", "0", ["--send", "zz"]);
@@ -121,7 +139,13 @@ fn other_roles_are_usage(rt: HostRuntime) -> Result<(), Fail> {
 
 /// This is no message.
 fn is_no_message(
-    rt: &(impl Abort + AllocGlobal + Net<Stream = TcpStream> + Clock + Inputs + Lines),
+    rt: &(impl Abort
+        + AllocGlobal
+        + Net<Stream = TcpStream>
+        + Clock
+        + Inputs
+        + Connections
+        + Lines),
     send: &str,
 ) {
     let all = words("connect", "nowhere", "0", "0", ["--send", send]);
@@ -132,7 +156,13 @@ fn is_no_message(
 
 /// This is no address, in this role.
 fn is_nowhere_in<'a>(
-    rt: &(impl Abort + AllocGlobal + Net<Stream = TcpStream> + Clock + Inputs + Lines),
+    rt: &(impl Abort
+        + AllocGlobal
+        + Net<Stream = TcpStream>
+        + Clock
+        + Inputs
+        + Connections
+        + Lines),
     addr: &'a str,
     role: &'a str,
 ) -> Result<(), Fail> {
@@ -150,7 +180,13 @@ fn is_nowhere_in<'a>(
 
 /// This is no address, in both roles.
 fn is_nowhere(
-    rt: &(impl Abort + AllocGlobal + Net<Stream = TcpStream> + Clock + Inputs + Lines),
+    rt: &(impl Abort
+        + AllocGlobal
+        + Net<Stream = TcpStream>
+        + Clock
+        + Inputs
+        + Connections
+        + Lines),
     addr: &str,
 ) -> Result<(), Fail> {
     is_nowhere_in(rt, addr, "connect")?;

@@ -85,7 +85,7 @@ view_as o p view e h = record {
 
 pub has_options_as : (o p t u : Text → Option Text) (made : Command) → ((id : Text) → o id ≡ p id) → ((id : Text) → t id ≡ u id)
     → HasOptions o t made → HasOptions p u made
-has_options_as o p t u (Explain form style max file) e w h = (
+has_options_as o p t u (Explain form from style max file) e w h = (
   subst (λ t. HasForm t form) (e (codes "raw")) h.0,
   record {
     notation = subst (λ t. HasNotation t style.notation) (e (codes "json")) h.1.notation;
@@ -93,6 +93,7 @@ has_options_as o p t u (Explain form style max file) e w h = (
   },
   subst (λ t. HasNumber 1 MAX_COUNT MAX_COUNT t max) (e (codes "max")) h.2,
   h.3 ∙ ap file_of (w (codes "file")),
+  h.4 ∙ w (codes "from"),
 )
 has_options_as o p t u (Simulate config view) e w h = (sizes_as o p config e h.0, view_as o p view e h.1)
 has_options_as o p t u (Pair config view) e w h = (sizes_as o p config e h.0, view_as o p view e h.1)
@@ -109,6 +110,7 @@ has_options_as o p t u (Tap tapped) e w h = record {
   listen = h.listen ∙ ap (λ x. unwrap_or x []) (w (codes "listen"));
   connect = h.connect ∙ ap (λ x. unwrap_or x []) (w (codes "connect"));
   notation = subst (λ t. HasNotation t tapped.notation) (e (codes "json")) h.notation;
+  ladder = subst (λ t. HasFlag t tapped.ladder) (e (codes "ladder")) h.ladder;
   time = subst (λ t. HasFlag t tapped.time) (e (codes "time")) h.time;
   max = subst (λ t. HasNumber 1 MAX_COUNT MAX_COUNT t tapped.max) (e (codes "max")) h.max;
 }
@@ -121,6 +123,7 @@ has_options_as o p t u (Link linked) e w h = record {
   stay = subst (λ t. HasFlag t linked.stay) (e (codes "stay")) h.stay;
   again = subst (λ t. HasFlag t linked.again) (e (codes "again")) h.again;
   counters = subst (λ t. HasFlag t linked.counters) (e (codes "counters")) h.counters;
+  trace = subst (λ t. HasFlag t linked.trace) (e (codes "trace")) h.trace;
 }
 
 -- a command has the options that the words give

@@ -53,9 +53,10 @@ required rule = record rule { required = true }
 -- `ddcmp explain`
 abbrev pub explain_app : App
 explain_app =
-    with_rule (with_rule (with_rule (with_rule (with_rule (new_app (codes "explain"))
+    with_rule (with_rule (with_rule (with_rule (with_rule (with_rule (new_app (codes "explain"))
     (place_rule (codes "file")))
     (flag_rule (codes "raw")))
+    (text_rule (codes "from")))
     (flag_rule (codes "json")))
     (flag_rule (codes "discarded")))
     (number_rule (codes "max") 1 MAX_COUNT)
@@ -105,10 +106,11 @@ station_app =
 -- `ddcmp tap`
 abbrev pub tap_app : App
 tap_app =
-    with_rule (with_rule (with_rule (with_rule (with_rule (new_app (codes "tap"))
+    with_rule (with_rule (with_rule (with_rule (with_rule (with_rule (new_app (codes "tap"))
     (required (text_rule (codes "listen"))))
     (required (text_rule (codes "connect"))))
     (flag_rule (codes "json")))
+    (flag_rule (codes "ladder")))
     (flag_rule (codes "time")))
     (number_rule (codes "max") 1 MAX_COUNT)
 
@@ -118,13 +120,14 @@ line_app = with_rule (new_app (codes "link")) (required (text_rule (codes "line"
 
 abbrev pub link_app : App
 link_app =
-    with_rule (with_rule (with_rule (with_rule (with_rule (with_rule (with_sizes line_app)
+    with_rule (with_rule (with_rule (with_rule (with_rule (with_rule (with_rule (with_sizes line_app)
     (number_rule (codes "timer-ms") 0 MOST))
     (number_rule (codes "seconds") 1 MOST))
     (flag_rule (codes "binary")))
     (flag_rule (codes "stay")))
     (flag_rule (codes "again")))
-    (flag_rule (codes "counters"))
+    (flag_rule (codes "counters")))
+    (flag_rule (codes "trace"))
 
 -- `ddcmp`, which wants a command
 abbrev pub bare_app : App
@@ -140,7 +143,7 @@ program =
 
 -- the word that names a command
 abbrev pub name_of : Command → Text
-name_of (Explain form style max file) = codes "explain"
+name_of (Explain form from style max file) = codes "explain"
 name_of (Simulate config view) = codes "simulate"
 name_of (Pair config view) = codes "pair"
 name_of (Station served) = codes "station"
@@ -239,6 +242,7 @@ pub record HasTap (option text : Text → Option Text) (tapped : Tapped) : Type 
   pub listen : tapped.listen.now ≡ unwrap_or (text (codes "listen")) []
   pub connect : tapped.connect.now ≡ unwrap_or (text (codes "connect")) []
   pub notation : HasNotation (option (codes "json")) tapped.notation
+  pub ladder : HasFlag (option (codes "ladder")) tapped.ladder
   pub time : HasFlag (option (codes "time")) tapped.time
   pub max : HasNumber 1 MAX_COUNT MAX_COUNT (option (codes "max")) tapped.max
 
@@ -252,14 +256,16 @@ pub record HasLink (option text : Text → Option Text) (linked : Linked) : Type
   pub stay : HasFlag (option (codes "stay")) linked.stay
   pub again : HasFlag (option (codes "again")) linked.again
   pub counters : HasFlag (option (codes "counters")) linked.counters
+  pub trace : HasFlag (option (codes "trace")) linked.trace
 
 -- a command with the options that were given: as they are read, and as they were written
 abbrev pub HasOptions : (option text : Text → Option Text) → Command → Type 0
-HasOptions option text (Explain form style max file) =
+HasOptions option text (Explain form from style max file) =
     HasForm (option (codes "raw")) form
     × HasStyle option style
     × HasNumber 1 MAX_COUNT MAX_COUNT (option (codes "max")) max
     × (option_map (λ name. name.now) file ≡ file_of (text (codes "file")))
+    × (option_map (λ word. word.now) from ≡ text (codes "from"))
 HasOptions option text (Simulate config view) = HasSizes option config × HasView option view
 HasOptions option text (Pair config view) = HasSizes option config × HasView option view
 HasOptions option text (Station served) = HasStation option text served

@@ -6,7 +6,7 @@ ghost use Rattle.ddcmp_words.specs.Words.{IsAsked, option_in, text_in, program};
 use clap::error::ErrorKind as WordsFault;
 
 /// The words `ddcmp explain` ask for the command that explains, without its options; the name of a
-/// file, `--raw`, `--json`, `--discarded` and `--max 1500` are read. `ddcmp --help` asks for help, and
+/// file, `--raw`, `--from hexdump`, `--json`, `--discarded` and `--max 1500` are read. `ddcmp --help` asks for help, and
 /// `ddcmp --version` for the version.
 pub fn explain_is_asked()
     ensures plain { IsAsked (codes "ddcmp" ∷ codes "explain" ∷ []) (codes "explain") }
@@ -17,6 +17,9 @@ pub fn explain_is_asked()
     ensures no_maximum { option_in (codes "ddcmp" ∷ codes "explain" ∷ []) (codes "max") ≡ None }
     ensures raw { option_in (codes "ddcmp" ∷ codes "explain" ∷ codes "--raw" ∷ []) (codes "raw")
         ≡ Some (codes "true") }
+    ensures no_dump { text_in (codes "ddcmp" ∷ codes "explain" ∷ []) (codes "from") ≡ None }
+    ensures dump { text_in (codes "ddcmp" ∷ codes "explain" ∷ codes "--from" ∷ codes "hexdump" ∷ [])
+        (codes "from") ≡ Some (codes "hexdump") }
     ensures json { option_in (codes "ddcmp" ∷ codes "explain" ∷ codes "--json" ∷ []) (codes "json")
         ≡ Some (codes "true") }
     ensures not_discarded { option_in (codes "ddcmp" ∷ codes "explain" ∷ []) (codes "discarded")
@@ -107,6 +110,10 @@ pub fn tap_is_asked()
         ∷ []) (codes "connect") ≡ Some (codes "localhost:7001") }
     ensures json { option_in (codes "ddcmp" ∷ codes "tap" ∷ codes "--json" ∷ []) (codes "json")
         ≡ Some (codes "true") }
+    ensures no_ladder { option_in (codes "ddcmp" ∷ codes "tap" ∷ []) (codes "ladder")
+        ≡ Some (codes "false") }
+    ensures ladder { option_in (codes "ddcmp" ∷ codes "tap" ∷ codes "--ladder" ∷ [])
+        (codes "ladder") ≡ Some (codes "true") }
     ensures time { option_in (codes "ddcmp" ∷ codes "tap" ∷ codes "--time" ∷ []) (codes "time")
         ≡ Some (codes "true") }
     ensures no_time { option_in (codes "ddcmp" ∷ codes "tap" ∷ []) (codes "time")
@@ -135,6 +142,8 @@ pub fn link_is_asked()
         (codes "again") ≡ Some (codes "true") }
     ensures counters { option_in (codes "ddcmp" ∷ codes "link" ∷ codes "--counters" ∷ [])
         (codes "counters") ≡ Some (codes "true") }
+    ensures trace { option_in (codes "ddcmp" ∷ codes "link" ∷ codes "--trace" ∷ []) (codes "trace")
+        ≡ Some (codes "true") }
     ensures seconds { option_in (codes "ddcmp" ∷ codes "link" ∷ codes "--seconds=60" ∷ [])
         (codes "seconds") ≡ Some (codes "60") }
     ensures timer { option_in (codes "ddcmp" ∷ codes "link" ∷ codes "--timer-ms=500" ∷ [])

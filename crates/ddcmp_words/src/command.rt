@@ -33,9 +33,11 @@ use std::alloc::{AllocError, Global};
 #[derive(Clone, Copy, Debug, PartialEq, Eq)]
 pub enum Command<'a> {
     /// Explain the input in this form, for a reader of at most `max` bytes of data. The input is
-    /// the file of this name, or standard input where there is none.
+    /// the file of this name, or standard input where there is none. Where a word says what it comes
+    /// from, it is a dump: no word but `hexdump` does, and not beside bytes as they are.
     Explain {
         form: Form,
+        from: Option<&'a str>,
         style: Style,
         max: u16,
         file: Option<&'a str>,
@@ -98,12 +100,22 @@ fn place<'a>(alloc: Global, name: &'a str, value: &'a str, help: &'a str) -> Arg
     Arg::new(alloc, name).value_name(value).help(help)
 }
 
+/// `explain` without its options.
+fn explain_command<'a>(alloc: Global) -> clap::Command<'a>
+    ensures app { app_of result ≡ new_app (codes "explain") }
+    ensures local { (fields_of result).has_globals ≡ false }
+{
+    clap::Command::new(alloc, "explain").about(
+        "Says what the bytes of a line are, read from a file or from standard input",
+    )
+}
+
+/// The options of `explain`.
 fn explain_parser<'a>(alloc: Global) -> Result<clap::Command<'a>, AllocError>
     ensures app { IfOk result (λ made. app_of made ≡ explain_app) }
     ensures local { IfOk result (λ made. (fields_of made).has_globals ≡ false) }
 {
-    clap::Command::new(alloc, "explain")
-        .about("Says what the bytes of a line are, read from a file or from standard input")
+    explain_command(alloc)
         .arg(place(
             alloc,
             "file",
@@ -114,6 +126,12 @@ fn explain_parser<'a>(alloc: Global) -> Result<clap::Command<'a>, AllocError>
             alloc,
             "raw",
             "Read bytes as they are, not hexadecimal digits",
+        ))?
+        .arg(text(
+            alloc,
+            "from",
+            "hexdump",
+            "Read a dump of hexdump -C, xxd or od -A x -t x1",
         ))?
         .arg(flag(alloc, "json", "Write an object of JSON in each line"))?
         .arg(flag(
@@ -428,6 +446,7 @@ fn explain_with<'a>(options: &ArgMatches<'a>) -> Command<'a>
 {
     Command::Explain {
         form: form_given(options),
+        from: options.get_str("from"),
         style: style_given(options),
         max: number_given(options, "max", 1, MAX_COUNT as u32, MAX_COUNT as u32) as u16,
         file: file_given(options),

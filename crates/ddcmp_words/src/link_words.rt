@@ -93,6 +93,11 @@ pub(crate) fn link_parser<'a>(alloc: Global) -> Result<clap::Command<'a>, AllocE
             alloc,
             "counters",
             "Write what the station has counted, before the last line",
+        ))?
+        .arg(flag(
+            alloc,
+            "trace",
+            "Tell each frame of both ways on standard error, with the milliseconds",
         ))
 }
 
@@ -110,5 +115,6 @@ pub(crate) fn link_given<'a>(options: &ArgMatches<'a>) -> Linked<'a>
         stay: flag_given(options, "stay"),
         again: flag_given(options, "again"),
         counters: flag_given(options, "counters"),
+        trace: flag_given(options, "trace"),
     }
 }

@@ -18,4 +18,6 @@ pub struct Linked<'a> {
     pub again: bool,
     /// Whether counters are written before the last line.
     pub counters: bool,
+    /// Whether the frames of both ways are told on standard error.
+    pub trace: bool,
 }

@@ -52,6 +52,11 @@ pub(crate) fn tap_parser<'a>(alloc: Global) -> Result<clap::Command<'a>, AllocEr
         .arg(flag(alloc, "json", "Write an object of JSON in each line"))?
         .arg(flag(
             alloc,
+            "ladder",
+            "Draw what passes as a ladder of text, in place of words",
+        ))?
+        .arg(flag(
+            alloc,
             "time",
             "Write the milliseconds since both were connected in front of each line",
         ))?
@@ -73,6 +78,7 @@ pub(crate) fn tap_given<'a>(options: &ArgMatches<'a>) -> Tapped<'a>
         listen: text_given(options, "listen"),
         connect: text_given(options, "connect"),
         notation: notation_given(options),
+        ladder: flag_given(options, "ladder"),
         time: flag_given(options, "time"),
         max: number_given(options, "max", 1, MAX_COUNT as u32, MAX_COUNT as u32) as u16,
     }

@@ -9,6 +9,8 @@ pub struct Tapped<'a> {
     /// The address that is connected to once someone has connected.
     pub connect: &'a str,
     pub notation: Notation,
+    /// Whether what passes is drawn as a ladder. Beside JSON it isn't.
+    pub ladder: bool,
     /// Whether the milliseconds stand in front of each line.
     pub time: bool,
     /// The most bytes of data of a frame that is read.

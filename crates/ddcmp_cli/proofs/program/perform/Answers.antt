@@ -6,5 +6,5 @@ returns-in-Simulate-clause-performs g c = λ input left. rw (c.in-Simulate.is) (
 pub returns-in-Pair-clause-performs : goal.returns-in-Pair-clause-performs
 returns-in-Pair-clause-performs g c = λ input left. rw (c.in-Pair.is) (c.show_pair.ensures.shows input left)
 
-pub returns-in-Some-clause-performs : goal.returns-in-Some-clause-performs
-returns-in-Some-clause-performs g c = λ input left. rw (c.in-Explain.is, c.in-Some.is) (left, c.explain_file.ensures.explains)
+pub returns-in-Explain-clause-performs : goal.returns-in-Explain-clause-performs
+returns-in-Explain-clause-performs g c = λ input left. rw (c.in-Explain.is) (c.explain_asked.ensures.explains input left)

@@ -3,13 +3,13 @@ use Rattle.ddcmp_cli.proofs.CommandLaws.{linked, performed, stationed, tapped, r
 use Rattle.ddcmp_cli.proofs.program.run.Goals as goal
 
 pub returns-in-Ok-clause-explains : goal.returns-in-Ok-clause-explains
-returns-in-Ok-clause-explains g c = λ input e asked. performed _ _ c.in-Ok.command input _ _ _ _ asked c.in-Ok.ensures.reads.1 c.in-Ok.ensures.reads.2 (c.perform.ensures.performs input e)
+returns-in-Ok-clause-explains g c = λ input e asked. performed _ _ _ c.in-Ok.command input _ _ _ _ asked c.in-Ok.ensures.reads.1 c.in-Ok.ensures.reads.2 (c.perform.ensures.performs input e)
 
 pub returns-in-Ok-clause-stations : goal.returns-in-Ok-clause-stations
-returns-in-Ok-clause-stations g c = λ asked. stationed _ c.in-Ok.command _ _ _ _ _ asked c.in-Ok.ensures.reads.1 c.in-Ok.ensures.reads.2 c.perform.ensures.stations
+returns-in-Ok-clause-stations g c = λ asked. stationed _ _ c.in-Ok.command _ _ _ _ _ asked c.in-Ok.ensures.reads.1 c.in-Ok.ensures.reads.2 c.perform.ensures.stations
 
 pub returns-in-Ok-clause-taps : goal.returns-in-Ok-clause-taps
-returns-in-Ok-clause-taps g c = λ asked. tapped _ _ c.in-Ok.command asked c.in-Ok.ensures.reads.1 c.perform.ensures.taps
+returns-in-Ok-clause-taps g c = λ asked. tapped _ _ c.in-Ok.command _ _ _ _ _ asked c.in-Ok.ensures.reads.1 c.in-Ok.ensures.reads.2 c.perform.ensures.taps
 
 pub returns-in-Ok-clause-links : goal.returns-in-Ok-clause-links
 returns-in-Ok-clause-links g c = λ asked. linked _ _ c.in-Ok.command asked c.in-Ok.ensures.reads.1 c.perform.ensures.links
@@ -23,3 +23,7 @@ returns-in-Ok-clause-read_only g c = λ no_station no_tap no_link no_file e.
     (λ n. no_tap (c.in-Ok.ensures.reads.0, c.in-Ok.ensures.reads.1 ∙ ap Some n))
     (λ n. no_link (c.in-Ok.ensures.reads.0, c.in-Ok.ensures.reads.1 ∙ ap Some n))
     (reads_no_file _ c.in-Ok.command c.in-Ok.ensures.reads.2 no_file) e
+
+pub returns-in-Ok-clause-read : goal.returns-in-Ok-clause-read
+returns-in-Ok-clause-read g c = λ no_link e.
+    c.perform.ensures.read (λ n. no_link (c.in-Ok.ensures.reads.0, c.in-Ok.ensures.reads.1 ∙ ap Some n)) e

@@ -2,8 +2,7 @@ use Rattle.std.proofs.Common.{Bool, true, ◌≡◌, ◌∙◌, ap, subst, List,
 use Rattle.std.proofs.KnownBytes.{Keeps-refl}
 use Rattle.ddcmp_words.specs.declared.declined.Declined.TheVariants.{Memory}
 use Rattle.ddcmp_words.specs.Words.{Asks, IsAsked, file_of, text_in}
-use Rattle.ddcmp_cli.specs.Endings.{Ends, ExplainsOrNoMemory, StationsOrNoMemory}
-use Rattle.ddcmp_cli.specs.TapEndings.{Taps}
+use Rattle.ddcmp_cli.specs.Endings.{Ends, ExplainsOrNoMemory, StationsOrNoMemory, TapsOrNoMemory}
 use Rattle.ddcmp_cli.specs.LinkEndings.{IsLinkEnding}
 use Rattle.ddcmp_cli.specs.declared.ending.Ending.TheVariants.{Fault as Faulted}
 use Rattle.ddcmp_cli.specs.declared.fault.Fault.TheVariants.{Read, Write}
@@ -18,7 +17,7 @@ returns-clause-explains g c = λ input e. rw (c.in-Ok.is)
 
 pub returns-clause-ends : goal.returns-clause-ends
 returns-clause-ends g c = rw (c.in-Ok.is)
-    (subst (λ (ws : List (List ℕ)). Ends (g.S.Inputs.held c.args.system.now) ws (g.R.Source.left c.args.reader.now) (g.R.Source.left c.run.new.reader) (g.W.Sink.contents c.args.writer.now) (g.W.Sink.contents c.run.new.writer) c.run.result)
+    (subst (λ (ws : List (List ℕ)). Ends (g.S.Inputs.held c.args.system.now) (g.S.Connections.peers c.args.system.now) ws (g.R.Source.left c.args.reader.now) (g.R.Source.left c.run.new.reader) (g.W.Sink.contents c.args.writer.now) (g.W.Sink.contents c.run.new.writer) c.run.result)
     (ap (map (λ word. word.now)) c.as_slice-2.ensures.value ∙ c.in-Ok-texts.ensures ∙ ap (map string_bytes) c.as_slice.ensures.value) c.run.ensures.ends)
 
 pub returns-in_default-clause-ends : goal.returns-in_default-clause-ends
@@ -26,13 +25,13 @@ returns-in_default-clause-ends g c = rw (c.in-Ok.is) (Err Memory, tt, (refl, Kee
 
 pub returns-clause-stations : goal.returns-clause-stations
 returns-clause-stations g c = rw (c.in-Ok.is)
-    (subst (λ (ws : List (List ℕ)). IsAsked ws (codes "station") → (c.run.new.reader ≡ c.args.reader.now) × StationsOrNoMemory ws (g.W.Sink.contents c.args.writer.now) (g.W.Sink.contents c.run.new.writer) c.run.result)
+    (subst (λ (ws : List (List ℕ)). IsAsked ws (codes "station") → (c.run.new.reader ≡ c.args.reader.now) × StationsOrNoMemory (g.S.Connections.peers c.args.system.now) ws (g.W.Sink.contents c.args.writer.now) (g.W.Sink.contents c.run.new.writer) c.run.result)
     (ap (map (λ word. word.now)) c.as_slice-2.ensures.value ∙ c.in-Ok-texts.ensures ∙ ap (map string_bytes) c.as_slice.ensures.value)
     c.run.ensures.stations)
 
 pub returns-clause-taps : goal.returns-clause-taps
 returns-clause-taps g c = rw (c.in-Ok.is)
-    (subst (λ (ws : List (List ℕ)). IsAsked ws (codes "tap") → (c.run.new.reader ≡ c.args.reader.now) × Taps (g.W.Sink.contents c.args.writer.now) (g.W.Sink.contents c.run.new.writer) c.run.result × (IsTrue (g.W.Sink.broken c.run.new.writer) → c.run.result ≡ Faulted Write))
+    (subst (λ (ws : List (List ℕ)). IsAsked ws (codes "tap") → (c.run.new.reader ≡ c.args.reader.now) × TapsOrNoMemory ws (g.W.Sink.contents c.args.writer.now) (g.W.Sink.contents c.run.new.writer) c.run.result × (IsTrue (g.W.Sink.broken c.run.new.writer) → c.run.result ≡ Faulted Write))
     (ap (map (λ word. word.now)) c.as_slice-2.ensures.value ∙ c.in-Ok-texts.ensures ∙ ap (map string_bytes) c.as_slice.ensures.value)
     c.run.ensures.taps)
 

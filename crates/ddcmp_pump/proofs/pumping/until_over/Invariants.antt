@@ -1,7 +1,7 @@
 use Rattle.std.proofs.Common.{◌≡◌, ◌≢◌, ◌<◌, ℕ, false, length}
 use Rattle.ddcmp_io.specs.Written.{Known}
 use Rattle.ddcmp_io.specs.declared.device.Worst.TheVariants.{Failed}
-use Rattle.ddcmp_explain.specs.declared.notation.Notation.{Notation}
+use Rattle.ddcmp_tap.specs.declared.notation.Notation.{Notation}
 use Rattle.ddcmp_pump.specs.Pumping.{Ends, FlowView, Runs, flow_of}
 use Rattle.ddcmp_pump.proofs.pumping.until_over.Given as goal
 

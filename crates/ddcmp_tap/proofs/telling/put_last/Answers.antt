@@ -26,3 +26,7 @@ returns-in_ok-put_page-in-Json-2-clause-puts c = λ ok.
     (written-back _ (length c.as_slice-brace.result.now) _ _ c.as_mut_slice.ensures.value c.as_mut_slice.ensures.len
     ∙ ap (λ i. set c.put_page-in-Json-2.new.text.bytes.items i 44) at
     ∙ joined _ _ _ _ _ 123 front line refl)
+
+pub returns-in-Ladder-clause-puts : goal.returns-in-Ladder-clause-puts
+returns-in-Ladder-clause-puts c = λ ok. rw (c.in-Ladder.is)
+    (flushed _ _ _ _ _ _ _ _ c.requires.whole c.requires.empty (ok-whole _ c.put_page-in-Ladder.result ok c.put_page-in-Ladder.ensures.whole) c.put_page-in-Ladder.ensures.empty (sends-then c.write_plain_front-in-Ladder.ensures c.write_last-in-Ladder.ensures) c.put_page-in-Ladder.ensures.puts)

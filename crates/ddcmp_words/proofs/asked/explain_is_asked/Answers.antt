@@ -58,3 +58,11 @@ returns-clause-file c = refl
 pub returns-clause-standard_input : goal.returns-clause-standard_input
 unfolding clap_on_literals text_in
 returns-clause-standard_input c = refl
+
+pub returns-clause-no_dump : goal.returns-clause-no_dump
+unfolding clap_on_literals text_in
+returns-clause-no_dump c = refl
+
+pub returns-clause-dump : goal.returns-clause-dump
+unfolding clap_on_literals text_in
+returns-clause-dump c = refl

@@ -35,6 +35,10 @@ pub returns-clause-counters : goal.returns-clause-counters
 unfolding clap_on_literals option_in
 returns-clause-counters c = refl
 
+pub returns-clause-trace : goal.returns-clause-trace
+unfolding clap_on_literals option_in
+returns-clause-trace c = refl
+
 pub returns-clause-seconds : goal.returns-clause-seconds
 unfolding clap_on_literals option_in
 returns-clause-seconds c = refl

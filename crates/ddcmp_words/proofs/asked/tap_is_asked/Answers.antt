@@ -34,3 +34,11 @@ returns-clause-maximum c = refl
 pub returns-clause-incomplete : goal.returns-clause-incomplete
 unfolding clap_on_literals
 returns-clause-incomplete c = refl
+
+pub returns-clause-no_ladder : goal.returns-clause-no_ladder
+unfolding clap_on_literals option_in
+returns-clause-no_ladder c = refl
+
+pub returns-clause-ladder : goal.returns-clause-ladder
+unfolding clap_on_literals option_in
+returns-clause-ladder c = refl

@@ -11,21 +11,21 @@ grows old new a app rule h l e r = h.shape l ∙ ap₂ with_rule e r
 
 pub returns-clause-app : goal.returns-clause-app
 returns-clause-app c =
-    let about : app_of c.about.result ≡ new_app (codes "explain") = search rules in
-    let one = grows _ _ _ _ _ c.in_ok-arg.ensures c.place.ensures.local about c.place.ensures.rule in
+    let one = grows _ _ _ _ _ c.in_ok-arg.ensures c.place.ensures.local c.explain_command.ensures.app c.place.ensures.rule in
     let two = grows _ _ _ _ _ c.in_ok-arg-2.ensures c.flag.ensures.local one c.flag.ensures.rule in
-    let three = grows _ _ _ _ _ c.in_ok-arg-3.ensures c.flag-2.ensures.local two c.flag-2.ensures.rule in
-    let four = grows _ _ _ _ _ c.in_ok-arg-4.ensures c.flag-3.ensures.local three c.flag-3.ensures.rule in
-    IfOk-weaker c.arg-5.result _ _ (λ made h. grows _ _ _ _ _ h c.number.ensures.local four c.number.ensures.rule) c.arg-5.ensures
+    let three = grows _ _ _ _ _ c.in_ok-arg-3.ensures c.text.ensures.local two c.text.ensures.rule in
+    let four = grows _ _ _ _ _ c.in_ok-arg-4.ensures c.flag-2.ensures.local three c.flag-2.ensures.rule in
+    let five = grows _ _ _ _ _ c.in_ok-arg-5.ensures c.flag-3.ensures.local four c.flag-3.ensures.rule in
+    IfOk-weaker c.arg-6.result _ _ (λ made h. grows _ _ _ _ _ h c.number.ensures.local five c.number.ensures.rule) c.arg-6.ensures
 
 stays-local : (old new : Command) (a : Arg) → AddsArg old a new → a.global ≡ false → (fields_of old).has_globals ≡ false → (fields_of new).has_globals ≡ false
 stays-local old new a h l e = h.globals ∙ ap₂ ◌||◌ e l
 
 pub returns-clause-local : goal.returns-clause-local
 returns-clause-local c =
-    let about : (fields_of c.about.result).has_globals ≡ false = search rules in
-    let one = stays-local _ _ _ c.in_ok-arg.ensures c.place.ensures.local about in
+    let one = stays-local _ _ _ c.in_ok-arg.ensures c.place.ensures.local c.explain_command.ensures.local in
     let two = stays-local _ _ _ c.in_ok-arg-2.ensures c.flag.ensures.local one in
-    let three = stays-local _ _ _ c.in_ok-arg-3.ensures c.flag-2.ensures.local two in
-    let four = stays-local _ _ _ c.in_ok-arg-4.ensures c.flag-3.ensures.local three in
-    IfOk-weaker c.arg-5.result _ _ (λ made h. stays-local _ _ _ h c.number.ensures.local four) c.arg-5.ensures
+    let three = stays-local _ _ _ c.in_ok-arg-3.ensures c.text.ensures.local two in
+    let four = stays-local _ _ _ c.in_ok-arg-4.ensures c.flag-2.ensures.local three in
+    let five = stays-local _ _ _ c.in_ok-arg-5.ensures c.flag-3.ensures.local four in
+    IfOk-weaker c.arg-6.result _ _ (λ made h. stays-local _ _ _ h c.number.ensures.local five) c.arg-6.ensures

@@ -18,7 +18,8 @@ returns-clause-app c =
     let three = grows _ _ _ _ _ c.in_ok-arg-3.ensures c.flag.ensures.local two c.flag.ensures.rule in
     let four = grows _ _ _ _ _ c.in_ok-arg-4.ensures c.flag-2.ensures.local three c.flag-2.ensures.rule in
     let five = grows _ _ _ _ _ c.in_ok-arg-5.ensures c.flag-3.ensures.local four c.flag-3.ensures.rule in
-    IfOk-weaker c.arg-6.result _ _ (λ made h. grows _ _ _ _ _ h c.flag-4.ensures.local five c.flag-4.ensures.rule) c.arg-6.ensures
+    let six = grows _ _ _ _ _ c.in_ok-arg-6.ensures c.flag-4.ensures.local five c.flag-4.ensures.rule in
+    IfOk-weaker c.arg-7.result _ _ (λ made h. grows _ _ _ _ _ h c.flag-5.ensures.local six c.flag-5.ensures.rule) c.arg-7.ensures
 
 stays-local : (old new : Command) (a : Arg) → AddsArg old a new → a.global ≡ false → (fields_of old).has_globals ≡ false → (fields_of new).has_globals ≡ false
 stays-local old new a h l e = h.globals ∙ ap₂ ◌||◌ e l
@@ -31,4 +32,5 @@ returns-clause-local c =
     let three = stays-local _ _ _ c.in_ok-arg-3.ensures c.flag.ensures.local two in
     let four = stays-local _ _ _ c.in_ok-arg-4.ensures c.flag-2.ensures.local three in
     let five = stays-local _ _ _ c.in_ok-arg-5.ensures c.flag-3.ensures.local four in
-    IfOk-weaker c.arg-6.result _ _ (λ made h. stays-local _ _ _ h c.flag-4.ensures.local five) c.arg-6.ensures
+    let six = stays-local _ _ _ c.in_ok-arg-6.ensures c.flag-4.ensures.local five in
+    IfOk-weaker c.arg-7.result _ _ (λ made h. stays-local _ _ _ h c.flag-5.ensures.local six) c.arg-7.ensures

@@ -22,7 +22,8 @@ returns-clause-app c =
     let two = grows _ _ _ _ _ c.in_ok-arg-2.ensures (needed-local c.text-2.result _ c.required-2.ensures c.text-2.ensures.local) one (needed-rule c.text-2.result _ _ c.required-2.ensures c.text-2.ensures.rule) in
     let three = grows _ _ _ _ _ c.in_ok-arg-3.ensures c.flag.ensures.local two c.flag.ensures.rule in
     let four = grows _ _ _ _ _ c.in_ok-arg-4.ensures c.flag-2.ensures.local three c.flag-2.ensures.rule in
-    IfOk-weaker c.arg-5.result _ _ (λ made h. grows _ _ _ _ _ h c.number.ensures.local four c.number.ensures.rule) c.arg-5.ensures
+    let five = grows _ _ _ _ _ c.in_ok-arg-5.ensures c.flag-3.ensures.local four c.flag-3.ensures.rule in
+    IfOk-weaker c.arg-6.result _ _ (λ made h. grows _ _ _ _ _ h c.number.ensures.local five c.number.ensures.rule) c.arg-6.ensures
 
 stays-local : (old new : Command) (a : Arg) → AddsArg old a new → a.global ≡ false → (fields_of old).has_globals ≡ false → (fields_of new).has_globals ≡ false
 stays-local old new a h l e = h.globals ∙ ap₂ ◌||◌ e l
@@ -33,4 +34,5 @@ returns-clause-local c =
     let two = stays-local _ _ _ c.in_ok-arg-2.ensures (needed-local c.text-2.result _ c.required-2.ensures c.text-2.ensures.local) one in
     let three = stays-local _ _ _ c.in_ok-arg-3.ensures c.flag.ensures.local two in
     let four = stays-local _ _ _ c.in_ok-arg-4.ensures c.flag-2.ensures.local three in
-    IfOk-weaker c.arg-5.result _ _ (λ made h. stays-local _ _ _ h c.number.ensures.local four) c.arg-5.ensures
+    let five = stays-local _ _ _ c.in_ok-arg-5.ensures c.flag-3.ensures.local four in
+    IfOk-weaker c.arg-6.result _ _ (λ made h. stays-local _ _ _ h c.number.ensures.local five) c.arg-6.ensures

@@ -1,0 +1,2 @@
+pub mod DumpLaws
+pub mod GrammarLaws

@@ -1,0 +1,19 @@
+use Rattle.std.proofs.Common.{◌≡◌, ◌-◌, ◌^◌, [], ℕ, length, false}
+use Rattle.ddcmp_io.specs.declared.device.Worst.TheVariants.{Fine}
+use Rattle.ddcmp_explain.specs.Progress.{Progress}
+use Rattle.ddcmp_explain.proofs.DumpLaws.{SoFarDumped}
+use Rattle.ddcmp_explain.proofs.dumped.take_dump.Given as goal
+
+abbrev pub invariant-loop-explainer : goal.invariant-loop-explainer
+invariant-loop-explainer g l = record {
+  fine : g.R.Source.state l.reader ≡ Fine;
+  whole : g.W.Sink.broken l.writer ≡ false;
+  room : length l.piece ≡ 4096;
+  form : l.explainer.decoder.form ≡ l.initial.explainer.decoder.form;
+  style : l.explainer.lines.style ≡ l.initial.explainer.lines.style;
+  so_far : (max : ℕ) → Progress max (g.W.Sink.contents l.initial.writer) [] l.initial.explainer (g.W.Sink.broken l.initial.writer) (g.W.Sink.contents l.initial.writer)
+      → SoFarDumped max (g.W.Sink.contents l.initial.writer) (g.R.Source.left l.initial.reader) (g.R.Source.left l.reader) l.initial.dump l.dump l.explainer (g.W.Sink.broken l.writer) (g.W.Sink.contents l.writer);
+}
+
+abbrev pub decreases-loop-explainer : goal.decreases-loop-explainer
+decreases-loop-explainer g l = (2 ^ 64 - 1) - l.explainer.seen

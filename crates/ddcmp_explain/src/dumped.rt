@@ -1,0 +1,133 @@
+//! What the bytes of a dump say, as `hexdump -C`, `xxd` and `od -A x -t x1` write it.
+ghost use Rattle.std.specs.Prelude.{◌≡◌, ◌≢◌, ◌⊎◌, ◌↔◌, ◌+◌, ◌-◌, ◌<◌, ◌≤◌, ◌^◌, ◌++◌, [], false};
+ghost use Rattle.std.specs.Prelude.{IsOk, IsTrue, List, ℕ, None, Option, Some, length};
+ghost use Rattle.std.specs.Io.KnownBytes.{Consumes};
+ghost use Rattle.ddcmp_dump.specs.Dump.{dump_after, shown, shown_from};
+ghost use Rattle.ddcmp_frame.specs.Limits.{MAX_COUNT};
+ghost use Rattle.ddcmp_explain.specs.Dumps.{ExplainsDump, dump_answer};
+ghost use Rattle.ddcmp_explain.specs.Explains.{Tells, refusal};
+ghost use Rattle.ddcmp_explain.specs.Progress.{Progress, Takes};
+ghost use Rattle.ddcmp_io.specs.Input.{GaveMost};
+
+use crate::dump_fault::DumpFault;
+use crate::explain_fault::ExplainFault;
+use crate::explainer::{Explainer, PIECE};
+use crate::form::Form;
+use crate::style::Style;
+use ddcmp_dump::Dump;
+use ddcmp_frame::Reader;
+use ddcmp_io::input::read_within;
+use ddcmp_io::{Got, Sink, Source, Worst};
+use std::alloc::Global;
+
+/// Takes a piece of a dump as digits, with all blank but those of its data.
+fn take_piece<W: Sink>(
+    explainer: &mut Explainer,
+    dump: &mut Dump,
+    writer: &mut W,
+    piece: &mut [u8],
+) -> Result<(), ExplainFault>
+    requires size { length piece.old ≤ PIECE }
+    requires room { explainer.old.seen + length piece.old < 2 ^ 64 }
+    ensures dump { dump.new ≡ dump_after dump.old piece.old }
+    ensures form { explainer.new.decoder.form ≡ explainer.old.decoder.form }
+    ensures style { explainer.new.lines.style ≡ explainer.old.lines.style }
+    ensures seen { explainer.new.seen ≡ explainer.old.seen + length piece.old }
+    ensures most { result ≡ Err ExplainFault.Read → explainer.new.seen ≡ 2 ^ 64 - 1 }
+    ensures write { (result ≡ Err ExplainFault.Write) ↔ IsTrue (W.broken writer.new) }
+    ensures takes { (max : ℕ) (start : Option (List ℕ)) (seen : List ℕ)
+        → Progress max start seen explainer.old (W.broken writer.old) (W.contents writer.old)
+        → Takes max start (seen ++ shown_from dump.old.place piece.old) explainer.new
+        (W.broken writer.new) (W.contents writer.new) result }
+{
+    dump.blank(piece);
+    explainer.take(writer, piece)
+}
+
+/// Takes a dump to its end.
+fn take_dump<R: Source, W: Sink>(
+    explainer: &mut Explainer,
+    dump: &mut Dump,
+    reader: &mut R,
+    writer: &mut W,
+) -> Result<(), ExplainFault>
+    requires fine { R.state reader.old ≡ Worst.Fine }
+    requires whole { W.broken writer.old ≡ false }
+    ensures read { R.state reader.new ≢ Worst.Fine → result ≡ Err ExplainFault.Read }
+    ensures read_only { result ≡ Err ExplainFault.Read
+        → (R.state reader.new ≢ Worst.Fine) ⊎ (explainer.new.seen ≡ 2 ^ 64 - 1) }
+    ensures write { (result ≡ Err ExplainFault.Write) ↔ IsTrue (W.broken writer.new) }
+    ensures tells { (max : ℕ)
+        → Progress max (W.contents writer.old) [] explainer.old
+        (W.broken writer.old) (W.contents writer.old)
+        → (seen : List ℕ) × (length seen ≡ explainer.new.seen)
+        × Consumes (R.left reader.old) (R.left reader.new) seen
+        × (dump.new ≡ dump_after dump.old seen)
+        × Tells explainer.old.decoder.form explainer.old.lines.style max
+        (shown_from dump.old.place seen) (R.left reader.new)
+        (W.contents writer.old) (W.contents writer.new) result }
+{
+    let mut piece = [0; PIECE];
+    while explainer.seen < u64::MAX {
+        match read_within(reader, &mut piece, u64::MAX - explainer.seen) {
+            Got::Bytes(0) => return explainer.finish(writer),
+            Got::Bytes(n) => take_piece(explainer, dump, writer, &mut piece[..n])?,
+            Got::Idle | Got::Failed => return Err(ExplainFault::Read),
+        }
+    }
+    Err(ExplainFault::Read)
+}
+
+/// What is answered of a dump whose digits were explained so.
+fn answer(explained: Result<(), ExplainFault>, dump: &Dump) -> Result<(), DumpFault>
+    ensures { result ≡ dump_answer dump.now explained }
+{
+    match explained {
+        Ok(()) => Ok(()),
+        Err(ExplainFault::Odd) => Err(DumpFault::Line(dump.not_dumped())),
+        Err(ExplainFault::NotHex(_)) => Err(DumpFault::Line(dump.not_dumped())),
+        Err(ExplainFault::Read) => Err(DumpFault::Read),
+        Err(ExplainFault::Write) => Err(DumpFault::Write),
+        Err(ExplainFault::Memory) => Err(DumpFault::Memory),
+    }
+}
+
+/// Writes the line of each item of the bytes that a dump shows, and a last line of totals, in a style.
+/// A line that is none of a dump is told by its number; what the lines before it say is written.
+pub fn explain_dump<R: Source, W: Sink>(
+    alloc: Global,
+    reader: &mut R,
+    writer: &mut W,
+    style: Style,
+    max: u16,
+) -> Result<(), DumpFault>
+    requires fine { R.state reader.old ≡ Worst.Fine }
+    requires whole { W.broken writer.old ≡ false }
+    requires low { 0 < max }
+    requires high { max ≤ MAX_COUNT }
+
+    // Where the input is known: what was written, and when each answer comes.
+    ensures told { (input : List ℕ) → R.left reader.old ≡ Some input
+        → ExplainsDump style max input (R.left reader.new)
+        (W.contents writer.old) (W.contents writer.new) result }
+    ensures ok { (input : List ℕ) → R.left reader.old ≡ Some input
+        → IsOk result ↔ ((refusal Form.Hex (shown input) ≡ None) × (length input < 2 ^ 64 - 1)
+        × (R.state reader.new ≡ Worst.Fine) × (W.broken writer.new ≡ false)
+        × (result ≢ Err DumpFault.Memory)) }
+
+    // Read exactly where the reader isn't fine, or has given 2^64 - 1 bytes with no write failing.
+    ensures read { R.state reader.new ≢ Worst.Fine → result ≡ Err DumpFault.Read }
+    ensures read_only { result ≡ Err DumpFault.Read
+        → (R.state reader.new ≢ Worst.Fine) ⊎ GaveMost (R.left reader.old) (R.left reader.new) }
+    ensures write { (result ≡ Err DumpFault.Write) ↔ IsTrue (W.broken writer.new) }
+{
+    match Reader::new(alloc, max) {
+        Ok(frames) => {
+            let mut dump = Dump::new();
+            let mut explainer = Explainer::new(frames, Form::Hex, style);
+            let explained = take_dump(&mut explainer, &mut dump, reader, writer);
+            answer(explained, &dump)
+        }
+        Err(_refused) => Err(DumpFault::Memory),
+    }
+}

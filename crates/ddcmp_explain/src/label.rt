@@ -1,0 +1,137 @@
+//! The short labels of frames, for pictures.
+ghost use Rattle.std.specs.Prelude.{◌≡◌, ◌+◌, ◌≤◌, ◌++◌, codes, decimal, if◌then◌else◌, ◌==◌};
+ghost use Rattle.ddcmp_explain.specs.Label.{control_label, count_label, frame_label, item_label};
+ghost use Rattle.ddcmp_explain.specs.Putting.{Puts};
+
+use crate::put::{LINE, put, put_byte, put_number};
+use crate::text::put_fault;
+use ddcmp_frame::{ControlType, Header, Item};
+
+/// More than the label of an item takes.
+pub const LABEL_ROOM: usize = 192;
+
+fn put_nak_label(line: &mut [u8; LINE], at: usize, sub: u8, resp: u8) -> usize
+    requires { at + 16 ≤ LINE }
+    ensures puts { Puts line.old at line.new result
+        (codes "NAK " ++ decimal sub ++ codes " resp=" ++ decimal resp) }
+    ensures within { result ≤ at + 16 }
+{
+    let at_sub = put(line, at, b"NAK ");
+    let behind_sub = put_byte(line, at_sub, sub);
+    let at_resp = put(line, behind_sub, b" resp=");
+    put_byte(line, at_resp, resp)
+}
+
+/// Of a control frame the fields that it means.
+fn put_control_label(
+    line: &mut [u8; LINE],
+    at: usize,
+    kind: ControlType,
+    sub: u8,
+    resp: u8,
+    num: u8,
+) -> usize
+    requires { at + 16 ≤ LINE }
+    ensures puts { Puts line.old at line.new result (control_label kind sub resp num) }
+    ensures within { result ≤ at + 16 }
+{
+    match kind {
+        ControlType::Ack => {
+            let at_resp = put(line, at, b"ACK resp=");
+            put_byte(line, at_resp, resp)
+        }
+        ControlType::Nak => put_nak_label(line, at, sub, resp),
+        ControlType::Rep => {
+            let at_num = put(line, at, b"REP ");
+            put_byte(line, at_num, num)
+        }
+        ControlType::Strt => put(line, at, b"STRT"),
+        ControlType::Stack => put(line, at, b"STACK"),
+    }
+}
+
+/// What stands behind a number of bytes.
+fn put_unit(line: &mut [u8; LINE], at: usize, count: u16) -> usize
+    requires { at + 7 ≤ LINE }
+    ensures puts { Puts line.old at line.new result
+        (if count == 1 then codes " byte)" else codes " bytes)") }
+    ensures within { result ≤ at + 7 }
+{
+    if count == 1 {
+        put(line, at, b" byte)")
+    } else {
+        put(line, at, b" bytes)")
+    }
+}
+
+/// How many bytes of data a frame has.
+fn put_count_label(line: &mut [u8; LINE], at: usize, count: u16) -> usize
+    requires { at + 29 ≤ LINE }
+    ensures puts { Puts line.old at line.new result (count_label count) }
+    ensures within { result ≤ at + 29 }
+{
+    let at_count = put(line, at, b" (");
+    let behind_count = put_number(line, at_count, count as u64);
+    put_unit(line, behind_count, count)
+}
+
+fn put_data_label(line: &mut [u8; LINE], at: usize, num: u8, resp: u8, count: u16) -> usize
+    requires { at + 46 ≤ LINE }
+    ensures puts { Puts line.old at line.new result
+        (codes "DATA " ++ decimal num ++ codes " resp=" ++ decimal resp ++ count_label count) }
+    ensures within { result ≤ at + 46 }
+{
+    let at_num = put(line, at, b"DATA ");
+    let behind_num = put_byte(line, at_num, num);
+    let at_resp = put(line, behind_num, b" resp=");
+    let behind_resp = put_byte(line, at_resp, resp);
+    put_count_label(line, behind_resp, count)
+}
+
+/// The label of a frame, by its header.
+fn put_frame_label(line: &mut [u8; LINE], at: usize, header: &Header) -> usize
+    requires { at + 46 ≤ LINE }
+    ensures puts { Puts line.old at line.new result (frame_label header.now) }
+    ensures within { result ≤ at + 46 }
+{
+    match header {
+        Header::Data(h) => put_data_label(line, at, h.num, h.resp, h.count),
+        Header::Maint(h) => {
+            let behind_name = put(line, at, b"MAINT");
+            put_count_label(line, behind_name, h.count)
+        }
+        Header::Control(h) => put_control_label(line, at, h.kind, h.sub, h.resp, h.num),
+    }
+}
+
+/// The label of a frame: where it ends.
+pub fn label_frame(line: &mut [u8; LABEL_ROOM], header: &Header) -> usize
+    ensures puts { Puts line.old 0 line.new result (frame_label header.now) }
+    ensures within { result ≤ 46 }
+{
+    put_frame_label(line, 0, header)
+}
+
+/// The label of an item, which may be none that is good: where it ends.
+#[tactic(auto, unfolding(crate::specs::Label::item_label))]
+pub fn label_item(line: &mut [u8; LABEL_ROOM], item: &Item) -> usize
+    ensures puts { Puts line.old 0 line.new result (item_label item.now) }
+    ensures within { result ≤ 60 }
+{
+    match item {
+        Item::Good(_, header) => put_frame_label(line, 0, header),
+        Item::HeaderCheck(_) => put(line, 0, b"header check"),
+        Item::DataCheck(_, header) => {
+            let at_header = put(line, 0, b"data check ");
+            put_frame_label(line, at_header, header)
+        }
+        Item::TooLong(_, header) => {
+            let at_header = put(line, 0, b"too long ");
+            put_frame_label(line, at_header, header)
+        }
+        Item::Format(_, fault) => {
+            let at_fault = put(line, 0, b"format ");
+            put_fault(line, at_fault, fault)
+        }
+    }
+}

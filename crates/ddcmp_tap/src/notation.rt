@@ -1,0 +1,12 @@
+//! How a tap tells what passes.
+
+/// How a tap tells what passes.
+#[derive(Clone, Copy, Debug, PartialEq, Eq)]
+pub enum Notation {
+    /// Words for people, as `explain` has them.
+    Plain,
+    /// An object of JSON a line, for programs.
+    Json,
+    /// A ladder: an arrow from the side that an item comes from to the other.
+    Ladder,
+}

@@ -1,0 +1,68 @@
+// What explain makes of dumps, cut in pieces, against lines that were written by hand.
+use crate::same::is;
+use ddcmp_cli::{DumpFault, NotDumped, Notation, Style, explain_dump};
+use ddcmp_frame::failing::{Pieces, Taken};
+use std::process::Abort;
+
+/// An ACK as `hexdump -C` writes it, and the bytes behind it as `xxd` does.
+const BOTH: &[u8] = b"00000000  05 01 00 00 00 01 fc 55                           |.......U|
+00000008
+00000008: 8103 0000 0101 9a41 6162 6338 97         .......Aabc8.
+";
+
+const SAID: &[u8] = b"0 ACK sub=0 q=0 s=0 resp=0 num=0 addr=1
+8 DATA count=3 q=0 s=0 resp=0 num=1 addr=1 616263
+items=2 bytes=21 open=0
+";
+
+/// A dump in pieces of at most so many bytes has this answer, and this is written.
+fn row(
+    rt: &(impl Abort + AllocGlobal),
+    input: &[u8],
+    most: usize,
+    answer: &Result<(), DumpFault>,
+    text: &[u8],
+) {
+    assert!(rt; 0 < most);
+    let mut reader = Pieces::of(input).at_most(most);
+    let mut writer: Taken<256> = Taken::new();
+    let style = Style::items(Notation::Plain);
+    let told = explain_dump(rt.alloc(), &mut reader, &mut writer, style, 16383);
+    is(rt, &told, answer);
+    is(rt, writer.bytes(), text);
+}
+
+#[test]
+fn dumps_at_every_cut(rt: HostRuntime) {
+    for most in 1..90 {
+        row(&rt, BOTH, most, &Ok(()), SAID);
+    }
+}
+
+#[test]
+fn lines_that_are_none(rt: HostRuntime) {
+    let none = Err(DumpFault::Line(NotDumped::NotALine(2)));
+    for most in [1, 5, 4096] {
+        row(&rt, b"0000  05\nx\n0000  01\n", most, &none, b"");
+        row(&rt, b"0000\n0000  0\n", most, &none, b"");
+        row(&rt, b"\n0000: 05010\n", most, &none, b"");
+        row(&rt, b"0000\r\n0000  01\rx\n", most, &none, b"");
+        row(&rt, b"0000\n0000 01 0", most, &none, b"");
+        let star = Err(DumpFault::Line(NotDumped::Star(3)));
+        row(&rt, b"0000  05\n\n*\n0010\n", most, &star, b"");
+    }
+}
+
+#[test]
+fn a_read_that_fails(rt: HostRuntime) {
+    let mut reader = Pieces::of(BOTH).at_most(80).failing_at(2);
+    let mut writer: Taken<256> = Taken::new();
+    let style = Style::items(Notation::Plain);
+    let told = explain_dump(rt.alloc(), &mut reader, &mut writer, style, 16383);
+    is(&rt, &told, &Err(DumpFault::Read));
+    is(
+        &rt,
+        writer.bytes(),
+        b"0 ACK sub=0 q=0 s=0 resp=0 num=0 addr=1\n",
+    );
+}
