@@ -30,7 +30,6 @@ pub struct Numbers {
 
 /// One end of a link: its state, flags and numbers, the messages that it sends, an inbox of those
 /// that came, and counters.
-#[derive(Drop)]
 pub struct Core<S: Store> {
     state: State,
     /// A STRT or a STACK is to be sent.
@@ -44,6 +43,23 @@ pub struct Core<S: Store> {
     /// A running end whose inbox is empty answers a STRT by beginning anew.
     restart: bool,
     counters: Counters,
+}
+
+// By hand, so that a core is let go by a call: a derived one is written out at each such place.
+impl<S: Store + Drop> Drop for Core<S> {
+    fn drop(self) {
+        let Core {
+            state: _,
+            due: _,
+            reply: _,
+            rep: _,
+            timer: _,
+            sender: _sender,
+            inbox: _inbox,
+            restart: _,
+            counters: _,
+        } = self;
+    }
 }
 
 impl<S: Store> Model for Core<S> {

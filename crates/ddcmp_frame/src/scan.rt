@@ -167,6 +167,7 @@ impl Scan {
     }
 
     /// Takes bytes of a header. The eighth decides what follows.
+    #[inline(always)]
     fn take_header(&mut self, piece: &[u8]) -> Pushed
         requires ready { IsReady self.old piece.now }
         requires phase { self.old.phase ≡ Phase.Header }
@@ -216,6 +217,7 @@ impl Scan {
     }
 
     /// Takes bytes of the data and their check. The last one gives the item of the frame.
+    #[inline(always)]
     fn take_data(&mut self, piece: &[u8], header: Header, count: usize) -> Pushed
         requires ready { IsReady self.old piece.now }
         requires phase { self.old.phase ≡ Phase.Frame header count }

@@ -209,10 +209,27 @@ gathered-eight : (register a b c d e f g h : ℕ)
 unfolding gathered
 gathered-eight register a b c d e f g h = ap (gathered (c ∷ d ∷ e ∷ f ∷ g ∷ h ∷ [])) (first_two 7 register a b)
 
+-- a sum of eight, of which two are added last
+added_last : (a b c d e f g h : ℕ)
+    → bit_xor (bit_xor (bit_xor (bit_xor (bit_xor (bit_xor c d) e) f) g) h) (bit_xor a b)
+    ≡ bit_xor (bit_xor (bit_xor (bit_xor (bit_xor (bit_xor (bit_xor a b) c) d) e) f) g) h
+added_last a b c d e f g h =
+    let w = bit_xor a b in
+    let cd = bit_xor c d in
+    let ce = bit_xor cd e in
+    let cf = bit_xor ce f in
+    let cg = bit_xor cf g in
+    xor_comm (bit_xor cg h) w
+    ∙ sym (xor_assoc w cg h)
+    ∙ ap (λ t. bit_xor t h) (sym (xor_assoc w cf g)
+    ∙ ap (λ t. bit_xor t g) (sym (xor_assoc w ce f)
+    ∙ ap (λ t. bit_xor t f) (sym (xor_assoc w cd e)
+    ∙ ap (λ t. bit_xor t e) (sym (xor_assoc w c d)))))
+
 -- eight more bytes, each by a table of its own
 pub push_by_tables : (text bytes : List ℕ) (register : ℕ) → register < 2 ^ 16 → length bytes ≡ 8 → ((i : ℕ) → get_or bytes i 0 < 256) → register ≡ check_of text
-    → bit_xor (bit_xor (bit_xor (bit_xor (bit_xor (bit_xor (bit_xor (entry 7 (bit_xor (register % 256) (get_or bytes 0 0))) (entry 6 (bit_xor (register / 256) (get_or bytes 1 0))))
-    (entry 5 (get_or bytes 2 0))) (entry 4 (get_or bytes 3 0))) (entry 3 (get_or bytes 4 0))) (entry 2 (get_or bytes 5 0))) (entry 1 (get_or bytes 6 0))) (entry 0 (get_or bytes 7 0))
+    → bit_xor (bit_xor (bit_xor (bit_xor (bit_xor (bit_xor (entry 5 (get_or bytes 2 0)) (entry 4 (get_or bytes 3 0))) (entry 3 (get_or bytes 4 0))) (entry 2 (get_or bytes 5 0))) (entry 1 (get_or bytes 6 0))) (entry 0 (get_or bytes 7 0)))
+    (bit_xor (entry 7 (bit_xor (register % 256) (get_or bytes 0 0))) (entry 6 (bit_xor (register / 256) (get_or bytes 1 0))))
     ≡ check_of (text ++ bytes)
 push_by_tables text bytes register fits l small is =
     let byte : ℕ → ℕ = λ i. get_or bytes i 0 in
@@ -228,7 +245,9 @@ push_by_tables text bytes register fits l small is =
       ← entry-zero_bytes 1 (byte 6) (small 6),
       ← entry-zero_bytes 0 (byte 7) (small 7),
     )
-    (sym (gathered-eight register (byte 0) (byte 1) (byte 2) (byte 3) (byte 4) (byte 5) (byte 6) (byte 7))
+    (added_last (zero_bytes 8 (bit_xor (register % 256) (byte 0))) (zero_bytes 7 (bit_xor (register / 256) (byte 1)))
+    (zero_bytes 6 (byte 2)) (zero_bytes 5 (byte 3)) (zero_bytes 4 (byte 4)) (zero_bytes 3 (byte 5)) (zero_bytes 2 (byte 6)) (zero_bytes 1 (byte 7))
+    ∙ sym (gathered-eight register (byte 0) (byte 1) (byte 2) (byte 3) (byte 4) (byte 5) (byte 6) (byte 7))
     ∙ ap (λ t. gathered t (zero_bytes 8 register)) (sym (eight_of bytes l))
     ∙ ap (λ n. gathered bytes (zero_bytes n register)) (sym l)
     ∙ sym (absorbed-gathered bytes register)

@@ -53,7 +53,7 @@ impl Check {
     }
 
     // Each byte goes by the table of as many zero bytes as bytes follow it here, so that no
-    // look-up waits for another.
+    // look-up waits for another. The two that wait for the register are added last.
     #[inline(always)]
     fn push_eight(&mut self, bytes: &[u8; 8])
         ensures { (text : List ℕ) → self.old ≡ check_of text
@@ -61,14 +61,14 @@ impl Check {
     {
         let [low, high] = self.register.to_le_bytes();
         let [a, b, c, d, e, f, g, h] = *bytes;
-        self.register = byte_check(7, low ^ a)
-            ^ byte_check(6, high ^ b)
-            ^ byte_check(5, c)
+        let at_hand = byte_check(5, c)
             ^ byte_check(4, d)
             ^ byte_check(3, e)
             ^ byte_check(2, f)
             ^ byte_check(1, g)
             ^ byte_check(0, h);
+        let waiting = byte_check(7, low ^ a) ^ byte_check(6, high ^ b);
+        self.register = at_hand ^ waiting;
     }
 
     /// The check of all bytes taken.

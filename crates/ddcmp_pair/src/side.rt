@@ -11,7 +11,6 @@ use std::alloc::Global;
 use std::marker::Model;
 
 /// One end of a pair. It keeps the allocator for its histories.
-#[derive(Drop)]
 pub(crate) struct Side {
     alloc: Global,
     station: Station,
@@ -26,6 +25,25 @@ pub(crate) struct Side {
     place: Option<usize>,
     /// Room for a frame with its fill, or for a message.
     buffer: Vec<u8>,
+}
+
+// By hand, so that an end is let go by a call: a derived one is written out at each such place.
+impl Drop for Side {
+    fn drop(self) {
+        let Side {
+            alloc: _,
+            station: _station,
+            reader: _reader,
+            given: _given,
+            taken: _taken,
+            sent: _sent,
+            arrived: _arrived,
+            acknowledged: _,
+            starts: _,
+            place: _,
+            buffer: _buffer,
+        } = self;
+    }
 }
 
 impl Model for Side {
