@@ -2,3 +2,13 @@ mod Prices
 mod Ways
 mod Settling
 mod Resting
+mod Flights
+mod Traffic
+mod Learning
+mod Starting
+mod Repeating
+mod Hearing
+mod Acting
+mod Staying
+mod Delivering
+mod Rounding

@@ -235,7 +235,7 @@ under w (event.Start e) rest l g n r s u = absurd g
 under w (event.Halt e) rest l g n r s u = absurd g
 under w event.Clear rest l g n r s u = absurd n
 
-goes_on : (e : Event) (rest : List Event) → GoesOn (e ∷ rest) → GoesOn rest
+pub goes_on : (e : Event) (rest : List Event) → GoesOn (e ∷ rest) → GoesOn rest
 goes_on (event.Poll e) rest g = g
 goes_on (event.Arrive e bytes) rest g = g
 goes_on (event.Expire e) rest g = g
@@ -245,11 +245,11 @@ goes_on (event.Start e) rest g = absurd g
 goes_on (event.Halt e) rest g = absurd g
 goes_on event.Clear rest g = g
 
-record Gone (l : Line) : Type 0 where
-  under_way : IsUnderWay l
-  is_run : IsRun l.pair
+pub record Gone (l : Line) : Type 0 where
+  pub under_way : IsUnderWay l
+  pub is_run : IsRun l.pair
 
-all_under : (w : ℕ) (events : List Event) (l : Line) → GoesOn events → IsLossFree events l → IsRun l.pair → Settles w l → IsUnderWay l → Gone (run_on_line events l)
+pub all_under : (w : ℕ) (events : List Event) (l : Line) → GoesOn events → IsLossFree events l → IsRun l.pair → Settles w l → IsUnderWay l → Gone (run_on_line events l)
 unfolding run_on_line
 all_under w [] l g n r s u = record { under_way = u; is_run = r }
 all_under w (e ∷ rest) l g n r s u =

@@ -1,3 +1,4 @@
 pub mod LossFree
 pub mod Price
 pub mod Rests
+pub mod Delivers

@@ -2,5 +2,6 @@
 //! are asked and bytes arrive. Functions that do nothing, whose contracts are the laws.
 #![tactic(auto)]
 
+pub mod delivers;
 pub mod rests;
 pub mod settles;
