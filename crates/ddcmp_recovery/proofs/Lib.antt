@@ -12,3 +12,4 @@ mod Acting
 mod Staying
 mod Delivering
 mod Rounding
+mod InStep

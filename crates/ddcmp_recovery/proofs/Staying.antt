@@ -7,7 +7,6 @@ use Rattle.ddcmp_recovery.proofs.Learning.{Learns, learns-polls, learns-answers,
 use Rattle.ddcmp_recovery.proofs.Starting.{Wakes, wakes-polls, wakes-answers, wakes-hears, wakes-heard, wakes-expires, wakes-kept}
 use Rattle.ddcmp_recovery.proofs.Repeating.{Repeats, repeats-polls, repeats-answers, repeats-hears, repeats-heard, repeats-expires, repeats-kept}
 
-
 -- Knowledge of two ends, by whether the timer of each ran out, and what is on its way from the first to
 -- the second, and back: it stays.
 pub record Stays (Knows : Bool → Bool → View → View → List Flight → List Flight → Type 0) : Type 0 where

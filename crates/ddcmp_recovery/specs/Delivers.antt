@@ -7,7 +7,9 @@ use Rattle.ddcmp_run.specs.declared.event.End.TheVariants.{A, B}
 use Rattle.ddcmp_run.specs.declared.event.Event.{Event}
 use Rattle.ddcmp_run.specs.declared.event.Event.TheVariants as event
 use Rattle.ddcmp_run.specs.Run.{EndState, PairState, handed_up, line_bytes}
-use Rattle.ddcmp_recovery.specs.LossFree.{Line, IsLossFree, run_on_line}
+use Rattle.ddcmp_run.specs.Settle.{settling, settled}
+use Rattle.ddcmp_run.specs.Recovery.{rounding, rounded, recovered}
+use Rattle.ddcmp_recovery.specs.LossFree.{Line, empty_line, IsLossFree, run_on_line}
 use Rattle.ddcmp_recovery.specs.Rests.{GoesOn}
 
 -- nothing is on its way, and neither end has a frame to send
@@ -29,7 +31,8 @@ runs_out end [] = false
 runs_out end (e ∷ rest) = is_expiry end e || runs_out end rest
 
 -- The events of a round in any order: nothing is lost, no end starts or halts, the timer of each
--- end runs out at some time, or is said to where it is off, and the line comes to rest.
+-- end runs out once or more, at any time (where it is off that does nothing), and the line comes to
+-- rest.
 pub record IsRoundInAnyOrder (events : List Event) (l : Line) : Type 0 where
   pub goes_on : GoesOn events
   pub loss_free : IsLossFree events l
@@ -46,3 +49,18 @@ pub record IsTold (from to : EndState) : Type 0 where
 pub record AreTold (p : PairState) : Type 0 where
   pub from_a : IsTold p.a p.b
   pub from_b : IsTold p.b p.a
+
+-- The events of a recovery in lock step, on a line on which nothing is on its way: they settle it,
+-- and then are two rounds as above. Each of the three leaves nothing on its way.
+pub record IsTwoRounds (p : PairState) : Type 0 where
+  pub goes_on : GoesOn (settling p).events
+  pub loss_free : IsLossFree (settling p).events (empty_line p)
+  pub settles : run_on_line (settling p).events (empty_line p) ≡ empty_line (settled p)
+  pub rests : IsAtRest (empty_line (settled p))
+  pub once : IsRoundInAnyOrder (rounding (settled p)).events (empty_line (settled p))
+  pub leads : run_on_line (rounding (settled p)).events (empty_line (settled p))
+      ≡ empty_line (rounded (settled p))
+  pub twice : IsRoundInAnyOrder (rounding (rounded (settled p))).events
+      (empty_line (rounded (settled p)))
+  pub ends : run_on_line (rounding (rounded (settled p))).events
+      (empty_line (rounded (settled p))) ≡ empty_line (recovered p)
