@@ -11,10 +11,19 @@ pub const LONGEST: usize = 1500;
 type Line = VecDeque<Vec<u8>>;
 
 /// What each end wrote.
-#[derive(Drop)]
 struct Lines {
     of_a: Line,
     of_b: Line,
+}
+
+// By hand, so that a line is let go by a call: a derived one is written out at each such place.
+impl Drop for Lines {
+    fn drop(self) {
+        let Lines {
+            of_a: _of_a,
+            of_b: _of_b,
+        } = self;
+    }
 }
 
 impl Lines {
@@ -26,10 +35,19 @@ impl Lines {
     }
 }
 
-#[derive(Drop)]
 pub struct Link {
     pub pair: Pair,
     lines: Lines,
+}
+
+// By hand, so that a link is let go by a call: a derived one is written out at each such place.
+impl Drop for Link {
+    fn drop(self) {
+        let Link {
+            pair: _pair,
+            lines: _lines,
+        } = self;
+    }
 }
 
 impl Link {

@@ -109,10 +109,19 @@ fn is_told(pair: &Pair, seen: &Told) -> bool {
 }
 
 /// A pair that does again what was refused for want of memory, and whether any was.
-#[derive(Drop)]
 struct Patient {
     bench: Bench,
     refused: bool,
+}
+
+// By hand, so that a pair is let go by a call: a derived one is written out at each such place.
+impl Drop for Patient {
+    fn drop(self) {
+        let Patient {
+            bench: _bench,
+            refused: _,
+        } = self;
+    }
 }
 
 impl Patient {

@@ -7,9 +7,15 @@ pub const LONGEST: usize = 16383;
 
 /// A pair to which events happen. Its calls' contracts say more than is asked for here, so each stands
 /// alone and promises nothing.
-#[derive(Drop)]
 pub struct Table {
     pair: Pair,
+}
+
+// By hand, so that a pair is let go by a call: a derived one is written out at each such place.
+impl Drop for Table {
+    fn drop(self) {
+        let Table { pair: _pair } = self;
+    }
 }
 
 impl Table {
