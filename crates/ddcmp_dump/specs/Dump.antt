@@ -1,11 +1,15 @@
--- What is made of the bytes of a dump: a digit of data stays, a line that is none of a dump is question
--- marks, and all else is blank. By the place in its line at which each byte stands.
-use Rattle.std.specs.Prelude.{ℕ, ◌+◌, ◌-◌, ◌^◌, min, Bool, true, false, ◌==◌, ◌||◌, if◌then◌else◌, List, [], ◌∷◌}
+-- What is made of the bytes of a dump: a digit of data stays, a line that is none of a dump is
+-- question marks, and all else is blank. By the place in its line at which each byte stands.
+use Rattle.std.specs.Prelude.{ℕ, ◌+◌, ◌-◌, ◌^◌, min, Bool, true, false, ◌==◌, ◌||◌, if◌then◌else◌}
+use Rattle.std.specs.Prelude.{List, [], ◌∷◌}
 use Rattle.std.specs.Char.{is_ascii_hexdigit}
 use Rattle.ddcmp_dump.specs.declared.place.Kind.{Kind}
 use Rattle.ddcmp_dump.specs.declared.place.Kind.TheVariants as kind
 use Rattle.ddcmp_dump.specs.declared.place.Place.{Place}
-use Rattle.ddcmp_dump.specs.declared.place.Place.TheVariants.{Start, Address, Blanks, High, Low, Colon, Gap, First, Second, Third, Fourth, Text, Return, Refused, LeftOut}
+use Rattle.ddcmp_dump.specs.declared.place.Place.TheVariants.{Start, Address, Blanks, High, Low}
+use Rattle.ddcmp_dump.specs.declared.place.Place.TheVariants.{Colon, Gap, First, Second, Third}
+use Rattle.ddcmp_dump.specs.declared.place.Place.TheVariants.{Fourth, Text, Return, Refused}
+use Rattle.ddcmp_dump.specs.declared.place.Place.TheVariants.{LeftOut}
 use Rattle.ddcmp_dump.specs.declared.dump.NotDumped.{NotDumped}
 use Rattle.ddcmp_dump.specs.declared.dump.NotDumped.TheVariants.{NotALine, Star}
 

@@ -23,8 +23,8 @@ pub data Bytes : List ℕ → List ℕ → Type 0 where
   Column : {bar : ℕ} {text : List ℕ} → (bar ≡ 124) ⊎ (bar ≡ 62) → IsOneLine text
       → Bytes (32 ∷ bar ∷ text) []
 
--- Behind the colon in a dump of `xxd`: groups of one byte or two with one blank in front of each, and
--- at the end maybe a blank, or two of them and the column of text.
+-- Behind the colon in a dump of `xxd`: groups of one byte or two with one blank in front of each,
+-- and at the end maybe a blank, or two of them and the column of text.
 pub data Groups : List ℕ → List ℕ → Type 0 where
   NoGroup : Groups [] []
   LastBlank : Groups (32 ∷ []) []
@@ -37,10 +37,12 @@ pub data Groups : List ℕ → List ℕ → Type 0 where
 -- a line, which may be empty, or have an address alone
 pub data Line : List ℕ → List ℕ → Type 0 where
   Empty : Line [] []
-  Dumped : (first : ℕ) (address : List ℕ) {text digits : List ℕ} → IsDigit first → All IsDigit address
-      → Bytes text digits → Line (first ∷ address ++ text) digits
-  Grouped : (first : ℕ) (address : List ℕ) {text digits : List ℕ} → IsDigit first → All IsDigit address
-      → Groups text digits → Line (first ∷ address ++ (58 ∷ text)) digits
+  Dumped : (first : ℕ) (address : List ℕ) {text digits : List ℕ}
+      → IsDigit first → All IsDigit address → Bytes text digits
+      → Line (first ∷ address ++ text) digits
+  Grouped : (first : ℕ) (address : List ℕ) {text digits : List ℕ}
+      → IsDigit first → All IsDigit address → Groups text digits
+      → Line (first ∷ address ++ (58 ∷ text)) digits
 
 -- LF ends a line, or CR and LF
 pub data LineEnd : List ℕ → Type 0 where

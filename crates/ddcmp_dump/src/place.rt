@@ -1,7 +1,8 @@
 //! Where in a line of a dump a byte stands.
 ghost use Rattle.std.specs.Prelude.{◌≡◌};
 ghost use Rattle.ddcmp_dump.specs.Dump.{address_then, blanks_then, half_then, return_then};
-ghost use Rattle.ddcmp_dump.specs.Dump.{start_then, text_then, whole_then, place_after, place_of_kind};
+ghost use Rattle.ddcmp_dump.specs.Dump.{start_then, text_then, whole_then, place_after};
+ghost use Rattle.ddcmp_dump.specs.Dump.{place_of_kind};
 ghost use Rattle.ddcmp_dump.specs.Dump.{is_data_at, kind_of_byte, line_at, shown_at};
 
 /// Where in a line of a dump the byte stands that was taken last.

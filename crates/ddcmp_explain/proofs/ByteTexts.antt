@@ -1,5 +1,6 @@
 -- The table of the texts of numbers of one byte.
-use Rattle.std.proofs.Common.{◌≡◌, ℕ, ◌+◌, ◌/◌, ◌%◌, ◌<◌, ◌≤◌, Bool, true, false, List, [], ◌∷◌, take, map, get_or, refl, sym, ◌∙◌, ap, subst, arith}
+use Rattle.std.proofs.Common.{◌≡◌, ℕ, ◌+◌, ◌/◌, ◌%◌, ◌<◌, ◌≤◌, Bool, true, false, List, [], ◌∷◌}
+use Rattle.std.proofs.Common.{take, map, get_or, refl, sym, ◌∙◌, ap, subst, arith}
 use Rattle.std.specs.Prelude.{nat_lt}
 use Rattle.std.specs.Fmt.{decimal}
 use Rattle.std.specs.List.{range_with_len}
@@ -23,17 +24,21 @@ unfolding entry text_by
 entries-computed = refl
 
 entry-of : (n : ℕ) → n < 256 → get_or BYTE_TEXTS n [] ≡ entry n
-entry-of n h = ap (λ t. get_or t n []) entries-computed ∙ get_or-map-range_with_len entry 0 256 n n [] h (omega arith)
+entry-of n h =
+    ap (λ t. get_or t n []) entries-computed
+    ∙ get_or-map-range_with_len entry 0 256 n n [] h (omega arith)
 
 abbrev pub IsText : ℕ → List ℕ → Type 0
 IsText n text =
-    (take (get_or text 3 0) (get_or text 0 0 ∷ get_or text 1 0 ∷ get_or text 2 0 ∷ []) ≡ decimal n) × (get_or text 3 0 ≤ 3)
+    (take (get_or text 3 0) (get_or text 0 0 ∷ get_or text 1 0 ∷ get_or text 2 0 ∷ []) ≡ decimal n)
+    × (get_or text 3 0 ≤ 3)
 
 pub is-text : (n : ℕ) → n < 256 → IsText n (get_or BYTE_TEXTS n [])
 unfolding entry text_by
 is-text n h = subst (IsText n) (sym (entry-of n h)) (by (nat_lt n 10) (nat_lt n 100) refl refl)
   where
-    by : (small middle : Bool) → nat_lt n 10 ≡ small → nat_lt n 100 ≡ middle → IsText n (text_by small middle n)
+    by : (small middle : Bool) → nat_lt n 10 ≡ small → nat_lt n 100 ≡ middle
+        → IsText n (text_by small middle n)
     by true middle l m = (sym (decimal_digit n (ltb-less n 10 l)), omega arith)
     by false true l m = (decimal-two n (ltb-not n 10 l) (ltb-less n 100 m), omega arith)
     by false false l m = (decimal-three n (ltb-not n 100 m) (omega arith), omega arith)

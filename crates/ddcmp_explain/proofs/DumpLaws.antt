@@ -1,11 +1,14 @@
 -- What was seen of a dump, and what an answer tells of the whole dump.
-use Rattle.std.proofs.Common.{◌≡◌, ◌≢◌, ℕ, ◌+◌, ◌-◌, ◌<◌, ◌^◌, Bool, true, false, List, [], ◌∷◌, ◌++◌, length, take, refl, sym, ◌∙◌, ap, subst, arith, Option, Some, None, Result, Ok, Err, length-append, inl, inr}
+use Rattle.std.proofs.Common.{◌≡◌, ◌≢◌, ℕ, ◌+◌, ◌-◌, ◌<◌, ◌^◌, Bool, true, false, List, [], ◌∷◌}
+use Rattle.std.proofs.Common.{◌++◌, length, take, refl, sym, ◌∙◌, ap, subst, arith, Option, Some}
+use Rattle.std.proofs.Common.{None, Result, Ok, Err, length-append, inl, inr}
 use Rattle.std.specs.Prelude.{◌⊎◌, ◌↔◌, IsOk, IsTrue}
 use Rattle.std.specs.Io.KnownBytes.{Consumes}
 use Rattle.std.proofs.KnownBytes.{Appends-nil, Consumes-trans}
 use Rattle.ddcmp_dump.specs.declared.place.Place.{Place}
 use Rattle.ddcmp_dump.specs.declared.place.Place.TheVariants.{Start}
-use Rattle.ddcmp_dump.specs.Dump.{DumpView, dump_after, dump_begun, line_from, not_dumped, place_after, place_from, shown, shown_from}
+use Rattle.ddcmp_dump.specs.Dump.{DumpView, dump_after, dump_begun, line_from, not_dumped}
+use Rattle.ddcmp_dump.specs.Dump.{place_after, place_from, shown, shown_from}
 use Rattle.ddcmp_dump.proofs.DumpLaws.{shown-more, place-more, line-more}
 use Rattle.std.proofs.lemmas.List.{append-nil}
 use Rattle.ddcmp_io.specs.declared.device.Worst.{Worst}
@@ -14,7 +17,8 @@ use Rattle.ddcmp_io.specs.Input.{GaveMost}
 use Rattle.ddcmp_explain.specs.declared.dump_fault.DumpFault.{DumpFault}
 use Rattle.ddcmp_explain.specs.declared.dump_fault.DumpFault.TheVariants as dumping
 use Rattle.ddcmp_explain.specs.declared.explain_fault.ExplainFault.{ExplainFault}
-use Rattle.ddcmp_explain.specs.declared.explain_fault.ExplainFault.TheVariants.{Odd, NotHex, Read, Write, Memory}
+use Rattle.ddcmp_explain.specs.declared.explain_fault.ExplainFault.TheVariants.{Odd, NotHex, Read}
+use Rattle.ddcmp_explain.specs.declared.explain_fault.ExplainFault.TheVariants.{Write, Memory}
 use Rattle.ddcmp_explain.specs.declared.form.Form.{Form}
 use Rattle.ddcmp_explain.specs.declared.form.Form.TheVariants.{Hex}
 use Rattle.ddcmp_explain.specs.declared.style.Style.{Style}
@@ -42,46 +46,73 @@ take-none n [] e = ap (λ k. take k []) e
 take-none n (x ∷ xs) e = ap (λ k. take k (x ∷ xs)) e
 
 -- a read that gave nothing
-pub consumes-end : (before left later : Option (List ℕ)) (seen : List ℕ) (n : ℕ) (buf : List ℕ) → n ≡ 0 → Consumes before left seen → Consumes left later (take n buf) → Consumes before later seen
+pub consumes-end : (before left later : Option (List ℕ)) (seen : List ℕ) (n : ℕ) (buf : List ℕ)
+    → n ≡ 0 → Consumes before left seen → Consumes left later (take n buf)
+    → Consumes before later seen
 consumes-end before left later seen n buf e a b =
     subst (Consumes before later) (append-nil seen)
     (Consumes-trans before left later seen [] a (subst (Consumes left later) (take-none n buf e) b))
 
 -- so far, and each whole byte of it has been told
-pub record SoFarDumped (max : ℕ) (start before left : Option (List ℕ)) (begun now : DumpView) (at : Explainer) (broken : Bool) (sink : Option (List ℕ)) : Type 0 where
+pub record SoFarDumped (max : ℕ) (start before left : Option (List ℕ)) (begun now : DumpView)
+    (at : Explainer) (broken : Bool) (sink : Option (List ℕ))
+    : Type 0 where
   pub seen : List ℕ
   pub consumed : Consumes before left seen
   pub dump : now ≡ dump_after begun seen
   pub long : length seen ≡ at.seen
   pub progress : Progress max start (shown_from begun.place seen) at broken sink
 
-pub shown-after : (begun now : DumpView) (seen piece : List ℕ) → now ≡ dump_after begun seen → shown_from begun.place seen ++ shown_from now.place piece ≡ shown_from begun.place (seen ++ piece)
+pub shown-after : (begun now : DumpView) (seen piece : List ℕ) → now ≡ dump_after begun seen
+    → shown_from begun.place seen ++ shown_from now.place piece
+    ≡ shown_from begun.place (seen ++ piece)
 shown-after begun now seen piece e =
-    ap (λ (v : DumpView). shown_from begun.place seen ++ shown_from v.place piece) e ∙ sym (shown-more begun.place seen piece)
+    ap (λ (v : DumpView). shown_from begun.place seen ++ shown_from v.place piece) e
+    ∙ sym (shown-more begun.place seen piece)
 
-dump-append : (v : DumpView) (seen piece : List ℕ) → dump_after v (seen ++ piece) ≡ dump_after (dump_after v seen) piece
+dump-append : (v : DumpView) (seen piece : List ℕ)
+    → dump_after v (seen ++ piece) ≡ dump_after (dump_after v seen) piece
 dump-append v seen piece =
-    λ i. record { place = place-more v.place seen piece i; line = line-more v.place v.line seen piece i }
+    λ i.
+    record {
+      place =
+          place-more v.place seen piece i;
+      line = line-more v.place v.line seen piece i;
+    }
 
-pub dump-more : (begun now new : DumpView) (seen piece : List ℕ) → now ≡ dump_after begun seen → new ≡ dump_after now piece → new ≡ dump_after begun (seen ++ piece)
+pub dump-more : (begun now new : DumpView) (seen piece : List ℕ) → now ≡ dump_after begun seen
+    → new ≡ dump_after now piece → new ≡ dump_after begun (seen ++ piece)
 dump-more begun now new seen piece e f =
     f ∙ ap (λ (v : DumpView). dump_after v piece) e ∙ sym (dump-append begun seen piece)
 
 -- a piece more
-pub so-far-more : (max : ℕ) (start before left later : Option (List ℕ)) (begun now new : DumpView) (at next : Explainer) (broken fails : Bool) (sink grown : Option (List ℕ)) (piece : List ℕ)
+pub so-far-more
+    : (max : ℕ) (start before left later : Option (List ℕ)) (begun now new : DumpView)
+    (at next : Explainer) (broken fails : Bool) (sink grown : Option (List ℕ)) (piece : List ℕ)
     → Consumes left later piece → new ≡ dump_after now piece → next.seen ≡ at.seen + length piece
-    → ((seen : List ℕ) → Progress max start seen at broken sink → Progress max start (seen ++ shown_from now.place piece) next fails grown)
-    → SoFarDumped max start before left begun now at broken sink → SoFarDumped max start before later begun new next fails grown
-so-far-more max start before left later begun now new at next broken fails sink grown piece took is long takes s = record {
-  seen = s.seen ++ piece;
-  consumed = Consumes-trans _ _ later s.seen piece s.consumed took;
-  dump = dump-more begun now new s.seen piece s.dump is;
-  long = length-append s.seen piece ∙ omega (arith, s.long, long);
-  progress = subst (λ t. Progress max start t next fails grown) (shown-after begun now s.seen piece s.dump) (takes (shown_from begun.place s.seen) s.progress);
-}
+    → ((seen : List ℕ) → Progress max start seen at broken sink
+    → Progress max start (seen ++ shown_from now.place piece) next fails grown)
+    → SoFarDumped max start before left begun now at broken sink
+    → SoFarDumped max start before later begun new next fails grown
+so-far-more max start before left later begun now new at next broken fails sink grown piece took is
+    long takes s =
+    record {
+      seen = s.seen ++ piece;
+      consumed = Consumes-trans _ _ later s.seen piece s.consumed took;
+      dump = dump-more begun now new s.seen piece s.dump is;
+      long = length-append s.seen piece ∙ omega (arith, s.long, long);
+      progress =
+          subst (λ t. Progress max start t next fails grown)
+          (shown-after begun now s.seen piece s.dump)
+          (takes (shown_from begun.place s.seen) s.progress);
+    }
 
 -- nothing yet
-pub so-far-none : (max : ℕ) (start before : Option (List ℕ)) (begun : DumpView) (at : Explainer) (broken : Bool) (sink : Option (List ℕ)) → Progress max start [] at broken sink → SoFarDumped max start before before begun begun at broken sink
+pub so-far-none
+    : (max : ℕ) (start before : Option (List ℕ)) (begun : DumpView) (at : Explainer) (broken : Bool)
+    (sink : Option (List ℕ))
+    → Progress max start [] at broken sink
+    → SoFarDumped max start before before begun begun at broken sink
 unfolding shown_from place_from line_from
 so-far-none max start before begun at broken sink p = record {
   seen = [];
@@ -94,16 +125,21 @@ so-far-none max start before begun at broken sink p = record {
 -- ---- the whole dump
 
 -- what was seen, n bytes, and what was told of it
-abbrev pub SawFrom : Form → Style → ℕ → ℕ → DumpView → DumpView → Option (List ℕ) → Option (List ℕ) → Option (List ℕ) → Option (List ℕ) → Answer → Type 0
+abbrev pub SawFrom : Form → Style → ℕ → ℕ → DumpView → DumpView → Option (List ℕ) → Option (List ℕ)
+    → Option (List ℕ) → Option (List ℕ) → Answer → Type 0
 SawFrom form style max n begun dump before left old new explained =
     (seen : List ℕ) × (length seen ≡ n) × Consumes before left seen × (dump ≡ dump_after begun seen)
     × Tells form style max (shown_from begun.place seen) left old new explained
 
-abbrev pub SawDump : Style → ℕ → ℕ → DumpView → Option (List ℕ) → Option (List ℕ) → Option (List ℕ) → Option (List ℕ) → Answer → Type 0
+abbrev pub SawDump : Style → ℕ → ℕ → DumpView → Option (List ℕ) → Option (List ℕ) → Option (List ℕ)
+    → Option (List ℕ) → Answer → Type 0
 SawDump style max n dump before left old new explained =
     SawFrom Hex style max n dump_begun dump before left old new explained
 
-pub explains-dump : (style : Style) (max n : ℕ) (dump : DumpView) (before left old new : Option (List ℕ)) (explained : Answer) (result : Result (Unit {0}) DumpFault) → SawDump style max n dump before left old new explained → result ≡ dump_answer dump explained
+pub explains-dump
+    : (style : Style) (max n : ℕ) (dump : DumpView) (before left old new : Option (List ℕ))
+    (explained : Answer) (result : Result (Unit {0}) DumpFault)
+    → SawDump style max n dump before left old new explained → result ≡ dump_answer dump explained
     → (input : List ℕ) → before ≡ Some input → ExplainsDump style max input left old new result
 explains-dump style max n dump before None old new explained result s a input e =
     absurd (subst (λ b. Consumes b None s.0) e s.2)
@@ -117,7 +153,10 @@ explains-dump style max n dump before (Some rest) old new explained result s a i
   answers = a ∙ ap (λ d. dump_answer d explained) s.3;
 }
 
-pub gave-most-dump : (style : Style) (max n : ℕ) (dump : DumpView) (before left old new : Option (List ℕ)) (explained : Answer) → SawDump style max n dump before left old new explained → n ≡ 2 ^ 64 - 1 → GaveMost before left
+pub gave-most-dump
+    : (style : Style) (max n : ℕ) (dump : DumpView) (before left old new : Option (List ℕ))
+    (explained : Answer)
+    → SawDump style max n dump before left old new explained → n ≡ 2 ^ 64 - 1 → GaveMost before left
 gave-most-dump style max n dump None left old new explained s m = tt
 gave-most-dump style max n dump (Some input) None old new explained s m = tt
 gave-most-dump style max n dump (Some input) (Some rest) old new explained s m =
@@ -126,7 +165,11 @@ gave-most-dump style max n dump (Some input) (Some rest) old new explained s m =
     omega (arith, e, l, m)
 
 -- only the end of the input counts of what is left
-tells-at : (style : Style) (max : ℕ) (seen rest other : List ℕ) (old new : Option (List ℕ)) (explained : Answer) → (rest ≡ [] → other ≡ []) → Tells Hex style max seen (Some rest) old new explained → Tells Hex style max seen (Some other) old new explained
+tells-at
+    : (style : Style) (max : ℕ) (seen rest other : List ℕ) (old new : Option (List ℕ))
+    (explained : Answer)
+    → (rest ≡ [] → other ≡ []) → Tells Hex style max seen (Some rest) old new explained
+    → Tells Hex style max seen (Some other) old new explained
 tells-at style max seen rest other old new (Ok u) h t = (h t.0, t.1, t.2, t.3)
 tells-at style max seen rest other old new (Err Odd) h t = (h t.0, t.1, t.2, t.3)
 tells-at style max seen rest other old new (Err (NotHex index)) h t = t
@@ -135,21 +178,28 @@ tells-at style max seen rest other old new (Err Write) h t = t
 tells-at style max seen rest other old new (Err Memory) h t = t
 
 -- the digits of a dump were explained as any input is
-pub as-digits : (style : Style) (max : ℕ) (input seen rest : List ℕ) (old new : Option (List ℕ)) (explained : Answer) → input ≡ seen ++ rest → Tells Hex style max (shown seen) (Some rest) old new explained
-    → Explains Hex style max (shown input) (Some (shown_from (place_from Start seen) rest)) old new explained
+pub as-digits
+    : (style : Style) (max : ℕ) (input seen rest : List ℕ) (old new : Option (List ℕ))
+    (explained : Answer)
+    → input ≡ seen ++ rest → Tells Hex style max (shown seen) (Some rest) old new explained
+    → Explains Hex style max (shown input) (Some (shown_from (place_from Start seen) rest)) old new
+    explained
 as-digits style max input seen rest old new explained e t = (
   shown seen,
   shown_from (place_from Start seen) rest,
   ap shown e ∙ shown-more Start seen rest,
   refl,
-  tells-at style max (shown seen) rest (shown_from (place_from Start seen) rest) old new explained (shown-nothing (place_from Start seen) rest) t,
+  tells-at style max (shown seen) rest (shown_from (place_from Start seen) rest) old new explained
+      (shown-nothing (place_from Start seen) rest) t,
 )
 
-answered-ok : (dump : DumpView) (explained : Answer) → IsOk explained → IsOk (dump_answer dump explained)
+answered-ok : (dump : DumpView) (explained : Answer) → IsOk explained
+    → IsOk (dump_answer dump explained)
 answered-ok dump (Ok u) h = refl
 answered-ok dump (Err fault) h = let bad : ◌≡◌ {A = Bool} false true = h in cc
 
-ok-answered : (dump : DumpView) (explained : Answer) → IsOk (dump_answer dump explained) → IsOk explained
+ok-answered : (dump : DumpView) (explained : Answer) → IsOk (dump_answer dump explained)
+    → IsOk explained
 ok-answered dump (Ok u) h = refl
 ok-answered dump (Err Odd) h = let bad : ◌≡◌ {A = Bool} false true = h in cc
 ok-answered dump (Err (NotHex index)) h = let bad : ◌≡◌ {A = Bool} false true = h in cc
@@ -162,29 +212,52 @@ ok-has-memory (Ok u) h e = cc
 ok-has-memory (Err fault) h e = let bad : ◌≡◌ {A = Bool} false true = h in cc
 
 -- exactly where each line is one of a dump and nothing fails
-pub ok-dump : (style : Style) (max n : ℕ) (dump : DumpView) (input : List ℕ) (left old new : Option (List ℕ)) (explained : Answer) (result : Result (Unit {0}) DumpFault) (worst : Worst) (broken : Bool) → SawDump style max n dump (Some input) left old new explained → result ≡ dump_answer dump explained
-    → (worst ≢ Fine → explained ≡ Err Read) → (explained ≡ Err Read → (worst ≢ Fine) ⊎ (n ≡ 2 ^ 64 - 1)) → (explained ≡ Err Write) ↔ IsTrue broken
-    → IsOk result ↔ ((refusal Hex (shown input) ≡ None) × (length input < 2 ^ 64 - 1) × (worst ≡ Fine) × (broken ≡ false) × (result ≢ Err dumping.Memory))
+pub ok-dump
+    : (style : Style) (max n : ℕ) (dump : DumpView) (input : List ℕ)
+    (left old new : Option (List ℕ)) (explained : Answer) (result : Result (Unit {0}) DumpFault)
+    (worst : Worst) (broken : Bool)
+    → SawDump style max n dump (Some input) left old new explained
+    → result ≡ dump_answer dump explained
+    → (worst ≢ Fine → explained ≡ Err Read)
+    → (explained ≡ Err Read → (worst ≢ Fine) ⊎ (n ≡ 2 ^ 64 - 1))
+    → (explained ≡ Err Write) ↔ IsTrue broken
+    → IsOk result
+    ↔ ((refusal Hex (shown input) ≡ None) × (length input < 2 ^ 64 - 1) × (worst ≡ Fine)
+    × (broken ≡ false) × (result ≢ Err dumping.Memory))
 ok-dump style max n dump input None old new explained result worst broken s a read only write =
     absurd s.2
-ok-dump style max n dump input (Some rest) old new explained result worst broken s a read only write =
+ok-dump style max n dump input (Some rest) old new explained result worst broken s a read only
+    write =
     let after = shown_from (place_from Start s.0) rest in
     let e : length input ≡ length s.0 + length rest = ap length s.2 ∙ length-append s.0 rest in
     let l : length s.0 ≡ n = s.1 in
     let whole : length (shown input) ≡ length input = length-shown Start input in
     let part : length after ≡ length rest = length-shown (place_from Start s.0) rest in
-    let known : explained ≡ Err Read → (worst ≢ Fine) ⊎ GaveMost (Some (shown input)) (Some after) = λ r. elim (only r) [
+    let known : explained ≡ Err Read → (worst ≢ Fine) ⊎ GaveMost (Some (shown input)) (Some after) =
+    λ r. elim (only r) [
       | inl worse ↦ inl worse
       | inr most ↦ inr (omega (arith, e, l, whole, part, most))
     ] in
-    let exact = ok-exactly Hex style max (shown input) (Some after) old new worst broken explained (as-digits style max input s.0 rest old new explained s.2 s.4) read known write in (
-      (λ h. let r : IsOk explained = ok-answered dump explained (subst IsOk a h) in let f = exact.0 r in
+    let exact =
+    ok-exactly Hex style max (shown input) (Some after) old new worst broken explained
+    (as-digits style max input s.0 rest old new explained s.2 s.4) read known write in (
+      (λ h. let r : IsOk explained = ok-answered dump explained (subst IsOk a h) in
+          let f = exact.0 r in
           (f.0, subst (λ k. k < 2 ^ 64 - 1) whole f.1, f.2, f.3, ok-has-memory result h)),
-      (λ f. subst IsOk (sym a) (answered-ok dump explained (exact.1 (f.0, subst (λ k. k < 2 ^ 64 - 1) (sym whole) f.1, f.2, f.3, λ m. f.4 (a ∙ ap (dump_answer dump) m))))),
+      (λ f. subst IsOk (sym a)
+          (answered-ok dump explained
+          (exact.1 (
+            f.0,
+            subst (λ k. k < 2 ^ 64 - 1) (sym whole) f.1,
+            f.2,
+            f.3,
+            λ m. f.4 (a ∙ ap (dump_answer dump) m),
+          )))),
     )
 
 -- there was no memory, and nothing was read
-pub no-memory : (style : Style) (max : ℕ) (before old : Option (List ℕ)) (input : List ℕ) → before ≡ Some input → ExplainsDump style max input before old old (Err dumping.Memory)
+pub no-memory : (style : Style) (max : ℕ) (before old : Option (List ℕ)) (input : List ℕ)
+    → before ≡ Some input → ExplainsDump style max input before old old (Err dumping.Memory)
 unfolding shown_from
 no-memory style max before old input e = record {
   seen = [];
@@ -196,17 +269,38 @@ no-memory style max before old input e = record {
   answers = refl;
 }
 
-read-answered : (dump : DumpView) (explained : Answer) → dump_answer dump explained ≡ Err dumping.Read → explained ≡ Err Read
-read-answered dump (Ok u) h = let bad : ◌≡◌ {A = Result (Unit {0}) DumpFault} (Ok u) (Err dumping.Read) = h in cc
-read-answered dump (Err Odd) h = let bad : ◌≡◌ {A = Result (Unit {0}) DumpFault} (Err (dumping.Line (not_dumped dump))) (Err dumping.Read) = h in cc
-read-answered dump (Err (NotHex index)) h = let bad : ◌≡◌ {A = Result (Unit {0}) DumpFault} (Err (dumping.Line (not_dumped dump))) (Err dumping.Read) = h in cc
+read-answered : (dump : DumpView) (explained : Answer)
+    → dump_answer dump explained ≡ Err dumping.Read → explained ≡ Err Read
+read-answered dump (Ok u) h =
+    let bad : ◌≡◌ {A = Result (Unit {0}) DumpFault} (Ok u) (Err dumping.Read) = h in
+    cc
+read-answered dump (Err Odd) h =
+    let bad
+    : ◌≡◌ {A = Result (Unit {0}) DumpFault} (Err (dumping.Line (not_dumped dump)))
+    (Err dumping.Read) =
+    h in
+    cc
+read-answered dump (Err (NotHex index)) h =
+    let bad
+    : ◌≡◌ {A = Result (Unit {0}) DumpFault} (Err (dumping.Line (not_dumped dump)))
+    (Err dumping.Read) =
+    h in
+    cc
 read-answered dump (Err Read) h = refl
-read-answered dump (Err Write) h = let bad : ◌≡◌ {A = Result (Unit {0}) DumpFault} (Err dumping.Write) (Err dumping.Read) = h in cc
-read-answered dump (Err Memory) h = let bad : ◌≡◌ {A = Result (Unit {0}) DumpFault} (Err dumping.Memory) (Err dumping.Read) = h in cc
+read-answered dump (Err Write) h =
+    let bad : ◌≡◌ {A = Result (Unit {0}) DumpFault} (Err dumping.Write) (Err dumping.Read) = h in
+    cc
+read-answered dump (Err Memory) h =
+    let bad : ◌≡◌ {A = Result (Unit {0}) DumpFault} (Err dumping.Memory) (Err dumping.Read) = h in
+    cc
 
 -- read is answered where the reader failed or gave the most
-pub read-only-dump : (style : Style) (max n : ℕ) (dump : DumpView) (before left old new : Option (List ℕ)) (explained : Answer) (result : Result (Unit {0}) DumpFault) (Worse : Type 0) → SawDump style max n dump before left old new explained → result ≡ dump_answer dump explained
-    → (explained ≡ Err Read → Worse ⊎ (n ≡ 2 ^ 64 - 1)) → result ≡ Err dumping.Read → Worse ⊎ GaveMost before left
+pub read-only-dump
+    : (style : Style) (max n : ℕ) (dump : DumpView) (before left old new : Option (List ℕ))
+    (explained : Answer) (result : Result (Unit {0}) DumpFault) (Worse : Type 0)
+    → SawDump style max n dump before left old new explained → result ≡ dump_answer dump explained
+    → (explained ≡ Err Read → Worse ⊎ (n ≡ 2 ^ 64 - 1)) → result ≡ Err dumping.Read
+    → Worse ⊎ GaveMost before left
 read-only-dump style max n dump before left old new explained result Worse s a only e =
     elim (only (read-answered dump explained (sym a ∙ e))) [
       | inl worse ↦ inl worse

@@ -1,5 +1,6 @@
 -- Parts of items that come behind others, and their lines.
-use Rattle.std.proofs.Common.{◌≡◌, ℕ, ◌+◌, ◌-◌, ◌<◌, ◌≤◌, arith, length, Bool, true, false, List, [], ◌∷◌, ◌++◌, refl, sym, ◌∙◌, ap, append_assoc}
+use Rattle.std.proofs.Common.{◌≡◌, ℕ, ◌+◌, ◌-◌, ◌<◌, ◌≤◌, arith, length, Bool, true, false, List}
+use Rattle.std.proofs.Common.{[], ◌∷◌, ◌++◌, refl, sym, ◌∙◌, ap, append_assoc}
 use Rattle.std.specs.List.{flat_map}
 use Rattle.std.proofs.lemmas.Grind.{flat_map-append}
 use Rattle.ddcmp_frame.specs.Reading.{ReadItem, Place, items}
@@ -7,23 +8,29 @@ use Rattle.ddcmp_frame.specs.Step.{item_offset}
 use Rattle.ddcmp_explain.specs.declared.notation.Notation.{Notation}
 use Rattle.ddcmp_explain.specs.declared.style.Style.{Style}
 use Rattle.ddcmp_explain.specs.Output.{lines, line_in}
-use Rattle.ddcmp_explain.specs.Discarded.{Part, Told, behind, passed, parts_from, reached, part_line, part_lines, lines_by, lines_in, open_header, open_text, opened, passed_text}
+use Rattle.ddcmp_explain.specs.Discarded.{Part, Told, behind, passed, parts_from, reached}
+use Rattle.ddcmp_explain.specs.Discarded.{part_line, part_lines, lines_by, lines_in, open_header}
+use Rattle.ddcmp_explain.specs.Discarded.{open_text, opened, passed_text}
 use Rattle.std.proofs.lemmas.List.{append-nil}
 use Rattle.ddcmp_frame.proofs.Tests.{ltb-is, ltb-isnt}
 
-pub parts-append : (at : ℕ) (xs ys : List ReadItem) → parts_from at (xs ++ ys) ≡ parts_from at xs ++ parts_from (reached at xs) ys
+pub parts-append : (at : ℕ) (xs ys : List ReadItem)
+    → parts_from at (xs ++ ys) ≡ parts_from at xs ++ parts_from (reached at xs) ys
 unfolding parts_from reached
 parts-append at [] ys = refl
 parts-append at (x ∷ xs) ys =
     ap (λ t. passed at (item_offset x.0) ++ Told x ∷ t) (parts-append (behind x.0) xs ys)
-    ∙ sym (append_assoc (passed at (item_offset x.0)) (Told x ∷ parts_from (behind x.0) xs) (parts_from (reached (behind x.0) xs) ys))
+    ∙ sym (append_assoc (passed at (item_offset x.0)) (Told x ∷ parts_from (behind x.0) xs)
+    (parts_from (reached (behind x.0) xs) ys))
 
-pub reached-append : (at : ℕ) (xs ys : List ReadItem) → reached at (xs ++ ys) ≡ reached (reached at xs) ys
+pub reached-append : (at : ℕ) (xs ys : List ReadItem)
+    → reached at (xs ++ ys) ≡ reached (reached at xs) ys
 unfolding reached
 reached-append at [] ys = refl
 reached-append at (x ∷ xs) ys = reached-append (behind x.0) xs ys
 
-pub lines-append : (notation : Notation) (xs ys : List Part) → part_lines notation (xs ++ ys) ≡ part_lines notation xs ++ part_lines notation ys
+pub lines-append : (notation : Notation) (xs ys : List Part)
+    → part_lines notation (xs ++ ys) ≡ part_lines notation xs ++ part_lines notation ys
 unfolding part_lines
 lines-append notation xs ys = flat_map-append (part_line notation) xs ys
 
@@ -32,34 +39,48 @@ abbrev pub added : Bool → Notation → ℕ → List ReadItem → List ℕ
 added false notation at given = flat_map (line_in notation) given
 added true notation at given = part_lines notation (parts_from at given)
 
-pub lines_by-given : (told : Bool) (notation : Notation) (max : ℕ) (text more : List ℕ) (given : List ReadItem) → items max (text ++ more) ≡ items max text ++ given
-    → lines_by told notation max (text ++ more) ≡ lines_by told notation max text ++ added told notation (reached 0 (items max text)) given
+pub lines_by-given
+    : (told : Bool) (notation : Notation) (max : ℕ) (text more : List ℕ) (given : List ReadItem)
+    → items max (text ++ more) ≡ items max text ++ given
+    → lines_by told notation max (text ++ more)
+    ≡ lines_by told notation max text ++ added told notation (reached 0 (items max text)) given
 unfolding lines
-lines_by-given false notation max text more given e = ap (flat_map (line_in notation)) e ∙ flat_map-append (line_in notation) (items max text) given
+lines_by-given false notation max text more given e =
+    ap (flat_map (line_in notation)) e ∙ flat_map-append (line_in notation) (items max text) given
 lines_by-given true notation max text more given e =
     ap (λ t. part_lines notation (parts_from 0 t)) e
     ∙ ap (part_lines notation) (parts-append 0 (items max text) given)
-    ∙ lines-append notation (parts_from 0 (items max text)) (parts_from (reached 0 (items max text)) given)
+    ∙ lines-append notation (parts_from 0 (items max text))
+    (parts_from (reached 0 (items max text)) given)
 
-pub lines_by-nothing : (told : Bool) (notation : Notation) (max : ℕ) (text : List ℕ) → items max text ≡ [] → lines_by told notation max text ≡ []
+pub lines_by-nothing : (told : Bool) (notation : Notation) (max : ℕ) (text : List ℕ)
+    → items max text ≡ [] → lines_by told notation max text ≡ []
 unfolding lines part_lines parts_from
 lines_by-nothing false notation max text e = ap (flat_map (line_in notation)) e
 lines_by-nothing true notation max text e = ap (λ t. part_lines notation (parts_from 0 t)) e
 
 -- ---- single parts
 
-pub passed-some : (notation : Notation) (from to : ℕ) → from < to → part_lines notation (passed from to) ≡ passed_text notation from (to - from)
+pub passed-some : (notation : Notation) (from to : ℕ) → from < to
+    → part_lines notation (passed from to) ≡ passed_text notation from (to - from)
 unfolding part_lines
-passed-some notation from to l = rw (ltb-is from to l) (append-nil (passed_text notation from (to - from)))
+passed-some notation from to l =
+    rw (ltb-is from to l) (append-nil (passed_text notation from (to - from)))
 
-pub passed-none : (notation : Notation) (from to : ℕ) → to ≤ from → part_lines notation (passed from to) ≡ []
+pub passed-none : (notation : Notation) (from to : ℕ) → to ≤ from
+    → part_lines notation (passed from to) ≡ []
 unfolding part_lines
 passed-none notation from to l = rw (ltb-isnt from to l) refl
 
-pub opened-some : (notation : Notation) (p : Place) → 0 < length p.rest → part_lines notation (opened p) ≡ open_text notation p.offset (open_header p.rest) (length p.rest)
+pub opened-some : (notation : Notation) (p : Place) → 0 < length p.rest
+    → part_lines notation (opened p)
+    ≡ open_text notation p.offset (open_header p.rest) (length p.rest)
 unfolding part_lines
-opened-some notation p l = rw (ltb-is 0 (length p.rest) l) (append-nil (open_text notation p.offset (open_header p.rest) (length p.rest)))
+opened-some notation p l =
+    rw (ltb-is 0 (length p.rest) l)
+    (append-nil (open_text notation p.offset (open_header p.rest) (length p.rest)))
 
-pub opened-none : (notation : Notation) (p : Place) → length p.rest ≡ 0 → part_lines notation (opened p) ≡ []
+pub opened-none : (notation : Notation) (p : Place) → length p.rest ≡ 0
+    → part_lines notation (opened p) ≡ []
 unfolding part_lines
 opened-none notation p l = rw (ltb-isnt 0 (length p.rest) (omega (arith, l))) refl

@@ -1,5 +1,7 @@
 -- Texts that are put one behind another, and the digits of numbers.
-use Rattle.std.proofs.Common.{◌≡◌, ℕ, zero, suc, ◌+◌, ◌-◌, ◌/◌, ◌%◌, ◌^◌, ◌<◌, ◌≤◌, List, [], ◌∷◌, ◌++◌, length, take, map, get_or, refl, sym, ◌∙◌, ap, drop, subst, arith, append_assoc, length-append}
+use Rattle.std.proofs.Common.{◌≡◌, ℕ, zero, suc, ◌+◌, ◌-◌, ◌/◌, ◌%◌, ◌^◌, ◌<◌, ◌≤◌, List, [], ◌∷◌}
+use Rattle.std.proofs.Common.{◌++◌, length, take, map, get_or, refl, sym, ◌∙◌, ap, drop, subst}
+use Rattle.std.proofs.Common.{arith, append_assoc, length-append}
 use Rattle.std.proofs.Math.Seq.{take-add}
 use Rattle.std.proofs.lemmas.List.{take-take, take_at, drop_at, length-take}
 use Rattle.std.proofs.lemmas.Fmt.{decimal_digit, decimal_step}
@@ -10,7 +12,8 @@ use Rattle.ddcmp_explain.specs.declared.put.TheConstants.{POWERS}
 use Rattle.ddcmp_explain.specs.Putting.{Puts}
 
 -- one text behind another
-pub puts-then : {a b c : List ℕ} {i j k : ℕ} {s t : List ℕ} → Puts a i b j s → Puts b j c k t → Puts a i c k (s ++ t)
+pub puts-then : {a b c : List ℕ} {i j k : ℕ} {s t : List ℕ} → Puts a i b j s → Puts b j c k t
+    → Puts a i c k (s ++ t)
 puts-then {a} {b} {c} {i} {j} {k} {s} {t} p q = record {
   ends = omega (arith, p.ends, q.ends, length-append s t);
   holds = q.holds ∙ ap (λ x. x ++ t) p.holds ∙ append_assoc (take i a) s t;
@@ -20,7 +23,8 @@ pub puts-as : {a b : List ℕ} {i j : ℕ} {s t : List ℕ} → s ≡ t → Puts
 puts-as {a} {b} {i} {j} e p = subst (λ t. Puts a i b j t) e p
 
 -- the front of a text: what stands behind it is of no account
-pub puts-front : {a b : List ℕ} {i j : ℕ} {s : List ℕ} (k : ℕ) → i ≤ length a → k ≤ length s → Puts a i b j s → Puts a i b (i + k) (take k s)
+pub puts-front : {a b : List ℕ} {i j : ℕ} {s : List ℕ} (k : ℕ) → i ≤ length a → k ≤ length s
+    → Puts a i b j s → Puts a i b (i + k) (take k s)
 puts-front {a} {b} {i} {j} {s} k inside short p =
     let front = length-take i a in
     record {
@@ -28,7 +32,8 @@ puts-front {a} {b} {i} {j} {s} k inside short p =
       holds = sym (take-take (i + k) j b (omega (arith, p.ends)))
           ∙ ap (take (i + k)) p.holds
           ∙ take-add i k (take i a ++ s)
-          ∙ ap (λ x. x ++ take k (drop i (take i a ++ s))) (take_at (take i a) s i (omega (arith, front)))
+          ∙ ap (λ x. x ++ take k (drop i (take i a ++ s)))
+          (take_at (take i a) s i (omega (arith, front)))
           ∙ ap (λ x. take i a ++ take k x) (drop_at (take i a) s i (omega (arith, front)));
     }
 
@@ -40,22 +45,29 @@ puts-whole p = p.holds
 
 pub decimal-two : (n : ℕ) → 10 ≤ n → n < 100 → (48 + n / 10) ∷ (48 + n % 10) ∷ [] ≡ decimal n
 decimal-two n low high =
-    sym (decimal_step n low (omega arith) ∙ ap (λ t. t ++ (48 + n % 10) ∷ []) (decimal_digit (n / 10) (omega arith)))
+    sym (decimal_step n low (omega arith)
+    ∙ ap (λ t. t ++ (48 + n % 10) ∷ []) (decimal_digit (n / 10) (omega arith)))
 
-pub decimal-three : (n : ℕ) → 100 ≤ n → n < 1000 → (48 + n / 10 / 10) ∷ (48 + n / 10 % 10) ∷ (48 + n % 10) ∷ [] ≡ decimal n
+pub decimal-three : (n : ℕ) → 100 ≤ n → n < 1000
+    → (48 + n / 10 / 10) ∷ (48 + n / 10 % 10) ∷ (48 + n % 10) ∷ [] ≡ decimal n
 decimal-three n low high =
-    sym (decimal_step n (omega arith) (omega arith) ∙ ap (λ t. t ++ (48 + n % 10) ∷ []) (sym (decimal-two (n / 10) (omega arith) (omega arith))))
+    sym (decimal_step n (omega arith) (omega arith)
+    ∙ ap (λ t. t ++ (48 + n % 10) ∷ [])
+    (sym (decimal-two (n / 10) (omega arith) (omega arith))))
 
 -- how many digits a number has that stands between two powers of ten
-pub decimal-long : (k n : ℕ) → 10 ^ k ≤ n → n < 10 ^ (suc k) → n < 2 ^ 64 → length (decimal n) ≡ suc k
+pub decimal-long : (k n : ℕ) → 10 ^ k ≤ n → n < 10 ^ (suc k) → n < 2 ^ 64
+    → length (decimal n) ≡ suc k
 decimal-long zero n low high fits = ap length (decimal_digit n (omega arith))
 decimal-long (suc k) n low high fits =
     let shorter = decimal-long k (n / 10) (omega arith) (omega arith) (omega arith) in
     let least : 10 ≤ n = omega arith in
-    ap length (decimal_step n least fits) ∙ length-append (decimal (n / 10)) ((48 + n % 10) ∷ []) ∙ omega (arith, shorter)
+    ap length (decimal_step n least fits) ∙ length-append (decimal (n / 10)) ((48 + n % 10) ∷ [])
+    ∙ omega (arith, shorter)
 
 -- so many digits: at least the power of ten below, or one digit, and below the next power
-pub decimal-digits : (d n : ℕ) → 0 < d → (1 < d → 10 ^ (d - 1) ≤ n) → n < 10 ^ d → n < 2 ^ 64 → d ≡ length (decimal n)
+pub decimal-digits : (d n : ℕ) → 0 < d → (1 < d → 10 ^ (d - 1) ≤ n) → n < 10 ^ d → n < 2 ^ 64
+    → d ≡ length (decimal n)
 decimal-digits zero n some low high fits = absurd (omega arith)
 decimal-digits (suc zero) n some low high fits = sym (ap length (decimal_digit n (omega arith)))
 decimal-digits (suc (suc k)) n some low high fits =
@@ -71,4 +83,6 @@ powers-computed = refl
 
 pub power-at : (k : ℕ) → k < 20 → get_or POWERS k 0 ≡ 10 ^ k
 unfolding power
-power-at k h = ap (λ t. get_or t k 0) powers-computed ∙ get_or-map-range_with_len power 0 20 k k 0 h (omega arith)
+power-at k h =
+    ap (λ t. get_or t k 0) powers-computed
+    ∙ get_or-map-range_with_len power 0 20 k k 0 h (omega arith)

@@ -1,5 +1,6 @@
 -- What decoding a piece of an input makes of it.
-use Rattle.std.specs.Prelude.{◌≡◌, ℕ, ◌+◌, ◌≤◌, List, ◌++◌, length, map, slice_index, take, option_to_list, Option, Some, None}
+use Rattle.std.specs.Prelude.{◌≡◌, ℕ, ◌+◌, ◌≤◌, List, ◌++◌, length, map, slice_index, take}
+use Rattle.std.specs.Prelude.{option_to_list, Option, Some, None}
 use Rattle.std.specs.Simd.Lanes.{Each1, chunk}
 use Rattle.std.specs.Option.{option_map}
 use Rattle.ddcmp_explain.specs.declared.form.Form.{Form}
@@ -16,7 +17,8 @@ pub record Decodes (form : Form) (seen piece : List ℕ) (decoded : Decoded) (by
       ≡ option_map (λ i. length seen + i) decoded.unexpected
   pub left : decoded.unexpected ≡ None → left_in form (seen ++ piece) ≡ option_to_list high
 
--- sixteen digits stand together in a piece, and the eight bytes that they spell were put behind others
+-- sixteen digits stand together in a piece, and the eight bytes that they spell were put behind
+-- others
 pub record PutsEight (piece : List ℕ) (i : ℕ) (old : List ℕ) (count : ℕ) (new : List ℕ)
     : Type 0 where
   pub inside : i + 16 ≤ length piece

@@ -1,5 +1,6 @@
 -- How an input spells bytes: in hexadecimal digits, or as they are.
-use Rattle.std.specs.Prelude.{ℕ, ◌+◌, ◌*◌, ◌==◌, ◌||◌, nat_lt, Bool, not, is_some, List, [], ◌∷◌, if◌then◌else◌, Option, Some, None}
+use Rattle.std.specs.Prelude.{ℕ, ◌+◌, ◌*◌, ◌==◌, ◌||◌, nat_lt, Bool, not, is_some, List, [], ◌∷◌}
+use Rattle.std.specs.Prelude.{if◌then◌else◌, Option, Some, None}
 use Rattle.std.specs.Char.{digit_value}
 use Rattle.std.specs.List.{filter_map, take_while, position_from}
 use Rattle.ddcmp_explain.specs.declared.form.Form.{Form}

@@ -1,5 +1,5 @@
--- What explain writes and answers of a dump: what it does of the dump's text as digits, with all blank
--- but those of its data.
+-- What explain writes and answers of a dump: what it does of the dump's text as digits, with all
+-- blank but those of its data.
 use Rattle.std.specs.Prelude.{◌≡◌, ℕ, List, ◌++◌, Some, Result, Ok, Err}
 use Rattle.ddcmp_dump.specs.Dump.{DumpView, dump_after, dump_begun, not_dumped, shown}
 use Rattle.ddcmp_io.specs.Written.{Known}
@@ -20,7 +20,8 @@ dump_answer at (Err digits.Read) = Err Read
 dump_answer at (Err digits.Write) = Err Write
 dump_answer at (Err digits.Memory) = Err Memory
 
--- What explain did with a dump: what it saw of it and what is left, and what the sink held and holds.
+-- What explain did with a dump: what it saw of it and what is left, and what the sink held and
+-- holds.
 pub record ExplainsDump (style : Style) (max : ℕ) (input : List ℕ) (left old new : Known)
     (result : Result (Unit {0}) DumpFault) : Type 0 where
   pub seen : List ℕ

@@ -7,9 +7,11 @@ use Rattle.ddcmp_frame.specs.Fields.{CountedFields}
 use Rattle.ddcmp_frame.specs.declared.header.Header.{Header}
 use Rattle.ddcmp_frame.specs.declared.header.Header.TheVariants.{Data, Maint, Control}
 use Rattle.ddcmp_frame.specs.declared.header.HeaderFault.{HeaderFault}
-use Rattle.ddcmp_frame.specs.declared.header.HeaderFault.TheVariants.{NotAStart, Check, BadType, CountZero}
+use Rattle.ddcmp_frame.specs.declared.header.HeaderFault.TheVariants.{NotAStart, Check, BadType}
+use Rattle.ddcmp_frame.specs.declared.header.HeaderFault.TheVariants.{CountZero}
 use Rattle.ddcmp_frame.specs.declared.item.Item.{Item}
-use Rattle.ddcmp_frame.specs.declared.item.Item.TheVariants.{Good, HeaderCheck, DataCheck, TooLong, Format}
+use Rattle.ddcmp_frame.specs.declared.item.Item.TheVariants.{Good, HeaderCheck, DataCheck, TooLong}
+use Rattle.ddcmp_frame.specs.declared.item.Item.TheVariants.{Format}
 use Rattle.ddcmp_frame.specs.declared.nak.Nak.{Nak as Reason}
 use Rattle.ddcmp_frame.specs.declared.nak.Nak.TheVariants as reason
 use Rattle.ddcmp_frame.specs.Naks.{reason_of}
@@ -36,19 +38,19 @@ abbrev pub json_counted : CountedFields → List ℕ
 json_counted h =
     member (codes "count") (decimal h.count) ++ json_fields h.flags h.resp h.num h.addr
 
-abbrev pub reason_name : Reason → List ℕ
-reason_name reason.HeaderCheck = codes "header check"
-reason_name reason.DataCheck = codes "data check"
-reason_name reason.ReplyToRep = codes "reply to REP"
-reason_name reason.NoBuffer = codes "buffer temporarily unavailable"
-reason_name reason.Overrun = codes "receive overrun"
-reason_name reason.TooLong = codes "message too long"
-reason_name reason.Format = codes "header format error"
-reason_name (reason.Other n) = codes "other"
+abbrev pub reason_in_words : Reason → List ℕ
+reason_in_words reason.HeaderCheck = codes "header check"
+reason_in_words reason.DataCheck = codes "data check"
+reason_in_words reason.ReplyToRep = codes "reply to REP"
+reason_in_words reason.NoBuffer = codes "buffer temporarily unavailable"
+reason_in_words reason.Overrun = codes "receive overrun"
+reason_in_words reason.TooLong = codes "message too long"
+reason_in_words reason.Format = codes "header format error"
+reason_in_words (reason.Other n) = codes "other"
 
 -- why a NAK was sent; other control frames have no reason
 abbrev pub json_reason : ControlType → ℕ → List ℕ
-json_reason Nak sub = member (codes "reason") (quoted (reason_name (reason_of sub)))
+json_reason Nak sub = member (codes "reason") (quoted (reason_in_words (reason_of sub)))
 json_reason Ack sub = []
 json_reason Rep sub = []
 json_reason Strt sub = []

@@ -1,5 +1,6 @@
 //! The bytes that an input spells, piece by piece.
-ghost use Rattle.std.specs.Prelude.{◌≡◌, ◌≤◌, ◌<◌, IfSome, List, ℕ, None, Some, get_or, length, option_to_list};
+ghost use Rattle.std.specs.Prelude.{◌≡◌, ◌≤◌, ◌<◌, IfSome, List, ℕ, None, Some, get_or, length};
+ghost use Rattle.std.specs.Prelude.{option_to_list};
 ghost use Rattle.std.specs.Option.{ForSome};
 ghost use Rattle.ddcmp_explain.specs.Digits.{is_blank as is_blank_byte};
 ghost use Rattle.ddcmp_explain.specs.Digits.{hex_value as hex_value_of, left_in, unexpected_in};

@@ -3,7 +3,8 @@ ghost use Rattle.std.specs.Prelude.{◌≡◌, ◌+◌, ◌≤◌, ◌++◌, Opt
 ghost use Rattle.std.specs.Option.{option_map};
 ghost use Rattle.ddcmp_frame.specs.Reader.{frame_length as length_of};
 ghost use Rattle.ddcmp_io.specs.Written.{HandsOver, output_of};
-ghost use Rattle.ddcmp_explain.specs.Discarded.{open_end, open_front, open_length as length_of_open};
+ghost use Rattle.ddcmp_explain.specs.Discarded.{open_end, open_front};
+ghost use Rattle.ddcmp_explain.specs.Discarded.{open_length as length_of_open};
 ghost use Rattle.ddcmp_explain.specs.Discarded.{open_text, passed_text};
 ghost use Rattle.ddcmp_explain.specs.Putting.{Puts};
 

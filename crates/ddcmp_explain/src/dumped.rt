@@ -92,8 +92,9 @@ fn answer(explained: Result<(), ExplainFault>, dump: &Dump) -> Result<(), DumpFa
     }
 }
 
-/// Writes the line of each item of the bytes that a dump shows, and a last line of totals, in a style.
-/// A line that is none of a dump is told by its number; what the lines before it say is written.
+/// Writes the line of each item of the bytes that a dump shows, and a last line of totals, in a
+/// style. A line that is none of a dump is told by its number; what the lines before it say is
+/// written.
 pub fn explain_dump<R: Source, W: Sink>(
     alloc: Global,
     reader: &mut R,

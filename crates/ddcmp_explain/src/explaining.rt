@@ -86,8 +86,8 @@ pub fn explain_as<R: Source, W: Sink>(
     explain_with(alloc, reader, writer, form, Style::items(notation), max)
 }
 
-/// Writes the line of each item of what the input spells, and a last line of totals, in a style: with
-/// or without lines of the bytes that no item takes.
+/// Writes the line of each item of what the input spells, and a last line of totals, in a style:
+/// with or without lines of the bytes that no item takes.
 pub fn explain_with<R: Source, W: Sink>(
     alloc: Global,
     reader: &mut R,

@@ -1,5 +1,6 @@
 //! How the frame begins that is still open.
-ghost use Rattle.std.specs.Prelude.{◌≡◌, ◌+◌, ◌-◌, ◌<◌, ◌≤◌, ◌++◌, ◌∷◌, [], List, ℕ, drop, length, take};
+ghost use Rattle.std.specs.Prelude.{◌≡◌, ◌+◌, ◌-◌, ◌<◌, ◌≤◌, ◌++◌, ◌∷◌, [], List, ℕ, drop, length};
+ghost use Rattle.std.specs.Prelude.{take};
 ghost use Rattle.ddcmp_explain.specs.Heads.{Heads, Follows};
 ghost use Rattle.ddcmp_explain.specs.Discarded.{open_header};
 

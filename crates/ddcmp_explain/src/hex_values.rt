@@ -1,5 +1,6 @@
 //! The bytes that sixteen hexadecimal digits spell.
-ghost use Rattle.std.specs.Prelude.{◌≡◌, ◌+◌, ◌<◌, ◌≤◌, false, true, length, map, slice_index, None};
+ghost use Rattle.std.specs.Prelude.{◌≡◌, ◌+◌, ◌<◌, ◌≤◌, false, true, length, map, slice_index};
+ghost use Rattle.std.specs.Prelude.{None};
 ghost use Rattle.std.specs.Simd.Lanes.{Each1};
 ghost use Rattle.ddcmp_explain.specs.declared.hex_digits.TheConstants.{HEX_VALUES};
 ghost use Rattle.ddcmp_explain.specs.Digits.{pairs};
@@ -31,8 +32,8 @@ fn bytes_of(values: u8x16) -> u8x8
     high * u8x8::splat(16) + low
 }
 
-/// Puts the eight bytes that sixteen digits from `i` on spell, where so many stand together, no digit
-/// waits for its second and they are looked for by now; it tells whether it did.
+/// Puts the eight bytes that sixteen digits from `i` on spell, where so many stand together, no
+/// digit waits for its second and they are looked for by now; it tells whether it did.
 #[inline(always)]
 pub(crate) fn put_eight(
     piece: &[u8],

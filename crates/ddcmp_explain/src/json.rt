@@ -5,9 +5,10 @@ ghost use Rattle.ddcmp_explain.specs.Putting.{Puts};
 ghost use Rattle.ddcmp_explain.specs.Text.{flag_text, kind_text, lends as lends_data};
 ghost use Rattle.ddcmp_explain.specs.Json.{json_counted, json_fault, json_fields, json_header};
 ghost use Rattle.ddcmp_explain.specs.Json.{json_front, json_item, json_reason, json_start};
-ghost use Rattle.ddcmp_explain.specs.Json.{json_totals, member, quoted, reason_name};
+ghost use Rattle.ddcmp_explain.specs.Json.{json_totals, member, quoted, reason_in_words};
 
 use crate::put::{LINE, put, put_byte, put_number, put_slice};
+use crate::reasons::reason_name;
 use crate::text::lends;
 use ddcmp_frame::{ControlType, Counted, Flags, Header, HeaderFault, Item, Nak, Short};
 
@@ -58,20 +59,16 @@ fn kind_value(kind: ControlType) -> &'static [u8]
     }
 }
 
-fn reason_member(reason: Nak) -> &'static [u8]
-    ensures member { result.now ≡ member (codes "reason") (quoted (reason_name reason)) }
-    ensures within { length result.now ≤ 42 }
+/// The member of a reason.
+fn put_reason_member(line: &mut [u8; LINE], at: usize, reason: Nak) -> usize
+    requires { at + 42 ≤ LINE }
+    ensures puts { Puts line.old at line.new result
+        (member (codes "reason") (quoted (reason_in_words reason))) }
+    ensures within { result ≤ at + 42 }
 {
-    match reason {
-        Nak::HeaderCheck => b",\"reason\":\"header check\"",
-        Nak::DataCheck => b",\"reason\":\"data check\"",
-        Nak::ReplyToRep => b",\"reason\":\"reply to REP\"",
-        Nak::NoBuffer => b",\"reason\":\"buffer temporarily unavailable\"",
-        Nak::Overrun => b",\"reason\":\"receive overrun\"",
-        Nak::TooLong => b",\"reason\":\"message too long\"",
-        Nak::Format => b",\"reason\":\"header format error\"",
-        Nak::Other(_) => b",\"reason\":\"other\"",
-    }
+    let at_name = put(line, at, b",\"reason\":\"");
+    let behind_name = put_slice(line, at_name, reason_name(reason));
+    put(line, behind_name, b"\"")
 }
 
 /// Why a NAK was sent, from its SUBTYPE.
@@ -81,7 +78,7 @@ fn put_reason(line: &mut [u8; LINE], at: usize, kind: ControlType, sub: u8) -> u
     ensures within { result ≤ at + 42 }
 {
     match kind {
-        ControlType::Nak => put_slice(line, at, reason_member(Nak::of(sub))),
+        ControlType::Nak => put_reason_member(line, at, Nak::of(sub)),
         ControlType::Ack | ControlType::Rep | ControlType::Strt | ControlType::Stack => {
             put_slice(line, at, b"")
         }

@@ -5,7 +5,8 @@ ghost use Rattle.ddcmp_frame.specs.Reader.{StandsFor};
 ghost use Rattle.ddcmp_frame.specs.Reading.{Place, open_at_end};
 ghost use Rattle.ddcmp_frame.specs.Step.{item_offset};
 ghost use Rattle.ddcmp_io.specs.Written.{HandsOver, Writes, output_of};
-ghost use Rattle.ddcmp_explain.specs.Discarded.{behind, end_in, lines_in, opened, part_lines, rest_by};
+ghost use Rattle.ddcmp_explain.specs.Discarded.{behind, end_in, lines_in, opened, part_lines};
+ghost use Rattle.ddcmp_explain.specs.Discarded.{rest_by};
 ghost use Rattle.ddcmp_explain.specs.Discarded.{passed, taken_by};
 ghost use Rattle.ddcmp_explain.specs.Heads.{Heads};
 
@@ -15,15 +16,16 @@ use crate::style::Style;
 use ddcmp_frame::{Item, Pushed, Reader};
 use ddcmp_io::{Page, Sink, WriteFailed};
 
-/// The last item: its offset, and how many bytes it takes.
+/// An item: its offset, and how many bytes it takes.
 #[derive(Clone, Copy)]
-pub(crate) struct Reached {
-    pub(crate) offset: u64,
-    pub(crate) taken: u64,
+pub struct Reached {
+    pub offset: u64,
+    pub taken: u64,
 }
 
-/// The offset of an item, and how many bytes it takes.
-fn reached_by(item: &Item) -> Reached
+/// The offset of an item, and how many bytes it takes: a header that is damaged takes none, since
+/// only its start byte is passed over.
+pub fn reached_by(item: &Item) -> Reached
     ensures offset { result.offset ≡ item_offset item.now }
     ensures taken { result.taken ≡ taken_by item.now }
 {

@@ -1,7 +1,9 @@
 //! Single lines, for a program that reads the bytes of a line itself.
 ghost use Rattle.ddcmp_io.specs.Written.{HandsOver, output_of};
+ghost use Rattle.ddcmp_explain.specs.Discarded.{passed_text};
 ghost use Rattle.ddcmp_explain.specs.Output.{line_in, totals_in};
 
+use crate::discarded::write_passed;
 use crate::notation::Notation;
 use ddcmp_frame::Item;
 use ddcmp_io::{Page, Sink};
@@ -36,4 +38,19 @@ pub fn write_last<W: Sink>(
         (totals_in notation items bytes left_open) }
 {
     notation.write_last(page, writer, items, bytes, left_open);
+}
+
+/// The line that `explain --discarded` writes of bytes that were passed over: the offset of the
+/// first, and how many.
+pub fn write_discarded<W: Sink>(
+    page: &mut Page,
+    writer: &mut W,
+    notation: Notation,
+    from: u64,
+    count: u64,
+)
+    ensures { HandsOver (output_of W.broken W.contents writer.old page.old)
+        (output_of W.broken W.contents writer.new page.new) (passed_text notation from count) }
+{
+    write_passed(page, writer, notation, from, count);
 }

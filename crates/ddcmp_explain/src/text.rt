@@ -1,5 +1,5 @@
 //! The text of items.
-ghost use Rattle.std.specs.Prelude.{◌≡◌, ◌+◌, ◌≤◌, ◌++◌, codes, decimal};
+ghost use Rattle.std.specs.Prelude.{◌≡◌, ◌+◌, ◌≤◌, ◌++◌, codes, decimal, length, take};
 ghost use Rattle.std.specs.Prelude.{if◌then◌else◌};
 ghost use Rattle.ddcmp_explain.specs.Putting.{Puts};
 ghost use Rattle.ddcmp_explain.specs.Text.{kind_text, flags_text, fields_text, counted_text};
@@ -9,20 +9,34 @@ ghost use Rattle.ddcmp_explain.specs.Text.{front_text, totals};
 use crate::put::{LINE, put, put_byte, put_number};
 use ddcmp_frame::{ControlType, Counted, Flags, Header, HeaderFault, Item, Short};
 
-/// The name of a control frame, up to the number that follows it.
+/// The name of a control frame, up to the number that follows it, with blanks behind it up to ten
+/// bytes, and how long it is. The compiler makes a table of it, since kinds come in no order that a
+/// branch could foresee.
+#[inline(always)]
+fn kind_name(kind: ControlType) -> (&'static [u8; 10], usize)
+    ensures name { take result.1 result.0.now ≡ kind_text kind ++ codes " sub=" }
+    ensures long { length result.0.now ≡ 10 }
+    ensures within { result.1 ≤ 10 }
+{
+    match kind {
+        ControlType::Ack => (b"ACK sub=  ", 8),
+        ControlType::Nak => (b"NAK sub=  ", 8),
+        ControlType::Rep => (b"REP sub=  ", 8),
+        ControlType::Strt => (b"STRT sub= ", 9),
+        ControlType::Stack => (b"STACK sub=", 10),
+    }
+}
+
+/// Puts the name of a control frame, up to the number that follows it.
 #[inline(always)]
 fn put_kind(line: &mut [u8; LINE], at: usize, kind: ControlType) -> usize
     requires { at + 10 ≤ LINE }
     ensures puts { Puts line.old at line.new result (kind_text kind ++ codes " sub=") }
     ensures within { result ≤ at + 10 }
 {
-    match kind {
-        ControlType::Ack => put(line, at, b"ACK sub="),
-        ControlType::Nak => put(line, at, b"NAK sub="),
-        ControlType::Rep => put(line, at, b"REP sub="),
-        ControlType::Strt => put(line, at, b"STRT sub="),
-        ControlType::Stack => put(line, at, b"STACK sub="),
-    }
+    let (name, length) = kind_name(kind);
+    let _behind_ten = put(line, at, name);
+    at + length
 }
 
 /// Both flags, up to the number that follows them.

@@ -1,27 +1,39 @@
 -- Bytes of an input, one after another.
-use Rattle.std.proofs.Common.{◌≡◌, ℕ, List, [], ◌∷◌, ◌++◌, refl, sym, ◌∙◌, ap, append_assoc, append-nil, option_to_list, Option, Some, None, is_some, false}
+use Rattle.std.proofs.Common.{◌≡◌, ℕ, List, [], ◌∷◌, ◌++◌, refl, sym, ◌∙◌, ap, append_assoc}
+use Rattle.std.proofs.Common.{append-nil, option_to_list, Option, Some, None, is_some, false}
 use Rattle.ddcmp_messages.specs.declared.entry.Entry.{Entry}
-use Rattle.ddcmp_messages.specs.HexLines.{HexView, after_byte, entry_of_byte, after_bytes, entries_of_bytes}
+use Rattle.ddcmp_messages.specs.HexLines.{HexView, after_byte, entry_of_byte, after_bytes}
+use Rattle.ddcmp_messages.specs.HexLines.{entries_of_bytes}
 
-pub after_more : (xs ys : List ℕ) (v : HexView) → after_bytes (xs ++ ys) v ≡ after_bytes ys (after_bytes xs v)
+pub after_more : (xs ys : List ℕ) (v : HexView)
+    → after_bytes (xs ++ ys) v ≡ after_bytes ys (after_bytes xs v)
 unfolding after_bytes
 after_more [] ys v = refl
 after_more (x ∷ xs) ys v = after_more xs ys (after_byte x v)
 
-pub entries_of_more : (xs ys : List ℕ) (v : HexView) → entries_of_bytes (xs ++ ys) v ≡ entries_of_bytes xs v ++ entries_of_bytes ys (after_bytes xs v)
+pub entries_of_more : (xs ys : List ℕ) (v : HexView)
+    → entries_of_bytes (xs ++ ys) v
+    ≡ entries_of_bytes xs v ++ entries_of_bytes ys (after_bytes xs v)
 unfolding after_bytes entries_of_bytes
 entries_of_more [] ys v = refl
 entries_of_more (x ∷ xs) ys v =
     ap (λ es. option_to_list (entry_of_byte x v) ++ es) (entries_of_more xs ys (after_byte x v))
-    ∙ sym (append_assoc (option_to_list (entry_of_byte x v)) (entries_of_bytes xs (after_byte x v)) (entries_of_bytes ys (after_bytes xs (after_byte x v))))
+    ∙ sym (append_assoc (option_to_list (entry_of_byte x v)) (entries_of_bytes xs (after_byte x v))
+    (entries_of_bytes ys (after_bytes xs (after_byte x v))))
 
-pub after_last : (xs : List ℕ) (byte : ℕ) (v : HexView) → after_bytes (xs ++ byte ∷ []) v ≡ after_byte byte (after_bytes xs v)
+pub after_last : (xs : List ℕ) (byte : ℕ) (v : HexView)
+    → after_bytes (xs ++ byte ∷ []) v ≡ after_byte byte (after_bytes xs v)
 unfolding after_bytes
 after_last xs byte v = after_more xs (byte ∷ []) v
 
-pub entries_of_last : (xs : List ℕ) (byte : ℕ) (v : HexView) → entries_of_bytes (xs ++ byte ∷ []) v ≡ entries_of_bytes xs v ++ option_to_list (entry_of_byte byte (after_bytes xs v))
+pub entries_of_last : (xs : List ℕ) (byte : ℕ) (v : HexView)
+    → entries_of_bytes (xs ++ byte ∷ []) v
+    ≡ entries_of_bytes xs v ++ option_to_list (entry_of_byte byte (after_bytes xs v))
 unfolding after_bytes entries_of_bytes
-entries_of_last xs byte v = entries_of_more xs (byte ∷ []) v ∙ ap (λ es. entries_of_bytes xs v ++ es) (append-nil (option_to_list (entry_of_byte byte (after_bytes xs v))))
+entries_of_last xs byte v =
+    entries_of_more xs (byte ∷ []) v
+    ∙ ap (λ es. entries_of_bytes xs v ++ es)
+    (append-nil (option_to_list (entry_of_byte byte (after_bytes xs v))))
 
 pub nothing_yet : (v : HexView) → (v ≡ after_bytes [] v) × (entries_of_bytes [] v ≡ [])
 unfolding after_bytes entries_of_bytes
@@ -31,9 +43,11 @@ nothing_yet v = (refl, refl)
 pub one_more : (whole xs : List ℕ) (byte : ℕ) (v mid new : HexView) → whole ≡ xs ++ byte ∷ []
     → mid ≡ after_bytes xs v → new ≡ after_byte byte mid → new ≡ after_bytes whole v
 one_more whole xs byte v mid new parts was is =
-    is ∙ ap (after_byte byte) was ∙ sym (after_last xs byte v) ∙ ap (λ ys. after_bytes ys v) (sym parts)
+    is ∙ ap (after_byte byte) was ∙ sym (after_last xs byte v)
+    ∙ ap (λ ys. after_bytes ys v) (sym parts)
 
-pub entry_of_more : (whole xs : List ℕ) (byte : ℕ) (v mid : HexView) (entry : Option Entry) → whole ≡ xs ++ byte ∷ []
+pub entry_of_more : (whole xs : List ℕ) (byte : ℕ) (v mid : HexView) (entry : Option Entry)
+    → whole ≡ xs ++ byte ∷ []
     → mid ≡ after_bytes xs v → entries_of_bytes xs v ≡ [] → entry ≡ entry_of_byte byte mid
     → entries_of_bytes whole v ≡ option_to_list entry
 entry_of_more whole xs byte v mid entry parts was none is =

@@ -1,13 +1,15 @@
 -- Messages in hexadecimal, one in a line.
-use Rattle.std.specs.Prelude.{ℕ, ◌+◌, Bool, true, false, ◌==◌, nat_le, min, if◌then◌else◌, List, [], ◌∷◌, ◌++◌, length, Option, Some, None, option_to_list, Result, Ok, Err}
+use Rattle.std.specs.Prelude.{ℕ, ◌+◌, Bool, true, false, ◌==◌, nat_le, min, if◌then◌else◌, List, []}
+use Rattle.std.specs.Prelude.{◌∷◌, ◌++◌, length, Option, Some, None, option_to_list, Result, Ok}
+use Rattle.std.specs.Prelude.{Err}
 use Rattle.hex.specs.Hex.{decode_sized}
 use Rattle.hex.specs.declared.FromHexError.{FromHexError}
 use Rattle.ddcmp_messages.specs.declared.entry.Entry.{Entry}
 use Rattle.ddcmp_messages.specs.declared.entry.Entry.TheVariants.{Message, NotHexadecimal, TooLong}
 
 -- The longest message; the number of the line, from 1; a digit whose second one is to come; why the
--- line is none; whether it is over; whether a carriage return came last, which a line feed takes with
--- it; and the bytes that its digits spell.
+-- line is none; whether it is over; whether a carriage return came last, which a line feed takes
+-- with it; and the bytes that its digits spell.
 pub record HexView : Type 0 where
   pub max : ℕ
   pub number : ℕ

@@ -1,5 +1,6 @@
 -- What an input in hexadecimal means: a message in each line.
-use Rattle.std.specs.Prelude.{◌≡◌, ℕ, ◌+◌, ◌≤◌, Bool, if◌then◌else◌, min, List, [], ◌∷◌, ◌++◌, length, map, option_to_list, Some}
+use Rattle.std.specs.Prelude.{◌≡◌, ℕ, ◌+◌, ◌≤◌, Bool, if◌then◌else◌, min, List, [], ◌∷◌, ◌++◌}
+use Rattle.std.specs.Prelude.{length, map, option_to_list, Some}
 use Rattle.ddcmp_messages.specs.HexLines.{HexView, begun, byte_of_digits, after_byte, entry_of_byte}
 use Rattle.ddcmp_messages.specs.InBinary.{Fits}
 use Rattle.ddcmp_messages.specs.Told.{Told, Got, told_of}
@@ -59,4 +60,5 @@ in_lines returns (line ∷ rest) = line.digits ++ (line_end returns ++ in_lines 
 
 unfoldable pub messages_of : ℕ → List Line → List (ℕ × Told)
 messages_of number [] = []
-messages_of number (line ∷ rest) = (number, Got line.message) ∷ messages_of (next_number number) rest
+messages_of number (line ∷ rest) =
+    (number, Got line.message) ∷ messages_of (next_number number) rest

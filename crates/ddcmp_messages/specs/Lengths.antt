@@ -1,5 +1,7 @@
 -- Messages in binary: each after its length as two bytes, the high one first.
-use Rattle.std.specs.Prelude.{ℕ, ◌+◌, ◌-◌, ◌*◌, ◌<◌, ◌≤◌, ◌==◌, ◌||◌, Bool, true, false, nat_le, nat_lt, if◌then◌else◌, List, [], ◌∷◌, ◌++◌, Option, Some, None, option_to_list}
+use Rattle.std.specs.Prelude.{ℕ, ◌+◌, ◌-◌, ◌*◌, ◌<◌, ◌≤◌, ◌==◌, ◌||◌, Bool, true, false, nat_le}
+use Rattle.std.specs.Prelude.{nat_lt, if◌then◌else◌, List, [], ◌∷◌, ◌++◌, Option, Some, None}
+use Rattle.std.specs.Prelude.{option_to_list}
 use Rattle.ddcmp_messages.specs.declared.entry.Entry.{Entry}
 use Rattle.ddcmp_messages.specs.declared.entry.Entry.TheVariants.{Message, TooLong}
 use Rattle.ddcmp_messages.specs.declared.lengths.Place.{Place}

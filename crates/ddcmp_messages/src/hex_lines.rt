@@ -44,8 +44,11 @@ impl Model for HexLines {
 }
 
 impl HexLines {
-    ghost use Rattle.std.specs.Prelude.{◌≡◌, ◌+◌, ◌<◌, ◌≤◌, ℕ, [], Some, IfOk, None, length, take, option_to_list};
-    ghost use Rattle.ddcmp_messages.specs.HexLines.{begun, line_begun, after_digit, return_taken, line_ended, entry_of_line, after_byte, entry_of_byte, after_bytes, entries_of_bytes};
+    ghost use Rattle.std.specs.Prelude.{◌≡◌, ◌+◌, ◌<◌, ◌≤◌, ℕ, [], Some, IfOk, None, length, take};
+    ghost use Rattle.std.specs.Prelude.{option_to_list};
+    ghost use Rattle.ddcmp_messages.specs.HexLines.{begun, line_begun, after_digit, return_taken};
+    ghost use Rattle.ddcmp_messages.specs.HexLines.{line_ended, entry_of_line, after_byte};
+    ghost use Rattle.ddcmp_messages.specs.HexLines.{entry_of_byte, after_bytes, entries_of_bytes};
 
     /// Nothing has come. It takes all the memory that it will need.
     pub fn new(alloc: Global, max: u16) -> Result<HexLines, AllocError>

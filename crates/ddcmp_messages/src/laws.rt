@@ -8,10 +8,15 @@ ghost use Rattle.ddcmp_messages.specs.declared.lengths.Place.TheVariants.{Start}
 ghost use Rattle.ddcmp_messages.specs.Lengths.{LengthsView};
 ghost use Rattle.ddcmp_messages.specs.Lengths.{after_bytes, entries_of_bytes};
 ghost use Rattle.ddcmp_messages.specs.HexLines.{HexView, in_line};
-ghost use Rattle.ddcmp_messages.specs.HexLines.{after_bytes as after_digits, entries_of_bytes as entries_of_digits};
+ghost use Rattle.ddcmp_messages.specs.HexLines.{after_bytes as after_digits};
+ghost use Rattle.ddcmp_messages.specs.HexLines.{entries_of_bytes as entries_of_digits};
 ghost use Rattle.ddcmp_messages.specs.Told.{Got, Refused};
-ghost use Rattle.ddcmp_messages.specs.InBinary.{told_by_byte, told_in, behind_length, in_binary, Fits};
-ghost use Rattle.ddcmp_messages.specs.InLines.{told_by_byte as told_by_digit, told_in as told_in_lines, line_at, next_number, line_end, Spells, IsNone, Line, IsLine, in_lines, messages_of};
+ghost use Rattle.ddcmp_messages.specs.InBinary.{told_by_byte, told_in, behind_length, in_binary};
+ghost use Rattle.ddcmp_messages.specs.InBinary.{Fits};
+ghost use Rattle.ddcmp_messages.specs.InLines.{told_by_byte as told_by_digit};
+ghost use Rattle.ddcmp_messages.specs.InLines.{told_in as told_in_lines, line_at, next_number};
+ghost use Rattle.ddcmp_messages.specs.InLines.{line_end, Spells, IsNone, Line, IsLine, in_lines};
+ghost use Rattle.ddcmp_messages.specs.InLines.{messages_of};
 
 /// A piece of an input is as good as its parts, one after another: where it is cut doesn't matter.
 pub fn pieces()
@@ -26,7 +31,8 @@ pub fn pieces()
 {}
 
 /// What bytes tell is what `push_all` answers of them, with the message that is held then: nothing
-/// where nothing is completed, and what the last byte completes. It doesn't matter where they are cut.
+/// where nothing is completed, and what the last byte completes. It doesn't matter where they are
+/// cut.
 pub fn told_is_answered()
     ensures cut { (u w : List ℕ) (v : LengthsView)
         → told_in (u ++ w) v ≡ told_in u v ++ told_in w (after_bytes u v) }
@@ -59,9 +65,9 @@ pub fn binary_messages()
 {}
 
 /// Where a line begins: the digits of a message and a line end, LF or CR LF, give that message with
-/// the number of the line, and lines one after another give their messages in order, and nothing else.
-/// An empty line gives nothing. A line that is no message gives one refusal with its number. Behind
-/// each the next line begins. The digits are those of either case.
+/// the number of the line, and lines one after another give their messages in order, and nothing
+/// else. An empty line gives nothing. A line that is no message gives one refusal with its number.
+/// Behind each the next line begins. The digits are those of either case.
 pub fn messages_in_lines()
     ensures line { (digits message rest : List ℕ) (returns : Bool) (max number : ℕ)
         → Spells digits message → Fits max message

@@ -39,8 +39,11 @@ impl Model for Lengths {
 }
 
 impl Lengths {
-    ghost use Rattle.std.specs.Prelude.{◌≡◌, ◌+◌, ◌<◌, ◌≤◌, ℕ, [], Some, IfOk, None, length, take, option_to_list};
-    ghost use Rattle.ddcmp_messages.specs.Lengths.{begun, after_length, entry_of_length, after_byte, entry_of_byte, after_bytes, entries_of_bytes, is_start};
+    ghost use Rattle.std.specs.Prelude.{◌≡◌, ◌+◌, ◌<◌, ◌≤◌, ℕ, [], Some, IfOk, None, length, take};
+    ghost use Rattle.std.specs.Prelude.{option_to_list};
+    ghost use Rattle.ddcmp_messages.specs.Lengths.{begun, after_length, entry_of_length};
+    ghost use Rattle.ddcmp_messages.specs.Lengths.{after_byte, entry_of_byte, after_bytes};
+    ghost use Rattle.ddcmp_messages.specs.Lengths.{entries_of_bytes, is_start};
 
     /// Nothing has come. It takes all the memory that it will need.
     pub fn new(alloc: Global, max: u16) -> Result<Lengths, AllocError>
@@ -131,8 +134,8 @@ impl Lengths {
         Pushed { used, entry: None }
     }
 
-    /// Takes the bytes of a piece that stand at one place: a byte of a length, or what there is of a
-    /// message.
+    /// Takes the bytes of a piece that stand at one place: a byte of a length, or what there is of
+    /// a message.
     fn push_part(&mut self, piece: &[u8]) -> Pushed
         requires { 0 < length piece.now }
         ensures some { 0 < result.used }

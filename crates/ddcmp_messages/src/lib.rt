@@ -1,5 +1,5 @@
-//! Messages as a program reads them from its input: a line of hexadecimal digits each, or each after
-//! its length as two bytes. No device: bytes in, cut in any way, and messages out.
+//! Messages as a program reads them from its input: a line of hexadecimal digits each, or each
+//! after its length as two bytes. No device: bytes in, cut in any way, and messages out.
 #![tactic(auto)]
 
 mod entry;

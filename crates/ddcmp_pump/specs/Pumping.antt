@@ -1,5 +1,6 @@
 -- What a tap hands on in both directions, and what it writes.
-use Rattle.std.specs.Prelude.{◌≡◌, ◌⊎◌, ℕ, Bool, true, false, List, [], ◌∷◌, ◌++◌, All, drop, is_some, length, ⊤, Option, Some, None, Result, Ok, Err}
+use Rattle.std.specs.Prelude.{◌≡◌, ◌⊎◌, ℕ, Bool, true, false, List, [], ◌∷◌, ◌++◌, All, drop}
+use Rattle.std.specs.Prelude.{is_some, length, ⊤, Option, Some, None, Result, Ok, Err}
 use Rattle.std.specs.Io.KnownBytes.{Appends, Consumes, IsAtEnd, Keeps}
 use Rattle.ddcmp_io.specs.Written.{AppendsPart, Known}
 use Rattle.ddcmp_frame.specs.Reading.{ReadItem, items}
@@ -10,7 +11,8 @@ use Rattle.ddcmp_tap.specs.declared.side.Side.{Side}
 use Rattle.ddcmp_tap.specs.declared.side.Side.TheVariants.{Caller, Called}
 use Rattle.ddcmp_pump.specs.declared.flow.Flow.{Flow}
 use Rattle.ddcmp_pump.specs.declared.tap_fault.TapFault.{TapFault}
-use Rattle.ddcmp_pump.specs.declared.tap_fault.TapFault.TheVariants.{Carrier, Read, Write, Report, Memory}
+use Rattle.ddcmp_pump.specs.declared.tap_fault.TapFault.TheVariants.{Carrier, Read, Write, Report}
+use Rattle.ddcmp_pump.specs.declared.tap_fault.TapFault.TheVariants.{Memory}
 
 -- bytes of a side that were told together, and the moment, where it is told
 pub record Piece : Type 0 where
@@ -95,11 +97,17 @@ pub record FlowView : Type 0 where
 
 abbrev pub flow_of : {R O : Type 0} → (R → Known) → (O → Known) → (O → Bool) → Flow R O → FlowView
 flow_of left contents closed flow =
-    record { direction = flow.direction; left = left flow.reader; sent = contents flow.outlet; closed = closed flow.outlet }
+    record {
+      direction = flow.direction;
+      left = left flow.reader;
+      sent = contents flow.outlet;
+      closed = closed flow.outlet;
+    }
 
 -- an end that was handed on came when all was, and an end comes when nothing is left
 pub record Ends (flow : FlowView) : Type 0 where
-  pub over : flow.closed ≡ true → (flow.direction.queue.waiting ≡ []) × (flow.direction.ended ≡ true)
+  pub over : flow.closed ≡ true
+      → (flow.direction.queue.waiting ≡ []) × (flow.direction.ended ≡ true)
   pub at_end : flow.direction.ended ≡ true → IsAtEnd flow.left
 
 -- The side, the notation and the largest frame stay.

@@ -7,7 +7,8 @@ ghost use Rattle.ddcmp_tap.specs.declared.notation.Notation.{Notation};
 ghost use Rattle.ddcmp_pump.specs.Pumping.{Begins, Ends, HasSaid, FlowView, IsOfSide, Moves, Pumps};
 ghost use Rattle.ddcmp_pump.specs.Pumping.{Runs, Stops, Turns, flow_of};
 ghost use Rattle.ddcmp_pump.specs.declared.tap_fault.TapFault.{TapFault as TapFaultValue};
-ghost use Rattle.ddcmp_tap.specs.declared.side.Side.TheVariants.{Caller as CallerSide, Called as CalledSide};
+ghost use Rattle.ddcmp_tap.specs.declared.side.Side.TheVariants.{Caller as CallerSide};
+ghost use Rattle.ddcmp_tap.specs.declared.side.Side.TheVariants.{Called as CalledSide};
 
 use crate::flow::Flow;
 use crate::outlet::Outlet;
@@ -39,8 +40,10 @@ fn pass_both<R: Source, O: Outlet>(
     requires buffer { 0 < length buffer.old }
     requires up_ends { Ends (flow_of R.left O.contents O.closed up.old) }
     requires down_ends { Ends (flow_of R.left O.contents O.closed down.old) }
-    ensures up { Moves (flow_of R.left O.contents O.closed up.old) (flow_of R.left O.contents O.closed up.new) }
-    ensures down { Moves (flow_of R.left O.contents O.closed down.old) (flow_of R.left O.contents O.closed down.new) }
+    ensures up { Moves (flow_of R.left O.contents O.closed up.old)
+        (flow_of R.left O.contents O.closed up.new) }
+    ensures down { Moves (flow_of R.left O.contents O.closed down.old)
+        (flow_of R.left O.contents O.closed down.new) }
     ensures up_ends { Ends (flow_of R.left O.contents O.closed up.new) }
     ensures down_ends { Ends (flow_of R.left O.contents O.closed down.new) }
     ensures up_fine { IsOk result → R.state up.new.reader ≢ Worst.Failed }
@@ -53,8 +56,8 @@ fn pass_both<R: Source, O: Outlet>(
     Ok(went_up || went_down)
 }
 
-/// Moves bytes in both directions, and then says what came: whether any moved. A side that failed is
-/// told once that was said.
+/// Moves bytes in both directions, and then says what came: whether any moved. A side that failed
+/// is told once that was said.
 fn turn<R: Source, O: Outlet, W: Sink>(
     up: &mut Flow<R, O>,
     down: &mut Flow<R, O>,
@@ -68,8 +71,10 @@ fn turn<R: Source, O: Outlet, W: Sink>(
     requires up_ends { Ends (flow_of R.left O.contents O.closed up.old) }
     requires down_ends { Ends (flow_of R.left O.contents O.closed down.old) }
     requires whole { W.broken writer.old ≡ false }
-    ensures runs { (notation : Notation) (timed : Bool) (max : ℕ) (up0 down0 : FlowView) (start : Known)
-        → is_some stamp ≡ timed → Runs notation timed max up0 (flow_of R.left O.contents O.closed up.old) down0
+    ensures runs { (notation : Notation) (timed : Bool) (max : ℕ)
+        (up0 down0 : FlowView) (start : Known)
+        → is_some stamp ≡ timed
+        → Runs notation timed max up0 (flow_of R.left O.contents O.closed up.old) down0
         (flow_of R.left O.contents O.closed down.old) start (W.contents writer.old)
         → Turns notation timed max up0 (flow_of R.left O.contents O.closed up.new) down0
         (flow_of R.left O.contents O.closed down.new) start (W.contents writer.new) result }
@@ -117,7 +122,8 @@ fn until_over<R: Source, O: Outlet, K: Readiness, C: Clock, W: Sink>(
     ensures broken { (result ≡ Err TapFault.Report) ↔ IsTrue (W.broken writer.new) }
     ensures up_ends { Ends (flow_of R.left O.contents O.closed up.new) }
     ensures down_ends { Ends (flow_of R.left O.contents O.closed down.new) }
-    ensures done { result ≡ Ok tt → (O.closed up.new.outlet ≡ true) × (O.closed down.new.outlet ≡ true) }
+    ensures done { result ≡ Ok tt
+        → (O.closed up.new.outlet ≡ true) × (O.closed down.new.outlet ≡ true) }
 {
     for round in 0..u64::MAX {
         let at = stamp(clock, timed);
@@ -148,7 +154,8 @@ fn conclude<R: Source, O: Outlet, C: Clock, W: Sink>(
     requires up_ends { Ends (flow_of R.left O.contents O.closed up.old) }
     requires down_ends { Ends (flow_of R.left O.contents O.closed down.old) }
     requires said { HasSaid ended }
-    requires done { ended ≡ Ok tt → (O.closed up.old.outlet ≡ true) × (O.closed down.old.outlet ≡ true) }
+    requires done { ended ≡ Ok tt
+        → (O.closed up.old.outlet ≡ true) × (O.closed down.old.outlet ≡ true) }
     ensures pumps { (notation : Notation) (max : ℕ) (up0 down0 : FlowView) (start : Known)
         → Runs notation timed max up0 (flow_of R.left O.contents O.closed up.old) down0
         (flow_of R.left O.contents O.closed down.old) start (W.contents writer.old)
@@ -168,8 +175,8 @@ fn conclude<R: Source, O: Outlet, C: Clock, W: Sink>(
     }
 }
 
-/// Hands on what comes from each side to the other and says what it is, until both have ended or one
-/// has failed; then come the two last lines.
+/// Hands on what comes from each side to the other and says what it is, until both have ended or
+/// one has failed; then come the two last lines.
 pub fn pump<R: Source, O: Outlet, K: Readiness, C: Clock, W: Sink>(
     up: &mut Flow<R, O>,
     down: &mut Flow<R, O>,
@@ -188,7 +195,8 @@ pub fn pump<R: Source, O: Outlet, K: Readiness, C: Clock, W: Sink>(
     ensures pumps { (notation : Notation) (max : ℕ)
         → Begins CallerSide notation max (flow_of R.left O.contents O.closed up.old)
         → Begins CalledSide notation max (flow_of R.left O.contents O.closed down.old)
-        → Pumps notation timed max (flow_of R.left O.contents O.closed up.old) (flow_of R.left O.contents O.closed up.new)
+        → Pumps notation timed max
+        (flow_of R.left O.contents O.closed up.old) (flow_of R.left O.contents O.closed up.new)
         (flow_of R.left O.contents O.closed down.old) (flow_of R.left O.contents O.closed down.new)
         (W.contents writer.old) (W.contents writer.new) result }
     ensures met { result ≢ Err TapFault.Carrier }

@@ -6,4 +6,9 @@ returns-clause-shown c v text more = shown-more v.place text more
 
 pub returns-clause-state : goal.returns-clause-state
 returns-clause-state c v text more =
-    λ i. record { place = place-more v.place text more i; line = line-more v.place v.line text more i }
+    λ i.
+    record {
+      place =
+          place-more v.place text more i;
+      line = line-more v.place v.line text more i;
+    }

@@ -1,11 +1,13 @@
-use Rattle.std.proofs.Common.{◌≡◌, ◌++◌, [], ℕ, List, Err, Some, refl, rules, sym, subst, take, arith, ◌∙◌, length, length-append, length-take-le}
+use Rattle.std.proofs.Common.{◌≡◌, ◌++◌, [], ℕ, List, Err, Some, refl, rules, sym, subst, take}
+use Rattle.std.proofs.Common.{arith, ◌∙◌, length, length-append, length-take-le}
 use Rattle.std.proofs.lemmas.Grind.{common_steps}
 use Rattle.std.proofs.lemmas.Result.{err_from_is_err_and}
 use Rattle.std.proofs.KnownBytes.{Consumes-trans}
 use Rattle.ddcmp_dump.specs.Dump.{shown_from}
 use Rattle.ddcmp_explain.specs.Explains.{Tells}
 use Rattle.ddcmp_explain.specs.Progress.{Progress, Takes}
-use Rattle.ddcmp_explain.proofs.DumpLaws.{consumes-end, dump-more, length-shown, shown-after, so-far-more, so-far-none}
+use Rattle.ddcmp_explain.proofs.DumpLaws.{consumes-end, dump-more, length-shown, shown-after}
+use Rattle.ddcmp_explain.proofs.DumpLaws.{so-far-more, so-far-none}
 use Rattle.ddcmp_explain.proofs.dumped.take_dump.Goals as goal
 
 pub loop-explainer-init : goal.loop-explainer-init
@@ -32,9 +34,15 @@ returns-in-Bytes-eq0-clause-tells g c = λ max begun.
       s.long ∙ sym c.finish.ensures.seen,
       consumes-end _ _ left s.seen _ c.read_within.new.buf none s.consumed gave.1,
       s.dump,
-      subst (λ form. Tells form c.args.explainer.now.lines.style max (shown_from place s.seen) left old new c.finish.result) c.loop-explainer.invariant.form
-          (subst (λ style. Tells c.loop-explainer.explainer.decoder.form style max (shown_from place s.seen) left old new c.finish.result) c.loop-explainer.invariant.style
-          (c.finish.ensures.tells max old (shown_from place s.seen) left s.progress (gave.2 none (omega (arith, c.read_within.auto.buf, c.loop-explainer.invariant.room))) (omega (arith, here, s.long, c.loop-explainer-test.true)))),
+      subst (λ form. Tells form c.args.explainer.now.lines.style max (shown_from place s.seen) left
+          old new c.finish.result)
+          c.loop-explainer.invariant.form
+          (subst (λ style. Tells c.loop-explainer.explainer.decoder.form style max
+          (shown_from place s.seen) left old new c.finish.result)
+          c.loop-explainer.invariant.style
+          (c.finish.ensures.tells max old (shown_from place s.seen) left s.progress
+          (gave.2 none (omega (arith, c.read_within.auto.buf, c.loop-explainer.invariant.room)))
+          (omega (arith, here, s.long, c.loop-explainer-test.true)))),
     )
 
 pub loop-explainer-preserved : goal.loop-explainer-preserved
@@ -48,12 +56,18 @@ loop-explainer-preserved g c =
       form = c.in_ok-take_piece-in-Bytes.ensures.form ∙ c.loop-explainer.invariant.form;
       style = c.in_ok-take_piece-in-Bytes.ensures.style ∙ c.loop-explainer.invariant.style;
       so_far = λ max begun.
-          so-far-more max _ _ _ (g.R.Source.left c.read_within.new.reader) c.args.dump.now c.loop-explainer.dump c.take_piece.new.dump c.loop-explainer.explainer c.take_piece.new.explainer _ (g.W.Sink.broken c.take_piece.new.writer) _ (g.W.Sink.contents c.take_piece.new.writer) piece
-          c.in-Bytes.ensures.bytes.1 c.in_ok-take_piece-in-Bytes.ensures.dump c.in_ok-take_piece-in-Bytes.ensures.seen
-          (λ seen p. c.in_ok-take_piece-in-Bytes.ensures.takes max _ seen p) (c.loop-explainer.invariant.so_far max begun);
+          so-far-more max _ _ _ (g.R.Source.left c.read_within.new.reader) c.args.dump.now
+          c.loop-explainer.dump c.take_piece.new.dump c.loop-explainer.explainer
+          c.take_piece.new.explainer _ (g.W.Sink.broken c.take_piece.new.writer) _
+          (g.W.Sink.contents c.take_piece.new.writer) piece
+          c.in-Bytes.ensures.bytes.1 c.in_ok-take_piece-in-Bytes.ensures.dump
+          c.in_ok-take_piece-in-Bytes.ensures.seen
+          (λ seen p. c.in_ok-take_piece-in-Bytes.ensures.takes max _ seen p)
+          (c.loop-explainer.invariant.so_far max begun);
     }
 
-pub returns-in_err-take_piece-in-Bytes-clause-tells : goal.returns-in_err-take_piece-in-Bytes-clause-tells
+pub returns-in_err-take_piece-in-Bytes-clause-tells
+    : goal.returns-in_err-take_piece-in-Bytes-clause-tells
 returns-in_err-take_piece-in-Bytes-clause-tells g c = λ max begun.
     let told = err_from_is_err_and c.from_residual.result c.from_residual.ensures.1 in
     let s = c.loop-explainer.invariant.so_far max begun in
@@ -65,11 +79,22 @@ returns-in_err-take_piece-in-Bytes-clause-tells g c = λ max begun.
     let place = c.args.dump.now.place in
     let fault = c.in_err-take_piece-in-Bytes.field-0.0 in rw (told.1, told.2) (
       s.seen ++ piece,
-      length-append s.seen piece ∙ omega (arith, s.long, c.in_err-take_piece-in-Bytes.ensures.seen, long),
+      length-append s.seen piece
+          ∙ omega (arith, s.long, c.in_err-take_piece-in-Bytes.ensures.seen, long),
       Consumes-trans _ _ left s.seen piece s.consumed c.in-Bytes.ensures.bytes.1,
-      dump-more c.args.dump.now c.loop-explainer.dump c.take_piece.new.dump s.seen piece s.dump c.in_err-take_piece-in-Bytes.ensures.dump,
-      subst (λ t. Tells c.args.explainer.now.decoder.form c.args.explainer.now.lines.style max t left old new (Err fault)) (shown-after c.args.dump.now c.loop-explainer.dump s.seen piece s.dump)
-          (subst (λ form. Tells form c.args.explainer.now.lines.style max (shown_from place s.seen ++ shown_from c.loop-explainer.dump.place piece) left old new (Err fault)) (c.in_err-take_piece-in-Bytes.ensures.form ∙ c.loop-explainer.invariant.form)
-          (subst (λ style. Tells c.take_piece.new.explainer.decoder.form style max (shown_from place s.seen ++ shown_from c.loop-explainer.dump.place piece) left old new (Err fault)) (c.in_err-take_piece-in-Bytes.ensures.style ∙ c.loop-explainer.invariant.style)
-          (c.in_err-take_piece-in-Bytes.ensures.takes max _ (shown_from place s.seen) s.progress left))),
+      dump-more c.args.dump.now c.loop-explainer.dump c.take_piece.new.dump s.seen piece s.dump
+          c.in_err-take_piece-in-Bytes.ensures.dump,
+      subst (λ t. Tells c.args.explainer.now.decoder.form c.args.explainer.now.lines.style max t
+          left old new (Err fault))
+          (shown-after c.args.dump.now c.loop-explainer.dump s.seen piece s.dump)
+          (subst (λ form. Tells form c.args.explainer.now.lines.style max
+          (shown_from place s.seen ++ shown_from c.loop-explainer.dump.place piece) left old new
+          (Err fault))
+          (c.in_err-take_piece-in-Bytes.ensures.form ∙ c.loop-explainer.invariant.form)
+          (subst (λ style. Tells c.take_piece.new.explainer.decoder.form style max
+          (shown_from place s.seen ++ shown_from c.loop-explainer.dump.place piece) left old new
+          (Err fault))
+          (c.in_err-take_piece-in-Bytes.ensures.style ∙ c.loop-explainer.invariant.style)
+          (c.in_err-take_piece-in-Bytes.ensures.takes max _ (shown_from place s.seen) s.progress
+          left))),
     )

@@ -8,11 +8,15 @@ abbrev pub invariant-loop-explainer : goal.invariant-loop-explainer
 invariant-loop-explainer g l = record {
   fine : g.R.Source.state l.reader ≡ Fine;
   whole : g.W.Sink.broken l.writer ≡ false;
-  room : length l.piece ≡ 4096;
+  room : length l.piece ≡ 16384;
   form : l.explainer.decoder.form ≡ l.initial.explainer.decoder.form;
   style : l.explainer.lines.style ≡ l.initial.explainer.lines.style;
-  so_far : (max : ℕ) → Progress max (g.W.Sink.contents l.initial.writer) [] l.initial.explainer (g.W.Sink.broken l.initial.writer) (g.W.Sink.contents l.initial.writer)
-      → SoFarDumped max (g.W.Sink.contents l.initial.writer) (g.R.Source.left l.initial.reader) (g.R.Source.left l.reader) l.initial.dump l.dump l.explainer (g.W.Sink.broken l.writer) (g.W.Sink.contents l.writer);
+  so_far : (max : ℕ)
+      → Progress max (g.W.Sink.contents l.initial.writer) [] l.initial.explainer
+      (g.W.Sink.broken l.initial.writer) (g.W.Sink.contents l.initial.writer)
+      → SoFarDumped max (g.W.Sink.contents l.initial.writer) (g.R.Source.left l.initial.reader)
+      (g.R.Source.left l.reader) l.initial.dump l.dump l.explainer (g.W.Sink.broken l.writer)
+      (g.W.Sink.contents l.writer);
 }
 
 abbrev pub decreases-loop-explainer : goal.decreases-loop-explainer

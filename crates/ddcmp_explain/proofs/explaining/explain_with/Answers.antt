@@ -6,16 +6,30 @@ use Rattle.ddcmp_explain.proofs.TakeLaws.{Saw, explains, gave-most, most-fails, 
 use Rattle.ddcmp_explain.proofs.explaining.explain_with.Goals as goal
 use Rattle.ddcmp_explain.proofs.explaining.explain_with.Goals.{After-drop-explainer}
 
-saw : (g : _) (c : After-drop-explainer g) → Saw c.args.form c.args.style c.args.max c.take_all.new.self.seen (g.R.Source.left c.args.reader.now) (g.R.Source.left c.take_all.new.reader) (g.W.Sink.contents c.args.writer.now) (g.W.Sink.contents c.take_all.new.writer) c.take_all.result
+saw : (g : _) (c : After-drop-explainer g)
+    → Saw c.args.form c.args.style c.args.max c.take_all.new.self.seen
+    (g.R.Source.left c.args.reader.now) (g.R.Source.left c.take_all.new.reader)
+    (g.W.Sink.contents c.args.writer.now) (g.W.Sink.contents c.take_all.new.writer)
+    c.take_all.result
 saw g c =
     let before = g.R.Source.left c.args.reader.now in
     let left = g.R.Source.left c.take_all.new.reader in
     let old = g.W.Sink.contents c.args.writer.now in
     let new = g.W.Sink.contents c.take_all.new.writer in
-    let begun = subst (λ b. Progress c.in-Ok.frames.max old [] c.new-explainer.result b old) (sym c.requires.whole) (c.new-explainer.ensures.progress old) in
-    subst (λ form. Saw form c.args.style c.args.max c.take_all.new.self.seen before left old new c.take_all.result) c.new-explainer.ensures.form
-    (subst (λ style. Saw c.new-explainer.result.decoder.form style c.args.max c.take_all.new.self.seen before left old new c.take_all.result) c.new-explainer.ensures.style
-    (subst (λ max. Saw c.new-explainer.result.decoder.form c.new-explainer.result.lines.style max c.take_all.new.self.seen before left old new c.take_all.result) c.in-Ok.ensures.max (c.take_all.ensures.tells c.in-Ok.frames.max begun)))
+    let begun =
+    subst (λ b. Progress c.in-Ok.frames.max old [] c.new-explainer.result b old)
+    (sym c.requires.whole) (c.new-explainer.ensures.progress old) in
+    subst (λ form. Saw form c.args.style c.args.max c.take_all.new.self.seen before left old new
+    c.take_all.result)
+    c.new-explainer.ensures.form
+    (subst
+    (λ style. Saw c.new-explainer.result.decoder.form style c.args.max c.take_all.new.self.seen
+    before left old new c.take_all.result)
+    c.new-explainer.ensures.style
+    (subst
+    (λ max. Saw c.new-explainer.result.decoder.form c.new-explainer.result.lines.style max
+    c.take_all.new.self.seen before left old new c.take_all.result)
+    c.in-Ok.ensures.max (c.take_all.ensures.tells c.in-Ok.frames.max begun)))
 
 pub returns-in-Ok-clause-told : goal.returns-in-Ok-clause-told
 returns-in-Ok-clause-told g c = explains c.args.form c.args.style c.args.max _ _ _ _ _ _ (saw g c)
@@ -28,9 +42,16 @@ returns-in-Ok-clause-read_only g c = λ e. elim (c.take_all.ensures.read_only e)
 
 pub returns-in-Ok-clause-read_most : goal.returns-in-Ok-clause-read_most
 returns-in-Ok-clause-read_most g c = λ input rest e f most.
-    most-fails c.args.form c.args.style c.args.max input rest _ _ _ _ (explains c.args.form c.args.style c.args.max _ _ _ _ _ _ (saw g c) input e) f most
+    most-fails c.args.form c.args.style c.args.max input rest _ _ _ _
+    (explains c.args.form c.args.style c.args.max _ _ _ _ _ _ (saw g c) input e) f most
 
 pub returns-in-Ok-clause-ok : goal.returns-in-Ok-clause-ok
 returns-in-Ok-clause-ok g c = λ input e.
-    ok-exactly c.args.form c.args.style c.args.max input _ _ _ _ _ _ (explains c.args.form c.args.style c.args.max _ _ _ _ _ _ (saw g c) input e) c.take_all.ensures.read
-    (λ r. subst (λ b. (g.R.Source.state c.take_all.new.reader ≢ Fine) ⊎ GaveMost b (g.R.Source.left c.take_all.new.reader)) e (returns-in-Ok-clause-read_only g c r)) c.take_all.ensures.write
+    ok-exactly c.args.form c.args.style c.args.max input _ _ _ _ _ _
+    (explains c.args.form c.args.style c.args.max _ _ _ _ _ _ (saw g c) input e)
+    c.take_all.ensures.read
+    (λ r. subst
+    (λ b. (g.R.Source.state c.take_all.new.reader ≢ Fine)
+    ⊎ GaveMost b (g.R.Source.left c.take_all.new.reader))
+    e (returns-in-Ok-clause-read_only g c r))
+    c.take_all.ensures.write

@@ -6,4 +6,6 @@ use Rattle.ddcmp_explain.proofs.hex_text.put_sixteen.Goals as goal
 pub returns : goal.returns
 returns c =
     let bytes = chunk c.args.at 16 c.args.bytes.now in
-    sixteen-put c.args.digits.now c.high_digits.result c.low_digits.result bytes c.args.at c.requires.digits (length-chunk c.args.at 16 c.args.bytes.now c.requires.bytes) c.high_digits.ensures c.low_digits.ensures (length-put_chunk _ _ _)
+    sixteen-put c.args.digits.now c.high_digits.result c.low_digits.result bytes c.args.at
+    c.requires.digits (length-chunk c.args.at 16 c.args.bytes.now c.requires.bytes)
+    c.high_digits.ensures c.low_digits.ensures (length-put_chunk _ _ _)

@@ -6,4 +6,9 @@ use Rattle.ddcmp_explain.proofs.json.put_control.Goals as goal
 
 pub returns-clause-puts : goal.returns-clause-puts
 returns-clause-puts c =
-    puts-as (ap (λ h. json_header (Control h)) c.header.view_is) (puts-then (puts-then (puts-then (puts-as c.kind_value.ensures.value c.put_slice-behind_kind.ensures) c.put_member-behind_sub.ensures.puts) c.put_reason-behind_reason.ensures.puts) c.put_fields.ensures.puts)
+    puts-as (ap (λ h. json_header (Control h)) c.header.view_is)
+    (puts-then (puts-then
+    (puts-then (puts-as c.kind_value.ensures.value c.put_slice-behind_kind.ensures)
+    c.put_member-behind_sub.ensures.puts)
+    c.put_reason-behind_reason.ensures.puts)
+    c.put_fields.ensures.puts)

@@ -3,4 +3,6 @@ use Rattle.ddcmp_explain.proofs.label.put_nak_label.Goals as goal
 
 pub returns-clause-puts : goal.returns-clause-puts
 returns-clause-puts c =
-    puts-then (puts-then (puts-then c.put-at_sub.ensures c.put_byte-behind_sub.ensures.puts) c.put-at_resp.ensures) c.put_byte.ensures.puts
+    puts-then (puts-then (puts-then c.put-at_sub.ensures c.put_byte-behind_sub.ensures.puts)
+    c.put-at_resp.ensures)
+    c.put_byte.ensures.puts

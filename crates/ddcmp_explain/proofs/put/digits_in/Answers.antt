@@ -9,15 +9,22 @@ loop-digits-preserved c =
     record {
       some = omega arith;
       most = omega arith;
-      reached = λ _. subst (λ k. 10 ^ k ≤ c.args.number) (sym same) (omega (arith, power, c.if-digits-number.true));
+      reached =
+          λ _. subst (λ k. 10 ^ k ≤ c.args.number) (sym same)
+          (omega (arith, power, c.if-digits-number.true));
     }
 
 pub returns-else-digits-number-clause-value : goal.returns-else-digits-number-clause-value
 returns-else-digits-number-clause-value c =
     let power = power-at c.loop-digits.digits c.loop-digits-test.true in
-    decimal-digits c.loop-digits.digits c.args.number c.loop-digits.invariant.some c.loop-digits.invariant.reached (omega (arith, power, c.if-digits-number.false)) (omega arith)
+    decimal-digits c.loop-digits.digits c.args.number c.loop-digits.invariant.some
+    c.loop-digits.invariant.reached (omega (arith, power, c.if-digits-number.false))
+    (omega arith)
 
 pub returns-after-loop-digits-clause-value : goal.returns-after-loop-digits-clause-value
 returns-after-loop-digits-clause-value c =
-    let most : c.loop-digits.digits ≡ 20 = omega (arith, c.loop-digits.invariant.most, c.loop-digits-test.false) in
-    decimal-digits c.loop-digits.digits c.args.number c.loop-digits.invariant.some c.loop-digits.invariant.reached (subst (λ d. c.args.number < 10 ^ d) (sym most) (omega arith)) (omega arith)
+    let most : c.loop-digits.digits ≡ 20 =
+    omega (arith, c.loop-digits.invariant.most, c.loop-digits-test.false) in
+    decimal-digits c.loop-digits.digits c.args.number c.loop-digits.invariant.some
+    c.loop-digits.invariant.reached
+    (subst (λ d. c.args.number < 10 ^ d) (sym most) (omega arith)) (omega arith)

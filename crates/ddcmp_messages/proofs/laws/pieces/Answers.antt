@@ -1,5 +1,6 @@
 use Rattle.ddcmp_messages.proofs.LengthsLaws.{after_more, entries_of_more}
-use Rattle.ddcmp_messages.proofs.HexLinesLaws.{after_more as after_more_digits, entries_of_more as entries_of_more_digits}
+use Rattle.ddcmp_messages.proofs.HexLinesLaws.{after_more as after_more_digits}
+use Rattle.ddcmp_messages.proofs.HexLinesLaws.{entries_of_more as entries_of_more_digits}
 use Rattle.ddcmp_messages.proofs.laws.pieces.Goals as goal
 
 pub returns-clause-lengths : goal.returns-clause-lengths

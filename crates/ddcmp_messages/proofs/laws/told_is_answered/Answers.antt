@@ -1,5 +1,7 @@
 use Rattle.ddcmp_messages.proofs.BinaryLaws.{told_more, told_nothing, told_last}
-use Rattle.ddcmp_messages.proofs.LineLaws.{told_more as told_more_lines, told_nothing as told_nothing_lines, told_last as told_last_lines}
+use Rattle.ddcmp_messages.proofs.LineLaws.{told_more as told_more_lines}
+use Rattle.ddcmp_messages.proofs.LineLaws.{told_nothing as told_nothing_lines}
+use Rattle.ddcmp_messages.proofs.LineLaws.{told_last as told_last_lines}
 use Rattle.ddcmp_messages.proofs.laws.told_is_answered.Goals as goal
 
 pub returns-clause-cut : goal.returns-clause-cut

@@ -5,7 +5,8 @@ use Rattle.ddcmp_pump.proofs.pumping.conclude.Goals as goal
 pub returns-in-Err-clause-pumps : goal.returns-in-Err-clause-pumps
 returns-in-Err-clause-pumps g c = λ notation max up0 down0 start r.
     let e = c.in-Err.ensures in
-    first-failed-by notation c.args.timed max c.stamp-at.result c.stamp-at.ensures up0 down0 start _ _ _ _ _ c.in-Err.fault (e.fault _ refl) r
+    first-failed-by notation c.args.timed max c.stamp-at.result c.stamp-at.ensures up0 down0 start _
+    _ _ _ _ c.in-Err.fault (e.fault _ refl) r
     (ap (λ f. g.R.Source.left f.reader) e.stays) (ap (λ f. g.O.Outlet.contents f.outlet) e.stays)
     e.tells
 
@@ -13,7 +14,8 @@ pub returns-in-Err-tell_end-clause-pumps : goal.returns-in-Err-tell_end-clause-p
 returns-in-Err-tell_end-clause-pumps g c = λ notation max up0 down0 start r.
     let u = c.in-Ok.ensures in
     let d = c.in-Err-tell_end.ensures in
-    second-failed-by notation c.args.timed max c.stamp-at.result c.stamp-at.ensures up0 down0 start _ _ _ _ _ _ _ c.in-Err-tell_end.fault (d.fault _ refl) r
+    second-failed-by notation c.args.timed max c.stamp-at.result c.stamp-at.ensures up0 down0 start
+    _ _ _ _ _ _ _ c.in-Err-tell_end.fault (d.fault _ refl) r
     (ap (λ f. g.R.Source.left f.reader) u.stays) (ap (λ f. g.O.Outlet.contents f.outlet) u.stays)
     (ap (λ f. g.R.Source.left f.reader) d.stays) (ap (λ f. g.O.Outlet.contents f.outlet) d.stays)
     u.tells d.tells
@@ -22,7 +24,10 @@ pub returns-in-Ok-tell_end-clause-pumps : goal.returns-in-Ok-tell_end-clause-pum
 returns-in-Ok-tell_end-clause-pumps g c = λ notation max up0 down0 start r.
     let u = c.in-Ok.ensures in
     let d = c.in-Ok-tell_end.ensures in
-    pumps-whole-by notation c.args.timed max c.stamp-at.result c.stamp-at.ensures up0 down0 start _ _ _ _ _ _ _ c.args.ended c.requires.said r
-    (ap (λ f. g.R.Source.left f.reader) u.stays) (ap (λ f. g.O.Outlet.contents f.outlet) u.stays) (ap (λ f. g.O.Outlet.closed f.outlet) u.stays)
-    (ap (λ f. g.R.Source.left f.reader) d.stays) (ap (λ f. g.O.Outlet.contents f.outlet) d.stays) (ap (λ f. g.O.Outlet.closed f.outlet) d.stays)
+    pumps-whole-by notation c.args.timed max c.stamp-at.result c.stamp-at.ensures up0 down0 start _
+    _ _ _ _ _ _ c.args.ended c.requires.said r
+    (ap (λ f. g.R.Source.left f.reader) u.stays) (ap (λ f. g.O.Outlet.contents f.outlet) u.stays)
+    (ap (λ f. g.O.Outlet.closed f.outlet) u.stays)
+    (ap (λ f. g.R.Source.left f.reader) d.stays) (ap (λ f. g.O.Outlet.contents f.outlet) d.stays)
+    (ap (λ f. g.O.Outlet.closed f.outlet) d.stays)
     u.tells d.tells c.requires.up_ends c.requires.down_ends c.requires.done

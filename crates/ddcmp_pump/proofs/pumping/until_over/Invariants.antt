@@ -14,8 +14,12 @@ invariant-loop-round g l = record {
   down_ends : Ends (flow_of g.R.Source.left g.O.Outlet.contents g.O.Outlet.closed l.down);
   whole : g.W.Sink.broken l.writer ≡ false;
   runs : (notation : Notation) (max : ℕ) (up0 down0 : FlowView) (start : Known)
-      → Runs notation l.timed max up0 (flow_of g.R.Source.left g.O.Outlet.contents g.O.Outlet.closed l.initial.up) down0
-      (flow_of g.R.Source.left g.O.Outlet.contents g.O.Outlet.closed l.initial.down) start (g.W.Sink.contents l.initial.writer)
-      → Runs notation l.timed max up0 (flow_of g.R.Source.left g.O.Outlet.contents g.O.Outlet.closed l.up) down0
-      (flow_of g.R.Source.left g.O.Outlet.contents g.O.Outlet.closed l.down) start (g.W.Sink.contents l.writer);
+      → Runs notation l.timed max up0
+      (flow_of g.R.Source.left g.O.Outlet.contents g.O.Outlet.closed l.initial.up) down0
+      (flow_of g.R.Source.left g.O.Outlet.contents g.O.Outlet.closed l.initial.down) start
+      (g.W.Sink.contents l.initial.writer)
+      → Runs notation l.timed max up0
+      (flow_of g.R.Source.left g.O.Outlet.contents g.O.Outlet.closed l.up) down0
+      (flow_of g.R.Source.left g.O.Outlet.contents g.O.Outlet.closed l.down) start
+      (g.W.Sink.contents l.writer);
 }

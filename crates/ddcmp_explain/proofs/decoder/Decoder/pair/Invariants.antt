@@ -11,8 +11,10 @@ invariant-loop-i l = record {
   within : l.count ≤ l.i;
   inside : l.i ≤ length l.piece;
   waits : l.wait ≤ 1024;
-  decodes : (seen : List ℕ) → unexpected_in Hex seen ≡ None → left_in Hex seen ≡ option_to_list l.initial.self.high
-      → Decodes Hex seen (take l.i l.piece) (record { count = l.count; unexpected = None }) l.bytes l.self.high;
+  decodes : (seen : List ℕ) → unexpected_in Hex seen ≡ None
+      → left_in Hex seen ≡ option_to_list l.initial.self.high
+      → Decodes Hex seen (take l.i l.piece) (record { count = l.count; unexpected = None }) l.bytes
+      l.self.high;
 }
 
 abbrev pub decreases-loop-i : goal.decreases-loop-i

@@ -17,6 +17,10 @@ returns-clause-progress c = λ start.
       expected = nothing-unexpected c.new.result.form;
       left = nothing-left c.new.result.form ∙ ap option_to_list (sym c.new.ensures.none);
       long = refl;
-      told = subst (λ b. HasTold max start b c.new-2.result false start) (sym none) (c.new-2.ensures.told false start);
-      written = subst (Appends start start) (sym (ap (lines_in style max) none ∙ lines-nothing style max)) (Appends-nil start);
+      told =
+          subst (λ b. HasTold max start b c.new-2.result false start) (sym none)
+          (c.new-2.ensures.told false start);
+      written =
+          subst (Appends start start) (sym (ap (lines_in style max) none ∙ lines-nothing style max))
+          (Appends-nil start);
     }

@@ -15,12 +15,21 @@ returns-in-Some-2-clause-takes g c = λ max start seen p left.
     let piece = c.args.piece.now in
     let decoded = c.decode-decoded.ensures.decodes seen p.expected p.left in
     let told = c.in-Ok.ensures.told max start _ (c.push_all.ensures.told max start _ p.told) in
-    let here = decoded.unexpected ∙ ap (option_map _) c.in-Some-2.is ∙ ap (λ n. Some (n + c.in-Some-2.index)) p.long in
+    let here =
+    decoded.unexpected ∙ ap (option_map _) c.in-Some-2.is
+    ∙ ap (λ n. Some (n + c.in-Some-2.index)) p.long in
     let l = length-append seen piece in
     let fault = NotHex (c.args.self.now.seen + c.in-Some-2.index) in
-    subst (λ n. Tells c.decode-decoded.new.self.form n max (seen ++ piece) left start (g.W.Sink.contents c.flush.new.writer) (Err fault)) (sym c.flush.ensures.style)
-    (subst (λ f. Tells f style max (seen ++ piece) left start (g.W.Sink.contents c.flush.new.writer) (Err fault)) (sym c.decode-decoded.ensures.form)
-    (tells-unexpected form style max (seen ++ piece) start _ _ left here (omega (arith, p.long, c.if-self.false, c.requires.room)) (subst (λ b. Appends start (g.W.Sink.contents c.flush.new.writer) (lines_in style max b)) (sym decoded.whole) told.1)))
+    subst (λ n. Tells c.decode-decoded.new.self.form n max (seen ++ piece) left start
+    (g.W.Sink.contents c.flush.new.writer) (Err fault))
+    (sym c.flush.ensures.style)
+    (subst (λ f. Tells f style max (seen ++ piece) left start (g.W.Sink.contents c.flush.new.writer)
+    (Err fault))
+    (sym c.decode-decoded.ensures.form)
+    (tells-unexpected form style max (seen ++ piece) start _ _ left here
+    (omega (arith, p.long, c.if-self.false, c.requires.room))
+    (subst (λ b. Appends start (g.W.Sink.contents c.flush.new.writer) (lines_in style max b))
+    (sym decoded.whole) told.1)))
 
 pub returns-in-Err-clause-takes : goal.returns-in-Err-clause-takes
 returns-in-Err-clause-takes g c = λ max start seen p left.
@@ -29,6 +38,13 @@ returns-in-Err-clause-takes g c = λ max start seen p left.
     let piece = c.args.piece.now in
     let decoded = c.decode-decoded.ensures.decodes seen p.expected p.left in
     let told = c.in-Err.ensures.told max start _ (c.push_all.ensures.told max start _ p.told) in
-    subst (λ n. Tells c.decode-decoded.new.self.form n max (seen ++ piece) left start (g.W.Sink.contents c.flush.new.writer) (Err Write)) (sym c.flush.ensures.style)
-    (subst (λ f. Tells f style max (seen ++ piece) left start (g.W.Sink.contents c.flush.new.writer) (Err Write)) (sym c.decode-decoded.ensures.form)
-    (tells-part form style max (seen ++ piece) start _ (subst (λ b. AppendsPart start (g.W.Sink.contents c.flush.new.writer) (lines_in style max b)) (sym decoded.whole) told.1)))
+    subst (λ n. Tells c.decode-decoded.new.self.form n max (seen ++ piece) left start
+    (g.W.Sink.contents c.flush.new.writer) (Err Write))
+    (sym c.flush.ensures.style)
+    (subst (λ f. Tells f style max (seen ++ piece) left start (g.W.Sink.contents c.flush.new.writer)
+    (Err Write))
+    (sym c.decode-decoded.ensures.form)
+    (tells-part form style max (seen ++ piece) start _
+    (subst
+    (λ b. AppendsPart start (g.W.Sink.contents c.flush.new.writer) (lines_in style max b))
+    (sym decoded.whole) told.1)))

@@ -17,5 +17,7 @@ loop-used-preserved g c =
       style = p.ensures.style ∙ now.style;
       offset = omega arith;
       told = λ max start text h.
-          subst (λ t. HasTold max start t p.new.self (g.W.Sink.broken p.new.writer) (g.W.Sink.contents p.new.writer)) (taken-more text bytes n k) (p.ensures.told max start _ (now.told max start text h));
+          subst (λ t. HasTold max start t p.new.self (g.W.Sink.broken p.new.writer)
+          (g.W.Sink.contents p.new.writer))
+          (taken-more text bytes n k) (p.ensures.told max start _ (now.told max start text h));
     }

@@ -9,8 +9,10 @@ invariant-loop-used g l = record {
   style : l.self.style ≡ l.initial.self.style;
   offset : l.self.frames.offset ≡ l.initial.self.frames.offset + l.used;
   told : (max : ℕ) (start : Option (List ℕ)) (text : List ℕ)
-      → HasTold max start text l.initial.self (g.W.Sink.broken l.initial.writer) (g.W.Sink.contents l.initial.writer)
-      → HasTold max start (text ++ take l.used l.bytes) l.self (g.W.Sink.broken l.writer) (g.W.Sink.contents l.writer);
+      → HasTold max start text l.initial.self (g.W.Sink.broken l.initial.writer)
+      (g.W.Sink.contents l.initial.writer)
+      → HasTold max start (text ++ take l.used l.bytes) l.self (g.W.Sink.broken l.writer)
+      (g.W.Sink.contents l.writer);
 }
 
 abbrev pub decreases-loop-used : goal.decreases-loop-used

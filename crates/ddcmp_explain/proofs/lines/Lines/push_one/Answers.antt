@@ -14,16 +14,22 @@ returns-in-Some-clause-told g c = λ max start text h.
     let was = c.args.self.now in
     let lent = p.new.self.lent in
     let now = text ++ c.args.byte ∷ [] in
-    let line = ap (λ s. line_in s.notation (c.in-Some.item, c.data-data.result.now)) c.reach.ensures.style
-    ∙ ap (λ d. line_in was.style.notation (c.in-Some.item, d)) (c.data-data.ensures ∙ ap (λ f. f.lent) c.reach.ensures.frames) in
+    let line =
+    ap (λ s. line_in s.notation (c.in-Some.item, c.data-data.result.now)) c.reach.ensures.style
+    ∙ ap (λ d. line_in was.style.notation (c.in-Some.item, d))
+    (c.data-data.ensures ∙ ap (λ f. f.lent) c.reach.ensures.frames) in
     told-one max start _ _ text c.args.byte was _ _ _ h c.requires.discarded c.in-Some.item lent
     (ap (λ f. f.max) c.reach.ensures.frames ∙ p.ensures.max)
     c.reach.ensures.style
     (subst (λ f. StandsFor f now) (sym c.reach.ensures.frames) (p.ensures.stands text h.stands))
-    (p.ensures.item text h.stands ∙ ap (λ i. items was.frames.max text ++ items_given i lent) c.in-Some.is)
+    (p.ensures.item text h.stands
+    ∙ ap (λ i. items was.frames.max text ++ items_given i lent) c.in-Some.is)
     c.reach.ensures.items
     c.reach.ensures.reached
-    (λ rest more k f n. subst (λ (x : _). Heads x more) (sym c.reach.ensures.head) (c.follow.ensures rest more k f (c.open.ensures.text now (p.ensures.stands text h.stands) ∙ ap (λ m. open_at_end m now) (p.ensures.max ∙ h.max_is) ∙ n)))
+    (λ rest more k f n. subst (λ (x : _). Heads x more) (sym c.reach.ensures.head)
+    (c.follow.ensures rest more k f
+    (c.open.ensures.text now (p.ensures.stands text h.stands)
+    ∙ ap (λ m. open_at_end m now) (p.ensures.max ∙ h.max_is) ∙ n)))
     (sends-then c.reach.ensures.passed (sends-as line c.write_item.ensures))
 
 pub returns-in-None-clause-told : goal.returns-in-None-clause-told
@@ -31,6 +37,12 @@ returns-in-None-clause-told g c = λ max start text h.
     let p = c.push-item in
     let was = c.args.self.now in
     let now = text ++ c.args.byte ∷ [] in
-    told-none max start _ _ text c.args.byte was _ _ _ h c.requires.discarded p.ensures.max refl (p.ensures.stands text h.stands) (p.ensures.item text h.stands ∙ ap (λ i. items was.frames.max text ++ items_given i p.new.self.lent) c.in-None.is) refl refl
-    (λ rest more k f n. c.follow.ensures rest more k f (c.open.ensures.text now (p.ensures.stands text h.stands) ∙ ap (λ m. open_at_end m now) (p.ensures.max ∙ h.max_is) ∙ n))
+    told-none max start _ _ text c.args.byte was _ _ _ h c.requires.discarded p.ensures.max refl
+    (p.ensures.stands text h.stands)
+    (p.ensures.item text h.stands
+    ∙ ap (λ i. items was.frames.max text ++ items_given i p.new.self.lent) c.in-None.is)
+    refl refl
+    (λ rest more k f n. c.follow.ensures rest more k f
+    (c.open.ensures.text now (p.ensures.stands text h.stands)
+    ∙ ap (λ m. open_at_end m now) (p.ensures.max ∙ h.max_is) ∙ n))
     (sends-nothing _)

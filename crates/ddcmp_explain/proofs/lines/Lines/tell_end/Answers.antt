@@ -8,7 +8,8 @@ use Rattle.ddcmp_explain.proofs.lines.Lines.tell_end.Goals as goal
 
 pub returns-then-not-self-clause-told : goal.returns-then-not-self-clause-told
 returns-then-not-self-clause-told g c = λ max start text h b o.
-    sends-as (sym (ap (λ t. rest_by t c.args.self.now.style.notation max text) c.if-not-self.true)) (sends-nothing _)
+    sends-as (sym (ap (λ t. rest_by t c.args.self.now.style.notation max text) c.if-not-self.true))
+    (sends-nothing _)
 
 pub returns-clause-told : goal.returns-clause-told
 returns-clause-told g c = λ max start text h b o.
@@ -16,8 +17,16 @@ returns-clause-told g c = λ max start text h b o.
     let notation = was.style.notation in
     let p = ending max text in
     let on : was.style.discarded ≡ true = c.if-not-self.false in
-    let ends : p.offset ≡ c.saturating_sub.result = omega (arith, ending-offset max text, b, o, c.saturating_sub.ensures) in
-    let here = subst (λ t. ReachesTo t (items max text) was.reached.offset was.reached.taken) on h.reaches in
+    let ends : p.offset ≡ c.saturating_sub.result =
+    omega (arith, ending-offset max text, b, o, c.saturating_sub.ensures) in
+    let here =
+    subst (λ t. ReachesTo t (items max text) was.reached.offset was.reached.taken) on
+    h.reaches in
     let begins = subst (λ t. BeginsWith t was.head p.rest) on h.head in
     let told = c.tell_rest.ensures.told p begins ends (sym o) in
-    sends-as (ap (λ n. part_lines notation (passed n c.saturating_sub.result ++ opened p)) (sym here) ∙ ap (λ n. part_lines notation (passed (reached 0 (items max text)) n ++ opened p)) (sym ends) ∙ ap (λ t. rest_by t notation max text) (sym on)) told
+    sends-as
+    (ap (λ n. part_lines notation (passed n c.saturating_sub.result ++ opened p)) (sym here)
+    ∙ ap (λ n. part_lines notation (passed (reached 0 (items max text)) n ++ opened p))
+    (sym ends)
+    ∙ ap (λ t. rest_by t notation max text) (sym on))
+    told

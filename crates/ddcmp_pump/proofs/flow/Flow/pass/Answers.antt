@@ -9,7 +9,11 @@ pub returns-in_err-went-clause-moves : goal.returns-in_err-went-clause-moves
 returns-in_err-went-clause-moves g c = then _ _ _ c.take_in.ensures.moves c.hand_on.ensures.moves
 
 pub returns-then-came-clause-moves : goal.returns-then-came-clause-moves
-returns-then-came-clause-moves g c = then _ _ _ (then _ _ _ c.take_in.ensures.moves c.hand_on.ensures.moves) c.hand_end_on.ensures.moves
+returns-then-came-clause-moves g c =
+    then _ _ _ (then _ _ _ c.take_in.ensures.moves c.hand_on.ensures.moves)
+    c.hand_end_on.ensures.moves
 
 pub returns-else-came-clause-moves : goal.returns-else-came-clause-moves
-returns-else-came-clause-moves g c = then _ _ _ (then _ _ _ c.take_in.ensures.moves c.hand_on.ensures.moves) c.hand_end_on.ensures.moves
+returns-else-came-clause-moves g c =
+    then _ _ _ (then _ _ _ c.take_in.ensures.moves c.hand_on.ensures.moves)
+    c.hand_end_on.ensures.moves

@@ -22,8 +22,13 @@ returns-in-Failed-clause-moves g c = unmoved _ _ _ _ _ _ _ c.in-Failed.ensures.b
 
 pub returns-in-Bytes-eq0-clause-moves : goal.returns-in-Bytes-eq0-clause-moves
 returns-in-Bytes-eq0-clause-moves g c =
-    let zero : c.in-Bytes-eq0.field-0 ≡ 0 = omega (arith, c.in-Bytes-eq0.field-0-is, c.in-Bytes-eq0.field-0-test) in
-    end-came _ _ _ _ _ _ c.end.ensures (subst (λ k. Consumes (g.R.Source.left c.args.self.now.reader) (g.R.Source.left c.read_within.new.reader) (take k c.read_within.new.buf)) zero c.in-Bytes-eq0.ensures.bytes.1)
+    let zero : c.in-Bytes-eq0.field-0 ≡ 0 =
+    omega (arith, c.in-Bytes-eq0.field-0-is, c.in-Bytes-eq0.field-0-test) in
+    end-came _ _ _ _ _ _ c.end.ensures
+    (subst (λ k. Consumes (g.R.Source.left c.args.self.now.reader)
+    (g.R.Source.left c.read_within.new.reader) (take k c.read_within.new.buf))
+    zero c.in-Bytes-eq0.ensures.bytes.1)
 
 pub returns-in-Bytes-clause-moves : goal.returns-in-Bytes-clause-moves
-returns-in-Bytes-clause-moves g c = came-in _ _ _ _ _ _ _ _ c.push.ensures.stays c.in-Bytes.ensures.bytes.1 c.push.ensures.passes
+returns-in-Bytes-clause-moves g c =
+    came-in _ _ _ _ _ _ _ _ c.push.ensures.stays c.in-Bytes.ensures.bytes.1 c.push.ensures.passes
