@@ -1,5 +1,5 @@
 -- What the words ask for, once the command that they name was run.
-use Rattle.ddcmp_cli.specs.Endings.{CanRun, Performs, ExplainsOrNoMemory, file_named, Stations, StationsOrNoMemory, TapsAsked, TapsOrNoMemory}
+use Rattle.ddcmp_cli.specs.Endings.{CanRun, Performs, ExplainsOrNoMemory, Streams, file_named, Stations, StationsOrNoMemory, TapsAsked, TapsOrNoMemory}
 use Rattle.ddcmp_cli.specs.declared.ending.Ending.{Ending}
 use Rattle.std.specs.Str.{bytes_eq}
 use Rattle.std.proofs.lemmas.Slice.Eq.{bytes_eq-Decides}
@@ -32,7 +32,7 @@ sized config w i m s =
     ) refl
 
 pub can_run : (o t : Text → Option Text) (command : Command) → HasOptions o t command → CanRun command
-can_run o t (Explain form from style max file) h = h.2.in_range
+can_run o t (Explain e) h = h.max.in_range
 can_run o t (Station served) h = tt
 can_run o t (Tap tapped) h = h.max.in_range
 can_run o t (Link linked) h = tt
@@ -45,18 +45,18 @@ other a b differ e =
     let same : a ≡ b = cc in
     let bad : ◌≡◌ {A = Bool} false true = sym differ ∙ (bytes_eq-Decides a b).1 same in cc
 
-pub performed : (held : Text → Option (List ℕ)) (peers : Peers) (words : List Text) (command : Command) (input : List ℕ) (left old new : Option (List ℕ)) (ending : Ending) → IsAsked words (codes "explain") → named_by words ≡ Some (name_of command) → HasOptions (option_in words) (text_in words) command → Performs held peers command input left old new ending → ExplainsOrNoMemory held words input left old new ending
-performed held peers words (Explain form from style max file) input left old new ending a n h p = inr (form, from, style, max, file, h, p)
-performed held peers words (Simulate config view) input left old new ending a n h p = absurd (other (codes "explain") (codes "simulate") refl (sym a.names ∙ n))
-performed held peers words (Pair config view) input left old new ending a n h p = absurd (other (codes "explain") (codes "pair") refl (sym a.names ∙ n))
-performed held peers words (Station served) input left old new ending a n h p = absurd (other (codes "explain") (codes "station") refl (sym a.names ∙ n))
-performed held peers words (Tap tapped) input left old new ending a n h p = absurd (other (codes "explain") (codes "tap") refl (sym a.names ∙ n))
-performed held peers words (Link linked) input left old new ending a n h p = absurd (other (codes "explain") (codes "link") refl (sym a.names ∙ n))
+pub performed : (held : Text → Option (List ℕ)) (peers : Peers) (words : List Text) (command : Command) (s : Streams) (ending : Ending) → IsAsked words (codes "explain") → named_by words ≡ Some (name_of command) → HasOptions (option_in words) (text_in words) command → Performs held peers command s ending → ExplainsOrNoMemory held words s ending
+performed held peers words (Explain e) s ending a n h p = inr (e, h, p)
+performed held peers words (Simulate config view) s ending a n h p = absurd (other (codes "explain") (codes "simulate") refl (sym a.names ∙ n))
+performed held peers words (Pair config view) s ending a n h p = absurd (other (codes "explain") (codes "pair") refl (sym a.names ∙ n))
+performed held peers words (Station served) s ending a n h p = absurd (other (codes "explain") (codes "station") refl (sym a.names ∙ n))
+performed held peers words (Tap tapped) s ending a n h p = absurd (other (codes "explain") (codes "tap") refl (sym a.names ∙ n))
+performed held peers words (Link linked) s ending a n h p = absurd (other (codes "explain") (codes "link") refl (sym a.names ∙ n))
 
 -- words that ask for a station are answered by it
 pub stationed : {R : Type 0} (peers : Peers) (words : List Text) (command : Command) (reader reader_after : R) (old new : Option (List ℕ)) (ending : Ending) → IsAsked words (codes "station") → named_by words ≡ Some (name_of command) → HasOptions (option_in words) (text_in words) command
     → ((served : Served) → command ≡ Station served → (reader_after ≡ reader) × Stations peers served old new ending) → (reader_after ≡ reader) × StationsOrNoMemory peers words old new ending
-stationed peers words (Explain form from style max file) reader after old new ending a n h p = absurd (other (codes "station") (codes "explain") refl (sym a.names ∙ n))
+stationed peers words (Explain e) reader after old new ending a n h p = absurd (other (codes "station") (codes "explain") refl (sym a.names ∙ n))
 stationed peers words (Simulate config view) reader after old new ending a n h p = absurd (other (codes "station") (codes "simulate") refl (sym a.names ∙ n))
 stationed peers words (Pair config view) reader after old new ending a n h p = absurd (other (codes "station") (codes "pair") refl (sym a.names ∙ n))
 stationed peers words (Station served) reader after old new ending a n h p =
@@ -68,7 +68,7 @@ stationed peers words (Link linked) reader after old new ending a n h p = absurd
 -- words that ask for a tap are answered by it
 pub tapped : {R : Type 0} (Further : Type 0) (words : List Text) (command : Command) (reader reader_after : R) (old new : Option (List ℕ)) (ending : Ending) → IsAsked words (codes "tap") → named_by words ≡ Some (name_of command) → HasOptions (option_in words) (text_in words) command
     → ((tapped : Tapped) → command ≡ Tap tapped → (reader_after ≡ reader) × TapsAsked tapped old new ending × Further) → (reader_after ≡ reader) × TapsOrNoMemory words old new ending × Further
-tapped F words (Explain form from style max file) reader after old new ending a n h p = absurd (other (codes "tap") (codes "explain") refl (sym a.names ∙ n))
+tapped F words (Explain e) reader after old new ending a n h p = absurd (other (codes "tap") (codes "explain") refl (sym a.names ∙ n))
 tapped F words (Simulate config view) reader after old new ending a n h p = absurd (other (codes "tap") (codes "simulate") refl (sym a.names ∙ n))
 tapped F words (Pair config view) reader after old new ending a n h p = absurd (other (codes "tap") (codes "pair") refl (sym a.names ∙ n))
 tapped F words (Station served) reader after old new ending a n h p = absurd (other (codes "tap") (codes "station") refl (sym a.names ∙ n))
@@ -79,7 +79,7 @@ tapped F words (Link l) reader after old new ending a n h p = absurd (other (cod
 
 -- words that ask for a link are answered by it
 pub linked : (Answered : Type 0) (words : List Text) (command : Command) → IsAsked words (codes "link") → named_by words ≡ Some (name_of command) → ((linked : Linked) → command ≡ Link linked → Answered) → Answered
-linked A words (Explain form from style max file) a n p = absurd (other (codes "link") (codes "explain") refl (sym a.names ∙ n))
+linked A words (Explain e) a n p = absurd (other (codes "link") (codes "explain") refl (sym a.names ∙ n))
 linked A words (Simulate config view) a n p = absurd (other (codes "link") (codes "simulate") refl (sym a.names ∙ n))
 linked A words (Pair config view) a n p = absurd (other (codes "link") (codes "pair") refl (sym a.names ∙ n))
 linked A words (Station served) a n p = absurd (other (codes "link") (codes "station") refl (sym a.names ∙ n))
@@ -88,7 +88,7 @@ linked A words (Link l) a n p = p l refl
 
 -- where the words name no file, the command reads none
 pub reads_no_file : (words : List Text) (command : Command) → HasOptions (option_in words) (text_in words) command → file_of (text_in words (codes "file")) ≡ None → file_named command ≡ None
-reads_no_file words (Explain form from style max file) h e = h.3 ∙ e
+reads_no_file words (Explain explained) h e = h.file ∙ e
 reads_no_file words (Simulate config view) h e = refl
 reads_no_file words (Pair config view) h e = refl
 reads_no_file words (Station served) h e = refl
@@ -98,7 +98,7 @@ reads_no_file words (Link linked) h e = refl
 -- and where they name one, it reads one
 pub reads_a_file : (A : Type 0) (words : List Text) (command : Command) → IsAsked words (codes "explain") → named_by words ≡ Some (name_of command) → HasOptions (option_in words) (text_in words) command
     → file_of (text_in words (codes "file")) ≢ None → (file_named command ≢ None → A) → A
-reads_a_file A words (Explain form from style max file) a n h some then = then (λ e. some (sym h.3 ∙ e))
+reads_a_file A words (Explain explained) a n h some then = then (λ e. some (sym h.file ∙ e))
 reads_a_file A words (Simulate config view) a n h some then = absurd (other (codes "explain") (codes "simulate") refl (sym a.names ∙ n))
 reads_a_file A words (Pair config view) a n h some then = absurd (other (codes "explain") (codes "pair") refl (sym a.names ∙ n))
 reads_a_file A words (Station served) a n h some then = absurd (other (codes "explain") (codes "station") refl (sym a.names ∙ n))

@@ -1,5 +1,5 @@
 -- How the program ends.
-use Rattle.std.specs.Prelude.{⊤, not, ◌&&◌, is_some, length, ◌<◌, None, codes, string_bytes, Bool, true, false, ◌≡◌, ◌≢◌, ◌⊎◌, ◌≤◌, ℕ, List, [], Option, Some, Result, Ok, Err}
+use Rattle.std.specs.Prelude.{⊤, not, ◌&&◌, length, ◌<◌, None, codes, string_bytes, Bool, true, false, ◌≡◌, ◌≢◌, ◌⊎◌, ◌≤◌, ℕ, List, [], Option, Some, Result, Ok, Err}
 use Rattle.std.specs.Option.{option_map}
 use Rattle.std.specs.Io.KnownBytes.{Appends, Keeps}
 use Rattle.ddcmp_explain.specs.declared.explain_fault.ExplainFault.{ExplainFault}
@@ -22,10 +22,10 @@ use Rattle.ddcmp_explain.specs.declared.form.Form.TheVariants.{Hex, Raw}
 use Rattle.ddcmp_explain.specs.declared.notation.Notation.{Notation}
 use Rattle.ddcmp_explain.specs.declared.notation.Notation.TheVariants.{Plain, Json}
 use Rattle.std.specs.Str.{bytes_eq}
-use Rattle.ddcmp_explain.specs.declared.style.Style.{Style}
 use Rattle.clap.specs.Words.{Text}
 use Rattle.ddcmp_words.specs.declared.command.Command.{Command}
 use Rattle.ddcmp_words.specs.declared.command.Command.TheVariants.{Explain, Simulate, Pair, Station, Tap, Link}
+use Rattle.ddcmp_words.specs.declared.explained.Explained.{Explained}
 use Rattle.ddcmp_words.specs.declared.served.Served.{Served}
 use Rattle.ddcmp_words.specs.declared.served.Role.{Role}
 use Rattle.ddcmp_cli.specs.Connections.{Peers}
@@ -37,7 +37,7 @@ use Rattle.ddcmp_words.specs.declared.tapped.Tapped.{Tapped}
 use Rattle.ddcmp_words.specs.declared.declined.Declined.{Declined}
 use Rattle.ddcmp_words.specs.declared.declined.Declined.TheVariants.{Help, Version, Usage, Memory}
 use Rattle.ddcmp_io.specs.Written.{AppendsPart, Known}
-use Rattle.ddcmp_words.specs.Words.{HasOptions, HasStation, HasTap, Reads, option_in, text_in}
+use Rattle.ddcmp_words.specs.Words.{HasExplain, HasStation, HasTap, Reads, option_in, text_in}
 use Rattle.ddcmp_core.specs.Limits.{MAX_COUNT}
 use Rattle.ddcmp_explain.specs.Dumps.{ExplainsDump}
 use Rattle.ddcmp_explain.specs.Explains.{Explains}
@@ -128,24 +128,41 @@ is_refusal (Faulted Carrier) = false
 is_refusal (Faulted Ended) = false
 is_refusal (Faulted NoMemory) = true
 
+-- What was read and written: the input, what is left of it, and what the sink held before and holds
+-- after.
+pub record Streams : Type 0 where
+  pub input : List ℕ
+  pub left : Known
+  pub before : Known
+  pub after : Known
+
+abbrev pub streams : List ℕ → Known → Known → Known → Streams
+streams input left before after =
+    record { input = input; left = left; before = before; after = after }
+
+-- nothing was read, and nothing was written
+abbrev pub Untouched : Streams → Type 0
+Untouched s = (s.left ≡ Some s.input) × Keeps s.before s.after
+
 -- some input was explained, and the ending tells the answer
-abbrev pub ExplainsTo : Form → Style → ℕ → List ℕ → Known → Known → Known → Ending → Type 0
-ExplainsTo form style max input left old new ending =
+abbrev pub ExplainsTo : Explained → Streams → Ending → Type 0
+ExplainsTo e s ending =
     (result : Result (Unit {0}) ExplainFault) × (ending ≡ ending_of explain_fault result)
-    × Explains form style max input left old new result
+    × Explains e.form e.style e.max s.input s.left s.before s.after result
 
 -- some dump was explained, and the ending tells the answer
-abbrev pub ExplainsDumpTo : Style → ℕ → List ℕ → Known → Known → Known → Ending → Type 0
-ExplainsDumpTo style max input left old new ending =
+abbrev pub ExplainsDumpTo : Explained → Streams → Ending → Type 0
+ExplainsDumpTo e s ending =
     (result : Result (Unit {0}) DumpFault) × (ending ≡ ending_of dump_fault result)
-    × ExplainsDump style max input left old new result
+    × ExplainsDump e.style e.max s.input s.left s.before s.after result
 
--- one of both
-abbrev pub ExplainsAs : Form → Bool → Style → ℕ → List ℕ → Known → Known → Known → Ending → Type 0
-ExplainsAs form false style max input left old new ending =
-    ExplainsTo form style max input left old new ending
-ExplainsAs form true style max input left old new ending =
-    ExplainsDumpTo style max input left old new ending
+-- a dump where it comes from one
+abbrev pub ExplainsBy : Option (Bor (List ℕ)) → Explained → Streams → Ending → Type 0
+ExplainsBy None e s ending = ExplainsTo e s ending
+ExplainsBy (Some word) e s ending = ExplainsDumpTo e s ending
+
+abbrev pub ExplainsInput : Explained → Streams → Ending → Type 0
+ExplainsInput e s ending = ExplainsBy e.from e s ending
 
 -- the ending tells that the file of this name can't be opened
 abbrev pub IsUnopened : List ℕ → Ending → Type 0
@@ -159,23 +176,23 @@ IsUnopened name (Faulted fault) = ⊥
 
 -- What became of a file: it can't be opened, or there was no memory to tell so, and nothing was
 -- written; or what it holds was explained, where that is known.
-abbrev pub ExplainsFile : List ℕ → Known → Form → Bool → Style → ℕ → Known → Known → Ending → Type 0
-ExplainsFile name held form dumped style max old new ending =
-    (IsUnopened name ending × Keeps old new) ⊎ ((ending ≡ Faulted NoMemory) × Keeps old new)
+abbrev pub ExplainsFile : List ℕ → Known → Explained → Known → Known → Ending → Type 0
+ExplainsFile name held e before after ending =
+    (IsUnopened name ending × Keeps before after)
+    ⊎ ((ending ≡ Faulted NoMemory) × Keeps before after)
     ⊎ ((content : List ℕ) → held ≡ Some content
-    → (rest : Known) × ExplainsAs form dumped style max content rest old new ending)
+    → (rest : Known) × ExplainsInput e (streams content rest before after) ending)
 
 -- standard input was explained, or a file, and then standard input wasn't read; of each name `held`
 -- says what the file holds
-abbrev pub ExplainsFrom : (List ℕ → Known) → Option (Bor (List ℕ)) → Form → Bool → Style → ℕ → List ℕ
-    → Known → Known → Known → Ending → Type 0
-ExplainsFrom held None form dumped style max input left old new ending =
-    ExplainsAs form dumped style max input left old new ending
-ExplainsFrom held (Some name) form dumped style max input left old new ending =
-    (left ≡ Some input) × ExplainsFile name.now (held name.now) form dumped style max old new ending
+abbrev pub ExplainsFrom : (List ℕ → Known) → Option (Bor (List ℕ)) → Explained → Streams → Ending
+    → Type 0
+ExplainsFrom held None e s ending = ExplainsInput e s ending
+ExplainsFrom held (Some name) e s ending =
+    (s.left ≡ Some s.input) × ExplainsFile name.now (held name.now) e s.before s.after ending
 
--- whether the word for what the input comes from is none that is known, or stands beside bytes as they
--- are
+-- whether the word for what the input comes from is none that is known, or stands beside bytes as
+-- they are
 abbrev pub is_misused : Form → Option (Bor (List ℕ)) → Bool
 is_misused form None = false
 is_misused Raw (Some word) = true
@@ -187,26 +204,22 @@ UnlessMisused true Refused Explained ending = (is_refusal ending ≡ true) × Re
 UnlessMisused false Refused Explained ending = Explained ending
 
 -- `explain` with its options
-abbrev pub ExplainsAsked : (List ℕ → Known) → Form → Option (Bor (List ℕ)) → Style → ℕ
-    → Option (Bor (List ℕ)) → List ℕ → Known → Known → Known → Ending → Type 0
-ExplainsAsked held form from style max file input left old new ending =
-    UnlessMisused (is_misused form from) (λ e. (left ≡ Some input) × Keeps old new)
-    (λ e. ExplainsFrom held file form (is_some from) style max input left old new e) ending
+abbrev pub ExplainsAsked : (List ℕ → Known) → Explained → Streams → Ending → Type 0
+ExplainsAsked held e s ending =
+    UnlessMisused (is_misused e.form e.from) (λ ended. Untouched s)
+    (λ ended. ExplainsFrom held e.file e s ended) ending
 
 -- what the words name was explained with the options that they give, or there was no memory for
 -- the words
-abbrev pub ExplainsOrNoMemory : (List ℕ → Known) → List Text → List ℕ → Known → Known → Known
-    → Ending → Type 0
-ExplainsOrNoMemory held words input left old new ending =
-    ((ending ≡ Faulted NoMemory) × (left ≡ Some input) × Appends old new [])
-    ⊎ ((form : Form) × (from : Option (Bor (List ℕ))) × (style : Style) × (max : ℕ)
-    × (file : Option (Bor (List ℕ)))
-    × HasOptions (option_in words) (text_in words) (Explain form from style max file)
-    × ExplainsAsked held form from style max file input left old new ending)
+abbrev pub ExplainsOrNoMemory : (List ℕ → Known) → List Text → Streams → Ending → Type 0
+ExplainsOrNoMemory held words s ending =
+    ((ending ≡ Faulted NoMemory) × (s.left ≡ Some s.input) × Appends s.before s.after [])
+    ⊎ ((e : Explained) × HasExplain (option_in words) (text_in words) e
+    × ExplainsAsked held e s ending)
 
 -- the name of the file that a command reads in place of standard input
 abbrev pub file_named : Command → Option (List ℕ)
-file_named (Explain form from style max file) = option_map (λ name. name.now) file
+file_named (Explain explained) = option_map (λ name. name.now) explained.file
 file_named (Simulate config view) = None
 file_named (Pair config view) = None
 file_named (Station served) = None
@@ -224,7 +237,7 @@ shown_of (Unopened name why) = None
 shown_of (Faulted fault) = None
 
 abbrev pub CanRun : Command → Type 0
-CanRun (Explain form from style max file) = (1 ≤ max) × (max ≤ MAX_COUNT)
+CanRun (Explain explained) = (1 ≤ explained.max) × (explained.max ≤ MAX_COUNT)
 CanRun (Simulate config view) = first_refusal config ≡ None
 CanRun (Pair config view) = first_refusal config ≡ None
 CanRun (Station served) = ⊤
@@ -233,36 +246,36 @@ CanRun (Link linked) = ⊤
 
 -- A script was played between two new ends of these sizes, over a carrier that is direct or not,
 -- and the ending tells the answer; or there was no memory for the ends.
-abbrev pub PlaysBetween : Bool → Config → Bool → List ℕ → Known → Known → Known → Ending → Type 0
-PlaysBetween is_direct config counted input left old new ending =
-    ((ending ≡ Faulted NoMemory) × (left ≡ Some input) × Appends old new [])
+abbrev pub PlaysBetween : Bool → Config → Bool → Streams → Ending → Type 0
+PlaysBetween is_direct config counted s ending =
+    ((ending ≡ Faulted NoMemory) × (s.left ≡ Some s.input) × Appends s.before s.after [])
     ⊎ ((result : Result (Unit {0}) ScriptFault) × (after : PairState)
     × (ending ≡ ending_of script_fault result)
-    × Plays counted input (around (new_pair config config) after is_direct None None)
-    (Appends old new) (AppendsPart old new) result)
+    × Plays counted s.input (around (new_pair config config) after is_direct None None)
+    (Appends s.before s.after) (AppendsPart s.before s.after) result)
 
 -- A script was played over a line that gives what goes in and doesn't fail.
-abbrev pub Simulates : Config → Bool → List ℕ → Known → Known → Known → Ending → Type 0
-Simulates config counted input left old new ending =
-    PlaysBetween true config counted input left old new ending × (ending ≢ Faulted Carrier)
+abbrev pub Simulates : Config → Bool → Streams → Ending → Type 0
+Simulates config counted s ending =
+    PlaysBetween true config counted s ending × (ending ≢ Faulted Carrier)
 
 -- A script was played over a connection, or that couldn't be made. What a connection gives isn't
 -- known.
-abbrev pub Pairs : Config → Bool → List ℕ → Known → Known → Known → Ending → Type 0
-Pairs config counted input left old new ending =
-    ((ending ≡ Faulted Carrier) × (left ≡ Some input) × Appends old new [])
-    ⊎ PlaysBetween false config counted input left old new ending
+abbrev pub Pairs : Config → Bool → Streams → Ending → Type 0
+Pairs config counted s ending =
+    ((ending ≡ Faulted Carrier) × (s.left ≡ Some s.input) × Appends s.before s.after [])
+    ⊎ PlaysBetween false config counted s ending
 
--- What is said of a run, by how it is to be shown: both pictures at once are refused; of one picture
--- nothing is said here; and where none is asked for, the text is written.
+-- What is said of a run, by how it is to be shown: both pictures at once are refused; of one
+-- picture nothing is said here; and where none is asked for, the text is written.
 abbrev pub ShowsRun : Bool → Bool → (Ending → Type 0) → (Ending → Type 0) → Ending → Type 0
 ShowsRun true true Refused Written ending = (is_refusal ending ≡ true) × Refused ending
 ShowsRun true false Refused Written ending = ⊤
 ShowsRun false true Refused Written ending = ⊤
 ShowsRun false false Refused Written ending = Written ending
 
--- A station was served over a connection, of which this comes where that is known, with this message
--- to send, and the ending tells the answer. Where there was no memory nothing was written.
+-- A station was served over a connection, of which this comes where that is known, with this
+-- message to send, and the ending tells the answer. Where there was no memory nothing was written.
 pub record ServesOver (gives : Known) (served : Served) (message : List ℕ) (old new : Known)
     (ending : Ending) : Type 0 where
   pub answer : Result (Unit {0}) ServeFault
@@ -326,21 +339,19 @@ TapsOrNoMemory words old new ending =
 
 -- A command was run, and the ending tells its answer. Of each name `held` says what the file holds,
 -- and `peers` what is known of connections.
-abbrev pub Performs : (List ℕ → Known) → Peers → Command → List ℕ → Known → Known → Known → Ending
-    → Type 0
-Performs held peers (Explain form from style max file) input left old new ending =
-    ExplainsAsked held form from style max file input left old new ending
-Performs held peers (Simulate config view) input left old new ending =
-    ShowsRun view.svg view.ladder (λ e. (left ≡ Some input) × Keeps old new)
-    (λ e. Simulates config view.counters input left old new e) ending
-Performs held peers (Pair config view) input left old new ending =
-    ShowsRun view.svg view.ladder (λ e. (left ≡ Some input) × Keeps old new)
-    (λ e. Pairs config view.counters input left old new e) ending
-Performs held peers (Station served) input left old new ending =
-    (left ≡ Some input) × Stations peers served old new ending
-Performs held peers (Tap tapped) input left old new ending =
-    (left ≡ Some input) × TapsAsked tapped old new ending
-Performs held peers (Link linked) input left old new ending = IsLinkEnding ending
+abbrev pub Performs : (List ℕ → Known) → Peers → Command → Streams → Ending → Type 0
+Performs held peers (Explain explained) s ending = ExplainsAsked held explained s ending
+Performs held peers (Simulate config view) s ending =
+    ShowsRun view.svg view.ladder (λ e. Untouched s)
+    (λ e. Simulates config view.counters s e) ending
+Performs held peers (Pair config view) s ending =
+    ShowsRun view.svg view.ladder (λ e. Untouched s)
+    (λ e. Pairs config view.counters s e) ending
+Performs held peers (Station served) s ending =
+    (s.left ≡ Some s.input) × Stations peers served s.before s.after ending
+Performs held peers (Tap tapped) s ending =
+    (s.left ≡ Some s.input) × TapsAsked tapped s.before s.after ending
+Performs held peers (Link linked) s ending = IsLinkEnding ending
 
 -- a text was written whole, or a write failed
 abbrev pub Shows : List ℕ → Known → Known → Ending → Type 0
@@ -349,10 +360,11 @@ Shows text old new ending =
 
 -- What became of words that were read: `before` and `left` are what the source had and has left,
 -- old and new what the sink held and holds. Only a command reads, and usage writes nothing here.
-abbrev pub Answers : (List ℕ → Known) → Peers → Result Command Declined → Known → Known → Known → Known
-    → Ending → Type 0
+abbrev pub Answers : (List ℕ → Known) → Peers → Result Command Declined → Known → Known → Known
+    → Known → Ending → Type 0
 Answers held peers (Ok command) before left old new ending =
-    (input : List ℕ) → before ≡ Some input → Performs held peers command input left old new ending
+    (input : List ℕ) → before ≡ Some input
+    → Performs held peers command (streams input left old new) ending
 Answers held peers (Err (Help text)) before left old new ending =
     (left ≡ before) × Shows (string_bytes text) old new ending
 Answers held peers (Err (Version text)) before left old new ending =
@@ -363,7 +375,8 @@ Answers held peers (Err Memory) before left old new ending =
     (left ≡ before) × Keeps old new × (ending ≡ Faulted NoMemory)
 
 -- the ending that words come to, whatever they are
-abbrev pub Ends : (List ℕ → Known) → Peers → List Text → Known → Known → Known → Known → Ending → Type 0
+abbrev pub Ends : (List ℕ → Known) → Peers → List Text → Known → Known → Known → Known → Ending
+    → Type 0
 Ends held peers words before left old new ending =
     (read : Result Command Declined) × Reads words read
     × Answers held peers read before left old new ending

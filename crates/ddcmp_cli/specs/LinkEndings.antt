@@ -4,8 +4,8 @@ use Rattle.ddcmp_cli.specs.declared.fault.Fault.TheVariants.{Odd, NotHex, Dump, 
 use Rattle.ddcmp_cli.specs.declared.ending.Ending.{Ending}
 use Rattle.ddcmp_cli.specs.declared.ending.Ending.TheVariants.{Done, SomeRefused, NoLine, Unopened, Usage, NotText, Fault as Faulted}
 
--- All was delivered, or all that was a message; the line isn't one, or can't be opened, or has ended;
--- standard input or output failed; or memory was refused.
+-- All was delivered, or all that was a message; the line isn't one, or can't be opened, or has
+-- ended; standard input or output failed; or memory was refused.
 abbrev pub IsLinkEnding : Ending → Type 0
 IsLinkEnding Done = ⊤
 IsLinkEnding SomeRefused = ⊤
@@ -19,7 +19,7 @@ IsLinkEnding (Unopened name why) = ⊥
 IsLinkEnding NotText = ⊥
 IsLinkEnding (Faulted Odd) = ⊥
 IsLinkEnding (Faulted (NotHex index)) = ⊥
-IsLinkEnding (Faulted (Dump fault)) = ⊥
+IsLinkEnding (Faulted (Dump line)) = ⊥
 IsLinkEnding (Faulted (Line line)) = ⊥
 IsLinkEnding (Faulted (Hex line)) = ⊥
 IsLinkEnding (Faulted Message) = ⊥

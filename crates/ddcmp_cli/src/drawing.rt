@@ -1,9 +1,8 @@
 //! Showing a run between two ends: as text, or as a picture.
 ghost use Rattle.std.specs.Prelude.{◌≡◌, ◌≢◌, ◌⊎◌, ◌↔◌, false, true, None, Some, IsTrue, List, ℕ};
-ghost use Rattle.std.specs.Io.KnownBytes.{Keeps};
 ghost use Rattle.ddcmp_io.specs.Input.{GaveMost};
 ghost use Rattle.ddcmp_station.specs.Config.{first_refusal};
-ghost use Rattle.ddcmp_cli.specs.Endings.{is_refusal, Pairs, ShowsRun, Simulates};
+ghost use Rattle.ddcmp_cli.specs.Endings.{is_refusal, Pairs, ShowsRun, Simulates, Untouched, streams};
 
 use crate::ending::Ending;
 use crate::fault::Fault;
@@ -75,10 +74,11 @@ pub(crate) fn show_simulation<R: Source, W: Sink>(
     requires whole { W.broken writer.old ≡ false }
     requires sizes { first_refusal config ≡ None }
     ensures shows { (input : List ℕ) → R.left reader.old ≡ Some input
-        → ShowsRun view.svg view.ladder (λ e. (R.left reader.new ≡ Some input)
-        × Keeps (W.contents writer.old) (W.contents writer.new))
-        (λ e. Simulates config view.counters input (R.left reader.new) (W.contents writer.old)
-        (W.contents writer.new) e) result }
+        → ShowsRun view.svg view.ladder
+        (λ e. Untouched (streams input (R.left reader.new) (W.contents writer.old)
+        (W.contents writer.new)))
+        (λ e. Simulates config view.counters (streams input (R.left reader.new)
+        (W.contents writer.old) (W.contents writer.new)) e) result }
     ensures read { R.state reader.new ≢ Worst.Fine → result ≡ Ending.Fault Fault.Read }
     ensures read_only { result ≡ Ending.Fault Fault.Read → (R.state reader.new ≢ Worst.Fine)
         ⊎ GaveMost (R.left reader.old) (R.left reader.new) }
@@ -154,10 +154,11 @@ pub(crate) fn show_pair<N: Net<Stream = TcpStream>, R: Source, W: Sink>(
     requires whole { W.broken writer.old ≡ false }
     requires sizes { first_refusal config ≡ None }
     ensures shows { (input : List ℕ) → R.left reader.old ≡ Some input
-        → ShowsRun view.svg view.ladder (λ e. (R.left reader.new ≡ Some input)
-        × Keeps (W.contents writer.old) (W.contents writer.new))
-        (λ e. Pairs config view.counters input (R.left reader.new) (W.contents writer.old)
-        (W.contents writer.new) e) result }
+        → ShowsRun view.svg view.ladder
+        (λ e. Untouched (streams input (R.left reader.new) (W.contents writer.old)
+        (W.contents writer.new)))
+        (λ e. Pairs config view.counters (streams input (R.left reader.new)
+        (W.contents writer.old) (W.contents writer.new)) e) result }
     ensures read { R.state reader.new ≢ Worst.Fine → result ≡ Ending.Fault Fault.Read }
     ensures read_only { result ≡ Ending.Fault Fault.Read → (R.state reader.new ≢ Worst.Fine)
         ⊎ GaveMost (R.left reader.old) (R.left reader.new) }

@@ -2,17 +2,18 @@
 ghost use Rattle.std.specs.Prelude.{◌≡◌, ◌≢◌, ◌⊎◌, ◌↔◌, ◌≤◌, false, true, IsTrue, List, ℕ, None, Some};
 ghost use Rattle.ddcmp_core.specs.Limits.{MAX_COUNT};
 ghost use Rattle.ddcmp_io.specs.Input.{GaveMost};
-ghost use Rattle.ddcmp_cli.specs.Endings.{ExplainsAs, ExplainsAsked, ExplainsDumpTo, ExplainsFile};
-ghost use Rattle.ddcmp_cli.specs.Endings.{ExplainsFrom};
+ghost use Rattle.ddcmp_cli.specs.Endings.{ExplainsAsked, ExplainsDumpTo, ExplainsFile, ExplainsFrom};
+ghost use Rattle.ddcmp_cli.specs.Endings.{ExplainsInput, ExplainsTo, streams};
 ghost use Rattle.std.specs.Option.{option_map};
-ghost use Rattle.ddcmp_cli.specs.Endings.{ExplainsTo, is_misused as is_misused_by, is_refusal};
+ghost use Rattle.ddcmp_cli.specs.Endings.{is_misused as is_misused_by, is_refusal};
 
 use crate::ending::Ending;
 use crate::fault::Fault;
 use crate::inputs::Inputs;
 use crate::stationing::usage;
-use ddcmp_explain::{Form, Style, explain_dump, explain_with};
+use ddcmp_explain::{Form, explain_dump, explain_with};
 use ddcmp_io::{Sink, Source, Worst};
+use ddcmp_words::Explained;
 use std::alloc::Global;
 
 /// What is told where `--raw` stands beside `--from`.
@@ -30,35 +31,33 @@ For more information, try '--help'.
 ";
 
 /// What is typed at a terminal.
-fn typed(form: Form, dumped: bool) -> &'static str {
-    match form {
-        Form::Hex if dumped => "a dump",
-        Form::Hex => "hexadecimal digits",
-        Form::Raw => "bytes",
+fn typed(explained: &Explained<'_>) -> &'static str {
+    match (explained.from, explained.form) {
+        (Some(_dump), _) => "a dump",
+        (None, Form::Hex) => "hexadecimal digits",
+        (None, Form::Raw) => "bytes",
     }
 }
 
 /// Explains a dump.
 fn explain_dumped<R: Source, W: Sink>(
     alloc: Global,
-    style: Style,
-    max: u16,
+    explained: &Explained<'_>,
     reader: &mut R,
     writer: &mut W,
 ) -> Ending
     requires fine { R.state reader.old ≡ Worst.Fine }
     requires whole { W.broken writer.old ≡ false }
-    requires low { 1 ≤ max }
-    requires high { max ≤ MAX_COUNT }
+    requires max { (1 ≤ explained.now.max) × (explained.now.max ≤ MAX_COUNT) }
     ensures explains { (input : List ℕ) → R.left reader.old ≡ Some input
-        → ExplainsDumpTo style max input (R.left reader.new) (W.contents writer.old)
-        (W.contents writer.new) result }
+        → ExplainsDumpTo explained.now (streams input (R.left reader.new) (W.contents writer.old)
+        (W.contents writer.new)) result }
     ensures read { R.state reader.new ≢ Worst.Fine → result ≡ Ending.Fault Fault.Read }
     ensures read_only { result ≡ Ending.Fault Fault.Read → (R.state reader.new ≢ Worst.Fine)
         ⊎ GaveMost (R.left reader.old) (R.left reader.new) }
     ensures write { (result ≡ Ending.Fault Fault.Write) ↔ IsTrue (W.broken writer.new) }
 {
-    match explain_dump(alloc, reader, writer, style, max) {
+    match explain_dump(alloc, reader, writer, explained.style, explained.max) {
         Ok(()) => Ending::Done,
         Err(fault) => Ending::Fault(Fault::from(fault)),
     }
@@ -67,24 +66,27 @@ fn explain_dumped<R: Source, W: Sink>(
 /// Explains digits, or bytes as they are.
 fn explain_spelled<R: Source, W: Sink>(
     alloc: Global,
-    form: Form,
-    style: Style,
-    max: u16,
+    explained: &Explained<'_>,
     reader: &mut R,
     writer: &mut W,
 ) -> Ending
     requires fine { R.state reader.old ≡ Worst.Fine }
     requires whole { W.broken writer.old ≡ false }
-    requires low { 1 ≤ max }
-    requires high { max ≤ MAX_COUNT }
+    requires max { (1 ≤ explained.now.max) × (explained.now.max ≤ MAX_COUNT) }
     ensures explains { (input : List ℕ) → R.left reader.old ≡ Some input
-        → ExplainsTo form style max input (R.left reader.new) (W.contents writer.old)
-        (W.contents writer.new) result }
+        → ExplainsTo explained.now (streams input (R.left reader.new) (W.contents writer.old)
+        (W.contents writer.new)) result }
     ensures read { R.state reader.new ≢ Worst.Fine → result ≡ Ending.Fault Fault.Read }
     ensures read_only { result ≡ Ending.Fault Fault.Read → (R.state reader.new ≢ Worst.Fine)
         ⊎ GaveMost (R.left reader.old) (R.left reader.new) }
     ensures write { (result ≡ Ending.Fault Fault.Write) ↔ IsTrue (W.broken writer.new) }
 {
+    let Explained {
+        form,
+        style,
+        max,
+        ..
+    } = *explained;
     match explain_with(alloc, reader, writer, form, style, max) {
         Ok(()) => Ending::Done,
         Err(fault) => Ending::Fault(Fault::from(fault)),
@@ -94,56 +96,25 @@ fn explain_spelled<R: Source, W: Sink>(
 /// Explains a source.
 fn explain_source<R: Source, W: Sink>(
     alloc: Global,
-    form: Form,
-    dumped: bool,
-    style: Style,
-    max: u16,
+    explained: &Explained<'_>,
     reader: &mut R,
     writer: &mut W,
 ) -> Ending
     requires fine { R.state reader.old ≡ Worst.Fine }
     requires whole { W.broken writer.old ≡ false }
-    requires low { 1 ≤ max }
-    requires high { max ≤ MAX_COUNT }
+    requires max { (1 ≤ explained.now.max) × (explained.now.max ≤ MAX_COUNT) }
     ensures explains { (input : List ℕ) → R.left reader.old ≡ Some input
-        → ExplainsAs form dumped style max input (R.left reader.new) (W.contents writer.old)
-        (W.contents writer.new) result }
+        → ExplainsInput explained.now (streams input (R.left reader.new) (W.contents writer.old)
+        (W.contents writer.new)) result }
     ensures read { R.state reader.new ≢ Worst.Fine → result ≡ Ending.Fault Fault.Read }
     ensures read_only { result ≡ Ending.Fault Fault.Read → (R.state reader.new ≢ Worst.Fine)
         ⊎ GaveMost (R.left reader.old) (R.left reader.new) }
     ensures write { (result ≡ Ending.Fault Fault.Write) ↔ IsTrue (W.broken writer.new) }
 {
-    match dumped {
-        true => explain_dumped(alloc, style, max, reader, writer),
-        false => explain_spelled(alloc, form, style, max, reader, writer),
+    match explained.from {
+        Some(_dump) => explain_dumped(alloc, explained, reader, writer),
+        None => explain_spelled(alloc, explained, reader, writer),
     }
-}
-
-/// Explains standard input. Who types it is told what is read.
-fn explain_typed<I: Inputs, R: Source, W: Sink>(
-    inputs: &I,
-    alloc: Global,
-    form: Form,
-    dumped: bool,
-    style: Style,
-    max: u16,
-    reader: &mut R,
-    writer: &mut W,
-) -> Ending
-    requires fine { R.state reader.old ≡ Worst.Fine }
-    requires whole { W.broken writer.old ≡ false }
-    requires low { 1 ≤ max }
-    requires high { max ≤ MAX_COUNT }
-    ensures explains { (input : List ℕ) → R.left reader.old ≡ Some input
-        → ExplainsAs form dumped style max input (R.left reader.new) (W.contents writer.old)
-        (W.contents writer.new) result }
-    ensures read { R.state reader.new ≢ Worst.Fine → result ≡ Ending.Fault Fault.Read }
-    ensures read_only { result ≡ Ending.Fault Fault.Read → (R.state reader.new ≢ Worst.Fine)
-        ⊎ GaveMost (R.left reader.old) (R.left reader.new) }
-    ensures write { (result ≡ Ending.Fault Fault.Write) ↔ IsTrue (W.broken writer.new) }
-{
-    inputs.await_typing(typed(form, dumped));
-    explain_source(alloc, form, dumped, style, max, reader, writer)
 }
 
 /// Explains a file, which is opened first.
@@ -151,21 +122,17 @@ fn explain_file<I: Inputs, W: Sink>(
     inputs: &I,
     alloc: Global,
     name: &str,
-    form: Form,
-    dumped: bool,
-    style: Style,
-    max: u16,
+    explained: &Explained<'_>,
     writer: &mut W,
 ) -> Ending
     requires whole { W.broken writer.old ≡ false }
-    requires low { 1 ≤ max }
-    requires high { max ≤ MAX_COUNT }
-    ensures explains { ExplainsFile name.now (I.held inputs.now name.now) form dumped style max
+    requires max { (1 ≤ explained.now.max) × (explained.now.max ≤ MAX_COUNT) }
+    ensures explains { ExplainsFile name.now (I.held inputs.now name.now) explained.now
         (W.contents writer.old) (W.contents writer.new) result }
     ensures write { (result ≡ Ending.Fault Fault.Write) ↔ IsTrue (W.broken writer.new) }
 {
     match inputs.open(name) {
-        Ok(mut opened) => explain_source(alloc, form, dumped, style, max, &mut opened, writer),
+        Ok(mut opened) => explain_source(alloc, explained, &mut opened, writer),
         Err(why) => match String::from_str(alloc, name) {
             Ok(name) => Ending::Unopened(name, why),
             Err(_refused) => Ending::Fault(Fault::Memory),
@@ -195,36 +162,35 @@ fn misuse(form: Form) -> &'static str {
     }
 }
 
-/// Explains a file, or standard input where there is none.
+/// Explains a file, or standard input where there is none. Who types it is told what is read.
 fn explain_named<I: Inputs, R: Source, W: Sink>(
     inputs: &I,
     alloc: Global,
-    form: Form,
-    dumped: bool,
-    style: Style,
-    max: u16,
-    file: Option<&str>,
+    explained: &Explained<'_>,
     reader: &mut R,
     writer: &mut W,
 ) -> Ending
     requires fine { R.state reader.old ≡ Worst.Fine }
     requires whole { W.broken writer.old ≡ false }
-    requires low { 1 ≤ max }
-    requires high { max ≤ MAX_COUNT }
+    requires max { (1 ≤ explained.now.max) × (explained.now.max ≤ MAX_COUNT) }
     ensures explains { (input : List ℕ) → R.left reader.old ≡ Some input
-        → ExplainsFrom (I.held inputs.now) file.entry form dumped style max input
-        (R.left reader.new) (W.contents writer.old) (W.contents writer.new) result }
+        → ExplainsFrom (I.held inputs.now) explained.now.file explained.now
+        (streams input (R.left reader.new) (W.contents writer.old) (W.contents writer.new))
+        result }
     ensures read { R.state reader.new ≢ Worst.Fine → result ≡ Ending.Fault Fault.Read }
-    ensures read_only { option_map (λ name. name.now) file.entry ≡ None
+    ensures read_only { option_map (λ name. name.now) explained.now.file ≡ None
         → result ≡ Ending.Fault Fault.Read → (R.state reader.new ≢ Worst.Fine)
         ⊎ GaveMost (R.left reader.old) (R.left reader.new) }
     ensures write { (result ≡ Ending.Fault Fault.Write) ↔ IsTrue (W.broken writer.new) }
-    ensures untouched { option_map (λ name. name.now) file.entry ≢ None
+    ensures untouched { option_map (λ name. name.now) explained.now.file ≢ None
         → reader.new ≡ reader.old }
 {
-    match file {
-        None => explain_typed(inputs, alloc, form, dumped, style, max, reader, writer),
-        Some(name) => explain_file(inputs, alloc, name, form, dumped, style, max, writer),
+    match explained.file {
+        None => {
+            inputs.await_typing(typed(explained));
+            explain_source(alloc, explained, reader, writer)
+        }
+        Some(name) => explain_file(inputs, alloc, name, explained, writer),
     }
 }
 
@@ -232,34 +198,26 @@ fn explain_named<I: Inputs, R: Source, W: Sink>(
 pub(crate) fn explain_asked<I: Inputs, R: Source, W: Sink>(
     inputs: &I,
     alloc: Global,
-    form: Form,
-    from: Option<&str>,
-    style: Style,
-    max: u16,
-    file: Option<&str>,
+    explained: &Explained<'_>,
     reader: &mut R,
     writer: &mut W,
 ) -> Ending
     requires fine { R.state reader.old ≡ Worst.Fine }
     requires whole { W.broken writer.old ≡ false }
-    requires low { 1 ≤ max }
-    requires high { max ≤ MAX_COUNT }
+    requires max { (1 ≤ explained.now.max) × (explained.now.max ≤ MAX_COUNT) }
     ensures explains { (input : List ℕ) → R.left reader.old ≡ Some input
-        → ExplainsAsked (I.held inputs.now) form from.entry style max file.entry input
-        (R.left reader.new) (W.contents writer.old) (W.contents writer.new) result }
+        → ExplainsAsked (I.held inputs.now) explained.now (streams input (R.left reader.new)
+        (W.contents writer.old) (W.contents writer.new)) result }
     ensures read { R.state reader.new ≢ Worst.Fine → result ≡ Ending.Fault Fault.Read }
-    ensures read_only { option_map (λ name. name.now) file.entry ≡ None
+    ensures read_only { option_map (λ name. name.now) explained.now.file ≡ None
         → result ≡ Ending.Fault Fault.Read → (R.state reader.new ≢ Worst.Fine)
         ⊎ GaveMost (R.left reader.old) (R.left reader.new) }
     ensures write { (result ≡ Ending.Fault Fault.Write) ↔ IsTrue (W.broken writer.new) }
-    ensures untouched { option_map (λ name. name.now) file.entry ≢ None
+    ensures untouched { option_map (λ name. name.now) explained.now.file ≢ None
         → reader.new ≡ reader.old }
 {
-    if is_misused(form, from) {
-        return usage(alloc, misuse(form));
+    if is_misused(explained.form, explained.from) {
+        return usage(alloc, misuse(explained.form));
     }
-    let dumped = from.is_some();
-    explain_named(
-        inputs, alloc, form, dumped, style, max, file, reader, writer,
-    )
+    explain_named(inputs, alloc, explained, reader, writer)
 }

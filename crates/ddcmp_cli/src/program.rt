@@ -5,7 +5,7 @@ ghost use Rattle.std.specs.IoError.{error_kind};
 ghost use Rattle.ddcmp_io.specs.Input.{GaveMost};
 ghost use Rattle.ddcmp_words.specs.Words.{IsOutOfOrder, IsAsked, Asks, file_of, name_of, text_in};
 ghost use Rattle.ddcmp_words.specs.declared.served.Served.{Served as ServedValue};
-ghost use Rattle.ddcmp_cli.specs.Endings.{CanRun, Ends, ExplainsOrNoMemory, Performs, Shows};
+ghost use Rattle.ddcmp_cli.specs.Endings.{CanRun, Ends, ExplainsOrNoMemory, Performs, Shows, streams};
 ghost use Rattle.ddcmp_words.specs.declared.tapped.Tapped.{Tapped as TappedValue};
 ghost use Rattle.ddcmp_cli.specs.Endings.{file_named, is_refusal, Stations, StationsOrNoMemory};
 ghost use Rattle.ddcmp_cli.specs.Endings.{TapsAsked, TapsOrNoMemory};
@@ -42,8 +42,8 @@ fn perform<
     requires whole { W.broken writer.old ≡ false }
     requires runs { CanRun command }
     ensures performs { (input : List ℕ) → R.left reader.old ≡ Some input
-        → Performs (S.held system.now) (S.peers system.now) command.entry input (R.left reader.new)
-        (W.contents writer.old) (W.contents writer.new) result }
+        → Performs (S.held system.now) (S.peers system.now) command.entry (streams input
+        (R.left reader.new) (W.contents writer.old) (W.contents writer.new)) result }
     ensures read { name_of command.entry ≢ codes "link"
         → R.state reader.new ≢ Worst.Fine → result ≡ Ending.Fault Fault.Read }
     ensures read_only { name_of command.entry ≢ codes "station"
@@ -58,7 +58,8 @@ fn perform<
     ensures untouched { file_named command.entry ≢ None → reader.new ≡ reader.old }
     ensures stations { (served : ServedValue) → command.entry ≡ Command.Station served
         → (reader.new ≡ reader.old)
-        × Stations (S.peers system.now) served (W.contents writer.old) (W.contents writer.new) result }
+        × Stations (S.peers system.now) served (W.contents writer.old) (W.contents writer.new)
+        result }
     ensures taps { (tapped : TappedValue) → command.entry ≡ Command.Tap tapped
         → (reader.new ≡ reader.old)
         × TapsAsked tapped (W.contents writer.old) (W.contents writer.new) result
@@ -67,13 +68,7 @@ fn perform<
         → IsLinkEnding result }
 {
     match command {
-        Command::Explain {
-            form,
-            from,
-            style,
-            max,
-            file,
-        } => explain_asked(system, alloc, form, from, style, max, file, reader, writer),
+        Command::Explain(explained) => { explain_asked(system, alloc, &explained, reader, writer) }
         Command::Simulate(config, view) => show_simulation(alloc, config, view, reader, writer),
         Command::Pair(config, view) => show_pair(system, alloc, config, view, reader, writer),
         Command::Station(served) => station(system, alloc, &served, writer),
@@ -105,8 +100,8 @@ pub fn run<
     requires whole { W.broken writer.old ≡ false }
     ensures explains { (input : List ℕ) → R.left reader.old ≡ Some input
         → IsAsked (map (λ word. word.now) words.now) (codes "explain")
-        → ExplainsOrNoMemory (S.held system.now) (map (λ word. word.now) words.now) input
-        (R.left reader.new) (W.contents writer.old) (W.contents writer.new) result }
+        → ExplainsOrNoMemory (S.held system.now) (map (λ word. word.now) words.now) (streams input
+        (R.left reader.new) (W.contents writer.old) (W.contents writer.new)) result }
     ensures ends { Ends (S.held system.now) (S.peers system.now) (map (λ word. word.now) words.now)
         (R.left reader.old) (R.left reader.new) (W.contents writer.old) (W.contents writer.new)
         result }
@@ -129,8 +124,8 @@ pub fn run<
         → reader.new ≡ reader.old }
     ensures stations { IsAsked (map (λ word. word.now) words.now) (codes "station")
         → (reader.new ≡ reader.old)
-        × StationsOrNoMemory (S.peers system.now) (map (λ word. word.now) words.now) (W.contents writer.old)
-        (W.contents writer.new) result }
+        × StationsOrNoMemory (S.peers system.now) (map (λ word. word.now) words.now)
+        (W.contents writer.old) (W.contents writer.new) result }
     ensures taps { IsAsked (map (λ word. word.now) words.now) (codes "tap")
         → (reader.new ≡ reader.old)
         × TapsOrNoMemory (map (λ word. word.now) words.now) (W.contents writer.old)
@@ -175,10 +170,10 @@ pub fn run_args<
     requires whole { W.broken writer.old ≡ false }
     ensures explains { (input : List ℕ) → R.left reader.old ≡ Some input
         → IfOk args (λ words. IsAsked (map string_bytes words.items) (codes "explain")
-        → ExplainsOrNoMemory (S.held system.now) (map string_bytes words.items) input
-        (R.left reader.new) (W.contents writer.old) (W.contents writer.new) result) }
-    ensures ends { IfOk args (λ words. Ends (S.held system.now) (S.peers system.now) (map string_bytes words.items)
-        (R.left reader.old) (R.left reader.new) (W.contents writer.old) (W.contents writer.new)
+        → ExplainsOrNoMemory (S.held system.now) (map string_bytes words.items) (streams input
+        (R.left reader.new) (W.contents writer.old) (W.contents writer.new)) result) }
+    ensures ends { IfOk args (λ words. Ends (S.held system.now) (S.peers system.now)
+        (map string_bytes words.items) (R.left reader.old) (R.left reader.new) (W.contents writer.old) (W.contents writer.new)
         result) }
     ensures refused { IfOk args (λ words. IsOutOfOrder (map string_bytes words.items)
         → IsTrue (is_refusal result) × (reader.new ≡ reader.old) × (writer.new ≡ writer.old)) }
@@ -195,7 +190,8 @@ pub fn run_args<
         × IsOk args → ⊥)
         → (IfOk args (λ words. Asks (map string_bytes words.items) (codes "link"))
         × IsOk args → ⊥)
-        → IfOk args (λ words. file_of (text_in (map string_bytes words.items) (codes "file")) ≡ None)
+        → IfOk args (λ words. file_of (text_in (map string_bytes words.items) (codes "file"))
+        ≡ None)
         → result ≡ Ending.Fault Fault.Read → (R.state reader.new ≢ Worst.Fine)
         ⊎ GaveMost (R.left reader.old) (R.left reader.new) }
     ensures write { (IfOk args (λ words. Asks (map string_bytes words.items) (codes "station"))
@@ -208,8 +204,8 @@ pub fn run_args<
         → reader.new ≡ reader.old) }
     ensures stations { IfOk args (λ words. IsAsked (map string_bytes words.items) (codes "station")
         → (reader.new ≡ reader.old)
-        × StationsOrNoMemory (S.peers system.now) (map string_bytes words.items) (W.contents writer.old)
-        (W.contents writer.new) result) }
+        × StationsOrNoMemory (S.peers system.now) (map string_bytes words.items)
+        (W.contents writer.old) (W.contents writer.new) result) }
     ensures taps { IfOk args (λ words. IsAsked (map string_bytes words.items) (codes "tap")
         → (reader.new ≡ reader.old)
         × TapsOrNoMemory (map string_bytes words.items) (W.contents writer.old)

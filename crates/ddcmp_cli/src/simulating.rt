@@ -2,7 +2,7 @@
 ghost use Rattle.std.specs.Prelude.{◌≡◌, ◌≢◌, ◌⊎◌, ◌↔◌, false, true, None, Some, IsTrue, List, ℕ};
 ghost use Rattle.ddcmp_io.specs.Input.{GaveMost};
 ghost use Rattle.ddcmp_station.specs.Config.{first_refusal};
-ghost use Rattle.ddcmp_cli.specs.Endings.{Pairs, PlaysBetween, Simulates};
+ghost use Rattle.ddcmp_cli.specs.Endings.{Pairs, PlaysBetween, Simulates, streams};
 
 use crate::ending::Ending;
 use crate::fault::Fault;
@@ -28,8 +28,8 @@ fn play<R: Source, W: Sink, C: Carrier>(
     requires silent { (c : C) → C.told c ≡ None }
     requires sizes { first_refusal config ≡ None }
     ensures plays { (input : List ℕ) → R.left reader.old ≡ Some input
-        → PlaysBetween (C.direct carrier.old) config counted input (R.left reader.new)
-        (W.contents writer.old) (W.contents writer.new) result }
+        → PlaysBetween (C.direct carrier.old) config counted (streams input (R.left reader.new)
+        (W.contents writer.old) (W.contents writer.new)) result }
     ensures read { R.state reader.new ≢ Worst.Fine → result ≡ Ending.Fault Fault.Read }
     ensures read_only { result ≡ Ending.Fault Fault.Read → (R.state reader.new ≢ Worst.Fine)
         ⊎ GaveMost (R.left reader.old) (R.left reader.new) }
@@ -57,8 +57,8 @@ pub(crate) fn simulate<R: Source, W: Sink>(
     requires whole { W.broken writer.old ≡ false }
     requires sizes { first_refusal config ≡ None }
     ensures simulates { (input : List ℕ) → R.left reader.old ≡ Some input
-        → Simulates config counted input (R.left reader.new) (W.contents writer.old)
-        (W.contents writer.new) result }
+        → Simulates config counted (streams input (R.left reader.new) (W.contents writer.old)
+        (W.contents writer.new)) result }
     ensures read { R.state reader.new ≢ Worst.Fine → result ≡ Ending.Fault Fault.Read }
     ensures read_only { result ≡ Ending.Fault Fault.Read → (R.state reader.new ≢ Worst.Fine)
         ⊎ GaveMost (R.left reader.old) (R.left reader.new) }
@@ -80,8 +80,8 @@ pub(crate) fn pair<N: Net<Stream = TcpStream>, R: Source, W: Sink>(
     requires whole { W.broken writer.old ≡ false }
     requires sizes { first_refusal config ≡ None }
     ensures pairs { (input : List ℕ) → R.left reader.old ≡ Some input
-        → Pairs config counted input (R.left reader.new) (W.contents writer.old)
-        (W.contents writer.new) result }
+        → Pairs config counted (streams input (R.left reader.new) (W.contents writer.old)
+        (W.contents writer.new)) result }
     ensures read { R.state reader.new ≢ Worst.Fine → result ≡ Ending.Fault Fault.Read }
     ensures read_only { result ≡ Ending.Fault Fault.Read → (R.state reader.new ≢ Worst.Fine)
         ⊎ GaveMost (R.left reader.old) (R.left reader.new) }

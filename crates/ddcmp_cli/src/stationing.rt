@@ -61,7 +61,8 @@ pub(crate) fn station<S: Connections + time::Clock, W: Sink>(
     report: &mut W,
 ) -> Ending
     requires { W.broken report.old ≡ false }
-    ensures stations { Stations (S.peers system.now) served.now (W.contents report.old) (W.contents report.new) result }
+    ensures stations { Stations (S.peers system.now) served.now (W.contents report.old)
+        (W.contents report.new) result }
     ensures whole { result ≡ Ending.Done → W.broken report.new ≡ false }
 {
     let Some(role) = served.role else {

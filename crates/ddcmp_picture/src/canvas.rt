@@ -20,7 +20,6 @@ pub enum Picture {
 }
 
 /// A picture on its way.
-#[derive(Drop)]
 pub(crate) struct Canvas {
     picture: Picture,
     /// What goes to the writer.
@@ -30,6 +29,20 @@ pub(crate) struct Canvas {
     sheet: Sheet,
     /// How many rows there are so far.
     rows: u64,
+}
+
+// By hand, so that a canvas is let go by a call: a derived one is written out at
+// each such place.
+impl Drop for Canvas {
+    fn drop(self) {
+        let Canvas {
+            picture: _,
+            page: _page,
+            draft: _draft,
+            sheet: _sheet,
+            rows: _,
+        } = self;
+    }
 }
 
 /// How many rows a mark takes.

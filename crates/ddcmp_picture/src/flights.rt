@@ -60,10 +60,17 @@ impl Flight {
 }
 
 /// The frames of both ends.
-#[derive(Drop)]
 pub(crate) struct Flights {
     a: VecDeque<Flight>,
     b: VecDeque<Flight>,
+}
+
+// By hand, so that what is on its way is let go by a call: a derived one is written out at
+// each such place.
+impl Drop for Flights {
+    fn drop(self) {
+        let Flights { a: _a, b: _b } = self;
+    }
 }
 
 impl Flights {

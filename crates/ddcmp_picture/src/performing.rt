@@ -26,11 +26,22 @@ pub(crate) enum Stop {
 }
 
 /// The frames between both ends, and the picture.
-#[derive(Drop)]
 pub(crate) struct Stage {
     pub(crate) alloc: Global,
     pub(crate) flights: Flights,
     pub(crate) canvas: Canvas,
+}
+
+// By hand, so that a stage is let go by a call: a derived one is written out at
+// each such place.
+impl Drop for Stage {
+    fn drop(self) {
+        let Stage {
+            alloc: _,
+            flights: _flights,
+            canvas: _canvas,
+        } = self;
+    }
 }
 
 /// How a settle ended: its exchanges, and whether neither end had more to send.

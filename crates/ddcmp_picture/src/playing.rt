@@ -19,7 +19,6 @@ use std::alloc::Global;
 const PIECE: usize = 4096;
 
 /// What was read of a script so far.
-#[derive(Drop)]
 struct Player {
     stage: Stage,
     /// The bytes of the line that was begun.
@@ -28,6 +27,20 @@ struct Player {
     number: u64,
     seen: u64,
     counted: bool,
+}
+
+// By hand, so that a player is let go by a call: a derived one is written out at
+// each such place.
+impl Drop for Player {
+    fn drop(self) {
+        let Player {
+            stage: _stage,
+            line: _line,
+            number: _,
+            seen: _,
+            counted: _,
+        } = self;
+    }
 }
 
 /// Why a piece wasn't taken: a line that stopped, or what was drawn can't be written.

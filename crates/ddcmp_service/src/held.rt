@@ -5,13 +5,25 @@ use ddcmp_io::Sink;
 use std::alloc::{AllocError, Global};
 
 /// A piece of memory of one size with bytes in it, which come at its end and leave at its front.
-#[derive(Drop)]
 pub(crate) struct Held {
     bytes: Vec<u8>,
     start: usize,
     end: usize,
     /// Whether text found no room.
     is_over: bool,
+}
+
+// By hand, so that a piece of memory is let go by a call: a derived one is written out at
+// each such place.
+impl Drop for Held {
+    fn drop(self) {
+        let Held {
+            bytes: _bytes,
+            start: _,
+            end: _,
+            is_over: _,
+        } = self;
+    }
 }
 
 impl Held {
@@ -61,6 +73,11 @@ impl Held {
     /// So many bytes came into the room at its end.
     pub(crate) fn came(&mut self, n: usize) {
         self.end = self.end.saturating_add(n).min(self.bytes.as_slice().len());
+    }
+
+    /// The last `n` bytes never came.
+    pub(crate) fn take_back(&mut self, n: usize) {
+        self.end = self.end.saturating_sub(n).max(self.start);
     }
 
     /// No byte waits.

@@ -4,6 +4,7 @@
 #![tactic(auto)]
 
 mod fault;
+mod heard;
 mod held;
 mod line;
 mod line_name;

@@ -1,4 +1,6 @@
 //! The names of lines.
+ghost use Rattle.std.specs.Prelude.{◌≡◌, ◌≢◌, MatchOption};
+ghost use Rattle.ddcmp_service.specs.LineNames.{word_of, IsPlain};
 
 /// A line, as a word names it.
 #[derive(Clone, Copy, Debug, PartialEq, Eq)]
@@ -15,7 +17,10 @@ pub enum LineName<'a> {
 
 impl<'a> LineName<'a> {
     /// The line that a word names; none where it names no line.
-    pub fn read(word: &'a str) -> Option<LineName<'a>> {
+    pub fn read(word: &'a str) -> Option<LineName<'a>>
+        ensures names { MatchOption result ((name : LineName) → word_of name ≢ word.now)
+            (λ name. (word_of name ≡ word.now) × IsPlain name) }
+    {
         let (kind, rest) = word.split_once(':')?;
         match kind {
             "connect" => Some(LineName::Connect(rest)),

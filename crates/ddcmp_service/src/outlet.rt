@@ -55,8 +55,8 @@ impl Outlet {
     }
 }
 
-/// Opens a pipe for writing, as one whose writes don't wait. The opening would wait where nobody reads
-/// any more, but for a reader of our own, which is closed then.
+/// Opens a pipe for writing, as one whose writes don't wait. The opening would wait where nobody
+/// reads any more, but for a reader of our own, which is closed then.
 fn pipe_anew<F: Files<File = File>>(files: &F, name: &str) -> Option<File> {
     let mut opening = OpenOptions::new();
     let _reader = opening.read(true).write(true).open(files, name).ok()?;

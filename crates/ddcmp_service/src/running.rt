@@ -31,14 +31,47 @@ pub(crate) enum Stop {
 }
 
 /// Where what is said goes, and what is told beside it.
-#[derive(Drop)]
 pub(crate) struct Streams {
     pub(crate) output: Outlet,
     pub(crate) errors: Outlet,
 }
 
-/// The link of a service, with what waits between it and the devices.
+// By hand, so that an outlet of each is let go by a call: a derived one is written out at
+// each such place.
+impl Drop for Streams {
+    fn drop(self) {
+        let Streams {
+            output: _output,
+            errors: _errors,
+        } = self;
+    }
+}
+
+/// The memory of what waits between a link and its devices.
 #[derive(Drop)]
+pub(crate) struct Kept {
+    typed: Held,
+    came: Held,
+    said: Held,
+    noted: Held,
+    mail: Vec<u8>,
+}
+
+impl Kept {
+    /// Takes all the memory that it will need, for messages of at most so many bytes.
+    pub(crate) fn new(alloc: Global, max: u16, is_traced: bool) -> Result<Kept, AllocError> {
+        let most_noted = if is_traced { 8 * PIECE } else { PIECE };
+        Ok(Kept {
+            typed: Held::new(alloc, PIECE)?,
+            came: Held::new(alloc, PIECE)?,
+            said: Held::new(alloc, PIECE + 2 * MOST_TEXT)?,
+            noted: Held::new(alloc, most_noted)?,
+            mail: Vec::from_elem(alloc, 0u8, max as usize)?,
+        })
+    }
+}
+
+/// The link of a service, with what waits between it and the devices.
 pub(crate) struct Desk {
     pub(crate) link: Link,
     streams: Streams,
@@ -63,33 +96,55 @@ pub(crate) struct Desk {
     pub(crate) line_has_spoken: bool,
 }
 
+// By hand, so that a desk is let go by a call: a derived one is written out at
+// each such place.
+impl Drop for Desk {
+    fn drop(self) {
+        let Desk {
+            link: _link,
+            streams: _streams,
+            trace: _trace,
+            form: _,
+            messages: _messages,
+            typed: _typed,
+            came: _came,
+            said: _said,
+            noted: _noted,
+            mail: _mail,
+            input_is_over: _,
+            input_is_read: _,
+            was_refused: _,
+            line_has_spoken: _,
+        } = self;
+    }
+}
+
 impl Desk {
-    /// Takes all the memory that it will need.
+    /// A desk of these parts, at which nothing has come yet.
     pub(crate) fn new(
-        alloc: Global,
         link: Link,
         streams: Streams,
         trace: Option<Trace>,
         form: Form,
-    ) -> Result<Desk, AllocError> {
-        let max = link.config().max;
-        let most_noted = if trace.is_some() { 8 * PIECE } else { PIECE };
-        Ok(Desk {
+        messages: Messages,
+        kept: Kept,
+    ) -> Desk {
+        Desk {
             link,
             streams,
             trace,
             form,
-            messages: Messages::new(alloc, form, max)?,
-            typed: Held::new(alloc, PIECE)?,
-            came: Held::new(alloc, PIECE)?,
-            said: Held::new(alloc, PIECE + 2 * MOST_TEXT)?,
-            noted: Held::new(alloc, most_noted)?,
-            mail: Vec::from_elem(alloc, 0u8, max as usize)?,
+            messages,
+            typed: kept.typed,
+            came: kept.came,
+            said: kept.said,
+            noted: kept.noted,
+            mail: kept.mail,
             input_is_over: false,
             input_is_read: false,
             was_refused: false,
             line_has_spoken: false,
-        })
+        }
     }
 
     /// The input counts as ended.
@@ -430,7 +485,7 @@ impl Desk {
         self.came.clear();
         self.line_has_spoken = false;
         if let Some(trace) = &mut self.trace {
-            trace.begin_anew();
+            trace.begin_anew(&mut self.noted);
         }
     }
 
@@ -473,6 +528,9 @@ impl Desk {
         counters: bool,
     ) -> Result<(), Stop> {
         let handed = self.hand_all(writer);
+        if let Some(trace) = &mut self.trace {
+            trace.end(&mut self.noted);
+        }
         if handed.is_ok() {
             self.tell_end(counters);
         }

@@ -4,13 +4,14 @@ ghost use Rattle.std.specs.Prelude.{◌≡◌, ◌↔◌, Err, IsTrue};
 use crate::fault::{Attempt, NotOpened, ServiceFault};
 use crate::line::Line;
 use crate::line_name::LineName;
-use crate::messages::Form;
+use crate::messages::{Form, Messages};
 use crate::opening::{Opened, Opener};
 use crate::outlet::Outlet;
 use crate::report::Told;
-use crate::running::{Desk, MOST_TEXT, Stop, Streams};
+use crate::running::{Desk, Kept, MOST_TEXT, Stop, Streams};
 use crate::trace::Trace;
 use crate::waiting::{Waiting, Wanted};
+use ddcmp_frame::ReaderRefusal;
 use ddcmp_io::{Sink, Source};
 use ddcmp_link::{Config, Link};
 use ddcmp_net::Elapsed;
@@ -346,23 +347,30 @@ fn ending_of<'a, W: Sink>(
     }
 }
 
+/// The trace that is asked for, if one is; an error where memory is refused.
+fn make_trace(alloc: Global, options: &Options<'_>) -> Result<Option<Trace>, ReaderRefusal> {
+    if !options.trace {
+        return Ok(None);
+    }
+    Ok(Some(Trace::new(alloc, options.config.max, MOST_TEXT)?))
+}
+
 /// The link with what stands between it and the devices; none where memory is refused.
 fn make_desk<S: Files<File = File>>(
     files: &S,
     alloc: Global,
     options: &Options<'_>,
 ) -> Option<Desk> {
+    let max = options.config.max;
+    let kept = Kept::new(alloc, max, options.trace).ok()?;
+    let messages = Messages::new(alloc, options.form, max).ok()?;
+    let trace = make_trace(alloc, options).ok()?;
     let link = Link::new(alloc, options.config, options.timer_ms).ok()?;
-    let trace = if options.trace {
-        Some(Trace::new(alloc, options.config.max, MOST_TEXT).ok()?)
-    } else {
-        None
-    };
     let streams = Streams {
         output: Outlet::new(files, "/dev/stdout"),
         errors: Outlet::new(files, "/dev/stderr"),
     };
-    Desk::new(alloc, link, streams, trace, options.form).ok()
+    Some(Desk::new(link, streams, trace, options.form, messages, kept))
 }
 
 /// The fault of a service: that of the output first.

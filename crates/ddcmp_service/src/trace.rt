@@ -1,16 +1,15 @@
-//! What a trace tells: the frames that went to the line and those that came from it, and expiries.
+//! What a trace tells: the frames that went to the line and those that came from it, what was
+//! discarded, and expiries.
+use crate::heard::Heard;
 use crate::held::Held;
-use ddcmp_frame::{MAX_COUNT, Nak};
+use ddcmp_explain::{Notation, reason_name, write_discarded, write_item};
+use ddcmp_frame::{ControlType, Header, Item, MAX_COUNT, Nak, ReaderRefusal};
 use ddcmp_io::Page;
 use ddcmp_io::text::write_number;
-use ddcmp_tap::{Direction, NoMemory, Notation, Side};
 use std::alloc::Global;
 
-/// What stands in the line of a NAK before the number of its reason.
-const NAK: &str = " NAK sub=";
-
-/// The most bytes that the trace puts beside the lines of frames.
-const NOTE: usize = 64;
+/// The most bytes of text beside the digits of the data that a frame carries.
+const NOTE: usize = 256;
 
 /// Which way bytes went.
 #[derive(Clone, Copy)]
@@ -19,81 +18,134 @@ pub(crate) enum Way {
     FromLine,
 }
 
-/// A trace of a line. A text that has no room for its lines gets none of them, so that no trace holds
-/// a link up.
-#[derive(Drop)]
+impl Way {
+    /// What stands between the moment and the line of a frame.
+    fn mark(self) -> &'static [u8] {
+        match self {
+            Way::ToLine => b" > ",
+            Way::FromLine => b" < ",
+        }
+    }
+}
+
+/// A trace of a line. What a text has no room for is left out, so that no trace holds a link up.
 pub(crate) struct Trace {
     alloc: Global,
     max: u16,
     /// How much room is left to what else is told.
     spared: usize,
-    sent: Direction,
-    came: Direction,
+    sent: Heard,
+    came: Heard,
     /// The milliseconds since the service began.
     now: u64,
     /// Whether the last lines were left out.
     is_cut: bool,
 }
 
+// By hand, so that a trace is let go by a call: a derived one is written out at each such place.
+impl Drop for Trace {
+    fn drop(self) {
+        let Trace {
+            alloc: _,
+            max: _,
+            spared: _,
+            sent: _sent,
+            came: _came,
+            now: _,
+            is_cut: _,
+        } = self;
+    }
+}
+
 impl Trace {
     /// A trace of a line of messages of at most so many bytes.
-    pub(crate) fn new(alloc: Global, max: u16, spared: usize) -> Result<Trace, NoMemory> {
-        if max == 0 || max > MAX_COUNT {
-            return Err(NoMemory);
-        }
+    pub(crate) fn new(alloc: Global, max: u16, spared: usize) -> Result<Trace, ReaderRefusal> {
+        let max = max.max(1).min(MAX_COUNT);
         Ok(Trace {
             alloc,
             max,
             spared,
-            sent: Direction::new(alloc, Side::Caller, Notation::Plain, max)?,
-            came: Direction::new(alloc, Side::Called, Notation::Plain, max)?,
+            sent: Heard::new(alloc, max)?,
+            came: Heard::new(alloc, max)?,
             now: 0,
             is_cut: false,
         })
     }
 
     /// The line is another from now on.
-    pub(crate) fn begin_anew(&mut self) {
-        if let Ok(mut anew) = Trace::new(self.alloc, self.max, self.spared) {
-            anew.now = self.now;
-            *self = anew;
+    pub(crate) fn begin_anew(&mut self, text: &mut Held) {
+        self.end(text);
+        let sent = Heard::new(self.alloc, self.max);
+        let came = Heard::new(self.alloc, self.max);
+        if let (Ok(sent), Ok(came)) = (sent, came) {
+            self.sent = sent;
+            self.came = came;
         }
     }
 
-    /// Puts the lines of the frames that bytes complete, which went this way, behind a text.
+    /// The line has ended: what was discarded behind the last frames is told.
+    pub(crate) fn end(&mut self, text: &mut Held) {
+        self.tell_discarded(Way::ToLine, 1, text);
+        self.tell_discarded(Way::FromLine, 1, text);
+    }
+
+    /// Puts the lines of the frames that bytes complete, which went this way, behind a text, and of
+    /// what was discarded before them.
     pub(crate) fn tell(&mut self, way: Way, bytes: &[u8], text: &mut Held) {
-        let now = self.now;
-        let room = self.room(text);
-        let direction = match way {
+        for byte in bytes {
+            if let Some(item) = self.heard(way).push(*byte) {
+                self.tell_item(way, &item, text);
+            }
+        }
+        self.tell_discarded(way, Heard::MOST_DISCARDED, text);
+    }
+
+    fn heard(&mut self, way: Way) -> &mut Heard {
+        match way {
             Way::ToLine => &mut self.sent,
             Way::FromLine => &mut self.came,
-        };
-        let is_made = explain(direction, bytes, now);
-        let lines = direction.text();
-        let is_empty = lines.is_empty();
-        let fits = is_made && lines.len() <= room;
-        if fits {
-            put_lines(text, lines);
-        }
-        if !fits {
-            self.cut(text);
-        } else if !is_empty {
-            self.is_cut = false;
         }
     }
 
-    /// How many bytes of lines a text has room for.
-    fn room(&self, text: &mut Held) -> usize {
+    /// Puts the line of an item, and before it that of what was discarded.
+    fn tell_item(&mut self, way: Way, item: &Item, text: &mut Held) {
+        if let Some(discarded) = self.heard(way).reach(item) {
+            self.put_discarded(way, discarded.from, discarded.count, text);
+        }
+        let needed = (2 * self.heard(way).data().len()).saturating_add(NOTE);
+        if self.has_room(needed, text) {
+            let now = self.now;
+            put_item(now, way, item, self.heard(way).data(), text);
+        }
+    }
+
+    /// Puts the line of what was discarded behind the last frame, where so many bytes were.
+    fn tell_discarded(&mut self, way: Way, least: u64, text: &mut Held) {
+        if let Some(discarded) = self.heard(way).discard(least) {
+            self.put_discarded(way, discarded.from, discarded.count, text);
+        }
+    }
+
+    fn put_discarded(&mut self, way: Way, from: u64, count: u64, text: &mut Held) {
+        if !self.has_room(NOTE, text) {
+            return;
+        }
+        let mut page = Page::new();
+        write_number(&mut page, text, self.now);
+        page.write(text, way.mark());
+        write_discarded(&mut page, text, Notation::Plain, from, count);
+        let _has_room = page.flush(text);
+    }
+
+    /// Whether a text has room for so many bytes. It tells once that lines are left out.
+    fn has_room(&mut self, needed: usize, text: &mut Held) -> bool {
         text.settle();
-        text.room().saturating_sub(self.spared) / 2
-    }
-
-    /// Tells once that lines are left out.
-    fn cut(&mut self, text: &mut Held) {
-        if !self.is_cut {
+        let has_room = self.spared.saturating_add(needed) <= text.room();
+        if !has_room && !self.is_cut {
             self.note(text, b" left out\n");
         }
-        self.is_cut = true;
+        self.is_cut = !has_room;
+        has_room
     }
 
     /// It is this moment, and the station's timer has run out or not.
@@ -106,7 +158,7 @@ impl Trace {
 
     /// Puts a line of the moment and a word, where there is room for it.
     fn note(&self, text: &mut Held, word: &[u8]) {
-        if text.room() < self.spared.saturating_add(NOTE) {
+        if text.room() < self.spared {
             return;
         }
         let mut page = Page::new();
@@ -116,50 +168,28 @@ impl Trace {
     }
 }
 
-/// Makes the lines of the frames that bytes complete: whether there was memory for them.
-fn explain(direction: &mut Direction, bytes: &[u8], now: u64) -> bool {
-    let n = bytes.len().min(direction.room());
-    direction.push(&bytes[..n]);
-    let waiting = direction.waiting().len();
-    direction.took(waiting);
-    direction.explain(Some(now)).is_ok()
-}
-
-/// Puts lines behind a text, those of NAKs with their reasons in words.
-fn put_lines(text: &mut Held, lines: &[u8]) {
-    let mut rest = str::from_utf8(lines).unwrap_or("");
-    for _line in 0..lines.len() {
-        let Some((line, behind)) = rest.split_once('\n') else {
-            break;
-        };
-        let _has_room = text.push(line.as_bytes());
-        if let Some(reason) = reason_in(line) {
-            let _has_room = text.push(b" (");
-            let _has_room = text.push(reason.as_bytes());
-            let _has_room = text.push(b")");
-        }
-        let _has_room = text.push(b"\n");
-        rest = behind;
+/// Puts the line of an item with the data that it lends; that of a NAK has its reason in words.
+fn put_item(now: u64, way: Way, item: &Item, data: &[u8], text: &mut Held) {
+    let mut page = Page::new();
+    write_number(&mut page, text, now);
+    page.write(text, way.mark());
+    write_item(&mut page, text, Notation::Plain, item, data);
+    let _has_room = page.flush(text);
+    if let Some(reason) = reason_in(item) {
+        text.take_back(1);
+        page.write(text, b" (");
+        page.write(text, reason_name(reason));
+        page.write(text, b")\n");
+        let _has_room = page.flush(text);
     }
 }
 
-/// The reason of the NAK that a line tells of.
-fn reason_in(line: &str) -> Option<&'static str> {
-    let (_front, behind) = line.split_once(NAK)?;
-    let (number, _behind) = behind.split_once(' ')?;
-    let sub = number.parse::<u8>().ok()?;
-    Some(name_of(Nak::of(sub)))
-}
-
-fn name_of(reason: Nak) -> &'static str {
-    match reason {
-        Nak::HeaderCheck => "header check",
-        Nak::DataCheck => "data check",
-        Nak::ReplyToRep => "reply to REP",
-        Nak::NoBuffer => "buffer temporarily unavailable",
-        Nak::Overrun => "receive overrun",
-        Nak::TooLong => "message too long",
-        Nak::Format => "header format error",
-        Nak::Other(_) => "other",
+/// The reason of a NAK that is good.
+fn reason_in(item: &Item) -> Option<Nak> {
+    match item {
+        Item::Good(_, Header::Control(header)) if header.kind == ControlType::Nak => {
+            Some(Nak::of(header.sub))
+        }
+        _ => None,
     }
 }

@@ -124,7 +124,6 @@ impl Wanted {
 }
 
 /// What a service waits for.
-#[derive(Drop)]
 pub(crate) struct Waiting {
     poll: Poll,
     events: Events,
@@ -135,6 +134,22 @@ pub(crate) struct Waiting {
     pub(crate) device: Option<Descriptor>,
     /// The line, where it is a socket.
     pub(crate) socket: Ready,
+}
+
+// By hand, so that what waits is let go by a call: a derived one is written out at
+// each such place.
+impl Drop for Waiting {
+    fn drop(self) {
+        let Waiting {
+            poll: _poll,
+            events: _events,
+            input: _input,
+            output: _output,
+            errors: _errors,
+            device: _device,
+            socket: _,
+        } = self;
+    }
 }
 
 impl Waiting {

@@ -5,7 +5,7 @@ use Rattle.clap.specs.declared.error.kind.ErrorKind.TheVariants.{DisplayHelp, Di
 use Rattle.ddcmp_words.specs.declared.declined.Declined.{Declined}
 use Rattle.ddcmp_words.specs.declared.declined.Declined.TheVariants.{Help, Version, Usage, Memory}
 use Rattle.ddcmp_words.specs.Words.{Declines, Reads}
-use Rattle.std.proofs.Common.{unwrap_or, [], inl, inr, ◌≢◌, ◌⊎◌, Err, codes, ◌≡◌, ◌∙◌, ap, sym, subst, refl, true, List, Option, Some, None}
+use Rattle.std.proofs.Common.{ℕ, unwrap_or, [], inl, inr, ◌≢◌, ◌⊎◌, Err, codes, ◌≡◌, ◌∙◌, ap, sym, subst, refl, true, List, Option, Some, None}
 use Rattle.std.specs.Option.{option_map, option_and_then}
 use Rattle.clap.specs.Words.{App, Text, HasMatchesOf, is_simple, subcommand_of, subcommand_name_of, subcommand_rows_of, one_text, one_of, first_of, first_value, takes, Row}
 use Rattle.clap.specs.Walk.{rows_of}
@@ -14,7 +14,7 @@ use Rattle.clap.proofs.WalkLemmas.{first_value-rows, one_text-rows}
 use Rattle.clap.specs.declared.parser.matches.ArgMatches.{ArgMatches}
 use Rattle.clap.specs.declared.parser.matches.ArgMatches.TheViews.{out-ArgMatches}
 use Rattle.clap.proofs.OnLiterals.{clap_on_literals}
-use Rattle.ddcmp_words.specs.Words.{program, named_by, option_in, text_in, file_of, role_of, MOST, HasFlag, HasForm, HasNotation, HasNumber, HasOptions, HasSizes, HasView, IsAsked}
+use Rattle.ddcmp_words.specs.Words.{program, named_by, option_in, text_in, file_of, role_of, usual_syn_of, MOST, HasFlag, HasForm, HasNotation, HasNumber, HasOptions, HasSizes, HasView, IsAsked}
 use Rattle.ddcmp_core.specs.Limits.{MAX_COUNT, MAX_WINDOW}
 use Rattle.ddcmp_proto.specs.declared.config.Config.{Config}
 use Rattle.ddcmp_proto.specs.declared.config.TheConstants.{MAX_INBOX, MAX_SYN}
@@ -67,12 +67,12 @@ met_text rows f e id =
     first_value-rows f id
     ∙ sym (and_then-map (λ (p : Text × List Row). first_of id p.1) (λ p. p.1) (λ r. first_of id r) rows (rows_of f) (λ _. refl) e)
 
-sizes_as : (o p : Text → Option Text) (config : Config) → ((id : Text) → o id ≡ p id) → HasSizes o config → HasSizes p config
-sizes_as o p config e h = record {
+sizes_as : (n : ℕ) (o p : Text → Option Text) (config : Config) → ((id : Text) → o id ≡ p id) → HasSizes n o config → HasSizes n p config
+sizes_as n o p config e h = record {
   window = subst (λ t. HasNumber 1 MAX_WINDOW 7 t config.window) (e (codes "window")) h.window;
   inbox = subst (λ t. HasNumber 1 MAX_INBOX 8 t config.inbox) (e (codes "inbox")) h.inbox;
   max = subst (λ t. HasNumber 1 MAX_COUNT 1500 t config.max) (e (codes "max")) h.max;
-  syn = subst (λ t. HasNumber 0 MAX_SYN 0 t config.syn) (e (codes "syn")) h.syn;
+  syn = subst (λ t. HasNumber 0 MAX_SYN n t config.syn) (e (codes "syn")) h.syn;
   restart = subst (λ t. HasFlag t config.restart) (e (codes "restart")) h.restart;
 }
 
@@ -85,18 +85,18 @@ view_as o p view e h = record {
 
 pub has_options_as : (o p t u : Text → Option Text) (made : Command) → ((id : Text) → o id ≡ p id) → ((id : Text) → t id ≡ u id)
     → HasOptions o t made → HasOptions p u made
-has_options_as o p t u (Explain form from style max file) e w h = (
-  subst (λ t. HasForm t form) (e (codes "raw")) h.0,
-  record {
-    notation = subst (λ t. HasNotation t style.notation) (e (codes "json")) h.1.notation;
-    discarded = subst (λ t. HasFlag t style.discarded) (e (codes "discarded")) h.1.discarded;
-  },
-  subst (λ t. HasNumber 1 MAX_COUNT MAX_COUNT t max) (e (codes "max")) h.2,
-  h.3 ∙ ap file_of (w (codes "file")),
-  h.4 ∙ w (codes "from"),
-)
-has_options_as o p t u (Simulate config view) e w h = (sizes_as o p config e h.0, view_as o p view e h.1)
-has_options_as o p t u (Pair config view) e w h = (sizes_as o p config e h.0, view_as o p view e h.1)
+has_options_as o p t u (Explain explained) e w h = record {
+  form = subst (λ t. HasForm t explained.form) (e (codes "raw")) h.form;
+  from = h.from ∙ w (codes "from");
+  style = record {
+    notation = subst (λ t. HasNotation t explained.style.notation) (e (codes "json")) h.style.notation;
+    discarded = subst (λ t. HasFlag t explained.style.discarded) (e (codes "discarded")) h.style.discarded;
+  };
+  max = subst (λ t. HasNumber 1 MAX_COUNT MAX_COUNT t explained.max) (e (codes "max")) h.max;
+  file = h.file ∙ ap file_of (w (codes "file"));
+}
+has_options_as o p t u (Simulate config view) e w h = (sizes_as 0 o p config e h.0, view_as o p view e h.1)
+has_options_as o p t u (Pair config view) e w h = (sizes_as 0 o p config e h.0, view_as o p view e h.1)
 has_options_as o p t u (Station served) e w h = record {
   role = h.role ∙ ap (λ x. role_of (unwrap_or x [])) (w (codes "role"));
   addr = h.addr ∙ ap (λ x. unwrap_or x []) (w (codes "addr"));
@@ -116,7 +116,7 @@ has_options_as o p t u (Tap tapped) e w h = record {
 }
 has_options_as o p t u (Link linked) e w h = record {
   line = h.line ∙ ap (λ x. unwrap_or x []) (w (codes "line"));
-  sizes = sizes_as o p linked.config e h.sizes;
+  sizes = sizes_as (usual_syn_of linked.line.now) o p linked.config e h.sizes;
   timer_ms = subst (λ t. HasNumber 0 MOST 3000 t linked.timer_ms) (e (codes "timer-ms")) h.timer_ms;
   seconds = subst (λ t. HasNumber 1 MOST MOST t linked.seconds) (e (codes "seconds")) h.seconds;
   binary = subst (λ t. HasFlag t linked.binary) (e (codes "binary")) h.binary;

@@ -1,7 +1,9 @@
 -- The command line, as `clap` reads it.
 use Rattle.std.specs.Prelude.{ℕ, pos, unwrap_or, if◌then◌else◌, ◌≡◌, ◌≢◌, ◌⊎◌, ◌≤◌, Bool, true, false, List, [], codes, decimal, Option, Some, None, Result, Ok, Err, ⊤}
 use Rattle.std.specs.Option.{option_map, option_and_then}
+use Rattle.std.specs.List.{starts_with}
 use Rattle.std.specs.Str.{bytes_eq}
+use lib.Dec.{eqb}
 use Rattle.ddcmp_explain.specs.declared.form.Form.{Form}
 use Rattle.ddcmp_explain.specs.declared.form.Form.TheVariants.{Hex, Raw}
 use Rattle.ddcmp_explain.specs.declared.notation.Notation.{Notation}
@@ -9,6 +11,7 @@ use Rattle.ddcmp_explain.specs.declared.notation.Notation.TheVariants.{Plain, Js
 use Rattle.ddcmp_explain.specs.declared.style.Style.{Style}
 use Rattle.ddcmp_words.specs.declared.command.Command.{Command}
 use Rattle.ddcmp_words.specs.declared.command.Command.TheVariants.{Explain, Simulate, Pair, Station, Tap, Link}
+use Rattle.ddcmp_words.specs.declared.explained.Explained.{Explained}
 use Rattle.ddcmp_words.specs.declared.served.Role.{Role}
 use Rattle.ddcmp_words.specs.declared.served.Role.TheVariants.{Connect, Listen}
 use Rattle.ddcmp_words.specs.declared.served.Served.{Served}
@@ -120,7 +123,8 @@ line_app = with_rule (new_app (codes "link")) (required (text_rule (codes "line"
 
 abbrev pub link_app : App
 link_app =
-    with_rule (with_rule (with_rule (with_rule (with_rule (with_rule (with_rule (with_sizes line_app)
+    with_rule (with_rule (with_rule (with_rule (with_rule (with_rule (with_rule
+    (with_sizes line_app)
     (number_rule (codes "timer-ms") 0 MOST))
     (number_rule (codes "seconds") 1 MOST))
     (flag_rule (codes "binary")))
@@ -143,7 +147,7 @@ program =
 
 -- the word that names a command
 abbrev pub name_of : Command → Text
-name_of (Explain form from style max file) = codes "explain"
+name_of (Explain explained) = codes "explain"
 name_of (Simulate config view) = codes "simulate"
 name_of (Pair config view) = codes "pair"
 name_of (Station served) = codes "station"
@@ -206,13 +210,21 @@ pub record HasNumber (low high usual : ℕ) (text : Option Text) (n : ℕ) : Typ
   pub given : (m : ℕ) → text ≡ Some (decimal m) → (low ≤ m) × (m ≤ high) → n ≡ m
   pub absent : text ≡ None → n ≡ usual
 
--- the options of both ends
-pub record HasSizes (option : Text → Option Text) (config : Config) : Type 0 where
+-- the options of both ends, which have so many SYN bytes before each frame where none says how many
+pub record HasSizes (usual_syn : ℕ) (option : Text → Option Text) (config : Config) : Type 0 where
   pub window : HasNumber 1 MAX_WINDOW 7 (option (codes "window")) config.window
   pub inbox : HasNumber 1 MAX_INBOX 8 (option (codes "inbox")) config.inbox
   pub max : HasNumber 1 MAX_COUNT 1500 (option (codes "max")) config.max
-  pub syn : HasNumber 0 MAX_SYN 0 (option (codes "syn")) config.syn
+  pub syn : HasNumber 0 MAX_SYN usual_syn (option (codes "syn")) config.syn
   pub restart : HasFlag (option (codes "restart")) config.restart
+
+-- The options of what is explained. The word for what it comes from is kept as it was written.
+pub record HasExplain (option text : Text → Option Text) (explained : Explained) : Type 0 where
+  pub form : HasForm (option (codes "raw")) explained.form
+  pub from : option_map (λ word. word.now) explained.from ≡ text (codes "from")
+  pub style : HasStyle option explained.style
+  pub max : HasNumber 1 MAX_COUNT MAX_COUNT (option (codes "max")) explained.max
+  pub file : option_map (λ name. name.now) explained.file ≡ file_of (text (codes "file"))
 
 -- how a run is shown
 pub record HasView (option : Text → Option Text) (view : View) : Type 0 where
@@ -246,10 +258,14 @@ pub record HasTap (option text : Text → Option Text) (tapped : Tapped) : Type 
   pub time : HasFlag (option (codes "time")) tapped.time
   pub max : HasNumber 1 MAX_COUNT MAX_COUNT (option (codes "max")) tapped.max
 
+-- how many SYN bytes a line has before each frame, where no option says how many
+abbrev pub usual_syn_of : Text → ℕ
+usual_syn_of line = if starts_with eqb line (codes "device:") then 4 else 0
+
 -- The options of a link. Its line is always there.
 pub record HasLink (option text : Text → Option Text) (linked : Linked) : Type 0 where
   pub line : linked.line.now ≡ unwrap_or (text (codes "line")) []
-  pub sizes : HasSizes option linked.config
+  pub sizes : HasSizes (usual_syn_of linked.line.now) option linked.config
   pub timer_ms : HasNumber 0 MOST 3000 (option (codes "timer-ms")) linked.timer_ms
   pub seconds : HasNumber 1 MOST MOST (option (codes "seconds")) linked.seconds
   pub binary : HasFlag (option (codes "binary")) linked.binary
@@ -260,14 +276,9 @@ pub record HasLink (option text : Text → Option Text) (linked : Linked) : Type
 
 -- a command with the options that were given: as they are read, and as they were written
 abbrev pub HasOptions : (option text : Text → Option Text) → Command → Type 0
-HasOptions option text (Explain form from style max file) =
-    HasForm (option (codes "raw")) form
-    × HasStyle option style
-    × HasNumber 1 MAX_COUNT MAX_COUNT (option (codes "max")) max
-    × (option_map (λ name. name.now) file ≡ file_of (text (codes "file")))
-    × (option_map (λ word. word.now) from ≡ text (codes "from"))
-HasOptions option text (Simulate config view) = HasSizes option config × HasView option view
-HasOptions option text (Pair config view) = HasSizes option config × HasView option view
+HasOptions option text (Explain explained) = HasExplain option text explained
+HasOptions option text (Simulate config view) = HasSizes 0 option config × HasView option view
+HasOptions option text (Pair config view) = HasSizes 0 option config × HasView option view
 HasOptions option text (Station served) = HasStation option text served
 HasOptions option text (Tap tapped) = HasTap option text tapped
 HasOptions option text (Link linked) = HasLink option text linked

@@ -6,8 +6,8 @@ ghost use Rattle.ddcmp_words.specs.Words.{IsAsked, option_in, text_in, program};
 use clap::error::ErrorKind as WordsFault;
 
 /// The words `ddcmp explain` ask for the command that explains, without its options; the name of a
-/// file, `--raw`, `--from hexdump`, `--json`, `--discarded` and `--max 1500` are read. `ddcmp --help` asks for help, and
-/// `ddcmp --version` for the version.
+/// file, `--raw`, `--from hexdump`, `--json`, `--discarded` and `--max 1500` are read. `ddcmp
+/// --help` asks for help, and `ddcmp --version` for the version.
 pub fn explain_is_asked()
     ensures plain { IsAsked (codes "ddcmp" ∷ codes "explain" ∷ []) (codes "explain") }
     ensures not_raw { option_in (codes "ddcmp" ∷ codes "explain" ∷ []) (codes "raw")

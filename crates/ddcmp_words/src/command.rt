@@ -3,7 +3,7 @@ ghost use Rattle.std.specs.Prelude.{◌≡◌, ◌≢◌, ◌⊎◌, ◌↔◌, 
 ghost use Rattle.std.specs.Prelude.{codes, map, unwrap_or, [], false, List, ℕ};
 ghost use Rattle.std.specs.Option.{option_and_then, option_map};
 ghost use Rattle.ddcmp_words.specs.Words.{Declines, IsAsked, IsName, Reads, bare_app, name_of, program};
-ghost use Rattle.ddcmp_words.specs.Words.{HasFlag, HasForm, HasNotation, HasNumber, HasOptions};
+ghost use Rattle.ddcmp_words.specs.Words.{HasExplain, HasFlag, HasForm, HasNotation, HasNumber, HasOptions};
 ghost use Rattle.ddcmp_words.specs.Words.{HasSizes, HasStation, HasStyle, explain_app, pair_app};
 ghost use Rattle.ddcmp_words.specs.Words.{simulate_app, station_app};
 ghost use Rattle.ddcmp_words.specs.Words.{file_of, flag_rule, number_rule, place_rule, role_of};
@@ -16,6 +16,7 @@ ghost use Rattle.clap.specs.Words.{subcommand_name_of, subcommand_rows_of};
 ghost use Rattle.clap.specs.declared.builder.command.Command.TheViews.{out-Command as fields_of};
 
 use crate::declined::Declined;
+use crate::explained::Explained;
 use crate::link_words::{link_given, link_parser};
 use crate::linked::Linked;
 use crate::served::{Role, Served};
@@ -32,16 +33,8 @@ use std::alloc::{AllocError, Global};
 /// What the words ask for.
 #[derive(Clone, Copy, Debug, PartialEq, Eq)]
 pub enum Command<'a> {
-    /// Explain the input in this form, for a reader of at most `max` bytes of data. The input is
-    /// the file of this name, or standard input where there is none. Where a word says what it comes
-    /// from, it is a dump: no word but `hexdump` does, and not beside bytes as they are.
-    Explain {
-        form: Form,
-        from: Option<&'a str>,
-        style: Style,
-        max: u16,
-        file: Option<&'a str>,
-    },
+    /// Explain an input.
+    Explain(Explained<'a>),
     /// Run a script between two ends of these sizes, and show it so.
     Simulate(Config, View),
     /// The same, and the bytes that pass go over a TCP connection.
@@ -439,12 +432,11 @@ fn is_within(low: u32, number: u32, high: u32) -> bool
 }
 
 /// The options of `explain`, as they were given or as they are without.
-fn explain_with<'a>(options: &ArgMatches<'a>) -> Command<'a>
-    ensures options { HasOptions (one_text (found_of options.now)) (first_value (found_of options.now))
+fn explain_given<'a>(options: &ArgMatches<'a>) -> Explained<'a>
+    ensures { HasExplain (one_text (found_of options.now)) (first_value (found_of options.now))
         result }
-    ensures name { name_of result ≡ codes "explain" }
 {
-    Command::Explain {
+    Explained {
         form: form_given(options),
         from: options.get_str("from"),
         style: style_given(options),
@@ -464,15 +456,17 @@ fn file_given<'a>(options: &ArgMatches<'a>) -> Option<&'a str>
     }
 }
 
-/// The sizes of both ends, as they were given or as they are without.
-pub(crate) fn sizes_given(options: &ArgMatches<'_>) -> Config
-    ensures { HasSizes (one_text (found_of options.now)) result }
+/// The sizes of both ends, as they were given or as they are without; `usual_syn` SYN bytes stand
+/// before each frame then.
+pub(crate) fn sizes_given(options: &ArgMatches<'_>, usual_syn: u8) -> Config
+    requires { usual_syn ≤ MAX_SYN }
+    ensures { HasSizes usual_syn (one_text (found_of options.now)) result }
 {
     Config {
         window: number_given(options, "window", 1, MAX_WINDOW as u32, 7) as u16,
         inbox: number_given(options, "inbox", 1, MAX_INBOX as u32, 8) as u16,
         max: number_given(options, "max", 1, MAX_COUNT as u32, 1500) as u16,
-        syn: number_given(options, "syn", 0, MAX_SYN as u32, 0) as u8,
+        syn: number_given(options, "syn", 0, MAX_SYN as u32, usual_syn as u32) as u8,
         restart: flag_given(options, "restart"),
     }
 }
@@ -538,13 +532,13 @@ fn asked<'a>(matches: &ArgMatches<'a>) -> Option<Command<'a>>
         → subcommand_name_of matches.now ≢ Some name }
 {
     if let Some(options) = matches.subcommand_matches("explain") {
-        return Some(explain_with(options));
+        return Some(Command::Explain(explain_given(options)));
     }
     if let Some(options) = matches.subcommand_matches("simulate") {
-        return Some(Command::Simulate(sizes_given(options), view_given(options)));
+        return Some(Command::Simulate(sizes_given(options, 0), view_given(options)));
     }
     if let Some(options) = matches.subcommand_matches("pair") {
-        return Some(Command::Pair(sizes_given(options), view_given(options)));
+        return Some(Command::Pair(sizes_given(options, 0), view_given(options)));
     }
     if let Some(options) = matches.subcommand_matches("station") {
         return Some(Command::Station(station_given(options)));

@@ -4,6 +4,7 @@
 mod asked;
 pub mod command;
 pub mod declined;
+pub mod explained;
 mod link_words;
 pub mod linked;
 pub mod served;
@@ -17,6 +18,7 @@ pub use asked::{
 };
 pub use command::{Command, read_words};
 pub use declined::Declined;
+pub use explained::Explained;
 pub use linked::Linked;
 pub use served::{Role, Served};
 pub use tapped::Tapped;

@@ -1,8 +1,9 @@
 //! The words of a link.
-ghost use Rattle.std.specs.Prelude.{◌≡◌, IfOk, codes, false};
+ghost use Rattle.std.specs.Prelude.{◌≡◌, ◌≤◌, IfOk, codes, false};
 ghost use Rattle.clap.specs.Words.{app_of, first_value, found_of, new_app, one_text};
 ghost use Rattle.clap.specs.declared.builder.command.Command.TheViews.{out-Command as fields_of};
-ghost use Rattle.ddcmp_words.specs.Words.{HasLink, link_app, line_app};
+ghost use Rattle.ddcmp_words.specs.Words.{HasLink, link_app, line_app, usual_syn_of};
+ghost use Rattle.ddcmp_proto.specs.declared.config.TheConstants.{MAX_SYN};
 
 use crate::command::{
     flag, flag_given, number, number_given, sizes_given, text, text_given, with_sizes,
@@ -18,7 +19,8 @@ LINE is one of:
   connect:HOST:PORT      a TCP connection to there
   listen:HOST:PORT       a TCP connection from whoever comes first
   udp:LOCAL,REMOTE       each frame a datagram from the one address to the other
-  device:PATH            a serial device that is set up already
+  device:PATH            a serial device that is set up already; 4 SYN bytes before
+                         each frame, where --syn doesn't say how many
 What is read: a message in hexadecimal digits in each line of standard input.
 What is written, as it happens:
   notice N               a notice of the station, as Running or Acknowledged 1
@@ -101,14 +103,24 @@ pub(crate) fn link_parser<'a>(alloc: Global) -> Result<clap::Command<'a>, AllocE
         ))
 }
 
+/// How many SYN bytes a line has before each frame, where no option says how many: a serial line
+/// finds its synchronism by them.
+fn usual_syn(line: &str) -> u8
+    ensures value { result ≡ usual_syn_of line.now }
+    ensures most { result ≤ MAX_SYN }
+{
+    if line.starts_with("device:") { 4 } else { 0 }
+}
+
 /// The link that was asked for.
 pub(crate) fn link_given<'a>(options: &ArgMatches<'a>) -> Linked<'a>
     ensures { HasLink (one_text (found_of options.now)) (first_value (found_of options.now))
         result }
 {
+    let line = text_given(options, "line");
     Linked {
-        line: text_given(options, "line"),
-        config: sizes_given(options),
+        line,
+        config: sizes_given(options, usual_syn(line)),
         timer_ms: number_given(options, "timer-ms", 0, u32::MAX, 3000),
         seconds: number_given(options, "seconds", 1, u32::MAX, u32::MAX),
         binary: flag_given(options, "binary"),

@@ -2,7 +2,7 @@ use Rattle.std.proofs.Common.{Bool, true, ◌≡◌, ◌∙◌, ap, subst, List,
 use Rattle.std.proofs.KnownBytes.{Keeps-refl}
 use Rattle.ddcmp_words.specs.declared.declined.Declined.TheVariants.{Memory}
 use Rattle.ddcmp_words.specs.Words.{Asks, IsAsked, file_of, text_in}
-use Rattle.ddcmp_cli.specs.Endings.{Ends, ExplainsOrNoMemory, StationsOrNoMemory, TapsOrNoMemory}
+use Rattle.ddcmp_cli.specs.Endings.{Ends, ExplainsOrNoMemory, StationsOrNoMemory, TapsOrNoMemory, streams}
 use Rattle.ddcmp_cli.specs.LinkEndings.{IsLinkEnding}
 use Rattle.ddcmp_cli.specs.declared.ending.Ending.TheVariants.{Fault as Faulted}
 use Rattle.ddcmp_cli.specs.declared.fault.Fault.TheVariants.{Read, Write}
@@ -11,7 +11,7 @@ use Rattle.ddcmp_cli.proofs.program.run_args.Goals as goal
 
 pub returns-clause-explains : goal.returns-clause-explains
 returns-clause-explains g c = λ input e. rw (c.in-Ok.is)
-    (subst (λ (ws : List (List ℕ)). IsAsked ws (codes "explain") → ExplainsOrNoMemory (g.S.Inputs.held c.args.system.now) ws input (g.R.Source.left c.run.new.reader) (g.W.Sink.contents c.args.writer.now) (g.W.Sink.contents c.run.new.writer) c.run.result)
+    (subst (λ (ws : List (List ℕ)). IsAsked ws (codes "explain") → ExplainsOrNoMemory (g.S.Inputs.held c.args.system.now) ws (streams input (g.R.Source.left c.run.new.reader) (g.W.Sink.contents c.args.writer.now) (g.W.Sink.contents c.run.new.writer)) c.run.result)
     (ap (map (λ word. word.now)) c.as_slice-2.ensures.value ∙ c.in-Ok-texts.ensures ∙ ap (map string_bytes) c.as_slice.ensures.value)
     (c.run.ensures.explains input e))
 

@@ -1,14 +1,14 @@
 use Rattle.clap.specs.Words.{first_value, found_of, one_text, subcommand_rows_of}
 use Rattle.ddcmp_words.proofs.CommandLaws.{met, met_text, option_met, text_met, has_options_as}
-use Rattle.ddcmp_words.specs.declared.command.Command.TheVariants.{Simulate, Pair, Station, Tap, Link}
+use Rattle.ddcmp_words.specs.declared.command.Command.TheVariants.{Explain, Simulate, Pair, Station, Tap, Link}
 use Rattle.ddcmp_words.proofs.command.asked.Goals as goal
 
 pub returns-in-Some-clause-options : goal.returns-in-Some-clause-options
 returns-in-Some-clause-options c =
     let rows = subcommand_rows_of c.args.matches.now in
     let found = found_of c.in-Some.options.now in
-    has_options_as (one_text found) (option_met rows) (first_value found) (text_met rows) c.explain_with.result
-    (met rows found c.in-Some.ensures.rows) (met_text rows found c.in-Some.ensures.rows) c.explain_with.ensures.options
+    has_options_as (one_text found) (option_met rows) (first_value found) (text_met rows) (Explain c.explain_given.result)
+    (met rows found c.in-Some.ensures.rows) (met_text rows found c.in-Some.ensures.rows) c.explain_given.ensures
 
 pub returns-in-Some-subcommand_matches-clause-options : goal.returns-in-Some-subcommand_matches-clause-options
 returns-in-Some-subcommand_matches-clause-options c =
