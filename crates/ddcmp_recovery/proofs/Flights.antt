@@ -305,13 +305,6 @@ pub has-none : (p : Flight → Bool) → Has p [] → ⊥
 unfolding Has
 has-none p h = h
 
--- it isn't there where all are otherwise
-pub has-not : (p q : Flight → Bool) → ((f : Flight) → p f ≡ true → q f ≡ true → ⊥) → (fs : List Flight) → Has p fs → Each q true fs → ⊥
-unfolding Has Each
-has-not p q never [] h u = absurd h
-has-not p q never (f ∷ fs) (inl e) u = never f e u.0
-has-not p q never (f ∷ fs) (inr h) u = has-not p q never fs h u.1
-
 pub firsts-behind : (fs : List Flight) (f : Flight) → is_strt_flight f ≡ false → StrtsFirst fs → StrtsFirst (fs ++ f ∷ [])
 unfolding StrtsFirst Each
 firsts-behind [] f e u = (inr tt, tt)

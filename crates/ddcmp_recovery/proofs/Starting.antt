@@ -27,9 +27,6 @@ wakes-polls v w fl gl _ _ (p_rep s r t) h = k_runs s
 wakes-polls v w fl gl _ _ (p_data m s r t room) h = k_runs s
 wakes-polls v w fl gl _ _ (p_ack s r t room) h = k_runs s
 
-apart-states : {X : Type 0} (p : State) → p ≡ Running → p ≡ IStart → X
-apart-states p r e = absurd (cc (r, e))
-
 pub wakes-answers : (v w : View) (fl gl : List Flight) (w' : View) (f : Flight) → Polls w w' f → Wakes v w fl gl → Wakes v w' fl (gl ++ f ∷ [])
 wakes-answers v w fl gl _ _ p (k_runs r) = k_runs r
 wakes-answers v w fl gl _ _ p (k_due d) = k_due d

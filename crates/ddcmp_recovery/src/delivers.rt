@@ -11,8 +11,8 @@ ghost use Rattle.ddcmp_recovery.specs.Rests.{IsUnderWay};
 ghost use Rattle.ddcmp_recovery.specs.Delivers.{IsAtRest, IsRoundInAnyOrder, AreTold, IsTwoRounds};
 
 /// Two stations that any events led to, that are under way and at rest: nothing is on its way, and
-/// neither has a frame to send. After a round in any order, in which each timer runs out, nothing is
-/// lost and the line comes to rest again, both run and each knows how much was handed up at the
+/// neither has a frame to send. After a round in any order, in which each timer runs out, nothing
+/// is lost and the line comes to rest again, both run and each knows how much was handed up at the
 /// other. After a second such round all that was accepted, also meanwhile, is handed up and told
 /// acknowledged.
 pub fn delivers_in_any_order()

@@ -5,8 +5,8 @@ use std::alloc::Global;
 /// The most bytes of a message at any end.
 pub const LONGEST: usize = 16383;
 
-/// A pair to which events happen. Its calls' contracts say more than is asked for here, so each stands
-/// alone and promises nothing.
+/// A pair to which events happen. Its calls' contracts say more than is asked for here, so each
+/// stands alone and promises nothing.
 pub struct Table {
     pair: Pair,
 }
