@@ -3,6 +3,7 @@ pub mod Frames
 pub mod Counting
 pub mod Core
 pub mod NextFrame
+pub mod NextSending
 pub mod Laws
 pub use Rattle.ddcmp_num.specs.Sequence
 pub use Rattle.ddcmp_frame.specs.Fields

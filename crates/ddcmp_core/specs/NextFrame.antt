@@ -1,20 +1,15 @@
 -- What is sent next, by cases with their reasons.
-use Rattle.std.specs.Prelude.{◌≡◌, ℕ, ◌<◌, ◌≤◌, Bool, true, false, if◌then◌else◌, List, [], ◌∷◌, length}
+use Rattle.std.specs.Prelude.{◌≡◌, ℕ, ◌<◌, ◌≤◌, Bool, true, false, List, [], ◌∷◌, length}
 use Rattle.ddcmp_frame.specs.declared.nak.Nak.{Nak as Reason}
 use Rattle.ddcmp_core.specs.declared.state.State.TheVariants.{Halted, IStart, AStart, Running, Maintenance}
 use Rattle.ddcmp_core.specs.declared.state.Owed.{Owed}
 use Rattle.ddcmp_core.specs.declared.state.Owed.TheVariants.{Quiet, Ack, Nak}
 use Rattle.ddcmp_core.specs.declared.state.Timer.TheVariants.{Fresh}
-use Rattle.ddcmp_core.specs.Table.{StationState, Data, Acked, Naked, Rep, Strt, Stack, Maint, Next, Idle, Sends, before_next, has_message, message_at_next, after_data, is_starting}
+use Rattle.ddcmp_core.specs.Table.{StationState, Data, Acked, Naked, Rep, Strt, Stack, Maint, Next, Idle, Sends, before_next, message_at_next, after_data, is_starting}
 
 abbrev pub is_nak : Owed → Bool
 is_nak (Nak why) = true
 is_nak _ = false
-
--- the next message of a running station, where there is one, by itself
-abbrev pub next_data : StationState → Next
-next_data s =
-    if has_message s then Sends (Data s.r s.t (message_at_next s)) (after_data s) else Idle
 
 -- What a station sends next, with the reason for it, or why it sends nothing.
 pub data SentFor (s : StationState) : Next → Type 0 where

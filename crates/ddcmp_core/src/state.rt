@@ -1,4 +1,7 @@
 //! The states of a station, what it owes, and its reply timer.
+ghost use Rattle.std.specs.Prelude.{◌≡◌};
+ghost use Rattle.ddcmp_core.specs.Table.{timer_started};
+
 use ddcmp_frame::Nak;
 
 /// The states of a station.
@@ -34,4 +37,16 @@ pub enum Timer {
     /// It was started, and `take_arm` hasn't told it yet.
     Fresh,
     On,
+}
+
+impl Timer {
+    /// As it is after something was sent that is to be answered: it goes on, or starts.
+    pub(crate) fn started(self) -> Timer
+        ensures { result ≡ timer_started self }
+    {
+        match self {
+            Timer::Off => Timer::Fresh,
+            Timer::Fresh | Timer::On => self,
+        }
+    }
 }

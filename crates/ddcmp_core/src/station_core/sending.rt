@@ -4,7 +4,7 @@ ghost use Rattle.ddcmp_core.specs.Frames.{control_header, data_header, maint_hea
 
 use crate::state::{Owed, State, Timer};
 use crate::station_core::Core;
-use ddcmp_frame::{ControlType, Counted, Flags, Header, MAX_COUNT, Short};
+use ddcmp_frame::{ControlType, Counted, Flags, Header, MAX_COUNT, Nak, Short};
 use ddcmp_window::{Seq, Store};
 
 /// The address that a station writes.
@@ -13,6 +13,21 @@ const ADDRESS: u8 = 1;
 const NO_FLAGS: Flags = Flags { q: false, s: false };
 
 const BOTH_FLAGS: Flags = Flags { q: true, s: true };
+
+/// What is sent next: a row of the table.
+#[derive(Clone, Copy)]
+enum Sending {
+    Nothing,
+    Strt,
+    Stack,
+    Nak(Nak),
+    Rep,
+    /// The next message of the window: its number and its length.
+    Data(Seq, usize),
+    Ack,
+    /// The first maintenance message: its length.
+    Maint(usize),
+}
 
 /// A control message.
 fn control(kind: ControlType, sub: u8, flags: Flags, resp: u8, num: u8) -> Header
@@ -57,12 +72,11 @@ fn maintenance(count: usize) -> Header
     })
 }
 
-#[tactic(auto, unfolding(crate::specs::Table::next, crate::specs::Counting::counters_after_next))]
 impl<S: Store> Core<S> {
     ghost use Rattle.std.specs.Prelude.{◌≡◌, ◌≤◌, length, option_map};
     ghost use Rattle.ddcmp_window.specs.Store.{with_front};
-    ghost use Rattle.ddcmp_core.specs.Table.{next, next_running, next_maintenance, next_frame, after_next};
-    ghost use Rattle.ddcmp_core.specs.NextFrame.{next_data};
+    ghost use Rattle.ddcmp_core.specs.Table.{next, next_running, next_frame, after_next};
+    ghost use Rattle.ddcmp_core.specs.NextSending.{next_of, FitsSending};
     ghost use Rattle.ddcmp_core.specs.Frames.{header_of, message_of, data_length, header_and_length};
     ghost use Rattle.ddcmp_core.specs.Counting.{counters_after_next};
     ghost use Rattle.ddcmp_core.specs.Core.{IsSound};
@@ -79,8 +93,9 @@ impl<S: Store> Core<S> {
             ≡ with_front (option_map message_of (next_frame (next self.old.station))) out.old }
         ensures sound { IsSound self.old.limits self.old.station }
     {
-        let header = self.next_header();
-        let length = self.advance(out);
+        let sending = self.sending();
+        let header = self.header(sending);
+        let length = self.advance(sending, out);
         header.map(|header| (header, length))
     }
 
@@ -89,149 +104,159 @@ impl<S: Store> Core<S> {
         ensures header { result ≡ option_map header_of (next_frame (next self.now.station)) }
         ensures sound { IsSound self.now.limits self.now.station }
     {
+        self.header(self.sending())
+    }
+
+    /// The row of the table that is next: what is sent, and before what else.
+    #[tactic(auto, unfolding(crate::specs::Table::next))]
+    fn sending(&self) -> Sending
+        ensures row { next self.now.station ≡ next_of result self.now.station }
+        ensures fits { FitsSending result self.now.station }
+    {
         match self.state {
-            State::IStart if self.due => Some(control(ControlType::Strt, 0, BOTH_FLAGS, 0, 0)),
-            State::AStart if self.due => Some(control(ControlType::Stack, 0, BOTH_FLAGS, 0, 0)),
-            State::Running => self.running_header(),
-            State::Maintenance => {
-                let length = self.sender.first_length()?;
-                Some(maintenance(length))
-            }
-            _ => None,
+            State::IStart if self.due => Sending::Strt,
+            State::AStart if self.due => Sending::Stack,
+            State::Running => self.sending_running(),
+            State::Maintenance => match self.sender.first_length() {
+                Some(length) => Sending::Maint(length),
+                None => Sending::Nothing,
+            },
+            _ => Sending::Nothing,
         }
     }
 
-    fn running_header(&self) -> Option<Header>
+    /// The same of a running station.
+    fn sending_running(&self) -> Sending
         requires { self.now.station.state ≡ State.Running }
-        ensures { let s = self.now.station in
-            result ≡ option_map header_of (next_frame (next_running s.reply s)) }
+        ensures row { let s = self.now.station in next_running s.reply s ≡ next_of result s }
+        ensures fits { FitsSending result self.now.station }
     {
-        let r = self.inbox.last().0;
         if let Owed::Nak(reason) = self.reply {
-            return Some(control(ControlType::Nak, reason.sub(), NO_FLAGS, r, 0));
+            return Sending::Nak(reason);
         }
         if self.rep {
-            let n = self.sender.last_sent().0;
-            return Some(control(ControlType::Rep, 0, NO_FLAGS, 0, n));
+            return Sending::Rep;
         }
         match self.sender.peek() {
-            Some((number, length)) => Some(data(length, r, number.0)),
-            None if self.reply == Owed::Ack => Some(control(ControlType::Ack, 0, NO_FLAGS, r, 0)),
-            None => None,
+            Some((number, length)) => Sending::Data(number, length),
+            None if self.reply == Owed::Ack => Sending::Ack,
+            None => Sending::Nothing,
         }
     }
 
-    /// Goes on as after the next frame: its data are at the front of `out`, and their length is
-    /// answered, 0 where there is no frame.
-    fn advance(&mut self, out: &mut [u8]) -> usize
-        requires { self.old.limits.longest ≤ length out.old }
-        ensures state { self.new ≡ record self.old {
-          station = after_next (next self.old.station) self.old.station;
-          counters = counters_after_next self.old.station (next self.old.station) self.old.counters;
-        } }
-        ensures length { result ≡ data_length (next_frame (next self.old.station)) }
-        ensures out { out.new
-            ≡ with_front (option_map message_of (next_frame (next self.old.station))) out.old }
-        ensures sound { IsSound self.old.limits self.old.station }
+    /// The header of what is sent.
+    fn header(&self, sending: Sending) -> Option<Header>
+        requires { FitsSending sending self.now.station }
+        ensures header { result
+            ≡ option_map header_of (next_frame (next_of sending self.now.station)) }
+        ensures sound { IsSound self.now.limits self.now.station }
     {
-        match self.state {
-            State::IStart | State::AStart if self.due => {
+        let r = self.inbox.last().0;
+        let n = self.sender.last_sent().0;
+        match sending {
+            Sending::Nothing => None,
+            Sending::Strt => Some(control(ControlType::Strt, 0, BOTH_FLAGS, 0, 0)),
+            Sending::Stack => Some(control(ControlType::Stack, 0, BOTH_FLAGS, 0, 0)),
+            Sending::Nak(reason) => Some(control(ControlType::Nak, reason.sub(), NO_FLAGS, r, 0)),
+            Sending::Rep => Some(control(ControlType::Rep, 0, NO_FLAGS, 0, n)),
+            Sending::Data(number, length) => Some(data(length, r, number.0)),
+            Sending::Ack => Some(control(ControlType::Ack, 0, NO_FLAGS, r, 0)),
+            Sending::Maint(length) => Some(maintenance(length)),
+        }
+    }
+
+    /// Goes on as after what is sent: its data are at the front of `out`, and their length is
+    /// answered, 0 where there are none.
+    #[tactic(auto, unfolding(crate::specs::Counting::counters_after_next))]
+    fn advance(&mut self, sending: Sending, out: &mut [u8]) -> usize
+        requires fits { FitsSending sending self.old.station }
+        requires longest { self.old.limits.longest ≤ length out.old }
+        ensures state { self.new ≡ record self.old {
+          station = after_next (next_of sending self.old.station) self.old.station;
+          counters = counters_after_next self.old.station
+              (next_of sending self.old.station) self.old.counters;
+        } }
+        ensures length { result
+            ≡ data_length (next_frame (next_of sending self.old.station)) }
+        ensures out { let row = next_of sending self.old.station in
+            out.new ≡ with_front (option_map message_of (next_frame row)) out.old }
+    {
+        match sending {
+            Sending::Nothing => 0,
+            Sending::Strt | Sending::Stack => {
                 self.due = false;
                 self.timer = Timer::Fresh;
                 0
             }
-            State::Running => self.advance_running(out),
-            State::Maintenance => self.advance_maintenance(out),
-            _ => 0,
+            Sending::Nak(reason) => {
+                self.reply = Owed::Quiet;
+                self.counters.nak_sent(reason);
+                0
+            }
+            Sending::Rep => {
+                self.rep = false;
+                self.timer = Timer::Fresh;
+                self.counters.rep_sent();
+                0
+            }
+            Sending::Data(number, length) => {
+                self.advance_data(number, length, out);
+                length
+            }
+            Sending::Ack => {
+                self.reply = Owed::Quiet;
+                0
+            }
+            Sending::Maint(length) => {
+                self.advance_maintenance(length, out);
+                length
+            }
         }
-    }
-
-    fn advance_running(&mut self, out: &mut [u8]) -> usize
-        requires running { self.old.station.state ≡ State.Running }
-        requires longest { self.old.limits.longest ≤ length out.old }
-        ensures state { self.new ≡ record self.old {
-          station = after_next
-              (next_running self.old.station.reply self.old.station) self.old.station;
-          counters = counters_after_next self.old.station
-              (next_running self.old.station.reply self.old.station)
-              self.old.counters;
-        } }
-        ensures length { let s = self.old.station in
-            result ≡ data_length (next_frame (next_running s.reply s)) }
-        ensures out { let s = self.old.station in
-            out.new ≡ with_front (option_map message_of (next_frame
-            (next_running s.reply s))) out.old }
-    {
-        if let Owed::Nak(reason) = self.reply {
-            self.reply = Owed::Quiet;
-            self.counters.nak_sent(reason);
-            return 0;
-        }
-        if self.rep {
-            self.rep = false;
-            self.timer = Timer::Fresh;
-            self.counters.rep_sent();
-            return 0;
-        }
-        // An ACK that is owed goes by itself or with data.
-        self.reply = Owed::Quiet;
-        self.advance_data(out)
     }
 
     /// Goes past the next message of the window.
-    fn advance_data(&mut self, out: &mut [u8]) -> usize
-        requires running { self.old.station.state ≡ State.Running }
-        requires quiet { self.old.station.reply ≡ Owed.Quiet }
+    #[tactic(auto, unfolding(crate::specs::Counting::counters_after_next))]
+    fn advance_data(&mut self, number: Seq, bytes: usize, out: &mut [u8])
+        requires fits { FitsSending (Sending.Data number bytes) self.old.station }
         requires longest { self.old.limits.longest ≤ length out.old }
         ensures state { self.new ≡ record self.old {
-          station = after_next (next_data self.old.station) self.old.station;
+          station = after_next (next_of (Sending.Data number bytes) self.old.station)
+              self.old.station;
           counters = counters_after_next self.old.station
-              (next_data self.old.station) self.old.counters;
+              (next_of (Sending.Data number bytes) self.old.station)
+              self.old.counters;
         } }
-        ensures length { result ≡ data_length (next_frame (next_data self.old.station)) }
-        ensures out { out.new
-            ≡ with_front (option_map message_of (next_frame (next_data self.old.station))) out.old }
+        ensures out { let row = next_of (Sending.Data number bytes) self.old.station in
+            out.new ≡ with_front (option_map message_of (next_frame row)) out.old }
     {
+        // An ACK that is owed goes with the data.
+        self.reply = Owed::Quiet;
+        self.timer = self.timer.started();
         let first = self.sender.last_sent().next();
-        match self.sender.next(out) {
-            None => 0,
-            Some((number, length)) => {
-                if self.timer == Timer::Off {
-                    self.timer = Timer::Fresh;
-                }
-                if number == first {
-                    self.counters.sent(length);
-                } else {
-                    self.counters.again(length);
-                }
-                length
-            }
+        let _ = self.sender.next(out);
+        if number == first {
+            self.counters.sent(bytes);
+        } else {
+            self.counters.again(bytes);
         }
     }
 
     /// The first of the maintenance messages leaves.
-    fn advance_maintenance(&mut self, out: &mut [u8]) -> usize
-        requires maintenance { self.old.station.state ≡ State.Maintenance }
+    #[tactic(auto, unfolding(crate::specs::Counting::counters_after_next))]
+    fn advance_maintenance(&mut self, bytes: usize, out: &mut [u8])
+        requires fits { FitsSending (Sending.Maint bytes) self.old.station }
         requires longest { self.old.limits.longest ≤ length out.old }
         ensures state { self.new ≡ record self.old {
-          station = after_next
-              (next_maintenance self.old.station.out self.old.station) self.old.station;
+          station = after_next (next_of (Sending.Maint bytes) self.old.station)
+              self.old.station;
           counters = counters_after_next self.old.station
-              (next_maintenance self.old.station.out self.old.station)
+              (next_of (Sending.Maint bytes) self.old.station)
               self.old.counters;
         } }
-        ensures length { let s = self.old.station in
-            result ≡ data_length (next_frame (next_maintenance s.out s)) }
-        ensures out { let s = self.old.station in
-            out.new ≡ with_front (option_map message_of (next_frame
-            (next_maintenance s.out s))) out.old }
+        ensures out { let row = next_of (Sending.Maint bytes) self.old.station in
+            out.new ≡ with_front (option_map message_of (next_frame row)) out.old }
     {
-        match self.sender.pop(out) {
-            None => 0,
-            Some(length) => {
-                self.counters.sent(length);
-                length
-            }
-        }
+        self.counters.sent(bytes);
+        let _ = self.sender.pop(out);
     }
 }
