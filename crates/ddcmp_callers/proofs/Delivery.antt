@@ -193,7 +193,7 @@ module _ (first second : Config) (a b : List DriveCall) (calls : List (End × Ca
   clean = calls_clean first second calls f g (driven_once first second a b calls h) honest
 
   pub reaches_b : Reaches (seen_of first a) (seen_of second b)
-  reaches_b = reaches _ _ _ _ seen_at_a seen_at_b ((calls_in_order first second calls f g).a_to_b honest clean)
+  reaches_b = reaches _ _ _ _ seen_at_a seen_at_b ((calls_in_order first second calls f g).where_clean honest clean).a_to_b
 
   pub reaches_a : Reaches (seen_of second b) (seen_of first a)
-  reaches_a = reaches _ _ _ _ seen_at_b seen_at_a ((calls_in_order first second calls f g).b_to_a honest clean)
+  reaches_a = reaches _ _ _ _ seen_at_b seen_at_a ((calls_in_order first second calls f g).where_clean honest clean).b_to_a

@@ -74,8 +74,10 @@ clean_same p q e = ap is_clean e
 
 order_same : (p q : PairState) → noted p ≡ noted q → IsInOrder q → IsInOrder p
 order_same p q e o = record {
-  a_to_b = λ h c. delivers_same p q e (o.a_to_b (sym (honest_same p q e) ∙ h) (sym (clean_same p q e) ∙ c));
-  b_to_a = λ h c. delivers_back p q e (o.b_to_a (sym (honest_same p q e) ∙ h) (sym (clean_same p q e) ∙ c));
+  where_clean = λ h c. let d = o.where_clean (sym (honest_same p q e) ∙ h) (sym (clean_same p q e) ∙ c) in record {
+    a_to_b = delivers_same p q e d.a_to_b;
+    b_to_a = delivers_back p q e d.b_to_a;
+  };
 }
 
 armed_link : (x y : EndState) → IsLink x y → IsLink (after_arm_here x) (after_arm_here y)

@@ -188,13 +188,13 @@ module _ (first second : Config) (ms other_ms : ℕ) (line other_line : ReaderVi
   ends = steps_same steps links (new_pair first second) begun o
 
   pub link_reaches_b : LinkReaches (after_steps steps links).a (after_steps steps links).b
-  link_reaches_b = reaches _ _ _ _ ends.a ends.b ((calls_in_order first second calls f g).a_to_b honest clean)
+  link_reaches_b = reaches _ _ _ _ ends.a ends.b ((calls_in_order first second calls f g).where_clean honest clean).a_to_b
 
   pub link_reaches_a : LinkReaches (after_steps steps links).b (after_steps steps links).a
-  link_reaches_a = reaches _ _ _ _ ends.b ends.a ((calls_in_order first second calls f g).b_to_a honest clean)
+  link_reaches_a = reaches _ _ _ _ ends.b ends.a ((calls_in_order first second calls f g).where_clean honest clean).b_to_a
 
   pub delivered_to_b : delivered (after_steps steps links).a.link ≡ true → received (after_steps steps links).b ≡ (after_steps steps links).a.accepted
-  delivered_to_b = delivered_all _ _ _ _ ends.a ends.b ((calls_in_order first second calls f g).a_to_b honest clean) (calls_acknowledged first second calls f g honest clean).0
+  delivered_to_b = delivered_all _ _ _ _ ends.a ends.b ((calls_in_order first second calls f g).where_clean honest clean).a_to_b (calls_acknowledged first second calls f g honest clean).0
 
   pub delivered_to_a : delivered (after_steps steps links).b.link ≡ true → received (after_steps steps links).a ≡ (after_steps steps links).b.accepted
-  delivered_to_a = delivered_all _ _ _ _ ends.b ends.a ((calls_in_order first second calls f g).b_to_a honest clean) (calls_acknowledged first second calls f g honest clean).1
+  delivered_to_a = delivered_all _ _ _ _ ends.b ends.a ((calls_in_order first second calls f g).where_clean honest clean).b_to_a (calls_acknowledged first second calls f g honest clean).1

@@ -1,5 +1,5 @@
 //! Texts that end early, junk after the front of a frame, and long texts of one byte.
-use ddcmp_cli::{Form, explain};
+use ddcmp_explain::{Form, explain};
 use ddcmp_frame::failing::{Pieces, Taken};
 use ddcmp_frame::{Item, Reader};
 use std::process::Abort;

@@ -258,8 +258,10 @@ delivers from to l = record { order = reached-in-order _ _ l.is_reached; acknowl
 
 pub run-in-order : (p : PairState) → IsRun p → IsInOrder p
 run-in-order p r = record {
-  a_to_b = λ h c. delivers p.a p.b (run-linked p r h c).0;
-  b_to_a = λ h c. delivers p.b p.a (run-linked p r h c).1;
+  where_clean = λ h c. let linked = run-linked p r h c in record {
+    a_to_b = delivers p.a p.b linked.0;
+    b_to_a = delivers p.b p.a linked.1;
+  };
 }
 
 -- ---- more events of a run

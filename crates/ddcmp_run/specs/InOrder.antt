@@ -17,11 +17,14 @@ pub record Delivers (from to : EndState) : Type 0 where
   pub order : IsPrefixOf (handed_up to) from.given
   pub acknowledged : from.acknowledged ≤ length (handed_up to)
 
+pub record DeliversBothWays (p : PairState) : Type 0 where
+  pub a_to_b : Delivers p.a p.b
+  pub b_to_a : Delivers p.b p.a
+
 -- In every honest and clean run, messages are handed up at each end in the order in which the other
 -- end accepted them, each once and unchanged, or not at all.
 pub record IsInOrder (p : PairState) : Type 0 where
-  pub a_to_b : p.honest ≡ true → is_clean p ≡ true → Delivers p.a p.b
-  pub b_to_a : p.honest ≡ true → is_clean p ≡ true → Delivers p.b p.a
+  pub where_clean : p.honest ≡ true → is_clean p ≡ true → DeliversBothWays p
 
 -- A pair that some list of events leads to, from two new stations of any sizes in range.
 pub record IsRun (p : PairState) : Type 0 where

@@ -1,23 +1,11 @@
-//! Tests across the crates, over their public surfaces.
+//! Tests of the program from outside: its words, its texts, scripts and stations over the network.
 #![tactic(auto)]
 
 #[cfg(test)]
-mod dumps;
-#[cfg(test)]
-mod explains;
-#[cfg(test)]
 mod programs;
-#[cfg(test)]
-mod reports;
 #[cfg(test)]
 mod same;
 #[cfg(test)]
 mod scripts;
 #[cfg(test)]
-mod sizes;
-#[cfg(test)]
-mod sockets;
-#[cfg(test)]
 mod stations;
-#[cfg(test)]
-mod streams;

@@ -1,6 +1,6 @@
 //! explain with refused memory.
 use crate::same::is;
-use ddcmp_cli::{ExplainFault, Form, explain};
+use ddcmp_explain::{ExplainFault, Form, explain};
 use ddcmp_frame::failing::{Pieces, Taken};
 use std::alloc::Global;
 use std::process::Abort;

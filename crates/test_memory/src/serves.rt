@@ -1,6 +1,6 @@
 //! A served station with refused memory.
 use crate::same::is;
-use ddcmp_cli::{ServeFault, serve};
+use ddcmp_serve::{ServeFault, serve};
 use ddcmp_frame::failing::{Pieces, Taken};
 use ddcmp_station::{Clock, LineFault};
 use std::alloc::Global;

@@ -20,8 +20,8 @@ whole-prefix front whole p same =
 -- in an honest and clean run as many messages as were accepted are those that were accepted
 all-handed : (from : End) (p : PairState) → IsInOrder p → p.honest ≡ true → is_clean p ≡ true → length (handed_up (at (other from) p)) ≡ length (at from p).given
     → (at from p).given ≡ handed_up (at (other from) p)
-all-handed A p o h c same = whole-prefix _ _ (o.a_to_b h c).order same
-all-handed B p o h c same = whole-prefix _ _ (o.b_to_a h c).order same
+all-handed A p o h c same = whole-prefix _ _ (o.where_clean h c).a_to_b.order same
+all-handed B p o h c same = whole-prefix _ _ (o.where_clean h c).b_to_a.order same
 
 pub returns-then-honest : goal.returns-then-honest
 returns-then-honest c =

@@ -1,6 +1,6 @@
 // Frames of the most data that a reader takes, and of one byte more.
 use crate::same::is;
-use ddcmp_cli::{ExplainFault, Form, explain};
+use ddcmp_explain::{ExplainFault, Form, explain};
 use ddcmp_frame::failing::{Pieces, Taken};
 use std::process::Abort;
 

@@ -1,6 +1,6 @@
 // What explain makes of dumps, cut in pieces, against lines that were written by hand.
 use crate::same::is;
-use ddcmp_cli::{DumpFault, NotDumped, Notation, Style, explain_dump};
+use ddcmp_explain::{DumpFault, NotDumped, Notation, Style, explain_dump};
 use ddcmp_frame::failing::{Pieces, Taken};
 use std::process::Abort;
 

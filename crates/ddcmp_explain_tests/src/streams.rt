@@ -1,6 +1,6 @@
 // explain over std's own readers and writers, and what it makes of their faults.
 use crate::same::is;
-use ddcmp_cli::{ExplainFault, Form, explain};
+use ddcmp_explain::{ExplainFault, Form, explain};
 use ddcmp_frame::failing::{Pieces, Taken};
 use ddcmp_frame::{FromRead, ToWrite};
 use std::alloc::Global;

@@ -1,6 +1,6 @@
 // The text of explain, against worked rows.
 use crate::same::is;
-use ddcmp_cli::{ExplainFault, Form, Notation, explain, explain_as};
+use ddcmp_explain::{ExplainFault, Form, Notation, explain, explain_as};
 use ddcmp_frame::failing::{Pieces, Taken};
 use ddcmp_frame::{Sink, Source, Worst};
 use std::process::Abort;
