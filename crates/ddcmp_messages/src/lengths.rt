@@ -6,7 +6,7 @@ use std::alloc::{AllocError, Global};
 use std::marker::Model;
 
 /// Where in the input the next byte stands.
-#[derive(Clone, Copy, Debug, PartialEq, Eq)]
+#[derive(Clone, Copy)]
 pub enum Place {
     /// Before a length.
     Start,
@@ -194,7 +194,7 @@ impl Lengths {
     pub fn is_whole(&self) -> bool
         ensures { result ≡ is_start self.now.place }
     {
-        self.place == Place::Start
+        matches!(self.place, Place::Start)
     }
 }
 
