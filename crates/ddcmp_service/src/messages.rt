@@ -64,6 +64,14 @@ fn part_of(entry: Entry, at: u64) -> Part {
     }
 }
 
+/// What a reader of messages met, if anything, at this line or message.
+fn part_at(entry: Option<Entry>, at: u64) -> Option<Part> {
+    match entry {
+        Some(entry) => Some(part_of(entry, at)),
+        None => None,
+    }
+}
+
 impl Messages {
     /// A reader of messages of 1 to `max` bytes. It takes all the memory that it will need.
     pub(crate) fn new(alloc: Global, form: Form, max: u16) -> Result<Messages, AllocError> {
@@ -87,16 +95,14 @@ impl Messages {
         match self {
             Messages::Digits(lines) => {
                 let pushed = lines.push_all(bytes);
-                let at = lines.number();
-                (pushed.used, pushed.entry.map(|entry| part_of(entry, at)))
+                (pushed.used, part_at(pushed.entry, lines.number()))
             }
             Messages::Binary(lengths, count) => {
                 let pushed = lengths.push_all(bytes);
                 if pushed.entry.is_some() {
                     *count = count.saturating_add(1);
                 }
-                let at = *count;
-                (pushed.used, pushed.entry.map(|entry| part_of(entry, at)))
+                (pushed.used, part_at(pushed.entry, *count))
             }
         }
     }
@@ -106,8 +112,7 @@ impl Messages {
         match self {
             Messages::Digits(lines) => {
                 let entry = lines.push(b'\n');
-                let at = lines.number();
-                entry.map(|entry| part_of(entry, at))
+                part_at(entry, lines.number())
             }
             Messages::Binary(lengths, count) => {
                 if lengths.is_whole() {

@@ -144,10 +144,10 @@ fn accepted(listener: &Option<TcpListener>, waiting: &mut Waiting) -> io::Result
 
 /// The first address that a text names.
 fn address<N: Net>(net: &N, name: &str) -> io::Result<SocketAddr> {
-    for addr in name.to_socket_addrs(net)? {
-        return Ok(addr);
+    match name.to_socket_addrs(net)?.next() {
+        Some(addr) => Ok(addr),
+        None => Err(io::Error::from(ErrorKind::InvalidInput)),
     }
-    Err(io::Error::from(ErrorKind::InvalidInput))
 }
 
 fn bound<N: Net>(net: &N, waiting: &mut Waiting, local: &str, remote: &str) -> io::Result<Opened> {

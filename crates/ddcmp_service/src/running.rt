@@ -7,7 +7,7 @@ use crate::line::{Line, Moved};
 use crate::messages::{Form, Messages, Part, Refusal};
 use crate::outlet::Outlet;
 use crate::trace::{Trace, Way};
-use crate::waiting::{Waiting, Wanted};
+use crate::waiting::{Descriptor, Waiting, Wanted};
 use ddcmp_io::text::{write_hex, write_number};
 use ddcmp_io::{Got, Page, Sink, Source, Worst, write_all};
 use ddcmp_link::{Link, Notice};
@@ -248,13 +248,7 @@ impl Desk {
             Form::Digits => b"ddcmp: line ",
             Form::Binary => b"ddcmp: message ",
         };
-        let mut page = Page::new();
-        page.write(&mut self.noted, what);
-        write_number(&mut page, &mut self.noted, at);
-        page.write(&mut self.noted, b": ");
-        page.write(&mut self.noted, why.words());
-        page.write(&mut self.noted, b"\n");
-        let _has_room = page.flush(&mut self.noted);
+        write_refused(&mut self.noted, what, at, why);
     }
 
     /// Writes frames to the line, as far as it has room.
@@ -386,18 +380,8 @@ impl Desk {
     fn tell_mail(&mut self, n: usize) {
         let message = self.mail.as_slice().get(..n).unwrap_or(&[]);
         match self.form {
-            Form::Digits => {
-                let mut page = Page::new();
-                page.write(&mut self.said, b"mail ");
-                write_hex(&mut page, &mut self.said, message);
-                page.write(&mut self.said, b"\n");
-                let _has_room = page.flush(&mut self.said);
-            }
-            Form::Binary => {
-                let length = u16::try_from(message.len()).unwrap_or(u16::MAX);
-                let _has_room = self.said.push(&length.to_be_bytes());
-                let _has_room = self.said.push(message);
-            }
+            Form::Digits => write_mail(&mut self.said, message),
+            Form::Binary => put_mail(&mut self.said, message),
         }
     }
 
@@ -411,39 +395,10 @@ impl Desk {
             return Ok(false);
         }
         let output = &mut self.streams.output;
-        match output.write(self.said.rest()) {
-            Some(Moved::Bytes(n)) => {
-                self.said.used(n);
-                return Ok(true);
-            }
-            Some(Moved::Nothing) => {
-                waiting.output.has_written();
-                return Ok(false);
-            }
-            // Where it has failed, the writer learns of it.
-            Some(Moved::Ended) | None => {}
-        }
-        waiting.output.has_written();
-        let most = output.most();
-        self.write_by(writer, most)
-    }
-
-    /// Has the writer write some of what is said.
-    fn write_by<W: Sink>(&mut self, writer: &mut W, most: usize) -> Result<bool, Stop> {
-        let rest = self.said.rest();
-        let piece = &rest[..rest.len().min(most)];
-        if piece.is_empty() {
-            return Ok(false);
-        }
-        if writer.failed() {
-            return Err(Stop::Write);
-        }
-        match writer.write(piece) {
-            Some(n) => {
-                self.said.used(n);
-                Ok(true)
-            }
-            None => Err(Stop::Write),
+        match write_held(output, &mut self.said, &mut waiting.output) {
+            Some(moved) => Ok(moved),
+            // Where the outlet has failed, the writer learns of it.
+            None => write_by(writer, &mut self.said, output.most()),
         }
     }
 
@@ -453,31 +408,18 @@ impl Desk {
             return false;
         }
         let outlet = &mut self.streams.errors;
-        match outlet.write(self.noted.rest()) {
-            Some(Moved::Bytes(n)) => {
-                self.noted.used(n);
-                return true;
+        match write_held(outlet, &mut self.noted, &mut waiting.errors) {
+            Some(moved) => moved,
+            None => {
+                print_held(errors, &mut self.noted, outlet.most());
+                true
             }
-            Some(Moved::Nothing) => {
-                waiting.errors.has_written();
-                return false;
-            }
-            Some(Moved::Ended) | None => {}
         }
-        waiting.errors.has_written();
-        let most = outlet.most();
-        self.print_errors(errors, most);
-        true
     }
 
-    /// Prints some of what waits for standard error.
-    pub(crate) fn print_errors<E: Eprint>(&mut self, errors: &E, most: usize) {
-        let rest = self.noted.rest();
-        let n = rest.len().min(most);
-        if let Ok(text) = str::from_utf8(&rest[..n]) {
-            let _ = errors.eprint(text);
-        }
-        self.noted.used(n);
+    /// Prints what waits for standard error, however long that takes.
+    pub(crate) fn print_errors<E: Eprint>(&mut self, errors: &E) {
+        print_held(errors, &mut self.noted, usize::MAX);
     }
 
     /// The line is no more: what came and wasn't fed is lost with it.
@@ -534,7 +476,7 @@ impl Desk {
         if handed.is_ok() {
             self.tell_end(counters);
         }
-        self.print_errors(errors, usize::MAX);
+        self.print_errors(errors);
         handed?;
         write_whole(writer, self.said.rest())
     }
@@ -553,6 +495,77 @@ fn wake(link: &mut Link, now: u64) -> bool {
     let was_on = link.deadline().is_some();
     link.wake(now);
     was_on && link.deadline().is_none()
+}
+
+/// Writes the line of a part of the input that is no message, which `what` names.
+fn write_refused(lines: &mut Held, what: &[u8], at: u64, why: Refusal) {
+    let mut page = Page::new();
+    page.write(lines, what);
+    write_number(&mut page, lines, at);
+    page.write(lines, b": ");
+    page.write(lines, why.words());
+    page.write(lines, b"\n");
+    let _has_room = page.flush(lines);
+}
+
+/// Writes the line of a message that came.
+fn write_mail(lines: &mut Held, message: &[u8]) {
+    let mut page = Page::new();
+    page.write(lines, b"mail ");
+    write_hex(&mut page, lines, message);
+    page.write(lines, b"\n");
+    let _has_room = page.flush(lines);
+}
+
+/// Puts a message that came behind its length.
+fn put_mail(said: &mut Held, message: &[u8]) {
+    let length = u16::try_from(message.len()).unwrap_or(u16::MAX);
+    let _has_room = said.push(&length.to_be_bytes());
+    let _has_room = said.push(message);
+}
+
+/// Writes what an outlet has room for, where it was opened anew: whether it took anything. None
+/// where its owner is to write.
+fn write_held(outlet: &mut Outlet, held: &mut Held, there: &mut Descriptor) -> Option<bool> {
+    let took = outlet.write(held.rest());
+    if let Some(Moved::Bytes(n)) = took {
+        held.used(n);
+        return Some(true);
+    }
+    there.has_written();
+    match took {
+        Some(Moved::Nothing) => Some(false),
+        _ => None,
+    }
+}
+
+/// Has a writer write some of what waits.
+fn write_by<W: Sink>(writer: &mut W, held: &mut Held, most: usize) -> Result<bool, Stop> {
+    let rest = held.rest();
+    let piece = &rest[..rest.len().min(most)];
+    if piece.is_empty() {
+        return Ok(false);
+    }
+    if writer.failed() {
+        return Err(Stop::Write);
+    }
+    match writer.write(piece) {
+        Some(n) => {
+            held.used(n);
+            Ok(true)
+        }
+        None => Err(Stop::Write),
+    }
+}
+
+/// Prints some of what waits.
+fn print_held<E: Eprint>(errors: &E, held: &mut Held, most: usize) {
+    let rest = held.rest();
+    let n = rest.len().min(most);
+    if let Ok(text) = str::from_utf8(&rest[..n]) {
+        let _ = errors.eprint(text);
+    }
+    held.used(n);
 }
 
 /// Writes the last lines.

@@ -71,6 +71,14 @@ struct Moments {
 }
 
 impl Moments {
+    /// It is this moment of a service that runs so.
+    fn at(now: u64, options: &Options<'_>) -> Moments {
+        Moments {
+            now,
+            end: options.seconds as u64 * 1000,
+        }
+    }
+
     fn is_over(&self) -> bool {
         self.end <= self.now
     }
@@ -82,6 +90,26 @@ impl Moments {
     }
 }
 
+/// Opens the line, or takes who has come and tells who that is; none where nobody has come yet.
+fn try_line<'a, S>(
+    system: &S,
+    opener: &mut Opener<'a>,
+    waiting: &mut Waiting,
+) -> Result<Option<Line>, NotOpened<'a>>
+where
+    S: Net<Stream = net::TcpStream, Listener = net::TcpListener> + Files<File = File> + Eprint,
+{
+    match opener.open(system, waiting) {
+        Ok(Opened::Line(line)) => Ok(Some(line)),
+        Ok(Opened::Came(line, peer)) => {
+            let _ = system.eprintln(Told::Connected(peer));
+            Ok(Some(line))
+        }
+        Ok(Opened::NotYet) => Ok(None),
+        Err(fault) => Err(fault),
+    }
+}
+
 /// Opens the line: none where the time was over first. A line that can't be opened is told, and
 /// tried again where that is asked for.
 fn open_line<'a, S>(
@@ -90,7 +118,6 @@ fn open_line<'a, S>(
     opener: &mut Opener<'a>,
     waiting: &mut Waiting,
     clock: &mut Elapsed<'_, S>,
-    end: u64,
     is_first: bool,
 ) -> Result<Option<Line>, NotOpened<'a>>
 where
@@ -100,20 +127,13 @@ where
         + time::Clock,
 {
     for _try in 0..u64::MAX {
-        let moments = Moments {
-            now: clock.now(),
-            end,
-        };
+        let moments = Moments::at(clock.now(), options);
         if moments.is_over() {
             break;
         }
-        let again = match opener.open(system, waiting) {
-            Ok(Opened::Line(line)) => return Ok(Some(line)),
-            Ok(Opened::Came(line, peer)) => {
-                let _ = system.eprintln(Told::Connected(peer));
-                return Ok(Some(line));
-            }
-            Ok(Opened::NotYet) => None,
+        let again = match try_line(system, opener, waiting) {
+            Ok(Some(line)) => return Ok(Some(line)),
+            Ok(None) => None,
             Err(fault) if is_first || !options.again => return Err(fault),
             Err(_fault) => Some(moments.now.saturating_add(AGAIN_MS)),
         };
@@ -132,7 +152,6 @@ fn run_line<S, R: Source, W: Sink>(
     line: &mut Line,
     waiting: &mut Waiting,
     clock: &mut Elapsed<'_, S>,
-    end: u64,
     reader: &mut R,
     writer: &mut W,
 ) -> Result<(), Stop>
@@ -140,10 +159,7 @@ where
     S: Eprint + time::Clock,
 {
     for _pass in 0..u64::MAX {
-        let moments = Moments {
-            now: clock.now(),
-            end,
-        };
+        let moments = Moments::at(clock.now(), options);
         desk.wake(moments.now);
         if moments.is_over() {
             desk.end_input();
@@ -178,8 +194,166 @@ fn pass<S: Eprint, R: Source, W: Sink>(
     Ok(read || offered || sent || came || fed || written || noted)
 }
 
+/// Listens, where the line is one of whoever comes, and tells at which address.
+fn begin_listening<'a, S>(
+    system: &S,
+    opener: &mut Opener<'a>,
+    waiting: &mut Waiting,
+) -> Result<(), NotOpened<'a>>
+where
+    S: Net<Stream = net::TcpStream, Listener = net::TcpListener> + Eprint,
+{
+    match opener.listen(system, waiting) {
+        Ok(None) => Ok(()),
+        Ok(Some(addr)) => {
+            let _ = system.eprintln(Told::Listening(addr));
+            Ok(())
+        }
+        Err(fault) => Err(fault),
+    }
+}
+
+/// Opens the next line, for which the station begins anew.
+fn next_line<'a, S>(
+    system: &S,
+    options: &Options<'a>,
+    desk: &mut Desk,
+    opener: &mut Opener<'a>,
+    waiting: &mut Waiting,
+    clock: &mut Elapsed<'_, S>,
+    is_first: bool,
+) -> Result<Line, Ended<'a>>
+where
+    S: Net<Stream = net::TcpStream, Listener = net::TcpListener>
+        + Files<File = File>
+        + Eprint
+        + time::Clock,
+{
+    match open_line(system, options, opener, waiting, clock, is_first) {
+        Ok(Some(line)) => match desk.link.begin_anew() {
+            Ok(_dropped) => Ok(line),
+            Err(_refused) => Err(Ended::Stopped(Stop::Line)),
+        },
+        Ok(None) => Err(Ended::Stopped(Stop::Line)),
+        Err(fault) => Err(Ended::Open(fault)),
+    }
+}
+
+/// Leaves a line that has ended: what came over it is written, and what was lost is told.
+fn leave_line<E: Eprint, W: Sink>(
+    errors: &E,
+    desk: &mut Desk,
+    waiting: &mut Waiting,
+    writer: &mut W,
+) -> Result<(), Stop> {
+    desk.tell_lost();
+    desk.forget_line();
+    waiting.forget_line();
+    desk.hand_all(writer)?;
+    desk.print_errors(errors);
+    Ok(())
+}
+
+/// Runs the link over a line, and leaves it where it ends and another may come: whether all is
+/// delivered.
+fn run_and_leave<S, R: Source, W: Sink>(
+    system: &S,
+    options: &Options<'_>,
+    desk: &mut Desk,
+    line: &mut Line,
+    waiting: &mut Waiting,
+    clock: &mut Elapsed<'_, S>,
+    reader: &mut R,
+    writer: &mut W,
+    is_listening: bool,
+) -> Result<bool, Stop>
+where
+    S: Eprint + time::Clock,
+{
+    match run_line(system, options, desk, line, waiting, clock, reader, writer) {
+        Ok(()) => return Ok(true),
+        Err(Stop::Line) => {}
+        Err(stop) => return Err(stop),
+    }
+    if !options.again && (!is_listening || desk.line_has_spoken) {
+        return Err(Stop::Line);
+    }
+    leave_line(system, desk, waiting, writer)?;
+    Ok(false)
+}
+
+/// Runs the link over the next line: whether all is delivered.
+fn run_next_line<'a, S, R: Source, W: Sink>(
+    system: &S,
+    options: &Options<'a>,
+    desk: &mut Desk,
+    opener: &mut Opener<'a>,
+    waiting: &mut Waiting,
+    clock: &mut Elapsed<'_, S>,
+    reader: &mut R,
+    writer: &mut W,
+    is_first: bool,
+) -> Result<bool, Ended<'a>>
+where
+    S: Net<Stream = net::TcpStream, Listener = net::TcpListener>
+        + Files<File = File>
+        + Eprint
+        + time::Clock,
+{
+    let is_listening = opener.is_listening();
+    match next_line(system, options, desk, opener, waiting, clock, is_first) {
+        Ok(mut line) => {
+            let ran = run_and_leave(
+                system,
+                options,
+                desk,
+                &mut line,
+                waiting,
+                clock,
+                reader,
+                writer,
+                is_listening,
+            );
+            match ran {
+                Ok(is_delivered) => Ok(is_delivered),
+                Err(stop) => Err(Ended::Stopped(stop)),
+            }
+        }
+        Err(ended) => Err(ended),
+    }
+}
+
 /// Runs the link over one line after the other, until all is delivered or a line ends for good.
 fn run_lines<'a, S, R: Source, W: Sink>(
+    system: &S,
+    options: &Options<'a>,
+    desk: &mut Desk,
+    opener: &mut Opener<'a>,
+    waiting: &mut Waiting,
+    clock: &mut Elapsed<'_, S>,
+    reader: &mut R,
+    writer: &mut W,
+) -> Result<(), Ended<'a>>
+where
+    S: Net<Stream = net::TcpStream, Listener = net::TcpListener>
+        + Files<File = File>
+        + Eprint
+        + time::Clock,
+{
+    for opened in 0..u64::MAX {
+        let is_first = opened == 0;
+        let is_delivered = run_next_line(
+            system, options, desk, opener, waiting, clock, reader, writer, is_first,
+        )?;
+        if is_delivered {
+            return Ok(());
+        }
+    }
+    Err(Ended::Stopped(Stop::Line))
+}
+
+/// Runs the link from the first line's opening to the last one's end.
+fn run<'a, S, R: Source, W: Sink>(
     system: &S,
     options: &Options<'a>,
     desk: &mut Desk,
@@ -194,52 +368,22 @@ where
         + time::Clock,
 {
     let mut opener = Opener::new(options.line);
-    match opener.listen(system, waiting) {
-        Ok(None) => {}
-        Ok(Some(addr)) => {
-            let _ = system.eprintln(Told::Listening(addr));
+    match begin_listening(system, &mut opener, waiting) {
+        Ok(()) => {
+            let mut clock = Elapsed::new(system);
+            run_lines(
+                system,
+                options,
+                desk,
+                &mut opener,
+                waiting,
+                &mut clock,
+                reader,
+                writer,
+            )
         }
-        Err(fault) => return Err(Ended::Open(fault)),
+        Err(fault) => Err(Ended::Open(fault)),
     }
-    let mut clock = Elapsed::new(system);
-    let end = options.seconds as u64 * 1000;
-    for opened in 0..u64::MAX {
-        let is_first = opened == 0;
-        let mut line = match open_line(
-            system,
-            options,
-            &mut opener,
-            waiting,
-            &mut clock,
-            end,
-            is_first,
-        ) {
-            Ok(Some(line)) => line,
-            Ok(None) => break,
-            Err(fault) => return Err(Ended::Open(fault)),
-        };
-        if desk.link.begin_anew().is_err() {
-            break;
-        }
-        let stop = match run_line(
-            system, options, desk, &mut line, waiting, &mut clock, end, reader, writer,
-        ) {
-            Ok(()) => return Ok(()),
-            Err(stop) => stop,
-        };
-        let goes_on = options.again || opener.is_listening() && !desk.line_has_spoken;
-        if stop != Stop::Line || !goes_on {
-            return Err(Ended::Stopped(stop));
-        }
-        desk.tell_lost();
-        desk.forget_line();
-        waiting.forget_line();
-        if desk.hand_all(writer).is_err() {
-            return Err(Ended::Stopped(Stop::Write));
-        }
-        desk.print_errors(system, usize::MAX);
-    }
-    Err(Ended::Stopped(Stop::Line))
 }
 
 /// Ends a service: the station is halted, and what is left to say is said.
@@ -326,7 +470,7 @@ where
         + time::Clock,
     ensures broken { (result ≡ Err ServiceFault.Write) ↔ IsTrue (W.broken writer.new) }
 {
-    let ended = run_lines(system, options, desk, waiting, reader, writer);
+    let ended = run(system, options, desk, waiting, reader, writer);
     end(system, options, desk, writer, ended.is_ok());
     ending_of(ended, desk.was_refused, writer)
 }

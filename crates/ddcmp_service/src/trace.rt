@@ -186,10 +186,11 @@ fn put_item(now: u64, way: Way, item: &Item, data: &[u8], text: &mut Held) {
 
 /// The reason of a NAK that is good.
 fn reason_in(item: &Item) -> Option<Nak> {
-    match item {
-        Item::Good(_, Header::Control(header)) if header.kind == ControlType::Nak => {
-            Some(Nak::of(header.sub))
-        }
+    let Item::Good(_, Header::Control(header)) = item else {
+        return None;
+    };
+    match header.kind {
+        ControlType::Nak => Some(Nak::of(header.sub)),
         _ => None,
     }
 }
