@@ -13,7 +13,7 @@ pub(crate) struct Trip {
 }
 
 /// How a trip ends.
-#[derive(Clone, Copy, Debug, PartialEq, Eq)]
+#[derive(Clone, Copy)]
 pub(crate) enum Fate {
     /// It arrived, or the last part of it did.
     Arrived,

@@ -17,7 +17,7 @@ use ddcmp_station_text::{notice_name, state_name};
 use std::alloc::Global;
 
 /// Why a line wasn't done.
-#[derive(Clone, Copy, Debug, PartialEq, Eq)]
+#[derive(Clone, Copy)]
 pub(crate) enum Stop {
     NoCommand,
     NotHex,
@@ -84,6 +84,28 @@ fn answer_text(reply: &Reply) -> ShortText {
         )),
         Reply::Accepted(number) => words(b"send ").with_number(number.0 as u64),
         Reply::Wrote(_) | Reply::Notices(_) => ShortText::new(),
+    }
+}
+
+/// What a carrier gives for these bytes of an end.
+fn carry_bytes<C: Carrier>(
+    alloc: Global,
+    carrier: &mut C,
+    from: End,
+    bytes: &[u8],
+) -> Result<Vec<u8>, Stop>
+    requires whole { C.broken carrier.old ≡ false }
+    ensures carrier { (result ≡ Err Stop.Carrier) ↔ IsTrue (C.broken carrier.new) }
+{
+    let Ok(mut out) = Vec::from_elem(alloc, 0u8, bytes.len()) else {
+        return Err(Stop::Memory);
+    };
+    match carrier.carry(from, bytes, &mut out) {
+        Ok(came) => {
+            out.truncate(came);
+            Ok(out)
+        }
+        Err(_fault) => Err(Stop::Carrier),
     }
 }
 
@@ -301,13 +323,10 @@ impl Stage {
             None => of,
         };
         let trip = front.trip;
-        let Ok(mut out) = Vec::from_elem(self.alloc, 0u8, part) else {
-            return Err(Stop::Memory);
+        let out = match carry_bytes(self.alloc, carrier, from, &left[..part]) {
+            Ok(out) => out,
+            Err(stop) => return Err(stop),
         };
-        match carrier.carry(from, &left[..part], &mut out) {
-            Ok(came) => out.truncate(came),
-            Err(_fault) => return Err(Stop::Carrier),
-        }
         let fate = if part < of {
             Fate::Cut { part, of }
         } else {

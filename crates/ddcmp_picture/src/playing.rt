@@ -44,7 +44,7 @@ impl Drop for Player {
 }
 
 /// Why a piece wasn't taken: a line that stopped, or what was drawn can't be written.
-#[derive(Clone, Copy, Debug, PartialEq, Eq)]
+#[derive(Clone, Copy)]
 enum Halt {
     Stopped(Stop),
     Unwritten,

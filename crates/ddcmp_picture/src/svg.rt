@@ -130,6 +130,24 @@ fn write_thousandths<W: Sink>(page: &mut Page, writer: &mut W, n: u64) {
     write_number(page, writer, n % 10);
 }
 
+/// The part of a matrix that turns, with what stands before each sine.
+fn write_turn<W: Sink>(
+    page: &mut Page,
+    writer: &mut W,
+    cosine: u64,
+    sine: u64,
+    rises: &[u8],
+    falls: &[u8],
+) {
+    write_thousandths(page, writer, cosine);
+    page.write(writer, rises);
+    write_thousandths(page, writer, sine);
+    page.write(writer, falls);
+    write_thousandths(page, writer, sine);
+    page.write(writer, b" ");
+    write_thousandths(page, writer, cosine);
+}
+
 /// A line from one place to another, or a part of an arrow.
 #[derive(Clone, Copy, Drop)]
 struct Stroke {
@@ -192,27 +210,29 @@ impl Stroke {
         let length = root(across * across + down * down);
         let cosine = across.saturating_mul(1000) / length.max(1);
         let sine = down.saturating_mul(1000) / length.max(1);
-        let (rises, falls, how): (&[u8], &[u8], &[u8]) = match self.from {
-            End::A => (b" ", b" -", b" x=\"10\" y=\"-"),
-            End::B => (b" -", b" ", b" text-anchor=\"end\" x=\"-10\" y=\"-"),
-        };
         page.write(writer, b"<text transform=\"matrix(");
-        write_thousandths(page, writer, cosine);
-        page.write(writer, rises);
-        write_thousandths(page, writer, sine);
-        page.write(writer, falls);
-        write_thousandths(page, writer, sine);
-        page.write(writer, b" ");
-        write_thousandths(page, writer, cosine);
+        match self.from {
+            End::A => write_turn(page, writer, cosine, sine, b" ", b" -"),
+            End::B => write_turn(page, writer, cosine, sine, b" -", b" "),
+        }
+        self.write_start(page, writer);
+        page.write(writer, text);
+        page.write(writer, b"</text>\n");
+    }
+
+    /// The rest of a matrix that moves to where it begins, and how a text stands there.
+    fn write_start<W: Sink>(&self, page: &mut Page, writer: &mut W) {
         page.write(writer, b" ");
         write_number(page, writer, self.x1);
         page.write(writer, b" ");
         write_number(page, writer, self.y1);
         page.write(writer, b")\"");
+        let how: &[u8] = match self.from {
+            End::A => b" x=\"10\" y=\"-",
+            End::B => b" text-anchor=\"end\" x=\"-10\" y=\"-",
+        };
         page.write(writer, how);
         page.write(writer, if self.x2 == MIDDLE { b"9\">" } else { b"5\">" });
-        page.write(writer, text);
-        page.write(writer, b"</text>\n");
     }
 
     fn write_level_label<W: Sink>(&self, page: &mut Page, writer: &mut W, text: &[u8]) {
@@ -278,7 +298,7 @@ impl Stroke {
 fn write_trip<W: Sink>(page: &mut Page, writer: &mut W, trip: &Trip, fate: Fate, row: u64) {
     let stroke = Stroke::of(trip, fate, row);
     let class: &[u8] = if trip.is_damaged { b" damaged" } else { b"" };
-    stroke.write(page, writer, class, fate == Fate::Arrived);
+    stroke.write(page, writer, class, matches!(fate, Fate::Arrived));
     stroke.write_fate(page, writer, fate);
     if trip.is_damaged {
         stroke.write_damage(page, writer);
@@ -386,6 +406,16 @@ fn caption_lines(text: &[u8]) -> u64 {
     lines
 }
 
+/// The line of an end.
+fn write_end_line<W: Sink>(page: &mut Page, writer: &mut W, x: u64, foot: u64) {
+    page.write(writer, b"<line class=\"end\"");
+    write_attribute(page, writer, b"x1", x);
+    write_attribute(page, writer, b"y1", TOP - 24);
+    write_attribute(page, writer, b"x2", x);
+    write_attribute(page, writer, b"y2", foot);
+    page.write(writer, b"/>\n");
+}
+
 /// What stands before the rows, up to the lines of both ends.
 fn write_head<W: Sink>(page: &mut Page, writer: &mut W, foot: u64, height: u64, caption: &[u8]) {
     page.write(writer, b"<svg xmlns=\"http://www.w3.org/2000/svg\"");
@@ -409,14 +439,8 @@ fn write_head<W: Sink>(page: &mut Page, writer: &mut W, foot: u64, height: u64, 
         writer,
         b"<rect x=\"-20\" width=\"840\" height=\"100%\" fill=\"#fff\"/>\n",
     );
-    for end in [End::A, End::B] {
-        page.write(writer, b"<line class=\"end\"");
-        write_attribute(page, writer, b"x1", line_of(end));
-        write_attribute(page, writer, b"y1", TOP - 24);
-        write_attribute(page, writer, b"x2", line_of(end));
-        write_attribute(page, writer, b"y2", foot);
-        page.write(writer, b"/>\n");
-    }
+    write_end_line(page, writer, LINE_A, foot);
+    write_end_line(page, writer, LINE_B, foot);
     let how = b"text-anchor=\"middle\" class=\"name\"";
     write_text(page, writer, LINE_A, TOP - 32, how, b"A");
     write_text(page, writer, LINE_B, TOP - 32, how, b"B");
