@@ -16,24 +16,14 @@ use Rattle.ddcmp_run.specs.declared.event.Event.TheVariants as event
 use Rattle.ddcmp_run.specs.declared.event.Reply.{Reply}
 use Rattle.ddcmp_run.specs.declared.event.Reply.TheVariants as reply
 use Rattle.ddcmp_script.specs.declared.performing.Stop.TheVariants.{Memory}
-use Rattle.ddcmp_run.specs.Run.{PairState, at, end_of, line_bytes, wrote, reply_to, after_event, asks_memory, run}
+use Rattle.ddcmp_run.specs.Run.{PairState, at, end_of, reply_to, after_event, asks_memory, run}
 use Rattle.ddcmp_run.specs.Settle.{other, WantsMemory}
-use Rattle.ddcmp_script_text.specs.ScriptText.{end_name, name_before, reply_text, bytes_line, counted_line, station_line}
+use Rattle.ddcmp_script_text.specs.ScriptText.{end_name, name_before, reply_text, counted_line, station_line}
 use Rattle.ddcmp_carrier.specs.Carriages.{Carriage, HasCarried}
 use Rattle.ddcmp_script.specs.Script.{Between, Scene, Effect, AreDirect, AreWithin, frames_of, with_frames, taken_off, part_of, frames_after, lines_after, outcome_of_event, outcome_of_carry, outcome_of_lose, outcome_of_damage, outcome_of_settle, outcome_of_recover, outcome_of, arrival_text, after_outcome, carriages_from, carriages_of}
 use Rattle.ddcmp_script.specs.ScriptSteps.{scene_of, Comes, Carries, stopped_of, LineEnds}
 use Rattle.ddcmp_run.proofs.Runs.{run-one, run-none}
 use Rattle.ddcmp_io.proofs.TextLaws.{sends-as, sends-nothing}
-
-idle-or-wrote : (o : Option (List ℕ)) → ((bytes : List ℕ) → wrote o ≡ reply.Wrote bytes → ⊥) → wrote o ≡ reply.Idle
-idle-or-wrote None n = refl
-idle-or-wrote (Some bytes) n = absurd (n bytes refl)
-
--- a poll that wrote nothing is answered by Idle
-pub polled-idle : (e : End) (p : PairState) → ((bytes : List ℕ) → reply_to (event.Poll e) p ≡ reply.Wrote bytes → ⊥) → reply_to (event.Poll e) p ≡ reply.Idle
-unfolding reply_to
-polled-idle A p n = idle-or-wrote (line_bytes p.a) n
-polled-idle B p n = idle-or-wrote (line_bytes p.b) n
 
 -- an event has come
 pub comes-event : (ev : Event) (p q : PairState) (lines after : Between) (before now : Output)

@@ -1,5 +1,6 @@
 //! Doing what the lines of a script ask for.
-ghost use Rattle.std.specs.Prelude.{◌≡◌, ◌≢◌, ◌↔◌, ◌++◌, ◌∷◌, [], true, false, length, Some, None, Ok, Err, IsOk, OnOk, OnErr, List, ℕ, IsTrue, codes};
+ghost use Rattle.std.specs.Prelude.{◌≡◌, ◌≢◌, ◌↔◌, ◌<◌, ◌++◌, ◌∷◌, [], true, false, length, Some, None, Ok, Err, IsOk, OnOk, OnErr, List, ℕ, IsTrue};
+ghost use Rattle.std.specs.VecDeque.{deque_capacity, deque_len};
 ghost use Rattle.ddcmp_io.specs.Device.{Logs};
 ghost use Rattle.ddcmp_io.specs.Written.{HandsOver, output_of};
 ghost use Rattle.ddcmp_run.specs.Run.{PairState, at, end_of, after_event, reply_to, run, asks_memory};
@@ -19,8 +20,8 @@ use ddcmp_carrier::Carrier;
 use ddcmp_io::{Page, Sink, WriteFailed};
 use ddcmp_pair::{Bytes, End, Event, Pair, Reply};
 use ddcmp_script_text::{
-    ParsedLine, ScriptCommand, answerer_name, damage_name, end_name, read_line, write_bytes,
-    write_counted, write_plain, write_recovered, write_reply, write_settled, write_station,
+    ParsedLine, ScriptCommand, answerer_name, damage_name, end_name, read_line, write_counted,
+    write_plain, write_recovered, write_reply, write_settled, write_station,
 };
 use ddcmp_station::Memory;
 use std::alloc::Global;
@@ -62,13 +63,21 @@ fn poll<W: Sink>(
         × (page.new ≡ page.old) × (writer.new ≡ writer.old)) }
 {
     frames.reserve(1)?;
-    let Reply::Wrote(bytes) = pair.step(Event::Poll(end))? else {
-        write_plain(page, writer, end_name(end), b"idle\n");
-        return Ok(());
-    };
-    write_bytes(page, writer, end_name(end), b"wrote ", bytes.as_slice());
-    frames.push_back_reserved(FrameLeft::new(bytes));
+    let reply = pair.step(Event::Poll(end))?;
+    write_reply(page, writer, end_name(end), &reply);
+    put_last(frames, reply);
     Ok(())
+}
+
+/// A frame that was written goes last on its line, where there is room for it.
+fn put_last(frames: &mut VecDeque<FrameLeft>, reply: Reply)
+    requires { deque_len frames.old < deque_capacity frames.old }
+    ensures { frames.new.items ≡ frames_after reply frames.old.items }
+{
+    match reply {
+        Reply::Wrote(bytes) => frames.push_back_reserved(FrameLeft::new(bytes)),
+        _ => {}
+    }
 }
 
 /// At most so many bytes from the front of some, or all.

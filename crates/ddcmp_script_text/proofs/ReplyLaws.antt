@@ -4,10 +4,6 @@ use Rattle.std.specs.Prelude.{codes}
 use Rattle.ddcmp_run.specs.declared.event.Reply.TheVariants as reply
 use Rattle.ddcmp_script_text.specs.ScriptText.{reply_text, bytes_line, counted_line}
 
-pub text-of-idle : (who : List ℕ) → reply_text who reply.Idle ≡ who ++ codes "idle\n"
-unfolding reply_text
-text-of-idle who = refl
-
 pub text-of-wrote : (who bytes : List ℕ) → reply_text who (reply.Wrote bytes) ≡ bytes_line who (codes "wrote ") bytes
 unfolding reply_text
 text-of-wrote who bytes = refl
