@@ -1,4 +1,5 @@
-//! Tests of `ddcmp_explain` from outside: its text at every cut, size and fault, over streams and of dumps.
+//! Tests of `ddcmp_explain` from outside: its text at every cut, size and fault, over streams and
+//! of dumps.
 #![tactic(auto)]
 
 #[cfg(test)]

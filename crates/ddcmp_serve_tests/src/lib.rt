@@ -1,4 +1,5 @@
-//! Tests of `ddcmp_serve` from outside: the reports of served stations, in memory and over a connection.
+//! Tests of `ddcmp_serve` from outside: the reports of served stations, in memory and over a
+//! connection.
 #![tactic(auto)]
 
 #[cfg(test)]

@@ -1,9 +1,9 @@
 //! A served station over a connection, of which the test holds the other end.
 use crate::reports::{Standing, strt_and_ack};
 use crate::same::is;
-use ddcmp_serve::{ServeFault, serve};
 use ddcmp_frame::failing::Taken;
 use ddcmp_frame::{FromRead, ToWrite};
+use ddcmp_serve::{ServeFault, serve};
 use std::alloc::Global;
 use std::io::{Read, Write};
 use std::net::{TcpListener, TcpStream};
