@@ -1,11 +1,7 @@
-//! Tests of the program from outside: its words, its texts, scripts and stations over the network.
+//! Tests of the program from outside: its words, its texts and its ends.
 #![tactic(auto)]
 
 #[cfg(test)]
 mod programs;
 #[cfg(test)]
 mod same;
-#[cfg(test)]
-mod scripts;
-#[cfg(test)]
-mod stations;
