@@ -213,32 +213,6 @@ where
     }
 }
 
-/// Opens the next line, for which the station begins anew.
-fn next_line<'a, S>(
-    system: &S,
-    options: &Options<'a>,
-    desk: &mut Desk,
-    opener: &mut Opener<'a>,
-    waiting: &mut Waiting,
-    clock: &mut Elapsed<'_, S>,
-    is_first: bool,
-) -> Result<Line, Ended<'a>>
-where
-    S: Net<Stream = net::TcpStream, Listener = net::TcpListener>
-        + Files<File = File>
-        + Eprint
-        + time::Clock,
-{
-    match open_line(system, options, opener, waiting, clock, is_first) {
-        Ok(Some(line)) => match desk.link.begin_anew() {
-            Ok(_dropped) => Ok(line),
-            Err(_refused) => Err(Ended::Stopped(Stop::Line)),
-        },
-        Ok(None) => Err(Ended::Stopped(Stop::Line)),
-        Err(fault) => Err(Ended::Open(fault)),
-    }
-}
-
 /// Leaves a line that has ended: what came over it is written, and what was lost is told.
 fn leave_line<E: Eprint, W: Sink>(
     errors: &E,
@@ -254,106 +228,8 @@ fn leave_line<E: Eprint, W: Sink>(
     Ok(())
 }
 
-/// Runs the link over a line, and leaves it where it ends and another may come: whether all is
-/// delivered.
-fn run_and_leave<S, R: Source, W: Sink>(
-    system: &S,
-    options: &Options<'_>,
-    desk: &mut Desk,
-    line: &mut Line,
-    waiting: &mut Waiting,
-    clock: &mut Elapsed<'_, S>,
-    reader: &mut R,
-    writer: &mut W,
-    is_listening: bool,
-) -> Result<bool, Stop>
-where
-    S: Eprint + time::Clock,
-{
-    match run_line(system, options, desk, line, waiting, clock, reader, writer) {
-        Ok(()) => return Ok(true),
-        Err(Stop::Line) => {}
-        Err(stop) => return Err(stop),
-    }
-    if !options.again && (!is_listening || desk.line_has_spoken) {
-        return Err(Stop::Line);
-    }
-    leave_line(system, desk, waiting, writer)?;
-    Ok(false)
-}
-
-/// Runs the link over the next line: whether all is delivered.
-fn run_next_line<'a, S, R: Source, W: Sink>(
-    system: &S,
-    options: &Options<'a>,
-    desk: &mut Desk,
-    opener: &mut Opener<'a>,
-    waiting: &mut Waiting,
-    clock: &mut Elapsed<'_, S>,
-    reader: &mut R,
-    writer: &mut W,
-    is_first: bool,
-) -> Result<bool, Ended<'a>>
-where
-    S: Net<Stream = net::TcpStream, Listener = net::TcpListener>
-        + Files<File = File>
-        + Eprint
-        + time::Clock,
-{
-    let is_listening = opener.is_listening();
-    match next_line(system, options, desk, opener, waiting, clock, is_first) {
-        Ok(mut line) => {
-            let ran = run_and_leave(
-                system,
-                options,
-                desk,
-                &mut line,
-                waiting,
-                clock,
-                reader,
-                writer,
-                is_listening,
-            );
-            match ran {
-                Ok(is_delivered) => Ok(is_delivered),
-                Err(stop) => Err(Ended::Stopped(stop)),
-            }
-        }
-        Err(ended) => Err(ended),
-    }
-}
-
 /// Runs the link over one line after the other, until all is delivered or a line ends for good.
 fn run_lines<'a, S, R: Source, W: Sink>(
-    system: &S,
-    options: &Options<'a>,
-    desk: &mut Desk,
-    opener: &mut Opener<'a>,
-    waiting: &mut Waiting,
-    clock: &mut Elapsed<'_, S>,
-    reader: &mut R,
-    writer: &mut W,
-) -> Result<(), Ended<'a>>
-where
-    S: Net<Stream = net::TcpStream, Listener = net::TcpListener>
-        + Files<File = File>
-        + Eprint
-        + time::Clock,
-{
-    for opened in 0..u64::MAX {
-        let is_first = opened == 0;
-        let is_delivered = run_next_line(
-            system, options, desk, opener, waiting, clock, reader, writer, is_first,
-        )?;
-        if is_delivered {
-            return Ok(());
-        }
-    }
-    Err(Ended::Stopped(Stop::Line))
-}
-
-/// Runs the link from the first line's opening to the last one's end.
-fn run<'a, S, R: Source, W: Sink>(
     system: &S,
     options: &Options<'a>,
     desk: &mut Desk,
@@ -368,22 +244,43 @@ where
         + time::Clock,
 {
     let mut opener = Opener::new(options.line);
-    match begin_listening(system, &mut opener, waiting) {
-        Ok(()) => {
-            let mut clock = Elapsed::new(system);
-            run_lines(
-                system,
-                options,
-                desk,
-                &mut opener,
-                waiting,
-                &mut clock,
-                reader,
-                writer,
-            )
-        }
-        Err(fault) => Err(Ended::Open(fault)),
+    if let Err(fault) = begin_listening(system, &mut opener, waiting) {
+        return Err(Ended::Open(fault));
     }
+    let mut clock = Elapsed::new(system);
+    for opened in 0..u64::MAX {
+        let is_first = opened == 0;
+        let mut line = match open_line(
+            system,
+            options,
+            &mut opener,
+            waiting,
+            &mut clock,
+            is_first,
+        ) {
+            Ok(Some(line)) => line,
+            Ok(None) => break,
+            Err(fault) => return Err(Ended::Open(fault)),
+        };
+        if desk.link.begin_anew().is_err() {
+            break;
+        }
+        let ran = run_line(
+            system, options, desk, &mut line, waiting, &mut clock, reader, writer,
+        );
+        let stop = match ran {
+            Ok(()) => return Ok(()),
+            Err(stop) => stop,
+        };
+        let goes_on = options.again || opener.is_listening() && !desk.line_has_spoken;
+        if !goes_on || !matches!(stop, Stop::Line) {
+            return Err(Ended::Stopped(stop));
+        }
+        if let Err(stop) = leave_line(system, desk, waiting, writer) {
+            return Err(Ended::Stopped(stop));
+        }
+    }
+    Err(Ended::Stopped(Stop::Line))
 }
 
 /// Ends a service: the station is halted, and what is left to say is said.
@@ -470,7 +367,7 @@ where
         + time::Clock,
     ensures broken { (result ≡ Err ServiceFault.Write) ↔ IsTrue (W.broken writer.new) }
 {
-    let ended = run(system, options, desk, waiting, reader, writer);
+    let ended = run_lines(system, options, desk, waiting, reader, writer);
     end(system, options, desk, writer, ended.is_ok());
     ending_of(ended, desk.was_refused, writer)
 }
