@@ -2,8 +2,8 @@
 ghost use Rattle.std.specs.Prelude.{◌≡◌, ◌≢◌, ◌⊎◌, ◌↔◌, ◌≤◌, false, true, IsTrue, List, ℕ, None, Some};
 ghost use Rattle.ddcmp_core.specs.Limits.{MAX_COUNT};
 ghost use Rattle.ddcmp_io.specs.Input.{GaveMost};
-ghost use Rattle.ddcmp_cli.specs.Endings.{ExplainsAsked, ExplainsDumpTo, ExplainsFile, ExplainsFrom};
-ghost use Rattle.ddcmp_cli.specs.Endings.{ExplainsInput, ExplainsTo, streams};
+ghost use Rattle.ddcmp_cli.specs.Endings.{ExplainsAsked, ExplainsFile};
+ghost use Rattle.ddcmp_cli.specs.Endings.{ExplainsInput, streams};
 ghost use Rattle.std.specs.Option.{option_map};
 ghost use Rattle.ddcmp_cli.specs.Endings.{is_misused as is_misused_by, is_refusal};
 
@@ -39,61 +39,7 @@ fn typed(explained: &Explained<'_>) -> &'static str {
     }
 }
 
-/// Explains a dump.
-fn explain_dumped<R: Source, W: Sink>(
-    alloc: Global,
-    explained: &Explained<'_>,
-    reader: &mut R,
-    writer: &mut W,
-) -> Ending
-    requires fine { R.state reader.old ≡ Worst.Fine }
-    requires whole { W.broken writer.old ≡ false }
-    requires max { (1 ≤ explained.now.max) × (explained.now.max ≤ MAX_COUNT) }
-    ensures explains { (input : List ℕ) → R.left reader.old ≡ Some input
-        → ExplainsDumpTo explained.now (streams input (R.left reader.new) (W.contents writer.old)
-        (W.contents writer.new)) result }
-    ensures read { R.state reader.new ≢ Worst.Fine → result ≡ Ending.Fault Fault.Read }
-    ensures read_only { result ≡ Ending.Fault Fault.Read → (R.state reader.new ≢ Worst.Fine)
-        ⊎ GaveMost (R.left reader.old) (R.left reader.new) }
-    ensures write { (result ≡ Ending.Fault Fault.Write) ↔ IsTrue (W.broken writer.new) }
-{
-    match explain_dump(alloc, reader, writer, explained.style, explained.max) {
-        Ok(()) => Ending::Done,
-        Err(fault) => Ending::Fault(Fault::from(fault)),
-    }
-}
-
-/// Explains digits, or bytes as they are.
-fn explain_spelled<R: Source, W: Sink>(
-    alloc: Global,
-    explained: &Explained<'_>,
-    reader: &mut R,
-    writer: &mut W,
-) -> Ending
-    requires fine { R.state reader.old ≡ Worst.Fine }
-    requires whole { W.broken writer.old ≡ false }
-    requires max { (1 ≤ explained.now.max) × (explained.now.max ≤ MAX_COUNT) }
-    ensures explains { (input : List ℕ) → R.left reader.old ≡ Some input
-        → ExplainsTo explained.now (streams input (R.left reader.new) (W.contents writer.old)
-        (W.contents writer.new)) result }
-    ensures read { R.state reader.new ≢ Worst.Fine → result ≡ Ending.Fault Fault.Read }
-    ensures read_only { result ≡ Ending.Fault Fault.Read → (R.state reader.new ≢ Worst.Fine)
-        ⊎ GaveMost (R.left reader.old) (R.left reader.new) }
-    ensures write { (result ≡ Ending.Fault Fault.Write) ↔ IsTrue (W.broken writer.new) }
-{
-    let Explained {
-        form,
-        style,
-        max,
-        ..
-    } = *explained;
-    match explain_with(alloc, reader, writer, form, style, max) {
-        Ok(()) => Ending::Done,
-        Err(fault) => Ending::Fault(Fault::from(fault)),
-    }
-}
-
-/// Explains a source.
+/// Explains a source: a dump, or what its form says.
 fn explain_source<R: Source, W: Sink>(
     alloc: Global,
     explained: &Explained<'_>,
@@ -111,9 +57,22 @@ fn explain_source<R: Source, W: Sink>(
         ⊎ GaveMost (R.left reader.old) (R.left reader.new) }
     ensures write { (result ≡ Ending.Fault Fault.Write) ↔ IsTrue (W.broken writer.new) }
 {
-    match explained.from {
-        Some(_dump) => explain_dumped(alloc, explained, reader, writer),
-        None => explain_spelled(alloc, explained, reader, writer),
+    let Explained {
+        from,
+        form,
+        style,
+        max,
+        ..
+    } = *explained;
+    match from {
+        Some(_dump) => match explain_dump(alloc, reader, writer, style, max) {
+            Ok(()) => Ending::Done,
+            Err(fault) => Ending::Fault(Fault::from(fault)),
+        },
+        None => match explain_with(alloc, reader, writer, form, style, max) {
+            Ok(()) => Ending::Done,
+            Err(fault) => Ending::Fault(Fault::from(fault)),
+        },
     }
 }
 
@@ -162,39 +121,8 @@ fn misuse(form: Form) -> &'static str {
     }
 }
 
-/// Explains a file, or standard input where there is none. Who types it is told what is read.
-fn explain_named<I: Inputs, R: Source, W: Sink>(
-    inputs: &I,
-    alloc: Global,
-    explained: &Explained<'_>,
-    reader: &mut R,
-    writer: &mut W,
-) -> Ending
-    requires fine { R.state reader.old ≡ Worst.Fine }
-    requires whole { W.broken writer.old ≡ false }
-    requires max { (1 ≤ explained.now.max) × (explained.now.max ≤ MAX_COUNT) }
-    ensures explains { (input : List ℕ) → R.left reader.old ≡ Some input
-        → ExplainsFrom (I.held inputs.now) explained.now.file explained.now
-        (streams input (R.left reader.new) (W.contents writer.old) (W.contents writer.new))
-        result }
-    ensures read { R.state reader.new ≢ Worst.Fine → result ≡ Ending.Fault Fault.Read }
-    ensures read_only { option_map (λ name. name.now) explained.now.file ≡ None
-        → result ≡ Ending.Fault Fault.Read → (R.state reader.new ≢ Worst.Fine)
-        ⊎ GaveMost (R.left reader.old) (R.left reader.new) }
-    ensures write { (result ≡ Ending.Fault Fault.Write) ↔ IsTrue (W.broken writer.new) }
-    ensures untouched { option_map (λ name. name.now) explained.now.file ≢ None
-        → reader.new ≡ reader.old }
-{
-    match explained.file {
-        None => {
-            inputs.await_typing(typed(explained));
-            explain_source(alloc, explained, reader, writer)
-        }
-        Some(name) => explain_file(inputs, alloc, name, explained, writer),
-    }
-}
-
-/// Explains what the words ask for.
+/// Explains what the words ask for: a file, or standard input where they name none. Who types it is
+/// told what is read.
 pub(crate) fn explain_asked<I: Inputs, R: Source, W: Sink>(
     inputs: &I,
     alloc: Global,
@@ -219,5 +147,11 @@ pub(crate) fn explain_asked<I: Inputs, R: Source, W: Sink>(
     if is_misused(explained.form, explained.from) {
         return usage(alloc, misuse(explained.form));
     }
-    explain_named(inputs, alloc, explained, reader, writer)
+    match explained.file {
+        None => {
+            inputs.await_typing(typed(explained));
+            explain_source(alloc, explained, reader, writer)
+        }
+        Some(name) => explain_file(inputs, alloc, name, explained, writer),
+    }
 }
