@@ -1,5 +1,5 @@
--- What the program calls the faults of a script.
-use Rattle.std.proofs.Common.{◌≡◌, ◌∙◌, sym, ap, subst, ℕ, Bool, List, Option, None, Result, Err, refl}
+-- What the program calls the faults of a script, and how a run is shown.
+use Rattle.std.proofs.Common.{◌≡◌, ◌∙◌, sym, ap, subst, ℕ, Bool, true, false, List, Option, None, Result, Err, refl}
 use Rattle.ddcmp_run.specs.Run.{PairState}
 use Rattle.ddcmp_carrier.specs.Carriages.{Carriage}
 use Rattle.ddcmp_script.specs.ScriptEnds.{around, Plays}
@@ -8,7 +8,8 @@ use Rattle.ddcmp_script.specs.declared.script_fault.ScriptFault.TheVariants as s
 use Rattle.ddcmp_cli.specs.declared.fault.Fault.{Fault}
 use Rattle.ddcmp_cli.specs.declared.fault.Fault.TheVariants.{Carrier, Read, Write}
 use Rattle.ddcmp_cli.specs.declared.ending.Ending.TheVariants.{Fault as Faulted}
-use Rattle.ddcmp_cli.specs.Endings.{script_fault}
+use Rattle.ddcmp_cli.specs.declared.ending.Ending.{Ending}
+use Rattle.ddcmp_cli.specs.Endings.{script_fault, ShowsRun}
 
 -- a fault that the script answered is the one that the program tells
 pub told : (r : Result (Unit {0}) ScriptFault) (fault known : ScriptFault) (made : Fault) → r ≡ Err fault → made ≡ script_fault fault → r ≡ Err known → Faulted made ≡ Faulted (script_fault known)
@@ -63,3 +64,11 @@ untold counted input before p q is_direct t u Wrote WrotePart r e n m h =
     subst (λ b. Plays counted input (around b q is_direct None None) Wrote WrotePart r) e
     (subst (λ x. Plays counted input (around before q is_direct x None) Wrote WrotePart r) n
     (subst (λ y. Plays counted input (around before q is_direct t y) Wrote WrotePart r) m h))
+
+-- what holds of a run that was written holds of one that is shown
+pub shows-as : (svg ladder : Bool) (Refused Written Wanted : Ending → Type 0) (ending : Ending) → (Written ending → Wanted ending)
+    → ShowsRun svg ladder Refused Written ending → ShowsRun svg ladder Refused Wanted ending
+shows-as true true R W V e f h = h
+shows-as true false R W V e f h = tt
+shows-as false true R W V e f h = tt
+shows-as false false R W V e f h = f h

@@ -2,11 +2,12 @@
 ghost use Rattle.std.specs.Prelude.{◌≡◌, ◌≢◌, ◌⊎◌, ◌↔◌, false, true, None, Some, IsTrue, List, ℕ};
 ghost use Rattle.ddcmp_io.specs.Input.{GaveMost};
 ghost use Rattle.ddcmp_station.specs.Config.{first_refusal};
-ghost use Rattle.ddcmp_cli.specs.Endings.{is_refusal, Pairs, ShowsRun, Simulates, Untouched, streams};
+ghost use Rattle.ddcmp_cli.specs.Endings.{is_refusal, Pairs, PlaysBetween, ShowsRun, Simulates};
+ghost use Rattle.ddcmp_cli.specs.Endings.{Untouched, streams};
 
 use crate::ending::Ending;
 use crate::fault::Fault;
-use crate::simulating::{pair, simulate};
+use crate::simulating::play;
 use ddcmp_io::{Sink, Source, Worst};
 use ddcmp_net::Sockets;
 use ddcmp_picture::{Picture, draw};
@@ -62,6 +63,43 @@ fn draw_over<R: Source, W: Sink, C: Carrier>(
     }
 }
 
+/// Runs a script over a carrier, and shows it as is asked for.
+fn show_over<R: Source, W: Sink, C: Carrier>(
+    alloc: Global,
+    config: Config,
+    view: View,
+    carrier: &mut C,
+    reader: &mut R,
+    writer: &mut W,
+) -> Ending
+    requires fine { R.state reader.old ≡ Worst.Fine }
+    requires whole { W.broken writer.old ≡ false }
+    requires carrier { C.broken carrier.old ≡ false }
+    requires silent { (c : C) → C.told c ≡ None }
+    requires sizes { first_refusal config ≡ None }
+    ensures shows { (input : List ℕ) → R.left reader.old ≡ Some input
+        → ShowsRun view.svg view.ladder
+        (λ e. Untouched (streams input (R.left reader.new) (W.contents writer.old)
+        (W.contents writer.new)))
+        (λ e. PlaysBetween (C.direct carrier.old) config view.counters
+        (streams input (R.left reader.new) (W.contents writer.old) (W.contents writer.new)) e)
+        result }
+    ensures read { R.state reader.new ≢ Worst.Fine → result ≡ Ending.Fault Fault.Read }
+    ensures read_only { result ≡ Ending.Fault Fault.Read → (R.state reader.new ≢ Worst.Fine)
+        ⊎ GaveMost (R.left reader.old) (R.left reader.new) }
+    ensures write { (result ≡ Ending.Fault Fault.Write) ↔ IsTrue (W.broken writer.new) }
+    ensures carried { result ≡ Ending.Fault Fault.Carrier → IsTrue (C.broken carrier.new) }
+{
+    let counted = view.counters;
+    let picture = match (view.svg, view.ladder) {
+        (true, true) => return two_pictures(alloc),
+        (true, false) => Picture::Svg,
+        (false, true) => Picture::Ladder,
+        (false, false) => return play(alloc, config, counted, carrier, reader, writer),
+    };
+    draw_over(alloc, config, picture, counted, carrier, reader, writer)
+}
+
 /// Runs a script over a line that gives what goes in, and shows it.
 pub(crate) fn show_simulation<R: Source, W: Sink>(
     alloc: Global,
@@ -84,61 +122,7 @@ pub(crate) fn show_simulation<R: Source, W: Sink>(
         ⊎ GaveMost (R.left reader.old) (R.left reader.new) }
     ensures write { (result ≡ Ending.Fault Fault.Write) ↔ IsTrue (W.broken writer.new) }
 {
-    let counted = view.counters;
-    match (view.svg, view.ladder) {
-        (true, true) => two_pictures(alloc),
-        (true, false) => draw_over(
-            alloc,
-            config,
-            Picture::Svg,
-            counted,
-            &mut Direct,
-            reader,
-            writer,
-        ),
-        (false, true) => draw_over(
-            alloc,
-            config,
-            Picture::Ladder,
-            counted,
-            &mut Direct,
-            reader,
-            writer,
-        ),
-        (false, false) => simulate(alloc, config, counted, reader, writer),
-    }
-}
-
-/// Draws a script over a connection, which is made first.
-fn draw_pair<N: Net<Stream = TcpStream>, R: Source, W: Sink>(
-    net: &N,
-    alloc: Global,
-    config: Config,
-    picture: Picture,
-    counted: bool,
-    reader: &mut R,
-    writer: &mut W,
-) -> Ending
-    requires fine { R.state reader.old ≡ Worst.Fine }
-    requires whole { W.broken writer.old ≡ false }
-    requires sizes { first_refusal config ≡ None }
-    ensures read { R.state reader.new ≢ Worst.Fine → result ≡ Ending.Fault Fault.Read }
-    ensures read_only { result ≡ Ending.Fault Fault.Read → (R.state reader.new ≢ Worst.Fine)
-        ⊎ GaveMost (R.left reader.old) (R.left reader.new) }
-    ensures write { (result ≡ Ending.Fault Fault.Write) ↔ IsTrue (W.broken writer.new) }
-{
-    let Ok(mut sockets) = Sockets::new(net) else {
-        return Ending::Fault(Fault::Carrier);
-    };
-    draw_over(
-        alloc,
-        config,
-        picture,
-        counted,
-        &mut sockets,
-        reader,
-        writer,
-    )
+    show_over(alloc, config, view, &mut Direct, reader, writer)
 }
 
 /// Runs a script over a connection, which is made first, and shows it.
@@ -164,11 +148,11 @@ pub(crate) fn show_pair<N: Net<Stream = TcpStream>, R: Source, W: Sink>(
         ⊎ GaveMost (R.left reader.old) (R.left reader.new) }
     ensures write { (result ≡ Ending.Fault Fault.Write) ↔ IsTrue (W.broken writer.new) }
 {
-    let counted = view.counters;
-    match (view.svg, view.ladder) {
-        (true, true) => two_pictures(alloc),
-        (true, false) => draw_pair(net, alloc, config, Picture::Svg, counted, reader, writer),
-        (false, true) => draw_pair(net, alloc, config, Picture::Ladder, counted, reader, writer),
-        (false, false) => pair(net, alloc, config, counted, reader, writer),
+    if view.svg && view.ladder {
+        return two_pictures(alloc);
     }
+    let Ok(mut sockets) = Sockets::new(net) else {
+        return Ending::Fault(Fault::Carrier);
+    };
+    show_over(alloc, config, view, &mut sockets, reader, writer)
 }
