@@ -3,7 +3,10 @@ use Rattle.ddcmp_cli.specs.Endings.{CanRun, Performs, ExplainsOrNoMemory, Stream
 use Rattle.ddcmp_cli.specs.declared.ending.Ending.{Ending}
 use Rattle.std.specs.Str.{bytes_eq}
 use Rattle.std.proofs.lemmas.Slice.Eq.{bytes_eq-Decides}
-use Rattle.std.proofs.Common.{Bool, false, inr, ◌≤◌, ℕ, codes, ◌≡◌, ◌∙◌, ap, sym, refl, true, ◌≢◌, List, Option, Some, None}
+use Rattle.std.specs.Prelude.{IsOk}
+use Rattle.ddcmp_words.specs.declared.declined.Declined.{Declined}
+use Rattle.ddcmp_words.specs.declared.declined.Declined.TheVariants.{Memory}
+use Rattle.std.proofs.Common.{Bool, false, inl, inr, ◌⊎◌, Result, Ok, Err, ◌≤◌, ℕ, codes, ◌≡◌, ◌∙◌, sym, refl, true, ◌≢◌, List, Option, Some, None}
 use Rattle.std.proofs.lemmas.Bool.{le-leb}
 use Rattle.clap.specs.Words.{Text}
 use Rattle.ddcmp_words.specs.Words.{named_by, name_of, file_of, option_in, text_in, HasOptions, IsAsked}
@@ -104,3 +107,9 @@ reads_a_file A words (Pair config view) a n h some then = absurd (other (codes "
 reads_a_file A words (Station served) a n h some then = absurd (other (codes "explain") (codes "station") refl (sym a.names ∙ n))
 reads_a_file A words (Tap tapped) a n h some then = absurd (other (codes "explain") (codes "tap") refl (sym a.names ∙ n))
 reads_a_file A words (Link linked) a n h some then = absurd (other (codes "explain") (codes "link") refl (sym a.names ∙ n))
+
+-- words that ask for a command are declined for want of memory alone
+pub not_declined : {C : Type 0} (r : Result C Declined) (d : Declined) → r ≡ Err d → d ≢ Memory → IsOk r ⊎ (r ≡ Err Memory) → ⊥
+not_declined (Ok x) d e n h = let bad : Ok x ≡ Err d = e in cc
+not_declined (Err f) d e n (inl ok) = let bad : ◌≡◌ {A = Bool} false true = ok in cc
+not_declined (Err f) d e n (inr m) = let same : d ≡ Memory = cc in n same

@@ -29,7 +29,6 @@ use Rattle.ddcmp_words.specs.declared.explained.Explained.{Explained}
 use Rattle.ddcmp_words.specs.declared.served.Served.{Served}
 use Rattle.ddcmp_words.specs.declared.served.Role.{Role}
 use Rattle.ddcmp_cli.specs.Connections.{Peers}
-use Rattle.ddcmp_words.specs.declared.view.View.{View}
 use Rattle.ddcmp_serve.specs.declared.serve_fault.ServeFault.{ServeFault}
 use Rattle.ddcmp_serve.specs.declared.serve_fault.ServeFault.TheVariants as serving
 use Rattle.ddcmp_station.specs.declared.driving.LineFault.TheVariants as line

@@ -552,17 +552,8 @@ fn asked<'a>(matches: &ArgMatches<'a>) -> Option<Command<'a>>
 
 /// Reads the words of a command line, of which the first is the program's name.
 pub fn read_words<'a>(alloc: Global, words: &'a [&'a str]) -> Result<Command<'a>, Declined>
-    ensures asked { IsAsked (map (λ word. word.now) words.entry.now) (codes "explain")
-        → IsOk result ⊎ (result ≡ Err Declined.Memory) }
-    ensures script_asked { IsAsked (map (λ word. word.now) words.entry.now) (codes "simulate")
-        → IsOk result ⊎ (result ≡ Err Declined.Memory) }
-    ensures pair_asked { IsAsked (map (λ word. word.now) words.entry.now) (codes "pair")
-        → IsOk result ⊎ (result ≡ Err Declined.Memory) }
-    ensures station_asked { IsAsked (map (λ word. word.now) words.entry.now) (codes "station")
-        → IsOk result ⊎ (result ≡ Err Declined.Memory) }
-    ensures tap_asked { IsAsked (map (λ word. word.now) words.entry.now) (codes "tap")
-        → IsOk result ⊎ (result ≡ Err Declined.Memory) }
-    ensures link_asked { IsAsked (map (λ word. word.now) words.entry.now) (codes "link")
+    ensures asked { (name : List ℕ) → IsName name
+        → IsAsked (map (λ word. word.now) words.entry.now) name
         → IsOk result ⊎ (result ≡ Err Declined.Memory) }
     // What the words ask for, whatever they are.
     ensures reads { Reads (map (λ word. word.now) words.entry.now) result }

@@ -1,4 +1,4 @@
-use Rattle.std.proofs.Common.{arith, ap, ◌∙◌, sym, subst, inr, Some}
+use Rattle.std.proofs.Common.{arith, ap, ◌∙◌, sym, subst, inr}
 use Rattle.std.specs.Io.KnownBytes.{Keeps}
 use Rattle.std.proofs.KnownBytes.{Keeps-refl}
 use Rattle.ddcmp_cli.specs.declared.ending.Ending.TheVariants.{Fault as Faulted}

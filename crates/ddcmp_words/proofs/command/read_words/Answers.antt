@@ -15,33 +15,8 @@ returns-in-Some-clause-reads c = (
 
 pub returns-in-Ok-try_get_matches_from-clause-asked :
     goal.returns-in-Ok-try_get_matches_from-clause-asked
-returns-in-Ok-try_get_matches_from-clause-asked c = λ asked.
-    absurd (c.in-None.ensures.unnamed refl _ (inl refl) (sym (named _ _ c.in-Ok-try_get_matches_from.matches c.in-Ok.ensures c.in-Ok-try_get_matches_from.ensures.matches) ∙ asked.names))
-
-pub returns-in-Ok-try_get_matches_from-clause-script_asked :
-    goal.returns-in-Ok-try_get_matches_from-clause-script_asked
-returns-in-Ok-try_get_matches_from-clause-script_asked c = λ asked.
-    absurd (c.in-None.ensures.unnamed refl _ (inr (inl refl)) (sym (named _ _ c.in-Ok-try_get_matches_from.matches c.in-Ok.ensures c.in-Ok-try_get_matches_from.ensures.matches) ∙ asked.names))
-
-pub returns-in-Ok-try_get_matches_from-clause-pair_asked :
-    goal.returns-in-Ok-try_get_matches_from-clause-pair_asked
-returns-in-Ok-try_get_matches_from-clause-pair_asked c = λ asked.
-    absurd (c.in-None.ensures.unnamed refl _ (inr (inr (inl refl))) (sym (named _ _ c.in-Ok-try_get_matches_from.matches c.in-Ok.ensures c.in-Ok-try_get_matches_from.ensures.matches) ∙ asked.names))
-
-pub returns-in-Ok-try_get_matches_from-clause-station_asked :
-    goal.returns-in-Ok-try_get_matches_from-clause-station_asked
-returns-in-Ok-try_get_matches_from-clause-station_asked c = λ asked.
-    absurd (c.in-None.ensures.unnamed refl _ (inr (inr (inr (inl refl)))) (sym (named _ _ c.in-Ok-try_get_matches_from.matches c.in-Ok.ensures c.in-Ok-try_get_matches_from.ensures.matches) ∙ asked.names))
-
-pub returns-in-Ok-try_get_matches_from-clause-tap_asked :
-    goal.returns-in-Ok-try_get_matches_from-clause-tap_asked
-returns-in-Ok-try_get_matches_from-clause-tap_asked c = λ asked.
-    absurd (c.in-None.ensures.unnamed refl _ (inr (inr (inr (inr (inl refl))))) (sym (named _ _ c.in-Ok-try_get_matches_from.matches c.in-Ok.ensures c.in-Ok-try_get_matches_from.ensures.matches) ∙ asked.names))
-
-pub returns-in-Ok-try_get_matches_from-clause-link_asked :
-    goal.returns-in-Ok-try_get_matches_from-clause-link_asked
-returns-in-Ok-try_get_matches_from-clause-link_asked c = λ asked.
-    absurd (c.in-None.ensures.unnamed refl _ (inr (inr (inr (inr (inr refl))))) (sym (named _ _ c.in-Ok-try_get_matches_from.matches c.in-Ok.ensures c.in-Ok-try_get_matches_from.ensures.matches) ∙ asked.names))
+returns-in-Ok-try_get_matches_from-clause-asked c = λ name is asked.
+    absurd (c.in-None.ensures.unnamed refl name is (sym (named _ _ c.in-Ok-try_get_matches_from.matches c.in-Ok.ensures c.in-Ok-try_get_matches_from.ensures.matches) ∙ asked.names))
 
 pub returns-in-Ok-try_get_matches_from-clause-reads :
     goal.returns-in-Ok-try_get_matches_from-clause-reads
@@ -55,25 +30,5 @@ returns-clause-reads c =
     reads-fault (words_of c.args.words.now) _ c.decline.result c.decline.ensures (at-program (λ app. HasKind (fault_of app (words_of c.args.words.now)) c.in-Err-try_get_matches_from.error) _ c.in-Ok.ensures c.in-Err-try_get_matches_from.ensures.kinds)
 
 pub returns-clause-asked : goal.returns-clause-asked
-returns-clause-asked c = λ asked.
-    inr (ap Err (declined-memory _ c.decline.result c.decline.ensures (c.in-Err-try_get_matches_from.ensures.passes (in_order _ _ _ c.in-Ok.ensures asked))))
-
-pub returns-clause-script_asked : goal.returns-clause-script_asked
-returns-clause-script_asked c = λ asked.
-    inr (ap Err (declined-memory _ c.decline.result c.decline.ensures (c.in-Err-try_get_matches_from.ensures.passes (in_order _ _ _ c.in-Ok.ensures asked))))
-
-pub returns-clause-pair_asked : goal.returns-clause-pair_asked
-returns-clause-pair_asked c = λ asked.
-    inr (ap Err (declined-memory _ c.decline.result c.decline.ensures (c.in-Err-try_get_matches_from.ensures.passes (in_order _ _ _ c.in-Ok.ensures asked))))
-
-pub returns-clause-station_asked : goal.returns-clause-station_asked
-returns-clause-station_asked c = λ asked.
-    inr (ap Err (declined-memory _ c.decline.result c.decline.ensures (c.in-Err-try_get_matches_from.ensures.passes (in_order _ _ _ c.in-Ok.ensures asked))))
-
-pub returns-clause-tap_asked : goal.returns-clause-tap_asked
-returns-clause-tap_asked c = λ asked.
-    inr (ap Err (declined-memory _ c.decline.result c.decline.ensures (c.in-Err-try_get_matches_from.ensures.passes (in_order _ _ _ c.in-Ok.ensures asked))))
-
-pub returns-clause-link_asked : goal.returns-clause-link_asked
-returns-clause-link_asked c = λ asked.
+returns-clause-asked c = λ name is asked.
     inr (ap Err (declined-memory _ c.decline.result c.decline.ensures (c.in-Err-try_get_matches_from.ensures.passes (in_order _ _ _ c.in-Ok.ensures asked))))
