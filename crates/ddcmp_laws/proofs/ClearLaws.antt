@@ -35,8 +35,8 @@ use Rattle.ddcmp_run.specs.Place.{WholeFrame, place_of}
 use Rattle.ddcmp_run.specs.Run.{EndState, PairState, with_station, restarts_in, notices_at, frames_polled, whole_frame, after_start_here, after_send_here, after_poll_here, after_arrival_here, after_expire_here, after_take_here, after_event_here, clear_refusal, cleared, after_clear_by, end_of, after_event_at, after_event, run, new_end, new_pair}
 use Rattle.ddcmp_run.proofs.Places.{good_frames_in-append}
 use Rattle.ddcmp_run.proofs.Modulo.{back-between}
-use Rattle.ddcmp_run.proofs.Relation.{Face, face, up, Wire, no_wire, wire_data, StateFits, Stands, not_begun, begun, Fits}
-use Rattle.ddcmp_run.proofs.Comings.{Pending, comes}
+use Rattle.ddcmp_run.proofs.Relation.{Face, face, up, Wire, no_wire, wire_data, StateFits, Stands, not_begun, begun, Fits, Pending}
+use Rattle.ddcmp_run.proofs.Comings.{comes}
 use Rattle.ddcmp_run.proofs.Sendings.{awake}
 use Rattle.ddcmp_run.proofs.Receptions.{hearing, fits_frame}
 use Rattle.ddcmp_run.proofs.Startups.{starting-comes, starting-hears, no-strt-comes}

@@ -12,29 +12,7 @@ use Rattle.ddcmp_core.specs.Table.{StationState, Frame, after_halt, after_start,
 use Rattle.ddcmp_run.specs.Link.{IsReached, link_of}
 use Rattle.ddcmp_run.proofs.Reached.{reached-give, reached-counts}
 use Rattle.ddcmp_run.proofs.Wires.{wire-more}
-use Rattle.ddcmp_run.proofs.Relation.{Face, up, Counts, StateFits, Stands, not_begun, begun, Fits}
-
--- another station, and messages taken, with the same handed up
-pub fits_station : (x y : Face) (fs fs' : List Frame) (s : StationState) (taken : List (List ℕ)) → taken ++ s.inbox ≡ up x
-    → ((n t : ℕ) → Stands x n t → Stands (record x { station = s; taken = taken }) n t) → Fits x y fs fs' → Fits (record x { station = s; taken = taken }) y fs fs'
-fits_station x y fs fs' s taken e f h = record {
-  sent = h.sent;
-  next = h.next;
-  forward = h.forward;
-  back = h.back;
-  sent' = h.sent';
-  next' = h.next';
-  forward' = h.forward';
-  back' = h.back';
-  small = h.small;
-  small' = h.small';
-  reached = h.reached;
-  reached' = subst (λ u. IsReached y.limits.window (link_of y.given y.acknowledged h.sent' u h.forward' h.back')) (sym e) h.reached';
-  stands = f h.sent h.next h.stands;
-  stands' = h.stands';
-  wire = h.wire;
-  wire' = h.wire';
-}
+use Rattle.ddcmp_run.proofs.Relation.{Face, up, Counts, StateFits, Stands, not_begun, begun, Fits, pending_station}
 
 -- flags and timer play no part
 pub stands_flags : (x : Face) (due : Bool) (reply : Owed) (rep : Bool) (timer : Timer) (n t : ℕ) → Stands x n t
@@ -45,7 +23,7 @@ stands_flags x due reply rep timer n t (begun s c p) = begun s c p
 pub fits_flags : (x y : Face) (fs fs' : List Frame) (due : Bool) (reply : Owed) (rep : Bool) (timer : Timer) → Fits x y fs fs'
     → Fits (record x { station = record x.station { due = due; reply = reply; rep = rep; timer = timer } }) y fs fs'
 fits_flags x y fs fs' due reply rep timer h =
-    fits_station x y fs fs' (record x.station { due = due; reply = reply; rep = rep; timer = timer }) x.taken refl (stands_flags x due reply rep timer) h
+    pending_station x y fs fs' [] [] (record x.station { due = due; reply = reply; rep = rep; timer = timer }) x.taken refl (stands_flags x due reply rep timer) h
 
 -- ---- halt, expire and take
 
@@ -54,7 +32,7 @@ stands_halt x n t (not_begun s p g u) = not_begun s refl g u
 stands_halt x n t (begun s c p) = begun s c tt
 
 pub fits_halt : (x y : Face) (fs fs' : List Frame) → Fits x y fs fs' → Fits (record x { station = after_halt x.station }) y fs fs'
-fits_halt x y fs fs' h = fits_station x y fs fs' (after_halt x.station) x.taken refl (stands_halt x) h
+fits_halt x y fs fs' h = pending_station x y fs fs' [] [] (after_halt x.station) x.taken refl (stands_halt x) h
 
 pub fits_expire : (x y : Face) (fs fs' : List Frame) → Fits x y fs fs' → Fits (record x { station = after_expire x.station }) y fs fs'
 fits_expire x y fs fs' h = at x.station.timer
@@ -84,7 +62,7 @@ stands_take x n t (begun s c p) =
 
 pub fits_take : (x y : Face) (fs fs' : List Frame) → Fits x y fs fs'
     → Fits (record x { station = after_take x.station; taken = x.taken ++ option_to_list (first_message x.station.inbox) }) y fs fs'
-fits_take x y fs fs' h = fits_station x y fs fs' (after_take x.station) _ (take-up x.taken x.station.inbox) (stands_take x) h
+fits_take x y fs fs' h = pending_station x y fs fs' [] [] (after_take x.station) _ (take-up x.taken x.station.inbox) (stands_take x) h
 
 -- ---- send
 

@@ -11,26 +11,7 @@ use Rattle.ddcmp_run.proofs.Modulo.{next-near, forward-near, back-between}
 use Rattle.ddcmp_run.proofs.Wires.{wire-first, wire-behind, reached-lose-forwards, reached-lose-backs, get-index}
 use Rattle.ddcmp_run.proofs.Numbers.{newly-is, counts-after-ack}
 use Rattle.ddcmp_run.proofs.Calls.{fits_flags}
-use Rattle.ddcmp_run.proofs.Relation.{Face, up, Wire, Numbers, Counts, StateFits, Stands, begun, Fits}
-
--- The same as Fits, but for positions that have come to x from y, and counts.
-pub record Pending (x y : Face) (fs fs' : List Frame) (ks qs : List ℕ) : Type 0 where
-  pub sent : ℕ
-  pub next : ℕ
-  pub forward : List ℕ
-  pub back : List ℕ
-  pub sent' : ℕ
-  pub next' : ℕ
-  pub forward' : List ℕ
-  pub back' : List ℕ
-  pub small : x.limits.window ≤ 255
-  pub small' : y.limits.window ≤ 255
-  pub reached : IsReached x.limits.window (link_of x.given x.acknowledged sent (up y) forward (qs ++ back))
-  pub reached' : IsReached y.limits.window (link_of y.given y.acknowledged sent' (up x) (ks ++ forward') back')
-  pub stands : Stands x sent next
-  pub stands' : Stands y sent' next'
-  pub wire : Wire x.given fs forward back'
-  pub wire' : Wire y.given fs' forward' back
+use Rattle.ddcmp_run.proofs.Relation.{Face, up, Wire, Numbers, Counts, StateFits, begun, Fits, Pending}
 
 -- they are lost
 pub passed : (x y : Face) (fs fs' : List Frame) (ks qs : List ℕ) → Pending x y fs fs' ks qs → Fits x y fs fs'
@@ -92,28 +73,6 @@ comes x y fs lost f rest h =
             wire' = t.wire;
           };
     }
-
--- the station of x changes in what plays no part
-pub pending_station : (x y : Face) (fs fs' : List Frame) (ks qs : List ℕ) (s : StationState) → s.inbox ≡ x.station.inbox
-    → ((n t : ℕ) → Stands x n t → Stands (record x { station = s }) n t) → Pending x y fs fs' ks qs → Pending (record x { station = s }) y fs fs' ks qs
-pending_station x y fs fs' ks qs s e f h = record {
-  sent = h.sent;
-  next = h.next;
-  forward = h.forward;
-  back = h.back;
-  sent' = h.sent';
-  next' = h.next';
-  forward' = h.forward';
-  back' = h.back';
-  small = h.small;
-  small' = h.small';
-  reached = h.reached;
-  reached' = subst (λ u. IsReached y.limits.window (link_of y.given y.acknowledged h.sent' (x.taken ++ u) (ks ++ h.forward') h.back')) (sym e) h.reached';
-  stands = f h.sent h.next h.stands;
-  stands' = h.stands';
-  wire = h.wire;
-  wire' = h.wire';
-}
 
 -- ---- a count is used
 

@@ -1,19 +1,11 @@
 -- The place as more is sent and more arrives.
-use Rattle.std.proofs.Common.{◌≡◌, ℕ, suc, ◌+◌, ◌<◌, ◌≤◌, Bool, true, false, List, [], ◌∷◌, ◌++◌, length, take, drop, get_or, refl, sym, ◌∙◌, ap, subst, arith, add-one, append_assoc, append-nil, length-append, ◌⊎◌, inl, inr, Option, Some, None, if◌then◌else◌}
-use Rattle.std.specs.Prelude.{option_map, option_and_then, is_some, IfSome, Result, Ok, Err, IsOk, OnErr}
-use Rattle.std.proofs.Math.Seq.{drop-cons, take-suc, drop-length}
-use Rattle.ddcmp_frame.specs.declared.item.Item.{Item}
-use Rattle.ddcmp_frame.specs.declared.item.Item.TheVariants as item
-use Rattle.ddcmp_frame.specs.Reading.{ReadItem, items, good_frames, good_frames_in, good_frame_of}
-use Rattle.ddcmp_frame.proofs.ReadingLaws.{items-nothing}
-use Rattle.ddcmp_frame.proofs.Tests.{some-inj}
+use Rattle.std.proofs.Common.{◌≡◌, ℕ, suc, ◌+◌, ◌<◌, ◌≤◌, Bool, true, false, List, [], ◌∷◌, ◌++◌, length, drop, get_or, refl, sym, ◌∙◌, ap, arith, add-one, append_assoc, ◌⊎◌, inl, inr, Option, Some, None, if◌then◌else◌}
+use Rattle.std.specs.Prelude.{option_map, option_and_then}
+use Rattle.std.proofs.Math.Seq.{drop-cons, drop-length}
+use Rattle.ddcmp_frame.specs.Reading.{ReadItem, good_frames_in, good_frame_of}
 use Rattle.std.proofs.lemmas.Bool.{cases_lt}
 use Rattle.std.proofs.lemmas.List.{drop-append-le, drop_all}
-use Rattle.ddcmp_run.specs.declared.event.Event.{Event}
-use Rattle.ddcmp_run.specs.declared.event.Event.TheVariants as event
-use Rattle.ddcmp_run.specs.Run.{EndState, after_event_here}
-use Rattle.ddcmp_frame.specs.Reader.{items_given}
-use Rattle.ddcmp_run.specs.Place.{WholeFrame, same_frame, first_index, place_after, place_from, place_of, place_next}
+use Rattle.ddcmp_run.specs.Place.{WholeFrame, same_frame, first_index, place_after, place_from, place_of}
 
 -- one more frame that arrived
 pub place_from-last : (place : Option ℕ) (fs sent : List WholeFrame) (f : WholeFrame)

@@ -13,10 +13,10 @@ use Rattle.ddcmp_core.specs.declared.notice.Notice.TheVariants as notice
 use Rattle.ddcmp_core.specs.Table.{StationState, Frame, Data, Acked, Naked, Rep, Strt, Stack, Maint, Received, Good, BadHeader, BadData, TooLong, BadFormat, newly_acknowledged, after_ack, on_data, on_nak, on_by, on, after_startup, takes_data, notice_by, notice_of, acknowledged_by}
 use Rattle.ddcmp_core.specs.Laws.{is_fault}
 use Rattle.ddcmp_core.proofs.ToldLaws.{number_told, number_told_data}
-use Rattle.ddcmp_run.proofs.Calls.{fits_flags, fits_station}
-use Rattle.ddcmp_run.proofs.Comings.{Pending, Comes, comes, passed, pending_station, acknowledging, use_count, use_position}
+use Rattle.ddcmp_run.proofs.Calls.{fits_flags}
+use Rattle.ddcmp_run.proofs.Comings.{Comes, comes, passed, acknowledging, use_count, use_position}
 use Rattle.ddcmp_run.proofs.Sendings.{awake, is-awake}
-use Rattle.ddcmp_run.proofs.Relation.{Face, up, Wire, no_wire, wire_data, wire_ack, wire_nak, StateFits, Stands, not_begun, begun, Fits}
+use Rattle.ddcmp_run.proofs.Relation.{Face, up, Wire, no_wire, wire_data, wire_ack, wire_nak, StateFits, Stands, not_begun, begun, Fits, Pending, pending_station}
 
 abbrev pub is_strt : Frame → Bool
 is_strt Strt = true
@@ -136,7 +136,7 @@ state_to : (x y : Face) (fs fs' : List Frame) (p q : State) (due : Bool) (reply 
     → (StateFits p x.given → StateFits q x.given) → Fits x y fs fs'
     → Fits (record x { station = record x.station { state = q; due = due; reply = reply; timer = timer }; acknowledged = x.acknowledged + 0 }) y fs fs'
 state_to x y fs fs' p q due reply timer e up f h =
-    quiet _ y fs fs' (fits_station x y fs fs' _ x.taken refl (λ n t. stands_state x p q n t due reply timer e up f) h)
+    quiet _ y fs fs' (pending_station x y fs fs' [] [] _ x.taken refl (λ n t. stands_state x p q n t due reply timer e up f) h)
 
 starting-awake : IStart ≡ Halted → ⊥
 starting-awake e = cc
@@ -170,7 +170,7 @@ first_data x y fs rest resp num message e zero c =
     let told = told-none (takes_data x.limits x.station num) in
     let v : x.acknowledged + newly_acknowledged (after_startup x.station) resp
     ≡ x.acknowledged + acknowledged_by (Some (cond (takes_data x.limits x.station num) notice.RunningAndHandedUp notice.Running)) = omega (arith, m, told) in
-    let h = pending_station x y fs rest c.ks c.qs (after_startup x.station) refl
+    let h = pending_station x y fs rest c.ks c.qs (after_startup x.station) x.taken refl
     (λ n t. stands_state x AStart Running n t false x.station.reply Off e answering-awake (λ g. tt)) c.pending in
     subst (λ n. Fits (record x { station = on_data x.limits (after_startup x.station) resp num message; acknowledged = n }) y fs rest) v
     (hear_data (record x { station = after_startup x.station }) y fs rest resp num message refl c.first h)

@@ -1,5 +1,6 @@
 -- Two ends, and the frames on their way between them, are two links.
 use Rattle.std.specs.Prelude.{◌≡◌, ℕ, suc, ◌+◌, ◌%◌, ◌<◌, ◌≤◌, List, [], ◌∷◌, ◌++◌, length, drop, Some, slice_get}
+use Rattle.std.proofs.Common.{sym, subst}
 use Rattle.ddcmp_frame.specs.declared.nak.Nak.{Nak as Reason}
 use Rattle.ddcmp_core.specs.declared.state.State.{State}
 use Rattle.ddcmp_core.specs.declared.state.State.TheVariants.{Halted, IStart, AStart, Running, Maintenance}
@@ -81,8 +82,9 @@ pub data Stands (x : Face) (sent next : ℕ) : Type 0 where
 
 -- ---- both
 
--- The frames fs are on their way from x to y, and fs' from y to x.
-pub record Fits (x y : Face) (fs fs' : List Frame) : Type 0 where
+-- The frames fs are on their way from x to y, and fs' from y to x. The positions ks have come to x from y, and the
+-- counts qs, and aren't used yet.
+pub record Pending (x y : Face) (fs fs' : List Frame) (ks qs : List ℕ) : Type 0 where
   pub sent : ℕ
   pub next : ℕ
   pub forward : List ℕ
@@ -93,12 +95,39 @@ pub record Fits (x y : Face) (fs fs' : List Frame) : Type 0 where
   pub back' : List ℕ
   pub small : x.limits.window ≤ 255
   pub small' : y.limits.window ≤ 255
-  pub reached : IsReached x.limits.window (link_of x.given x.acknowledged sent (up y) forward back)
-  pub reached' : IsReached y.limits.window (link_of y.given y.acknowledged sent' (up x) forward' back')
+  pub reached : IsReached x.limits.window (link_of x.given x.acknowledged sent (up y) forward (qs ++ back))
+  pub reached' : IsReached y.limits.window (link_of y.given y.acknowledged sent' (up x) (ks ++ forward') back')
   pub stands : Stands x sent next
   pub stands' : Stands y sent' next'
   pub wire : Wire x.given fs forward back'
   pub wire' : Wire y.given fs' forward' back
+
+-- nothing has come that isn't used
+abbrev pub Fits : Face → Face → List Frame → List Frame → Type 0
+Fits x y fs fs' = Pending x y fs fs' [] []
+
+-- another station, and messages taken, with the same handed up
+pub pending_station : (x y : Face) (fs fs' : List Frame) (ks qs : List ℕ) (s : StationState) (taken : List (List ℕ)) → taken ++ s.inbox ≡ up x
+    → ((n t : ℕ) → Stands x n t → Stands (record x { station = s; taken = taken }) n t) → Pending x y fs fs' ks qs
+    → Pending (record x { station = s; taken = taken }) y fs fs' ks qs
+pending_station x y fs fs' ks qs s taken e f h = record {
+  sent = h.sent;
+  next = h.next;
+  forward = h.forward;
+  back = h.back;
+  sent' = h.sent';
+  next' = h.next';
+  forward' = h.forward';
+  back' = h.back';
+  small = h.small;
+  small' = h.small';
+  reached = h.reached;
+  reached' = subst (λ u. IsReached y.limits.window (link_of y.given y.acknowledged h.sent' u (ks ++ h.forward') h.back')) (sym e) h.reached';
+  stands = f h.sent h.next h.stands;
+  stands' = h.stands';
+  wire = h.wire;
+  wire' = h.wire';
+}
 
 pub fits_turned : (x y : Face) (fs fs' : List Frame) → Fits x y fs fs' → Fits y x fs' fs
 fits_turned x y fs fs' h = record {
