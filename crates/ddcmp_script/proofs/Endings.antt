@@ -24,7 +24,7 @@ use Rattle.ddcmp_script_text.specs.ScriptText.{closing_text}
 use Rattle.ddcmp_carrier.specs.Carriages.{Carriage}
 use Rattle.ddcmp_script.specs.Script.{Between, AllFit, nothing_between, after_lines, text_of_lines, carriages_of_lines, IsScriptLine, lines_done}
 use Rattle.ddcmp_script.specs.ScriptEnds.{text_then, Around, around, PausedBefore, StoppedAt, Broken, text_behind, Plays}
-use Rattle.ddcmp_script.specs.ScriptProgress.{fresh, HasDone, HasDoneAll, Stops}
+use Rattle.ddcmp_script.specs.ScriptProgress.{HasDone, HasDoneAll, Stops, course, fresh, played}
 use Rattle.ddcmp_io.proofs.TextLaws.{sends-nothing}
 use Rattle.ddcmp_script.proofs.Scenes.{carries-nothing}
 use Rattle.ddcmp_script.proofs.Playing.{sends-more, nothing-of-next}
@@ -85,14 +85,14 @@ module _ (counted : Bool) (input : List ℕ) (x : Around) where
     written = s.did.written;
   }
 
-  pub stops-flushed : (number : ℕ) (start a b : Output) (why : Stop) → Stops input number start a x why → HandsOver a b [] → Stops input number start b x why
+  pub stops-flushed : (number : ℕ) (start a b : Output) (why : Stop) → Stops input number (course start a x) why → HandsOver a b [] → Stops input number (course start b x) why
   stops-flushed number start a b stop.NoCommand s f = stopped-wrote _ _ (HandsOver start a) (HandsOver start b) (λ t h. sends-more t h f) s
   stops-flushed number start a b stop.NotHex s f = stopped-wrote _ _ (HandsOver start a) (HandsOver start b) (λ t h. sends-more t h f) s
   stops-flushed number start a b stop.Write s f = broken-wrote _ _ (λ t _ h. sends-more t h f) s
   stops-flushed number start a b stop.Memory s f = broken-wrote _ _ (λ t _ h. sends-more t h f) s
   stops-flushed number start a b stop.Carrier s f = stopped-wrote _ _ (HandsOver start a) (HandsOver start b) (λ t h. sends-more t h f) s
 
-  stops-break : (number : ℕ) (start a : Output) (why : Stop) → Stops input number start a x why → Broken input x (λ text behind. HandsOver start a text)
+  stops-break : (number : ℕ) (start a : Output) (why : Stop) → Stops input number (course start a x) why → Broken input x (λ text behind. HandsOver start a text)
   stops-break number start a stop.NoCommand s = stopped-breaks _ _ (HandsOver start a) s
   stops-break number start a stop.NotHex s = stopped-breaks _ _ (HandsOver start a) s
   stops-break number start a stop.Write s = s
@@ -103,28 +103,28 @@ module _ (counted : Bool) (input : List ℕ) (x : Around) where
   broken-part sink o s = broken-wrote _ _ (λ t b h. part-append sink o.sink t (text_behind counted b x.pair_after) (wrote-part sink o t h)) s
 
   -- the text of a stop couldn't be written
-  pub plays-write : (number : ℕ) (sink : Known) (o : Output) (why : Stop) → Stops input number (fresh sink) o x why → Plays counted input x (Appends sink o.sink) (AppendsPart sink o.sink) (Err Write)
+  pub plays-write : (number : ℕ) (sink : Known) (o : Output) (why : Stop) → Stops input number (course (fresh sink) o x) why → Plays counted input x (Appends sink o.sink) (AppendsPart sink o.sink) (Err Write)
   plays-write number sink o why s = broken-part sink o (stops-break number (fresh sink) o why s)
 
   module _ (number : ℕ) (sink : Known) (o : Output) (whole : o.broken ≡ false) (empty : o.waiting ≡ []) where
     all : (t : List ℕ) → HandsOver (fresh sink) o t → Appends sink o.sink t
     all t h = wrote-all sink o t h whole empty
 
-    pub plays-line : Stops input number (fresh sink) o x stop.NoCommand → Plays counted input x (Appends sink o.sink) (AppendsPart sink o.sink) (Err (Line (number + 1)))
+    pub plays-line : Stops input number (course (fresh sink) o x) stop.NoCommand → Plays counted input x (Appends sink o.sink) (AppendsPart sink o.sink) (Err (Line (number + 1)))
     plays-line s = stopped-wrote _ _ (HandsOver (fresh sink) o) (Appends sink o.sink) all s
 
-    pub plays-hex : Stops input number (fresh sink) o x stop.NotHex → Plays counted input x (Appends sink o.sink) (AppendsPart sink o.sink) (Err (Hex (number + 1)))
+    pub plays-hex : Stops input number (course (fresh sink) o x) stop.NotHex → Plays counted input x (Appends sink o.sink) (AppendsPart sink o.sink) (Err (Hex (number + 1)))
     plays-hex s = stopped-wrote _ _ (HandsOver (fresh sink) o) (Appends sink o.sink) all s
 
-    pub plays-memory : Stops input number (fresh sink) o x stop.Memory → Plays counted input x (Appends sink o.sink) (AppendsPart sink o.sink) (Err Memory)
+    pub plays-memory : Stops input number (course (fresh sink) o x) stop.Memory → Plays counted input x (Appends sink o.sink) (AppendsPart sink o.sink) (Err Memory)
     plays-memory s = broken-wrote _ _ (λ t b h. all t h) s
 
-    pub plays-carrier : Stops input number (fresh sink) o x stop.Carrier → Plays counted input x (Appends sink o.sink) (AppendsPart sink o.sink) (Err Carrier)
+    pub plays-carrier : Stops input number (course (fresh sink) o x) stop.Carrier → Plays counted input x (Appends sink o.sink) (AppendsPart sink o.sink) (Err Carrier)
     plays-carrier s = (number + 1, stopped-wrote _ _ (HandsOver (fresh sink) o) (Appends sink o.sink) all s)
 
   -- ---- the end of the input
 
-  module _ (sink : Known) (a b o : Output) (last : HasDoneAll input (fresh sink) a x) (told : HandsOver a b (closing_text counted x.pair_after)) (flushed : HandsOver b o []) where
+  module _ (sink : Known) (a b o : Output) (last : HasDoneAll input (course (fresh sink) a x)) (told : HandsOver a b (closing_text counted x.pair_after)) (flushed : HandsOver b o []) where
     told_all : HandsOver (fresh sink) o (text_then x.pair last.done ++ closing_text counted x.pair_after)
     told_all = sends-more (text_then x.pair last.done ++ closing_text counted x.pair_after) (sends-then last.did.written told) flushed
 
@@ -146,8 +146,8 @@ module _ (counted : Bool) (input : List ℕ) (x : Around) where
 
   -- ---- between two pieces
 
-  module _ (rest line : List ℕ) (number : ℕ) (lines : Between) (start a : Output) (h : HasDone input rest line number lines start a x) where
-    pub has-flushed : (b : Output) → HandsOver a b [] → HasDone input rest line number lines start b x
+  module _ (rest line : List ℕ) (number : ℕ) (lines : Between) (start a : Output) (h : HasDone input rest (played line number lines) (course start a x)) where
+    pub has-flushed : (b : Output) → HandsOver a b [] → HasDone input rest (played line number lines) (course start b x)
     has-flushed b f = record {
       done = h.done;
       begins = h.begins;
@@ -166,7 +166,7 @@ module _ (counted : Bool) (input : List ℕ) (x : Around) where
       written = h.did.written;
     }
 
-  pub plays-paused : (rest line : List ℕ) (number : ℕ) (lines : Between) (sink : Known) (o : Output) → HasDone input rest line number lines (fresh sink) o x → o.broken ≡ false → o.waiting ≡ [] → Plays counted input x (Appends sink o.sink) (AppendsPart sink o.sink) (Err Read)
+  pub plays-paused : (rest line : List ℕ) (number : ℕ) (lines : Between) (sink : Known) (o : Output) → HasDone input rest (played line number lines) (course (fresh sink) o x) → o.broken ≡ false → o.waiting ≡ [] → Plays counted input x (Appends sink o.sink) (AppendsPart sink o.sink) (Err Read)
   plays-paused rest line number lines sink o h whole empty = record {
     done = h.done;
     behind = lines_of (line ++ rest);
@@ -174,7 +174,7 @@ module _ (counted : Bool) (input : List ℕ) (x : Around) where
     did = record { pair = h.did.pair; carried = h.did.carried; written = wrote-all sink o _ h.did.written whole empty };
   }
 
-  pub paused-before : (rest line : List ℕ) (number : ℕ) (lines : Between) (sink : Known) (o : Output) → HasDone input rest line number lines (fresh sink) o x → o.broken ≡ false → o.waiting ≡ []
+  pub paused-before : (rest line : List ℕ) (number : ℕ) (lines : Between) (sink : Known) (o : Output) → HasDone input rest (played line number lines) (course (fresh sink) o x) → o.broken ≡ false → o.waiting ≡ []
       → PausedBefore rest input x (Appends sink o.sink)
   paused-before rest line number lines sink o h whole empty = record {
     done = h.done;
@@ -184,7 +184,7 @@ module _ (counted : Bool) (input : List ℕ) (x : Around) where
     did = record { pair = h.did.pair; carried = h.did.carried; written = wrote-all sink o _ h.did.written whole empty };
   }
 
-  pub plays-unwritten : (rest line : List ℕ) (number : ℕ) (lines : Between) (sink : Known) (o : Output) → HasDone input rest line number lines (fresh sink) o x → Plays counted input x (Appends sink o.sink) (AppendsPart sink o.sink) (Err Write)
+  pub plays-unwritten : (rest line : List ℕ) (number : ℕ) (lines : Between) (sink : Known) (o : Output) → HasDone input rest (played line number lines) (course (fresh sink) o x) → Plays counted input x (Appends sink o.sink) (AppendsPart sink o.sink) (Err Write)
   plays-unwritten rest line number lines sink o h =
       broken-part sink o (has-broken rest line number lines (fresh sink) o h)
 
@@ -224,10 +224,10 @@ none-left (Some xs) (Some ys) rest buf n z e h end =
 
 pub begun-has : (input : List ℕ) (p : PairState) (d : Bool) (log : Option (List Carriage)) (sink : Known) (b : Bool) (line : List ℕ) (number : ℕ) (lines : Between) (page : List ℕ)
     → line ≡ [] → number ≡ 0 → lines ≡ nothing_between → page ≡ [] → b ≡ false
-    → HasDone input input line number lines (fresh sink) (record { broken = b; sink = sink; waiting = page }) (around p p d log log)
+    → HasDone input input (played line number lines) (course (fresh sink) (record { broken = b; sink = sink; waiting = page }) (around p p d log log))
 unfolding after_lines text_of_lines carriages_of_lines AllFit
 begun-has input p d log sink b line number lines page el en es ep eb =
-    let first : HasDone input input [] number lines (fresh sink) (fresh sink) (around p p d log log) = record {
+    let first : HasDone input input (played [] number lines) (course (fresh sink) (fresh sink) (around p p d log log)) = record {
       done = [];
       begins = record { lines = refl; fit = tt };
       did = record { pair = refl; carried = carries-nothing d log; written = sends-nothing (fresh sink) };
@@ -236,8 +236,8 @@ begun-has input p d log sink b line number lines page el en es ep eb =
       begun = tt;
     } in
     let out : fresh sink ≡ record { broken = b; sink = sink; waiting = page } = λ i. record { broken = sym eb i; sink = sink; waiting = sym ep i } in
-    subst (λ l. HasDone input input l number lines (fresh sink) (record { broken = b; sink = sink; waiting = page }) (around p p d log log)) (sym el)
-    (subst (λ o. HasDone input input [] number lines (fresh sink) o (around p p d log log)) out first)
+    subst (λ l. HasDone input input (played l number lines) (course (fresh sink) (record { broken = b; sink = sink; waiting = page }) (around p p d log log))) (sym el)
+    (subst (λ o. HasDone input input (played [] number lines) (course (fresh sink) o (around p p d log log))) out first)
 
 -- ---- exactly where every line fits and nothing fails
 

@@ -11,10 +11,10 @@ use Rattle.ddcmp_script.specs.declared.performing.Stop.{Stop}
 use Rattle.ddcmp_script.specs.declared.performing.Stop.TheVariants.{NoCommand, NotHex, Write, Memory, Carrier}
 use Rattle.ddcmp_script_text.specs.ScriptWords.{reading_of, without_cr, lines_between, between_lf, lines_of}
 use Rattle.ddcmp_carrier.specs.Carriages.{Carriage}
-use Rattle.ddcmp_script.specs.Script.{Between, Scene, AreDirect, AreWithin, DoneLine, after_line, text_of, carriages_by, after_lines, text_of_lines, carriages_of_lines, IsScriptLine, AllFit, lines_done}
-use Rattle.ddcmp_script.specs.ScriptSteps.{scene_of, Carries, LineEnds}
+use Rattle.ddcmp_script.specs.Script.{Carries, Between, Scene, AreDirect, AreWithin, DoneLine, after_line, text_of, carriages_by, after_lines, text_of_lines, carriages_of_lines, IsScriptLine, AllFit, lines_done}
+use Rattle.ddcmp_script.specs.ScriptSteps.{scene_of, LineEnds}
 use Rattle.ddcmp_script.specs.ScriptEnds.{HasNoLf, scene_with, scene_then, text_then, carriages_then, Around, around, Begins, Did, StoppedBefore}
-use Rattle.ddcmp_script.specs.ScriptProgress.{HasDone, HasDoneAll, Stops, PlaysOut}
+use Rattle.ddcmp_script.specs.ScriptProgress.{HasDone, HasDoneAll, PlaysOut, Stops, course, played}
 use Rattle.ddcmp_script_text.proofs.Cutting.{HasPart, has-part}
 use Rattle.ddcmp_io.proofs.TextLaws.{sends-as}
 
@@ -119,7 +119,7 @@ module _ (input line : List ℕ) (behind : List (List ℕ)) (done : List DoneLin
       }
 
   pub line-stops : (number : ℕ) → number ≡ length done → (stop : Stop) → LineEnds d told now (reading_of line) (scene_of q lines) (scene_of r later) before after (Err stop)
-      → Stops input number start after (around p r d log now) stop
+      → Stops input number (course start after (around p r d log now)) stop
   line-stops number ne NoCommand ends = record {
     done = done;
     line = line;
@@ -222,20 +222,20 @@ nothing-of-next (line ∷ behind) done x W did = inl (did.pair, did.carried)
 begins-at : (done : List DoneLine) (a b : List (List ℕ)) (input : List ℕ) → a ≡ b → Begins done a input → Begins done b input
 begins-at done a b input e h = subst (λ t. Begins done t input) e h
 
-module _ (input rest raw : List ℕ) (number : ℕ) (lines later : Between) (p q r : PairState) (d : Bool) (log told now : Option (List Carriage)) (start before after : Output) (h : HasDone input (10 ∷ rest) raw number lines start before (around p q d log told)) where
+module _ (input rest raw : List ℕ) (number : ℕ) (lines later : Between) (p q r : PairState) (d : Bool) (log told now : Option (List Carriage)) (start before after : Output) (h : HasDone input (10 ∷ rest) (played raw number lines) (course start before (around p q d log told))) where
   begins-line : Begins h.done (without_cr raw ∷ lines_of rest) input
   begins-line = begins-at h.done _ _ input (lines-at-lf raw rest h.begun) h.begins
 
-  pub take-line : LineEnds d told now (reading_of (without_cr raw)) (scene_of q lines) (scene_of r later) before after (Ok tt) → HasDone input rest [] (number + 1) later start after (around p r d log now)
+  pub take-line : LineEnds d told now (reading_of (without_cr raw)) (scene_of q lines) (scene_of r later) before after (Ok tt) → HasDone input rest (played [] (number + 1) later) (course start after (around p r d log now))
   take-line ends =
       let next = line-done input (without_cr raw) (lines_of rest) h.done p q r lines later d log told now start before after begins-line h.did h.lines_are number h.number_is ends in
       record { done = next.done; begins = next.begins; did = next.did; lines_are = next.lines_are; number_is = next.number_is; begun = tt }
 
-  pub stop-line : (why : Stop) → LineEnds d told now (reading_of (without_cr raw)) (scene_of q lines) (scene_of r later) before after (Err why) → Stops input number start after (around p r d log now) why
+  pub stop-line : (why : Stop) → LineEnds d told now (reading_of (without_cr raw)) (scene_of q lines) (scene_of r later) before after (Err why) → Stops input number (course start after (around p r d log now)) why
   stop-line why ends =
       line-stops input (without_cr raw) (lines_of rest) h.done p q r lines later d log told now start before after begins-line h.did h.lines_are number h.number_is why ends
 
-pub take-byte : (input rest line : List ℕ) (c number : ℕ) (lines : Between) (start now : Output) (x : Around) → c ≢ 10 → HasDone input (c ∷ rest) line number lines start now x → HasDone input rest (line ++ c ∷ []) number lines start now x
+pub take-byte : (input rest line : List ℕ) (c number : ℕ) (lines : Between) (start now : Output) (x : Around) → c ≢ 10 → HasDone input (c ∷ rest) (played line number lines) (course start now x) → HasDone input rest (played (line ++ c ∷ []) number lines) (course start now x)
 take-byte input rest line c number lines start now x ne h = record {
   done = h.done;
   begins = begins-at h.done _ _ input (ap lines_of (sym (append_assoc line (c ∷ []) rest))) h.begins;
@@ -246,7 +246,7 @@ take-byte input rest line c number lines start now x ne h = record {
 }
 
 -- memory was refused for a byte of a line
-pub stop-byte : (input rest line : List ℕ) (number : ℕ) (lines : Between) (start now : Output) (x : Around) → HasDone input rest line number lines start now x → Stops input number start now x Memory
+pub stop-byte : (input rest line : List ℕ) (number : ℕ) (lines : Between) (start now : Output) (x : Around) → HasDone input rest (played line number lines) (course start now x) → Stops input number (course start now x) Memory
 stop-byte input rest line number lines start now x h = record {
   done = h.done;
   behind = lines_of (line ++ rest);
@@ -255,11 +255,11 @@ stop-byte input rest line number lines start now x h = record {
   written = h.did.written;
 }
 
-module _ (input line : List ℕ) (number : ℕ) (lines later : Between) (p q r : PairState) (d : Bool) (log told now : Option (List Carriage)) (start before after : Output) (h : HasDone input [] line number lines start before (around p q d log told)) where
+module _ (input line : List ℕ) (number : ℕ) (lines later : Between) (p q r : PairState) (d : Bool) (log told now : Option (List Carriage)) (start before after : Output) (h : HasDone input [] (played line number lines) (course start before (around p q d log told))) where
   lines-left : lines_of (line ++ []) ≡ lines_between (line ∷ [])
   lines-left = ap lines_of (append-nil line) ∙ lines-of-last line h.begun
 
-  pub end-nothing : length line ≡ 0 → HasDoneAll input start before (around p q d log told)
+  pub end-nothing : length line ≡ 0 → HasDoneAll input (course start before (around p q d log told))
   end-nothing none = record {
     done = h.done;
     begins = begins-at h.done _ _ input (lines-left ∙ last-none line none) h.begins;
@@ -269,15 +269,15 @@ module _ (input line : List ℕ) (number : ℕ) (lines later : Between) (p q r :
   begins-last : 0 < length line → Begins h.done (line ∷ []) input
   begins-last some = begins-at h.done _ _ input (lines-left ∙ last-some line some) h.begins
 
-  pub end-line : 0 < length line → LineEnds d told now (reading_of line) (scene_of q lines) (scene_of r later) before after (Ok tt) → HasDoneAll input start after (around p r d log now)
+  pub end-line : 0 < length line → LineEnds d told now (reading_of line) (scene_of q lines) (scene_of r later) before after (Ok tt) → HasDoneAll input (course start after (around p r d log now))
   end-line some ends =
       let next = line-done input line [] h.done p q r lines later d log told now start before after (begins-last some) h.did h.lines_are number h.number_is ends in
       record { done = next.done; begins = next.begins; did = next.did }
 
-  pub end-stopped : 0 < length line → (why : Stop) → LineEnds d told now (reading_of line) (scene_of q lines) (scene_of r later) before after (Err why) → Stops input number start after (around p r d log now) why
+  pub end-stopped : 0 < length line → (why : Stop) → LineEnds d told now (reading_of line) (scene_of q lines) (scene_of r later) before after (Err why) → Stops input number (course start after (around p r d log now)) why
   end-stopped some why ends =
       line-stops input line [] h.done p q r lines later d log told now start before after (begins-last some) h.did h.lines_are number h.number_is why ends
 
-  pub end-any : 0 < length line → (result : Result (Unit {0}) Stop) → LineEnds d told now (reading_of line) (scene_of q lines) (scene_of r later) before after result → PlaysOut input number start after (around p r d log now) result
+  pub end-any : 0 < length line → (result : Result (Unit {0}) Stop) → LineEnds d told now (reading_of line) (scene_of q lines) (scene_of r later) before after result → PlaysOut input number (course start after (around p r d log now)) result
   end-any some (Ok u) ends = end-line some ends
   end-any some (Err why) ends = end-stopped some why ends

@@ -14,14 +14,14 @@ use Rattle.ddcmp_run.specs.declared.event.End.TheVariants.{A, B}
 use Rattle.ddcmp_run.specs.declared.event.Event.{Event}
 use Rattle.ddcmp_run.specs.declared.event.Event.TheVariants as event
 use Rattle.ddcmp_run.specs.declared.event.Reply.{Reply}
-use Rattle.ddcmp_run.specs.declared.event.Reply.TheVariants as reply
+use Rattle.ddcmp_script.specs.declared.performing.Stop.{Stop}
 use Rattle.ddcmp_script.specs.declared.performing.Stop.TheVariants.{Memory}
 use Rattle.ddcmp_run.specs.Run.{PairState, at, end_of, reply_to, after_event, asks_memory, run}
 use Rattle.ddcmp_run.specs.Settle.{other, WantsMemory}
 use Rattle.ddcmp_script_text.specs.ScriptText.{end_name, name_before, reply_text, counted_line, station_line}
 use Rattle.ddcmp_carrier.specs.Carriages.{Carriage, HasCarried}
-use Rattle.ddcmp_script.specs.Script.{Between, Scene, Effect, AreDirect, AreWithin, frames_of, with_frames, taken_off, part_of, frames_after, lines_after, outcome_of_event, outcome_of_carry, outcome_of_lose, outcome_of_damage, outcome_of_settle, outcome_of_recover, outcome_of, arrival_text, after_outcome, carriages_from, carriages_of}
-use Rattle.ddcmp_script.specs.ScriptSteps.{scene_of, Comes, Carries, stopped_of, LineEnds}
+use Rattle.ddcmp_script.specs.Script.{Carries, Between, Scene, Effect, AreDirect, AreWithin, frames_of, with_frames, taken_off, part_of, frames_after, lines_after, outcome_of_event, outcome_of_carry, outcome_of_lose, outcome_of_damage, outcome_of_settle, outcome_of_recover, outcome_of, arrival_text, after_outcome, carriages_from, carriages_of}
+use Rattle.ddcmp_script.specs.ScriptSteps.{scene_of, Comes, stopped_of, LineEnds}
 use Rattle.ddcmp_run.proofs.Runs.{run-one, run-none}
 use Rattle.ddcmp_io.proofs.TextLaws.{sends-as, sends-nothing}
 
@@ -135,6 +135,20 @@ module _ (command : ScriptCommand) (s t : Scene) (before after : Output) (d : Bo
       → LineEnds d log log (Asks command) s t before after (stopped_of r)
   ends-by (Ok u) ok err = ends-well (ok refl)
   ends-by (Err m) ok err = ends-stopped err.0 err.1
+
+-- the command that was asked is this one, and its answer is passed on
+pub told-by : (d : Bool) (log : Option (List Carriage)) (command asked : ScriptCommand) (s t : Scene) (before after : Output) (done told : Result (Unit {0}) Stop) → asked ≡ command → told ≡ done
+    → LineEnds d log log (Asks command) s t before after done → LineEnds d log log (Asks asked) s t before after told
+told-by d log command asked s t before after done told is e ends =
+    subst (λ x. LineEnds d log log (Asks x) s t before after told) (sym is) (subst (LineEnds d log log (Asks command) s t before after) (sym e) ends)
+
+-- what a command does is this effect
+pub comes-as : {s t : Scene} {before after : Output} (effect this : Effect) → effect ≡ this → Comes this s t before after → Comes effect s t before after
+comes-as {s = s} {t = t} {before = before} {after = after} effect this e h = subst (λ o. Comes o s t before after) (sym e) h
+
+pub refused-as : {E : Type 0} (p q : PairState) (before after : Output) (r : Result (Unit {0}) E) (effect this : Effect) → effect ≡ this
+    → OnErr r (IsRefused this.events p q × HandsOver before after []) → OnErr r (IsRefused effect.events p q × HandsOver before after [])
+refused-as p q before after r effect this e h = subst (λ (o : Effect). OnErr r (IsRefused o.events p q × HandsOver before after [])) (sym e) h
 
 -- memory was refused for an event, or for one of several
 pub refused-by : {W E : Type 0} (r : Result (Unit {0}) E) (events : List Event) (broken : W → Bool) (contents : W → Option (List ℕ)) (p q : PairState) (w v : W) (page later : List ℕ)

@@ -1,6 +1,7 @@
 -- Scripts: what their lines do to two ends and to the frames between them.
-use Rattle.std.specs.Prelude.{◌≡◌, ◌≢◌, ◌≤◌, ℕ, Bool, false, if◌then◌else◌, nat_lt, ◌==◌, List, [], ◌∷◌, ◌++◌, length, take, drop, map, slice_set, slice_index_or, bit_xor, codes, Option, Some, None, ⊤}
+use Rattle.std.specs.Prelude.{◌≡◌, ◌≢◌, ◌≤◌, ℕ, Bool, true, false, if◌then◌else◌, nat_lt, ◌==◌, List, [], ◌∷◌, ◌++◌, length, take, drop, map, slice_set, slice_index_or, bit_xor, codes, Option, Some, None, ⊤}
 use Rattle.ddcmp_carrier.specs.Carriages.{Carriage}
+use Rattle.ddcmp_io.specs.Device.{Logs}
 use Rattle.ddcmp_run.specs.declared.event.End.{End}
 use Rattle.ddcmp_run.specs.declared.event.End.TheVariants.{A, B}
 use Rattle.ddcmp_run.specs.declared.event.Event.{Event}
@@ -189,6 +190,13 @@ AreDirect (c ∷ rest) = (c.came ≡ c.bytes) × AreDirect rest
 unfoldable pub AreWithin : List Carriage → Type 0
 AreWithin [] = ⊤
 AreWithin (c ∷ rest) = (length c.came ≤ length c.bytes) × AreWithin rest
+
+-- what a carrier was handed, and gave
+pub record Carries (is_direct : Bool) (old new : Option (List Carriage)) (all : List Carriage)
+    : Type 0 where
+  pub told : Logs old new all
+  pub direct : is_direct ≡ true → AreDirect all
+  pub within : AreWithin all
 
 -- ---- lines, one after another
 

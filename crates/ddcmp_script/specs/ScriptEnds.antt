@@ -11,8 +11,7 @@ use Rattle.ddcmp_script.specs.declared.script_fault.ScriptFault.TheVariants.{Lin
 use Rattle.ddcmp_script_text.specs.ScriptWords.{reading_of, lines_of}
 use Rattle.ddcmp_script_text.specs.ScriptText.{closing_text}
 use Rattle.ddcmp_carrier.specs.Carriages.{Carriage}
-use Rattle.ddcmp_script.specs.Script.{Scene, DoneLine, AllFit, nothing_between, lines_done, after_lines, text_of_lines, carriages_of_lines, events_by, carriages_by}
-use Rattle.ddcmp_script.specs.ScriptSteps.{Carries}
+use Rattle.ddcmp_script.specs.Script.{Carries, Scene, DoneLine, AllFit, nothing_between, lines_done, after_lines, text_of_lines, carriages_of_lines, events_by, carriages_by}
 
 -- a pair that has nothing between its ends
 abbrev pub scene_with : PairState → Scene

@@ -12,46 +12,65 @@ use Rattle.ddcmp_script.specs.ScriptEnds.{Around, HasNoLf, Begins, Did, StoppedA
 abbrev pub fresh : Known → Output
 fresh sink = record { broken = false; sink = sink; waiting = [] }
 
--- Some lines of an input were done, so many; a line was begun; and the rest is to come.
-pub record HasDone (input rest line : List ℕ) (number : ℕ) (lines : Between) (start now : Output)
-    (x : Around) : Type 0 where
+-- What a player has: the line that it has begun, how many it has done, and what is between the ends.
+pub record PlayerView : Type 0 where
+  pub line : List ℕ
+  pub number : ℕ
+  pub lines : Between
+
+abbrev pub played : List ℕ → ℕ → Between → PlayerView
+played line number lines = record { line = line; number = number; lines = lines }
+
+-- what was written from the start until now, and the pair before and after
+pub record Course : Type 0 where
+  pub start : Output
+  pub now : Output
+  pub around : Around
+
+abbrev pub course : Output → Output → Around → Course
+course start now x = record { start = start; now = now; around = x }
+
+-- this text was handed over on the way
+abbrev pub HandedOver : Course → List ℕ → Type 0
+HandedOver way text = HandsOver way.start way.now text
+
+-- Some lines of an input were done; a line was begun; and the rest is to come.
+pub record HasDone (input rest : List ℕ) (player : PlayerView) (way : Course) : Type 0 where
   pub done : List DoneLine
-  pub begins : Begins done (lines_of (line ++ rest)) input
-  pub did : Did done x (HandsOver start now)
-  pub lines_are : lines ≡ (scene_then x.pair done).lines
-  pub number_is : number ≡ length done
-  pub begun : HasNoLf line
+  pub begins : Begins done (lines_of (player.line ++ rest)) input
+  pub did : Did done way.around (HandedOver way)
+  pub lines_are : player.lines ≡ (scene_then way.around.pair done).lines
+  pub number_is : player.number ≡ length done
+  pub begun : HasNoLf player.line
 
 -- All lines of an input were done.
-pub record HasDoneAll (input : List ℕ) (start now : Output) (x : Around) : Type 0 where
+pub record HasDoneAll (input : List ℕ) (way : Course) : Type 0 where
   pub done : List DoneLine
   pub begins : Begins done [] input
-  pub did : Did done x (HandsOver start now)
+  pub did : Did done way.around (HandedOver way)
 
 -- some lines were done of an input of which this is left
-abbrev pub IsPlaying : List ℕ → Known → List ℕ → ℕ → Between → Output → Output → Around → Type 0
-IsPlaying input left line number lines start now x =
-    (rest : List ℕ) × (left ≡ Some rest) × HasDone input rest line number lines start now x
+abbrev pub IsPlaying : List ℕ → Known → PlayerView → Course → Type 0
+IsPlaying input left player way =
+    (rest : List ℕ) × (left ≡ Some rest) × HasDone input rest player way
 
--- why a line wasn't done
-abbrev pub Stops : List ℕ → ℕ → Output → Output → Around → Stop → Type 0
-Stops input number start now x NoCommand =
-    StoppedAt (λ r. r ≡ reading.NoCommand) (number + 1) input x (HandsOver start now)
-Stops input number start now x NotHex =
-    StoppedAt (λ r. r ≡ reading.NotHex) (number + 1) input x (HandsOver start now)
-Stops input number start now x Write = Broken input x (λ text behind. HandsOver start now text)
-Stops input number start now x Memory = Broken input x (λ text behind. HandsOver start now text)
-Stops input number start now x Carrier =
-    StoppedAt AsksCarrier (number + 1) input x (HandsOver start now)
+-- why a line wasn't done, behind so many that were
+abbrev pub Stops : List ℕ → ℕ → Course → Stop → Type 0
+Stops input number way NoCommand =
+    StoppedAt (λ r. r ≡ reading.NoCommand) (number + 1) input way.around (HandedOver way)
+Stops input number way NotHex =
+    StoppedAt (λ r. r ≡ reading.NotHex) (number + 1) input way.around (HandedOver way)
+Stops input number way Write = Broken input way.around (λ text behind. HandedOver way text)
+Stops input number way Memory = Broken input way.around (λ text behind. HandedOver way text)
+Stops input number way Carrier =
+    StoppedAt AsksCarrier (number + 1) input way.around (HandedOver way)
 
 -- what was to be taken was done, or why not
-abbrev pub PlaysOn : List ℕ → List ℕ → List ℕ → ℕ → Between → Output → Output → Around
-    → Result (Unit {0}) Stop → Type 0
-PlaysOn input rest line number lines start now x (Ok u) =
-    HasDone input rest line number lines start now x
-PlaysOn input rest line number lines start now x (Err stop) = Stops input number start now x stop
+abbrev pub PlaysOn : List ℕ → List ℕ → PlayerView → Course → Result (Unit {0}) Stop → Type 0
+PlaysOn input rest player way (Ok u) = HasDone input rest player way
+PlaysOn input rest player way (Err stop) = Stops input player.number way stop
 
 -- the same of the last line
-abbrev pub PlaysOut : List ℕ → ℕ → Output → Output → Around → Result (Unit {0}) Stop → Type 0
-PlaysOut input number start now x (Ok u) = HasDoneAll input start now x
-PlaysOut input number start now x (Err stop) = Stops input number start now x stop
+abbrev pub PlaysOut : List ℕ → ℕ → Course → Result (Unit {0}) Stop → Type 0
+PlaysOut input number way (Ok u) = HasDoneAll input way
+PlaysOut input number way (Err stop) = Stops input number way stop

@@ -1,5 +1,5 @@
 -- What became of one line of a script, as the code does it.
-use Rattle.std.specs.Prelude.{◌≡◌, ◌⊎◌, ℕ, Bool, true, List, [], Option, Result, Ok, Err}
+use Rattle.std.specs.Prelude.{◌≡◌, ◌⊎◌, ℕ, Bool, List, [], Option, Result, Ok, Err}
 use Rattle.ddcmp_io.specs.Device.{Logs}
 use Rattle.ddcmp_io.specs.Written.{Output, HandsOver}
 use Rattle.ddcmp_run.specs.declared.event.End.{End}
@@ -11,7 +11,7 @@ use Rattle.ddcmp_script.specs.declared.performing.Stop.TheVariants.{NoCommand, N
 use Rattle.ddcmp_run.specs.Run.{PairState}
 use Rattle.ddcmp_run.specs.Settle.{WantsMemory}
 use Rattle.ddcmp_carrier.specs.Carriages.{Carriage}
-use Rattle.ddcmp_script.specs.Script.{events_by, Between, Scene, Effect, AreDirect, AreWithin, after_outcome, scene_after, text_of, carriages_by}
+use Rattle.ddcmp_script.specs.Script.{events_by, Between, Scene, Effect, Carries, after_outcome, scene_after, text_of, carriages_by}
 
 abbrev pub scene_of : PairState → Between → Scene
 scene_of p lines = record { pair = p; lines = lines }
@@ -20,13 +20,6 @@ scene_of p lines = record { pair = p; lines = lines }
 pub record Comes (o : Effect) (old new : Scene) (before after : Output) : Type 0 where
   pub scene : new ≡ after_outcome o old
   pub text : HandsOver before after o.text
-
--- what a carrier was handed, and gave
-pub record Carries (is_direct : Bool) (old new : Option (List Carriage)) (all : List Carriage)
-    : Type 0 where
-  pub told : Logs old new all
-  pub direct : is_direct ≡ true → AreDirect all
-  pub within : AreWithin all
 
 -- What a line hands to the carrier was carried; some of its events happened, each of them whole; and
 -- the next one asks for memory.

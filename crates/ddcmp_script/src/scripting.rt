@@ -10,7 +10,8 @@ ghost use Rattle.ddcmp_script_text.specs.ScriptText.{yes_or_no as yes_or_no_text
 ghost use Rattle.ddcmp_carrier.specs.Carriages.{Carriage};
 ghost use Rattle.ddcmp_script.specs.Script.{AllFit, nothing_between};
 ghost use Rattle.ddcmp_script.specs.ScriptEnds.{Around, around, PausedBefore, Plays};
-ghost use Rattle.ddcmp_script.specs.ScriptProgress.{fresh, PlaysOut, HasDone, IsPlaying, Stops, PlaysOn};
+ghost use Rattle.ddcmp_script.specs.ScriptProgress.{HasDone, IsPlaying, PlaysOn, PlaysOut, Stops};
+ghost use Rattle.ddcmp_script.specs.ScriptProgress.{course, fresh, played};
 
 use crate::performing::{Stage, Stop};
 use crate::script_fault::ScriptFault;
@@ -144,12 +145,14 @@ impl Player {
         ensures direct { C.direct carrier.new ≡ C.direct carrier.old }
         ensures takes { (input rest : List ℕ) (p : PairState) (d : Bool)
             (log : Option (List Carriage)) (start : Output) → C.direct carrier.old ≡ d
-            → HasDone input (10 ∷ rest) self.old.line.items self.old.number self.old.stage.lines
-            start (output_of W.broken W.contents writer.old self.old.stage.page)
-            (around p pair.old d log (C.told carrier.old))
-            → PlaysOn input rest self.new.line.items self.new.number self.new.stage.lines
-            start (output_of W.broken W.contents writer.new self.new.stage.page)
-            (around p pair.new d log (C.told carrier.new)) result }
+            → HasDone input (10 ∷ rest)
+            (played self.old.line.items self.old.number self.old.stage.lines)
+            (course start (output_of W.broken W.contents writer.old self.old.stage.page)
+            (around p pair.old d log (C.told carrier.old)))
+            → PlaysOn input rest
+            (played self.new.line.items self.new.number self.new.stage.lines)
+            (course start (output_of W.broken W.contents writer.new self.new.stage.page)
+            (around p pair.new d log (C.told carrier.new))) result }
     {
         let line = without_cr(&self.line);
         match self.stage.do_line(pair, writer, carrier, line) {
@@ -182,12 +185,14 @@ impl Player {
         ensures direct { C.direct carrier.new ≡ C.direct carrier.old }
         ensures takes { (input rest : List ℕ) (p : PairState) (d : Bool)
             (log : Option (List Carriage)) (start : Output) → C.direct carrier.old ≡ d
-            → HasDone input (byte ∷ rest) self.old.line.items self.old.number self.old.stage.lines
-            start (output_of W.broken W.contents writer.old self.old.stage.page)
-            (around p pair.old d log (C.told carrier.old))
-            → PlaysOn input rest self.new.line.items self.new.number self.new.stage.lines
-            start (output_of W.broken W.contents writer.new self.new.stage.page)
-            (around p pair.new d log (C.told carrier.new)) result }
+            → HasDone input (byte ∷ rest)
+            (played self.old.line.items self.old.number self.old.stage.lines)
+            (course start (output_of W.broken W.contents writer.old self.old.stage.page)
+            (around p pair.old d log (C.told carrier.old)))
+            → PlaysOn input rest
+            (played self.new.line.items self.new.number self.new.stage.lines)
+            (course start (output_of W.broken W.contents writer.new self.new.stage.page)
+            (around p pair.new d log (C.told carrier.new))) result }
     {
         if byte == b'\n' {
             return self.end_line(pair, writer, carrier);
@@ -218,13 +223,14 @@ impl Player {
         ensures direct { C.direct carrier.new ≡ C.direct carrier.old }
         ensures takes { (input rest : List ℕ) (p : PairState) (d : Bool)
             (log : Option (List Carriage)) (start : Output) → C.direct carrier.old ≡ d
-            → HasDone input (piece.now ++ rest) self.old.line.items self.old.number
-            self.old.stage.lines
-            start (output_of W.broken W.contents writer.old self.old.stage.page)
-            (around p pair.old d log (C.told carrier.old))
-            → PlaysOn input rest self.new.line.items self.new.number self.new.stage.lines
-            start (output_of W.broken W.contents writer.new self.new.stage.page)
-            (around p pair.new d log (C.told carrier.new)) result }
+            → HasDone input (piece.now ++ rest)
+            (played self.old.line.items self.old.number self.old.stage.lines)
+            (course start (output_of W.broken W.contents writer.old self.old.stage.page)
+            (around p pair.old d log (C.told carrier.old)))
+            → PlaysOn input rest
+            (played self.new.line.items self.new.number self.new.stage.lines)
+            (course start (output_of W.broken W.contents writer.new self.new.stage.page)
+            (around p pair.new d log (C.told carrier.new))) result }
     {
         for i in 0..piece.len() {
             match self.take_byte(pair, writer, carrier, piece[i]) {
@@ -246,8 +252,8 @@ impl Player {
         ensures write { (result ≡ ScriptFault.Write) ↔ IsTrue (W.broken writer.new) }
         ensures carrier { (result ≡ ScriptFault.Carrier) ↔ (stop ≡ Stop.Carrier) }
         ensures plays { (counted : Bool) (input : List ℕ) (x : Around) (sink : Option (List ℕ))
-            → Stops input self.old.number (fresh sink)
-            (output_of W.broken W.contents writer.old self.old.stage.page) x stop
+            → Stops input self.old.number (course (fresh sink)
+            (output_of W.broken W.contents writer.old self.old.stage.page) x) stop
             → Plays counted input x (Appends sink (W.contents writer.new))
             (AppendsPart sink (W.contents writer.new)) (Err result) }
     {
@@ -282,12 +288,13 @@ impl Player {
         ensures carrier { (result ≡ Err Stop.Carrier) ↔ IsTrue (C.broken carrier.new) }
         ensures ends { (input : List ℕ) (p : PairState) (d : Bool)
             (log : Option (List Carriage)) (start : Output) → C.direct carrier.old ≡ d
-            → HasDone input [] self.old.line.items self.old.number self.old.stage.lines
-            start (output_of W.broken W.contents writer.old self.old.stage.page)
-            (around p pair.old d log (C.told carrier.old))
+            → HasDone input []
+            (played self.old.line.items self.old.number self.old.stage.lines)
+            (course start (output_of W.broken W.contents writer.old self.old.stage.page)
+            (around p pair.old d log (C.told carrier.old)))
             → PlaysOut input self.new.number
-            start (output_of W.broken W.contents writer.new self.new.stage.page)
-            (around p pair.new d log (C.told carrier.new)) result }
+            (course start (output_of W.broken W.contents writer.new self.new.stage.page)
+            (around p pair.new d log (C.told carrier.new))) result }
     {
         if self.line.is_empty() {
             return Ok(());
@@ -311,9 +318,10 @@ impl Player {
         ensures carrier { (result ≡ Err ScriptFault.Carrier) ↔ IsTrue (C.broken carrier.new) }
         ensures plays { (input : List ℕ) (p : PairState) (d : Bool)
             (log : Option (List Carriage)) (sink : Option (List ℕ)) → C.direct carrier.old ≡ d
-            → HasDone input [] self.old.line.items self.old.number self.old.stage.lines
-            (fresh sink) (output_of W.broken W.contents writer.old self.old.stage.page)
-            (around p pair.old d log (C.told carrier.old))
+            → HasDone input []
+            (played self.old.line.items self.old.number self.old.stage.lines)
+            (course (fresh sink) (output_of W.broken W.contents writer.old self.old.stage.page)
+            (around p pair.old d log (C.told carrier.old)))
             → Plays counted input (around p pair.new d log (C.told carrier.new))
             (Appends sink (W.contents writer.new))
             (AppendsPart sink (W.contents writer.new)) result }
@@ -352,20 +360,20 @@ impl Player {
         ensures carrier { (result ≡ Err ScriptFault.Carrier) ↔ IsTrue (C.broken carrier.new) }
         ensures paused { (input rest : List ℕ) (p : PairState) (d : Bool)
             (log : Option (List Carriage)) (sink : Option (List ℕ)) → C.direct carrier.old ≡ d
-            → IsPlaying input (R.left reader.old) self.old.line.items self.old.number
-            self.old.stage.lines
-            (fresh sink) (output_of W.broken W.contents writer.old self.old.stage.page)
-            (around p pair.old d log (C.told carrier.old))
+            → IsPlaying input (R.left reader.old)
+            (played self.old.line.items self.old.number self.old.stage.lines)
+            (course (fresh sink) (output_of W.broken W.contents writer.old self.old.stage.page)
+            (around p pair.old d log (C.told carrier.old)))
             → result ≡ Err ScriptFault.Read → self.new.seen ≢ 2 ^ 64 - 1
             → R.left reader.new ≡ Some rest
             → PausedBefore rest input (around p pair.new d log (C.told carrier.new))
             (Appends sink (W.contents writer.new)) }
         ensures plays { (input : List ℕ) (p : PairState) (d : Bool)
             (log : Option (List Carriage)) (sink : Option (List ℕ)) → C.direct carrier.old ≡ d
-            → IsPlaying input (R.left reader.old) self.old.line.items self.old.number
-            self.old.stage.lines
-            (fresh sink) (output_of W.broken W.contents writer.old self.old.stage.page)
-            (around p pair.old d log (C.told carrier.old))
+            → IsPlaying input (R.left reader.old)
+            (played self.old.line.items self.old.number self.old.stage.lines)
+            (course (fresh sink) (output_of W.broken W.contents writer.old self.old.stage.page)
+            (around p pair.old d log (C.told carrier.old)))
             → Plays counted input (around p pair.new d log (C.told carrier.new))
             (Appends sink (W.contents writer.new))
             (AppendsPart sink (W.contents writer.new)) result }

@@ -3,7 +3,7 @@ use Rattle.ddcmp_io.specs.Written.{output_of}
 use Rattle.ddcmp_script_text.specs.ScriptWords.{reading_of, without_cr}
 use Rattle.ddcmp_script.specs.ScriptSteps.{scene_of, LineEnds}
 use Rattle.ddcmp_script.specs.ScriptEnds.{around}
-use Rattle.ddcmp_script.specs.ScriptProgress.{HasDone}
+use Rattle.ddcmp_script.specs.ScriptProgress.{HasDone, course, played}
 use Rattle.ddcmp_script.proofs.Playing.{take-line, stop-line}
 use Rattle.ddcmp_script.proofs.scripting.Player.end_line.Goals as goal
 
@@ -22,7 +22,7 @@ returns-in-Ok-clause-takes g c = λ input rest p d log start de h.
     let line_is = c.without_cr-line.ensures ∙ ap without_cr c.deref.ensures.value in
     let ends = subst (λ e. LineEnds e told now (reading_of (without_cr raw)) (scene_of q lines) (scene_of r later) before after (Ok tt)) de
     (subst (λ l. LineEnds (g.C.Carrier.direct c.args.carrier.now) told now (reading_of l) (scene_of q lines) (scene_of r later) before after (Ok tt)) line_is c.in-Ok.ensures.ends) in
-    subst (λ l. HasDone input rest l (number + 1) later start after (around p r d log now)) (sym c.clear.ensures.items) (take-line input rest raw number lines later p q r d log told now start before after h ends)
+    subst (λ l. HasDone input rest (played l (number + 1) later) (course start after (around p r d log now))) (sym c.clear.ensures.items) (take-line input rest raw number lines later p q r d log told now start before after h ends)
 
 pub returns-in-Err-clause-takes : goal.returns-in-Err-clause-takes
 returns-in-Err-clause-takes g c = λ input rest p d log start de h.

@@ -3,7 +3,7 @@ use Rattle.std.proofs.Math.Seq.{drop-cons}
 use Rattle.std.proofs.lemmas.List.{drop_all}
 use Rattle.ddcmp_io.specs.Written.{output_of}
 use Rattle.ddcmp_script.specs.ScriptEnds.{around}
-use Rattle.ddcmp_script.specs.ScriptProgress.{HasDone}
+use Rattle.ddcmp_script.specs.ScriptProgress.{HasDone, course, played}
 use Rattle.ddcmp_script.proofs.scripting.Player.take.Goals as goal
 
 pub loop-i-init : goal.loop-i-init
@@ -29,7 +29,7 @@ loop-i-preserved g c = record {
       let x = around p c.loop-i.pair d log (g.C.Carrier.told c.loop-i.carrier) in
       let far = c.loop-i.invariant.so_far input rest p d log start de h in
       let cut : drop i piece ++ rest ≡ get_or piece i 0 ∷ (drop (i + 1) piece ++ rest) = ap (λ t. t ++ rest) (drop-cons piece i 0 c.loop-i-test.true ∙ ap (λ n. get_or piece i 0 ∷ drop n piece) (sym (add-one i))) in
-      let before = subst (λ t. HasDone input t player.line.items player.number player.stage.lines start out x) cut far in
+      let before = subst (λ t. HasDone input t (played player.line.items player.number player.stage.lines) (course start out x)) cut far in
       c.in-Ok.ensures.takes input (drop (i + 1) piece ++ rest) p d log start (c.loop-i.invariant.direct ∙ de) before;
 }
 
@@ -42,7 +42,7 @@ returns-in-Err-clause-takes g c = λ input rest p d log start de h.
     let x = around p c.loop-i.pair d log (g.C.Carrier.told c.loop-i.carrier) in
     let far = c.loop-i.invariant.so_far input rest p d log start de h in
     let cut : drop i piece ++ rest ≡ get_or piece i 0 ∷ (drop (i + 1) piece ++ rest) = ap (λ t. t ++ rest) (drop-cons piece i 0 c.loop-i-test.true ∙ ap (λ n. get_or piece i 0 ∷ drop n piece) (sym (add-one i))) in
-    let before = subst (λ t. HasDone input t player.line.items player.number player.stage.lines start out x) cut far in
+    let before = subst (λ t. HasDone input t (played player.line.items player.number player.stage.lines) (course start out x)) cut far in
     c.in-Err.ensures.takes input (drop (i + 1) piece ++ rest) p d log start (c.loop-i.invariant.direct ∙ de) before
 
 pub returns-clause-takes : goal.returns-clause-takes
@@ -52,4 +52,4 @@ returns-clause-takes g c = λ input rest p d log start de h.
     let out = output_of g.W.Sink.broken g.W.Sink.contents c.loop-i.writer player.stage.page in
     let x = around p c.loop-i.pair d log (g.C.Carrier.told c.loop-i.carrier) in
     let none : drop c.loop-i.i piece ≡ [] = drop_all c.loop-i.i piece (omega arith) in
-    subst (λ t. HasDone input (t ++ rest) player.line.items player.number player.stage.lines start out x) none (c.loop-i.invariant.so_far input rest p d log start de h)
+    subst (λ t. HasDone input (t ++ rest) (played player.line.items player.number player.stage.lines) (course start out x)) none (c.loop-i.invariant.so_far input rest p d log start de h)

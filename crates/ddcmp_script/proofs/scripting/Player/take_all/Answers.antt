@@ -1,7 +1,7 @@
 use Rattle.std.proofs.Common.{◌≡◌, ◌<◌, false, length, take, rules, refl, subst, ◌∙◌, arith}
 use Rattle.ddcmp_io.specs.Written.{output_of}
 use Rattle.ddcmp_script.specs.ScriptEnds.{around}
-use Rattle.ddcmp_script.specs.ScriptProgress.{fresh, HasDone}
+use Rattle.ddcmp_script.specs.ScriptProgress.{HasDone, course, fresh, played}
 use Rattle.ddcmp_script.proofs.Endings.{has-flushed, plays-paused, plays-unwritten, paused-before, kept-by, kept-left, left-after, none-left}
 use Rattle.ddcmp_io.proofs.Inputs.{read-more}
 use Rattle.ddcmp_script.proofs.scripting.Player.take_all.Goals as goal
@@ -28,7 +28,7 @@ loop-self-preserved g c = record {
       let now = has-flushed c.args.counted input x far.0 player.line.items player.number lines (fresh sink) a far.2 out c.flush.ensures.sends in
       let piece = take c.in-Bytes.n c.read_within.new.buf in
       let left = left-after (g.R.Source.left c.loop-self.reader) (g.R.Source.left c.read_within.new.reader) far.0 piece far.1 c.in-Bytes.ensures.bytes.1 in
-      let before = subst (λ t. HasDone input t player.line.items player.number lines (fresh sink) out x) left.2 now in
+      let before = subst (λ t. HasDone input t (played player.line.items player.number lines) (course (fresh sink) out x)) left.2 now in
       (left.0, left.1, c.in-Ok.ensures.takes input left.0 p d log (fresh sink) (c.loop-self.invariant.direct ∙ de) before);
 }
 
@@ -60,7 +60,7 @@ returns-in-Bytes-eq0-clause-plays g c = λ input p d log sink de h.
     let zero : c.in-Bytes-eq0.field-0 ≡ 0 = search rules in
     let room : 0 < length buf = omega (arith, c.read_within.auto.buf, c.loop-self.invariant.room) in
     let none = none-left (g.R.Source.left c.loop-self.reader) (g.R.Source.left c.read_within.new.reader) far.0 buf c.in-Bytes-eq0.field-0 zero far.1 bytes.1 (bytes.2 zero room) in
-    c.finish.ensures.plays input p d log sink (c.loop-self.invariant.direct ∙ de) (subst (λ t. HasDone input t player.line.items player.number lines (fresh sink) out x) none now)
+    c.finish.ensures.plays input p d log sink (c.loop-self.invariant.direct ∙ de) (subst (λ t. HasDone input t (played player.line.items player.number lines) (course (fresh sink) out x)) none now)
 
 pub returns-in_default-clause-plays : goal.returns-in_default-clause-plays
 returns-in_default-clause-plays g c = λ input p d log sink de h.
@@ -97,7 +97,7 @@ returns-in-Err-clause-plays g c = λ input p d log sink de h.
     let now = has-flushed c.args.counted input x far.0 player.line.items player.number lines (fresh sink) a far.2 out c.flush.ensures.sends in
     let piece = take c.in-Bytes.n c.read_within.new.buf in
     let left = left-after (g.R.Source.left c.loop-self.reader) (g.R.Source.left c.read_within.new.reader) far.0 piece far.1 c.in-Bytes.ensures.bytes.1 in
-    let before = subst (λ t. HasDone input t player.line.items player.number lines (fresh sink) out x) left.2 now in
+    let before = subst (λ t. HasDone input t (played player.line.items player.number lines) (course (fresh sink) out x)) left.2 now in
     c.stop.ensures.plays c.args.counted input (around p c.take.new.pair d log (g.C.Carrier.told c.take.new.carrier)) sink (c.in-Err.ensures.takes input left.0 p d log (fresh sink) (c.loop-self.invariant.direct ∙ de) before)
 
 pub returns-in_default-clause-paused : goal.returns-in_default-clause-paused
@@ -110,6 +110,6 @@ returns-in_default-clause-paused g c = λ input rest p d log sink de h read few 
     let far = c.loop-self.invariant.so_far input p d log sink de h in
     let now = has-flushed c.args.counted input x far.0 player.line.items player.number lines (fresh sink) a far.2 out c.flush.ensures.sends in
     let same = kept-left (g.R.Source.left c.loop-self.reader) (g.R.Source.left c.read_within.new.reader) far.0 rest far.1 later (kept-by c.read_within.result _ _ _ c.in_default.not-Bytes c.read_within.ensures.bytes) in
-    let there = subst (λ t. HasDone input t player.line.items player.number lines (fresh sink) out x) same now in
+    let there = subst (λ t. HasDone input t (played player.line.items player.number lines) (course (fresh sink) out x)) same now in
     let whole : out.broken ≡ false = search rules in
     paused-before c.args.counted input x rest player.line.items player.number lines sink out there whole c.flush.ensures.empty
