@@ -80,13 +80,13 @@ pub fn drive<R: Source, W: Sink, U: User, C: Clock>(
     let Ok(mut frame) = Vec::from_elem(alloc, 0u8, station.frame_room()) else {
         return Err(LineFault::Memory);
     };
-    run(
+    drive_turns(
         station, reader, writer, user, clock, timer_ms, turns, &mut frame,
     )
 }
 
 /// Takes the turns, with a buffer for a frame, for the message of the user, and for mail.
-fn run<R: Source, W: Sink, U: User, C: Clock>(
+fn drive_turns<R: Source, W: Sink, U: User, C: Clock>(
     station: &mut Station,
     reader: &mut R,
     writer: &mut W,

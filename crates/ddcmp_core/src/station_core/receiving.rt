@@ -108,7 +108,7 @@ impl<S: Store> Core<S> {
                 None
             }
             ControlType::Stack => {
-                self.run();
+                self.enter_running();
                 self.reply = Owed::Ack;
                 Some(Notice::Running)
             }
@@ -116,7 +116,7 @@ impl<S: Store> Core<S> {
         }
     }
 
-    fn run(&mut self)
+    fn enter_running(&mut self)
         ensures { self.new ≡ record self.old { station = after_startup self.old.station } }
     {
         self.state = State::Running;
@@ -139,7 +139,7 @@ impl<S: Store> Core<S> {
             Input::Good(header, message) => match header {
                 Header::Control(control) => self.on_astart_control(*control),
                 Header::Data(data) if data.resp == 0 => {
-                    self.run();
+                    self.enter_running();
                     match self.on_data(*data, message) {
                         Some(Notice::HandedUp | Notice::HandedUpAndAcknowledged(_)) => Some(
                             Notice::RunningAndHandedUp,
@@ -166,7 +166,7 @@ impl<S: Store> Core<S> {
     {
         match header.kind {
             ControlType::Stack => {
-                self.run();
+                self.enter_running();
                 self.reply = Owed::Ack;
                 Some(Notice::Running)
             }
@@ -175,7 +175,7 @@ impl<S: Store> Core<S> {
                 None
             }
             ControlType::Ack if header.resp == 0 => {
-                self.run();
+                self.enter_running();
                 Some(Notice::Running)
             }
             _ => None,

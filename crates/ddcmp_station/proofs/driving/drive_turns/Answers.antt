@@ -1,6 +1,6 @@
 use Rattle.std.proofs.Common.{◌≡◌, Bool, true, false, refl, ◌∙◌, arith}
 use Rattle.ddcmp_station.proofs.RunLaws.{none-so-far, one-more, broke, ends-so}
-use Rattle.ddcmp_station.proofs.driving.run.Goals as goal
+use Rattle.ddcmp_station.proofs.driving.drive_turns.Goals as goal
 
 pub loop-done-init : goal.loop-done-init
 loop-done-init g c = record {
