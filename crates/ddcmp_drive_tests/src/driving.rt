@@ -1,12 +1,12 @@
 //! Calls of `drive` over memory, of which tests see what came of them.
 ghost use Rattle.std.specs.Prelude.{◌≡◌};
 
-use crate::devices::{Moments, Recorder, Seen};
 use crate::same::is;
 use ddcmp_frame::failing::{Pieces, Taken};
 use ddcmp_station::{Config, Counters, Driven, LineFault, Notice, Numbers, State, Station, drive};
 use std::alloc::Global;
 use std::process::Abort;
+use test_kit::{Moments, Recorder, Seen};
 
 pub const STRT: [u8; 8] = [0x05, 0x06, 0xC0, 0x00, 0x00, 0x01, 0x75, 0x95];
 

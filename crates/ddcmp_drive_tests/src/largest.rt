@@ -1,12 +1,12 @@
 //! Stations of the largest sizes, a message of the most bytes, and many turns.
 ghost use Rattle.std.specs.Prelude.{◌≡◌};
 
-use crate::devices::{Recorder, Seen};
 use crate::driving::{SILENCE, STACK, STRT, USUAL, driven, drives, is_told, started};
 use crate::same::is;
 use ddcmp_station::{Config, Fed, Notice, StartRefusal, Station};
 use std::alloc::Global;
 use std::process::Abort;
+use test_kit::{Recorder, Seen};
 
 /// STACK, and the header of data message 1 with 16383 bytes.
 const FRONT: [u8; 16] = [

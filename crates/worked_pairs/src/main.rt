@@ -10,26 +10,10 @@ use ddcmp_pair::{Bytes, Config, End, Event};
 use std::alloc::Global;
 use std::io::{self, Read};
 use table::Table;
+use test_kit::{bytes_of, config_of};
 
 /// What stands before the sizes.
 const MARK: &str = "=== ";
-
-/// The sizes `WINDOW INBOX MAX SYN RESTART` of an end.
-fn config_of(sizes: &str) -> Option<Config> {
-    let mut words = sizes.split(' ');
-    let window = words.next()?.parse::<u16>().ok()?;
-    let inbox = words.next()?.parse::<u16>().ok()?;
-    let max = words.next()?.parse::<u16>().ok()?;
-    let syn = words.next()?.parse::<u8>().ok()?;
-    let restart = words.next()? == "yes";
-    Some(Config {
-        window,
-        inbox,
-        max,
-        syn,
-        restart,
-    })
-}
 
 /// The sizes of both ends in a line `SIZES; SIZES; NAME`.
 fn configs_of(head: &str) -> Option<(Config, Config)> {
@@ -46,19 +30,14 @@ fn end_of(word: &str) -> Option<End> {
     }
 }
 
-/// The bytes that a word has in hexadecimal.
-fn bytes_of(alloc: Global, word: &str) -> Option<Bytes> {
-    Some(Bytes::new(hex::decode(alloc, word).ok()?))
-}
-
 /// What happens at an end, by its word.
 fn event_at(alloc: Global, word: &str, end: End, bytes: &str) -> Option<Event> {
     match word {
         "start" => Some(Event::Start(end)),
         "halt" => Some(Event::Halt(end)),
-        "send" => Some(Event::Send(end, bytes_of(alloc, bytes)?)),
+        "send" => Some(Event::Send(end, Bytes::new(bytes_of(alloc, bytes)?))),
         "poll" => Some(Event::Poll(end)),
-        "arrive" => Some(Event::Arrive(end, bytes_of(alloc, bytes)?)),
+        "arrive" => Some(Event::Arrive(end, Bytes::new(bytes_of(alloc, bytes)?))),
         "expire" => Some(Event::Expire(end)),
         "take" => Some(Event::Take(end)),
         _ => None,

@@ -8,26 +8,10 @@ ghost use Rattle.std.specs.Prelude.{◌≡◌, false};
 use ddcmp_frame::{FromRead, ToWrite};
 use ddcmp_line::{Carrier, Config, Direct, Pair, Sockets, script};
 use std::io::{self, Read, Write};
+use test_kit::config_of;
 
 /// What stands before the sizes.
 const MARK: &str = "=== ";
-
-/// The sizes in a line `WINDOW INBOX MAX SYN RESTART NAME`.
-fn config_of(head: &str) -> Option<Config> {
-    let mut words = head.split(' ');
-    let window = words.next()?.parse::<u16>().ok()?;
-    let inbox = words.next()?.parse::<u16>().ok()?;
-    let max = words.next()?.parse::<u16>().ok()?;
-    let syn = words.next()?.parse::<u8>().ok()?;
-    let restart = words.next()? == "yes";
-    Some(Config {
-        window,
-        inbox,
-        max,
-        syn,
-        restart,
-    })
-}
 
 /// Plays a script between two new ends, and gives what it wrote and its answer.
 fn play<C: Carrier>(

@@ -1,7 +1,7 @@
 //! What a station is asked, and what it answers.
-use crate::reading::bytes_of;
 use ddcmp_station::Station;
 use std::io;
+use test_kit::bytes_of;
 
 /// Does what a word says.
 pub fn perform(rt: &HostRuntime, station: &mut Station, word: &str) -> io::Result<()> {

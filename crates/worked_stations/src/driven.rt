@@ -1,10 +1,10 @@
 //! A call of `drive` over memory.
-use crate::devices::{Moments, Recorder};
 use crate::reading::{moments_of, pieces_of, slices_of};
 use ddcmp_frame::failing::{Pieces, Taken};
 use ddcmp_station::{Driven, LineFault, Station, drive};
 use std::alloc::Global;
 use std::io;
+use test_kit::{Moments, Recorder, number};
 
 /// What goes in: the turns; the read and the write that fail (counted from 1; 0 is none); how many
 /// bytes the sink takes; what the line brings; the clock; the messages of the user.
@@ -31,10 +31,10 @@ struct Told<'a> {
 fn call_of(rest: &str) -> Option<Call<'_>> {
     let mut words = rest.split(' ');
     Some(Call {
-        turns: words.next()?.parse::<u32>().ok()?,
-        fails_at: words.next()?.parse::<usize>().ok()?,
-        breaks_at: words.next()?.parse::<usize>().ok()?,
-        most: words.next()?.parse::<usize>().ok()?,
+        turns: number(&mut words)?,
+        fails_at: number(&mut words)? as usize,
+        breaks_at: number(&mut words)? as usize,
+        most: number(&mut words)? as usize,
         came: words.next()?,
         moments: words.next()?,
         offers: words.next()?,

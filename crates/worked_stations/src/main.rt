@@ -3,13 +3,12 @@
 #![tactic(auto)]
 
 mod asking;
-mod devices;
 mod driven;
 mod reading;
 
 use ddcmp_station::Station;
-use reading::config_of;
 use std::io::{self, Read};
+use test_kit::config_of;
 
 /// What stands before the sizes.
 const MARK: &str = "=== ";

@@ -1,33 +1,9 @@
-//! Sizes, bytes and numbers in a line.
-use ddcmp_station::Config;
+//! Lists in a line of words.
 use std::alloc::Global;
+use test_kit::bytes_of;
 
-/// What stands for a list of nothing, and what for no bytes.
+/// What stands for a list of nothing.
 const NONE: &str = ".";
-
-const EMPTY: &str = "-";
-
-/// The sizes in a line `WINDOW INBOX MAX SYN RESTART NAME`.
-pub fn config_of(head: &str) -> Option<Config> {
-    let mut words = head.split(' ');
-    let window = words.next()?.parse::<u16>().ok()?;
-    let inbox = words.next()?.parse::<u16>().ok()?;
-    let max = words.next()?.parse::<u16>().ok()?;
-    let syn = words.next()?.parse::<u8>().ok()?;
-    let restart = words.next()? == "yes";
-    Some(Config {
-        window,
-        inbox,
-        max,
-        syn,
-        restart,
-    })
-}
-
-/// The bytes that a word has in hexadecimal.
-pub fn bytes_of(alloc: Global, word: &str) -> Option<Vec<u8>> {
-    hex::decode(alloc, if word == EMPTY { "" } else { word }).ok()
-}
 
 /// The bytes of each word.
 pub fn pieces_of(alloc: Global, words: &str) -> Option<Vec<Vec<u8>>> {

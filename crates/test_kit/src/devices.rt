@@ -1,4 +1,4 @@
-//! A user and a clock over memory. The line is of `ddcmp_frame::failing`.
+//! A user and a clock over memory. What stands for a line is `ddcmp_frame::failing`.
 ghost use Rattle.std.specs.Prelude.{◌≤◌};
 
 use ddcmp_station::{Clock, Notice, User};
