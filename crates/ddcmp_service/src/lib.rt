@@ -17,7 +17,7 @@ mod service;
 mod trace;
 mod waiting;
 
-pub use fault::{NotOpened, ServiceFault};
+pub use fault::{Attempt, NotOpened, ServiceFault};
 pub use line_name::LineName;
 pub use messages::Form;
 pub use service::{Options, Served, serve_link};

@@ -5,3 +5,5 @@
 mod programs;
 #[cfg(test)]
 mod same;
+#[cfg(test)]
+mod texts;

@@ -1,0 +1,84 @@
+// The time that a station, a tap and a link are told, over a clock of the test's own.
+use crate::same::is;
+use ddcmp_net::Elapsed;
+use ddcmp_station::Clock;
+use std::cell::Cell;
+use std::io::{self, ErrorKind};
+use std::process::Abort;
+use std::time::{self, Duration};
+
+/// A clock that tells what it is set to, and fails where it is set to nothing.
+#[derive(Drop)]
+struct SetClock {
+    at: Cell<Option<Duration>>,
+}
+
+impl time::Clock for SetClock {
+    fn monotonic(&self) -> io::Result<Duration> {
+        match self.at.get() {
+            Some(at) => Ok(at),
+            None => Err(io::Error::from(ErrorKind::Other)),
+        }
+    }
+
+    fn since_1970(&self) -> io::Result<Duration> {
+        self.monotonic()
+    }
+}
+
+/// A clock that is set to seven seconds.
+fn clock_at_seven() -> SetClock {
+    SetClock {
+        at: Cell::new(Some(Duration::from_secs(7))),
+    }
+}
+
+/// So much after the clock was set to seven seconds, so many milliseconds are told.
+fn tells(
+    rt: &impl Abort,
+    clock: &SetClock,
+    elapsed: &mut Elapsed<'_, SetClock>,
+    nanoseconds: u64,
+    milliseconds: u64,
+) {
+    let seven = Duration::from_secs(7);
+    let at = seven.checked_add(Duration::from_nanos(nanoseconds));
+    clock.at.set(at);
+    is(rt, elapsed.now(), milliseconds);
+}
+
+/// Milliseconds are whole ones, and count from the making.
+#[test]
+fn milliseconds_since_the_making(rt: HostRuntime) {
+    let clock = clock_at_seven();
+    let mut elapsed = Elapsed::new(&clock);
+    tells(&rt, &clock, &mut elapsed, 0, 0);
+    tells(&rt, &clock, &mut elapsed, 999_999, 0);
+    tells(&rt, &clock, &mut elapsed, 1_000_000, 1);
+    tells(&rt, &clock, &mut elapsed, 31_000_000, 31);
+    tells(&rt, &clock, &mut elapsed, 500_000_000, 500);
+    tells(&rt, &clock, &mut elapsed, 999_999_999, 999);
+    tells(&rt, &clock, &mut elapsed, 1_000_000_000, 1000);
+    tells(&rt, &clock, &mut elapsed, 86_400_123_456_789, 86_400_123);
+}
+
+/// Where the clock fails the time stands, and goes on with it.
+#[test]
+fn a_clock_that_fails(rt: HostRuntime) {
+    let clock = clock_at_seven();
+    let mut elapsed = Elapsed::new(&clock);
+    tells(&rt, &clock, &mut elapsed, 31_000_000, 31);
+    clock.at.set(None);
+    is(&rt, elapsed.now(), 31);
+    tells(&rt, &clock, &mut elapsed, 32_000_000, 32);
+}
+
+/// Where it failed at the making, no time passes.
+#[test]
+fn a_clock_that_failed_at_first(rt: HostRuntime) {
+    let clock = SetClock {
+        at: Cell::new(None),
+    };
+    let mut elapsed = Elapsed::new(&clock);
+    tells(&rt, &clock, &mut elapsed, 31_000_000, 0);
+}
