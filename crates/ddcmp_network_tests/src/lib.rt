@@ -1,5 +1,5 @@
-//! Tests of the program over the network of this machine: scripts between two ends, and stations;
-//! and of the time that these are told.
+//! Tests of the program over the network of this machine: scripts between two ends, stations, their
+//! connections and the time that they are told.
 #![tactic(auto)]
 
 #[cfg(test)]
@@ -8,5 +8,7 @@ mod elapsed;
 mod same;
 #[cfg(test)]
 mod scripts;
+#[cfg(test)]
+mod sockets;
 #[cfg(test)]
 mod stations;

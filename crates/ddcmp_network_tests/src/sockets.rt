@@ -1,0 +1,232 @@
+// A connection of the program with itself, on systems that are crowded, that listen at one address
+// alone, or that hand over the stream of another.
+ghost use Rattle.std.specs.Prelude.{◌≡◌};
+
+use crate::same::is;
+use ddcmp_carrier::{Carrier, End, LineFault};
+use ddcmp_net::Sockets;
+use std::io::{self, ErrorKind, Write};
+use std::net::{Net, OpenListener, SocketAddr, TcpListener, TcpStream};
+use std::os::fd::{AsRawFd, RawFd};
+use std::process::Abort;
+use std::test::Fail;
+use std::time::{Clock, Instant};
+
+/// A system on which another program connects first.
+#[derive(Drop)]
+struct Crowded<'a, S> {
+    system: &'a S,
+}
+
+impl<S: Net<Stream = TcpStream, Listener = TcpListener>> Net for Crowded<'_, S> {
+    type Stream = TcpStream;
+
+    type Listener = TcpListener;
+
+    fn bind(&self, addr: SocketAddr) -> io::Result<TcpListener> {
+        self.system.bind(addr)
+    }
+
+    fn connect(&self, addr: SocketAddr) -> io::Result<TcpStream> {
+        let _other = self.system.connect(addr)?;
+        self.system.connect(addr)
+    }
+}
+
+/// A system on which one may listen at the machine's own address alone, at any port.
+#[derive(Drop)]
+struct Own<'a, S> {
+    system: &'a S,
+}
+
+impl<S: Net<Stream = TcpStream, Listener = TcpListener>> Net for Own<'_, S> {
+    type Stream = TcpStream;
+
+    type Listener = TcpListener;
+
+    fn bind(&self, addr: SocketAddr) -> io::Result<TcpListener> {
+        if !addr.ip().is_loopback() || addr.port() != 0 {
+            return Err(io::Error::from(ErrorKind::AddrNotAvailable));
+        }
+        self.system.bind(addr)
+    }
+
+    fn connect(&self, addr: SocketAddr) -> io::Result<TcpStream> {
+        self.system.connect(addr)
+    }
+}
+
+/// A listener that tells who has come, and hands over the stream of who came to another one.
+#[derive(Drop)]
+struct SwappingListener<'a> {
+    own: TcpListener,
+    other: &'a TcpListener,
+}
+
+impl OpenListener for SwappingListener<'_> {
+    type Stream = TcpStream;
+
+    fn accept(&self) -> io::Result<(TcpStream, SocketAddr)> {
+        let (own, peer) = self.own.accept()?;
+        // It stays open, so that what is written to it is no fault.
+        std::mem::forget(own);
+        let (stream, _peer) = self.other.accept()?;
+        Ok((stream, peer))
+    }
+
+    fn local_addr(&self) -> io::Result<SocketAddr> {
+        self.own.local_addr()
+    }
+}
+
+impl AsRawFd for SwappingListener<'_> {
+    fn as_raw_fd(&self) -> RawFd {
+        self.own.as_raw_fd()
+    }
+}
+
+/// A system with such listeners.
+#[derive(Drop)]
+struct Swapping<'a, S> {
+    system: &'a S,
+    other: &'a TcpListener,
+}
+
+impl<'a, S: Net<Stream = TcpStream, Listener = TcpListener>> Net for Swapping<'a, S> {
+    type Stream = TcpStream;
+
+    type Listener = SwappingListener<'a>;
+
+    fn bind(&self, addr: SocketAddr) -> io::Result<SwappingListener<'a>> {
+        Ok(SwappingListener {
+            own: self.system.bind(addr)?,
+            other: self.other,
+        })
+    }
+
+    fn connect(&self, addr: SocketAddr) -> io::Result<TcpStream> {
+        self.system.connect(addr)
+    }
+}
+
+#[test]
+fn another_program_is_refused(rt: HostRuntime) {
+    let system = Crowded { system: &rt };
+    let kind = match Sockets::new(&system) {
+        Ok(_sockets) => None,
+        Err(error) => Some(error.kind()),
+    };
+    is(&rt, kind, Some(ErrorKind::ConnectionRefused));
+}
+
+#[test]
+fn a_connection_is_of_this_machine(rt: HostRuntime) {
+    let system = Own { system: &rt };
+    assert!(rt; Sockets::new(&system).is_ok());
+}
+
+/// Bytes that differ from place to place, also a page apart.
+fn differing<const N: usize>() -> [u8; N] {
+    let mut bytes = [0; N];
+    for i in 0..N {
+        let page = (i / 256 % 256) as u8;
+        bytes[i] = ((i % 256) as u8).wrapping_mul(7).wrapping_add(page);
+    }
+    bytes
+}
+
+/// So many bytes of an end come out at the other as they went in.
+fn cross(
+    rt: &(impl Abort + Net<Stream = TcpStream>),
+    from: End,
+    length: usize,
+) -> Result<(), Fail> {
+    let mut sockets = Sockets::new(rt)?;
+    let bytes = differing::<16393>();
+    let mut out = [0; 16393];
+    let n = length.min(16393);
+    is(
+        rt,
+        sockets.carry(from, &bytes[..n], &mut out[..n]).ok(),
+        Some(n),
+    );
+    is(rt, &out[..n], &bytes[..n]);
+    Ok(())
+}
+
+#[test]
+fn pieces_cross(rt: HostRuntime) -> Result<(), Fail> {
+    cross(&rt, End::A, 0)?;
+    cross(&rt, End::B, 1)?;
+    cross(&rt, End::A, 1023)?;
+    cross(&rt, End::B, 1024)?;
+    cross(&rt, End::B, 1025)?;
+    cross(&rt, End::A, 2047)?;
+    cross(&rt, End::A, 2048)?;
+    cross(&rt, End::B, 2049)?;
+    cross(&rt, End::A, 16393)?;
+    cross(&rt, End::B, 16393)
+}
+
+/// What comes out is what came over the connection, and not what went in.
+#[test]
+fn nothing_is_copied(rt: HostRuntime) -> Result<(), Fail> {
+    let other = TcpListener::bind(&rt, "127.0.0.1:0")?;
+    let mut feeder = TcpStream::connect(&rt, other.local_addr()?)?;
+    let fed = differing::<3000>();
+    feeder.write_all(&fed)?;
+    let system = Swapping {
+        system: &rt,
+        other: &other,
+    };
+    let mut sockets = Sockets::new(&system)?;
+    let mut out = [0; 3000];
+    is(
+        &rt,
+        sockets.carry(End::A, &[1; 3000], &mut out).ok(),
+        Some(3000),
+    );
+    is(&rt, out.as_slice(), fed.as_slice());
+    Ok(())
+}
+
+/// Where the other end was shut, the connection has ended.
+#[test]
+fn a_shut_end_is_an_end(rt: HostRuntime) -> Result<(), Fail> {
+    let other = TcpListener::bind(&rt, "127.0.0.1:0")?;
+    drop(TcpStream::connect(&rt, other.local_addr()?)?);
+    let system = Swapping {
+        system: &rt,
+        other: &other,
+    };
+    let mut sockets = Sockets::new(&system)?;
+    let mut out = [0; 3];
+    is(
+        &rt,
+        sockets.carry(End::A, &[1; 3], &mut out).err(),
+        Some(LineFault::Ended),
+    );
+    Ok(())
+}
+
+/// Where nothing comes, a read gives up after five seconds.
+#[test]
+fn silence_is_a_failed_read(rt: HostRuntime) -> Result<(), Fail> {
+    let other = TcpListener::bind(&rt, "127.0.0.1:0")?;
+    let _feeder = TcpStream::connect(&rt, other.local_addr()?)?;
+    let system = Swapping {
+        system: &rt,
+        other: &other,
+    };
+    let mut sockets = Sockets::new(&system)?;
+    let began = Instant::now(&rt)?;
+    let mut out = [0; 3];
+    is(
+        &rt,
+        sockets.carry(End::A, &[1; 3], &mut out).err(),
+        Some(LineFault::Read),
+    );
+    let waited = began.elapsed(&rt)?.as_millis();
+    assert!(rt; 4900 <= waited && waited < 20000);
+    Ok(())
+}
