@@ -1,16 +1,17 @@
 // A connection of the program with itself, on systems that are crowded, that listen at one address
-// alone, or that hand over the stream of another.
+// alone, that hand over the stream of another, or that keep a handle of each stream.
 ghost use Rattle.std.specs.Prelude.{◌≡◌};
 
 use crate::same::is;
 use ddcmp_carrier::{Carrier, End, LineFault};
 use ddcmp_net::Sockets;
+use std::cell::Cell;
 use std::io::{self, ErrorKind, Write};
 use std::net::{Net, OpenListener, SocketAddr, TcpListener, TcpStream};
 use std::os::fd::{AsRawFd, RawFd};
 use std::process::Abort;
 use std::test::Fail;
-use std::time::{Clock, Instant};
+use std::time::{Clock, Duration, Instant};
 
 /// A system on which another program connects first.
 #[derive(Drop)]
@@ -109,6 +110,60 @@ impl<'a, S: Net<Stream = TcpStream, Listener = TcpListener>> Net for Swapping<'a
     }
 }
 
+/// A listener that keeps a handle of the stream that it hands over.
+#[derive(Drop)]
+struct KeepingListener<'a> {
+    own: TcpListener,
+    accepted: &'a Cell<Option<TcpStream>>,
+}
+
+impl OpenListener for KeepingListener<'_> {
+    type Stream = TcpStream;
+
+    fn accept(&self) -> io::Result<(TcpStream, SocketAddr)> {
+        let (stream, peer) = self.own.accept()?;
+        self.accepted.set(Some(stream.try_clone()?));
+        Ok((stream, peer))
+    }
+
+    fn local_addr(&self) -> io::Result<SocketAddr> {
+        self.own.local_addr()
+    }
+}
+
+impl AsRawFd for KeepingListener<'_> {
+    fn as_raw_fd(&self) -> RawFd {
+        self.own.as_raw_fd()
+    }
+}
+
+/// A system that keeps a handle of each end of a connection.
+#[derive(Drop)]
+struct Keeping<'a, S> {
+    system: &'a S,
+    connected: &'a Cell<Option<TcpStream>>,
+    accepted: &'a Cell<Option<TcpStream>>,
+}
+
+impl<'a, S: Net<Stream = TcpStream, Listener = TcpListener>> Net for Keeping<'a, S> {
+    type Stream = TcpStream;
+
+    type Listener = KeepingListener<'a>;
+
+    fn bind(&self, addr: SocketAddr) -> io::Result<KeepingListener<'a>> {
+        Ok(KeepingListener {
+            own: self.system.bind(addr)?,
+            accepted: self.accepted,
+        })
+    }
+
+    fn connect(&self, addr: SocketAddr) -> io::Result<TcpStream> {
+        let stream = self.system.connect(addr)?;
+        self.connected.set(Some(stream.try_clone()?));
+        Ok(stream)
+    }
+}
+
 #[test]
 fn another_program_is_refused(rt: HostRuntime) {
     let system = Crowded { system: &rt };
@@ -123,6 +178,33 @@ fn another_program_is_refused(rt: HostRuntime) {
 fn a_connection_is_of_this_machine(rt: HostRuntime) {
     let system = Own { system: &rt };
     assert!(rt; Sockets::new(&system).is_ok());
+}
+
+/// An end waits five seconds for bytes or for room, and not to fill a packet.
+fn is_prepared(rt: &impl Abort, kept: &Cell<Option<TcpStream>>) -> Result<(), Fail> {
+    let wait = Some(Duration::from_secs(5));
+    let stream = kept.take();
+    assert!(rt; stream.is_some());
+    if let Some(stream) = stream {
+        assert!(rt; stream.nodelay()?);
+        is(rt, stream.read_timeout()?, wait);
+        is(rt, stream.write_timeout()?, wait);
+    }
+    Ok(())
+}
+
+#[test]
+fn both_ends_send_at_once(rt: HostRuntime) -> Result<(), Fail> {
+    let connected = Cell::new(None);
+    let accepted = Cell::new(None);
+    let system = Keeping {
+        system: &rt,
+        connected: &connected,
+        accepted: &accepted,
+    };
+    let _sockets = Sockets::new(&system)?;
+    is_prepared(&rt, &connected)?;
+    is_prepared(&rt, &accepted)
 }
 
 /// Bytes that differ from place to place, also a page apart.

@@ -2,6 +2,7 @@
 ghost use Rattle.std.specs.Prelude.{◌≡◌, ◌≢◌, ◌⊎◌, ◌↔◌, ◌≤◌, IsTrue, IfOk, IfSome, IsOk, None, Some};
 ghost use Rattle.std.specs.Prelude.{codes, map, unwrap_or, [], false, List, ℕ};
 ghost use Rattle.std.specs.Option.{option_and_then, option_map};
+ghost use Rattle.ddcmp_words.specs.Making.{Makes};
 ghost use Rattle.ddcmp_words.specs.Words.{Declines, IsAsked, IsName, Reads, bare_app, name_of, program};
 ghost use Rattle.ddcmp_words.specs.Words.{HasExplain, HasFlag, HasForm, HasNotation, HasNumber, HasOptions};
 ghost use Rattle.ddcmp_words.specs.Words.{HasSizes, HasStation, HasStyle, explain_app, pair_app};
@@ -10,7 +11,7 @@ ghost use Rattle.ddcmp_words.specs.Words.{file_of, flag_rule, number_rule, place
 ghost use Rattle.ddcmp_words.specs.Words.{text_rule};
 ghost use Rattle.ddcmp_words.specs.Words.{HasView, with_sizes as with_sizes_of};
 ghost use Rattle.ddcmp_words.specs.Words.{with_view as with_view_of};
-ghost use Rattle.clap.specs.Words.{kind_of, app_of, new_app, rule_of, first_of, first_value};
+ghost use Rattle.clap.specs.Words.{App, kind_of, app_of, new_app, rule_of, first_of, first_value};
 ghost use Rattle.clap.specs.Words.{found_of, one_of, one_text};
 ghost use Rattle.clap.specs.Words.{subcommand_name_of, subcommand_rows_of};
 ghost use Rattle.clap.specs.declared.builder.command.Command.TheViews.{out-Command as fields_of};
@@ -19,6 +20,7 @@ use crate::declined::Declined;
 use crate::explained::Explained;
 use crate::link_words::{link_given, link_parser};
 use crate::linked::Linked;
+use crate::parser::Parser;
 use crate::served::{Role, Served};
 use crate::tap_words::{tap_given, tap_parser};
 use crate::tapped::Tapped;
@@ -28,7 +30,7 @@ use clap::{Arg, ArgAction, ArgMatches, Error};
 use ddcmp_core::{MAX_COUNT, MAX_WINDOW};
 use ddcmp_explain::{Form, Notation, Style};
 use ddcmp_proto::{Config, MAX_INBOX, MAX_SYN};
-use std::alloc::{AllocError, Global};
+use std::alloc::Global;
 
 /// What the words ask for.
 #[derive(Clone, Copy, Debug, PartialEq, Eq)]
@@ -104,35 +106,34 @@ fn explain_command<'a>(alloc: Global) -> clap::Command<'a>
 }
 
 /// The options of `explain`.
-fn explain_parser<'a>(alloc: Global) -> Result<clap::Command<'a>, AllocError>
-    ensures app { IfOk result (λ made. app_of made ≡ explain_app) }
-    ensures local { IfOk result (λ made. (fields_of made).has_globals ≡ false) }
+fn explain_parser<'a>(alloc: Global) -> Parser<'a>
+    ensures { Makes result explain_app }
 {
-    explain_command(alloc)
-        .arg(place(
+    Parser::new(explain_command(alloc))
+        .option(place(
             alloc,
             "file",
             "FILE",
             "The file to read; standard input where it is left out or -",
-        ))?
-        .arg(flag(
+        ))
+        .option(flag(
             alloc,
             "raw",
             "Read bytes as they are, not hexadecimal digits",
-        ))?
-        .arg(text(
+        ))
+        .option(text(
             alloc,
             "from",
             "hexdump",
             "Read a dump of hexdump -C, xxd or od -A x -t x1",
-        ))?
-        .arg(flag(alloc, "json", "Write an object of JSON in each line"))?
-        .arg(flag(
+        ))
+        .option(flag(alloc, "json", "Write an object of JSON in each line"))
+        .option(flag(
             alloc,
             "discarded",
             "Tell bytes that were passed over too, and the frame that is unfinished",
-        ))?
-        .arg(number(
+        ))
+        .option(number(
             alloc,
             "max",
             1,
@@ -142,44 +143,39 @@ fn explain_parser<'a>(alloc: Global) -> Result<clap::Command<'a>, AllocError>
 }
 
 /// The options of two ends.
-pub(crate) fn with_sizes<'a>(
-    alloc: Global,
-    command: clap::Command<'a>,
-) -> Result<clap::Command<'a>, AllocError>
-    ensures app { IfOk result (λ made. app_of made ≡ with_sizes_of (app_of command.entry)) }
-    ensures local { (fields_of command.entry).has_globals ≡ false
-        → IfOk result (λ made. (fields_of made).has_globals ≡ false) }
+pub(crate) fn with_sizes<'a>(alloc: Global, parser: Parser<'a>) -> Parser<'a>
+    ensures { (app : App) → Makes parser.entry app → Makes result (with_sizes_of app) }
 {
-    command
-        .arg(number(
+    parser
+        .option(number(
             alloc,
             "window",
             1,
             MAX_WINDOW as u32,
             "The most messages sent and not yet acknowledged, 1 to 255; 7 by default",
-        ))?
-        .arg(number(
+        ))
+        .option(number(
             alloc,
             "inbox",
             1,
             MAX_INBOX as u32,
             "The most messages that came and were not yet taken, 1 to 255; 8 by default",
-        ))?
-        .arg(number(
+        ))
+        .option(number(
             alloc,
             "max",
             1,
             MAX_COUNT as u32,
             "The most bytes of a message, 1 to 16383; 1500 by default",
-        ))?
-        .arg(number(
+        ))
+        .option(number(
             alloc,
             "syn",
             0,
             MAX_SYN as u32,
             "How many SYN bytes go before each frame, 0 to 16; 0 by default",
-        ))?
-        .arg(flag(
+        ))
+        .option(flag(
             alloc,
             "restart",
             "An end that runs begins anew where its peer does, if no message waits to be taken",
@@ -187,23 +183,21 @@ pub(crate) fn with_sizes<'a>(
 }
 
 /// How a run is shown.
-fn with_view<'a>(alloc: Global, command: clap::Command<'a>) -> Result<clap::Command<'a>, AllocError>
-    ensures app { IfOk result (λ made. app_of made ≡ with_view_of (app_of command.entry)) }
-    ensures local { (fields_of command.entry).has_globals ≡ false
-        → IfOk result (λ made. (fields_of made).has_globals ≡ false) }
+fn with_view<'a>(alloc: Global, parser: Parser<'a>) -> Parser<'a>
+    ensures { (app : App) → Makes parser.entry app → Makes result (with_view_of app) }
 {
-    command
-        .arg(flag(
+    parser
+        .option(flag(
             alloc,
             "svg",
             "Draw the run as a document in SVG, in place of the text",
-        ))?
-        .arg(flag(
+        ))
+        .option(flag(
             alloc,
             "ladder",
             "Draw the run as a ladder of text, in place of the text",
-        ))?
-        .arg(flag(
+        ))
+        .option(flag(
             alloc,
             "counters",
             "Write what both stations have counted, before the last line",
@@ -232,24 +226,38 @@ Lines of a script, where E is A or B:
   # TEXT         nothing"
 }
 
-fn simulate_parser<'a>(alloc: Global) -> Result<clap::Command<'a>, AllocError>
-    ensures app { IfOk result (λ made. app_of made ≡ simulate_app) }
-    ensures local { IfOk result (λ made. (fields_of made).has_globals ≡ false) }
+/// `simulate` without its options.
+fn simulate_command<'a>(alloc: Global) -> clap::Command<'a>
+    ensures app { app_of result ≡ new_app (codes "simulate") }
+    ensures local { (fields_of result).has_globals ≡ false }
 {
-    let command = clap::Command::new(alloc, "simulate")
+    clap::Command::new(alloc, "simulate")
         .about("Runs a script between two stations A and B, read from standard input")
-        .after_help(script_help());
-    with_view(alloc, with_sizes(alloc, command)?)
+        .after_help(script_help())
 }
 
-fn pair_parser<'a>(alloc: Global) -> Result<clap::Command<'a>, AllocError>
-    ensures app { IfOk result (λ made. app_of made ≡ pair_app) }
-    ensures local { IfOk result (λ made. (fields_of made).has_globals ≡ false) }
+fn simulate_parser<'a>(alloc: Global) -> Parser<'a>
+    ensures { Makes result simulate_app }
 {
-    let command = clap::Command::new(alloc, "pair")
+    let named = Parser::new(simulate_command(alloc));
+    with_view(alloc, with_sizes(alloc, named))
+}
+
+/// `pair` without its options.
+fn pair_command<'a>(alloc: Global) -> clap::Command<'a>
+    ensures app { app_of result ≡ new_app (codes "pair") }
+    ensures local { (fields_of result).has_globals ≡ false }
+{
+    clap::Command::new(alloc, "pair")
         .about("Runs a script as simulate does, and what passes goes over a TCP connection")
-        .after_help(script_help());
-    with_view(alloc, with_sizes(alloc, command)?)
+        .after_help(script_help())
+}
+
+fn pair_parser<'a>(alloc: Global) -> Parser<'a>
+    ensures { Makes result pair_app }
+{
+    let named = Parser::new(pair_command(alloc));
+    with_view(alloc, with_sizes(alloc, named))
 }
 
 /// `station` without its options.
@@ -263,53 +271,48 @@ fn station_command<'a>(alloc: Global) -> clap::Command<'a>
 }
 
 /// The options of a station over a connection.
-fn station_parser<'a>(alloc: Global) -> Result<clap::Command<'a>, AllocError>
-    ensures app { IfOk result (λ made. app_of made ≡ station_app) }
-    ensures local { IfOk result (λ made. (fields_of made).has_globals ≡ false) }
+fn station_parser<'a>(alloc: Global) -> Parser<'a>
+    ensures { Makes result station_app }
 {
-    station_command(alloc)
-        .arg(text(
+    Parser::new(station_command(alloc))
+        .needed(text(
             alloc,
             "role",
             "connect|listen",
             "Who opens the connection; start the listener first",
-        )
-        .required(true))?
-        .arg(text(
+        ))
+        .needed(text(
             alloc,
             "addr",
             "ADDR",
             "Where to connect or to listen, such as 127.0.0.1:7000",
-        )
-        .required(true))?
-        .arg(number(
+        ))
+        .needed(number(
             alloc,
             "turns",
             0,
             u32::MAX,
             "How many turns the station has; a turn waits at most 10 ms for bytes",
-        )
-        .required(true))?
-        .arg(number(
+        ))
+        .needed(number(
             alloc,
             "timer-ms",
             0,
             u32::MAX,
             "How long it waits for an answer before it asks again",
-        )
-        .required(true))?
-        .arg(text(
+        ))
+        .option(text(
             alloc,
             "send",
             "HEX",
             "A message that is sent once the station runs, at most 1500 bytes",
-        ))?
-        .arg(flag(
+        ))
+        .option(flag(
             alloc,
             "restart",
             "Begin anew where the peer does, if no message waits to be taken",
-        ))?
-        .arg(flag(
+        ))
+        .option(flag(
             alloc,
             "counters",
             "Write what the station has counted, before the last line",
@@ -327,7 +330,8 @@ What is written, as it happens:
 
 /// `ddcmp` without its commands.
 fn program_command<'a>(alloc: Global) -> clap::Command<'a>
-    ensures { app_of result ≡ bare_app }
+    ensures app { app_of result ≡ bare_app }
+    ensures local { (fields_of result).has_globals ≡ false }
 {
     clap::Command::new(alloc, "ddcmp")
         .version("0.1.0")
@@ -335,16 +339,16 @@ fn program_command<'a>(alloc: Global) -> clap::Command<'a>
         .subcommand_required(true)
 }
 
-fn parser<'a>(alloc: Global) -> Result<clap::Command<'a>, AllocError>
-    ensures { IfOk result (λ made. app_of made ≡ program) }
+fn program_parser<'a>(alloc: Global) -> Parser<'a>
+    ensures { Makes result program }
 {
-    program_command(alloc)
-        .subcommand(explain_parser(alloc)?)?
-        .subcommand(simulate_parser(alloc)?)?
-        .subcommand(pair_parser(alloc)?)?
-        .subcommand(station_parser(alloc)?)?
-        .subcommand(tap_parser(alloc)?)?
-        .subcommand(link_parser(alloc)?)
+    Parser::new(program_command(alloc))
+        .subcommand(explain_parser(alloc))
+        .subcommand(simulate_parser(alloc))
+        .subcommand(pair_parser(alloc))
+        .subcommand(station_parser(alloc))
+        .subcommand(tap_parser(alloc))
+        .subcommand(link_parser(alloc))
 }
 
 /// A fault of the words as this crate tells it.
@@ -558,7 +562,7 @@ pub fn read_words<'a>(alloc: Global, words: &'a [&'a str]) -> Result<Command<'a>
     // What the words ask for, whatever they are.
     ensures reads { Reads (map (λ word. word.now) words.entry.now) result }
 {
-    let command = match parser(alloc) {
+    let command = match program_parser(alloc).made() {
         Ok(made) => made,
         Err(_refused) => return Err(Declined::Memory),
     };

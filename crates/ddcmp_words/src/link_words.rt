@@ -1,7 +1,8 @@
 //! The words of a link.
-ghost use Rattle.std.specs.Prelude.{◌≡◌, ◌≤◌, IfOk, codes, false};
+ghost use Rattle.std.specs.Prelude.{◌≡◌, ◌≤◌, codes, false};
 ghost use Rattle.clap.specs.Words.{app_of, first_value, found_of, new_app, one_text};
 ghost use Rattle.clap.specs.declared.builder.command.Command.TheViews.{out-Command as fields_of};
+ghost use Rattle.ddcmp_words.specs.Making.{Makes};
 ghost use Rattle.ddcmp_words.specs.Words.{HasLink, link_app, line_app, usual_syn_of};
 ghost use Rattle.ddcmp_proto.specs.declared.config.TheConstants.{MAX_SYN};
 
@@ -9,8 +10,9 @@ use crate::command::{
     flag, flag_given, number, number_given, sizes_given, text, text_given, with_sizes,
 };
 use crate::linked::Linked;
+use crate::parser::Parser;
 use clap::ArgMatches;
-use std::alloc::{AllocError, Global};
+use std::alloc::Global;
 
 /// What a link reads and writes, for a newcomer.
 fn link_help() -> &'static str {
@@ -33,17 +35,15 @@ rest goes to standard error."
 }
 
 /// `link` with the name of its line alone.
-fn line_command<'a>(alloc: Global) -> Result<clap::Command<'a>, AllocError>
-    ensures app { IfOk result (λ made. app_of made ≡ line_app) }
-    ensures local { IfOk result (λ made. (fields_of made).has_globals ≡ false) }
+fn line_parser<'a>(alloc: Global) -> Parser<'a>
+    ensures { Makes result line_app }
 {
-    bare_command(alloc).arg(text(
+    Parser::new(bare_command(alloc)).needed(text(
         alloc,
         "line",
         "LINE",
         "The line of the station, as connect:127.0.0.1:7000",
-    )
-    .required(true))
+    ))
 }
 
 /// `link` without its options.
@@ -57,46 +57,45 @@ fn bare_command<'a>(alloc: Global) -> clap::Command<'a>
 }
 
 /// The options of a link.
-pub(crate) fn link_parser<'a>(alloc: Global) -> Result<clap::Command<'a>, AllocError>
-    ensures app { IfOk result (λ made. app_of made ≡ link_app) }
-    ensures local { IfOk result (λ made. (fields_of made).has_globals ≡ false) }
+pub(crate) fn link_parser<'a>(alloc: Global) -> Parser<'a>
+    ensures { Makes result link_app }
 {
-    with_sizes(alloc, line_command(alloc)?)?
-        .arg(number(
+    with_sizes(alloc, line_parser(alloc))
+        .option(number(
             alloc,
             "timer-ms",
             0,
             u32::MAX,
             "How long it waits for an answer before it asks again; 3000 by default",
-        ))?
-        .arg(number(
+        ))
+        .option(number(
             alloc,
             "seconds",
             1,
             u32::MAX,
             "End after so many seconds as if standard input had ended",
-        ))?
-        .arg(flag(
+        ))
+        .option(flag(
             alloc,
             "binary",
             "Messages are bytes after their length, not digits",
-        ))?
-        .arg(flag(
+        ))
+        .option(flag(
             alloc,
             "stay",
             "Go on once all of standard input was delivered",
-        ))?
-        .arg(flag(
+        ))
+        .option(flag(
             alloc,
             "again",
             "Open the line anew where it ends, and start anew",
-        ))?
-        .arg(flag(
+        ))
+        .option(flag(
             alloc,
             "counters",
             "Write what the station has counted, before the last line",
-        ))?
-        .arg(flag(
+        ))
+        .option(flag(
             alloc,
             "trace",
             "Tell each frame of both ways on standard error, with the milliseconds",

@@ -1,14 +1,16 @@
 //! The words of a tap.
-ghost use Rattle.std.specs.Prelude.{◌≡◌, IfOk, codes, false};
+ghost use Rattle.std.specs.Prelude.{◌≡◌, codes, false};
 ghost use Rattle.clap.specs.Words.{app_of, first_value, found_of, new_app, one_text};
 ghost use Rattle.clap.specs.declared.builder.command.Command.TheViews.{out-Command as fields_of};
+ghost use Rattle.ddcmp_words.specs.Making.{Makes};
 ghost use Rattle.ddcmp_words.specs.Words.{HasTap, tap_app};
 
 use crate::command::{flag, flag_given, notation_given, number, number_given, text, text_given};
+use crate::parser::Parser;
 use crate::tapped::Tapped;
 use clap::ArgMatches;
 use ddcmp_core::MAX_COUNT;
-use std::alloc::{AllocError, Global};
+use std::alloc::Global;
 
 /// What a tap writes, for a newcomer.
 fn tap_help() -> &'static str {
@@ -30,37 +32,34 @@ fn tap_command<'a>(alloc: Global) -> clap::Command<'a>
 }
 
 /// The options of a tap.
-pub(crate) fn tap_parser<'a>(alloc: Global) -> Result<clap::Command<'a>, AllocError>
-    ensures app { IfOk result (λ made. app_of made ≡ tap_app) }
-    ensures local { IfOk result (λ made. (fields_of made).has_globals ≡ false) }
+pub(crate) fn tap_parser<'a>(alloc: Global) -> Parser<'a>
+    ensures { Makes result tap_app }
 {
-    tap_command(alloc)
-        .arg(text(
+    Parser::new(tap_command(alloc))
+        .needed(text(
             alloc,
             "listen",
             "ADDR",
             "Where to listen for one connection, such as 127.0.0.1:7000",
-        )
-        .required(true))?
-        .arg(text(
+        ))
+        .needed(text(
             alloc,
             "connect",
             "ADDR",
             "Where to connect to once someone has connected",
-        )
-        .required(true))?
-        .arg(flag(alloc, "json", "Write an object of JSON in each line"))?
-        .arg(flag(
+        ))
+        .option(flag(alloc, "json", "Write an object of JSON in each line"))
+        .option(flag(
             alloc,
             "ladder",
             "Draw what passes as a ladder of text, in place of words",
-        ))?
-        .arg(flag(
+        ))
+        .option(flag(
             alloc,
             "time",
             "Write the milliseconds since both were connected in front of each line",
-        ))?
-        .arg(number(
+        ))
+        .option(number(
             alloc,
             "max",
             1,

@@ -1,0 +1,6 @@
+use Rattle.ddcmp_words.proofs.link_words.line_parser.Goals as goal
+
+pub returns : goal.returns
+returns c =
+    let start = c.new.ensures _ c.bare_command.ensures.app c.bare_command.ensures.local in
+    c.needed.ensures _ _ start c.text.ensures.rule c.text.ensures.local

@@ -1,0 +1,82 @@
+//! A parser of words in the making.
+ghost use Rattle.std.specs.Prelude.{◌≡◌, IfOk, false};
+ghost use Rattle.clap.specs.Words.{App, Rule, app_of, rule_of, with_rule, with_subcommand};
+ghost use Rattle.clap.specs.declared.builder.command.Command.TheViews.{out-Command as fields_of};
+ghost use Rattle.ddcmp_words.specs.Making.{Makes};
+ghost use Rattle.ddcmp_words.specs.Words.{required};
+
+use clap::Arg;
+use std::alloc::AllocError;
+
+/// A command of `clap` to which options and subcommands are added, or the want of memory for one.
+/// So a want of memory is looked at once, when all is made.
+#[derive(Drop)]
+pub(crate) struct Parser<'a> {
+    made: Result<clap::Command<'a>, AllocError>,
+}
+
+/// A command with a subcommand more.
+fn under<'a>(command: clap::Command<'a>, other: Parser<'a>) -> Parser<'a>
+    ensures { (app under : App) → app_of command.entry ≡ app
+        → (fields_of command.entry).has_globals ≡ false → Makes other.entry under
+        → Makes result (with_subcommand app under.top) }
+{
+    let Parser { made } = other;
+    let made = match made {
+        Ok(subcommand) => command.subcommand(subcommand),
+        Err(refused) => Err(refused),
+    };
+    Parser { made }
+}
+
+impl<'a> Parser<'a> {
+    pub(crate) fn new(command: clap::Command<'a>) -> Parser<'a>
+        ensures { (app : App) → app_of command.entry ≡ app
+            → (fields_of command.entry).has_globals ≡ false → Makes result app }
+    {
+        Parser { made: Ok(command) }
+    }
+
+    /// With an option more.
+    pub(crate) fn option(self, option: Arg<'a>) -> Parser<'a>
+        ensures { (app : App) (rule : Rule) → Makes self.entry app
+            → rule_of option.entry ≡ rule → option.entry.global ≡ false
+            → Makes result (with_rule app rule) }
+    {
+        let Parser { made } = self;
+        let made = match made {
+            Ok(command) => command.arg(option),
+            Err(refused) => Err(refused),
+        };
+        Parser { made }
+    }
+
+    /// With an option more, which can't be left out.
+    pub(crate) fn needed(self, option: Arg<'a>) -> Parser<'a>
+        ensures { (app : App) (rule : Rule) → Makes self.entry app
+            → rule_of option.entry ≡ rule → option.entry.global ≡ false
+            → Makes result (with_rule app (required rule)) }
+    {
+        self.option(option.required(true))
+    }
+
+    /// With a subcommand more.
+    pub(crate) fn subcommand(self, other: Parser<'a>) -> Parser<'a>
+        ensures { (app under : App) → Makes self.entry app → Makes other.entry under
+            → Makes result (with_subcommand app under.top) }
+    {
+        let Parser { made } = self;
+        match made {
+            Ok(command) => under(command, other),
+            Err(refused) => Parser { made: Err(refused) },
+        }
+    }
+
+    /// What was made.
+    pub(crate) fn made(self) -> Result<clap::Command<'a>, AllocError>
+        ensures { (app : App) → Makes self.entry app → IfOk result (λ made. app_of made ≡ app) }
+    {
+        let Parser { made } = self;
+        made
+    }
+}
