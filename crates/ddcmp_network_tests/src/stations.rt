@@ -1,13 +1,11 @@
 // Stations run by the program over connections that the test holds, and their faults. What their
 // words ask for is the matter of `worked_commands`.
-use crate::same::is;
-use ddcmp_cli::{Connections, Ending, Fault, Inputs, Lines, run};
+use crate::same::{System, is};
+use ddcmp_cli::{Ending, Fault, run};
 use ddcmp_frame::failing::{Pieces, Taken};
 use std::io::{Read, Write};
-use std::net::{Net, TcpListener, TcpStream};
-use std::process::Abort;
+use std::net::{TcpListener, TcpStream};
 use std::test::Fail;
-use std::time::Clock;
 
 fn strt() -> &'static [u8] {
     &[0x05, 0x06, 0xC0, 0x00, 0x00, 0x01, 0x75, 0x95]
@@ -38,17 +36,7 @@ fn words<'a>(
 }
 
 /// What a station ends as, and what it wrote.
-fn stationed(
-    rt: &(impl Abort
-        + AllocGlobal
-        + Net<Stream = TcpStream>
-        + Clock
-        + Inputs
-        + Connections
-        + Lines),
-    words: &[&str],
-    fails_at: usize,
-) -> (Ending, Taken<4096>) {
+fn stationed(rt: &impl System, words: &[&str], fails_at: usize) -> (Ending, Taken<4096>) {
     let mut reader = Pieces::of(b"");
     let mut writer = Taken::new().failing_at(fails_at);
     let ending = run(rt, rt.alloc(), words, &mut reader, &mut writer);
@@ -73,17 +61,7 @@ fn is_carrier_fault(ending: &Ending) -> bool {
 
 /// A station that is to send this to `nowhere`, which is no address, has this status and writes
 /// nothing.
-fn ends_with(
-    rt: &(impl Abort
-        + AllocGlobal
-        + Net<Stream = TcpStream>
-        + Clock
-        + Inputs
-        + Connections
-        + Lines),
-    digits: &[u8],
-    status: u8,
-) {
+fn ends_with(rt: &impl System, digits: &[u8], status: u8) {
     let send = str::from_utf8(digits).unwrap_or("no text");
     let all = words("connect", "nowhere", "0", "0", ["--send", send]);
     let (ending, written) = stationed(rt, &all, 0);
@@ -109,16 +87,7 @@ fn others_come_before_the_connection(rt: HostRuntime) {
 }
 
 /// This role is usage.
-fn is_no_role(
-    rt: &(impl Abort
-        + AllocGlobal
-        + Net<Stream = TcpStream>
-        + Clock
-        + Inputs
-        + Connections
-        + Lines),
-    role: &str,
-) -> Result<(), Fail> {
+fn is_no_role(rt: &impl System, role: &str) -> Result<(), Fail> {
     let all = words(role, "nowhere", "0", "0", ["--send", "zz"]);
     let (ending, written) = stationed(rt, &all, 0);
     is(rt, ending.status(), 2);
@@ -138,16 +107,7 @@ fn other_roles_are_usage(rt: HostRuntime) -> Result<(), Fail> {
 }
 
 /// This is no message.
-fn is_no_message(
-    rt: &(impl Abort
-        + AllocGlobal
-        + Net<Stream = TcpStream>
-        + Clock
-        + Inputs
-        + Connections
-        + Lines),
-    send: &str,
-) {
+fn is_no_message(rt: &impl System, send: &str) {
     let all = words("connect", "nowhere", "0", "0", ["--send", send]);
     let (ending, written) = stationed(rt, &all, 0);
     assert!(rt; is_fault_of_the_message(&ending));
@@ -155,17 +115,7 @@ fn is_no_message(
 }
 
 /// This is no address, in this role.
-fn is_nowhere_in<'a>(
-    rt: &(impl Abort
-        + AllocGlobal
-        + Net<Stream = TcpStream>
-        + Clock
-        + Inputs
-        + Connections
-        + Lines),
-    addr: &'a str,
-    role: &'a str,
-) -> Result<(), Fail> {
+fn is_nowhere_in<'a>(rt: &impl System, addr: &'a str, role: &'a str) -> Result<(), Fail> {
     let all = words(role, addr, "0", "0", ["--send", "61"]);
     let (ending, written) = stationed(rt, &all, 0);
     is(
@@ -179,16 +129,7 @@ fn is_nowhere_in<'a>(
 }
 
 /// This is no address, in both roles.
-fn is_nowhere(
-    rt: &(impl Abort
-        + AllocGlobal
-        + Net<Stream = TcpStream>
-        + Clock
-        + Inputs
-        + Connections
-        + Lines),
-    addr: &str,
-) -> Result<(), Fail> {
+fn is_nowhere(rt: &impl System, addr: &str) -> Result<(), Fail> {
     is_nowhere_in(rt, addr, "connect")?;
     is_nowhere_in(rt, addr, "listen")
 }

@@ -14,11 +14,21 @@ use ddcmp_io::{Got, Sink, Source, Worst, write_all};
 use ddcmp_tap::Direction;
 
 /// What comes from one side, and the way to the other.
-#[derive(Drop)]
 pub struct Flow<R, O> {
     direction: Direction,
     reader: R,
     outlet: O,
+}
+
+// By hand, so that it is let go by a call: a derived one is written out at each such place.
+impl<R: Drop, O: Drop> Drop for Flow<R, O> {
+    fn drop(self) {
+        let Flow {
+            direction: _direction,
+            reader: _reader,
+            outlet: _outlet,
+        } = self;
+    }
 }
 
 impl<R: Source, O: Outlet> Flow<R, O> {

@@ -42,11 +42,20 @@ pub(crate) enum Part {
 }
 
 /// Reads messages, however the input is cut.
-#[derive(Drop)]
 pub(crate) enum Messages {
     Digits(HexLines),
     /// With how many messages were read.
     Binary(Lengths, u64),
+}
+
+// By hand, so that it is let go by a call: a derived one is written out at each such place.
+impl Drop for Messages {
+    fn drop(self) {
+        match self {
+            Messages::Digits(_lines) => {}
+            Messages::Binary(_lengths, _) => {}
+        }
+    }
 }
 
 /// What a reader of messages met, at this line or message.

@@ -10,11 +10,20 @@ use std::net::{self, Net, OpenListener, SocketAddr, ToSocketAddrs};
 use std::os::fd::AsRawFd;
 
 /// Opens a line, once or again and again.
-#[derive(Drop)]
 pub(crate) struct Opener<'a> {
     name: LineName<'a>,
     /// Who comes is taken here, once it listens.
     listener: Option<TcpListener>,
+}
+
+// By hand, so that it is let go by a call: a derived one is written out at each such place.
+impl Drop for Opener<'_> {
+    fn drop(self) {
+        let Opener {
+            name: _,
+            listener: _listener,
+        } = self;
+    }
 }
 
 /// A line, or whom to wait for.

@@ -1,17 +1,13 @@
 // Endings, and the program as a whole but for the system's streams. What words ask for and what is
 // written then is the matter of `worked_commands`.
-use crate::same::is;
+use crate::same::{System, is};
 use ddcmp_cli::command::read_words;
-use ddcmp_cli::{
-    Command, Connections, Declined, Ending, Fault, Inputs, Lines, OpenFault, run, run_args,
-};
+use ddcmp_cli::{Command, Declined, Ending, Fault, OpenFault, run, run_args};
 use ddcmp_frame::failing::{Pieces, Taken};
 use std::alloc::Global;
 use std::io::{self, ErrorKind};
-use std::net::{Net, TcpStream};
 use std::process::Abort;
 use std::test::Fail;
-use std::time::Clock;
 
 /// An ending has this status and this line.
 fn is_told(
@@ -67,18 +63,7 @@ fn faults_of_the_system_have_a_line(rt: HostRuntime) -> Result<(), Fail> {
 }
 
 /// What a run over memory ends as, and what it wrote; the write `fails_at` fails, 0 is none.
-fn ran(
-    rt: &(impl Abort
-        + AllocGlobal
-        + Net<Stream = TcpStream>
-        + Clock
-        + Inputs
-        + Connections
-        + Lines),
-    words: &[&str],
-    input: &[u8],
-    fails_at: usize,
-) -> (Ending, Taken<4096>) {
+fn ran(rt: &impl System, words: &[&str], input: &[u8], fails_at: usize) -> (Ending, Taken<4096>) {
     let mut reader = Pieces::of(input);
     let mut writer = Taken::new().failing_at(fails_at);
     let ending = run(rt, rt.alloc(), words, &mut reader, &mut writer);
@@ -115,18 +100,7 @@ fn a_failed_write_and_no_words_are_told(rt: HostRuntime) {
 }
 
 /// The program is done with these words, and has written this.
-fn writes(
-    rt: &(impl Abort
-        + AllocGlobal
-        + Net<Stream = TcpStream>
-        + Clock
-        + Inputs
-        + Connections
-        + Lines),
-    words: &[&str],
-    input: &[u8],
-    text: &[u8],
-) {
+fn writes(rt: &impl System, words: &[&str], input: &[u8], text: &[u8]) {
     let (ending, written) = ran(rt, words, input, 0);
     assert!(rt; is_done(&ending));
     is(rt, written.bytes(), text);
@@ -175,16 +149,7 @@ fn a_far_byte_is_told(rt: HostRuntime) {
 }
 
 /// What a run with the words of the system ends as, and what it wrote.
-fn ran_args(
-    rt: &(impl Abort
-        + AllocGlobal
-        + Net<Stream = TcpStream>
-        + Clock
-        + Inputs
-        + Connections
-        + Lines),
-    args: io::Result<Vec<String>>,
-) -> (u8, Taken<4096>) {
+fn ran_args(rt: &impl System, args: io::Result<Vec<String>>) -> (u8, Taken<4096>) {
     let mut reader = Pieces::of(b"050100000001fc55");
     let mut writer = Taken::new();
     let ending = run_args(rt, rt.alloc(), args, &mut reader, &mut writer);
@@ -192,18 +157,7 @@ fn ran_args(
 }
 
 /// A run with the words of the system has this status, and has written this.
-fn has_status(
-    rt: &(impl Abort
-        + AllocGlobal
-        + Net<Stream = TcpStream>
-        + Clock
-        + Inputs
-        + Connections
-        + Lines),
-    args: io::Result<Vec<String>>,
-    status: u8,
-    text: &[u8],
-) {
+fn has_status(rt: &impl System, args: io::Result<Vec<String>>, status: u8, text: &[u8]) {
     let (told, written) = ran_args(rt, args);
     is(rt, told, status);
     is(rt, written.bytes(), text);
@@ -245,16 +199,7 @@ fn text_of(alloc: Global, words: &[&str]) -> Option<(bool, String)> {
 }
 
 /// The text of words that ask for nothing is told whole.
-fn is_whole(
-    rt: &(impl Abort
-        + AllocGlobal
-        + Net<Stream = TcpStream>
-        + Clock
-        + Inputs
-        + Connections
-        + Lines),
-    words: &[&str],
-) -> Result<(), Fail> {
+fn is_whole(rt: &impl System, words: &[&str]) -> Result<(), Fail> {
     let (ending, written) = ran(rt, words, b"", 0);
     let (usage, text) = text_of(rt.alloc(), words).ok_or("no text")?;
     if usage {

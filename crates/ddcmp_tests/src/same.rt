@@ -1,6 +1,23 @@
-//! A comparison that promises nothing.
+//! The system that runs a test, and a comparison that promises nothing.
+use ddcmp_cli::{Connections, Inputs, Lines};
 use std::fmt::Debug;
+use std::net::{Net, TcpStream};
 use std::process::Abort;
+use std::time::Clock;
+
+/// All that a test may ask of the system.
+pub trait System: Abort
+    + AllocGlobal
+    + Net<Stream = TcpStream>
+    + Clock
+    + Inputs
+    + Connections
+    + Lines {}
+
+impl<S> System for S
+where
+    S: Abort + AllocGlobal + Net<Stream = TcpStream> + Clock + Inputs + Connections + Lines,
+{}
 
 /// What was told is what was wanted.
 pub fn is<T: PartialEq + Debug + Drop>(rt: &impl Abort, told: T, wanted: T) {
