@@ -1,6 +1,7 @@
 -- What explain writes and answers.
-use Rattle.std.specs.Prelude.{◌≡◌, ◌⊎◌, ℕ, ◌-◌, ◌<◌, ◌^◌, List, [], ◌∷◌, ◌++◌, length}
-use Rattle.std.specs.Prelude.{if◌then◌else◌, is_none, Option, Some, None, Result, Ok, Err}
+use Rattle.std.specs.Prelude.{◌≡◌, ◌≢◌, ◌⊎◌, ◌↔◌, ℕ, ◌+◌, ◌-◌, ◌<◌, ◌^◌, List, [], ◌∷◌, ◌++◌, length}
+use Rattle.std.specs.Prelude.{if◌then◌else◌, is_none, false, IsOk, IsTrue}
+use Rattle.std.specs.Prelude.{Option, Some, None, Result, Ok, Err}
 use Rattle.std.specs.Io.KnownBytes.{Appends, IsAtEnd}
 use Rattle.ddcmp_explain.specs.declared.explain_fault.ExplainFault.{ExplainFault}
 use Rattle.ddcmp_explain.specs.declared.explain_fault.ExplainFault.TheVariants.{Odd, NotHex, Read}
@@ -9,6 +10,9 @@ use Rattle.ddcmp_explain.specs.declared.form.Form.{Form}
 use Rattle.ddcmp_explain.specs.declared.style.Style.{Style}
 use Rattle.ddcmp_explain.specs.Digits.{bytes_of, unexpected_in, left_in}
 use Rattle.ddcmp_explain.specs.Discarded.{lines_in, end_in}
+use Rattle.ddcmp_io.specs.declared.device.Worst.TheVariants.{Fine}
+use Rattle.ddcmp_io.specs.Change.{SourceChange, SinkChange}
+use Rattle.ddcmp_io.specs.Input.{GaveMost}
 use Rattle.ddcmp_io.specs.Written.{AppendsPart, Known}
 
 abbrev pub refusal_by : Option ℕ → List ℕ → Option ExplainFault
@@ -57,3 +61,21 @@ abbrev pub Explains : Form → Style → ℕ → List ℕ → Known → Known �
 Explains form style max input left old new result =
     (seen rest : List ℕ) × (input ≡ seen ++ rest) × (left ≡ Some rest)
     × Tells form style max seen (Some rest) old new result
+
+-- An input was explained: what was written, and when each answer comes.
+pub record IsExplained (form : Form) (style : Style) (max : ℕ) (source : SourceChange)
+    (sink : SinkChange) (result : Answer) : Type 0 where
+  pub told : (input : List ℕ) → source.before ≡ Some input
+      → Explains form style max input source.after sink.before sink.after result
+  pub ok : (input : List ℕ) → source.before ≡ Some input
+      → IsOk result ↔ ((refusal form input ≡ None) × (length input < 2 ^ 64 - 1)
+      × (source.state ≡ Fine) × (sink.broken ≡ false) × (result ≢ Err Memory))
+  -- Read exactly where the source isn't fine, or has given 2^64 - 1 bytes with no write failing.
+  pub read : source.state ≢ Fine → result ≡ Err Read
+  pub read_only : result ≡ Err Read
+      → (source.state ≢ Fine) ⊎ GaveMost source.before source.after
+  pub read_most : (input rest : List ℕ)
+      → source.before ≡ Some input → source.after ≡ Some rest
+      → length input ≡ length rest + (2 ^ 64 - 1)
+      → (result ≡ Err Read) ⊎ (result ≡ Err Write)
+  pub write : (result ≡ Err Write) ↔ IsTrue sink.broken

@@ -104,8 +104,7 @@ pub fn explain_dump<R: Source, W: Sink>(
 ) -> Result<(), DumpFault>
     requires fine { R.state reader.old ≡ Worst.Fine }
     requires whole { W.broken writer.old ≡ false }
-    requires low { 0 < max }
-    requires high { max ≤ MAX_COUNT }
+    requires max { (0 < max) × (max ≤ MAX_COUNT) }
 
     // Where the input is known: what was written, and when each answer comes.
     ensures told { (input : List ℕ) → R.left reader.old ≡ Some input

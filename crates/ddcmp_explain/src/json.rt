@@ -85,42 +85,36 @@ fn put_reason(line: &mut [u8; LINE], at: usize, kind: ControlType, sub: u8) -> u
     }
 }
 
-fn put_control(line: &mut [u8; LINE], at: usize, header: &Short) -> usize
+fn put_control(line: &mut [u8; LINE], at: usize, h: &Short) -> usize
     requires { at + 103 ≤ LINE }
     ensures puts { Puts line.old at line.new result
-        (quoted (kind_text header.now.kind) ++ member (codes "sub") (decimal header.now.sub)
-        ++ json_reason header.now.kind header.now.sub
-        ++ json_fields header.now.flags header.now.resp header.now.num header.now.addr) }
+        (quoted (kind_text h.now.kind) ++ member (codes "sub") (decimal h.now.sub)
+        ++ json_reason h.now.kind h.now.sub
+        ++ json_fields h.now.flags h.now.resp h.now.num h.now.addr) }
     ensures within { result ≤ at + 103 }
 {
-    let behind_kind = put_slice(line, at, kind_value(header.kind));
-    let behind_sub = put_member(line, behind_kind, b",\"sub\":", header.sub);
-    let behind_reason = put_reason(line, behind_sub, header.kind, header.sub);
-    put_fields(
-        line,
-        behind_reason,
-        header.flags,
-        header.resp,
-        header.num,
-        header.addr,
-    )
+    let behind_kind = put_slice(line, at, kind_value(h.kind));
+    let behind_sub = put_member(line, behind_kind, b",\"sub\":", h.sub);
+    let behind_reason = put_reason(line, behind_sub, h.kind, h.sub);
+    put_fields(line, behind_reason, h.flags, h.resp, h.num, h.addr)
 }
 
-fn put_counted(line: &mut [u8; LINE], at: usize, header: &Counted) -> usize
-    requires { at + 73 ≤ LINE }
-    ensures puts { Puts line.old at line.new result (json_counted header.now) }
-    ensures within { result ≤ at + 73 }
+/// A name as a value, and the fields of a header with COUNT.
+fn put_counted<const N: usize>(
+    line: &mut [u8; LINE],
+    at: usize,
+    name: &[u8; N],
+    h: &Counted,
+) -> usize
+    requires name { N ≤ 7 }
+    requires room { at + 80 ≤ LINE }
+    ensures puts { Puts line.old at line.new result (name.now ++ json_counted h.now) }
+    ensures within { result ≤ at + 80 }
 {
-    let at_count = put(line, at, b",\"count\":");
-    let behind_count = put_number(line, at_count, header.count as u64);
-    put_fields(
-        line,
-        behind_count,
-        header.flags,
-        header.resp,
-        header.num,
-        header.addr,
-    )
+    let behind_name = put(line, at, name);
+    let at_count = put(line, behind_name, b",\"count\":");
+    let behind_count = put_number(line, at_count, h.count as u64);
+    put_fields(line, behind_count, h.flags, h.resp, h.num, h.addr)
 }
 
 /// The name of a header as a value, and its fields.
@@ -130,14 +124,8 @@ pub(crate) fn put_header(line: &mut [u8; LINE], at: usize, header: &Header) -> u
     ensures within { result ≤ at + 103 }
 {
     match header {
-        Header::Data(h) => {
-            let behind_name = put(line, at, b"\"DATA\"");
-            put_counted(line, behind_name, h)
-        }
-        Header::Maint(h) => {
-            let behind_name = put(line, at, b"\"MAINT\"");
-            put_counted(line, behind_name, h)
-        }
+        Header::Data(h) => put_counted(line, at, b"\"DATA\"", h),
+        Header::Maint(h) => put_counted(line, at, b"\"MAINT\"", h),
         Header::Control(h) => put_control(line, at, h),
     }
 }

@@ -68,40 +68,26 @@ fn put_fields(line: &mut [u8; LINE], at: usize, flags: Flags, resp: u8, num: u8,
 }
 
 #[inline(always)]
-fn put_control(line: &mut [u8; LINE], at: usize, header: &Short) -> usize
+fn put_control(line: &mut [u8; LINE], at: usize, h: &Short) -> usize
     requires { at + 47 ≤ LINE }
     ensures puts { Puts line.old at line.new result
-        (kind_text header.now.kind ++ codes " sub=" ++ decimal header.now.sub
-        ++ fields_text header.now.flags header.now.resp header.now.num header.now.addr) }
+        (kind_text h.now.kind ++ codes " sub=" ++ decimal h.now.sub
+        ++ fields_text h.now.flags h.now.resp h.now.num h.now.addr) }
     ensures within { result ≤ at + 47 }
 {
-    let at_sub = put_kind(line, at, header.kind);
-    let behind_sub = put_byte(line, at_sub, header.sub);
-    put_fields(
-        line,
-        behind_sub,
-        header.flags,
-        header.resp,
-        header.num,
-        header.addr,
-    )
+    let at_sub = put_kind(line, at, h.kind);
+    let behind_sub = put_byte(line, at_sub, h.sub);
+    put_fields(line, behind_sub, h.flags, h.resp, h.num, h.addr)
 }
 
-fn put_counted(line: &mut [u8; LINE], at: usize, header: &Counted) -> usize
+fn put_counted(line: &mut [u8; LINE], at: usize, h: &Counted) -> usize
     requires { at + 61 ≤ LINE }
-    ensures puts { Puts line.old at line.new result (counted_text header.now) }
+    ensures puts { Puts line.old at line.new result (counted_text h.now) }
     ensures within { result ≤ at + 61 }
 {
     let at_count = put(line, at, b" count=");
-    let behind_count = put_number(line, at_count, header.count as u64);
-    put_fields(
-        line,
-        behind_count,
-        header.flags,
-        header.resp,
-        header.num,
-        header.addr,
-    )
+    let behind_count = put_number(line, at_count, h.count as u64);
+    put_fields(line, behind_count, h.flags, h.resp, h.num, h.addr)
 }
 
 #[inline(always)]

@@ -1,3 +1,4 @@
+pub mod Change
 pub mod Device
 pub mod Failing
 pub mod Written

@@ -1,4 +1,6 @@
-use Rattle.std.proofs.Common.{◌≢◌, ◌⊎◌, [], inl, inr, subst, sym}
+use Rattle.std.proofs.Common.{◌≡◌, ◌≢◌, ◌⊎◌, [], ℕ, List, Some, Err, inl, inr, subst, sym}
+use Rattle.ddcmp_explain.specs.Explains.{Explains}
+use Rattle.ddcmp_explain.specs.declared.explain_fault.ExplainFault.TheVariants.{Read}
 use Rattle.ddcmp_io.specs.declared.device.Worst.TheVariants.{Fine}
 use Rattle.ddcmp_io.specs.Input.{GaveMost}
 use Rattle.ddcmp_explain.specs.Progress.{Progress}
@@ -31,27 +33,35 @@ saw g c =
     c.take_all.new.self.seen before left old new c.take_all.result)
     c.in-Ok.ensures.max (c.take_all.ensures.tells c.in-Ok.frames.max begun)))
 
-pub returns-in-Ok-clause-told : goal.returns-in-Ok-clause-told
-returns-in-Ok-clause-told g c = explains c.args.form c.args.style c.args.max _ _ _ _ _ _ (saw g c)
+told : (g : _) (c : After-drop-explainer g) (input : List ℕ)
+    → g.R.Source.left c.args.reader.now ≡ Some input
+    → Explains c.args.form c.args.style c.args.max input (g.R.Source.left c.take_all.new.reader)
+    (g.W.Sink.contents c.args.writer.now) (g.W.Sink.contents c.take_all.new.writer)
+    c.take_all.result
+told g c input e = explains c.args.form c.args.style c.args.max _ _ _ _ _ _ (saw g c) input e
 
-pub returns-in-Ok-clause-read_only : goal.returns-in-Ok-clause-read_only
-returns-in-Ok-clause-read_only g c = λ e. elim (c.take_all.ensures.read_only e) [
+read-only : (g : _) (c : After-drop-explainer g) → c.take_all.result ≡ Err Read
+    → (g.R.Source.state c.take_all.new.reader ≢ Fine)
+    ⊎ GaveMost (g.R.Source.left c.args.reader.now) (g.R.Source.left c.take_all.new.reader)
+read-only g c e = elim (c.take_all.ensures.read_only e) [
   | inl worse ↦ inl worse
   | inr most ↦ inr (gave-most c.args.form c.args.style c.args.max _ _ _ _ _ _ (saw g c) most)
 ]
 
-pub returns-in-Ok-clause-read_most : goal.returns-in-Ok-clause-read_most
-returns-in-Ok-clause-read_most g c = λ input rest e f most.
-    most-fails c.args.form c.args.style c.args.max input rest _ _ _ _
-    (explains c.args.form c.args.style c.args.max _ _ _ _ _ _ (saw g c) input e) f most
-
-pub returns-in-Ok-clause-ok : goal.returns-in-Ok-clause-ok
-returns-in-Ok-clause-ok g c = λ input e.
-    ok-exactly c.args.form c.args.style c.args.max input _ _ _ _ _ _
-    (explains c.args.form c.args.style c.args.max _ _ _ _ _ _ (saw g c) input e)
-    c.take_all.ensures.read
-    (λ r. subst
-    (λ b. (g.R.Source.state c.take_all.new.reader ≢ Fine)
-    ⊎ GaveMost b (g.R.Source.left c.take_all.new.reader))
-    e (returns-in-Ok-clause-read_only g c r))
-    c.take_all.ensures.write
+pub returns-in-Ok : goal.returns-in-Ok
+returns-in-Ok g c = record {
+  told = told g c;
+  ok = λ input e.
+      ok-exactly c.args.form c.args.style c.args.max input _ _ _ _ _ _ (told g c input e)
+      c.take_all.ensures.read
+      (λ r. subst
+      (λ b. (g.R.Source.state c.take_all.new.reader ≢ Fine)
+      ⊎ GaveMost b (g.R.Source.left c.take_all.new.reader))
+      e (read-only g c r))
+      c.take_all.ensures.write;
+  read = c.take_all.ensures.read;
+  read_only = read-only g c;
+  read_most = λ input rest e f most.
+      most-fails c.args.form c.args.style c.args.max input rest _ _ _ _ (told g c input e) f most;
+  write = c.take_all.ensures.write;
+}

@@ -6,7 +6,7 @@ use Rattle.ddcmp_explain.proofs.json.put_control.Goals as goal
 
 pub returns-clause-puts : goal.returns-clause-puts
 returns-clause-puts c =
-    puts-as (ap (λ h. json_header (Control h)) c.header.view_is)
+    puts-as (ap (λ h. json_header (Control h)) c.h.view_is)
     (puts-then (puts-then
     (puts-then (puts-as c.kind_value.ensures.value c.put_slice-behind_kind.ensures)
     c.put_member-behind_sub.ensures.puts)

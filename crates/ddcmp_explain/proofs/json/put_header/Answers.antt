@@ -1,17 +1,17 @@
 use Rattle.std.proofs.Common.{ap, sym}
 use Rattle.ddcmp_explain.specs.Json.{json_header}
-use Rattle.ddcmp_explain.proofs.PuttingLaws.{puts-then, puts-as}
+use Rattle.ddcmp_explain.proofs.PuttingLaws.{puts-as}
 use Rattle.ddcmp_explain.proofs.json.put_header.Goals as goal
 
 pub returns-in-Data-clause-puts : goal.returns-in-Data-clause-puts
 returns-in-Data-clause-puts c =
     puts-as (ap json_header (sym c.in-Data.is))
-    (puts-then c.put-behind_name.ensures c.put_counted.ensures.puts)
+    c.put_counted.ensures.puts
 
 pub returns-in-Maint-clause-puts : goal.returns-in-Maint-clause-puts
 returns-in-Maint-clause-puts c =
     puts-as (ap json_header (sym c.in-Maint.is))
-    (puts-then c.put-behind_name-in-Maint.ensures c.put_counted-in-Maint.ensures.puts)
+    c.put_counted-in-Maint.ensures.puts
 
 pub returns-in-Control-clause-puts : goal.returns-in-Control-clause-puts
 returns-in-Control-clause-puts c =

@@ -1,6 +1,0 @@
-use Rattle.ddcmp_words.proofs.command.simulate_parser.Goals as goal
-
-pub returns : goal.returns
-returns c =
-    let start = c.new-named.ensures _ c.simulate_command.ensures.app c.simulate_command.ensures.local in
-    c.with_view.ensures _ (c.with_sizes.ensures _ start)
