@@ -1,6 +1,5 @@
 //! Reading a script, and drawing what its lines do.
-ghost use Rattle.std.specs.Prelude.{◌≡◌, ◌≢◌, ◌⊎◌, ◌↔◌, ◌^◌, ◌-◌, false, Err, IsTrue, List, ℕ, length};
-ghost use Rattle.std.specs.Io.KnownBytes.{Consumes};
+ghost use Rattle.std.specs.Prelude.{◌≡◌, ◌≢◌, ◌⊎◌, ◌↔◌, false, Err, IsTrue};
 ghost use Rattle.ddcmp_io.specs.Input.{GaveMost};
 ghost use Rattle.ddcmp_run.specs.InOrder.{IsInOrder};
 
@@ -13,6 +12,7 @@ use ddcmp_io::input::read_within;
 use ddcmp_io::{Got, Sink, Source, Worst};
 use ddcmp_pair::Pair;
 use ddcmp_script::ScriptFault;
+use ddcmp_script_text::without_cr;
 use std::alloc::Global;
 
 /// How many bytes of a script are read at once.
@@ -25,7 +25,6 @@ struct Player {
     line: Vec<u8>,
     /// How many lines were done.
     number: u64,
-    seen: u64,
     counted: bool,
 }
 
@@ -37,7 +36,6 @@ impl Drop for Player {
             stage: _stage,
             line: _line,
             number: _,
-            seen: _,
             counted: _,
         } = self;
     }
@@ -50,19 +48,8 @@ enum Halt {
     Unwritten,
 }
 
-/// A line without the CR at its end.
-fn without_cr(line: &[u8]) -> &[u8] {
-    if !line.is_empty() && line[line.len() - 1] == b'\r' {
-        &line[..line.len() - 1]
-    } else {
-        line
-    }
-}
-
 impl Player {
-    fn new(alloc: Global, picture: Picture, counted: bool) -> Self
-        ensures { result.seen ≡ 0 }
-    {
+    fn new(alloc: Global, picture: Picture, counted: bool) -> Self {
         Player {
             stage: Stage {
                 alloc,
@@ -71,7 +58,6 @@ impl Player {
             },
             line: Vec::new(alloc),
             number: 0,
-            seen: 0,
             counted,
         }
     }
@@ -84,7 +70,6 @@ impl Player {
         carrier: &mut C,
     ) -> Result<(), Halt>
         requires whole { C.broken carrier.old ≡ false }
-        ensures seen { self.new.seen ≡ self.old.seen }
         ensures carrier { (result ≡ Err (Halt.Stopped Stop.Carrier)) ↔ IsTrue (C.broken carrier.new) }
     {
         let line = without_cr(&self.line);
@@ -110,7 +95,6 @@ impl Player {
         byte: u8,
     ) -> Result<(), Halt>
         requires whole { C.broken carrier.old ≡ false }
-        ensures seen { self.new.seen ≡ self.old.seen }
         ensures carrier { (result ≡ Err (Halt.Stopped Stop.Carrier)) ↔ IsTrue (C.broken carrier.new) }
     {
         if byte == b'\n' {
@@ -131,7 +115,6 @@ impl Player {
         piece: &[u8],
     ) -> Result<(), Halt>
         requires whole { C.broken carrier.old ≡ false }
-        ensures seen { self.new.seen ≡ self.old.seen }
         ensures carrier { (result ≡ Err (Halt.Stopped Stop.Carrier)) ↔ IsTrue (C.broken carrier.new) }
     {
         for i in 0..piece.len() {
@@ -145,7 +128,6 @@ impl Player {
 
     /// Ends the picture where it is, and says which fault it is.
     fn stop<W: Sink>(&mut self, writer: &mut W, halt: Halt) -> ScriptFault
-        ensures seen { self.new.seen ≡ self.old.seen }
         ensures read { result ≢ ScriptFault.Read }
         ensures write { (result ≡ ScriptFault.Write) ↔ IsTrue (W.broken writer.new) }
         ensures carrier { result ≡ ScriptFault.Carrier → halt ≡ Halt.Stopped Stop.Carrier }
@@ -167,9 +149,7 @@ impl Player {
     }
 
     /// Frames that are still on their way end in the picture.
-    fn end_flights<W: Sink>(&mut self, writer: &mut W)
-        ensures seen { self.new.seen ≡ self.old.seen }
-    {
+    fn end_flights<W: Sink>(&mut self, writer: &mut W) {
         let stage = &mut self.stage;
         stage
             .flights
@@ -184,15 +164,15 @@ impl Player {
         carrier: &mut C,
     ) -> Result<(), ScriptFault>
         requires whole { C.broken carrier.old ≡ false }
-        ensures seen { self.new.seen ≡ self.old.seen }
         ensures read { result ≢ Err ScriptFault.Read }
         ensures write { (result ≡ Err ScriptFault.Write) ↔ IsTrue (W.broken writer.new) }
         ensures carrier { result ≡ Err ScriptFault.Carrier → IsTrue (C.broken carrier.new) }
     {
+        // The last line, where LF doesn't end it.
         if !self.line.is_empty() {
-            match self.end_last_line(pair, writer, carrier) {
+            match self.stage.do_line(pair, writer, carrier, &self.line) {
                 Ok(()) => {}
-                Err(halt) => return Err(self.stop(writer, halt)),
+                Err(stop) => return Err(self.stop(writer, Halt::Stopped(stop))),
             }
         }
         self.end_flights(writer);
@@ -209,23 +189,6 @@ impl Player {
         }
     }
 
-    /// Does the last line, where LF doesn't end it.
-    fn end_last_line<W: Sink, C: Carrier>(
-        &mut self,
-        pair: &mut Pair,
-        writer: &mut W,
-        carrier: &mut C,
-    ) -> Result<(), Halt>
-        requires whole { C.broken carrier.old ≡ false }
-        ensures seen { self.new.seen ≡ self.old.seen }
-        ensures carrier { (result ≡ Err (Halt.Stopped Stop.Carrier)) ↔ IsTrue (C.broken carrier.new) }
-    {
-        match self.stage.do_line(pair, writer, carrier, &self.line) {
-            Ok(()) => Ok(()),
-            Err(stop) => Err(Halt::Stopped(stop)),
-        }
-    }
-
     /// Takes the script to its end.
     fn take_all<R: Source, W: Sink, C: Carrier>(
         &mut self,
@@ -236,29 +199,27 @@ impl Player {
     ) -> Result<(), ScriptFault>
         requires fine { R.state reader.old ≡ Worst.Fine }
         requires whole { C.broken carrier.old ≡ false }
-        requires seen { self.old.seen ≡ 0 }
-        ensures consumed { (seen : List ℕ) × (length seen ≡ self.new.seen)
-            × Consumes (R.left reader.old) (R.left reader.new) seen }
         ensures read { R.state reader.new ≢ Worst.Fine → result ≡ Err ScriptFault.Read }
-        ensures read_only { result ≡ Err ScriptFault.Read
-            → (R.state reader.new ≢ Worst.Fine) ⊎ (self.new.seen ≡ 2 ^ 64 - 1) }
+        ensures read_only { result ≡ Err ScriptFault.Read → (R.state reader.new ≢ Worst.Fine)
+            ⊎ GaveMost (R.left reader.old) (R.left reader.new) }
         ensures write { (result ≡ Err ScriptFault.Write) ↔ IsTrue (W.broken writer.new) }
         ensures carrier { result ≡ Err ScriptFault.Carrier → IsTrue (C.broken carrier.new) }
     {
         let mut piece = [0; PIECE];
+        let mut seen: u64 = 0;
         self.stage.canvas.begin(writer);
-        while self.seen < u64::MAX {
+        while seen < u64::MAX {
             if !self.stage.canvas.show(writer) {
                 return Err(ScriptFault::Write);
             }
-            let n = match read_within(reader, &mut piece, u64::MAX - self.seen) {
+            let n = match read_within(reader, &mut piece, u64::MAX - seen) {
                 Got::Bytes(0) => return self.finish(pair, writer, carrier),
                 Got::Bytes(n) => n,
                 _ => return Err(ScriptFault::Read),
             };
-            self.seen += n as u64;
+            seen += n as u64;
             // A reader that has given the most bytes counts as failed.
-            if self.seen == u64::MAX {
+            if seen == u64::MAX {
                 return Err(ScriptFault::Read);
             }
             match self.take(pair, writer, carrier, &piece[..n]) {

@@ -1,6 +1,12 @@
 -- How a script ends: which of its lines were done, what was written, and what the pair is after.
-use Rattle.std.specs.Prelude.{◌≡◌, ◌≢◌, ⊤, ◌⊎◌, ℕ, ◌+◌, Bool, List, [], ◌∷◌, ◌++◌, length, Option, Result, Ok, Err}
+use Rattle.std.specs.Prelude.{◌≡◌, ◌≢◌, ⊤, ◌⊎◌, ◌↔◌, ℕ, ◌+◌, ◌-◌, ◌<◌, ◌^◌, Bool, false, List, [], ◌∷◌, ◌++◌, length, Option, Some, Result, Ok, Err, IsOk, IsTrue}
+use Rattle.std.specs.Io.KnownBytes.{Appends}
+use Rattle.ddcmp_io.specs.declared.device.Worst.TheVariants.{Fine}
+use Rattle.ddcmp_io.specs.Change.{SourceChange, SinkChange}
+use Rattle.ddcmp_io.specs.Input.{GaveMost}
+use Rattle.ddcmp_io.specs.Written.{AppendsPart}
 use Rattle.ddcmp_run.specs.declared.event.End.{End}
+use Rattle.ddcmp_run.specs.InOrder.{IsInOrder}
 use Rattle.ddcmp_run.specs.Run.{PairState}
 use Rattle.ddcmp_run.specs.Settle.{WantsMemory}
 use Rattle.ddcmp_script_text.specs.declared.command.ScriptCommand.TheVariants as command
@@ -154,3 +160,30 @@ Plays counted input x Wrote WrotePart (Err Write) =
 Plays counted input x Wrote WrotePart (Err Memory) = Broken input x (λ text behind. Wrote text)
 Plays counted input x Wrote WrotePart (Err Carrier) =
     (n : ℕ) × StoppedAt AsksCarrier n input x Wrote
+
+-- A script was played: which lines were done, what was written, what the pair is, and when each
+-- answer comes. The carrier is down where it has failed.
+pub record IsPlayed (counted : Bool) (x : Around) (source : SourceChange) (sink : SinkChange)
+    (is_down : Bool) (result : Result (Unit {0}) ScriptFault) : Type 0 where
+  pub told : (input : List ℕ) → source.before ≡ Some input
+      → Plays counted input x (Appends sink.before sink.after)
+      (AppendsPart sink.before sink.after) result
+  -- On Read every line was done that LF ends in the bytes that were read, and no other.
+  pub paused : (input rest : List ℕ) → source.before ≡ Some input → source.after ≡ Some rest
+      → length input < length rest + (2 ^ 64 - 1) → result ≡ Err Read
+      → PausedBefore rest input x (Appends sink.before sink.after)
+  -- Ok exactly where every line is a command or skipped, no device failed and memory was had.
+  pub ok : (input : List ℕ) → source.before ≡ Some input
+      → IsOk result ↔ (AllFit (lines_of input) × (source.state ≡ Fine)
+      × (GaveMost source.before source.after → ⊥) × (sink.broken ≡ false) × (is_down ≡ false)
+      × (result ≢ Err Memory))
+  -- Read exactly where the source isn't fine, or has given 2^64 - 1 bytes.
+  pub read : source.state ≢ Fine → result ≡ Err Read
+  pub read_only : result ≡ Err Read
+      → (source.state ≢ Fine) ⊎ GaveMost source.before source.after
+  pub read_most : (input rest : List ℕ) → source.before ≡ Some input → source.after ≡ Some rest
+      → length input ≡ length rest + (2 ^ 64 - 1) → result ≡ Err Read
+  pub write : (result ≡ Err Write) ↔ IsTrue sink.broken
+  pub carried : (result ≡ Err Carrier) ↔ IsTrue is_down
+  -- Whatever is answered, messages are in order.
+  pub order : IsInOrder x.pair_after

@@ -1,12 +1,15 @@
 -- How far a script has been played.
-use Rattle.std.specs.Prelude.{◌≡◌, ℕ, ◌+◌, false, List, [], ◌++◌, length, Some, Result, Ok, Err}
+use Rattle.std.specs.Prelude.{◌≡◌, ℕ, ◌+◌, Bool, false, List, [], ◌++◌, length, Option, Some, Result, Ok, Err}
+use Rattle.ddcmp_carrier.specs.Carriages.{Carriage}
+use Rattle.ddcmp_run.specs.Run.{PairState}
+use Rattle.ddcmp_script.specs.declared.scripting.Player.{Player}
 use Rattle.ddcmp_io.specs.Written.{Known, Output, HandsOver}
 use Rattle.ddcmp_script_text.specs.declared.command.ParsedLine.TheVariants as reading
 use Rattle.ddcmp_script.specs.declared.performing.Stop.{Stop}
 use Rattle.ddcmp_script.specs.declared.performing.Stop.TheVariants.{NoCommand, NotHex, Write, Memory, Carrier}
 use Rattle.ddcmp_script_text.specs.ScriptWords.{lines_of}
 use Rattle.ddcmp_script.specs.Script.{Between, DoneLine}
-use Rattle.ddcmp_script.specs.ScriptEnds.{Around, HasNoLf, Begins, Did, StoppedAt, Broken, AsksCarrier, scene_then}
+use Rattle.ddcmp_script.specs.ScriptEnds.{Around, around, HasNoLf, Begins, Did, StoppedAt, Broken, AsksCarrier, scene_then}
 
 -- a sink, and an empty page in front of it
 abbrev pub fresh : Known → Output
@@ -69,6 +72,32 @@ Stops input number way Carrier =
 abbrev pub PlaysOn : List ℕ → List ℕ → PlayerView → Course → Result (Unit {0}) Stop → Type 0
 PlaysOn input rest player way (Ok u) = HasDone input rest player way
 PlaysOn input rest player way (Err stop) = Stops input player.number way stop
+
+-- What there is at a moment: how far the player is, what was written, the ends, and what the carrier
+-- has told.
+pub record Moment : Type 0 where
+  pub player : PlayerView
+  pub output : Output
+  pub pair : PairState
+  pub told : Option (List Carriage)
+
+abbrev pub moment : Player → Output → PairState → Option (List Carriage) → Moment
+moment player output pair told = record {
+  player = played player.line.items player.number player.stage.lines;
+  output = output;
+  pair = pair;
+  told = told;
+}
+
+-- a piece of an input was taken, or why not
+abbrev pub Takes : List ℕ → Bool → Moment → Moment → Result (Unit {0}) Stop → Type 0
+Takes piece is_direct old new result =
+    (input rest : List ℕ) (p : PairState) (d : Bool) (log : Option (List Carriage))
+    (start : Output) → is_direct ≡ d
+    → HasDone input (piece ++ rest) old.player
+    (course start old.output (around p old.pair d log old.told))
+    → PlaysOn input rest new.player (course start new.output (around p new.pair d log new.told))
+    result
 
 -- the same of the last line
 abbrev pub PlaysOut : List ℕ → ℕ → Course → Result (Unit {0}) Stop → Type 0

@@ -1,5 +1,5 @@
 -- What became of one line of a script, as the code does it.
-use Rattle.std.specs.Prelude.{◌≡◌, ◌⊎◌, ℕ, Bool, List, [], Option, Result, Ok, Err}
+use Rattle.std.specs.Prelude.{◌≡◌, ◌⊎◌, ◌↔◌, ℕ, Bool, false, IsTrue, List, [], Option, Result, Ok, Err}
 use Rattle.ddcmp_io.specs.Device.{Logs}
 use Rattle.ddcmp_io.specs.Written.{Output, HandsOver}
 use Rattle.ddcmp_run.specs.declared.event.End.{End}
@@ -59,3 +59,11 @@ LineEnds is_direct log log_after r old new before after (Err Carrier) =
 LineEnds is_direct log log_after r old new before after (Err Memory) =
     HandsOver before after []
     × (IsUntouched is_direct log log_after old new ⊎ HasBegun is_direct log log_after r old new)
+
+-- What an answer tells of the sink and of the carrier: a write that failed, or a carrier that did,
+-- behind text that was all written.
+pub record TellsDevices (output : Output) (is_down : Bool) (result : Result (Unit {0}) Stop)
+    : Type 0 where
+  pub write : result ≡ Err Write → IsTrue output.broken
+  pub one : result ≡ Err Carrier → (output.broken ≡ false) × (output.waiting ≡ [])
+  pub carrier : (result ≡ Err Carrier) ↔ IsTrue is_down

@@ -10,7 +10,7 @@ ghost use Rattle.ddcmp_script_text.specs.ScriptWords.{reading_of};
 ghost use Rattle.ddcmp_script_text.specs.ScriptText.{end_name, name_before, reply_text};
 ghost use Rattle.ddcmp_carrier.specs.Carriages.{HasCarried};
 ghost use Rattle.ddcmp_script.specs.Script.{Carries, Between, lines_after, nothing_between, frames_after, frames_of, with_frames, part_of, outcome_of, outcome_of_event, outcome_of_carry, outcome_of_lose, outcome_of_damage, outcome_of_settle, outcome_of_recover, arrival_text, after_outcome, events_by};
-ghost use Rattle.ddcmp_script.specs.ScriptSteps.{scene_of, stopped_of, Comes, LineEnds};
+ghost use Rattle.ddcmp_script.specs.ScriptSteps.{scene_of, stopped_of, Comes, LineEnds, TellsDevices};
 ghost use Rattle.ddcmp_script_text.specs.declared.command.ParsedLine.{ParsedLine as ReadingValue};
 ghost use Rattle.ddcmp_run.specs.declared.event.Event.TheVariants as event_value;
 ghost use Rattle.ddcmp_run.specs.declared.event.Reply.{Reply as ReplyValue};
@@ -239,10 +239,8 @@ impl Stage {
         most: Option<u32>,
     ) -> Result<(), Stop>
         requires whole { C.broken carrier.old ≡ false }
-        ensures write { result ≡ Err Stop.Write → IsTrue (W.broken writer.new) }
-        ensures one { result ≡ Err Stop.Carrier → (W.broken writer.new ≡ false)
-            × (self.new.page ≡ []) }
-        ensures carrier { (result ≡ Err Stop.Carrier) ↔ IsTrue (C.broken carrier.new) }
+        ensures devices { TellsDevices (output_of W.broken W.contents writer.new self.new.page)
+            (C.broken carrier.new) result }
         ensures ends { LineEnds (C.direct carrier.old) (C.told carrier.old) (C.told carrier.new)
             (ParsedLine.Asks (ScriptCommand.Carry from most)) (scene_of pair.old self.old.lines)
             (scene_of pair.new self.new.lines)
@@ -349,10 +347,8 @@ impl Stage {
         command: ScriptCommand,
     ) -> Result<(), Stop>
         requires whole { C.broken carrier.old ≡ false }
-        ensures write { result ≡ Err Stop.Write → IsTrue (W.broken writer.new) }
-        ensures one { result ≡ Err Stop.Carrier → (W.broken writer.new ≡ false)
-            × (self.new.page ≡ []) }
-        ensures carrier { (result ≡ Err Stop.Carrier) ↔ IsTrue (C.broken carrier.new) }
+        ensures devices { TellsDevices (output_of W.broken W.contents writer.new self.new.page)
+            (C.broken carrier.new) result }
         ensures ends { LineEnds (C.direct carrier.old) (C.told carrier.old) (C.told carrier.new)
             (ParsedLine.Asks command) (scene_of pair.old self.old.lines)
             (scene_of pair.new self.new.lines)
@@ -392,10 +388,8 @@ impl Stage {
         line: &[u8],
     ) -> Result<(), Stop>
         requires whole { C.broken carrier.old ≡ false }
-        ensures write { result ≡ Err Stop.Write → IsTrue (W.broken writer.new) }
-        ensures one { result ≡ Err Stop.Carrier → (W.broken writer.new ≡ false)
-            × (self.new.page ≡ []) }
-        ensures carrier { (result ≡ Err Stop.Carrier) ↔ IsTrue (C.broken carrier.new) }
+        ensures devices { TellsDevices (output_of W.broken W.contents writer.new self.new.page)
+            (C.broken carrier.new) result }
         ensures ends { LineEnds (C.direct carrier.old) (C.told carrier.old) (C.told carrier.new)
             (reading_of line.now) (scene_of pair.old self.old.lines)
             (scene_of pair.new self.new.lines)

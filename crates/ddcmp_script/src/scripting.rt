@@ -3,15 +3,14 @@ ghost use Rattle.std.specs.Prelude.{◌≡◌, ◌≢◌, ◌⊎◌, ◌↔◌, 
 ghost use Rattle.std.specs.Io.KnownBytes.{Appends, Consumes};
 ghost use Rattle.ddcmp_io.specs.Written.{AppendsPart, HandsOver, Output, output_of};
 ghost use Rattle.ddcmp_run.specs.Run.{PairState};
-ghost use Rattle.ddcmp_run.specs.InOrder.{IsInOrder};
-ghost use Rattle.ddcmp_io.specs.Input.{GaveMost};
-ghost use Rattle.ddcmp_script_text.specs.ScriptWords.{lines_of, without_cr as without_cr_of};
+ghost use Rattle.ddcmp_io.specs.Change.{sink_change, source_change};
 ghost use Rattle.ddcmp_script_text.specs.ScriptText.{yes_or_no as yes_or_no_text, totals_line, counters_lines, closing_text};
 ghost use Rattle.ddcmp_carrier.specs.Carriages.{Carriage};
-ghost use Rattle.ddcmp_script.specs.Script.{AllFit, nothing_between};
-ghost use Rattle.ddcmp_script.specs.ScriptEnds.{Around, around, PausedBefore, Plays};
-ghost use Rattle.ddcmp_script.specs.ScriptProgress.{HasDone, IsPlaying, PlaysOn, PlaysOut, Stops};
+ghost use Rattle.ddcmp_script.specs.Script.{nothing_between};
+ghost use Rattle.ddcmp_script.specs.ScriptEnds.{Around, around, IsPlayed, PausedBefore, Plays};
+ghost use Rattle.ddcmp_script.specs.ScriptProgress.{HasDone, IsPlaying, PlaysOut, Stops, Takes, moment};
 ghost use Rattle.ddcmp_script.specs.ScriptProgress.{course, fresh, played};
+ghost use Rattle.ddcmp_script.specs.ScriptSteps.{TellsDevices};
 
 use crate::performing::{Stage, Stop};
 use crate::script_fault::ScriptFault;
@@ -20,7 +19,7 @@ use ddcmp_io::input::read_within;
 use ddcmp_io::text::write_number;
 use ddcmp_io::{Got, Page, Sink, Source, Worst};
 use ddcmp_pair::{End, Pair};
-use ddcmp_script_text::end_name;
+use ddcmp_script_text::{end_name, without_cr};
 use ddcmp_station_text::write_counters;
 use std::alloc::Global;
 
@@ -36,18 +35,6 @@ struct Player {
     /// How many lines were done.
     number: u64,
     seen: u64,
-}
-
-/// A line without the CR at its end.
-#[tactic(auto, unfolding(ddcmp_script_text::specs::ScriptWords::without_cr))]
-fn without_cr(line: &[u8]) -> &[u8]
-    ensures { result.now ≡ without_cr_of line.now }
-{
-    if !line.is_empty() && line[line.len() - 1] == b'\r' {
-        &line[..line.len() - 1]
-    } else {
-        line
-    }
 }
 
 fn yes_or_no(is: bool) -> &'static [u8]
@@ -138,21 +125,14 @@ impl Player {
         ensures seen { self.new.seen ≡ self.old.seen }
         ensures number { self.new.number ≤ self.old.number + 1 }
         ensures refused { OnErr result (self.new.number ≡ self.old.number) }
-        ensures write { result ≡ Err Stop.Write → IsTrue (W.broken writer.new) }
-        ensures one { result ≡ Err Stop.Carrier → (W.broken writer.new ≡ false)
-            × (self.new.stage.page ≡ []) }
-        ensures carrier { (result ≡ Err Stop.Carrier) ↔ IsTrue (C.broken carrier.new) }
+        ensures devices { TellsDevices (output_of W.broken W.contents writer.new self.new.stage.page)
+            (C.broken carrier.new) result }
         ensures direct { C.direct carrier.new ≡ C.direct carrier.old }
-        ensures takes { (input rest : List ℕ) (p : PairState) (d : Bool)
-            (log : Option (List Carriage)) (start : Output) → C.direct carrier.old ≡ d
-            → HasDone input (10 ∷ rest)
-            (played self.old.line.items self.old.number self.old.stage.lines)
-            (course start (output_of W.broken W.contents writer.old self.old.stage.page)
-            (around p pair.old d log (C.told carrier.old)))
-            → PlaysOn input rest
-            (played self.new.line.items self.new.number self.new.stage.lines)
-            (course start (output_of W.broken W.contents writer.new self.new.stage.page)
-            (around p pair.new d log (C.told carrier.new))) result }
+        ensures takes { Takes (10 ∷ []) (C.direct carrier.old)
+            (moment self.old (output_of W.broken W.contents writer.old self.old.stage.page)
+            pair.old (C.told carrier.old))
+            (moment self.new (output_of W.broken W.contents writer.new self.new.stage.page)
+            pair.new (C.told carrier.new)) result }
     {
         let line = without_cr(&self.line);
         match self.stage.do_line(pair, writer, carrier, line) {
@@ -178,21 +158,14 @@ impl Player {
         ensures seen { self.new.seen ≡ self.old.seen }
         ensures number { self.new.number ≤ self.old.number + 1 }
         ensures refused { OnErr result (self.new.number ≡ self.old.number) }
-        ensures write { result ≡ Err Stop.Write → IsTrue (W.broken writer.new) }
-        ensures one { result ≡ Err Stop.Carrier → (W.broken writer.new ≡ false)
-            × (self.new.stage.page ≡ []) }
-        ensures carrier { (result ≡ Err Stop.Carrier) ↔ IsTrue (C.broken carrier.new) }
+        ensures devices { TellsDevices (output_of W.broken W.contents writer.new self.new.stage.page)
+            (C.broken carrier.new) result }
         ensures direct { C.direct carrier.new ≡ C.direct carrier.old }
-        ensures takes { (input rest : List ℕ) (p : PairState) (d : Bool)
-            (log : Option (List Carriage)) (start : Output) → C.direct carrier.old ≡ d
-            → HasDone input (byte ∷ rest)
-            (played self.old.line.items self.old.number self.old.stage.lines)
-            (course start (output_of W.broken W.contents writer.old self.old.stage.page)
-            (around p pair.old d log (C.told carrier.old)))
-            → PlaysOn input rest
-            (played self.new.line.items self.new.number self.new.stage.lines)
-            (course start (output_of W.broken W.contents writer.new self.new.stage.page)
-            (around p pair.new d log (C.told carrier.new))) result }
+        ensures takes { Takes (byte ∷ []) (C.direct carrier.old)
+            (moment self.old (output_of W.broken W.contents writer.old self.old.stage.page)
+            pair.old (C.told carrier.old))
+            (moment self.new (output_of W.broken W.contents writer.new self.new.stage.page)
+            pair.new (C.told carrier.new)) result }
     {
         if byte == b'\n' {
             return self.end_line(pair, writer, carrier);
@@ -216,21 +189,14 @@ impl Player {
         ensures seen { self.new.seen ≡ self.old.seen }
         ensures number { self.new.number ≤ self.old.number + length piece.now }
         ensures refused { OnErr result (self.new.number < self.old.number + length piece.now) }
-        ensures write { result ≡ Err Stop.Write → IsTrue (W.broken writer.new) }
-        ensures one { result ≡ Err Stop.Carrier → (W.broken writer.new ≡ false)
-            × (self.new.stage.page ≡ []) }
-        ensures carrier { (result ≡ Err Stop.Carrier) ↔ IsTrue (C.broken carrier.new) }
+        ensures devices { TellsDevices (output_of W.broken W.contents writer.new self.new.stage.page)
+            (C.broken carrier.new) result }
         ensures direct { C.direct carrier.new ≡ C.direct carrier.old }
-        ensures takes { (input rest : List ℕ) (p : PairState) (d : Bool)
-            (log : Option (List Carriage)) (start : Output) → C.direct carrier.old ≡ d
-            → HasDone input (piece.now ++ rest)
-            (played self.old.line.items self.old.number self.old.stage.lines)
-            (course start (output_of W.broken W.contents writer.old self.old.stage.page)
-            (around p pair.old d log (C.told carrier.old)))
-            → PlaysOn input rest
-            (played self.new.line.items self.new.number self.new.stage.lines)
-            (course start (output_of W.broken W.contents writer.new self.new.stage.page)
-            (around p pair.new d log (C.told carrier.new))) result }
+        ensures takes { Takes piece.now (C.direct carrier.old)
+            (moment self.old (output_of W.broken W.contents writer.old self.old.stage.page)
+            pair.old (C.told carrier.old))
+            (moment self.new (output_of W.broken W.contents writer.new self.new.stage.page)
+            pair.new (C.told carrier.new)) result }
     {
         for i in 0..piece.len() {
             match self.take_byte(pair, writer, carrier, piece[i]) {
@@ -282,10 +248,8 @@ impl Player {
         requires whole { C.broken carrier.old ≡ false }
         ensures seen { self.new.seen ≡ self.old.seen }
         ensures number { self.new.number ≡ self.old.number }
-        ensures write { result ≡ Err Stop.Write → IsTrue (W.broken writer.new) }
-        ensures one { result ≡ Err Stop.Carrier → (W.broken writer.new ≡ false)
-            × (self.new.stage.page ≡ []) }
-        ensures carrier { (result ≡ Err Stop.Carrier) ↔ IsTrue (C.broken carrier.new) }
+        ensures devices { TellsDevices (output_of W.broken W.contents writer.new self.new.stage.page)
+            (C.broken carrier.new) result }
         ensures ends { (input : List ℕ) (p : PairState) (d : Bool)
             (log : Option (List Carriage)) (start : Output) → C.direct carrier.old ≡ d
             → HasDone input []
@@ -414,40 +378,11 @@ pub fn script<R: Source, W: Sink, C: Carrier>(
     requires fine { R.state reader.old ≡ Worst.Fine }
     requires whole { W.broken writer.old ≡ false }
     requires carrier { C.broken carrier.old ≡ false }
-
-    // Where the input is known: which lines were done, what was written, and what the pair is.
-    ensures told { (input : List ℕ) → R.left reader.old ≡ Some input
-        → Plays false input (around pair.old pair.new (C.direct carrier.old)
+    ensures { IsPlayed false (around pair.old pair.new (C.direct carrier.old)
         (C.told carrier.old) (C.told carrier.new))
-        (Appends (W.contents writer.old) (W.contents writer.new))
-        (AppendsPart (W.contents writer.old) (W.contents writer.new)) result }
-
-    // On Read every line was done that LF ends in the bytes that were read, and no other.
-    ensures paused { (input rest : List ℕ) → R.left reader.old ≡ Some input
-        → R.left reader.new ≡ Some rest → length input < length rest + (2 ^ 64 - 1)
-        → result ≡ Err ScriptFault.Read
-        → PausedBefore rest input (around pair.old pair.new (C.direct carrier.old)
-        (C.told carrier.old) (C.told carrier.new))
-        (Appends (W.contents writer.old) (W.contents writer.new)) }
-
-    // Ok exactly where every line is a command or skipped, no device failed and memory was had.
-    ensures ok { (input : List ℕ) → R.left reader.old ≡ Some input
-        → IsOk result ↔ (AllFit (lines_of input) × (R.state reader.new ≡ Worst.Fine)
-        × (GaveMost (R.left reader.old) (R.left reader.new) → ⊥)
-        × (W.broken writer.new ≡ false) × (C.broken carrier.new ≡ false)
-        × (result ≢ Err ScriptFault.Memory)) }
-
-    // Read exactly where the reader isn't fine, or has given 2^64 - 1 bytes.
-    ensures read { R.state reader.new ≢ Worst.Fine → result ≡ Err ScriptFault.Read }
-    ensures read_only { result ≡ Err ScriptFault.Read
-        → (R.state reader.new ≢ Worst.Fine) ⊎ GaveMost (R.left reader.old) (R.left reader.new) }
-    ensures read_most { (input rest : List ℕ)
-        → R.left reader.old ≡ Some input → R.left reader.new ≡ Some rest
-        → length input ≡ length rest + (2 ^ 64 - 1) → result ≡ Err ScriptFault.Read }
-    ensures write { (result ≡ Err ScriptFault.Write) ↔ IsTrue (W.broken writer.new) }
-    ensures carried { (result ≡ Err ScriptFault.Carrier) ↔ IsTrue (C.broken carrier.new) }
-    // Whatever is answered, messages are in order.
-    ensures order { IsInOrder pair.new }
+        (source_change (R.left reader.old) (R.left reader.new) (R.state reader.new))
+        (sink_change (W.contents writer.old) (W.contents writer.new) (W.broken writer.new))
+        (C.broken carrier.new) result }
 {
     script_with(alloc, pair, reader, writer, carrier, false)
 }
@@ -465,40 +400,11 @@ pub fn script_with<R: Source, W: Sink, C: Carrier>(
     requires fine { R.state reader.old ≡ Worst.Fine }
     requires whole { W.broken writer.old ≡ false }
     requires carrier { C.broken carrier.old ≡ false }
-
-    // Where the input is known: which lines were done, what was written, and what the pair is.
-    ensures told { (input : List ℕ) → R.left reader.old ≡ Some input
-        → Plays counted input (around pair.old pair.new (C.direct carrier.old)
+    ensures { IsPlayed counted (around pair.old pair.new (C.direct carrier.old)
         (C.told carrier.old) (C.told carrier.new))
-        (Appends (W.contents writer.old) (W.contents writer.new))
-        (AppendsPart (W.contents writer.old) (W.contents writer.new)) result }
-
-    // On Read every line was done that LF ends in the bytes that were read, and no other.
-    ensures paused { (input rest : List ℕ) → R.left reader.old ≡ Some input
-        → R.left reader.new ≡ Some rest → length input < length rest + (2 ^ 64 - 1)
-        → result ≡ Err ScriptFault.Read
-        → PausedBefore rest input (around pair.old pair.new (C.direct carrier.old)
-        (C.told carrier.old) (C.told carrier.new))
-        (Appends (W.contents writer.old) (W.contents writer.new)) }
-
-    // Ok exactly where every line is a command or skipped, no device failed and memory was had.
-    ensures ok { (input : List ℕ) → R.left reader.old ≡ Some input
-        → IsOk result ↔ (AllFit (lines_of input) × (R.state reader.new ≡ Worst.Fine)
-        × (GaveMost (R.left reader.old) (R.left reader.new) → ⊥)
-        × (W.broken writer.new ≡ false) × (C.broken carrier.new ≡ false)
-        × (result ≢ Err ScriptFault.Memory)) }
-
-    // Read exactly where the reader isn't fine, or has given 2^64 - 1 bytes.
-    ensures read { R.state reader.new ≢ Worst.Fine → result ≡ Err ScriptFault.Read }
-    ensures read_only { result ≡ Err ScriptFault.Read
-        → (R.state reader.new ≢ Worst.Fine) ⊎ GaveMost (R.left reader.old) (R.left reader.new) }
-    ensures read_most { (input rest : List ℕ)
-        → R.left reader.old ≡ Some input → R.left reader.new ≡ Some rest
-        → length input ≡ length rest + (2 ^ 64 - 1) → result ≡ Err ScriptFault.Read }
-    ensures write { (result ≡ Err ScriptFault.Write) ↔ IsTrue (W.broken writer.new) }
-    ensures carried { (result ≡ Err ScriptFault.Carrier) ↔ IsTrue (C.broken carrier.new) }
-    // Whatever is answered, messages are in order.
-    ensures order { IsInOrder pair.new }
+        (source_change (R.left reader.old) (R.left reader.new) (R.state reader.new))
+        (sink_change (W.contents writer.old) (W.contents writer.new) (W.broken writer.new))
+        (C.broken carrier.new) result }
 {
     let mut player = Player::new(alloc);
     let done = player.take_all(pair, reader, writer, carrier, counted);

@@ -3,7 +3,7 @@ ghost use Rattle.std.specs.Prelude.{◌≡◌, ◌∷◌, ◌*◌, ◌^◌, ◌<
 ghost use Rattle.std.specs.Option.{option_map_or};
 ghost use Rattle.std.specs.List.{slice_split};
 ghost use Rattle.ddcmp_run.specs.Place.{same_bytes};
-ghost use Rattle.ddcmp_script_text.specs.ScriptWords.{is_digit as is_digit_byte, end_named as end_of_word, number_in as number_of_word, bytes_of_digits as bytes_of_word, byte_in as byte_of_word, alone, command_at as command_of, asked_at, cut_of, asked_with, asked_damage, asked_by, asked_in, words as words_of, reading_of};
+ghost use Rattle.ddcmp_script_text.specs.ScriptWords.{is_digit as is_digit_byte, end_named as end_of_word, number_in as number_of_word, bytes_of_digits as bytes_of_word, byte_in as byte_of_word, alone, command_at as command_of, asked_at, cut_of, asked_with, asked_damage, asked_by, asked_in, words as words_of, reading_of, without_cr as without_cr_of};
 
 use ddcmp_proto::Memory;
 use ddcmp_run::{Bytes, End, Event};
@@ -40,6 +40,18 @@ pub enum ParsedLine {
     NoCommand,
     /// A command with a word that spells no bytes.
     NotHex,
+}
+
+/// A line without the CR at its end.
+#[tactic(auto, unfolding(crate::specs::ScriptWords::without_cr))]
+pub fn without_cr(line: &[u8]) -> &[u8]
+    ensures { result.now ≡ without_cr_of line.now }
+{
+    if !line.is_empty() && line[line.len() - 1] == b'\r' {
+        &line[..line.len() - 1]
+    } else {
+        line
+    }
 }
 
 /// What stands before the first blank, and what stands after it where there is one.

@@ -10,7 +10,7 @@
 mod command;
 mod reply_text;
 
-pub use command::{ParsedLine, ScriptCommand, read_line};
+pub use command::{ParsedLine, ScriptCommand, read_line, without_cr};
 pub use reply_text::{
     answerer_name, clear_refusal_name, damage_name, end_name, expired_name, send_refusal_name,
     start_refusal_name, write_bytes, write_counted, write_plain, write_recovered, write_reply,

@@ -1,2 +1,3 @@
 pub mod CommandLaws
+pub mod MakingLaws
 pub mod NumberLaws

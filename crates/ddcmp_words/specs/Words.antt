@@ -82,13 +82,9 @@ with_view app =
     (flag_rule (codes "ladder")))
     (flag_rule (codes "counters"))
 
--- `ddcmp simulate`
-abbrev pub simulate_app : App
-simulate_app = with_view (with_sizes (new_app (codes "simulate")))
-
--- `ddcmp pair`
-abbrev pub pair_app : App
-pair_app = with_view (with_sizes (new_app (codes "pair")))
+-- `ddcmp simulate` and `ddcmp pair`
+abbrev pub script_app : Text → App
+script_app name = with_view (with_sizes (new_app name))
 
 abbrev pub MOST : ℕ
 MOST = 4294967295
@@ -142,7 +138,8 @@ bare_app =
 abbrev pub program : App
 program =
     with_subcommand (with_subcommand (with_subcommand (with_subcommand
-    (with_subcommand (with_subcommand bare_app explain_app.top) simulate_app.top) pair_app.top)
+    (with_subcommand (with_subcommand bare_app explain_app.top) (script_app (codes "simulate")).top)
+    (script_app (codes "pair")).top)
     station_app.top) tap_app.top) link_app.top
 
 -- the word that names a command

@@ -5,8 +5,8 @@ ghost use Rattle.std.specs.Option.{option_and_then, option_map};
 ghost use Rattle.ddcmp_words.specs.Making.{Makes};
 ghost use Rattle.ddcmp_words.specs.Words.{Declines, IsAsked, IsName, Reads, bare_app, name_of, program};
 ghost use Rattle.ddcmp_words.specs.Words.{HasExplain, HasFlag, HasForm, HasNotation, HasNumber, HasOptions};
-ghost use Rattle.ddcmp_words.specs.Words.{HasSizes, HasStation, HasStyle, explain_app, pair_app};
-ghost use Rattle.ddcmp_words.specs.Words.{simulate_app, station_app};
+ghost use Rattle.ddcmp_words.specs.Words.{HasSizes, HasStation, HasStyle, explain_app, script_app};
+ghost use Rattle.ddcmp_words.specs.Words.{station_app};
 ghost use Rattle.ddcmp_words.specs.Words.{file_of, flag_rule, number_rule, place_rule, role_of};
 ghost use Rattle.ddcmp_words.specs.Words.{text_rule};
 ghost use Rattle.ddcmp_words.specs.Words.{HasView, with_sizes as with_sizes_of};
@@ -226,37 +226,21 @@ Lines of a script, where E is A or B:
   # TEXT         nothing"
 }
 
-/// `simulate` without its options.
-fn simulate_command<'a>(alloc: Global) -> clap::Command<'a>
-    ensures app { app_of result ≡ new_app (codes "simulate") }
+/// A command that runs a script, without its options.
+fn script_command<'a>(alloc: Global, name: &'a str, about: &'a str) -> clap::Command<'a>
+    ensures app { app_of result ≡ new_app name.entry.now }
     ensures local { (fields_of result).has_globals ≡ false }
 {
-    clap::Command::new(alloc, "simulate")
-        .about("Runs a script between two stations A and B, read from standard input")
+    clap::Command::new(alloc, name)
+        .about(about)
         .after_help(script_help())
 }
 
-fn simulate_parser<'a>(alloc: Global) -> Parser<'a>
-    ensures { Makes result simulate_app }
+/// The options of a command that runs a script.
+fn script_parser<'a>(alloc: Global, name: &'a str, about: &'a str) -> Parser<'a>
+    ensures { Makes result (script_app name.entry.now) }
 {
-    let named = Parser::new(simulate_command(alloc));
-    with_view(alloc, with_sizes(alloc, named))
-}
-
-/// `pair` without its options.
-fn pair_command<'a>(alloc: Global) -> clap::Command<'a>
-    ensures app { app_of result ≡ new_app (codes "pair") }
-    ensures local { (fields_of result).has_globals ≡ false }
-{
-    clap::Command::new(alloc, "pair")
-        .about("Runs a script as simulate does, and what passes goes over a TCP connection")
-        .after_help(script_help())
-}
-
-fn pair_parser<'a>(alloc: Global) -> Parser<'a>
-    ensures { Makes result pair_app }
-{
-    let named = Parser::new(pair_command(alloc));
+    let named = Parser::new(script_command(alloc, name, about));
     with_view(alloc, with_sizes(alloc, named))
 }
 
@@ -275,26 +259,26 @@ fn station_parser<'a>(alloc: Global) -> Parser<'a>
     ensures { Makes result station_app }
 {
     Parser::new(station_command(alloc))
-        .needed(text(
+        .required(text(
             alloc,
             "role",
             "connect|listen",
             "Who opens the connection; start the listener first",
         ))
-        .needed(text(
+        .required(text(
             alloc,
             "addr",
             "ADDR",
             "Where to connect or to listen, such as 127.0.0.1:7000",
         ))
-        .needed(number(
+        .required(number(
             alloc,
             "turns",
             0,
             u32::MAX,
             "How many turns the station has; a turn waits at most 10 ms for bytes",
         ))
-        .needed(number(
+        .required(number(
             alloc,
             "timer-ms",
             0,
@@ -344,8 +328,16 @@ fn program_parser<'a>(alloc: Global) -> Parser<'a>
 {
     Parser::new(program_command(alloc))
         .subcommand(explain_parser(alloc))
-        .subcommand(simulate_parser(alloc))
-        .subcommand(pair_parser(alloc))
+        .subcommand(script_parser(
+            alloc,
+            "simulate",
+            "Runs a script between two stations A and B, read from standard input",
+        ))
+        .subcommand(script_parser(
+            alloc,
+            "pair",
+            "Runs a script as simulate does, and what passes goes over a TCP connection",
+        ))
         .subcommand(station_parser(alloc))
         .subcommand(tap_parser(alloc))
         .subcommand(link_parser(alloc))

@@ -38,7 +38,7 @@ rest goes to standard error."
 fn line_parser<'a>(alloc: Global) -> Parser<'a>
     ensures { Makes result line_app }
 {
-    Parser::new(bare_command(alloc)).needed(text(
+    Parser::new(bare_command(alloc)).required(text(
         alloc,
         "line",
         "LINE",

@@ -1,9 +1,9 @@
 //! A parser of words in the making.
-ghost use Rattle.std.specs.Prelude.{◌≡◌, IfOk, false};
+ghost use Rattle.std.specs.Prelude.{◌≡◌, Ok, false};
 ghost use Rattle.clap.specs.Words.{App, Rule, app_of, rule_of, with_rule, with_subcommand};
 ghost use Rattle.clap.specs.declared.builder.command.Command.TheViews.{out-Command as fields_of};
 ghost use Rattle.ddcmp_words.specs.Making.{Makes};
-ghost use Rattle.ddcmp_words.specs.Words.{required};
+ghost use Rattle.ddcmp_words.specs.Words.{required as required_of};
 
 use clap::Arg;
 use std::alloc::AllocError;
@@ -31,8 +31,7 @@ fn under<'a>(command: clap::Command<'a>, other: Parser<'a>) -> Parser<'a>
 
 impl<'a> Parser<'a> {
     pub(crate) fn new(command: clap::Command<'a>) -> Parser<'a>
-        ensures { (app : App) → app_of command.entry ≡ app
-            → (fields_of command.entry).has_globals ≡ false → Makes result app }
+        ensures { result.made ≡ Ok command.entry }
     {
         Parser { made: Ok(command) }
     }
@@ -52,10 +51,10 @@ impl<'a> Parser<'a> {
     }
 
     /// With an option more, which can't be left out.
-    pub(crate) fn needed(self, option: Arg<'a>) -> Parser<'a>
+    pub(crate) fn required(self, option: Arg<'a>) -> Parser<'a>
         ensures { (app : App) (rule : Rule) → Makes self.entry app
             → rule_of option.entry ≡ rule → option.entry.global ≡ false
-            → Makes result (with_rule app (required rule)) }
+            → Makes result (with_rule app (required_of rule)) }
     {
         self.option(option.required(true))
     }
@@ -74,7 +73,7 @@ impl<'a> Parser<'a> {
 
     /// What was made.
     pub(crate) fn made(self) -> Result<clap::Command<'a>, AllocError>
-        ensures { (app : App) → Makes self.entry app → IfOk result (λ made. app_of made ≡ app) }
+        ensures { result ≡ self.entry.made }
     {
         let Parser { made } = self;
         made

@@ -36,13 +36,13 @@ pub(crate) fn tap_parser<'a>(alloc: Global) -> Parser<'a>
     ensures { Makes result tap_app }
 {
     Parser::new(tap_command(alloc))
-        .needed(text(
+        .required(text(
             alloc,
             "listen",
             "ADDR",
             "Where to listen for one connection, such as 127.0.0.1:7000",
         ))
-        .needed(text(
+        .required(text(
             alloc,
             "connect",
             "ADDR",

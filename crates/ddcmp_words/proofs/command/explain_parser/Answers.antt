@@ -1,8 +1,9 @@
+use Rattle.ddcmp_words.proofs.MakingLaws.{begun}
 use Rattle.ddcmp_words.proofs.command.explain_parser.Goals as goal
 
 pub returns : goal.returns
 returns c =
-    let start = c.new.ensures _ c.explain_command.ensures.app c.explain_command.ensures.local in
+    let start = begun _ _ _ c.new.ensures c.explain_command.ensures.app c.explain_command.ensures.local in
     let one = c.option.ensures _ _ start c.place.ensures.rule c.place.ensures.local in
     let two = c.option-2.ensures _ _ one c.flag.ensures.rule c.flag.ensures.local in
     let three = c.option-3.ensures _ _ two c.text.ensures.rule c.text.ensures.local in

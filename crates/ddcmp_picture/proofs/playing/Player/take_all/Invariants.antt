@@ -3,14 +3,14 @@ use Rattle.std.specs.Io.KnownBytes.{Consumes}
 use Rattle.ddcmp_io.specs.declared.device.Worst.TheVariants.{Fine}
 use Rattle.ddcmp_picture.proofs.playing.Player.take_all.Given as goal
 
-abbrev pub invariant-loop-self : goal.invariant-loop-self
-invariant-loop-self g l = record {
+abbrev pub invariant-loop-seen : goal.invariant-loop-seen
+invariant-loop-seen g l = record {
   fine : g.R.Source.state l.reader ≡ Fine;
   whole : g.C.Carrier.broken l.carrier ≡ false;
   room : length l.piece ≡ 4096;
-  below : l.self.seen < 2 ^ 64 - 1;
-  consumed : (seen : List ℕ) × (length seen ≡ l.self.seen) × Consumes (g.R.Source.left l.initial.reader) (g.R.Source.left l.reader) seen;
+  below : l.seen < 2 ^ 64 - 1;
+  consumed : (seen : List ℕ) × (length seen ≡ l.seen) × Consumes (g.R.Source.left l.initial.reader) (g.R.Source.left l.reader) seen;
 }
 
-abbrev pub decreases-loop-self : goal.decreases-loop-self
-decreases-loop-self g l = (2 ^ 64 - 1) - l.self.seen
+abbrev pub decreases-loop-seen : goal.decreases-loop-seen
+decreases-loop-seen g l = (2 ^ 64 - 1) - l.seen
