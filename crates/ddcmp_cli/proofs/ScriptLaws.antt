@@ -1,5 +1,5 @@
 -- What the program calls the faults of a script, and how a run is shown.
-use Rattle.std.proofs.Common.{◌≡◌, ◌∙◌, sym, ap, subst, ℕ, Bool, true, false, List, Option, None, Result, Err, refl}
+use Rattle.std.proofs.Common.{◌≡◌, ◌≢◌, ◌⊎◌, ◌↔◌, IsTrue, ◌∙◌, sym, ap, subst, ℕ, Bool, true, false, List, Option, None, Result, Err, refl}
 use Rattle.ddcmp_run.specs.Run.{PairState}
 use Rattle.ddcmp_carrier.specs.Carriages.{Carriage}
 use Rattle.ddcmp_script.specs.ScriptEnds.{around, Plays}
@@ -9,7 +9,10 @@ use Rattle.ddcmp_cli.specs.declared.fault.Fault.{Fault}
 use Rattle.ddcmp_cli.specs.declared.fault.Fault.TheVariants.{Carrier, Read, Write}
 use Rattle.ddcmp_cli.specs.declared.ending.Ending.TheVariants.{Fault as Faulted}
 use Rattle.ddcmp_cli.specs.declared.ending.Ending.{Ending}
-use Rattle.ddcmp_cli.specs.Endings.{script_fault, ShowsRun}
+use Rattle.ddcmp_io.specs.declared.device.Worst.TheVariants.{Fine}
+use Rattle.ddcmp_io.specs.Change.{SourceChange}
+use Rattle.ddcmp_io.specs.Input.{GaveMost}
+use Rattle.ddcmp_cli.specs.Endings.{script_fault, ShowsBy, TellsDevices}
 
 -- a fault that the script answered is the one that the program tells
 pub told : (r : Result (Unit {0}) ScriptFault) (fault known : ScriptFault) (made : Fault) → r ≡ Err fault → made ≡ script_fault fault → r ≡ Err known → Faulted made ≡ Faulted (script_fault known)
@@ -66,9 +69,24 @@ untold counted input before p q is_direct t u Wrote WrotePart r e n m h =
     (subst (λ y. Plays counted input (around before q is_direct t y) Wrote WrotePart r) m h))
 
 -- what holds of a run that was written holds of one that is shown
-pub shows-as : (svg ladder : Bool) (Refused Written Wanted : Ending → Type 0) (ending : Ending) → (Written ending → Wanted ending)
-    → ShowsRun svg ladder Refused Written ending → ShowsRun svg ladder Refused Wanted ending
-shows-as true true R W V e f h = h
-shows-as true false R W V e f h = tt
-shows-as false true R W V e f h = tt
-shows-as false false R W V e f h = f h
+pub shows-as : (svg ladder : Bool) (Refused Written Wanted : Type 0) → (Written → Wanted)
+    → ShowsBy svg ladder Refused Written → ShowsBy svg ladder Refused Wanted
+shows-as true true R W V f h = h
+shows-as true false R W V f h = tt
+shows-as false true R W V f h = tt
+shows-as false false R W V f h = f h
+
+-- what a script tells of its devices the ending tells
+pub tells : (source : SourceChange) (broken : Bool) (r : Result (Unit {0}) ScriptFault)
+    (fault : ScriptFault) (made : Fault) → r ≡ Err fault → made ≡ script_fault fault
+    → (source.state ≢ Fine → r ≡ Err scripting.Read)
+    → (r ≡ Err scripting.Read → (source.state ≢ Fine) ⊎ GaveMost source.before source.after)
+    → (r ≡ Err scripting.Write) ↔ IsTrue broken → TellsDevices source broken (Faulted made)
+tells source broken r fault made e m reads only writes = record {
+  read = λ bad. told r fault scripting.Read made e m (reads bad);
+  read_only = λ t. only (told-read r fault made e m t);
+  write = (
+    λ t. writes.0 (told-write r fault made e m t),
+    λ b. told r fault scripting.Write made e m (writes.1 b),
+  );
+}

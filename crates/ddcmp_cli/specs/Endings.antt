@@ -1,5 +1,5 @@
 -- How the program ends.
-use Rattle.std.specs.Prelude.{⊤, not, ◌&&◌, length, ◌<◌, None, codes, string_bytes, Bool, true, false, ◌≡◌, ◌≢◌, ◌⊎◌, ◌≤◌, ℕ, List, [], Option, Some, Result, Ok, Err}
+use Rattle.std.specs.Prelude.{⊤, ◌↔◌, IsTrue, not, ◌&&◌, length, ◌<◌, None, codes, string_bytes, Bool, true, false, ◌≡◌, ◌≢◌, ◌⊎◌, ◌≤◌, ℕ, List, [], Option, Some, Result, Ok, Err}
 use Rattle.std.specs.Option.{option_map}
 use Rattle.std.specs.Io.KnownBytes.{Appends, Keeps}
 use Rattle.ddcmp_explain.specs.declared.explain_fault.ExplainFault.{ExplainFault}
@@ -35,7 +35,11 @@ use Rattle.ddcmp_station.specs.declared.driving.LineFault.TheVariants as line
 use Rattle.ddcmp_words.specs.declared.tapped.Tapped.{Tapped}
 use Rattle.ddcmp_words.specs.declared.declined.Declined.{Declined}
 use Rattle.ddcmp_words.specs.declared.declined.Declined.TheVariants.{Help, Version, Usage, Memory}
+use Rattle.ddcmp_io.specs.declared.device.Worst.TheVariants.{Fine}
+use Rattle.ddcmp_io.specs.Change.{SourceChange}
+use Rattle.ddcmp_io.specs.Input.{GaveMost}
 use Rattle.ddcmp_io.specs.Written.{AppendsPart, Known}
+use Rattle.ddcmp_words.specs.declared.view.View.{View}
 use Rattle.ddcmp_words.specs.Words.{HasExplain, HasStation, HasTap, Reads, option_in, text_in}
 use Rattle.ddcmp_core.specs.Limits.{MAX_COUNT}
 use Rattle.ddcmp_explain.specs.Dumps.{ExplainsDump}
@@ -265,13 +269,26 @@ Pairs config counted s ending =
     ((ending ≡ Faulted Carrier) × (s.left ≡ Some s.input) × Appends s.before s.after [])
     ⊎ PlaysBetween false config counted s ending
 
--- What is said of a run, by how it is to be shown: both pictures at once are refused; of one
--- picture nothing is said here; and where none is asked for, the text is written.
-abbrev pub ShowsRun : Bool → Bool → (Ending → Type 0) → (Ending → Type 0) → Ending → Type 0
-ShowsRun true true Refused Written ending = (is_refusal ending ≡ true) × Refused ending
-ShowsRun true false Refused Written ending = ⊤
-ShowsRun false true Refused Written ending = ⊤
-ShowsRun false false Refused Written ending = Written ending
+-- What is said of a run, by which pictures are asked for: both at once are refused; of one picture
+-- nothing is said here; and where none is asked for, the text is written.
+abbrev pub ShowsBy : Bool → Bool → Type 0 → Type 0 → Type 0
+ShowsBy true true Refused Written = Refused
+ShowsBy true false Refused Written = ⊤
+ShowsBy false true Refused Written = ⊤
+ShowsBy false false Refused Written = Written
+
+-- the same, where text is written so; a refusal reads and writes nothing
+abbrev pub ShowsRun : View → (Streams → Ending → Type 0) → Streams → Ending → Type 0
+ShowsRun view Writes s ending =
+    ShowsBy view.svg view.ladder ((is_refusal ending ≡ true) × Untouched s) (Writes s ending)
+
+-- The ending tells that a read failed exactly where the source isn't fine or has given 2^64 - 1
+-- bytes, and that a write failed exactly where one has.
+pub record TellsDevices (source : SourceChange) (broken : Bool) (ending : Ending) : Type 0 where
+  pub read : source.state ≢ Fine → ending ≡ Faulted Read
+  pub read_only : ending ≡ Faulted Read
+      → (source.state ≢ Fine) ⊎ GaveMost source.before source.after
+  pub write : (ending ≡ Faulted Write) ↔ IsTrue broken
 
 -- A station was served over a connection, of which this comes where that is known, with this
 -- message to send, and the ending tells the answer. Where there was no memory nothing was written.
@@ -341,11 +358,9 @@ TapsOrNoMemory words old new ending =
 abbrev pub Performs : (List ℕ → Known) → Peers → Command → Streams → Ending → Type 0
 Performs held peers (Explain explained) s ending = ExplainsAsked held explained s ending
 Performs held peers (Simulate config view) s ending =
-    ShowsRun view.svg view.ladder (λ e. Untouched s)
-    (λ e. Simulates config view.counters s e) ending
+    ShowsRun view (Simulates config view.counters) s ending
 Performs held peers (Pair config view) s ending =
-    ShowsRun view.svg view.ladder (λ e. Untouched s)
-    (λ e. Pairs config view.counters s e) ending
+    ShowsRun view (Pairs config view.counters) s ending
 Performs held peers (Station served) s ending =
     (s.left ≡ Some s.input) × Stations peers served s.before s.after ending
 Performs held peers (Tap tapped) s ending =

@@ -1,9 +1,9 @@
 //! Showing a run between two ends: as text, or as a picture.
-ghost use Rattle.std.specs.Prelude.{◌≡◌, ◌≢◌, ◌⊎◌, ◌↔◌, false, true, None, Some, IsTrue, List, ℕ};
-ghost use Rattle.ddcmp_io.specs.Input.{GaveMost};
+ghost use Rattle.std.specs.Prelude.{◌≡◌, false, true, None, Some, IsTrue, List, ℕ};
+ghost use Rattle.ddcmp_io.specs.Change.{source_change};
 ghost use Rattle.ddcmp_station.specs.Config.{first_refusal};
 ghost use Rattle.ddcmp_cli.specs.Endings.{is_refusal, Pairs, PlaysBetween, ShowsRun, Simulates};
-ghost use Rattle.ddcmp_cli.specs.Endings.{Untouched, streams};
+ghost use Rattle.ddcmp_cli.specs.Endings.{TellsDevices, streams};
 
 use crate::ending::Ending;
 use crate::fault::Fault;
@@ -48,10 +48,8 @@ fn draw_over<R: Source, W: Sink, C: Carrier>(
     requires whole { W.broken writer.old ≡ false }
     requires carrier { C.broken carrier.old ≡ false }
     requires sizes { first_refusal config ≡ None }
-    ensures read { R.state reader.new ≢ Worst.Fine → result ≡ Ending.Fault Fault.Read }
-    ensures read_only { result ≡ Ending.Fault Fault.Read → (R.state reader.new ≢ Worst.Fine)
-        ⊎ GaveMost (R.left reader.old) (R.left reader.new) }
-    ensures write { (result ≡ Ending.Fault Fault.Write) ↔ IsTrue (W.broken writer.new) }
+    ensures devices { TellsDevices (source_change (R.left reader.old) (R.left reader.new)
+        (R.state reader.new)) (W.broken writer.new) result }
     ensures carried { result ≡ Ending.Fault Fault.Carrier → IsTrue (C.broken carrier.new) }
 {
     let Ok(mut pair) = ddcmp_pair::Pair::new(alloc, config, config) else {
@@ -78,16 +76,11 @@ fn show_over<R: Source, W: Sink, C: Carrier>(
     requires silent { (c : C) → C.told c ≡ None }
     requires sizes { first_refusal config ≡ None }
     ensures shows { (input : List ℕ) → R.left reader.old ≡ Some input
-        → ShowsRun view.svg view.ladder
-        (λ e. Untouched (streams input (R.left reader.new) (W.contents writer.old)
-        (W.contents writer.new)))
-        (λ e. PlaysBetween (C.direct carrier.old) config view.counters
-        (streams input (R.left reader.new) (W.contents writer.old) (W.contents writer.new)) e)
+        → ShowsRun view (PlaysBetween (C.direct carrier.old) config view.counters)
+        (streams input (R.left reader.new) (W.contents writer.old) (W.contents writer.new))
         result }
-    ensures read { R.state reader.new ≢ Worst.Fine → result ≡ Ending.Fault Fault.Read }
-    ensures read_only { result ≡ Ending.Fault Fault.Read → (R.state reader.new ≢ Worst.Fine)
-        ⊎ GaveMost (R.left reader.old) (R.left reader.new) }
-    ensures write { (result ≡ Ending.Fault Fault.Write) ↔ IsTrue (W.broken writer.new) }
+    ensures devices { TellsDevices (source_change (R.left reader.old) (R.left reader.new)
+        (R.state reader.new)) (W.broken writer.new) result }
     ensures carried { result ≡ Ending.Fault Fault.Carrier → IsTrue (C.broken carrier.new) }
 {
     let counted = view.counters;
@@ -112,15 +105,10 @@ pub(crate) fn show_simulation<R: Source, W: Sink>(
     requires whole { W.broken writer.old ≡ false }
     requires sizes { first_refusal config ≡ None }
     ensures shows { (input : List ℕ) → R.left reader.old ≡ Some input
-        → ShowsRun view.svg view.ladder
-        (λ e. Untouched (streams input (R.left reader.new) (W.contents writer.old)
-        (W.contents writer.new)))
-        (λ e. Simulates config view.counters (streams input (R.left reader.new)
-        (W.contents writer.old) (W.contents writer.new)) e) result }
-    ensures read { R.state reader.new ≢ Worst.Fine → result ≡ Ending.Fault Fault.Read }
-    ensures read_only { result ≡ Ending.Fault Fault.Read → (R.state reader.new ≢ Worst.Fine)
-        ⊎ GaveMost (R.left reader.old) (R.left reader.new) }
-    ensures write { (result ≡ Ending.Fault Fault.Write) ↔ IsTrue (W.broken writer.new) }
+        → ShowsRun view (Simulates config view.counters) (streams input (R.left reader.new)
+        (W.contents writer.old) (W.contents writer.new)) result }
+    ensures devices { TellsDevices (source_change (R.left reader.old) (R.left reader.new)
+        (R.state reader.new)) (W.broken writer.new) result }
 {
     show_over(alloc, config, view, &mut Direct, reader, writer)
 }
@@ -138,15 +126,10 @@ pub(crate) fn show_pair<N: Net<Stream = TcpStream>, R: Source, W: Sink>(
     requires whole { W.broken writer.old ≡ false }
     requires sizes { first_refusal config ≡ None }
     ensures shows { (input : List ℕ) → R.left reader.old ≡ Some input
-        → ShowsRun view.svg view.ladder
-        (λ e. Untouched (streams input (R.left reader.new) (W.contents writer.old)
-        (W.contents writer.new)))
-        (λ e. Pairs config view.counters (streams input (R.left reader.new)
-        (W.contents writer.old) (W.contents writer.new)) e) result }
-    ensures read { R.state reader.new ≢ Worst.Fine → result ≡ Ending.Fault Fault.Read }
-    ensures read_only { result ≡ Ending.Fault Fault.Read → (R.state reader.new ≢ Worst.Fine)
-        ⊎ GaveMost (R.left reader.old) (R.left reader.new) }
-    ensures write { (result ≡ Ending.Fault Fault.Write) ↔ IsTrue (W.broken writer.new) }
+        → ShowsRun view (Pairs config view.counters) (streams input (R.left reader.new)
+        (W.contents writer.old) (W.contents writer.new)) result }
+    ensures devices { TellsDevices (source_change (R.left reader.old) (R.left reader.new)
+        (R.state reader.new)) (W.broken writer.new) result }
 {
     if view.svg && view.ladder {
         return two_pictures(alloc);

@@ -1,9 +1,10 @@
 //! Explaining standard input, or a file.
 ghost use Rattle.std.specs.Prelude.{◌≡◌, ◌≢◌, ◌⊎◌, ◌↔◌, ◌≤◌, false, true, IsTrue, List, ℕ, None, Some};
 ghost use Rattle.ddcmp_core.specs.Limits.{MAX_COUNT};
+ghost use Rattle.ddcmp_io.specs.Change.{source_change};
 ghost use Rattle.ddcmp_io.specs.Input.{GaveMost};
 ghost use Rattle.ddcmp_cli.specs.Endings.{ExplainsAsked, ExplainsFile};
-ghost use Rattle.ddcmp_cli.specs.Endings.{ExplainsInput, streams};
+ghost use Rattle.ddcmp_cli.specs.Endings.{ExplainsInput, TellsDevices, streams};
 ghost use Rattle.std.specs.Option.{option_map};
 ghost use Rattle.ddcmp_cli.specs.Endings.{is_misused as is_misused_by, is_refusal};
 
@@ -52,10 +53,8 @@ fn explain_source<R: Source, W: Sink>(
     ensures explains { (input : List ℕ) → R.left reader.old ≡ Some input
         → ExplainsInput explained.now (streams input (R.left reader.new) (W.contents writer.old)
         (W.contents writer.new)) result }
-    ensures read { R.state reader.new ≢ Worst.Fine → result ≡ Ending.Fault Fault.Read }
-    ensures read_only { result ≡ Ending.Fault Fault.Read → (R.state reader.new ≢ Worst.Fine)
-        ⊎ GaveMost (R.left reader.old) (R.left reader.new) }
-    ensures write { (result ≡ Ending.Fault Fault.Write) ↔ IsTrue (W.broken writer.new) }
+    ensures devices { TellsDevices (source_change (R.left reader.old) (R.left reader.new)
+        (R.state reader.new)) (W.broken writer.new) result }
 {
     let Explained {
         from,

@@ -1,8 +1,8 @@
 //! Running a script between two ends, over a carrier.
-ghost use Rattle.std.specs.Prelude.{◌≡◌, ◌≢◌, ◌⊎◌, ◌↔◌, false, true, None, Some, IsTrue, List, ℕ};
-ghost use Rattle.ddcmp_io.specs.Input.{GaveMost};
+ghost use Rattle.std.specs.Prelude.{◌≡◌, false, true, None, Some, List, ℕ};
+ghost use Rattle.ddcmp_io.specs.Change.{source_change};
 ghost use Rattle.ddcmp_station.specs.Config.{first_refusal};
-ghost use Rattle.ddcmp_cli.specs.Endings.{PlaysBetween, streams};
+ghost use Rattle.ddcmp_cli.specs.Endings.{PlaysBetween, TellsDevices, streams};
 
 use crate::ending::Ending;
 use crate::fault::Fault;
@@ -28,10 +28,8 @@ pub(crate) fn play<R: Source, W: Sink, C: Carrier>(
     ensures plays { (input : List ℕ) → R.left reader.old ≡ Some input
         → PlaysBetween (C.direct carrier.old) config counted (streams input (R.left reader.new)
         (W.contents writer.old) (W.contents writer.new)) result }
-    ensures read { R.state reader.new ≢ Worst.Fine → result ≡ Ending.Fault Fault.Read }
-    ensures read_only { result ≡ Ending.Fault Fault.Read → (R.state reader.new ≢ Worst.Fine)
-        ⊎ GaveMost (R.left reader.old) (R.left reader.new) }
-    ensures write { (result ≡ Ending.Fault Fault.Write) ↔ IsTrue (W.broken writer.new) }
+    ensures devices { TellsDevices (source_change (R.left reader.old) (R.left reader.new)
+        (R.state reader.new)) (W.broken writer.new) result }
     ensures carried { result ≡ Ending.Fault Fault.Carrier → C.broken carrier.new ≡ true }
 {
     let Ok(mut pair) = ddcmp_pair::Pair::new(alloc, config, config) else {

@@ -1,18 +1,13 @@
-use Rattle.ddcmp_script.specs.declared.script_fault.ScriptFault.TheVariants.{Read, Write}
-use Rattle.ddcmp_cli.proofs.ScriptLaws.{told, told-read, told-write, told-carrier}
+use Rattle.ddcmp_io.specs.Change.{source_change}
+use Rattle.ddcmp_cli.proofs.ScriptLaws.{tells, told-carrier}
 use Rattle.ddcmp_cli.proofs.drawing.draw_over.Goals as goal
 
-pub returns-clause-read : goal.returns-clause-read
-returns-clause-read g c = λ h. told c.draw.result c.in-Err.fault Read c.from.result c.in-Err.is c.from.ensures (c.draw.ensures.read h)
-
-pub returns-clause-read_only : goal.returns-clause-read_only
-returns-clause-read_only g c = λ h. c.draw.ensures.read_only (told-read c.draw.result c.in-Err.fault c.from.result c.in-Err.is c.from.ensures h)
-
-pub returns-clause-write : goal.returns-clause-write
-returns-clause-write g c = (
-  λ h. c.draw.ensures.write.0 (told-write c.draw.result c.in-Err.fault c.from.result c.in-Err.is c.from.ensures h),
-  λ b. told c.draw.result c.in-Err.fault Write c.from.result c.in-Err.is c.from.ensures (c.draw.ensures.write.1 b),
-)
+pub returns-clause-devices : goal.returns-clause-devices
+returns-clause-devices g c =
+    tells (source_change (g.R.Source.left c.args.reader.now) (g.R.Source.left c.draw.new.reader)
+    (g.R.Source.state c.draw.new.reader)) (g.W.Sink.broken c.draw.new.writer) c.draw.result
+    c.in-Err.fault c.from.result c.in-Err.is c.from.ensures c.draw.ensures.read
+    c.draw.ensures.read_only c.draw.ensures.write
 
 pub returns-clause-carried : goal.returns-clause-carried
 returns-clause-carried g c = λ h. c.draw.ensures.carried (told-carrier c.draw.result c.in-Err.fault c.from.result c.in-Err.is c.from.ensures h)

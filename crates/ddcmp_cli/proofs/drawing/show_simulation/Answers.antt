@@ -1,5 +1,5 @@
-use Rattle.std.proofs.Common.{rules, true}
-use Rattle.ddcmp_cli.specs.Endings.{PlaysBetween, Simulates, Untouched, streams}
+use Rattle.std.proofs.Common.{◌≡◌, rules, true}
+use Rattle.ddcmp_cli.specs.Endings.{PlaysBetween, Simulates, is_refusal, Untouched, streams}
 use Rattle.ddcmp_cli.proofs.ScriptLaws.{shows-as}
 use Rattle.ddcmp_cli.proofs.drawing.show_simulation.Goals as goal
 
@@ -7,5 +7,7 @@ pub returns-clause-shows : goal.returns-clause-shows
 returns-clause-shows g c = λ input e.
     let s = streams input (g.R.Source.left c.show_over.new.reader) (g.W.Sink.contents c.args.writer.now) (g.W.Sink.contents c.show_over.new.writer) in
     let view = c.args.view in
-    shows-as view.svg view.ladder (λ x. Untouched s) (PlaysBetween true c.args.config view.counters s) (Simulates c.args.config view.counters s) c.show_over.result
+    shows-as view.svg view.ladder ((is_refusal c.show_over.result ≡ true) × Untouched s)
+    (PlaysBetween true c.args.config view.counters s c.show_over.result)
+    (Simulates c.args.config view.counters s c.show_over.result)
     (λ plays. (plays, search rules)) (c.show_over.ensures.shows input e)

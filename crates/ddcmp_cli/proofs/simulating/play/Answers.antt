@@ -1,23 +1,19 @@
 use Rattle.std.proofs.Common.{ap, sym, inr, ◌∙◌}
 use Rattle.std.specs.Io.KnownBytes.{Appends}
+use Rattle.ddcmp_io.specs.Change.{source_change}
 use Rattle.ddcmp_io.specs.Written.{AppendsPart}
 use Rattle.ddcmp_cli.specs.declared.ending.Ending.TheVariants.{Fault as Faulted}
 use Rattle.ddcmp_cli.specs.Endings.{ending_of, script_fault}
-use Rattle.ddcmp_script.specs.declared.script_fault.ScriptFault.TheVariants.{Read, Write}
-use Rattle.ddcmp_cli.proofs.ScriptLaws.{told, told-read, told-write, told-carrier, untold}
+use Rattle.ddcmp_cli.proofs.ScriptLaws.{tells, told-carrier, untold}
 use Rattle.ddcmp_cli.proofs.simulating.play.Goals as goal
 
-pub returns-clause-read : goal.returns-clause-read
-returns-clause-read g c = λ h. told c.script_with.result c.in-Err.fault Read c.from.result c.in-Err.is c.from.ensures (c.script_with.ensures.read h)
-
-pub returns-clause-read_only : goal.returns-clause-read_only
-returns-clause-read_only g c = λ h. c.script_with.ensures.read_only (told-read c.script_with.result c.in-Err.fault c.from.result c.in-Err.is c.from.ensures h)
-
-pub returns-clause-write : goal.returns-clause-write
-returns-clause-write g c = (
-  λ h. c.script_with.ensures.write.0 (told-write c.script_with.result c.in-Err.fault c.from.result c.in-Err.is c.from.ensures h),
-  λ b. told c.script_with.result c.in-Err.fault Write c.from.result c.in-Err.is c.from.ensures (c.script_with.ensures.write.1 b),
-)
+pub returns-clause-devices : goal.returns-clause-devices
+returns-clause-devices g c =
+    tells (source_change (g.R.Source.left c.args.reader.now)
+    (g.R.Source.left c.script_with.new.reader) (g.R.Source.state c.script_with.new.reader))
+    (g.W.Sink.broken c.script_with.new.writer) c.script_with.result c.in-Err.fault c.from.result
+    c.in-Err.is c.from.ensures c.script_with.ensures.read c.script_with.ensures.read_only
+    c.script_with.ensures.write
 
 pub returns-clause-carried : goal.returns-clause-carried
 returns-clause-carried g c = λ h. c.script_with.ensures.carried.0 (told-carrier c.script_with.result c.in-Err.fault c.from.result c.in-Err.is c.from.ensures h)
