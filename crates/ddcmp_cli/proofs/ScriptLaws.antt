@@ -8,7 +8,6 @@ use Rattle.ddcmp_script.specs.declared.script_fault.ScriptFault.TheVariants as s
 use Rattle.ddcmp_cli.specs.declared.fault.Fault.{Fault}
 use Rattle.ddcmp_cli.specs.declared.fault.Fault.TheVariants.{Carrier, Read, Write}
 use Rattle.ddcmp_cli.specs.declared.ending.Ending.TheVariants.{Fault as Faulted}
-use Rattle.ddcmp_cli.specs.declared.ending.Ending.{Ending}
 use Rattle.ddcmp_io.specs.declared.device.Worst.TheVariants.{Fine}
 use Rattle.ddcmp_io.specs.Change.{SourceChange}
 use Rattle.ddcmp_io.specs.Input.{GaveMost}

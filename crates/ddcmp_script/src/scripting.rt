@@ -113,38 +113,6 @@ impl Player {
         }
     }
 
-    /// Does the line that was begun, which is whole.
-    fn end_line<W: Sink, C: Carrier>(
-        &mut self,
-        pair: &mut Pair,
-        writer: &mut W,
-        carrier: &mut C,
-    ) -> Result<(), Stop>
-        requires whole { C.broken carrier.old ≡ false }
-        requires few { self.old.number < 2 ^ 64 - 1 }
-        ensures seen { self.new.seen ≡ self.old.seen }
-        ensures number { self.new.number ≤ self.old.number + 1 }
-        ensures refused { OnErr result (self.new.number ≡ self.old.number) }
-        ensures devices { TellsDevices (output_of W.broken W.contents writer.new self.new.stage.page)
-            (C.broken carrier.new) result }
-        ensures direct { C.direct carrier.new ≡ C.direct carrier.old }
-        ensures takes { Takes (10 ∷ []) (C.direct carrier.old)
-            (moment self.old (output_of W.broken W.contents writer.old self.old.stage.page)
-            pair.old (C.told carrier.old))
-            (moment self.new (output_of W.broken W.contents writer.new self.new.stage.page)
-            pair.new (C.told carrier.new)) result }
-    {
-        let line = without_cr(&self.line);
-        match self.stage.do_line(pair, writer, carrier, line) {
-            Ok(()) => {
-                self.line.clear();
-                self.number += 1;
-                Ok(())
-            }
-            Err(stop) => Err(stop),
-        }
-    }
-
     /// Takes a byte of the script, and where it is LF does the line that it ends.
     fn take_byte<W: Sink, C: Carrier>(
         &mut self,
@@ -167,12 +135,22 @@ impl Player {
             (moment self.new (output_of W.broken W.contents writer.new self.new.stage.page)
             pair.new (C.told carrier.new)) result }
     {
-        if byte == b'\n' {
-            return self.end_line(pair, writer, carrier);
+        if byte != b'\n' {
+            return match self.line.push(byte) {
+                Ok(()) => Ok(()),
+                Err(_refused) => Err(Stop::Memory),
+            };
         }
-        match self.line.push(byte) {
-            Ok(()) => Ok(()),
-            Err(_refused) => Err(Stop::Memory),
+        match self
+            .stage
+            .do_line(pair, writer, carrier, without_cr(&self.line))
+        {
+            Ok(()) => {
+                self.line.clear();
+                self.number += 1;
+                Ok(())
+            }
+            Err(stop) => Err(stop),
         }
     }
 

@@ -1,6 +1,5 @@
 -- Where a parser begins, and what is made of it.
-use Rattle.std.proofs.Common.{◌≡◌, sym, false, Result, Ok, IfOk}
-use Rattle.std.specs.declared.alloc.AllocError.{AllocError}
+use Rattle.std.proofs.Common.{◌≡◌, sym, false, Ok}
 use Rattle.clap.specs.Words.{App, app_of}
 use Rattle.clap.specs.declared.builder.command.Command.{Command}
 use Rattle.clap.specs.declared.builder.command.Command.TheViews.{out-Command as fields_of}
