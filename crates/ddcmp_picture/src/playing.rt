@@ -62,6 +62,47 @@ impl Player {
         }
     }
 
+    /// Takes the script to its end.
+    fn take_all<R: Source, W: Sink, C: Carrier>(
+        &mut self,
+        pair: &mut Pair,
+        reader: &mut R,
+        writer: &mut W,
+        carrier: &mut C,
+    ) -> Result<(), ScriptFault>
+        requires fine { R.state reader.old ≡ Worst.Fine }
+        requires whole { C.broken carrier.old ≡ false }
+        ensures read { R.state reader.new ≢ Worst.Fine → result ≡ Err ScriptFault.Read }
+        ensures read_only { result ≡ Err ScriptFault.Read → (R.state reader.new ≢ Worst.Fine)
+            ⊎ GaveMost (R.left reader.old) (R.left reader.new) }
+        ensures write { (result ≡ Err ScriptFault.Write) ↔ IsTrue (W.broken writer.new) }
+        ensures carrier { result ≡ Err ScriptFault.Carrier → IsTrue (C.broken carrier.new) }
+    {
+        let mut piece = [0; PIECE];
+        let mut seen: u64 = 0;
+        self.stage.canvas.begin(writer);
+        while seen < u64::MAX {
+            if !self.stage.canvas.show(writer) {
+                return Err(ScriptFault::Write);
+            }
+            let n = match read_within(reader, &mut piece, u64::MAX - seen) {
+                Got::Bytes(0) => return self.finish(pair, writer, carrier),
+                Got::Bytes(n) => n,
+                _ => return Err(ScriptFault::Read),
+            };
+            seen += n as u64;
+            // A reader that has given the most bytes counts as failed.
+            if seen == u64::MAX {
+                return Err(ScriptFault::Read);
+            }
+            match self.take(pair, writer, carrier, &piece[..n]) {
+                Ok(()) => {}
+                Err(halt) => return Err(self.stop(writer, halt)),
+            }
+        }
+        unreachable!()
+    }
+
     /// Does the line that was begun, which is whole, and shows what it did.
     fn end_line<W: Sink, C: Carrier>(
         &mut self,
@@ -187,47 +228,6 @@ impl Player {
         } else {
             Err(ScriptFault::Memory)
         }
-    }
-
-    /// Takes the script to its end.
-    fn take_all<R: Source, W: Sink, C: Carrier>(
-        &mut self,
-        pair: &mut Pair,
-        reader: &mut R,
-        writer: &mut W,
-        carrier: &mut C,
-    ) -> Result<(), ScriptFault>
-        requires fine { R.state reader.old ≡ Worst.Fine }
-        requires whole { C.broken carrier.old ≡ false }
-        ensures read { R.state reader.new ≢ Worst.Fine → result ≡ Err ScriptFault.Read }
-        ensures read_only { result ≡ Err ScriptFault.Read → (R.state reader.new ≢ Worst.Fine)
-            ⊎ GaveMost (R.left reader.old) (R.left reader.new) }
-        ensures write { (result ≡ Err ScriptFault.Write) ↔ IsTrue (W.broken writer.new) }
-        ensures carrier { result ≡ Err ScriptFault.Carrier → IsTrue (C.broken carrier.new) }
-    {
-        let mut piece = [0; PIECE];
-        let mut seen: u64 = 0;
-        self.stage.canvas.begin(writer);
-        while seen < u64::MAX {
-            if !self.stage.canvas.show(writer) {
-                return Err(ScriptFault::Write);
-            }
-            let n = match read_within(reader, &mut piece, u64::MAX - seen) {
-                Got::Bytes(0) => return self.finish(pair, writer, carrier),
-                Got::Bytes(n) => n,
-                _ => return Err(ScriptFault::Read),
-            };
-            seen += n as u64;
-            // A reader that has given the most bytes counts as failed.
-            if seen == u64::MAX {
-                return Err(ScriptFault::Read);
-            }
-            match self.take(pair, writer, carrier, &piece[..n]) {
-                Ok(()) => {}
-                Err(halt) => return Err(self.stop(writer, halt)),
-            }
-        }
-        unreachable!()
     }
 }
 
