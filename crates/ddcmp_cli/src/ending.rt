@@ -5,6 +5,7 @@ ghost use Rattle.ddcmp_cli.specs.Endings.{shown_of, status_of};
 use crate::fault::Fault;
 use crate::inputs::OpenFault;
 use std::fmt;
+use std::fmt::Display;
 
 /// How the program ended.
 #[derive(Debug, Drop)]
@@ -49,32 +50,38 @@ impl Ending {
     }
 }
 
+/// A line that tells this of the program.
+fn tell<W: fmt::Write, T: Display>(f: &mut fmt::Formatter<W>, told: &T) -> fmt::Result {
+    f.write_str("ddcmp: ")?;
+    told.fmt(f)?;
+    f.write_str("\n")
+}
+
+/// A line that tells why a file isn't opened.
+fn tell_unopened<W: fmt::Write>(
+    f: &mut fmt::Formatter<W>,
+    name: &String,
+    why: &OpenFault,
+) -> fmt::Result {
+    f.write_str("ddcmp: open ")?;
+    f.write_str(name.as_str())?;
+    f.write_str(": ")?;
+    why.fmt(f)?;
+    f.write_str("\n")
+}
+
 /// What goes to standard error.
-impl fmt::Display for Ending {
+impl Display for Ending {
     ghost output = { shown_of };
 
     fn fmt<W: fmt::Write>(&self, f: &mut fmt::Formatter<W>) -> fmt::Result {
         match self {
             Ending::Done | Ending::SomeRefused => Ok(()),
-            Ending::NoLine(why) => {
-                f.write_str("ddcmp: ")?;
-                f.write_str(why.as_str())?;
-                f.write_str("\n")
-            }
+            Ending::NoLine(why) => tell(f, why),
             Ending::Usage(text) => f.write_str(text.as_str()),
             Ending::NotText => f.write_str("ddcmp: a word is not text\n"),
-            Ending::Unopened(name, why) => {
-                f.write_str("ddcmp: open ")?;
-                f.write_str(name.as_str())?;
-                f.write_str(": ")?;
-                why.fmt(f)?;
-                f.write_str("\n")
-            }
-            Ending::Fault(fault) => {
-                f.write_str("ddcmp: ")?;
-                fault.fmt(f)?;
-                f.write_str("\n")
-            }
+            Ending::Unopened(name, why) => tell_unopened(f, name, why),
+            Ending::Fault(fault) => tell(f, fault),
         }
     }
 }
