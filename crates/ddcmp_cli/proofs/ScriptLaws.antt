@@ -1,12 +1,12 @@
 -- What the program calls the faults of a script, and how a run is shown.
-use Rattle.std.proofs.Common.{◌≡◌, ◌≢◌, ◌⊎◌, ◌↔◌, IsTrue, ◌∙◌, sym, ap, subst, ℕ, Bool, true, false, List, Option, None, Result, Err, refl}
+use Rattle.std.proofs.Common.{◌≡◌, ◌≢◌, ◌⊎◌, ◌↔◌, IsTrue, ◌∙◌, sym, ap, subst, ℕ, Bool, true, false, List, Option, Some, None, Result, Err, refl}
 use Rattle.ddcmp_run.specs.Run.{PairState}
 use Rattle.ddcmp_carrier.specs.Carriages.{Carriage}
 use Rattle.ddcmp_script.specs.ScriptEnds.{around, Plays}
 use Rattle.ddcmp_script.specs.declared.script_fault.ScriptFault.{ScriptFault}
 use Rattle.ddcmp_script.specs.declared.script_fault.ScriptFault.TheVariants as scripting
 use Rattle.ddcmp_cli.specs.declared.fault.Fault.{Fault}
-use Rattle.ddcmp_cli.specs.declared.fault.Fault.TheVariants.{Carrier, Read, Write}
+use Rattle.ddcmp_cli.specs.declared.fault.Fault.TheVariants.{Line, Hex as NotHexIn, Read, Write, Memory, Carrier}
 use Rattle.ddcmp_cli.specs.declared.ending.Ending.TheVariants.{Fault as Faulted}
 use Rattle.ddcmp_io.specs.declared.device.Worst.TheVariants.{Fine}
 use Rattle.ddcmp_io.specs.Change.{SourceChange}
@@ -20,44 +20,36 @@ told r fault known made e m k =
     let same : fault ≡ known = cc in
     ap Faulted (m ∙ ap script_fault same)
 
-faulted : (a b : Fault) → Faulted a ≡ Faulted b → a ≡ b
-faulted a b e = cc
+-- the fault of a script that the program calls so
+abbrev script_fault_of : Fault → Option ScriptFault
+script_fault_of (Line n) = Some (scripting.Line n)
+script_fault_of (NotHexIn n) = Some (scripting.Hex n)
+script_fault_of Read = Some scripting.Read
+script_fault_of Write = Some scripting.Write
+script_fault_of Memory = Some scripting.Memory
+script_fault_of Carrier = Some scripting.Carrier
+script_fault_of fault = None
 
--- a write that the program tells is one of the script
-pub wrote : (fault : ScriptFault) → script_fault fault ≡ Write → fault ≡ scripting.Write
-wrote (scripting.Line n) e = cc
-wrote (scripting.Hex n) e = cc
-wrote scripting.Read e = cc
-wrote scripting.Write e = refl
-wrote scripting.Memory e = cc
-wrote scripting.Carrier e = cc
+called : (fault : ScriptFault) → script_fault_of (script_fault fault) ≡ Some fault
+called (scripting.Line n) = refl
+called (scripting.Hex n) = refl
+called scripting.Read = refl
+called scripting.Write = refl
+called scripting.Memory = refl
+called scripting.Carrier = refl
 
-pub told-write : (r : Result (Unit {0}) ScriptFault) (fault : ScriptFault) (made : Fault) → r ≡ Err fault → made ≡ script_fault fault → Faulted made ≡ Faulted Write → r ≡ Err scripting.Write
-told-write r fault made e m k = e ∙ ap Err (wrote fault (sym m ∙ faulted made Write k))
+same : (a b : ScriptFault) → Faulted (script_fault a) ≡ Faulted (script_fault b) → a ≡ b
+same a b e =
+    let both : script_fault a ≡ script_fault b = cc in
+    let found : ◌≡◌ {A = Option ScriptFault} (Some a) (Some b) =
+        sym (called a) ∙ ap script_fault_of both ∙ called b in
+    cc
 
--- and a read that the program tells is the script's
-read : (fault : ScriptFault) → script_fault fault ≡ Read → fault ≡ scripting.Read
-read (scripting.Line n) e = cc
-read (scripting.Hex n) e = cc
-read scripting.Read e = refl
-read scripting.Write e = cc
-read scripting.Memory e = cc
-read scripting.Carrier e = cc
-
-pub told-read : (r : Result (Unit {0}) ScriptFault) (fault : ScriptFault) (made : Fault) → r ≡ Err fault → made ≡ script_fault fault → Faulted made ≡ Faulted Read → r ≡ Err scripting.Read
-told-read r fault made e m k = e ∙ ap Err (read fault (sym m ∙ faulted made Read k))
-
--- and a carrier that the program tells is the script's
-carried : (fault : ScriptFault) → script_fault fault ≡ Carrier → fault ≡ scripting.Carrier
-carried (scripting.Line n) e = cc
-carried (scripting.Hex n) e = cc
-carried scripting.Read e = cc
-carried scripting.Write e = cc
-carried scripting.Memory e = cc
-carried scripting.Carrier e = refl
-
-pub told-carrier : (r : Result (Unit {0}) ScriptFault) (fault : ScriptFault) (made : Fault) → r ≡ Err fault → made ≡ script_fault fault → Faulted made ≡ Faulted Carrier → r ≡ Err scripting.Carrier
-told-carrier r fault made e m k = e ∙ ap Err (carried fault (sym m ∙ faulted made Carrier k))
+-- a fault that the program tells is the one that the script answered
+pub told-back : (r : Result (Unit {0}) ScriptFault) (fault known : ScriptFault) (made : Fault)
+    → r ≡ Err fault → made ≡ script_fault fault → Faulted made ≡ Faulted (script_fault known)
+    → r ≡ Err known
+told-back r fault known made e m k = e ∙ ap Err (same fault known (ap Faulted (sym m) ∙ k))
 
 -- what a carrier that tells nothing did is known of none
 pub untold : (counted : Bool) (input : List ℕ) (before p q : PairState) (is_direct : Bool) (t u : Option (List Carriage)) (Wrote WrotePart : List ℕ → Type 0) (r : Result (Unit {0}) ScriptFault)
@@ -83,9 +75,9 @@ pub tells : (source : SourceChange) (broken : Bool) (r : Result (Unit {0}) Scrip
     → (r ≡ Err scripting.Write) ↔ IsTrue broken → TellsDevices source broken (Faulted made)
 tells source broken r fault made e m reads only writes = record {
   read = λ bad. told r fault scripting.Read made e m (reads bad);
-  read_only = λ t. only (told-read r fault made e m t);
+  read_only = λ t. only (told-back r fault scripting.Read made e m t);
   write = (
-    λ t. writes.0 (told-write r fault made e m t),
+    λ t. writes.0 (told-back r fault scripting.Write made e m t),
     λ b. told r fault scripting.Write made e m (writes.1 b),
   );
 }

@@ -1,5 +1,6 @@
 use Rattle.ddcmp_io.specs.Change.{source_change}
-use Rattle.ddcmp_cli.proofs.ScriptLaws.{tells, told-carrier}
+use Rattle.ddcmp_script.specs.declared.script_fault.ScriptFault.TheVariants.{Carrier}
+use Rattle.ddcmp_cli.proofs.ScriptLaws.{tells, told-back}
 use Rattle.ddcmp_cli.proofs.drawing.draw_over.Goals as goal
 
 pub returns-clause-devices : goal.returns-clause-devices
@@ -10,4 +11,4 @@ returns-clause-devices g c =
     c.draw.ensures.read_only c.draw.ensures.write
 
 pub returns-clause-carried : goal.returns-clause-carried
-returns-clause-carried g c = λ h. c.draw.ensures.carried (told-carrier c.draw.result c.in-Err.fault c.from.result c.in-Err.is c.from.ensures h)
+returns-clause-carried g c = λ h. c.draw.ensures.carried (told-back c.draw.result c.in-Err.fault Carrier c.from.result c.in-Err.is c.from.ensures h)

@@ -4,7 +4,8 @@ use Rattle.ddcmp_io.specs.Change.{source_change}
 use Rattle.ddcmp_io.specs.Written.{AppendsPart}
 use Rattle.ddcmp_cli.specs.declared.ending.Ending.TheVariants.{Fault as Faulted}
 use Rattle.ddcmp_cli.specs.Endings.{ending_of, script_fault}
-use Rattle.ddcmp_cli.proofs.ScriptLaws.{tells, told-carrier, untold}
+use Rattle.ddcmp_script.specs.declared.script_fault.ScriptFault.TheVariants.{Carrier}
+use Rattle.ddcmp_cli.proofs.ScriptLaws.{tells, told-back, untold}
 use Rattle.ddcmp_cli.proofs.simulating.play.Goals as goal
 
 pub returns-clause-devices : goal.returns-clause-devices
@@ -16,7 +17,7 @@ returns-clause-devices g c =
     c.script_with.ensures.write
 
 pub returns-clause-carried : goal.returns-clause-carried
-returns-clause-carried g c = λ h. c.script_with.ensures.carried.0 (told-carrier c.script_with.result c.in-Err.fault c.from.result c.in-Err.is c.from.ensures h)
+returns-clause-carried g c = λ h. c.script_with.ensures.carried.0 (told-back c.script_with.result c.in-Err.fault Carrier c.from.result c.in-Err.is c.from.ensures h)
 
 pub returns-in-Ok-script_with-clause-plays : goal.returns-in-Ok-script_with-clause-plays
 returns-in-Ok-script_with-clause-plays g c = λ input e. inr (
