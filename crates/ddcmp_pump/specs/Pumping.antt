@@ -172,6 +172,10 @@ pub record Runs (notation : Notation) (timed : Bool) (max : ℕ) (up0 up down0 d
   pub rising : HasFlown up0 up (said Caller pieces)
   pub falling : HasFlown down0 down (said Called pieces)
 
+-- this holds of both directions
+abbrev pub Both : {F : Type 0} → (F → Type 0) → F → F → Type 0
+Both Holds up down = Holds up × Holds down
+
 -- A tap that stopped in the middle: not all that came was told.
 pub record Stopped (notation : Notation) (timed : Bool) (max : ℕ) (up0 up down0 down : FlowView)
     (old new : Known) : Type 0 where

@@ -4,8 +4,8 @@ ghost use Rattle.std.specs.Prelude.{◌≡◌, ◌≢◌, ◌<◌, ◌↔◌, Bo
 ghost use Rattle.std.specs.Prelude.{false, is_some, length, true};
 ghost use Rattle.ddcmp_io.specs.Written.{Known};
 ghost use Rattle.ddcmp_tap.specs.declared.notation.Notation.{Notation};
-ghost use Rattle.ddcmp_pump.specs.Pumping.{Begins, Ends, HasSaid, FlowView, IsOfSide, Moves, Pumps};
-ghost use Rattle.ddcmp_pump.specs.Pumping.{Runs, Stops, Turns, flow_of};
+ghost use Rattle.ddcmp_pump.specs.Pumping.{Begins, Both, Ends, HasSaid, FlowView, IsOfSide, Moves};
+ghost use Rattle.ddcmp_pump.specs.Pumping.{Pumps, Runs, Stops, Turns, flow_of};
 ghost use Rattle.ddcmp_pump.specs.declared.tap_fault.TapFault.{TapFault as TapFaultValue};
 ghost use Rattle.ddcmp_tap.specs.declared.side.Side.TheVariants.{Caller as CallerSide};
 ghost use Rattle.ddcmp_tap.specs.declared.side.Side.TheVariants.{Called as CalledSide};
@@ -35,19 +35,15 @@ fn pass_both<R: Source, O: Outlet>(
     down: &mut Flow<R, O>,
     buffer: &mut [u8],
 ) -> Result<bool, TapFault>
-    requires up_fine { R.state up.old.reader ≢ Worst.Failed }
-    requires down_fine { R.state down.old.reader ≢ Worst.Failed }
+    requires fine { Both (λ it. R.state it.reader ≢ Worst.Failed) up.old down.old }
     requires buffer { 0 < length buffer.old }
-    requires up_ends { Ends (flow_of R.left O.contents O.closed up.old) }
-    requires down_ends { Ends (flow_of R.left O.contents O.closed down.old) }
+    requires ends { Both (λ it. Ends (flow_of R.left O.contents O.closed it)) up.old down.old }
     ensures up { Moves (flow_of R.left O.contents O.closed up.old)
         (flow_of R.left O.contents O.closed up.new) }
     ensures down { Moves (flow_of R.left O.contents O.closed down.old)
         (flow_of R.left O.contents O.closed down.new) }
-    ensures up_ends { Ends (flow_of R.left O.contents O.closed up.new) }
-    ensures down_ends { Ends (flow_of R.left O.contents O.closed down.new) }
-    ensures up_fine { IsOk result → R.state up.new.reader ≢ Worst.Failed }
-    ensures down_fine { IsOk result → R.state down.new.reader ≢ Worst.Failed }
+    ensures ends { Both (λ it. Ends (flow_of R.left O.contents O.closed it)) up.new down.new }
+    ensures fine { IsOk result → Both (λ it. R.state it.reader ≢ Worst.Failed) up.new down.new }
     ensures room { length buffer.new ≡ length buffer.old }
     ensures fault { (fault : TapFaultValue) → result ≡ Err fault → IsOfSide fault }
 {
@@ -65,11 +61,9 @@ fn turn<R: Source, O: Outlet, W: Sink>(
     writer: &mut W,
     stamp: Option<u64>,
 ) -> Result<bool, TapFault>
-    requires up_fine { R.state up.old.reader ≢ Worst.Failed }
-    requires down_fine { R.state down.old.reader ≢ Worst.Failed }
+    requires fine { Both (λ it. R.state it.reader ≢ Worst.Failed) up.old down.old }
     requires buffer { 0 < length buffer.old }
-    requires up_ends { Ends (flow_of R.left O.contents O.closed up.old) }
-    requires down_ends { Ends (flow_of R.left O.contents O.closed down.old) }
+    requires ends { Both (λ it. Ends (flow_of R.left O.contents O.closed it)) up.old down.old }
     requires whole { W.broken writer.old ≡ false }
     ensures runs { (notation : Notation) (timed : Bool) (max : ℕ)
         (up0 down0 : FlowView) (start : Known)
@@ -78,10 +72,8 @@ fn turn<R: Source, O: Outlet, W: Sink>(
         (flow_of R.left O.contents O.closed down.old) start (W.contents writer.old)
         → Turns notation timed max up0 (flow_of R.left O.contents O.closed up.new) down0
         (flow_of R.left O.contents O.closed down.new) start (W.contents writer.new) result }
-    ensures up_ends { Ends (flow_of R.left O.contents O.closed up.new) }
-    ensures down_ends { Ends (flow_of R.left O.contents O.closed down.new) }
-    ensures up_fine { IsOk result → R.state up.new.reader ≢ Worst.Failed }
-    ensures down_fine { IsOk result → R.state down.new.reader ≢ Worst.Failed }
+    ensures ends { Both (λ it. Ends (flow_of R.left O.contents O.closed it)) up.new down.new }
+    ensures fine { IsOk result → Both (λ it. R.state it.reader ≢ Worst.Failed) up.new down.new }
     ensures room { length buffer.new ≡ length buffer.old }
     ensures met { result ≢ Err TapFault.Carrier }
     ensures broken { (result ≡ Err TapFault.Report) ↔ IsTrue (W.broken writer.new) }
@@ -107,11 +99,9 @@ fn until_over<R: Source, O: Outlet, K: Readiness, C: Clock, W: Sink>(
     buffer: &mut [u8],
     writer: &mut W,
 ) -> Result<(), TapFault>
-    requires up_fine { R.state up.old.reader ≢ Worst.Failed }
-    requires down_fine { R.state down.old.reader ≢ Worst.Failed }
+    requires fine { Both (λ it. R.state it.reader ≢ Worst.Failed) up.old down.old }
     requires buffer { 0 < length buffer.old }
-    requires up_ends { Ends (flow_of R.left O.contents O.closed up.old) }
-    requires down_ends { Ends (flow_of R.left O.contents O.closed down.old) }
+    requires ends { Both (λ it. Ends (flow_of R.left O.contents O.closed it)) up.old down.old }
     requires whole { W.broken writer.old ≡ false }
     ensures runs { (notation : Notation) (max : ℕ) (up0 down0 : FlowView) (start : Known)
         → Runs notation timed max up0 (flow_of R.left O.contents O.closed up.old) down0
@@ -120,8 +110,7 @@ fn until_over<R: Source, O: Outlet, K: Readiness, C: Clock, W: Sink>(
         (flow_of R.left O.contents O.closed down.new) start (W.contents writer.new) result }
     ensures met { result ≢ Err TapFault.Carrier }
     ensures broken { (result ≡ Err TapFault.Report) ↔ IsTrue (W.broken writer.new) }
-    ensures up_ends { Ends (flow_of R.left O.contents O.closed up.new) }
-    ensures down_ends { Ends (flow_of R.left O.contents O.closed down.new) }
+    ensures ends { Both (λ it. Ends (flow_of R.left O.contents O.closed it)) up.new down.new }
     ensures done { result ≡ Ok tt
         → (O.closed up.new.outlet ≡ true) × (O.closed down.new.outlet ≡ true) }
 {
@@ -151,8 +140,7 @@ fn conclude<R: Source, O: Outlet, C: Clock, W: Sink>(
     ended: Result<(), TapFault>,
 ) -> Result<(), TapFault>
     requires whole { W.broken writer.old ≡ false }
-    requires up_ends { Ends (flow_of R.left O.contents O.closed up.old) }
-    requires down_ends { Ends (flow_of R.left O.contents O.closed down.old) }
+    requires ends { Both (λ it. Ends (flow_of R.left O.contents O.closed it)) up.old down.old }
     requires said { HasSaid ended }
     requires done { ended ≡ Ok tt
         → (O.closed up.old.outlet ≡ true) × (O.closed down.old.outlet ≡ true) }
@@ -186,11 +174,9 @@ pub fn pump<R: Source, O: Outlet, K: Readiness, C: Clock, W: Sink>(
     buffer: &mut [u8],
     writer: &mut W,
 ) -> Result<(), TapFault>
-    requires up_fine { R.state up.old.reader ≢ Worst.Failed }
-    requires down_fine { R.state down.old.reader ≢ Worst.Failed }
+    requires fine { Both (λ it. R.state it.reader ≢ Worst.Failed) up.old down.old }
     requires buffer { 0 < length buffer.old }
-    requires up_ends { Ends (flow_of R.left O.contents O.closed up.old) }
-    requires down_ends { Ends (flow_of R.left O.contents O.closed down.old) }
+    requires ends { Both (λ it. Ends (flow_of R.left O.contents O.closed it)) up.old down.old }
     requires whole { W.broken writer.old ≡ false }
     ensures pumps { (notation : Notation) (max : ℕ)
         → Begins CallerSide notation max (flow_of R.left O.contents O.closed up.old)

@@ -30,4 +30,4 @@ returns-in-Ok-tell_end-clause-pumps g c = λ notation max up0 down0 start r.
     (ap (λ f. g.O.Outlet.closed f.outlet) u.stays)
     (ap (λ f. g.R.Source.left f.reader) d.stays) (ap (λ f. g.O.Outlet.contents f.outlet) d.stays)
     (ap (λ f. g.O.Outlet.closed f.outlet) d.stays)
-    u.tells d.tells c.requires.up_ends c.requires.down_ends c.requires.done
+    u.tells d.tells c.requires.ends.0 c.requires.ends.1 c.requires.done
