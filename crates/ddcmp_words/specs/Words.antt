@@ -1,5 +1,5 @@
 -- The command line, as `clap` reads it.
-use Rattle.std.specs.Prelude.{ℕ, pos, unwrap_or, if◌then◌else◌, ◌≡◌, ◌≢◌, ◌⊎◌, ◌≤◌, Bool, true, false, List, [], codes, decimal, Option, Some, None, Result, Ok, Err, ⊤}
+use Rattle.std.specs.Prelude.{◌∷◌, ℕ, pos, unwrap_or, if◌then◌else◌, ◌≡◌, ◌≢◌, ◌⊎◌, ◌≤◌, Bool, true, false, List, [], codes, decimal, Option, Some, None, Result, Ok, Err, ⊤}
 use Rattle.std.specs.Option.{option_map, option_and_then}
 use Rattle.std.specs.List.{starts_with}
 use Rattle.std.specs.Str.{bytes_eq}
@@ -172,6 +172,12 @@ option_in words id = option_and_then (λ named. one_of id named.1) (subcommand_o
 -- the text of an option that is taken as it was written
 unfoldable pub text_in : List Text → Text → Option Text
 text_in words id = option_and_then (λ named. first_of id named.1) (subcommand_of program words)
+
+-- An option of a command is off unless its word stands behind the name of the command.
+abbrev pub IsSwitch : Text → Text → Text → Type 0
+IsSwitch command word id =
+    (option_in (codes "ddcmp" ∷ command ∷ []) id ≡ Some (codes "false"))
+    × (option_in (codes "ddcmp" ∷ command ∷ word ∷ []) id ≡ Some (codes "true"))
 
 -- bytes as they are where `--raw` was given, else digits
 pub record HasForm (raw : Option Text) (form : Form) : Type 0 where

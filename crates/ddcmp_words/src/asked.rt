@@ -1,7 +1,7 @@
 //! Words that ask for each command.
 ghost use Rattle.std.specs.Prelude.{◌≡◌, ◌∷◌, [], false, Some, None, codes};
 ghost use Rattle.clap.specs.Words.{fault_of, takes};
-ghost use Rattle.ddcmp_words.specs.Words.{IsAsked, option_in, text_in, program};
+ghost use Rattle.ddcmp_words.specs.Words.{IsAsked, IsSwitch, option_in, text_in, program};
 
 use clap::error::ErrorKind as WordsFault;
 
@@ -10,22 +10,13 @@ use clap::error::ErrorKind as WordsFault;
 /// --help` asks for help, and `ddcmp --version` for the version.
 pub fn explain_is_asked()
     ensures plain { IsAsked (codes "ddcmp" ∷ codes "explain" ∷ []) (codes "explain") }
-    ensures not_raw { option_in (codes "ddcmp" ∷ codes "explain" ∷ []) (codes "raw")
-        ≡ Some (codes "false") }
-    ensures not_json { option_in (codes "ddcmp" ∷ codes "explain" ∷ []) (codes "json")
-        ≡ Some (codes "false") }
     ensures no_maximum { option_in (codes "ddcmp" ∷ codes "explain" ∷ []) (codes "max") ≡ None }
-    ensures raw { option_in (codes "ddcmp" ∷ codes "explain" ∷ codes "--raw" ∷ []) (codes "raw")
-        ≡ Some (codes "true") }
+    ensures raw { IsSwitch (codes "explain") (codes "--raw") (codes "raw") }
     ensures no_dump { text_in (codes "ddcmp" ∷ codes "explain" ∷ []) (codes "from") ≡ None }
     ensures dump { text_in (codes "ddcmp" ∷ codes "explain" ∷ codes "--from" ∷ codes "hexdump" ∷ [])
         (codes "from") ≡ Some (codes "hexdump") }
-    ensures json { option_in (codes "ddcmp" ∷ codes "explain" ∷ codes "--json" ∷ []) (codes "json")
-        ≡ Some (codes "true") }
-    ensures not_discarded { option_in (codes "ddcmp" ∷ codes "explain" ∷ []) (codes "discarded")
-        ≡ Some (codes "false") }
-    ensures discarded { option_in (codes "ddcmp" ∷ codes "explain" ∷ codes "--discarded" ∷ [])
-        (codes "discarded") ≡ Some (codes "true") }
+    ensures json { IsSwitch (codes "explain") (codes "--json") (codes "json") }
+    ensures discarded { IsSwitch (codes "explain") (codes "--discarded") (codes "discarded") }
     ensures maximum { option_in
         (codes "ddcmp" ∷ codes "explain" ∷ codes "--max" ∷ codes "1500" ∷ []) (codes "max")
         ≡ Some (codes "1500") }
@@ -45,22 +36,14 @@ pub fn explain_is_asked()
 pub fn simulate_is_asked()
     ensures plain { IsAsked (codes "ddcmp" ∷ codes "simulate" ∷ []) (codes "simulate") }
     ensures no_window { option_in (codes "ddcmp" ∷ codes "simulate" ∷ []) (codes "window") ≡ None }
-    ensures no_restart { option_in (codes "ddcmp" ∷ codes "simulate" ∷ []) (codes "restart")
-        ≡ Some (codes "false") }
     ensures window { option_in (codes "ddcmp" ∷ codes "simulate" ∷ codes "--window" ∷ codes "255"
         ∷ []) (codes "window") ≡ Some (codes "255") }
     ensures syn { option_in (codes "ddcmp" ∷ codes "simulate" ∷ codes "--syn=16" ∷ [])
         (codes "syn") ≡ Some (codes "16") }
-    ensures restart { option_in (codes "ddcmp" ∷ codes "simulate" ∷ codes "--restart" ∷ [])
-        (codes "restart") ≡ Some (codes "true") }
-    ensures no_svg { option_in (codes "ddcmp" ∷ codes "simulate" ∷ []) (codes "svg")
-        ≡ Some (codes "false") }
-    ensures svg { option_in (codes "ddcmp" ∷ codes "simulate" ∷ codes "--svg" ∷ []) (codes "svg")
-        ≡ Some (codes "true") }
-    ensures ladder { option_in (codes "ddcmp" ∷ codes "simulate" ∷ codes "--ladder" ∷ [])
-        (codes "ladder") ≡ Some (codes "true") }
-    ensures counters { option_in (codes "ddcmp" ∷ codes "simulate" ∷ codes "--counters" ∷ [])
-        (codes "counters") ≡ Some (codes "true") }
+    ensures restart { IsSwitch (codes "simulate") (codes "--restart") (codes "restart") }
+    ensures svg { IsSwitch (codes "simulate") (codes "--svg") (codes "svg") }
+    ensures ladder { IsSwitch (codes "simulate") (codes "--ladder") (codes "ladder") }
+    ensures counters { IsSwitch (codes "simulate") (codes "--counters") (codes "counters") }
 {}
 
 /// The words `ddcmp pair` ask for the command that runs a script over a connection, with the
@@ -72,12 +55,9 @@ pub fn pair_is_asked()
         (codes "inbox") ≡ Some (codes "1") }
     ensures syn { option_in (codes "ddcmp" ∷ codes "pair" ∷ codes "--syn=16" ∷ [])
         (codes "syn") ≡ Some (codes "16") }
-    ensures restart { option_in (codes "ddcmp" ∷ codes "pair" ∷ codes "--restart" ∷ [])
-        (codes "restart") ≡ Some (codes "true") }
-    ensures ladder { option_in (codes "ddcmp" ∷ codes "pair" ∷ codes "--ladder" ∷ [])
-        (codes "ladder") ≡ Some (codes "true") }
-    ensures counters { option_in (codes "ddcmp" ∷ codes "pair" ∷ codes "--counters" ∷ [])
-        (codes "counters") ≡ Some (codes "true") }
+    ensures restart { IsSwitch (codes "pair") (codes "--restart") (codes "restart") }
+    ensures ladder { IsSwitch (codes "pair") (codes "--ladder") (codes "ladder") }
+    ensures counters { IsSwitch (codes "pair") (codes "--counters") (codes "counters") }
 {}
 
 /// The words `ddcmp station` with the four options that can't be left out ask for the command that
@@ -92,10 +72,7 @@ pub fn station_is_asked()
         (codes "turns") ≡ Some (codes "20") }
     ensures send { text_in (codes "ddcmp" ∷ codes "station" ∷ codes "--send" ∷ codes "0Aff" ∷ [])
         (codes "send") ≡ Some (codes "0Aff") }
-    ensures counters { option_in (codes "ddcmp" ∷ codes "station" ∷ codes "--counters" ∷ [])
-        (codes "counters") ≡ Some (codes "true") }
-    ensures no_counters { option_in (codes "ddcmp" ∷ codes "station" ∷ []) (codes "counters")
-        ≡ Some (codes "false") }
+    ensures counters { IsSwitch (codes "station") (codes "--counters") (codes "counters") }
     ensures incomplete { takes program (codes "ddcmp" ∷ codes "station" ∷ []) ≡ false }
 {}
 
@@ -108,16 +85,9 @@ pub fn tap_is_asked()
         ∷ codes "127.0.0.1:7000" ∷ []) (codes "listen") ≡ Some (codes "127.0.0.1:7000") }
     ensures connect { text_in (codes "ddcmp" ∷ codes "tap" ∷ codes "--connect=localhost:7001"
         ∷ []) (codes "connect") ≡ Some (codes "localhost:7001") }
-    ensures json { option_in (codes "ddcmp" ∷ codes "tap" ∷ codes "--json" ∷ []) (codes "json")
-        ≡ Some (codes "true") }
-    ensures no_ladder { option_in (codes "ddcmp" ∷ codes "tap" ∷ []) (codes "ladder")
-        ≡ Some (codes "false") }
-    ensures ladder { option_in (codes "ddcmp" ∷ codes "tap" ∷ codes "--ladder" ∷ [])
-        (codes "ladder") ≡ Some (codes "true") }
-    ensures time { option_in (codes "ddcmp" ∷ codes "tap" ∷ codes "--time" ∷ []) (codes "time")
-        ≡ Some (codes "true") }
-    ensures no_time { option_in (codes "ddcmp" ∷ codes "tap" ∷ []) (codes "time")
-        ≡ Some (codes "false") }
+    ensures json { IsSwitch (codes "tap") (codes "--json") (codes "json") }
+    ensures ladder { IsSwitch (codes "tap") (codes "--ladder") (codes "ladder") }
+    ensures time { IsSwitch (codes "tap") (codes "--time") (codes "time") }
     ensures maximum { option_in (codes "ddcmp" ∷ codes "tap" ∷ codes "--max=1500" ∷ [])
         (codes "max") ≡ Some (codes "1500") }
     ensures incomplete { takes program (codes "ddcmp" ∷ codes "tap" ∷ []) ≡ false }
@@ -132,18 +102,11 @@ pub fn link_is_asked()
         (codes "line") ≡ Some (codes "device:/dev/ttyS0") }
     ensures window { option_in (codes "ddcmp" ∷ codes "link" ∷ codes "--window=127" ∷ [])
         (codes "window") ≡ Some (codes "127") }
-    ensures binary { option_in (codes "ddcmp" ∷ codes "link" ∷ codes "--binary" ∷ [])
-        (codes "binary") ≡ Some (codes "true") }
-    ensures no_binary { option_in (codes "ddcmp" ∷ codes "link" ∷ []) (codes "binary")
-        ≡ Some (codes "false") }
-    ensures stay { option_in (codes "ddcmp" ∷ codes "link" ∷ codes "--stay" ∷ []) (codes "stay")
-        ≡ Some (codes "true") }
-    ensures again { option_in (codes "ddcmp" ∷ codes "link" ∷ codes "--again" ∷ [])
-        (codes "again") ≡ Some (codes "true") }
-    ensures counters { option_in (codes "ddcmp" ∷ codes "link" ∷ codes "--counters" ∷ [])
-        (codes "counters") ≡ Some (codes "true") }
-    ensures trace { option_in (codes "ddcmp" ∷ codes "link" ∷ codes "--trace" ∷ []) (codes "trace")
-        ≡ Some (codes "true") }
+    ensures binary { IsSwitch (codes "link") (codes "--binary") (codes "binary") }
+    ensures stay { IsSwitch (codes "link") (codes "--stay") (codes "stay") }
+    ensures again { IsSwitch (codes "link") (codes "--again") (codes "again") }
+    ensures counters { IsSwitch (codes "link") (codes "--counters") (codes "counters") }
+    ensures trace { IsSwitch (codes "link") (codes "--trace") (codes "trace") }
     ensures seconds { option_in (codes "ddcmp" ∷ codes "link" ∷ codes "--seconds=60" ∷ [])
         (codes "seconds") ≡ Some (codes "60") }
     ensures timer { option_in (codes "ddcmp" ∷ codes "link" ∷ codes "--timer-ms=500" ∷ [])

@@ -7,17 +7,13 @@ pub returns-clause-plain : goal.returns-clause-plain
 unfolding clap_on_literals named_by
 returns-clause-plain c = record { in_order = refl; names = refl }
 
-pub returns-clause-not_raw : goal.returns-clause-not_raw
-unfolding clap_on_literals option_in
-returns-clause-not_raw c = refl
-
 pub returns-clause-no_maximum : goal.returns-clause-no_maximum
 unfolding clap_on_literals option_in
 returns-clause-no_maximum c = refl
 
 pub returns-clause-raw : goal.returns-clause-raw
 unfolding clap_on_literals option_in
-returns-clause-raw c = refl
+returns-clause-raw c = (refl, refl)
 
 pub returns-clause-maximum : goal.returns-clause-maximum
 unfolding clap_on_literals option_in
@@ -31,21 +27,13 @@ pub returns-clause-version : goal.returns-clause-version
 unfolding clap_on_literals
 returns-clause-version c = refl
 
-pub returns-clause-not_json : goal.returns-clause-not_json
-unfolding clap_on_literals option_in
-returns-clause-not_json c = refl
-
 pub returns-clause-json : goal.returns-clause-json
 unfolding clap_on_literals option_in
-returns-clause-json c = refl
-
-pub returns-clause-not_discarded : goal.returns-clause-not_discarded
-unfolding clap_on_literals option_in
-returns-clause-not_discarded c = refl
+returns-clause-json c = (refl, refl)
 
 pub returns-clause-discarded : goal.returns-clause-discarded
 unfolding clap_on_literals option_in
-returns-clause-discarded c = refl
+returns-clause-discarded c = (refl, refl)
 
 pub returns-clause-no_file : goal.returns-clause-no_file
 unfolding clap_on_literals text_in

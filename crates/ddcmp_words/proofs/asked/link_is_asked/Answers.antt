@@ -17,27 +17,23 @@ returns-clause-window c = refl
 
 pub returns-clause-binary : goal.returns-clause-binary
 unfolding clap_on_literals option_in
-returns-clause-binary c = refl
-
-pub returns-clause-no_binary : goal.returns-clause-no_binary
-unfolding clap_on_literals option_in
-returns-clause-no_binary c = refl
+returns-clause-binary c = (refl, refl)
 
 pub returns-clause-stay : goal.returns-clause-stay
 unfolding clap_on_literals option_in
-returns-clause-stay c = refl
+returns-clause-stay c = (refl, refl)
 
 pub returns-clause-again : goal.returns-clause-again
 unfolding clap_on_literals option_in
-returns-clause-again c = refl
+returns-clause-again c = (refl, refl)
 
 pub returns-clause-counters : goal.returns-clause-counters
 unfolding clap_on_literals option_in
-returns-clause-counters c = refl
+returns-clause-counters c = (refl, refl)
 
 pub returns-clause-trace : goal.returns-clause-trace
 unfolding clap_on_literals option_in
-returns-clause-trace c = refl
+returns-clause-trace c = (refl, refl)
 
 pub returns-clause-seconds : goal.returns-clause-seconds
 unfolding clap_on_literals option_in

@@ -21,12 +21,12 @@ returns-clause-syn c = refl
 
 pub returns-clause-restart : goal.returns-clause-restart
 unfolding clap_on_literals option_in
-returns-clause-restart c = refl
+returns-clause-restart c = (refl, refl)
 
 pub returns-clause-ladder : goal.returns-clause-ladder
 unfolding clap_on_literals option_in
-returns-clause-ladder c = refl
+returns-clause-ladder c = (refl, refl)
 
 pub returns-clause-counters : goal.returns-clause-counters
 unfolding clap_on_literals option_in
-returns-clause-counters c = refl
+returns-clause-counters c = (refl, refl)

@@ -11,10 +11,6 @@ pub returns-clause-no_window : goal.returns-clause-no_window
 unfolding clap_on_literals option_in
 returns-clause-no_window c = refl
 
-pub returns-clause-no_restart : goal.returns-clause-no_restart
-unfolding clap_on_literals option_in
-returns-clause-no_restart c = refl
-
 pub returns-clause-window : goal.returns-clause-window
 unfolding clap_on_literals option_in
 returns-clause-window c = refl
@@ -25,20 +21,16 @@ returns-clause-syn c = refl
 
 pub returns-clause-restart : goal.returns-clause-restart
 unfolding clap_on_literals option_in
-returns-clause-restart c = refl
-
-pub returns-clause-no_svg : goal.returns-clause-no_svg
-unfolding clap_on_literals option_in
-returns-clause-no_svg c = refl
+returns-clause-restart c = (refl, refl)
 
 pub returns-clause-svg : goal.returns-clause-svg
 unfolding clap_on_literals option_in
-returns-clause-svg c = refl
+returns-clause-svg c = (refl, refl)
 
 pub returns-clause-ladder : goal.returns-clause-ladder
 unfolding clap_on_literals option_in
-returns-clause-ladder c = refl
+returns-clause-ladder c = (refl, refl)
 
 pub returns-clause-counters : goal.returns-clause-counters
 unfolding clap_on_literals option_in
-returns-clause-counters c = refl
+returns-clause-counters c = (refl, refl)

@@ -25,8 +25,4 @@ returns-clause-incomplete c = refl
 
 pub returns-clause-counters : goal.returns-clause-counters
 unfolding clap_on_literals option_in
-returns-clause-counters c = refl
-
-pub returns-clause-no_counters : goal.returns-clause-no_counters
-unfolding clap_on_literals option_in
-returns-clause-no_counters c = refl
+returns-clause-counters c = (refl, refl)

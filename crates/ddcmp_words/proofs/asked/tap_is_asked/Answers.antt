@@ -17,15 +17,11 @@ returns-clause-connect c = refl
 
 pub returns-clause-json : goal.returns-clause-json
 unfolding clap_on_literals option_in
-returns-clause-json c = refl
+returns-clause-json c = (refl, refl)
 
 pub returns-clause-time : goal.returns-clause-time
 unfolding clap_on_literals option_in
-returns-clause-time c = refl
-
-pub returns-clause-no_time : goal.returns-clause-no_time
-unfolding clap_on_literals option_in
-returns-clause-no_time c = refl
+returns-clause-time c = (refl, refl)
 
 pub returns-clause-maximum : goal.returns-clause-maximum
 unfolding clap_on_literals option_in
@@ -35,10 +31,6 @@ pub returns-clause-incomplete : goal.returns-clause-incomplete
 unfolding clap_on_literals
 returns-clause-incomplete c = refl
 
-pub returns-clause-no_ladder : goal.returns-clause-no_ladder
-unfolding clap_on_literals option_in
-returns-clause-no_ladder c = refl
-
 pub returns-clause-ladder : goal.returns-clause-ladder
 unfolding clap_on_literals option_in
-returns-clause-ladder c = refl
+returns-clause-ladder c = (refl, refl)
