@@ -13,7 +13,7 @@ use Rattle.ddcmp_frame.specs.Wire.{six_bytes, wire, IsFrame}
 use Rattle.ddcmp_frame.specs.Rows.{outcome_after, outcome_at_end}
 use Rattle.ddcmp_frame.specs.Reading.{ReadItem, place_after, count_of, data_after_header, is_data_right, by_length, by_count, row, read, beginning, items, ending, open_at_end, with_more}
 use Rattle.ddcmp_frame.specs.Resume.{NoneBegins, AtMostALoss}
-use Rattle.ddcmp_frame.specs.Reader.{items_given, frame_length}
+use Rattle.ddcmp_frame.specs.Reader.{ReaderView, StandsFor, Grows, LentBeside, Pushes, items_given, frame_length}
 use Rattle.ddcmp_frame.proofs.Tests.{ok-inj, false-true, ltb-is, ltb-isnt}
 use Rattle.ddcmp_frame.proofs.SpellingLaws.{says-parsed}
 use Rattle.ddcmp_frame.proofs.WireLaws.{length-wire, wire-front, wire-data, wire-right, eight-parsed, frame_length-counted, frame_length-control, counted-frame, control-frame}
@@ -282,6 +282,19 @@ push-resumes max given lent text discarded d b h its e r f fits free =
     let k = resumes max text discarded d b h e r f fits free in
     let g = given-one given lent d (Good (length discarded) h) (append-cancel (items max text) _ _ (sym its ∙ k.found)) in
     (g.0, g.1, k.few)
+
+-- what a reader does with a byte, by what it does where it stands for a text
+pub pushes : (old : ReaderView) (b : ℕ) (given : Option Item) (new : ReaderView) → new.offset ≡ old.offset + 1 → new.max ≡ old.max → LentBeside given new.lent → length new.lent ≤ old.max → ((text : List ℕ) → StandsFor old text → Grows old b given new text) → Pushes old b given new
+pushes old b given new counted max lent within grows = record {
+  counted = counted;
+  max = max;
+  stands = λ text s. (grows text s).stands;
+  item = λ text s. (grows text s).items;
+  resynchronises = λ text discarded message h s. push-resumes old.max given new.lent text discarded message b h (grows text s).items;
+  lent = lent;
+  within = within;
+  wire = λ text s. (grows text s).wire;
+}
 
 -- ---- spellings
 

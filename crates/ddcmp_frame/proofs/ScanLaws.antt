@@ -15,7 +15,7 @@ use Rattle.ddcmp_frame.specs.Spelling.{is_start, parsed}
 use Rattle.ddcmp_frame.specs.Rows.{outcome_after}
 use Rattle.ddcmp_frame.specs.Reading.{Place, place_after, count_of, data_after_header, is_data_right, by_length, by_count, read, row, items, ending, with_more}
 use Rattle.ddcmp_frame.specs.Resume.{from_start}
-use Rattle.ddcmp_frame.specs.Reader.{ReaderView, Summarises, StandsFor, LentBeside, EndsWith, items_given, candidate_length, bytes_to_come}
+use Rattle.ddcmp_frame.specs.Reader.{ReaderView, Summarises, StandsFor, LentBeside, EndsWith, items_given, candidate_length, bytes_to_come, Grows}
 use Rattle.ddcmp_frame.specs.Scan.{IsSoundScan, HasHeader, HasFrame, FitsPhase, bytes_in, skipped_in, left_in, view_of, GrowsBy, TakesPiece, TakesAll}
 use Rattle.ddcmp_frame.proofs.Tests.{ltb-is, ltb-isnt, false-true, some-none}
 use Rattle.ddcmp_frame.proofs.WireLaws.{frame_length-counted}
@@ -655,8 +655,9 @@ stands-unlent v lent text s = record {
   place = record { lost = s.place.lost; bytes = s.place.bytes; skipped = s.place.skipped; left = s.place.left };
 }
 
--- the items that a step over one byte adds
-pub one-byte : (v w : ReaderView) (b used : ℕ) (given : Option Item) (text : List ℕ) → TakesPiece (record v { lent = [] }) (b ∷ []) used given w → StandsFor v text → items v.max (text ++ b ∷ []) ≡ items v.max text ++ items_given given w.lent
+-- what a step over one byte does
+pub one-byte : (v w : ReaderView) (b used : ℕ) (given : Option Item) (text : List ℕ) → TakesPiece (record v { lent = [] }) (b ∷ []) used given w → StandsFor v text → Grows v b given w text
 one-byte v w b used given text t s =
     let single : used ≡ 1 = omega (arith, t.within, t.some) in
-    (subst (λ n. GrowsBy (record v { lent = [] }) (take n (b ∷ [])) given w text) single (t.grows text (stands-unlent v [] text s))).items
+    let grows = subst (λ n. GrowsBy (record v { lent = [] }) (take n (b ∷ [])) given w text) single (t.grows text (stands-unlent v [] text s)) in
+    record { stands = grows.stands; items = grows.items; wire = grows.wire }

@@ -1,13 +1,18 @@
 -- What contracts see of a reader, and the texts that it stands for.
-use Rattle.std.specs.Prelude.{◌≡◌, ℕ, ◌+◌, ◌-◌, Bool, List, [], ◌∷◌, ◌++◌, length, take, drop, if◌then◌else◌, Option, Some, None, Result, Ok, Err}
+use Rattle.std.specs.Prelude.{◌≡◌, ℕ, ◌+◌, ◌-◌, ◌<◌, ◌≤◌, ◌↔◌, Bool, List, [], ◌∷◌, ◌++◌, length, take, drop, if◌then◌else◌, Option, Some, None, Result, Ok, Err, IfOk}
+use Rattle.ddcmp_num.specs.declared.limits.TheConstants.{MAX_COUNT}
 use Rattle.ddcmp_frame.specs.declared.header.Header.{Header}
 use Rattle.ddcmp_frame.specs.declared.header.Header.TheVariants.{Data, Maint, Control}
 use Rattle.ddcmp_frame.specs.declared.header.HeaderFault.{HeaderFault}
 use Rattle.ddcmp_frame.specs.declared.item.Item.{Item}
 use Rattle.ddcmp_frame.specs.declared.item.Item.TheVariants.{Good, HeaderCheck, DataCheck, TooLong, Format}
-use Rattle.ddcmp_frame.specs.Spelling.{parsed}
+use Rattle.ddcmp_frame.specs.declared.item.Pushed.{Pushed}
+use Rattle.ddcmp_frame.specs.declared.reader.ReaderRefusal.{ReaderRefusal}
+use Rattle.ddcmp_frame.specs.declared.reader.ReaderRefusal.TheVariants.{MaxZero, MaxAbove16383, Memory}
+use Rattle.ddcmp_frame.specs.Spelling.{IsInRange, parsed}
 use Rattle.ddcmp_frame.specs.Wire.{wire, IsFrame}
 use Rattle.ddcmp_frame.specs.Reading.{ReadItem, Place, items, ending}
+use Rattle.ddcmp_frame.specs.Resume.{NoneBegins, AtMostALoss}
 
 -- A reader: the most data that it takes, the number of bytes so far, whether synchronism is lost,
 -- and of the unfinished frame its bytes, or where it was told to be too long how many have come
@@ -85,3 +90,56 @@ pub record Grows (old : ReaderView) (b : ℕ) (given : Option Item) (new : Reade
   pub stands : StandsFor new (text ++ b ∷ [])
   pub items : items old.max (text ++ b ∷ []) ≡ items old.max text ++ items_given given new.lent
   pub wire : EndsWith given new.lent (text ++ b ∷ [])
+
+-- A reader of frames with at most `most` bytes of data was made, which stands for the empty text,
+-- or it was refused.
+pub record MakesReader (most : ℕ) (made : Result ReaderView ReaderRefusal) : Type 0 where
+  pub zero : (made ≡ Err MaxZero) ↔ (most ≡ 0)
+  pub above : (made ≡ Err MaxAbove16383) ↔ (MAX_COUNT < most)
+  pub memory : made ≡ Err Memory → (0 < most) × (most ≤ MAX_COUNT)
+  pub stands : IfOk made (λ reader. StandsFor reader [])
+  pub max : IfOk made (λ reader. reader.max ≡ most)
+  pub lent : IfOk made (λ reader. reader.lent ≡ [])
+
+-- a reader takes one byte
+pub record Pushes (old : ReaderView) (byte : ℕ) (given : Option Item) (new : ReaderView)
+    : Type 0 where
+  pub counted : new.offset ≡ old.offset + 1
+  pub max : new.max ≡ old.max
+  -- The reader stands for the bytes so far, and has given their items.
+  pub stands : (text : List ℕ) → StandsFor old text → StandsFor new (text ++ byte ∷ [])
+  pub item : (text : List ℕ) → StandsFor old text
+      → items old.max (text ++ byte ∷ []) ≡ items old.max text ++ items_given given new.lent
+  -- A frame after discarded bytes is found, and these cost at most one item.
+  pub resynchronises : (text discarded message : List ℕ) (h : Header) → StandsFor old text
+      → text ++ byte ∷ [] ≡ discarded ++ wire h message → IsInRange h → IsFrame h message
+      → length message ≤ old.max → NoneBegins discarded (wire h message)
+      → (given ≡ Some (Good (length discarded) h)) × (new.lent ≡ message)
+      × AtMostALoss (items old.max text)
+  -- Beside a good item its data are lent, which with the header are the last bytes.
+  pub lent : LentBeside given new.lent
+  pub within : length new.lent ≤ old.max
+  pub wire : (text : List ℕ) → StandsFor old text → EndsWith given new.lent (text ++ byte ∷ [])
+
+-- a reader takes the bytes of a piece, up to and with the first that gives an item
+pub record PushesAll (old : ReaderView) (piece : List ℕ) (pushed : Pushed) (new : ReaderView)
+    : Type 0 where
+  pub counted : new.offset ≡ old.offset + pushed.used
+  pub max : new.max ≡ old.max
+  -- The reader stands for the bytes so far, and has given their items.
+  pub stands : (text : List ℕ) → StandsFor old text
+      → StandsFor new (text ++ take pushed.used piece)
+  pub item : (text : List ℕ) → StandsFor old text
+      → items old.max (text ++ take pushed.used piece)
+      ≡ items old.max text ++ items_given pushed.item new.lent
+  -- No byte before the last one used gave an item.
+  pub first : (text : List ℕ) (n : ℕ) → StandsFor old text → n < pushed.used
+      → items old.max (text ++ take n piece) ≡ items old.max text
+  pub used : pushed.used ≤ length piece
+  pub whole : pushed.item ≡ None → pushed.used ≡ length piece
+  pub some : 0 < length piece → 0 < pushed.used
+  -- Beside a good item its data are lent, which with the header are the last bytes.
+  pub lent : LentBeside pushed.item new.lent
+  pub within : length new.lent ≤ old.max
+  pub wire : (text : List ℕ) → StandsFor old text
+      → EndsWith pushed.item new.lent (text ++ take pushed.used piece)

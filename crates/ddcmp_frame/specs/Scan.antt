@@ -4,6 +4,7 @@ use Rattle.ddcmp_num.specs.declared.limits.TheConstants.{MAX_COUNT}
 use Rattle.ddcmp_frame.specs.declared.header.Header.{Header as HeaderValue}
 use Rattle.ddcmp_frame.specs.declared.header.HeaderFault.TheVariants.{Check}
 use Rattle.ddcmp_frame.specs.declared.item.Item.{Item}
+use Rattle.ddcmp_frame.specs.declared.item.Pushed.{Pushed}
 use Rattle.ddcmp_frame.specs.declared.scan.Phase.{Phase}
 use Rattle.ddcmp_frame.specs.declared.scan.Phase.TheVariants.{Seeking, Header, Frame, TooLong}
 use Rattle.ddcmp_frame.specs.declared.scan.Candidate.{Candidate}
@@ -125,6 +126,11 @@ pub record TakesPiece (old : ReaderView) (piece : List ℕ) (used : ℕ) (given 
   pub lent : LentBeside given new.lent
   pub lent_within : length new.lent ≤ old.max
   pub grows : (text : List ℕ) → StandsFor old text → GrowsBy old (take used piece) given new text
+
+-- the same, of a scan
+abbrev pub Takes : Scan → List ℕ → Pushed → Scan → Type 0
+Takes old piece pushed new =
+    TakesPiece (view_of old) piece pushed.used pushed.item (view_of new)
 
 -- what all steps over a piece do, up to an item
 pub record TakesAll (old : ReaderView) (piece : List ℕ) (used : ℕ) (given : Option Item)

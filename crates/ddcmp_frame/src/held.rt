@@ -1,12 +1,34 @@
 //! What both readers do with the bytes of a frame that they hold.
-ghost use Rattle.std.specs.Prelude.{◌≡◌, ◌+◌, ◌<◌, ◌≤◌, ℕ, length, drop, Some, None, vec_len, vec_capacity, if◌then◌else◌};
+ghost use Rattle.std.specs.Prelude.{◌≡◌, ◌+◌, ◌<◌, ◌≤◌, ◌↔◌, ℕ, IfOk, length, drop, Some, None, vec_len, vec_capacity, if◌then◌else◌};
 ghost use Rattle.ddcmp_frame.specs.Reading.{count_of as count_in, is_data_right as data_right_in};
 ghost use Rattle.ddcmp_frame.specs.Resume.{from_start};
 ghost use Rattle.ddcmp_frame.specs.Spelling.{IsBytes};
 
 use crate::header::{Header, is_start};
 use crate::item::Item;
+use crate::reader::ReaderRefusal;
 use ddcmp_num::{MAX_COUNT, check, check_bytes};
+use std::alloc::Global;
+
+/// The memory for a frame with at most `max` bytes of data, or why no reader takes these.
+pub(crate) fn frame_buffer(alloc: Global, max: u16) -> Result<Vec<u8>, ReaderRefusal>
+    ensures zero { (result ≡ Err ReaderRefusal.MaxZero) ↔ (max ≡ 0) }
+    ensures above { (result ≡ Err ReaderRefusal.MaxAbove16383) ↔ (MAX_COUNT < max) }
+    ensures memory { result ≡ Err ReaderRefusal.Memory → (0 < max) × (max ≤ MAX_COUNT) }
+    ensures empty { IfOk result (λ buffer. vec_len buffer ≡ 0) }
+    ensures room { IfOk result (λ buffer. max + 10 ≤ vec_capacity buffer) }
+{
+    if max == 0 {
+        return Err(ReaderRefusal::MaxZero);
+    }
+    if max > MAX_COUNT {
+        return Err(ReaderRefusal::MaxAbove16383);
+    }
+    match Vec::with_capacity(alloc, max as usize + 10) {
+        Ok(buffer) => Ok(buffer),
+        Err(_) => Err(ReaderRefusal::Memory),
+    }
+}
 
 /// The item of a candidate that fails: the first of a loss of synchronism is told.
 pub(crate) fn loss(lost: bool, at: u64) -> Option<Item>

@@ -1,19 +1,15 @@
 //! The plain reader, which keeps the bytes of the unfinished frame and reads their front again with
 //! each byte: the yardstick for `Reader`, whose contract it has.
-ghost use Rattle.std.specs.Prelude.{◌≡◌, ◌+◌, ◌-◌, ◌<◌, ◌≤◌, ◌^◌, ◌↔◌, ℕ, Bool, true, false, List, [], ◌∷◌, ◌++◌, length, take, drop, IfOk, Some, None, vec_len, vec_capacity, if◌then◌else◌};
-ghost use Rattle.ddcmp_frame.specs.Spelling.{IsInRange, parsed};
-ghost use Rattle.ddcmp_frame.specs.Wire.{wire, IsFrame};
-ghost use Rattle.ddcmp_frame.specs.Reading.{row as row_at, items, count_of as count_in, by_count, open_at_end, kept_at_end};
-ghost use Rattle.ddcmp_frame.specs.Resume.{NoneBegins, AtMostALoss};
-ghost use Rattle.ddcmp_frame.specs.Reader.{StandsFor, Grows, items_given, LentBeside, EndsWith, open_of, kept_of};
+ghost use Rattle.std.specs.Prelude.{◌≡◌, ◌+◌, ◌-◌, ◌<◌, ◌≤◌, ◌^◌, ℕ, Bool, true, false, List, [], ◌∷◌, ◌++◌, length, take, drop, Some, None, vec_len, vec_capacity, if◌then◌else◌};
+ghost use Rattle.ddcmp_frame.specs.Spelling.{parsed};
+ghost use Rattle.ddcmp_frame.specs.Reading.{row as row_at, count_of as count_in, by_count, open_at_end, kept_at_end};
+ghost use Rattle.ddcmp_frame.specs.Reader.{StandsFor, Grows, LentBeside, MakesReader, Pushes, open_of, kept_of};
 ghost use Rattle.ddcmp_frame.specs.Step.{place_untold, row_of_step, Found};
-ghost use Rattle.ddcmp_frame.specs.declared.header.Header.{Header as HeaderValue};
 
 use crate::header::{Header, HeaderFault, is_start};
-use crate::held::{count_of, data_right, loss, resume};
+use crate::held::{count_of, data_right, frame_buffer, loss, resume};
 use crate::item::Item;
 use crate::reader::ReaderRefusal;
-use ddcmp_num::MAX_COUNT;
 use std::alloc::Global;
 use std::marker::Model;
 
@@ -73,20 +69,9 @@ enum Step {
 impl PlainReader {
     /// A reader of frames with at most `max` bytes of data. It takes memory for one frame.
     pub fn new(alloc: Global, max: u16) -> Result<PlainReader, ReaderRefusal>
-        ensures zero { (result ≡ Err ReaderRefusal.MaxZero) ↔ (max ≡ 0) }
-        ensures above { (result ≡ Err ReaderRefusal.MaxAbove16383) ↔ (MAX_COUNT < max) }
-        ensures memory { result ≡ Err ReaderRefusal.Memory → (0 < max) × (max ≤ MAX_COUNT) }
-        ensures stands { IfOk result (λ reader. StandsFor reader []) }
-        ensures max { IfOk result (λ reader. reader.max ≡ max) }
-        ensures lent { IfOk result (λ reader. reader.lent ≡ []) }
+        ensures { MakesReader max result }
     {
-        if max == 0 {
-            return Err(ReaderRefusal::MaxZero);
-        }
-        if max > MAX_COUNT {
-            return Err(ReaderRefusal::MaxAbove16383);
-        }
-        match Vec::with_capacity(alloc, max as usize + 10) {
+        match frame_buffer(alloc, max) {
             Ok(buffer) => Ok(PlainReader {
                 max,
                 offset: 0,
@@ -97,33 +82,14 @@ impl PlainReader {
                 left: 0,
                 lent: 0,
             }),
-            Err(_) => Err(ReaderRefusal::Memory),
+            Err(refusal) => Err(refusal),
         }
     }
 
     /// Takes one byte, and gives the item that it completes.
     pub fn push(&mut self, byte: u8) -> Option<Item>
         requires { self.old.offset + 1 < 2 ^ 64 }
-        ensures counted { self.new.offset ≡ self.old.offset + 1 }
-        ensures max { self.new.max ≡ self.old.max }
-        // The reader stands for the bytes so far, and has given their items.
-        ensures stands { (text : List ℕ) → StandsFor self.old text
-            → StandsFor self.new (text ++ byte ∷ []) }
-        ensures item { (text : List ℕ) → StandsFor self.old text
-            → items self.old.max (text ++ byte ∷ []) ≡ items self.old.max text
-            ++ items_given result self.new.lent }
-        // Beside a good item its data are lent, which with the header are the last bytes.
-        ensures lent { LentBeside result self.new.lent }
-        ensures within { length self.new.lent ≤ self.old.max }
-        ensures wire { (text : List ℕ) → StandsFor self.old text
-            → EndsWith result self.new.lent (text ++ byte ∷ []) }
-        // A frame after discarded bytes is found, and these cost at most one item.
-        ensures resynchronises { (text discarded message : List ℕ) (h : HeaderValue)
-            → StandsFor self.old text → text ++ byte ∷ [] ≡ discarded ++ wire h message
-            → IsInRange h → IsFrame h message → length message ≤ self.old.max
-            → NoneBegins discarded (wire h message)
-            → (result ≡ Some (Item.Good (length discarded) h)) × (self.new.lent ≡ message)
-            × AtMostALoss (items self.old.max text) }
+        ensures { Pushes self.old byte result self.new }
     {
         self.take(byte)
     }

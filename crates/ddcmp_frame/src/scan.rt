@@ -2,7 +2,7 @@
 ghost use Rattle.std.specs.Prelude.{◌≡◌, ◌+◌, ◌<◌, ◌≤◌, ◌^◌, ◌++◌, ℕ, true, false, length, slice_index, take, None, vec_len, vec_capacity};
 ghost use Rattle.ddcmp_frame.specs.Spelling.{is_start as is_start_byte};
 ghost use Rattle.ddcmp_frame.specs.Reader.{open_of, kept_of};
-ghost use Rattle.ddcmp_frame.specs.Scan.{IsSoundScan, IsReady, IsCandidate, TakesPiece, TakesAll, view_of};
+ghost use Rattle.ddcmp_frame.specs.Scan.{IsSoundScan, IsReady, IsCandidate, Takes, TakesAll, view_of};
 
 use crate::header::{Header, HeaderFault, is_start};
 use crate::held::{count_of, data_right, loss, resume};
@@ -80,8 +80,7 @@ impl Scan {
         requires ready { IsReady self.old piece.now }
         ensures sound { IsSoundScan self.new }
         ensures lent { result.item ≡ None → self.new.lent ≡ 0 }
-        ensures takes { TakesPiece (view_of self.old) piece.now result.used result.item
-            (view_of self.new) }
+        ensures takes { Takes self.old piece.now result self.new }
     {
         match self.phase {
             Phase::Seeking => match piece.first_chunk::<8>() {
@@ -100,8 +99,7 @@ impl Scan {
         requires phase { self.old.phase ≡ Phase.Seeking }
         ensures sound { IsSoundScan self.new }
         ensures lent { self.new.lent ≡ 0 }
-        ensures takes { TakesPiece (view_of self.old) piece.now result.used result.item
-            (view_of self.new) }
+        ensures takes { Takes self.old piece.now result self.new }
     {
         let other = before_start(piece);
         if other == piece.len() {
@@ -130,8 +128,7 @@ impl Scan {
         requires start { is_start_byte (slice_index front.now 0) ≡ true }
         ensures sound { IsSoundScan self.new }
         ensures lent { self.new.lent ≡ 0 }
-        ensures takes { TakesPiece (view_of self.old) piece.now result.used result.item
-            (view_of self.new) }
+        ensures takes { Takes self.old piece.now result self.new }
     {
         let at = self.offset;
         match candidate_at(front, self.max, at) {
@@ -173,8 +170,7 @@ impl Scan {
         requires phase { self.old.phase ≡ Phase.Header }
         ensures sound { IsSoundScan self.new }
         ensures lent { self.new.lent ≡ 0 }
-        ensures takes { TakesPiece (view_of self.old) piece.now result.used result.item
-            (view_of self.new) }
+        ensures takes { Takes self.old piece.now result self.new }
     {
         let used = piece.len().min(8 - self.buffer.len());
         keep(&mut self.buffer, &piece[..used]);
@@ -223,8 +219,7 @@ impl Scan {
         requires phase { self.old.phase ≡ Phase.Frame header count }
         ensures sound { IsSoundScan self.new }
         ensures lent { result.item ≡ None → self.new.lent ≡ 0 }
-        ensures takes { TakesPiece (view_of self.old) piece.now result.used result.item
-            (view_of self.new) }
+        ensures takes { Takes self.old piece.now result self.new }
     {
         let used = piece.len().min(count + 10 - self.buffer.len());
         keep(&mut self.buffer, &piece[..used]);
@@ -254,8 +249,7 @@ impl Scan {
         requires phase { self.old.phase ≡ Phase.TooLong skipped left }
         ensures sound { IsSoundScan self.new }
         ensures lent { self.new.lent ≡ 0 }
-        ensures takes { TakesPiece (view_of self.old) piece.now result.used result.item
-            (view_of self.new) }
+        ensures takes { Takes self.old piece.now result self.new }
     {
         let used = piece.len().min(left);
         self.offset += used as u64;
