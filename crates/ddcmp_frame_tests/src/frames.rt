@@ -4,10 +4,11 @@ ghost use Rattle.ddcmp_frame.specs.Wire.{IsFrame};
 ghost use Rattle.ddcmp_frame.specs.Reader.{frame_length};
 
 use crate::calls::{counts, data as lent_by, is, push, reader_of, reset};
+use ddcmp_frame::ControlType::{Ack, Nak, Rep, Stack, Strt};
 use ddcmp_frame::laws::wire_length;
 use ddcmp_frame::{
-    ControlType, Counted, Flags, Header, HeaderFault, Item, Nak, Reader, ReaderRefusal, Short,
-    write_frame,
+    ControlType, Counted, Flags, Header, HeaderFault, Item, Nak as Reason, Reader, ReaderRefusal,
+    Short, write_frame,
 };
 use std::alloc::{AllocError, Global};
 use std::process::Abort;
@@ -15,109 +16,25 @@ use std::test::Fail;
 
 const NO_FLAGS: Flags = Flags { q: false, s: false };
 
-const BOTH_FLAGS: Flags = Flags { q: true, s: true };
+const Q_AND_S: Flags = Flags { q: true, s: true };
 
 /// A control message and its bytes.
 type Control = (ControlType, u8, Flags, u8, u8, &'static [u8]);
 
 /// The frames of the published layouts and their bytes.
 const CONTROLS: [Control; 12] = [
-    (
-        ControlType::Strt,
-        0,
-        BOTH_FLAGS,
-        0,
-        0,
-        &[0x05, 0x06, 0xC0, 0x00, 0x00, 0x01, 0x75, 0x95],
-    ),
-    (
-        ControlType::Stack,
-        0,
-        BOTH_FLAGS,
-        0,
-        0,
-        &[0x05, 0x07, 0xC0, 0x00, 0x00, 0x01, 0x48, 0x55],
-    ),
-    (
-        ControlType::Ack,
-        0,
-        NO_FLAGS,
-        0,
-        0,
-        &[0x05, 0x01, 0x00, 0x00, 0x00, 0x01, 0xFC, 0x55],
-    ),
-    (
-        ControlType::Ack,
-        0,
-        NO_FLAGS,
-        1,
-        0,
-        &[0x05, 0x01, 0x00, 0x01, 0x00, 0x01, 0xAD, 0x95],
-    ),
-    (
-        ControlType::Ack,
-        0,
-        NO_FLAGS,
-        2,
-        0,
-        &[0x05, 0x01, 0x00, 0x02, 0x00, 0x01, 0x5D, 0x95],
-    ),
-    (
-        ControlType::Nak,
-        1,
-        NO_FLAGS,
-        0,
-        0,
-        &[0x05, 0x02, 0x01, 0x00, 0x00, 0x01, 0xB9, 0xA9],
-    ),
-    (
-        ControlType::Nak,
-        2,
-        NO_FLAGS,
-        0,
-        0,
-        &[0x05, 0x02, 0x02, 0x00, 0x00, 0x01, 0xB9, 0xED],
-    ),
-    (
-        ControlType::Nak,
-        3,
-        NO_FLAGS,
-        0,
-        0,
-        &[0x05, 0x02, 0x03, 0x00, 0x00, 0x01, 0xB8, 0x11],
-    ),
-    (
-        ControlType::Nak,
-        8,
-        NO_FLAGS,
-        1,
-        0,
-        &[0x05, 0x02, 0x08, 0x01, 0x00, 0x01, 0xEB, 0xF5],
-    ),
-    (
-        ControlType::Nak,
-        16,
-        NO_FLAGS,
-        0,
-        0,
-        &[0x05, 0x02, 0x10, 0x00, 0x00, 0x01, 0xBC, 0x95],
-    ),
-    (
-        ControlType::Rep,
-        0,
-        NO_FLAGS,
-        0,
-        1,
-        &[0x05, 0x03, 0x00, 0x00, 0x01, 0x01, 0x84, 0x05],
-    ),
-    (
-        ControlType::Rep,
-        0,
-        NO_FLAGS,
-        0,
-        2,
-        &[0x05, 0x03, 0x00, 0x00, 0x02, 0x01, 0x84, 0xF5],
-    ),
+    (Strt, 0, Q_AND_S, 0, 0, b"\x05\x06\xC0\x00\x00\x01\x75\x95"),
+    (Stack, 0, Q_AND_S, 0, 0, b"\x05\x07\xC0\x00\x00\x01\x48\x55"),
+    (Ack, 0, NO_FLAGS, 0, 0, b"\x05\x01\x00\x00\x00\x01\xFC\x55"),
+    (Ack, 0, NO_FLAGS, 1, 0, b"\x05\x01\x00\x01\x00\x01\xAD\x95"),
+    (Ack, 0, NO_FLAGS, 2, 0, b"\x05\x01\x00\x02\x00\x01\x5D\x95"),
+    (Nak, 1, NO_FLAGS, 0, 0, b"\x05\x02\x01\x00\x00\x01\xB9\xA9"),
+    (Nak, 2, NO_FLAGS, 0, 0, b"\x05\x02\x02\x00\x00\x01\xB9\xED"),
+    (Nak, 3, NO_FLAGS, 0, 0, b"\x05\x02\x03\x00\x00\x01\xB8\x11"),
+    (Nak, 8, NO_FLAGS, 1, 0, b"\x05\x02\x08\x01\x00\x01\xEB\xF5"),
+    (Nak, 16, NO_FLAGS, 0, 0, b"\x05\x02\x10\x00\x00\x01\xBC\x95"),
+    (Rep, 0, NO_FLAGS, 0, 1, b"\x05\x03\x00\x00\x01\x01\x84\x05"),
+    (Rep, 0, NO_FLAGS, 0, 2, b"\x05\x03\x00\x00\x02\x01\x84\xF5"),
 ];
 
 pub(crate) fn controls() -> &'static [Control] {
@@ -303,7 +220,7 @@ fn messages_of_the_layouts(rt: HostRuntime) -> Result<(), Fail> {
 
 #[test]
 fn maintenance_of_the_layouts(rt: HostRuntime) -> Result<(), Fail> {
-    let fields = Counted::new(3, BOTH_FLAGS, 0, 0, 1).ok_or("no header")?;
+    let fields = Counted::new(3, Q_AND_S, 0, 0, 1).ok_or("no header")?;
     both_ways(&rt, &Header::Maint(fields), b"abc", &ABC_MAINT)
 }
 
@@ -343,25 +260,25 @@ fn fields_of_headers(rt: HostRuntime) {
     is(&rt, counted(16384), None);
 }
 
-fn reason_of(sub: u8) -> Nak {
-    Nak::of(sub)
+fn reason_of(sub: u8) -> Reason {
+    Reason::of(sub)
 }
 
-fn sub_of(reason: Nak) -> u8 {
+fn sub_of(reason: Reason) -> u8 {
     reason.sub()
 }
 
 #[test]
 fn reasons_of_naks(rt: HostRuntime) {
     let reasons = [
-        (1, Nak::HeaderCheck),
-        (2, Nak::DataCheck),
-        (3, Nak::ReplyToRep),
-        (8, Nak::NoBuffer),
-        (9, Nak::Overrun),
-        (16, Nak::TooLong),
-        (17, Nak::Format),
-        (4, Nak::Other(4)),
+        (1, Reason::HeaderCheck),
+        (2, Reason::DataCheck),
+        (3, Reason::ReplyToRep),
+        (8, Reason::NoBuffer),
+        (9, Reason::Overrun),
+        (16, Reason::TooLong),
+        (17, Reason::Format),
+        (4, Reason::Other(4)),
     ];
     for (sub, reason) in reasons {
         is(&rt, reason_of(sub), reason);
@@ -456,8 +373,8 @@ fn bad_formats() -> &'static [u8] {
 
 #[test]
 fn texts(rt: HostRuntime) -> Result<(), Fail> {
-    let strt = control(ControlType::Strt, BOTH_FLAGS)?;
-    let stack = control(ControlType::Stack, BOTH_FLAGS)?;
+    let strt = control(ControlType::Strt, Q_AND_S)?;
+    let stack = control(ControlType::Stack, Q_AND_S)?;
     let items = [Item::Good(0, strt), Item::Good(11, stack)];
     is_read(&rt, with_fill(), &items, 0)?;
     let data = data_1(3)?;
