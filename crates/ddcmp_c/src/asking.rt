@@ -1,9 +1,10 @@
 //! The timer, and what is asked of a station.
-ghost use Rattle.std.specs.Prelude.{◌≡◌, ◌≢◌, false, Some, None};
+ghost use Rattle.std.specs.Prelude.{◌≡◌, false, Some, None};
 ghost use Rattle.ddcmp_core.specs.Table.{after_expire, after_take_arm, is_on, is_fresh};
 ghost use Rattle.ddcmp_core.specs.Counting.{counters_after_expire};
 ghost use Rattle.ddcmp_proto.specs.Station.{StationView};
 ghost use Rattle.ddcmp_c.specs.Codes.{given_counters, given_numbers};
+ghost use Rattle.ddcmp_c.specs.Calls.{Asks, FillsIn, with_state};
 
 use crate::handle::{Handle, put_back, take_out};
 use crate::values::{CCounters, CLOSED, CNumbers, OK, counters_of, numbers_of};
@@ -37,12 +38,8 @@ pub extern "C" fn ddcmp_expire(alloc: Global, station: &mut Handle) -> bool
 pub extern "C" fn ddcmp_take_arm(alloc: Global, station: &mut Handle) -> bool
     ensures closed { station.old.station ≡ None
         → (result ≡ false) × (station.new.station ≡ None) }
-    ensures state { (s : StationView) → station.old.station ≡ Some s → station.new.station
-        ≡ Some (record s {
-          core = record s.core {
-            station = after_take_arm s.core.station;
-          };
-        }) }
+    ensures state { (s : StationView) → station.old.station ≡ Some s
+        → station.new.station ≡ Some (with_state s (after_take_arm s.core.station)) }
     ensures answer { (s : StationView) → station.old.station ≡ Some s
         → result ≡ is_fresh s.core.station.timer }
 {
@@ -57,10 +54,8 @@ pub extern "C" fn ddcmp_take_arm(alloc: Global, station: &mut Handle) -> bool
 /// Whether the timer isn't off.
 #[unsafe(no_mangle)]
 pub extern "C" fn ddcmp_timer_on(alloc: Global, station: &mut Handle) -> bool
-    ensures closed { station.old.station ≡ None → result ≡ false }
-    ensures same { station.new.station ≡ station.old.station }
-    ensures value { (s : StationView) → station.old.station ≡ Some s
-        → result ≡ is_on s.core.station.timer }
+    ensures { Asks false (λ s. is_on s.core.station.timer)
+        station.old.station result station.new.station }
 {
     let Some(open) = take_out(alloc, station) else {
         return false;
@@ -73,12 +68,8 @@ pub extern "C" fn ddcmp_timer_on(alloc: Global, station: &mut Handle) -> bool
 /// The numbers.
 #[unsafe(no_mangle)]
 pub extern "C" fn ddcmp_numbers(alloc: Global, station: &mut Handle, numbers: &mut CNumbers) -> u32
-    ensures closed { station.old.station ≡ None
-        → (result ≡ CLOSED) × (station.new.station ≡ None) }
-    ensures same { station.new.station ≡ station.old.station }
-    ensures value { (s : StationView) → station.old.station ≡ Some s → (result ≡ OK)
-        × (numbers.new ≡ given_numbers s.core.station) }
-    ensures none { result ≢ OK → numbers.new ≡ numbers.old }
+    ensures { FillsIn (λ s. given_numbers s.core.station) station.old.station numbers.old result
+        station.new.station numbers.new }
 {
     let Some(open) = take_out(alloc, station) else {
         return CLOSED;
@@ -96,12 +87,8 @@ pub extern "C" fn ddcmp_counters(
     station: &mut Handle,
     counters: &mut CCounters,
 ) -> u32
-    ensures closed { station.old.station ≡ None
-        → (result ≡ CLOSED) × (station.new.station ≡ None) }
-    ensures same { station.new.station ≡ station.old.station }
-    ensures value { (s : StationView) → station.old.station ≡ Some s → (result ≡ OK)
-        × (counters.new ≡ given_counters s.core.counters) }
-    ensures none { result ≢ OK → counters.new ≡ counters.old }
+    ensures { FillsIn (λ s. given_counters s.core.counters) station.old.station counters.old result
+        station.new.station counters.new }
 {
     let Some(open) = take_out(alloc, station) else {
         return CLOSED;

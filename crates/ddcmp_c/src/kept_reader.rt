@@ -1,9 +1,9 @@
 //! A reader, and the most data that it takes.
-ghost use Rattle.std.specs.Prelude.{◌≡◌, ◌+◌, ◌<◌, ◌≤◌, ◌^◌, ◌↔◌, ℕ, List, [], ◌++◌, length, take, drop, IfOk, None};
-ghost use Rattle.ddcmp_frame.specs.Reading.{items, open_at_end};
-ghost use Rattle.ddcmp_frame.specs.Reader.{StandsFor, items_given, LentBeside, EndsWith, open_of};
+ghost use Rattle.std.specs.Prelude.{◌≡◌, ◌+◌, ◌<◌, ◌≤◌, ◌^◌, ℕ, List, [], ◌++◌, length, drop};
+ghost use Rattle.ddcmp_frame.specs.Reading.{open_at_end};
+ghost use Rattle.ddcmp_frame.specs.Reader.{StandsFor, MakesReader, PushesAll, open_of};
 
-use ddcmp_frame::{MAX_COUNT, Pushed, Reader, ReaderRefusal};
+use ddcmp_frame::{Pushed, Reader, ReaderRefusal};
 use std::alloc::Global;
 use std::marker::Model;
 
@@ -28,18 +28,11 @@ impl Model for KeptReader {
 impl KeptReader {
     /// A reader of frames with at most `max` bytes of data.
     pub(crate) fn new(alloc: Global, max: u16) -> Result<KeptReader, ReaderRefusal>
-        ensures zero { (result ≡ Err ReaderRefusal.MaxZero) ↔ (max ≡ 0) }
-        ensures above { (result ≡ Err ReaderRefusal.MaxAbove16383) ↔ (MAX_COUNT < max) }
-        ensures memory { result ≡ Err ReaderRefusal.Memory → (0 < max) × (max ≤ MAX_COUNT) }
-        ensures stands { IfOk result (λ reader. StandsFor reader []) }
-        ensures max { IfOk result (λ reader. reader.max ≡ max) }
-        ensures lent { IfOk result (λ reader. reader.lent ≡ []) }
+        ensures { MakesReader max result }
     {
         match Reader::new(alloc, max) {
             Ok(reader) => Ok(KeptReader { reader, max }),
-            Err(ReaderRefusal::MaxZero) => Err(ReaderRefusal::MaxZero),
-            Err(ReaderRefusal::MaxAbove16383) => Err(ReaderRefusal::MaxAbove16383),
-            Err(ReaderRefusal::Memory) => Err(ReaderRefusal::Memory),
+            Err(refusal) => Err(refusal),
         }
     }
 
@@ -53,22 +46,7 @@ impl KeptReader {
     /// Takes the bytes of a piece, up to and with the first that gives an item.
     pub(crate) fn push_all(&mut self, piece: &[u8]) -> Pushed
         requires { self.old.offset + length piece.now < 2 ^ 64 }
-        ensures counted { self.new.offset ≡ self.old.offset + result.used }
-        ensures max { self.new.max ≡ self.old.max }
-        ensures stands { (text : List ℕ) → StandsFor self.old text
-            → StandsFor self.new (text ++ take result.used piece.now) }
-        ensures item { (text : List ℕ) → StandsFor self.old text
-            → items self.old.max (text ++ take result.used piece.now) ≡ items self.old.max text
-            ++ items_given result.item self.new.lent }
-        ensures first { (text : List ℕ) (n : ℕ) → StandsFor self.old text → n < result.used
-            → items self.old.max (text ++ take n piece.now) ≡ items self.old.max text }
-        ensures used { result.used ≤ length piece.now }
-        ensures whole { result.item ≡ None → result.used ≡ length piece.now }
-        ensures some { 0 < length piece.now → 0 < result.used }
-        ensures lent { LentBeside result.item self.new.lent }
-        ensures within { length self.new.lent ≤ self.old.max }
-        ensures wire { (text : List ℕ) → StandsFor self.old text
-            → EndsWith result.item self.new.lent (text ++ take result.used piece.now) }
+        ensures { PushesAll self.old piece.now result self.new }
     {
         self.reader.push_all(piece)
     }

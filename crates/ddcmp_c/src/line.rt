@@ -7,6 +7,7 @@ ghost use Rattle.ddcmp_core.specs.Table.{next, next_frame};
 ghost use Rattle.ddcmp_proto.specs.Bytes.{frame_on_line, after_poll, after_piece, notices_of_piece};
 ghost use Rattle.ddcmp_proto.specs.Station.{StationView, held_of};
 ghost use Rattle.ddcmp_c.specs.Codes.{code_of_notices, acknowledged_of};
+ghost use Rattle.ddcmp_c.specs.Calls.{Asks};
 
 use crate::handle::{Handle, put_back, take_out};
 use crate::values::{CLOSED, CNotice, LONG_LINE, OK, ROOM, notice_code};
@@ -109,11 +110,10 @@ pub extern "C" fn ddcmp_poll(
 /// The number of bytes that the next frame has: 0 where there is none.
 #[unsafe(no_mangle)]
 pub extern "C" fn ddcmp_next_length(alloc: Global, station: &mut Handle) -> usize
-    ensures closed { station.old.station ≡ None → result ≡ 0 }
-    ensures same { station.new.station ≡ station.old.station }
-    ensures value { (s : StationView) → station.old.station ≡ Some s → result
-        ≡ unwrap_or (option_map length
-        (option_map (frame_on_line s.syn) (next_frame (next s.core.station)))) 0 }
+    ensures { Asks 0
+        (λ s. unwrap_or (option_map length
+        (option_map (frame_on_line s.syn) (next_frame (next s.core.station)))) 0)
+        station.old.station result station.new.station }
 {
     let Some(open) = take_out(alloc, station) else {
         return 0;
@@ -126,10 +126,8 @@ pub extern "C" fn ddcmp_next_length(alloc: Global, station: &mut Handle) -> usiz
 /// The room that `ddcmp_poll` wants.
 #[unsafe(no_mangle)]
 pub extern "C" fn ddcmp_frame_room(alloc: Global, station: &mut Handle) -> usize
-    ensures closed { station.old.station ≡ None → result ≡ 0 }
-    ensures same { station.new.station ≡ station.old.station }
-    ensures value { (s : StationView) → station.old.station ≡ Some s
-        → result ≡ s.syn + s.core.limits.longest + 10 }
+    ensures { Asks 0 (λ s. s.syn + s.core.limits.longest + 10)
+        station.old.station result station.new.station }
 {
     let Some(open) = take_out(alloc, station) else {
         return 0;
@@ -142,9 +140,7 @@ pub extern "C" fn ddcmp_frame_room(alloc: Global, station: &mut Handle) -> usize
 /// The number of bytes of the line since it was cleared.
 #[unsafe(no_mangle)]
 pub extern "C" fn ddcmp_offset(alloc: Global, station: &mut Handle) -> u64
-    ensures closed { station.old.station ≡ None → result ≡ 0 }
-    ensures same { station.new.station ≡ station.old.station }
-    ensures value { (s : StationView) → station.old.station ≡ Some s → result ≡ s.line.offset }
+    ensures { Asks 0 (λ s. s.line.offset) station.old.station result station.new.station }
 {
     let Some(open) = take_out(alloc, station) else {
         return 0;
@@ -157,9 +153,7 @@ pub extern "C" fn ddcmp_offset(alloc: Global, station: &mut Handle) -> u64
 /// The number of bytes from the start byte of the unfinished frame on.
 #[unsafe(no_mangle)]
 pub extern "C" fn ddcmp_open(alloc: Global, station: &mut Handle) -> usize
-    ensures closed { station.old.station ≡ None → result ≡ 0 }
-    ensures same { station.new.station ≡ station.old.station }
-    ensures value { (s : StationView) → station.old.station ≡ Some s → result ≡ open_of s.line }
+    ensures { Asks 0 (λ s. open_of s.line) station.old.station result station.new.station }
 {
     let Some(open) = take_out(alloc, station) else {
         return 0;
@@ -172,9 +166,7 @@ pub extern "C" fn ddcmp_open(alloc: Global, station: &mut Handle) -> usize
 /// The number of bytes of messages and of the unfinished frame.
 #[unsafe(no_mangle)]
 pub extern "C" fn ddcmp_held(alloc: Global, station: &mut Handle) -> usize
-    ensures closed { station.old.station ≡ None → result ≡ 0 }
-    ensures same { station.new.station ≡ station.old.station }
-    ensures value { (s : StationView) → station.old.station ≡ Some s → result ≡ held_of s }
+    ensures { Asks 0 held_of station.old.station result station.new.station }
 {
     let Some(open) = take_out(alloc, station) else {
         return 0;

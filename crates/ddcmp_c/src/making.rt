@@ -1,10 +1,11 @@
 //! A station begins, starts, halts and ends.
-ghost use Rattle.std.specs.Prelude.{◌≡◌, ◌≢◌, ℕ, [], true, false, Some, None, Ok, if◌then◌else◌};
+ghost use Rattle.std.specs.Prelude.{◌≡◌, ◌≢◌, [], true, false, Some, None};
 ghost use Rattle.ddcmp_frame.specs.Reader.{StandsFor};
-ghost use Rattle.ddcmp_core.specs.Table.{may_start, answer_to_start, after_start, after_enter_maintenance, after_halt, is_halted};
+ghost use Rattle.ddcmp_core.specs.Table.{after_start, after_enter_maintenance, after_halt, is_halted};
 ghost use Rattle.ddcmp_proto.specs.Config.{first_refusal, core_made, config_of};
 ghost use Rattle.ddcmp_proto.specs.Station.{StationView};
-ghost use Rattle.ddcmp_c.specs.Codes.{code_of_config, code_of_start_answer, code_of_state, given_config, taken_config};
+ghost use Rattle.ddcmp_c.specs.Codes.{code_of_config, code_of_state, given_config, taken_config};
+ghost use Rattle.ddcmp_c.specs.Calls.{Asks, FillsIn, Starts, with_state};
 
 use crate::handle::{Handle, put_back, take_out};
 use crate::values::{
@@ -55,11 +56,8 @@ pub extern "C" fn ddcmp_free(alloc: Global, station: &mut Handle)
 /// The sizes.
 #[unsafe(no_mangle)]
 pub extern "C" fn ddcmp_config(alloc: Global, station: &mut Handle, config: &mut CConfig) -> u32
-    ensures closed { station.old.station ≡ None → result ≡ CLOSED }
-    ensures same { station.new.station ≡ station.old.station }
-    ensures value { (s : StationView) → station.old.station ≡ Some s → (result ≡ OK)
-        × (config.new ≡ given_config (config_of s.core.limits s.syn)) }
-    ensures none { result ≢ OK → config.new ≡ config.old }
+    ensures { FillsIn (λ s. given_config (config_of s.core.limits s.syn)) station.old.station
+        config.old result station.new.station config.new }
 {
     let Some(open) = take_out(alloc, station) else {
         return CLOSED;
@@ -72,21 +70,8 @@ pub extern "C" fn ddcmp_config(alloc: Global, station: &mut Handle, config: &mut
 /// Asks the peer to start.
 #[unsafe(no_mangle)]
 pub extern "C" fn ddcmp_start(alloc: Global, station: &mut Handle, dropped: &mut u8) -> u32
-    ensures closed { station.old.station ≡ None
-        → (result ≡ CLOSED) × (station.new.station ≡ None) }
-    ensures state { (s : StationView) → station.old.station ≡ Some s → station.new.station
-        ≡ Some (record s {
-          core = record s.core {
-            station = if may_start s.core.station then after_start s.core.station
-                else s.core.station;
-          };
-        }) }
-    ensures code { (s : StationView) → station.old.station ≡ Some s → result
-        ≡ code_of_start_answer (answer_to_start s.core.station) }
-    ensures dropped { (s : StationView) (n : ℕ) → station.old.station ≡ Some s
-        → answer_to_start s.core.station ≡ Ok n → dropped.new ≡ n }
-    ensures refused { result ≢ OK → (station.new.station ≡ station.old.station)
-        × (dropped.new ≡ dropped.old) }
+    ensures { Starts after_start station.old.station dropped.old result station.new.station
+        dropped.new }
 {
     let Some(mut open) = take_out(alloc, station) else {
         return CLOSED;
@@ -103,21 +88,8 @@ pub extern "C" fn ddcmp_enter_maintenance(
     station: &mut Handle,
     dropped: &mut u8,
 ) -> u32
-    ensures closed { station.old.station ≡ None
-        → (result ≡ CLOSED) × (station.new.station ≡ None) }
-    ensures state { (s : StationView) → station.old.station ≡ Some s → station.new.station
-        ≡ Some (record s {
-          core = record s.core {
-            station = if may_start s.core.station then after_enter_maintenance s.core.station
-                else s.core.station;
-          };
-        }) }
-    ensures code { (s : StationView) → station.old.station ≡ Some s → result
-        ≡ code_of_start_answer (answer_to_start s.core.station) }
-    ensures dropped { (s : StationView) (n : ℕ) → station.old.station ≡ Some s
-        → answer_to_start s.core.station ≡ Ok n → dropped.new ≡ n }
-    ensures refused { result ≢ OK → (station.new.station ≡ station.old.station)
-        × (dropped.new ≡ dropped.old) }
+    ensures { Starts after_enter_maintenance station.old.station dropped.old result
+        station.new.station dropped.new }
 {
     let Some(mut open) = take_out(alloc, station) else {
         return CLOSED;
@@ -133,11 +105,7 @@ pub extern "C" fn ddcmp_halt(alloc: Global, station: &mut Handle) -> u32
     ensures closed { station.old.station ≡ None
         → (result ≡ CLOSED) × (station.new.station ≡ None) }
     ensures state { (s : StationView) → station.old.station ≡ Some s → (result ≡ OK)
-        × (station.new.station ≡ Some (record s {
-          core = record s.core {
-            station = after_halt s.core.station;
-          };
-        })) }
+        × (station.new.station ≡ Some (with_state s (after_halt s.core.station))) }
 {
     let Some(mut open) = take_out(alloc, station) else {
         return CLOSED;
@@ -170,10 +138,8 @@ pub extern "C" fn ddcmp_clear_line(alloc: Global, station: &mut Handle) -> bool
 /// The state: 5 where there is no station.
 #[unsafe(no_mangle)]
 pub extern "C" fn ddcmp_state(alloc: Global, station: &mut Handle) -> u32
-    ensures closed { station.old.station ≡ None → result ≡ 5 }
-    ensures same { station.new.station ≡ station.old.station }
-    ensures value { (s : StationView) → station.old.station ≡ Some s
-        → result ≡ code_of_state s.core.station.state }
+    ensures { Asks 5 (λ s. code_of_state s.core.station.state)
+        station.old.station result station.new.station }
 {
     let Some(open) = take_out(alloc, station) else {
         return 5;

@@ -5,6 +5,7 @@ ghost use Rattle.ddcmp_window.specs.Store.{first_message, with_front};
 ghost use Rattle.ddcmp_core.specs.Table.{send_refusal as send_refusal_of, answer_to_send, may_send, answer_to_send_maintenance, may_send_maintenance, after_accept, after_take};
 ghost use Rattle.ddcmp_proto.specs.Station.{StationView};
 ghost use Rattle.ddcmp_c.specs.Codes.{code_of_send_answer, code_of_send_refusal, code_of_send_maintenance_answer};
+ghost use Rattle.ddcmp_c.specs.Calls.{Asks, with_state};
 
 use crate::handle::{Handle, put_back, take_out};
 use crate::values::{ABSENT, CLOSED, OK, ROOM, refusal_code, send_code};
@@ -21,12 +22,8 @@ pub extern "C" fn ddcmp_send(
     ensures closed { station.old.station ≡ None
         → (result ≡ CLOSED) × (station.new.station ≡ None) }
     ensures state { (s : StationView) → station.old.station ≡ Some s → station.new.station
-        ≡ Some (record s {
-          core = record s.core {
-            station = if may_send s.core.limits s.core.station message.now
-                then after_accept s.core.station message.now else s.core.station;
-          };
-        }) }
+        ≡ Some (with_state s (if may_send s.core.limits s.core.station message.now
+        then after_accept s.core.station message.now else s.core.station)) }
     ensures code { (s : StationView) → station.old.station ≡ Some s → result
         ≡ code_of_send_answer (answer_to_send s.core.limits s.core.station message.now) }
     ensures number { (s : StationView) (n : SeqValue) → station.old.station ≡ Some s
@@ -48,12 +45,8 @@ pub extern "C" fn ddcmp_send_maintenance(alloc: Global, station: &mut Handle, me
     ensures closed { station.old.station ≡ None
         → (result ≡ CLOSED) × (station.new.station ≡ None) }
     ensures state { (s : StationView) → station.old.station ≡ Some s → station.new.station
-        ≡ Some (record s {
-          core = record s.core {
-            station = if may_send_maintenance s.core.limits s.core.station message.now
-                then after_accept s.core.station message.now else s.core.station;
-          };
-        }) }
+        ≡ Some (with_state s (if may_send_maintenance s.core.limits s.core.station message.now
+        then after_accept s.core.station message.now else s.core.station)) }
     ensures code { (s : StationView) → station.old.station ≡ Some s → result
         ≡ code_of_send_maintenance_answer
         (answer_to_send_maintenance s.core.limits s.core.station message.now) }
@@ -73,10 +66,9 @@ pub extern "C" fn ddcmp_send_maintenance(alloc: Global, station: &mut Handle, me
 /// Why a message isn't sent: `OK` where it is.
 #[unsafe(no_mangle)]
 pub extern "C" fn ddcmp_send_refusal(alloc: Global, station: &mut Handle, message: &[u8]) -> u32
-    ensures closed { station.old.station ≡ None → result ≡ CLOSED }
-    ensures same { station.new.station ≡ station.old.station }
-    ensures value { (s : StationView) → station.old.station ≡ Some s → result
-        ≡ code_of_send_refusal (send_refusal_of s.core.limits s.core.station message.now) }
+    ensures { Asks CLOSED
+        (λ s. code_of_send_refusal (send_refusal_of s.core.limits s.core.station message.now))
+        station.old.station result station.new.station }
 {
     let Some(open) = take_out(alloc, station) else {
         return CLOSED;
@@ -108,10 +100,8 @@ pub extern "C" fn ddcmp_room(alloc: Global, station: &mut Handle) -> bool
 /// The number of messages to send that are kept.
 #[unsafe(no_mangle)]
 pub extern "C" fn ddcmp_outgoing(alloc: Global, station: &mut Handle) -> u8
-    ensures closed { station.old.station ≡ None → result ≡ 0 }
-    ensures same { station.new.station ≡ station.old.station }
-    ensures value { (s : StationView) → station.old.station ≡ Some s
-        → result ≡ length s.core.station.out }
+    ensures { Asks 0 (λ s. length s.core.station.out)
+        station.old.station result station.new.station }
 {
     let Some(open) = take_out(alloc, station) else {
         return 0;
@@ -138,11 +128,7 @@ pub extern "C" fn ddcmp_take(
     ensures untaken { result ≢ OK → (out.new ≡ out.old) × (taken.new ≡ 0) }
     ensures state { (s : StationView) → station.old.station ≡ Some s
         → s.core.limits.longest ≤ length out.old → (result ≡ OK)
-        × (station.new.station ≡ Some (record s {
-          core = record s.core {
-            station = after_take s.core.station;
-          };
-        })) }
+        × (station.new.station ≡ Some (with_state s (after_take s.core.station))) }
     ensures length { (s : StationView) → station.old.station ≡ Some s → result ≡ OK → taken.new
         ≡ unwrap_or (option_map length (first_message s.core.station.inbox)) 0 }
     ensures out { (s : StationView) → station.old.station ≡ Some s → result ≡ OK → out.new
@@ -165,10 +151,8 @@ pub extern "C" fn ddcmp_take(
 /// The number of messages in the inbox.
 #[unsafe(no_mangle)]
 pub extern "C" fn ddcmp_waiting(alloc: Global, station: &mut Handle) -> u8
-    ensures closed { station.old.station ≡ None → result ≡ 0 }
-    ensures same { station.new.station ≡ station.old.station }
-    ensures value { (s : StationView) → station.old.station ≡ Some s
-        → result ≡ length s.core.station.inbox }
+    ensures { Asks 0 (λ s. length s.core.station.inbox)
+        station.old.station result station.new.station }
 {
     let Some(open) = take_out(alloc, station) else {
         return 0;

@@ -54,8 +54,8 @@ pub extern "C" fn ddcmp_reader_free(alloc: Global, reader: &mut ReaderHandle)
     let _open = take_out(alloc, reader);
 }
 
-/// Takes the bytes of a piece, up to and with the first that gives an item, and copies the data of a
-/// good item to the front of `out`.
+/// Takes the bytes of a piece, up to and with the first that gives an item, and copies the data of
+/// a good item to the front of `out`.
 #[unsafe(no_mangle)]
 pub extern "C" fn ddcmp_reader_push(
     alloc: Global,

@@ -1,0 +1,39 @@
+-- What the calls of C do to the station of a handle.
+use Rattle.std.specs.Prelude.{◌≡◌, ◌≢◌, ℕ, if◌then◌else◌, Option, Some, None, Ok}
+use Rattle.ddcmp_core.specs.Table.{StationState, may_start, answer_to_start}
+use Rattle.ddcmp_proto.specs.Station.{StationView}
+use Rattle.ddcmp_c.specs.declared.values.TheConstants.{OK, CLOSED}
+use Rattle.ddcmp_c.specs.Codes.{code_of_start_answer}
+
+-- a station in another state
+abbrev pub with_state : StationView → StationState → StationView
+with_state s state = record s { core = record s.core { station = state } }
+
+-- The station stays, and is asked for a value, which is `none` where there is no station.
+pub record Asks {A : Type 0} (none : A) (answer : StationView → A) (old : Option StationView)
+    (result : A) (new : Option StationView) : Type 0 where
+  pub closed : old ≡ None → result ≡ none
+  pub same : new ≡ old
+  pub value : (s : StationView) → old ≡ Some s → result ≡ answer s
+
+-- The station stays, and fills in a struct in place of `before`.
+pub record FillsIn {A : Type 0} (given : StationView → A) (old : Option StationView) (before : A)
+    (result : ℕ) (new : Option StationView) (after : A) : Type 0 where
+  pub closed : old ≡ None → (result ≡ CLOSED) × (new ≡ None)
+  pub same : new ≡ old
+  pub value : (s : StationView) → old ≡ Some s → (result ≡ OK) × (after ≡ given s)
+  pub none : result ≢ OK → after ≡ before
+
+-- A station that may start does it by `started`, and tells how many messages it dropped, in place
+-- of `before`.
+pub record Starts (started : StationState → StationState) (old : Option StationView) (before : ℕ)
+    (result : ℕ) (new : Option StationView) (after : ℕ) : Type 0 where
+  pub closed : old ≡ None → (result ≡ CLOSED) × (new ≡ None)
+  pub state : (s : StationView) → old ≡ Some s
+      → new ≡ Some (with_state s (if may_start s.core.station then started s.core.station
+      else s.core.station))
+  pub code : (s : StationView) → old ≡ Some s
+      → result ≡ code_of_start_answer (answer_to_start s.core.station)
+  pub dropped : (s : StationView) (n : ℕ) → old ≡ Some s
+      → answer_to_start s.core.station ≡ Ok n → after ≡ n
+  pub refused : result ≢ OK → (new ≡ old) × (after ≡ before)
