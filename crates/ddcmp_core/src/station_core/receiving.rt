@@ -32,11 +32,19 @@ fn is_data(header: &Header) -> bool
 
 impl<S: Store> Core<S> {
     ghost use Rattle.std.specs.Prelude.{◌≡◌, ◌+◌, ◌≤◌, length, true, None, if◌then◌else◌};
-    ghost use Rattle.ddcmp_core.specs.Table.{newly_acknowledged, after_ack, after_offer, takes_data, on_data, data_notice, on_nak, on_rep, acknowledged_notice, after_startup, on_strt, strt_notice, on_running, running_notice, on_istart, istart_notice, on_astart, astart_notice, halted_notice, on_maintenance, maintenance_notice, on, notice_of, acknowledged_by, with_incoming, incoming, has_room, Good};
+    ghost use Rattle.ddcmp_core.specs.Table.{on, notice_of, halted_notice, istart_notice};
+    ghost use Rattle.ddcmp_core.specs.Table.{after_startup, on_strt, strt_notice, on_rep, on_nak};
+    ghost use Rattle.ddcmp_core.specs.Table.{on_data, data_notice, takes_data, after_offer};
+    ghost use Rattle.ddcmp_core.specs.Table.{after_ack, newly_acknowledged, acknowledged_notice};
+    ghost use Rattle.ddcmp_core.specs.Table.{acknowledged_by, with_incoming, incoming, has_room};
     ghost use Rattle.ddcmp_window.specs.Inbox.{incoming_after_put as put_unnumbered};
-    ghost use Rattle.ddcmp_core.specs.Frames.{received, frame_of_control, FitsHeader};
+    ghost use Rattle.ddcmp_core.specs.Frames.{received, FitsHeader};
     ghost use Rattle.ddcmp_core.specs.Core.{is_sent_reply};
-    ghost use Rattle.ddcmp_core.specs.Counting.{counters_after_up_if, running_counters, astart_counters, maintenance_counters, counters_on};
+    ghost use Rattle.ddcmp_core.specs.Counting.{counters_after_up_if, counters_on};
+    ghost use Rattle.ddcmp_core.specs.Receiving.{received_control, counters_on_data};
+    ghost use Rattle.ddcmp_core.specs.Receiving.{core_on_istart, core_on_astart, told_in_astart};
+    ghost use Rattle.ddcmp_core.specs.Receiving.{core_on_running, told_in_running};
+    ghost use Rattle.ddcmp_core.specs.Receiving.{core_on_maintenance, told_in_maintenance};
 
     /// What comes from the line: what the user is told.
     #[tactic(auto, unfolding(crate::specs::Table::on, crate::specs::Table::notice_of, crate::specs::Counting::counters_on))]
@@ -79,8 +87,7 @@ impl<S: Store> Core<S> {
 
     fn on_istart(&mut self, input: &Input<'_>) -> Option<Notice>
         requires { self.old.station.state ≡ State.IStart }
-        ensures state { self.new
-            ≡ record self.old { station = on_istart self.old.station (received input.now) } }
+        ensures state { self.new ≡ core_on_istart (received input.now) self.old }
         ensures told { result ≡ istart_notice (received input.now) }
     {
         match input {
@@ -95,10 +102,8 @@ impl<S: Store> Core<S> {
 
     fn on_istart_control(&mut self, header: Short) -> Option<Notice>
         requires { self.old.station.state ≡ State.IStart }
-        ensures state { self.new ≡ record self.old {
-          station = on_istart self.old.station (Good (frame_of_control header.kind header));
-        } }
-        ensures told { result ≡ istart_notice (Good (frame_of_control header.kind header)) }
+        ensures state { self.new ≡ core_on_istart (received_control header) self.old }
+        ensures told { result ≡ istart_notice (received_control header) }
     {
         match header.kind {
             ControlType::Strt => {
@@ -127,13 +132,8 @@ impl<S: Store> Core<S> {
     fn on_astart(&mut self, input: &Input<'_>) -> Option<Notice>
         requires astart { self.old.station.state ≡ State.AStart }
         requires within { FitsHeader self.old.limits.longest input.now }
-        ensures state { self.new ≡ record self.old {
-          station = on_astart self.old.limits self.old.station (received input.now);
-          counters = astart_counters self.old.limits self.old.station
-              (received input.now) self.old.counters;
-        } }
-        ensures told { result
-            ≡ astart_notice self.old.limits self.old.station (received input.now) }
+        ensures state { self.new ≡ core_on_astart (received input.now) self.old }
+        ensures told { result ≡ told_in_astart (received input.now) self.old }
     {
         match input {
             Input::Good(header, message) => match header {
@@ -156,13 +156,8 @@ impl<S: Store> Core<S> {
 
     fn on_astart_control(&mut self, header: Short) -> Option<Notice>
         requires { self.old.station.state ≡ State.AStart }
-        ensures state { self.new ≡ record self.old {
-          station = on_astart self.old.limits self.old.station (Good
-              (frame_of_control header.kind header));
-        } }
-        ensures told { result
-            ≡ astart_notice self.old.limits self.old.station (Good
-            (frame_of_control header.kind header)) }
+        ensures state { self.new ≡ core_on_astart (received_control header) self.old }
+        ensures told { result ≡ told_in_astart (received_control header) self.old }
     {
         match header.kind {
             ControlType::Stack => {
@@ -185,13 +180,8 @@ impl<S: Store> Core<S> {
     fn on_running(&mut self, input: &Input<'_>) -> Option<Notice>
         requires running { self.old.station.state ≡ State.Running }
         requires within { FitsHeader self.old.limits.longest input.now }
-        ensures state { self.new ≡ record self.old {
-          station = on_running self.old.limits self.old.station (received input.now);
-          counters = running_counters self.old.limits self.old.station
-              (received input.now) self.old.counters;
-        } }
-        ensures told { result
-            ≡ running_notice self.old.limits self.old.station (received input.now) }
+        ensures state { self.new ≡ core_on_running (received input.now) self.old }
+        ensures told { result ≡ told_in_running (received input.now) self.old }
     {
         match input {
             Input::Good(header, message) => match header {
@@ -210,15 +200,8 @@ impl<S: Store> Core<S> {
 
     fn on_running_control(&mut self, header: Short) -> Option<Notice>
         requires { self.old.station.state ≡ State.Running }
-        ensures state { self.new ≡ record self.old {
-          station = on_running self.old.limits self.old.station (Good
-              (frame_of_control header.kind header));
-          counters = running_counters self.old.limits self.old.station
-              (Good (frame_of_control header.kind header)) self.old.counters;
-        } }
-        ensures told { result
-            ≡ running_notice self.old.limits self.old.station (Good
-            (frame_of_control header.kind header)) }
+        ensures state { self.new ≡ core_on_running (received_control header) self.old }
+        ensures told { result ≡ told_in_running (received_control header) self.old }
     {
         match header.kind {
             ControlType::Strt => Some(self.on_strt()),
@@ -313,8 +296,7 @@ impl<S: Store> Core<S> {
         requires longest { length message.now ≤ self.old.limits.longest }
         ensures state { self.new ≡ record self.old {
           station = on_data self.old.limits self.old.station header.resp header.num message.now;
-          counters = counters_after_up_if (takes_data self.old.limits self.old.station header.num)
-              (length message.now) self.old.counters;
+          counters = counters_on_data header.num message.now self.old;
         } }
         ensures told { result
             ≡ data_notice self.old.limits self.old.station header.resp header.num }
@@ -337,8 +319,7 @@ impl<S: Store> Core<S> {
         requires longest { length message.now ≤ self.old.limits.longest }
         ensures state { self.new ≡ record self.old {
           station = after_offer self.old.limits self.old.station header.num message.now;
-          counters = counters_after_up_if (takes_data self.old.limits self.old.station header.num)
-              (length message.now) self.old.counters;
+          counters = counters_on_data header.num message.now self.old;
         } }
         ensures taken { result ≡ takes_data self.old.limits self.old.station header.num }
     {
@@ -360,13 +341,8 @@ impl<S: Store> Core<S> {
     fn on_maintenance(&mut self, input: &Input<'_>) -> Option<Notice>
         requires maintenance { self.old.station.state ≡ State.Maintenance }
         requires within { FitsHeader self.old.limits.longest input.now }
-        ensures state { self.new ≡ record self.old {
-          station = on_maintenance self.old.limits self.old.station (received input.now);
-          counters = maintenance_counters self.old.limits self.old.station
-              (received input.now) self.old.counters;
-        } }
-        ensures told { result
-            ≡ maintenance_notice self.old.limits self.old.station (received input.now) }
+        ensures state { self.new ≡ core_on_maintenance (received input.now) self.old }
+        ensures told { result ≡ told_in_maintenance (received input.now) self.old }
     {
         match input {
             Input::Good(header, message) => match header {
