@@ -1,13 +1,16 @@
 -- Links as callers of their stations: which calls of its station each call of a link is, and two links
 -- over streams.
-use Rattle.std.specs.Prelude.{◌≡◌, ℕ, ◌+◌, ◌≤◌, if◌then◌else◌, List, [], ◌∷◌, ◌++◌, length, take, option_to_list}
+use Rattle.std.specs.Prelude.{◌≡◌, ℕ, ◌+◌, ◌≤◌, if◌then◌else◌, List, [], ◌∷◌, ◌++◌, length, take}
+use Rattle.std.specs.Prelude.{None, option_to_list}
 use Rattle.ddcmp_frame.specs.Reader.{ReaderView}
 use Rattle.ddcmp_core.specs.Store.{first_message}
 use Rattle.ddcmp_core.specs.Table.{after_halt, may_send}
 use Rattle.ddcmp_proto.specs.Bytes.{after_piece, notices_of_piece}
+use Rattle.ddcmp_proto.specs.Config.{first_refusal}
 use Rattle.ddcmp_proto.specs.declared.config.Config.{Config}
 use Rattle.ddcmp_station.specs.Driving.{deadline_at, core_after_take_arm}
-use Rattle.ddcmp_link.specs.Linking.{LinkView, with_state, started, anew, after_wake, after_offered, polls, after_frame, after_sent, after_taking, link_made}
+use Rattle.ddcmp_link.specs.Linking.{LinkView, with_state, started, anew, after_wake, after_offered}
+use Rattle.ddcmp_link.specs.Linking.{polls, after_frame, after_sent, after_taking, link_made}
 use Rattle.ddcmp_run.specs.declared.event.End.{End}
 use Rattle.ddcmp_run.specs.declared.event.End.TheVariants.{A, B}
 use Rattle.ddcmp_run.specs.Prefix.{IsPrefixOf}
@@ -233,6 +236,18 @@ new_links first milliseconds line second other_milliseconds other_line = record 
   a = new_history first milliseconds line;
   b = new_history second other_milliseconds other_line;
 }
+
+-- A promise about two links' histories is kept over streams: it holds for two new links of any sizes
+-- in range, each started at most once, whatever the calls, the moments and the cuts.
+abbrev pub IsKeptOverStreams : (Links → Type 0) → Type 0
+IsKeptOverStreams Promise = (first second : Config) (milliseconds other_milliseconds : ℕ)
+    (line other_line : ReaderView) (steps : List (End × LinkStep))
+    → first_refusal first ≡ None → first_refusal second ≡ None
+    → LinkOverStreams steps
+    (new_links first milliseconds line second other_milliseconds other_line)
+    → AreStartedOnce steps
+    → Promise (after_steps steps
+    (new_links first milliseconds line second other_milliseconds other_line))
 
 -- the messages that a link's user took, and behind them the mail that waits for it
 abbrev pub received : LinkHistory → List (List ℕ)
