@@ -4,7 +4,7 @@ use Rattle.std.specs.Prelude.{replicate, ◌==◌, ◌&&◌}
 use Rattle.std.proofs.Math.Bool.{xor}
 use Rattle.std.proofs.lemmas.List.{length-replicate, append-nil, take-append-drop}
 use Rattle.ddcmp_num.specs.Check.{low_bits, bits, add, divisor_rest, remainder, number, check_of, check_pair}
-use Rattle.ddcmp_num.proofs.Division.{length-add, add-append, add_swap, add-zeros, add-assoc, add_comm_bits, bits-append, length-low_bits, number-low_bits, low_bits-number}
+use Rattle.ddcmp_num.proofs.Division.{shift, run, divided, length-shift, length-add, add-append, add_swap, add-zeros, bits-append, length-low_bits, number-low_bits, low_bits-number}
 use Rattle.ddcmp_frame.specs.declared.header.Header.{Header}
 use Rattle.ddcmp_frame.specs.declared.header.HeaderFault.{HeaderFault}
 use Rattle.ddcmp_frame.specs.declared.header.HeaderFault.TheVariants.{NotAStart, Check, BadType, CountZero}
@@ -18,57 +18,7 @@ use Rattle.ddcmp_laws.specs.Damage.{DiffersInABurst, DiffersInOneByte}
 abbrev zeros : ℕ → List Bool
 zeros n = replicate n false
 
-xor_turned : (a b : Bool) → xor a b ≡ xor b a
-unfolding xor
-xor_turned true true = refl
-xor_turned true false = refl
-xor_turned false true = refl
-xor_turned false false = refl
-
 -- ---- the register of the check, whose steps are those of the division
-
--- one step of the register
-shift : List Bool → List Bool
-shift [] = []
-shift (false ∷ r) = r ++ false ∷ []
-shift (true ∷ r) = add divisor_rest (r ++ false ∷ [])
-
--- the register after these bits
-run : List Bool → List Bool → List Bool
-run [] r = r
-run (b ∷ bs) r = run bs (shift (add (b ∷ []) r))
-
-length-divisor : length divisor_rest ≡ 16
-unfolding divisor_rest
-length-divisor = refl
-
-length-shift : (x : Bool) (r : List Bool) → length r ≡ 15 → length (shift (x ∷ r)) ≡ 16
-unfolding shift divisor_rest
-length-shift false r h = omega (arith, length-append r (false ∷ []))
-length-shift true r h =
-    let e = length-append r (false ∷ []) in
-    omega (arith, length-add divisor_rest (r ++ false ∷ []) (omega arith))
-
--- one step of division is one step of the register
-divide_one : (k : ℕ) (x : Bool) (r q : List Bool) → length r ≡ 15 → 16 ≤ length q → remainder (suc k) (x ∷ add r q) ≡ remainder k (add (shift (x ∷ r)) q)
-unfolding shift remainder
-divide_one k false r q h l = ap (remainder k) (sym (add-zeros r q 1 (omega arith)))
-divide_one k true r q h l =
-    let e = length-append r (false ∷ []) in
-    let a : add (add divisor_rest (r ++ false ∷ [])) q ≡ add divisor_rest (add (r ++ false ∷ []) q) = add-assoc divisor_rest (r ++ false ∷ []) q (omega (arith, length-divisor)) in
-    ap (remainder k) (sym (a ∙ ap (add divisor_rest) (add-zeros r q 1 (omega arith))))
-
--- division is a run of the register
-divided : (bs r : List Bool) → length r ≡ 16 → remainder (length bs) (add r (bs ++ replicate 16 false)) ≡ run bs r
-unfolding remainder run add
-divided [] r h = add_comm_bits r (replicate 16 false) ∙ add-zeros [] r 16 (omega arith)
-divided (b ∷ bs) [] h = absurd (omega arith)
-divided (b ∷ bs) (x ∷ r) h =
-    let e = length-append bs (replicate 16 false) in
-    let z = simp length-replicate at (length-append bs (replicate 16 false)) in
-    divide_one (length bs) (xor x b) r (bs ++ replicate 16 false) (omega arith) (omega arith)
-    ∙ divided bs (shift (xor x b ∷ r)) (length-shift (xor x b) r (omega arith))
-    ∙ ap (λ t. run bs (shift (t ∷ r))) (xor_turned x b)
 
 run-append : (xs ys r : List Bool) → run (xs ++ ys) r ≡ run ys (run xs r)
 unfolding run
