@@ -41,29 +41,15 @@ pub struct Short {
 
 impl Model for Short {
     ghost use Rattle.std.specs.Prelude.{◌<◌};
-    ghost use Rattle.ddcmp_frame.specs.Fields.{ShortFields};
+    ghost use Rattle.ddcmp_frame.specs.Fields.{ShortFields, short_fields, short_struct};
 
     ghost Value = { ShortFields };
 
-    ghost view = { λ h. record {
-      kind = h.kind;
-      sub = h.sub;
-      flags = h.flags;
-      resp = h.resp;
-      num = h.num;
-      addr = h.addr;
-    } };
+    ghost view = { short_fields };
 
     ghost invariant = { λ h. h.sub < 64 };
 
-    ghost inverse = { λ h. record {
-      kind = h.kind;
-      sub = h.sub;
-      flags = h.flags;
-      resp = h.resp;
-      num = h.num;
-      addr = h.addr;
-    } };
+    ghost inverse = { short_struct };
 }
 
 impl Short {
@@ -116,27 +102,15 @@ pub struct Counted {
 impl Model for Counted {
     ghost use Rattle.std.specs.Prelude.{◌<◌, ◌≤◌};
     ghost use Rattle.ddcmp_num.specs.declared.limits.TheConstants.{MAX_COUNT};
-    ghost use Rattle.ddcmp_frame.specs.Fields.{CountedFields};
+    ghost use Rattle.ddcmp_frame.specs.Fields.{CountedFields, counted_fields, counted_struct};
 
     ghost Value = { CountedFields };
 
-    ghost view = { λ h. record {
-      count = h.count;
-      flags = h.flags;
-      resp = h.resp;
-      num = h.num;
-      addr = h.addr;
-    } };
+    ghost view = { counted_fields };
 
     ghost invariant = { λ h. (0 < h.count) × (h.count ≤ MAX_COUNT) };
 
-    ghost inverse = { λ h. record {
-      count = h.count;
-      flags = h.flags;
-      resp = h.resp;
-      num = h.num;
-      addr = h.addr;
-    } };
+    ghost inverse = { counted_struct };
 }
 
 impl Counted {
