@@ -1,5 +1,6 @@
 -- Driven stations: which calls the turns of `drive` are, and what their users saw.
-use Rattle.std.specs.Prelude.{◌≡◌, ℕ, ◌≤◌, ◌&&◌, nat_le, if◌then◌else◌, List, [], ◌∷◌, ◌++◌, length, map, replicate, option_to_list, Option, Some, None}
+use Rattle.std.specs.Prelude.{◌≡◌, ℕ, ◌≤◌, ◌&&◌, nat_le, if◌then◌else◌, List, [], ◌∷◌, ◌++◌, length}
+use Rattle.std.specs.Prelude.{map, replicate, option_to_list, Option, Some, None}
 use Rattle.std.specs.List.{flat_map}
 use Rattle.std.specs.Io.KnownBytes.{Appends, Consumes}
 use Rattle.ddcmp_frame.specs.Reader.{StandsFor}
@@ -11,14 +12,18 @@ use Rattle.ddcmp_proto.specs.Bytes.{after_piece}
 use Rattle.ddcmp_proto.specs.Config.{core_made}
 use Rattle.ddcmp_proto.specs.declared.config.Config.{Config}
 use Rattle.ddcmp_proto.specs.Station.{StationView}
-use Rattle.ddcmp_station.specs.UserCalls.{UserCall, Asked, Told, Handed, is_user_asked, calls_of_offer, calls_of_notices}
-use Rattle.ddcmp_station.specs.Driving.{DriveTurn, Driving, driving_from, Devices, deadline_at, is_due, core_after_take_arm, core_after_halt, before_offer, before_read, after_turn, after_turns, bytes_read}
+use Rattle.ddcmp_station.specs.UserCalls.{UserCall, Asked, Told, Handed, is_user_asked}
+use Rattle.ddcmp_station.specs.UserCalls.{calls_of_offer, calls_of_notices}
+use Rattle.ddcmp_station.specs.Driving.{DriveTurn, Driving, driving_from, Devices, deadline_at}
+use Rattle.ddcmp_station.specs.Driving.{is_due, core_after_take_arm, core_after_halt, before_offer}
+use Rattle.ddcmp_station.specs.Driving.{before_read, after_turn, after_turns, bytes_read}
 use Rattle.ddcmp_run.specs.declared.event.End.{End}
 use Rattle.ddcmp_run.specs.declared.event.End.TheVariants.{A, B}
 use Rattle.ddcmp_run.specs.Prefix.{IsPrefixOf}
 use Rattle.ddcmp_run.specs.Run.{EndState, acknowledged_in, notices_at}
 use Rattle.ddcmp_laws.specs.Faithful.{written, Begins}
-use Rattle.ddcmp_callers.specs.Calls.{Call, Start, Halt, Send, Poll, Arrive, Expire, Take, Arm, after_calls_here, after_call_here, calls_at}
+use Rattle.ddcmp_callers.specs.Calls.{Call, Start, Halt, Send, Poll, Arrive, Expire, Take, Arm}
+use Rattle.ddcmp_callers.specs.Calls.{after_calls_here, after_call_here, calls_at}
 
 -- ---- what a user sees of calls
 
@@ -58,8 +63,8 @@ handed_to seen = flat_map handed_of seen
 abbrev pub acknowledged_to : List UserCall → ℕ
 acknowledged_to seen = acknowledged_in (flat_map told_of seen)
 
--- One user was handed the first of the messages that were accepted of the other, in their order, each
--- once and unchanged; and the other was told acknowledged no more of them.
+-- One user was handed the first of the messages that were accepted of the other, in their order,
+-- each once and unchanged; and the other was told acknowledged no more of them.
 pub record Reaches (giver taker : List UserCall) : Type 0 where
   pub order : IsPrefixOf (handed_to taker) (accepted_from giver)
   pub acknowledged : acknowledged_to giver ≤ length (handed_to taker)
@@ -73,11 +78,13 @@ calls_of_timer now deadline k =
 abbrev pub calls_of_message : List ℕ → CoreView → List Call
 calls_of_message offered k = if is_user_asked k then Send offered ∷ [] else []
 
--- up to its read: the timer is looked after, a user that is asked gives a message, a frame is written
+-- up to its read: the timer is looked after, a user that is asked gives a message, a frame is
+-- written
 abbrev pub calls_before_read : ℕ → DriveTurn → Driving → List Call
 calls_before_read milliseconds turn d =
     (Arm ∷ calls_of_timer turn.now
-    (deadline_at milliseconds turn.now d.core.station.timer d.deadline) (core_after_take_arm d.core))
+    (deadline_at milliseconds turn.now d.core.station.timer d.deadline)
+    (core_after_take_arm d.core))
     ++ (calls_of_message turn.offered (before_offer milliseconds turn d) ++ Poll ∷ [])
 
 -- its read: what came arrives, and all mail is taken
@@ -150,16 +157,16 @@ calls_of_drives syn (call ∷ rest) d =
 
 -- ---- calls and turns are the same
 
--- These calls at an end leave the station and the text of its line as they are driven, write the same
--- bytes behind those before, and the user sees the same.
+-- These calls at an end leave the station and the text of its line as they are driven, write the
+-- same bytes behind those before, and the user sees the same.
 pub record Does (calls : List Call) (x : EndState) (d : Driving) : Type 0 where
   pub core : (after_calls_here calls x).core ≡ d.core
   pub text : (after_calls_here calls x).arrived ≡ d.text
   pub written : written (after_calls_here calls x) ≡ written x ++ d.written
   pub seen : shown_in calls x ≡ d.seen
 
--- A station was driven by this call of `drive`, as its contract says: it took from the source what its
--- turns read and brought the sink what they wrote, or where it broke off a beginning of that.
+-- A station was driven by this call of `drive`, as its contract says: it took from the source what
+-- its turns read and brought the sink what they wrote, or where it broke off a beginning of that.
 pub record IsDriven (milliseconds : ℕ) (call : DriveCall) (old new : StationView)
     (devices : Devices) (saw : List UserCall → Type 0) : Type 0 where
   pub timer : call.milliseconds ≡ milliseconds

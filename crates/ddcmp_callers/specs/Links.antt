@@ -1,5 +1,5 @@
--- Links as callers of their stations: which calls of its station each call of a link is, and two links
--- over streams.
+-- Links as callers of their stations: which calls of its station each call of a link is, and two
+-- links over streams.
 use Rattle.std.specs.Prelude.{◌≡◌, ℕ, ◌+◌, ◌≤◌, if◌then◌else◌, List, [], ◌∷◌, ◌++◌, length, take}
 use Rattle.std.specs.Prelude.{None, option_to_list}
 use Rattle.ddcmp_frame.specs.Reader.{ReaderView}
@@ -21,8 +21,8 @@ use Rattle.ddcmp_callers.specs.Driven.{calls_of_timer}
 
 -- ---- calls of a link
 
--- A call of a link, by its name: with the moment that it was told, the message that it was given, the
--- bytes that it used, or how many bytes its line took. A call of `fill` is some of `fill_one`.
+-- A call of a link, by its name: with the moment that it was told, the message that it was given,
+-- the bytes that it used, or how many bytes its line took. A call of `fill` is some of `fill_one`.
 pub data LinkCall : Type 0 where
   Starts : LinkCall
   BeginsAnew : LinkCall
@@ -40,7 +40,8 @@ station_calls Starts d = Start ∷ []
 station_calls BeginsAnew d = Halt ∷ Start ∷ []
 station_calls Halts d = Halt ∷ []
 station_calls (Wakes now) d =
-    Arm ∷ calls_of_timer now (deadline_at d.milliseconds now d.station.core.station.timer d.deadline)
+    Arm ∷ calls_of_timer now
+    (deadline_at d.milliseconds now d.station.core.station.timer d.deadline)
     (core_after_take_arm d.station.core)
 station_calls (Offers message) d = Send message ∷ []
 station_calls FillsOne d = if polls d then Poll ∷ [] else []
@@ -197,7 +198,8 @@ pub record AreStreams (p : Links) : Type 0 where
   pub to_a : Begins p.a.used p.b.gone
   pub to_b : Begins p.b.used p.a.gone
 
--- Each step is a call of one of two links, as its contract says, and after each the lines are streams.
+-- Each step is a call of one of two links, as its contract says, and after each the lines are
+-- streams.
 abbrev pub LinkOverStreams : List (End × LinkStep) → Links → Type 0
 LinkOverStreams [] p = Unit {0}
 LinkOverStreams (step ∷ rest) p =
@@ -237,8 +239,8 @@ new_links first milliseconds line second other_milliseconds other_line = record 
   b = new_history second other_milliseconds other_line;
 }
 
--- A promise about two links' histories is kept over streams: it holds for two new links of any sizes
--- in range, each started at most once, whatever the calls, the moments and the cuts.
+-- A promise about two links' histories is kept over streams: it holds for two new links of any
+-- sizes in range, each started at most once, whatever the calls, the moments and the cuts.
 abbrev pub IsKeptOverStreams : (Links → Type 0) → Type 0
 IsKeptOverStreams Promise = (first second : Config) (milliseconds other_milliseconds : ℕ)
     (line other_line : ReaderView) (steps : List (End × LinkStep))
@@ -253,8 +255,8 @@ IsKeptOverStreams Promise = (first second : Config) (milliseconds other_millisec
 abbrev pub received : LinkHistory → List (List ℕ)
 received h = h.taken ++ h.link.station.core.station.inbox
 
--- What one link received are the first of the messages that the other accepted, in their order, each
--- once and unchanged; and the other told no more of them acknowledged.
+-- What one link received are the first of the messages that the other accepted, in their order,
+-- each once and unchanged; and the other told no more of them acknowledged.
 pub record LinkReaches (giver taker : LinkHistory) : Type 0 where
   pub order : IsPrefixOf (received taker) giver.accepted
   pub acknowledged : giver.acknowledged ≤ length (received taker)

@@ -2,16 +2,23 @@
 ghost use Rattle.std.specs.Prelude.{◌≡◌, ◌+◌, ◌++◌, ℕ, List, [], ◌∷◌, length, true, false, None};
 ghost use Rattle.std.specs.List.{All};
 ghost use Rattle.ddcmp_core.specs.declared.counters.Counters.{Counters as CountersValue};
-ghost use Rattle.ddcmp_core.specs.Counting.{counters_on, counters_after_next, counters_after_expire};
+ghost use Rattle.ddcmp_core.specs.Counting.{counters_on, counters_after_next};
+ghost use Rattle.ddcmp_core.specs.Counting.{counters_after_expire};
 ghost use Rattle.ddcmp_core.specs.Laws.{tells_restart};
-ghost use Rattle.ddcmp_core.specs.Table.{Limits, StationState, Received, on, notice_of, next, next_frame, after_next, is_on, is_fresh, answer_to_start, after_start, after_enter_maintenance, after_halt, answer_to_send, answer_to_send_maintenance, after_accept, after_take, after_expire, after_take_arm};
+ghost use Rattle.ddcmp_core.specs.Table.{Limits, StationState, Received, on, notice_of, next};
+ghost use Rattle.ddcmp_core.specs.Table.{next_frame, after_next, is_on, is_fresh, answer_to_start};
+ghost use Rattle.ddcmp_core.specs.Table.{after_start, after_enter_maintenance, after_halt};
+ghost use Rattle.ddcmp_core.specs.Table.{answer_to_send, answer_to_send_maintenance, after_accept};
+ghost use Rattle.ddcmp_core.specs.Table.{after_take, after_expire, after_take_arm};
 ghost use Rattle.ddcmp_proto.specs.Config.{first_refusal};
 ghost use Rattle.ddcmp_proto.specs.declared.config.Config.{Config as ConfigValue};
 ghost use Rattle.ddcmp_run.specs.declared.event.End.{End as EndValue};
 ghost use Rattle.ddcmp_run.specs.declared.event.Event.{Event as EventValue};
-ghost use Rattle.ddcmp_run.specs.Run.{EndState, PairState, at, handed_up, notices_at, reply_to, run, new_pair, is_clean};
+ghost use Rattle.ddcmp_run.specs.Run.{EndState, PairState, at, handed_up, notices_at, reply_to};
+ghost use Rattle.ddcmp_run.specs.Run.{run, new_pair, is_clean};
 ghost use Rattle.ddcmp_run.specs.InOrder.{IsInOrder, IsLink};
-ghost use Rattle.ddcmp_callers.specs.Calls.{Call, Arrive, after_call, run_calls, events_in, IsStartedOnce, IsSameStation, IsSamePair};
+ghost use Rattle.ddcmp_callers.specs.Calls.{Call, Arrive, after_call, run_calls, events_in};
+ghost use Rattle.ddcmp_callers.specs.Calls.{IsStartedOnce, IsSameStation, IsSamePair};
 
 /// Whether a station knows already that its timer was started makes no difference but to the call
 /// that asks: every other call takes two stations that are the same but for that to two such
@@ -49,9 +56,9 @@ pub fn fresh_is_on()
 {}
 
 /// The headline for every caller. For two new stations of any sizes in range, after every list of
-/// calls: what is promised of a run's events. Where each end is started at most once, an honest line
-/// makes the calls clean. Calls do what the events do that they are, but that those don't ask for
-/// the start of a timer.
+/// calls: what is promised of a run's events. Where each end is started at most once, an honest
+/// line makes the calls clean. Calls do what the events do that they are, but that those don't ask
+/// for the start of a timer.
 pub fn every_caller()
     ensures order { (first second : ConfigValue) (calls : List (EndValue × Call))
         → first_refusal first ≡ None → first_refusal second ≡ None

@@ -1,12 +1,14 @@
-//! What joins the laws of links to the code: for each call of a link a function that makes it, whose
-//! contract says that it is that call of a history.
-ghost use Rattle.std.specs.Prelude.{◌≡◌, ◌≤◌, ◌∷◌, ◌++◌, ℕ, List, [], if◌then◌else◌, is_ok, None, min, length, take, option_map, option_to_list};
+//! What joins the laws of links to the code: for each call of a link a function that makes it,
+//! whose contract says that it is that call of a history.
+ghost use Rattle.std.specs.Prelude.{◌≡◌, ◌≤◌, ◌∷◌, ◌++◌, ℕ, List, [], if◌then◌else◌, is_ok, None};
+ghost use Rattle.std.specs.Prelude.{min, length, take, option_map, option_to_list};
 ghost use Rattle.ddcmp_frame.specs.Reader.{StandsFor};
 ghost use Rattle.ddcmp_core.specs.Table.{acknowledged_by, after_halt, answer_to_start};
 ghost use Rattle.ddcmp_link.specs.Linking.{countable, answer_to_offered, puts_frame};
 ghost use Rattle.ddcmp_proto.specs.Bytes.{notices_of_piece};
 ghost use Rattle.ddcmp_run.specs.Run.{acknowledged_in};
-ghost use Rattle.ddcmp_callers.specs.Links.{Starts, BeginsAnew, Halts, Wakes, Offers, FillsOne, IsSent, Feeds, Takes, HasDone, accepted_by, taken_by};
+ghost use Rattle.ddcmp_callers.specs.Links.{Starts, BeginsAnew, Halts, Wakes, Offers, FillsOne};
+ghost use Rattle.ddcmp_callers.specs.Links.{IsSent, Feeds, Takes, HasDone, accepted_by, taken_by};
 
 use ddcmp_link::{Fed, Link, SendRefusal, StartRefusal};
 

@@ -10,10 +10,10 @@ ghost use Rattle.ddcmp_callers.specs.Links.{new_history, after_step, IsHistory, 
 ghost use Rattle.ddcmp_callers.specs.Links.{calls_in_history, offered_in, sent_in, IsSameEnd};
 ghost use Rattle.ddcmp_callers.specs.Links.{IsKeptOverStreams, LinkReaches, received};
 
-/// Each call of a link is calls of its station, and so is a history of calls. They leave the station
-/// as the link leaves it; what the link's line took, and behind it what waits for the line, is what
-/// their polls wrote; the messages that it accepted are theirs, and the mail that it gave. Each
-/// message that it was offered goes to `send` once, in order.
+/// Each call of a link is calls of its station, and so is a history of calls. They leave the
+/// station as the link leaves it; what the link's line took, and behind it what waits for the line,
+/// is what their polls wrote; the messages that it accepted are theirs, and the mail that it gave.
+/// Each message that it was offered goes to `send` once, in order.
 pub fn link_calls_are_calls()
     ensures begins { (config : ConfigValue) (milliseconds : ℕ) (line : ReaderView)
         → IsSameEnd (new_end config) (new_history config milliseconds line) }
@@ -27,8 +27,8 @@ pub fn link_calls_are_calls()
         → sent_in (calls_in_history steps h) ≡ offered_in steps }
 {}
 
-/// Two new links of any sizes in range, each started at most once, over streams: whatever the calls,
-/// the moments and the cuts, the user of each takes the first of the messages that the other
+/// Two new links of any sizes in range, each started at most once, over streams: whatever the
+/// calls, the moments and the cuts, the user of each takes the first of the messages that the other
 /// accepted, in their order, each once and unchanged, and is told acknowledged no more than came.
 pub fn links_over_a_stream()
     ensures to_b { IsKeptOverStreams (λ p. LinkReaches p.a p.b) }

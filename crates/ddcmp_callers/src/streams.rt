@@ -18,9 +18,9 @@ pub fn stream_is_honest()
 {}
 
 /// Two new stations of any sizes in range, each started once and then driven over streams: whatever
-/// the turns, the clocks, the users and the cuts, each user is handed the first of the messages that
-/// were accepted of the other, in their order, each once and unchanged, and is told acknowledged no
-/// more than the other was handed.
+/// the turns, the clocks, the users and the cuts, each user is handed the first of the messages
+/// that were accepted of the other, in their order, each once and unchanged, and is told
+/// acknowledged no more than the other was handed.
 pub fn over_a_stream()
     ensures to_b { (first second : ConfigValue) (a b : List DriveCall)
         (calls : List (EndValue × Call))

@@ -7,16 +7,19 @@ ghost use Rattle.ddcmp_station.specs.declared.driving.Driven.{Driven as DrivenVa
 ghost use Rattle.ddcmp_station.specs.declared.driving.LineFault.{LineFault as LineFaultValue};
 ghost use Rattle.ddcmp_station.specs.declared.driving.LineFault.TheVariants.{Memory};
 ghost use Rattle.ddcmp_station.specs.UserCalls.{Calls};
-ghost use Rattle.ddcmp_station.specs.Driving.{DriveTurn, Devices, Drives, driving_from, after_turns};
+ghost use Rattle.ddcmp_station.specs.Driving.{DriveTurn, Devices, Drives, driving_from};
+ghost use Rattle.ddcmp_station.specs.Driving.{after_turns};
 ghost use Rattle.ddcmp_run.specs.declared.event.End.{End as EndValue};
 ghost use Rattle.ddcmp_run.specs.Run.{EndState, run, new_pair, acknowledged_in};
 ghost use Rattle.ddcmp_callers.specs.Calls.{Call, after_calls_here, run_calls};
-ghost use Rattle.ddcmp_callers.specs.Driven.{shown_in, accepted_from, handed_to, acknowledged_to, calls_of_turns, DriveCall, driven, calls_of_drive, Does, IsDriven, Reaches, AreDriven, seen_of};
+ghost use Rattle.ddcmp_callers.specs.Driven.{shown_in, accepted_from, handed_to, acknowledged_to};
+ghost use Rattle.ddcmp_callers.specs.Driven.{calls_of_turns, DriveCall, driven, calls_of_drive};
+ghost use Rattle.ddcmp_callers.specs.Driven.{Does, IsDriven, Reaches, AreDriven, seen_of};
 
 use ddcmp_station::User;
 
-/// What the histories of an end hold is what its user saw of the calls: what was accepted of it, what
-/// it was handed, and how many it was told acknowledged.
+/// What the histories of an end hold is what its user saw of the calls: what was accepted of it,
+/// what it was handed, and how many it was told acknowledged.
 pub fn users_see_histories()
     ensures given { (calls : List Call) (x : EndState)
         → (after_calls_here calls x).given ≡ x.given ++ accepted_from (shown_in calls x) }
@@ -27,8 +30,8 @@ pub fn users_see_histories()
         ≡ x.acknowledged + acknowledged_to (shown_in calls x) }
 {}
 
-/// Turns of `drive` are calls: they leave the station and its line as those calls do, write the same
-/// bytes, and the user sees the same. So is a whole call of `drive`, also where it broke off.
+/// Turns of `drive` are calls: they leave the station and its line as those calls do, write the
+/// same bytes, and the user sees the same. So is a whole call of `drive`, also where it broke off.
 pub fn turns_are_calls()
     ensures turns { (milliseconds : ℕ) (turns : List DriveTurn) (x : EndState)
         → Does (calls_of_turns milliseconds x.syn turns (driving_from x.core x.arrived)) x
@@ -48,10 +51,10 @@ pub fn contract_is_a_call<U: User>()
         × IsDriven milliseconds call old new devices (Calls U.becomes before after) }
 {}
 
-/// Two new stations of any sizes in range, each started once and then driven by any calls of `drive`:
-/// in whatever order their calls are made, where the line is honest each user is handed the first of
-/// the messages that were accepted of the other, in their order, each once and unchanged, and is
-/// told acknowledged no more than the other was handed.
+/// Two new stations of any sizes in range, each started once and then driven by any calls of
+/// `drive`: in whatever order their calls are made, where the line is honest each user is handed
+/// the first of the messages that were accepted of the other, in their order, each once and
+/// unchanged, and is told acknowledged no more than the other was handed.
 pub fn driven_in_order()
     ensures to_b { (first second : ConfigValue) (a b : List DriveCall)
         (calls : List (EndValue × Call))
