@@ -3,8 +3,6 @@
 #![tactic(auto)]
 
 #[cfg(test)]
-mod draws;
-#[cfg(test)]
 mod driving;
 #[cfg(test)]
 mod largest;

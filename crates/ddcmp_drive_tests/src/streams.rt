@@ -3,12 +3,12 @@
 //! compared with what the laws of `ddcmp_callers` say, in plain code.
 ghost use Rattle.std.specs.Prelude.{◌≤◌, length};
 
-use crate::draws::Draws;
 use crate::same::is;
 use ddcmp_frame::failing::{Pieces, Taken};
 use ddcmp_station::{Clock, Config, Driven, LineFault, Notice, Sink, Station, User, drive};
 use std::alloc::Global;
 use std::process::Abort;
+use test_kit::Draws;
 
 /// A user who gives drawn messages, and keeps what it saw.
 #[derive(Drop)]
@@ -92,7 +92,7 @@ impl Clock for Drifting {
         if self.leaps && self.draws.once_in(30) {
             self.now = self.draws.next();
         }
-        let step = self.draws.among([0, 1, 100, 700]);
+        let step = self.draws.among(&[0, 1, 100, 700]);
         self.now = self.now.saturating_add(step);
         self.now
     }
@@ -207,7 +207,7 @@ impl Cuts {
         let mut rest = bytes;
         let mut pieces: [&[u8]; 3] = [&[]; 3];
         for i in 0..3usize {
-            let most = self.draws.among([0, 3, 12, 255]);
+            let most = self.draws.among(&[0, 3, 12, 255]);
             let (front, back) = rest.split_at((self.draws.up_to(most) as usize).min(rest.len()));
             pieces[i] = front;
             rest = back;
@@ -227,7 +227,7 @@ impl Cuts {
     /// No fault, or at which call.
     fn fault(&mut self) -> usize {
         if self.has_faults && self.draws.once_in(300) {
-            self.draws.among([1, 2, 3, 5])
+            self.draws.among(&[1, 2, 3, 5])
         } else {
             0
         }
@@ -237,8 +237,8 @@ impl Cuts {
 /// Sizes that are drawn, with this longest message.
 fn sizes(draws: &mut Draws, max: u16) -> Config {
     Config {
-        window: draws.among([1, 2, 7, 255]),
-        inbox: draws.among([1, 3, 8, 255]),
+        window: draws.among(&[1, 2, 7, 255]),
+        inbox: draws.among(&[1, 3, 8, 255]),
         max,
         syn: draws.up_to(3),
         restart: draws.once_in(2),

@@ -4,8 +4,6 @@
 #[cfg(test)]
 mod damage;
 #[cfg(test)]
-mod draws;
-#[cfg(test)]
 mod link;
 #[cfg(test)]
 mod readers;

@@ -2,10 +2,10 @@
 //! comes between them; the seed is the test's own, so each run is the same.
 ghost use Rattle.std.specs.Prelude.{◌<◌};
 
-use crate::draws::Draws;
 use crate::link::{Link, copy_of};
 use ddcmp_line::{Config, End, Event};
 use std::process::Abort;
+use test_kit::Draws;
 
 /// The sizes of one end.
 fn draw_config(draws: &mut Draws, max: u16) -> Config {

@@ -16,11 +16,23 @@ impl Draws {
         mixed ^ (mixed >> 31)
     }
 
+    /// A number below this one.
+    pub fn below(&mut self, bound: usize) -> usize
+        requires { 0 < bound }
+        ensures { result < bound }
+    {
+        (self.next() % bound as u64) as usize
+    }
+
     /// A number up to this one.
     pub fn up_to(&mut self, most: u8) -> u8
         ensures { result ≤ most }
     {
         (self.next() % (most as u64 + 1)) as u8
+    }
+
+    pub fn byte(&mut self) -> u8 {
+        (self.next() & 0xFF) as u8
     }
 
     /// Once in so many times.
@@ -31,7 +43,9 @@ impl Draws {
     }
 
     /// One of these.
-    pub fn among<T: Copy>(&mut self, choices: [T; 4]) -> T {
-        choices[self.up_to(3) as usize]
+    pub fn among<T: Copy>(&mut self, choices: &[T]) -> T
+        requires { 0 < length choices.now }
+    {
+        choices[self.below(choices.len())]
     }
 }
