@@ -14,6 +14,7 @@ mod outlet;
 mod report;
 mod running;
 mod service;
+mod system;
 mod trace;
 mod waiting;
 
@@ -21,3 +22,4 @@ pub use fault::{Attempt, NotOpened, ServiceFault};
 pub use line_name::LineName;
 pub use messages::Form;
 pub use service::{Options, Served, serve_link};
+pub use system::System;

@@ -9,6 +9,7 @@ use crate::opening::{Opened, Opener};
 use crate::outlet::Outlet;
 use crate::report::Told;
 use crate::running::{Desk, Kept, MOST_TEXT, Stop, Streams};
+use crate::system::System;
 use crate::trace::Trace;
 use crate::waiting::{Waiting, Wanted};
 use ddcmp_frame::ReaderRefusal;
@@ -112,20 +113,14 @@ where
 
 /// Opens the line: none where the time was over first. A line that can't be opened is told, and
 /// tried again where that is asked for.
-fn open_line<'a, S>(
+fn open_line<'a, S: System>(
     system: &S,
     options: &Options<'a>,
     opener: &mut Opener<'a>,
     waiting: &mut Waiting,
     clock: &mut Elapsed<'_, S>,
     is_first: bool,
-) -> Result<Option<Line>, NotOpened<'a>>
-where
-    S: Net<Stream = net::TcpStream, Listener = net::TcpListener>
-        + Files<File = File>
-        + Eprint
-        + time::Clock,
-{
+) -> Result<Option<Line>, NotOpened<'a>> {
     for _try in 0..u64::MAX {
         let moments = Moments::at(clock.now(), options);
         if moments.is_over() {
@@ -229,20 +224,14 @@ fn leave_line<E: Eprint, W: Sink>(
 }
 
 /// Runs the link over one line after the other, until all is delivered or a line ends for good.
-fn run_lines<'a, S, R: Source, W: Sink>(
+fn run_lines<'a, S: System, R: Source, W: Sink>(
     system: &S,
     options: &Options<'a>,
     desk: &mut Desk,
     waiting: &mut Waiting,
     reader: &mut R,
     writer: &mut W,
-) -> Result<(), Ended<'a>>
-where
-    S: Net<Stream = net::TcpStream, Listener = net::TcpListener>
-        + Files<File = File>
-        + Eprint
-        + time::Clock,
-{
+) -> Result<(), Ended<'a>> {
     let mut opener = Opener::new(options.line);
     if let Err(fault) = begin_listening(system, &mut opener, waiting) {
         return Err(Ended::Open(fault));
@@ -300,18 +289,13 @@ fn end<S: Eprint, W: Sink>(
 
 /// Runs a link between a line and standard input and output, which `reader` and `writer` read and
 /// write, until all of the input is delivered, or the line ends.
-pub fn serve_link<'a, S, R: Source, W: Sink>(
+pub fn serve_link<'a, S: System, R: Source, W: Sink>(
     system: &S,
     alloc: Global,
     options: Options<'a>,
     reader: &mut R,
     writer: &mut W,
 ) -> Result<Served, ServiceFault<'a>>
-where
-    S: Net<Stream = net::TcpStream, Listener = net::TcpListener>
-        + Files<File = File>
-        + Eprint
-        + time::Clock,
     ensures broken { (result ≡ Err ServiceFault.Write) ↔ IsTrue (W.broken writer.new) }
 {
     match make_desk(system, alloc, &options) {
@@ -321,7 +305,7 @@ where
 }
 
 /// Runs a link that was made, between its devices.
-fn serve_desk<'a, S, R: Source, W: Sink>(
+fn serve_desk<'a, S: System, R: Source, W: Sink>(
     system: &S,
     alloc: Global,
     options: &Options<'a>,
@@ -329,11 +313,6 @@ fn serve_desk<'a, S, R: Source, W: Sink>(
     reader: &mut R,
     writer: &mut W,
 ) -> Result<Served, ServiceFault<'a>>
-where
-    S: Net<Stream = net::TcpStream, Listener = net::TcpListener>
-        + Files<File = File>
-        + Eprint
-        + time::Clock,
     ensures broken { (result ≡ Err ServiceFault.Write) ↔ IsTrue (W.broken writer.new) }
 {
     match Waiting::new(system, alloc) {
@@ -352,7 +331,7 @@ fn no_epoll<'a>(kind: ErrorKind) -> Ended<'a> {
 }
 
 /// Runs a link that has all that it needs.
-fn serve<'a, S, R: Source, W: Sink>(
+fn serve<'a, S: System, R: Source, W: Sink>(
     system: &S,
     options: &Options<'a>,
     desk: &mut Desk,
@@ -360,11 +339,6 @@ fn serve<'a, S, R: Source, W: Sink>(
     reader: &mut R,
     writer: &mut W,
 ) -> Result<Served, ServiceFault<'a>>
-where
-    S: Net<Stream = net::TcpStream, Listener = net::TcpListener>
-        + Files<File = File>
-        + Eprint
-        + time::Clock,
     ensures broken { (result ≡ Err ServiceFault.Write) ↔ IsTrue (W.broken writer.new) }
 {
     let ended = run_lines(system, options, desk, waiting, reader, writer);
