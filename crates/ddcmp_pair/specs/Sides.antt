@@ -1,5 +1,6 @@
 -- What contracts see of one end of a pair, and what holds of each.
-use Rattle.std.specs.Prelude.{◌≡◌, ℕ, ◌+◌, ◌<◌, ◌≤◌, false, List, [], length, slice_index_or, Option, Some}
+use Rattle.std.specs.Prelude.{◌≡◌, ℕ, ◌+◌, ◌<◌, ◌≤◌, false, List, [], length, slice_index_or}
+use Rattle.std.specs.Prelude.{Option, Some}
 use Rattle.ddcmp_frame.specs.Reader.{ReaderView, StandsFor}
 use Rattle.ddcmp_frame.specs.Reading.{good_frames}
 use Rattle.ddcmp_core.specs.Table.{is_halted}
@@ -12,6 +13,20 @@ use Rattle.ddcmp_run.specs.Run.{EndState}
 pub record SideView : Type 0 where
   pub state : EndState
   pub place : Option ℕ
+
+-- the end whose station this is, with what it has done since the line was cleared
+abbrev pub end_with : StationView → List (List ℕ) → List (List ℕ) → List WholeFrame → List ℕ
+    → ℕ → ℕ → EndState
+end_with station given taken sent arrived acknowledged starts = record {
+  core = station.core;
+  syn = station.syn;
+  given = given;
+  taken = taken;
+  sent = sent;
+  arrived = arrived;
+  acknowledged = acknowledged;
+  starts = starts;
+}
 
 -- What was told acknowledged had been accepted; so had, where this end isn't halted, what is kept.
 -- What was taken is no longer than what this end receives.

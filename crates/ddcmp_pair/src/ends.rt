@@ -36,7 +36,9 @@ impl Model for Ends {
 
 impl Ends {
     ghost use Rattle.std.specs.Prelude.{◌≡◌, Some, IsOk, IfOk, OnErr, false};
-    ghost use Rattle.ddcmp_run.specs.Run.{after_event, after_event_at, reply_to, reply_at, asks_memory, asks_at, clear_refusal as clear_refusal_of, after_clear_by, reply_to_clear, at, is_clean};
+    ghost use Rattle.ddcmp_run.specs.Run.{after_event, after_event_at, reply_to, reply_at};
+    ghost use Rattle.ddcmp_run.specs.Run.{asks_memory, asks_at, clear_refusal as clear_refusal_of};
+    ghost use Rattle.ddcmp_run.specs.Run.{after_clear_by, reply_to_clear, at, is_clean};
 
     /// Does what happens, and answers it.
     #[tactic(auto, unfolding(ddcmp_run::specs::Run::after_event, ddcmp_run::specs::Run::reply_to, ddcmp_run::specs::Run::asks_memory))]

@@ -1,5 +1,6 @@
 //! Frames that are kept: their headers, and their data one behind another.
-ghost use Rattle.std.specs.Prelude.{◌≡◌, ◌↔◌, ◌<◌, ◌≤◌, ◌++◌, ◌∷◌, [], IsOk, IsTrue, get_or, length};
+ghost use Rattle.std.specs.Prelude.{◌≡◌, ◌↔◌, ◌<◌, ◌≤◌, ◌++◌, ◌∷◌, [], IsOk, IsTrue, get_or};
+ghost use Rattle.std.specs.Prelude.{length};
 ghost use Rattle.ddcmp_run.specs.Place.{WholeFrame};
 
 use crate::messages::Messages;

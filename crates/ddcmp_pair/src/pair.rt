@@ -40,12 +40,14 @@ impl Model for Pair {
 }
 
 impl Pair {
-    ghost use Rattle.std.specs.Prelude.{◌≡◌, ◌⊎◌, ◌<◌, ◌≤◌, true, false, [], length, slice_index_or, max, Some, None, Err, IsOk, IfOk, OnErr};
+    ghost use Rattle.std.specs.Prelude.{◌≡◌, ◌⊎◌, ◌<◌, ◌≤◌, true, false, [], length};
+    ghost use Rattle.std.specs.Prelude.{slice_index_or, max, Some, None, Err, IsOk, IfOk, OnErr};
     ghost use Rattle.ddcmp_frame.specs.Reader.{StandsFor};
     ghost use Rattle.ddcmp_core.specs.Store.{with_front};
     ghost use Rattle.ddcmp_proto.specs.Config.{first_refusal, config_of};
     ghost use Rattle.ddcmp_run.specs.declared.event.End.{End as EndValue};
-    ghost use Rattle.ddcmp_run.specs.Run.{new_pair, after_event, reply_to, asks_memory, at, handed_up, is_clean};
+    ghost use Rattle.ddcmp_run.specs.Run.{new_pair, after_event, reply_to, asks_memory, at};
+    ghost use Rattle.ddcmp_run.specs.Run.{handed_up, is_clean};
     ghost use Rattle.ddcmp_run.specs.InOrder.{IsRun, IsInOrder, NoRestart};
 
     /// Two stations begun over an empty line.

@@ -47,7 +47,8 @@ impl Pair {
     ghost use Rattle.ddcmp_run.specs.Run.{at};
     ghost use Rattle.ddcmp_run.specs.InOrder.{IsInOrder};
     ghost use Rattle.ddcmp_run.specs.Settle.{WantsMemory, most_exchanges};
-    ghost use Rattle.ddcmp_run.specs.Recovery.{rounding, rounded, recovering, recovered, is_ready, larger_window, IsDone, IsRepaired};
+    ghost use Rattle.ddcmp_run.specs.Recovery.{rounding, rounded, recovering, recovered, is_ready};
+    ghost use Rattle.ddcmp_run.specs.Recovery.{larger_window, IsDone, IsRepaired};
 
     /// Both timers run out, where they are on, and then the line settles.
     pub fn round(&mut self) -> Result<Settled, Memory>
@@ -110,7 +111,8 @@ impl Pair {
     ghost use Rattle.std.specs.Prelude.{◌≡◌, ◌↔◌, ◌≤◌, ◌<◌, [], length, slice_index_or, IsTrue};
     ghost use Rattle.ddcmp_run.specs.Run.{at, handed_up};
     ghost use Rattle.ddcmp_run.specs.Settle.{other};
-    ghost use Rattle.ddcmp_run.specs.Recovery.{is_ready, is_ready_here, is_done, IsDelivered, IsDone};
+    ghost use Rattle.ddcmp_run.specs.Recovery.{is_ready, is_ready_here, is_done, IsDelivered};
+    ghost use Rattle.ddcmp_run.specs.Recovery.{IsDone};
 
     /// Whether an honest and clean run has led here, both ends have begun, no frame is unfinished,
     /// and both ends have one `max`: from here a recovery repairs the line.

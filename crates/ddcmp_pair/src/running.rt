@@ -1,5 +1,6 @@
 //! A run from its beginning.
-ghost use Rattle.std.specs.Prelude.{◌≡◌, ◌≢◌, ◌⊎◌, ◌<◌, ℕ, length, take, true, Some, None, Err, slice_index_or, IsOk, IfOk};
+ghost use Rattle.std.specs.Prelude.{◌≡◌, ◌≢◌, ◌⊎◌, ◌<◌, ℕ, length, take, true, Some, None, Err};
+ghost use Rattle.std.specs.Prelude.{slice_index_or, IsOk, IfOk};
 ghost use Rattle.ddcmp_proto.specs.Config.{first_refusal};
 ghost use Rattle.ddcmp_run.specs.declared.event.Event.TheVariants as event_value;
 ghost use Rattle.ddcmp_run.specs.Run.{PairState, new_pair, asks_memory, run as run_of};
@@ -19,30 +20,6 @@ pub enum RunRefusal {
     Second(ConfigRefusal),
     /// Memory was refused: the pair is as after the first `done` events.
     Memory { done: usize, pair: Pair },
-}
-
-/// Two new ends, or why a run hasn't begun.
-fn begun(alloc: Global, first: Config, second: Config) -> Result<Pair, RunRefusal>
-    ensures made { IfOk result (λ pair. pair ≡ new_pair first second) }
-    ensures memory { (done : ℕ) (pair : PairState) → result ≢ Err (RunRefusal.Memory done pair) }
-    ensures first_size { (refusal : ConfigRefusal) → first_refusal first ≡ Some refusal → result
-        ≡ Err (RunRefusal.First refusal) }
-    ensures second_size { (refusal : ConfigRefusal) → first_refusal first ≡ None
-        → first_refusal second ≡ Some refusal
-        → (result ≡ Err (RunRefusal.Second refusal))
-        ⊎ (result ≡ Err (RunRefusal.First ConfigRefusal.Memory)) }
-    ensures first { (refusal : ConfigRefusal) → result ≡ Err (RunRefusal.First refusal)
-        → (first_refusal first ≡ Some refusal)
-        ⊎ ((refusal ≡ ConfigRefusal.Memory) × (first_refusal first ≡ None)) }
-    ensures second { (refusal : ConfigRefusal) → result ≡ Err (RunRefusal.Second refusal)
-        → (first_refusal first ≡ None) × ((first_refusal second ≡ Some refusal)
-        ⊎ ((refusal ≡ ConfigRefusal.Memory) × (first_refusal second ≡ None))) }
-{
-    match Pair::new(alloc, first, second) {
-        Ok(pair) => Ok(pair),
-        Err(PairRefusal::First(refusal)) => Err(RunRefusal::First(refusal)),
-        Err(PairRefusal::Second(refusal)) => Err(RunRefusal::Second(refusal)),
-    }
 }
 
 /// Does events, up to one that memory is refused to; then it answers how many were done.
@@ -93,9 +70,10 @@ pub fn run(
         → (first_refusal first ≡ None) × ((first_refusal second ≡ Some refusal)
         ⊎ ((refusal ≡ ConfigRefusal.Memory) × (first_refusal second ≡ None))) }
 {
-    let mut pair = match begun(alloc, first, second) {
-        Ok(begun) => begun,
-        Err(refusal) => return Err(refusal),
+    let mut pair = match Pair::new(alloc, first, second) {
+        Ok(pair) => pair,
+        Err(PairRefusal::First(refusal)) => return Err(RunRefusal::First(refusal)),
+        Err(PairRefusal::Second(refusal)) => return Err(RunRefusal::Second(refusal)),
     };
     let played = play(&mut pair, events);
     pair.is_run();

@@ -17,7 +17,8 @@ impl Pair {
     ghost use Rattle.ddcmp_run.specs.declared.event.End.{End as EndValue};
     ghost use Rattle.ddcmp_run.specs.Run.{at, run};
     ghost use Rattle.ddcmp_run.specs.InOrder.{IsInOrder};
-    ghost use Rattle.ddcmp_run.specs.Settle.{settling, settled, exchange, either_writes, crossing, writes, mail_events, WantsMemory};
+    ghost use Rattle.ddcmp_run.specs.Settle.{settling, settled, exchange, either_writes, crossing};
+    ghost use Rattle.ddcmp_run.specs.Settle.{writes, mail_events, WantsMemory};
 
     /// Takes all mail, and then carries frames to and fro until neither end writes one. What was
     /// sent before and hasn't arrived never arrives.

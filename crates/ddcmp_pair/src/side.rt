@@ -48,46 +48,34 @@ impl Drop for Side {
 
 impl Model for Side {
     ghost use Rattle.std.specs.Prelude.{◌≡◌, ◌+◌, ◌<◌, ◌^◌, length, vec_len};
-    ghost use Rattle.ddcmp_pair.specs.Sides.{SideView, IsSoundEnd, HasRead};
+    ghost use Rattle.ddcmp_pair.specs.Sides.{SideView, end_with, IsSoundEnd, HasRead};
 
     ghost Value = { SideView };
 
     ghost view = { λ s. record {
-      state = record {
-        core = s.station.core;
-        syn = s.station.syn;
-        given = s.given.all;
-        taken = s.taken.all;
-        sent = s.sent.all;
-        arrived = s.arrived.items;
-        acknowledged = s.acknowledged;
-        starts = s.starts;
-      };
+      state = end_with s.station s.given.all s.taken.all s.sent.all s.arrived.items
+          s.acknowledged s.starts;
       place = s.place;
     } };
 
     ghost invariant = { λ s. HasRead s.station s.reader s.arrived.items
-        × IsSoundEnd (record {
-          core = s.station.core;
-          syn = s.station.syn;
-          given = s.given.all;
-          taken = s.taken.all;
-          sent = s.sent.all;
-          arrived = s.arrived.items;
-          acknowledged = s.acknowledged;
-          starts = s.starts;
-        })
+        × IsSoundEnd (end_with s.station s.given.all s.taken.all s.sent.all s.arrived.items
+        s.acknowledged s.starts)
         × (vec_len s.buffer ≡ s.station.syn + s.station.core.limits.longest + 10)
         × (length s.given.all < 2 ^ 63) };
 }
 
 impl Side {
-    ghost use Rattle.std.specs.Prelude.{◌≡◌, ◌⊎◌, ◌<◌, ◌≤◌, true, false, ◌&&◌, nat_le, [], length, slice_index_or, Some, None, is_some, Err, IsOk, IfOk, OnErr};
+    ghost use Rattle.std.specs.Prelude.{◌≡◌, ◌⊎◌, ◌<◌, ◌≤◌, true, false, ◌&&◌, nat_le, [], length};
+    ghost use Rattle.std.specs.Prelude.{slice_index_or, Some, None, is_some, Err, IsOk, IfOk};
+    ghost use Rattle.std.specs.Prelude.{OnErr};
     ghost use Rattle.ddcmp_proto.specs.Config.{first_refusal};
     ghost use Rattle.ddcmp_frame.specs.Reader.{StandsFor};
     ghost use Rattle.ddcmp_core.specs.Store.{with_front};
     ghost use Rattle.ddcmp_core.specs.Table.{is_halted, answer_to_start};
-    ghost use Rattle.ddcmp_run.specs.Run.{new_end, after_start_here, after_event_here, started, reply_here, is_honest_here, cleared, handed_up, asks_here};
+    ghost use Rattle.ddcmp_run.specs.Run.{new_end, after_start_here, after_event_here, started};
+    ghost use Rattle.ddcmp_run.specs.Run.{reply_here, is_honest_here, cleared, handed_up};
+    ghost use Rattle.ddcmp_run.specs.Run.{asks_here};
     ghost use Rattle.ddcmp_pair.specs.Sides.{IsPlaced};
 
     /// An end with nothing done.

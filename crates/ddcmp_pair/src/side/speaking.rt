@@ -77,7 +77,8 @@ impl Side {
     ghost use Rattle.std.specs.Prelude.{false, nat_lt, is_some, IsOk, IfOk, OnErr};
     ghost use Rattle.ddcmp_core.specs.Store.{first_message};
     ghost use Rattle.ddcmp_core.specs.Table.{answer_to_send, may_send};
-    ghost use Rattle.ddcmp_run.specs.Run.{after_send_here, accepted, after_poll_here, wrote, line_bytes, after_take_here, took};
+    ghost use Rattle.ddcmp_run.specs.Run.{after_send_here, accepted, after_poll_here, wrote};
+    ghost use Rattle.ddcmp_run.specs.Run.{line_bytes, after_take_here, took};
 
     /// The user sends a message.
     pub(super) fn send(&mut self, message: &[u8]) -> Result<Reply, Memory>

@@ -14,33 +14,27 @@ pair_of : PairState → Result PairState RunRefusal → PairState
 pair_of _ (Err (Memory _ pair)) = pair
 pair_of other _ = other
 
-pub returns-in-Err-played-clause-memory : goal.returns-in-Err-played-clause-memory
+pub returns-in-Err-clause-memory : goal.returns-in-Err-clause-memory
 unfolding done_of pair_of
-returns-in-Err-played-clause-memory c done pair e =
+returns-in-Err-clause-memory c done pair e =
     subst (λ p. (done < length c.args.events.now) × (p ≡ run (take done c.args.events.now) (new_pair c.args.first c.args.second)) × IsInOrder p) (ap (pair_of c.play-played.new.pair) e)
     (subst (λ n. (n < length c.args.events.now) × (c.play-played.new.pair ≡ run (take n c.args.events.now) (new_pair c.args.first c.args.second)) × IsInOrder c.play-played.new.pair) (ap done_of e)
-    ((c.in-Err-played.ensures.memory _ refl).0, ((c.in-Err-played.ensures.memory _ refl).1 ∙ ap (run (take c.in-Err-played.done c.args.events.now)) c.in-Ok.ensures.made), c.is_run.ensures.order))
-
-pub returns-in-Err-clause-memory : goal.returns-in-Err-clause-memory
-returns-in-Err-clause-memory c = λ done pair e. absurd (c.in-Err.ensures.memory done pair e)
-
-pub returns-in-Err-clause-asks : goal.returns-in-Err-clause-asks
-returns-in-Err-clause-asks c = λ done pair e. absurd (c.in-Err.ensures.memory done pair e)
+    ((c.in-Err.ensures.memory _ refl).0, ((c.in-Err.ensures.memory _ refl).1 ∙ ap (run (take c.in-Err.done c.args.events.now)) c.in-Ok.ensures.made), c.is_run.ensures.order))
 
 pub returns-in-Ok-played-clause-first_size : goal.returns-in-Ok-played-clause-first_size
-returns-in-Ok-played-clause-first_size c = λ refusal e. absurd (cc (c.in-Ok.ensures.first_size refusal e))
+returns-in-Ok-played-clause-first_size c = λ refusal e. absurd (cc (c.in-Ok.ensures.first refusal e))
 
 pub returns-in-Ok-played-clause-second_size : goal.returns-in-Ok-played-clause-second_size
-returns-in-Ok-played-clause-second_size c = λ refusal none e. elim (c.in-Ok.ensures.second_size refusal none e) [
+returns-in-Ok-played-clause-second_size c = λ refusal none e. elim (c.in-Ok.ensures.second refusal none e) [
   | inl second ↦ absurd (cc second)
   | inr memory ↦ absurd (cc memory)
 ]
 
-pub returns-in-Err-played-clause-first_size : goal.returns-in-Err-played-clause-first_size
-returns-in-Err-played-clause-first_size c = λ refusal e. absurd (cc (c.in-Ok.ensures.first_size refusal e))
+pub returns-in-Err-clause-first_size : goal.returns-in-Err-clause-first_size
+returns-in-Err-clause-first_size c = λ refusal e. absurd (cc (c.in-Ok.ensures.first refusal e))
 
-pub returns-in-Err-played-clause-second_size : goal.returns-in-Err-played-clause-second_size
-returns-in-Err-played-clause-second_size c = λ refusal none e. elim (c.in-Ok.ensures.second_size refusal none e) [
+pub returns-in-Err-clause-second_size : goal.returns-in-Err-clause-second_size
+returns-in-Err-clause-second_size c = λ refusal none e. elim (c.in-Ok.ensures.second refusal none e) [
   | inl second ↦ absurd (cc second)
   | inr memory ↦ absurd (cc memory)
 ]

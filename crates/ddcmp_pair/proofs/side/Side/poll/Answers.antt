@@ -1,23 +1,14 @@
 use Rattle.std.proofs.Common.{◌∙◌, length, ap, sym, subst, arith}
 use Rattle.ddcmp_frame.specs.Reader.{StandsFor}
 use Rattle.ddcmp_core.specs.Table.{is_halted}
-use Rattle.ddcmp_run.specs.Run.{EndState}
 use Rattle.ddcmp_run.proofs.Lines.{nothing-polled, sending-keeps}
+use Rattle.ddcmp_pair.specs.Sides.{end_with}
 use Rattle.ddcmp_pair.proofs.side.Side.poll.Goals as goal
 
 pub returns-in_default-clause-state : goal.returns-in_default-clause-state
 returns-in_default-clause-state c = λ ok.
     let s = c.self.inside in
-    let x : EndState = record {
-      core = s.station.core;
-      syn = s.station.syn;
-      given = s.given.all;
-      taken = s.taken.all;
-      sent = s.sent.all;
-      arrived = s.arrived.items;
-      acknowledged = s.acknowledged;
-      starts = s.starts;
-    } in
+    let x = end_with s.station s.given.all s.taken.all s.sent.all s.arrived.items s.acknowledged s.starts in
     let p = nothing-polled x c.in_default.ensures.header in
     rw (← c.self.view_is) (λ i. record { state = sym p i; place = s.place })
 
