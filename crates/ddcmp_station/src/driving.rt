@@ -1,13 +1,18 @@
 //! A station driven over a line, turn by turn.
-ghost use Rattle.std.specs.Prelude.{◌≡◌, ◌≢◌, ◌↔◌, ℕ, ◌+◌, ◌*◌, ◌<◌, ◌≤◌, ◌^◌, List, ◌++◌, true, false, is_err, length, take, Option, Ok, Err, IfOk, OnOk, OnErr};
+ghost use Rattle.std.specs.Prelude.{◌≡◌, ◌≢◌, ◌↔◌, ℕ, ◌+◌, ◌*◌, ◌<◌, ◌≤◌, ◌^◌, List, ◌++◌, true};
+ghost use Rattle.std.specs.Prelude.{false, is_err, length, take, Option, Ok, Err, IfOk, OnOk};
+ghost use Rattle.std.specs.Prelude.{OnErr};
 ghost use Rattle.std.specs.Io.KnownBytes.{Consumes, Keeps, IsAtEnd};
 ghost use Rattle.ddcmp_frame.specs.Reader.{StandsFor};
 ghost use Rattle.ddcmp_core.specs.Table.{next_frame, next};
 ghost use Rattle.ddcmp_proto.specs.Bytes.{after_poll, after_piece};
-ghost use Rattle.ddcmp_station.specs.Driving.{Drives, devices_of, deadline_at, core_after_take_arm, core_at_deadline, core_after_message, frame_bytes, core_after_mail};
+ghost use Rattle.ddcmp_station.specs.Driving.{Drives, devices_of, deadline_at, core_after_take_arm};
+ghost use Rattle.ddcmp_station.specs.Driving.{core_at_deadline, core_after_message, frame_bytes};
+ghost use Rattle.ddcmp_station.specs.Driving.{core_after_mail};
 ghost use Rattle.ddcmp_station.specs.Turns.{TurnEnds, WritesFrame, read_answers_of};
 ghost use Rattle.ddcmp_frame.specs.Device.{Logs};
-ghost use Rattle.ddcmp_station.specs.UserCalls.{Calls, calls_of_offer, calls_of_mail, TellsNotices, TellsPiece};
+ghost use Rattle.ddcmp_station.specs.UserCalls.{Calls, calls_of_offer, calls_of_mail, TellsNotices};
+ghost use Rattle.ddcmp_station.specs.UserCalls.{TellsPiece};
 
 use crate::user::{Clock, User};
 use ddcmp_frame::{Got, Sink, Source, Worst, write_all};
@@ -80,34 +85,8 @@ pub fn drive<R: Source, W: Sink, U: User, C: Clock>(
     let Ok(mut frame) = Vec::from_elem(alloc, 0u8, station.frame_room()) else {
         return Err(LineFault::Memory);
     };
-    drive_turns(
-        station, reader, writer, user, clock, timer_ms, turns, &mut frame,
-    )
-}
-
-/// Takes the turns, with a buffer for a frame, for the message of the user, and for mail.
-fn drive_turns<R: Source, W: Sink, U: User, C: Clock>(
-    station: &mut Station,
-    reader: &mut R,
-    writer: &mut W,
-    user: &mut U,
-    clock: &mut C,
-    timer_ms: u32,
-    turns: u32,
-    frame: &mut [u8],
-) -> Result<Driven, LineFault>
-    requires fine { R.state reader.old ≢ Worst.Failed }
-    requires whole { W.broken writer.old ≡ false }
-    requires offset { station.old.line.offset + 256 * turns < 2 ^ 64 }
-    requires room { station.old.syn + station.old.core.limits.longest + 10 ≤ length frame.old }
-    ensures drives { Drives timer_ms turns station.old station.new
-        (devices_of R.left R.state R.answers W.contents C.told reader.old reader.new
-        writer.old writer.new clock.old clock.new) (Calls U.becomes user.old user.new) result }
-    ensures read { (result ≡ Err LineFault.Read) ↔ (R.state reader.new ≡ Worst.Failed) }
-    ensures write { (result ≡ Err LineFault.Write) ↔ (W.broken writer.new ≡ true) }
-    ensures ended { result ≡ Err LineFault.Ended → IsAtEnd (R.left reader.new) }
-    ensures memory { result ≢ Err LineFault.Memory }
-{
+    // For a frame, for the message of the user, and for mail.
+    let frame = frame.as_mut_slice();
     let mut piece = [0; READ_ROOM];
     let mut tally = Tally {
         deadline: None,

@@ -3,7 +3,7 @@ use Rattle.ddcmp_io.specs.declared.device.Worst.TheVariants.{Failed}
 use Rattle.ddcmp_station.specs.Driving.{devices_of}
 use Rattle.ddcmp_station.specs.Turns.{TurnsSoFar}
 use Rattle.ddcmp_station.specs.UserCalls.{Calls}
-use Rattle.ddcmp_station.proofs.driving.drive_turns.Given as goal
+use Rattle.ddcmp_station.proofs.driving.drive.Given as goal
 
 abbrev pub invariant-loop-done : goal.invariant-loop-done
 invariant-loop-done g l = record {

@@ -1,6 +1,6 @@
 use Rattle.std.proofs.Common.{◌≡◌, Bool, true, false, refl, ◌∙◌, arith}
 use Rattle.ddcmp_station.proofs.RunLaws.{none-so-far, one-more, broke, ends-so}
-use Rattle.ddcmp_station.proofs.driving.drive_turns.Goals as goal
+use Rattle.ddcmp_station.proofs.driving.drive.Goals as goal
 
 pub loop-done-init : goal.loop-done-init
 loop-done-init g c = record {
@@ -21,15 +21,15 @@ is_false true h = absurd (h refl)
 pub loop-done-preserved : goal.loop-done-preserved
 loop-done-preserved g c =
     let i = c.loop-done.invariant in
-    let t = c.in-Ok.ensures.takes in
+    let t = c.in-Ok-turn.ensures.takes in
     record {
-      fine = λ e. absurd (cc (c.in-Ok.ensures.read.1 e));
-      whole = is_false _ (λ e. absurd (cc (c.in-Ok.ensures.write.1 e)));
+      fine = λ e. absurd (cc (c.in-Ok-turn.ensures.read.1 e));
+      whole = is_false _ (λ e. absurd (cc (c.in-Ok-turn.ensures.write.1 e)));
       limits = t.limits ∙ i.limits;
       syn = t.syn ∙ i.syn;
       offset = omega (arith, t.offset, t.read, i.offset);
-      read = omega (arith, c.in-Ok.ensures.few.0, i.read);
-      written = omega (arith, c.in-Ok.ensures.few.1, i.written);
+      read = omega (arith, c.in-Ok-turn.ensures.few.0, i.read);
+      written = omega (arith, c.in-Ok-turn.ensures.few.1, i.written);
       taken = one-more g.U.User.becomes c.args.user.now c.loop-done.user c.turn.new.user c.args.timer_ms c.loop-done._done c.args.station.now c.loop-done.station c.turn.new.station c.loop-done.tally c.turn.new.tally _ _ _ _ _ _ _ _ _ _ _ _ _ _ i.taken t;
     }
 
