@@ -22,4 +22,3 @@ pub use fault::{Attempt, NotOpened, ServiceFault};
 pub use line_name::LineName;
 pub use messages::Form;
 pub use service::{Options, Served, serve_link};
-pub use system::System;

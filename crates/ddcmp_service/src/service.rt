@@ -289,13 +289,18 @@ fn end<S: Eprint, W: Sink>(
 
 /// Runs a link between a line and standard input and output, which `reader` and `writer` read and
 /// write, until all of the input is delivered, or the line ends.
-pub fn serve_link<'a, S: System, R: Source, W: Sink>(
+pub fn serve_link<'a, S, R: Source, W: Sink>(
     system: &S,
     alloc: Global,
     options: Options<'a>,
     reader: &mut R,
     writer: &mut W,
 ) -> Result<Served, ServiceFault<'a>>
+where
+    S: Net<Stream = net::TcpStream, Listener = net::TcpListener>
+        + Files<File = File>
+        + Eprint
+        + time::Clock,
     ensures broken { (result ≡ Err ServiceFault.Write) ↔ IsTrue (W.broken writer.new) }
 {
     match make_desk(system, alloc, &options) {

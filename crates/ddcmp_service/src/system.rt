@@ -6,7 +6,7 @@ use std::time::Clock;
 
 /// All that a link asks of the system: connections, devices, a place for what it tells, and the
 /// time.
-pub trait System: Net<Stream = TcpStream, Listener = TcpListener>
+pub(crate) trait System: Net<Stream = TcpStream, Listener = TcpListener>
     + Files<File = File>
     + Eprint
     + Clock {}
