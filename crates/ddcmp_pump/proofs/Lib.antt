@@ -1,3 +1,4 @@
 pub mod MoveLaws
 pub mod PieceLaws
+pub mod SaidLaws
 pub mod FreshLaws

@@ -600,12 +600,3 @@ pub moment-timed : (timed : Bool) → is_some (moment timed) ≡ timed
 unfolding moment
 moment-timed true = refl
 moment-timed false = refl
-
-pub stops-as
-    : (notation : Notation) (timed : Bool) (max : ℕ) (up0 up down0 down : FlowView)
-    (old new : Known) (fault known : TapFault)
-    → fault ≡ known
-    → Stops notation timed max up0 up down0 down old new (Err fault)
-    → Stops notation timed max up0 up down0 down old new (Err known)
-stops-as notation timed max up0 up down0 down old new fault known e s =
-    subst (λ f. Stops notation timed max up0 up down0 down old new (Err f)) e s

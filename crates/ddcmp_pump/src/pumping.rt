@@ -130,6 +130,16 @@ fn until_over<R: Source, O: Outlet, K: Readiness, C: Clock, W: Sink>(
     Err(TapFault::Read)
 }
 
+/// Whether a tap went on until both sides had ended or one had failed.
+fn has_said(ended: &Result<(), TapFault>) -> bool
+    ensures { IsTrue result ↔ HasSaid ended.now }
+{
+    match ended {
+        Ok(()) => true,
+        Err(fault) => matches!(fault, TapFault::Read | TapFault::Write),
+    }
+}
+
 /// Writes the two last lines of a tap that went on until both sides had ended or one had failed.
 fn conclude<R: Source, O: Outlet, C: Clock, W: Sink>(
     up: &mut Flow<R, O>,
@@ -188,12 +198,10 @@ pub fn pump<R: Source, O: Outlet, K: Readiness, C: Clock, W: Sink>(
     ensures met { result ≢ Err TapFault.Carrier }
     ensures broken { (result ≡ Err TapFault.Report) ↔ IsTrue (W.broken writer.new) }
 {
-    match until_over(up, down, readiness, clock, timed, buffer, writer) {
-        Ok(()) => conclude(up, down, clock, timed, writer, Ok(())),
-        Err(TapFault::Read) => conclude(up, down, clock, timed, writer, Err(TapFault::Read)),
-        Err(TapFault::Write) => conclude(up, down, clock, timed, writer, Err(TapFault::Write)),
-        Err(TapFault::Report) => Err(TapFault::Report),
-        Err(TapFault::Memory) => Err(TapFault::Memory),
-        Err(TapFault::Carrier) => Err(TapFault::Carrier),
+    let ended = until_over(up, down, readiness, clock, timed, buffer, writer);
+    if has_said(&ended) {
+        conclude(up, down, clock, timed, writer, ended)
+    } else {
+        ended
     }
 }
