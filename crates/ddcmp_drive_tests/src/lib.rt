@@ -1,5 +1,5 @@
 //! Tests of `ddcmp_station::drive` where memory is refused and at every size, of the largest
-//! stations, and of two driven stations over streams. Worked calls are in `worked_stations`.
+//! stations, and of two driven stations over streams. Worked calls are in `worked`.
 #![tactic(auto)]
 
 #[cfg(test)]

@@ -1,4 +1,4 @@
-//! Tests of `ddcmp_pair` on events from outside. Worked rows are in `worked_pairs`.
+//! Tests of `ddcmp_pair` on events from outside. Worked rows are in `worked`.
 #![tactic(auto)]
 
 #[cfg(test)]

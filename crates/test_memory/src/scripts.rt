@@ -1,5 +1,5 @@
-//! A script with refused memory. What scripts write is the matter of `worked_scripts`, and what
-//! they do over bad devices of `worked_devices`.
+//! A script with refused memory. What scripts write, over good devices and bad ones, is the matter
+//! of `worked`.
 use crate::same::is;
 use ddcmp_frame::failing::{Pieces, Taken};
 use ddcmp_line::{Config, Direct, Pair, ScriptFault, script};

@@ -1,17 +1,12 @@
-//! A station that is asked one thing after another, and driven. The input has lists of lines, each
-//! behind a line with the sizes of a new station; what is answered goes to the output.
-#![tactic(auto)]
-
+//! A station that is asked one thing after another, and driven. An example is a list of lines, and
+//! its head has the sizes of a new station; what is answered goes to the output.
 mod asking;
 mod driven;
 mod reading;
 
 use ddcmp_station::Station;
-use std::io::{self, Read};
+use std::io;
 use test_kit::config_of;
-
-/// What stands before the sizes.
-const MARK: &str = "=== ";
 
 /// Does what a line says.
 fn perform(rt: &HostRuntime, station: &mut Station, line: &str) -> io::Result<()> {
@@ -27,8 +22,7 @@ fn perform(rt: &HostRuntime, station: &mut Station, line: &str) -> io::Result<()
 }
 
 /// Does what the lines say with a new station.
-fn run(rt: &HostRuntime, head: &str, lines: &str) -> io::Result<()> {
-    println!(rt; "{MARK}{head}")?;
+pub fn run(rt: &HostRuntime, head: &str, lines: &str) -> io::Result<()> {
     let Some(config) = config_of(head) else {
         return println!(rt; "no sizes");
     };
@@ -41,15 +35,4 @@ fn run(rt: &HostRuntime, head: &str, lines: &str) -> io::Result<()> {
         }
         Err(refusal) => println!(rt; "refused {refusal:?}"),
     }
-}
-
-fn main(rt: HostRuntime) -> io::Result<()> {
-    let mut input = String::new(rt.alloc());
-    rt.stdin().read_to_string(&mut input)?;
-    for part in input.as_str().split(MARK).skip(1) {
-        if let Some((head, lines)) = part.split_once('\n') {
-            run(&rt, head, lines)?;
-        }
-    }
-    Ok(())
 }

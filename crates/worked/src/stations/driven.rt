@@ -1,5 +1,5 @@
 //! A call of `drive` over memory.
-use crate::reading::{moments_of, pieces_of, slices_of};
+use crate::stations::reading::{moments_of, pieces_of, slices_of};
 use ddcmp_frame::failing::{Pieces, Taken};
 use ddcmp_station::{Driven, LineFault, Station, drive};
 use std::alloc::Global;

@@ -1,6 +1,6 @@
 //! What concerns both ends: a clear, settles, and what has been done since the line was cleared.
-use crate::answers;
-use crate::table::{LONGEST, Table};
+use crate::pairs::answers;
+use crate::pairs::table::{LONGEST, Table};
 use ddcmp_pair::{End, Event};
 use std::io;
 

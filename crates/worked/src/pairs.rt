@@ -1,19 +1,14 @@
-//! Lists of events between two ends. The input has one after another, each behind a line with the
-//! sizes of both ends; what is answered goes to the output, and what has been done in the end.
-#![tactic(auto)]
-
+//! Lists of events between two ends. The head of an example has the sizes of both; what is answered
+//! goes to the output, and what has been done in the end.
 mod answers;
 mod questions;
 mod table;
 
+use crate::pairs::table::Table;
 use ddcmp_pair::{Bytes, Config, End, Event};
 use std::alloc::Global;
-use std::io::{self, Read};
-use table::Table;
+use std::io;
 use test_kit::{bytes_of, config_of};
-
-/// What stands before the sizes.
-const MARK: &str = "=== ";
 
 /// The sizes of both ends in a line `SIZES; SIZES; NAME`.
 fn configs_of(head: &str) -> Option<(Config, Config)> {
@@ -63,8 +58,7 @@ fn perform(rt: &HostRuntime, table: &mut Table, line: &str) -> io::Result<()> {
 }
 
 /// Does what the lines say between two new ends.
-fn run(rt: &HostRuntime, head: &str, lines: &str) -> io::Result<()> {
-    println!(rt; "{MARK}{head}")?;
+pub fn run(rt: &HostRuntime, head: &str, lines: &str) -> io::Result<()> {
     let Some((first, second)) = configs_of(head) else {
         return println!(rt; "no sizes");
     };
@@ -73,17 +67,6 @@ fn run(rt: &HostRuntime, head: &str, lines: &str) -> io::Result<()> {
     };
     for line in lines.lines() {
         perform(rt, &mut table, line)?;
-    }
-    Ok(())
-}
-
-fn main(rt: HostRuntime) -> io::Result<()> {
-    let mut input = String::new(rt.alloc());
-    rt.stdin().read_to_string(&mut input)?;
-    for part in input.as_str().split(MARK).skip(1) {
-        if let Some((head, lines)) = part.split_once('\n') {
-            run(&rt, head, lines)?;
-        }
     }
     Ok(())
 }

@@ -1,17 +1,11 @@
-//! Worked scripts between two ends. The input has one after another, each behind a line with the
-//! sizes of both ends; what each writes goes to the output, and then its answer. Over a connection
-//! it writes the same.
-#![tactic(auto)]
-
+//! Scripts between two ends. The head of an example has the sizes of both; what a script writes
+//! goes to the output, and then its answer. Over a connection it writes the same.
 ghost use Rattle.std.specs.Prelude.{◌≡◌, false};
 
 use ddcmp_frame::{FromRead, ToWrite};
 use ddcmp_line::{Carrier, Config, Direct, Pair, Sockets, script};
-use std::io::{self, Read, Write};
+use std::io::{self, Write};
 use test_kit::config_of;
-
-/// What stands before the sizes.
-const MARK: &str = "=== ";
 
 /// Plays a script between two new ends, and gives what it wrote and its answer.
 fn play<C: Carrier>(
@@ -35,8 +29,7 @@ fn play<C: Carrier>(
 
 /// Plays a script over a carrier that gives what goes in, and then over a connection, whose text is
 /// told where it is another.
-fn run(rt: &HostRuntime, head: &str, lines: &str) -> io::Result<()> {
-    println!(rt; "{MARK}{head}")?;
+pub fn run(rt: &HostRuntime, head: &str, lines: &str) -> io::Result<()> {
     let Some(config) = config_of(head) else {
         return println!(rt; "no sizes");
     };
@@ -46,17 +39,6 @@ fn run(rt: &HostRuntime, head: &str, lines: &str) -> io::Result<()> {
     if over != text {
         println!(rt; "over a connection:")?;
         rt.stdout().write_all(over.as_slice())?;
-    }
-    Ok(())
-}
-
-fn main(rt: HostRuntime) -> io::Result<()> {
-    let mut input = String::new(rt.alloc());
-    rt.stdin().read_to_string(&mut input)?;
-    for part in input.as_str().split(MARK).skip(1) {
-        if let Some((head, lines)) = part.split_once('\n') {
-            run(&rt, head, lines)?;
-        }
     }
     Ok(())
 }

@@ -1,5 +1,5 @@
 //! A script over devices that fail, are idle, or go in small steps.
-use crate::bad::Bad;
+use crate::devices::bad::Bad;
 use ddcmp_frame::failing::{Pieces, Taken};
 use ddcmp_line::{Config, Pair, ScriptFault, script};
 use std::alloc::Global;

@@ -1,17 +1,11 @@
-//! Worked pictures of runs between two ends. The input has scripts one after another, each behind a
-//! line that says how it is drawn; the picture goes to the output, and then the answer. Over a
-//! connection it is the same.
-#![tactic(auto)]
-
+//! Pictures of runs between two ends. The head of an example says how its script is drawn; the
+//! picture goes to the output, and then the answer. Over a connection it is the same.
 ghost use Rattle.std.specs.Prelude.{◌≡◌, false};
 
 use ddcmp_frame::{FromRead, ToWrite};
 use ddcmp_line::{Carrier, Config, Direct, Pair, Sockets};
 use ddcmp_picture::{Picture, draw};
-use std::io::{self, Read, Write};
-
-/// What stands before the words for a script.
-const MARK: &str = "=== ";
+use std::io::{self, Write};
 
 /// How a script is drawn: `ladder` or `svg`, and `counters`.
 #[derive(Clone, Copy, Drop)]
@@ -73,8 +67,7 @@ fn play<C: Carrier>(
     Ok(text)
 }
 
-fn run(rt: &HostRuntime, head: &str, lines: &str) -> io::Result<()> {
-    println!(rt; "{MARK}{head}")?;
+pub fn run(rt: &HostRuntime, head: &str, lines: &str) -> io::Result<()> {
     let Some(wanted) = wanted_in(head) else {
         return println!(rt; "no picture");
     };
@@ -84,17 +77,6 @@ fn run(rt: &HostRuntime, head: &str, lines: &str) -> io::Result<()> {
     if over != text {
         println!(rt; "over a connection:")?;
         rt.stdout().write_all(over.as_slice())?;
-    }
-    Ok(())
-}
-
-fn main(rt: HostRuntime) -> io::Result<()> {
-    let mut input = String::new(rt.alloc());
-    rt.stdin().read_to_string(&mut input)?;
-    for part in input.as_str().split(MARK).skip(1) {
-        if let Some((head, lines)) = part.split_once('\n') {
-            run(&rt, head, lines)?;
-        }
     }
     Ok(())
 }
