@@ -42,7 +42,7 @@ same : (a b : ScriptFault) → Faulted (script_fault a) ≡ Faulted (script_faul
 same a b e =
     let both : script_fault a ≡ script_fault b = cc in
     let found : ◌≡◌ {A = Option ScriptFault} (Some a) (Some b) =
-        sym (called a) ∙ ap script_fault_of both ∙ called b in
+    sym (called a) ∙ ap script_fault_of both ∙ called b in
     cc
 
 -- a fault that the program tells is the one that the script answered
