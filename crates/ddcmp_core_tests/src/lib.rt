@@ -1,7 +1,9 @@
-//! Tests of `ddcmp_core` on lists of calls from outside.
+//! Tests of a core from outside, and of what it stands on: frames and windows.
 #![tactic(auto)]
 
 #[cfg(test)]
-mod bench;
+mod cores;
 #[cfg(test)]
-mod calls;
+mod frames;
+#[cfg(test)]
+mod windows;

@@ -1,7 +1,10 @@
 //! Tests of `ddcmp_explain` from outside: its text at every cut, size and fault, over streams and
-//! of dumps.
+//! of dumps; and of `ddcmp_tap`, which explains a direction of a line: what that hands on, its room
+//! and its text.
 #![tactic(auto)]
 
+#[cfg(test)]
+mod directions;
 #[cfg(test)]
 mod dumps;
 #[cfg(test)]

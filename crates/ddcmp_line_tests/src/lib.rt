@@ -1,4 +1,5 @@
-//! Tests of `ddcmp_pair` on events from outside. Worked rows are in `worked`.
+//! Tests of `ddcmp_pair` on events from outside, and of refused memory to all that plays or serves.
+//! Worked rows are in `worked`.
 #![tactic(auto)]
 
 #[cfg(test)]
@@ -6,8 +7,10 @@ mod bench;
 #[cfg(test)]
 mod calls;
 #[cfg(test)]
-mod memory;
-#[cfg(test)]
 mod order;
 #[cfg(test)]
+mod refused;
+#[cfg(test)]
 mod rows;
+#[cfg(test)]
+mod same;

@@ -1,9 +1,13 @@
-//! Tests of the calls of `ddcmp_station`, but `drive`, on bytes from outside.
+//! Tests of a station from outside: by its calls, driven, served, and as a link.
 #![tactic(auto)]
 
 #[cfg(test)]
-mod bench;
+mod driven;
 #[cfg(test)]
-mod calls;
+mod links;
 #[cfg(test)]
-mod sizes;
+mod same;
+#[cfg(test)]
+mod served;
+#[cfg(test)]
+mod stations;

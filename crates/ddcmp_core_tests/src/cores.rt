@@ -1,0 +1,4 @@
+//! Tests of `ddcmp_core` on lists of calls.
+
+mod bench;
+mod calls;

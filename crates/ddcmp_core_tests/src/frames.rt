@@ -1,0 +1,7 @@
+//! Tests of `ddcmp_frame` on frames and texts, and of the devices of `ddcmp_io`.
+
+mod calls;
+mod devices;
+mod failing;
+mod readers;
+mod vectors;

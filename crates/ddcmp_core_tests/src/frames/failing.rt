@@ -1,0 +1,86 @@
+//! The devices of the tests do what they are told.
+use crate::frames::calls::{is, read, write};
+use ddcmp_frame::failing::{Pieces, Taken};
+use ddcmp_frame::{Got, Worst};
+use std::process::Abort;
+
+/// A source that gives a byte at a time, is idle at its fourth read and fails at its seventh.
+fn faulty<'a>(pieces: &'a [&'a [u8]]) -> Pieces<'a> {
+    Pieces::new(pieces).at_most(1).idle_at(4).failing_at(7)
+}
+
+fn without_pieces() -> Pieces<'static> {
+    Pieces::new(&[])
+}
+
+#[test]
+fn pieces_come_in_order(rt: HostRuntime) {
+    let pieces: [&[u8]; 4] = [b"ab", b"", b"c", b"d"];
+    let mut source = faulty(&pieces);
+    let rows = [
+        (Got::Bytes(1), b'a', Worst::Fine),
+        (Got::Bytes(1), b'b', Worst::Fine),
+        (Got::Idle, 0, Worst::Idle),
+        (Got::Idle, 0, Worst::Idle),
+        (Got::Bytes(1), b'c', Worst::Idle),
+        (Got::Bytes(1), b'd', Worst::Idle),
+        (Got::Failed, 0, Worst::Failed),
+    ];
+    for (got, first, worst) in rows {
+        let mut buf = [0; 4];
+        is(&rt, read(&rt, &mut source, &mut buf), (got, worst));
+        is(&rt, buf.as_slice(), [first, 0, 0, 0].as_slice());
+    }
+    let mut source = without_pieces();
+    is(
+        &rt,
+        read(&rt, &mut source, &mut [0; 4]),
+        (Got::Bytes(0), Worst::Fine),
+    );
+}
+
+/// A sink of eight bytes, and no more than `room`, that takes at most so many at a time; which
+/// write fails, 0 is none.
+fn sink_of(rt: &impl Abort, room: usize, most: usize, fails_at: usize) -> Taken<8> {
+    assert!(rt; room <= 8 && 0 < most);
+    Taken::full_at(room).at_most(most).failing_at(fails_at)
+}
+
+fn kept(sink: &Taken<8>) -> &[u8] {
+    sink.bytes()
+}
+
+/// Each write of `abc` has its answer, and these bytes are kept.
+fn keeps(rt: &impl Abort, mut sink: Taken<8>, answers: &[Option<usize>], bytes: &[u8]) {
+    for answer in answers {
+        is(
+            rt,
+            write(rt, &mut sink, b"abc"),
+            (*answer, answer.is_none()),
+        );
+    }
+    is(rt, kept(&sink), bytes);
+}
+
+#[test]
+fn what_was_taken_is_kept(rt: HostRuntime) {
+    keeps(
+        &rt,
+        Taken::new(),
+        &[Some(3), Some(3), Some(2), None],
+        b"abcabcab",
+    );
+    keeps(
+        &rt,
+        sink_of(&rt, 4, usize::MAX, 0),
+        &[Some(3), Some(1), None],
+        b"abca",
+    );
+    keeps(&rt, sink_of(&rt, 8, 2, 0), &[Some(2), Some(2)], b"abab");
+    keeps(
+        &rt,
+        sink_of(&rt, 8, usize::MAX, 2),
+        &[Some(3), None],
+        b"abc",
+    );
+}

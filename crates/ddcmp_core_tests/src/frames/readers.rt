@@ -1,0 +1,169 @@
+//! The two readers beside each other, byte by byte and in pieces.
+use crate::frames::calls::{
+    counts, counts_plain, data, data_plain, is, plain_of, push, push_all, push_plain, reader_of,
+};
+use crate::frames::vectors::{controls, messages};
+use ddcmp_frame::plain::PlainReader;
+use ddcmp_frame::{Item, Reader};
+use std::alloc::{AllocError, Global};
+use std::process::Abort;
+use std::test::Fail;
+
+/// The most data that a frame may have: as much as COUNT can say, all that the texts have, and too
+/// little for some and for most of their frames.
+const MAXIMA: [u16; 4] = [16383, 3, 2, 1];
+
+/// The frames of the published layouts, one after another.
+fn published(alloc: Global) -> Result<Vec<u8>, AllocError> {
+    let mut text = Vec::new(alloc);
+    for (_kind, _sub, _flags, _resp, _num, bytes) in controls() {
+        text.extend_from_slice(bytes)?;
+    }
+    for bytes in messages() {
+        text.extend_from_slice(bytes)?;
+    }
+    Ok(text)
+}
+
+/// Every other answer of the two readers, which have taken the same bytes.
+fn same_state(rt: &impl Abort, reader: &Reader, plain: &PlainReader) {
+    is(rt, data(reader), data_plain(plain));
+    is(rt, counts(reader), counts_plain(plain));
+}
+
+/// The same answers of every call after every byte.
+fn same_by_bytes(rt: &impl Abort, alloc: Global, max: u16, text: &[u8]) -> Result<(), Fail> {
+    let mut reader = reader_of(alloc, max)?;
+    let mut plain = plain_of(alloc, max)?;
+    for byte in text {
+        is(
+            rt,
+            push(rt, &mut reader, *byte),
+            push_plain(rt, &mut plain, *byte),
+        );
+        same_state(rt, &reader, &plain);
+    }
+    Ok(())
+}
+
+/// The item that the plain reader gives for these bytes: at the last of them, if at any.
+fn item_of(rt: &impl Abort, plain: &mut PlainReader, bytes: &[u8]) -> Option<Item> {
+    let mut given = None;
+    for byte in bytes {
+        is(rt, given, None);
+        given = push_plain(rt, plain, *byte);
+    }
+    given
+}
+
+/// Two readers that take the same bytes.
+#[derive(Drop)]
+struct Both {
+    reader: Reader,
+    plain: PlainReader,
+}
+
+impl Both {
+    fn new(alloc: Global, max: u16) -> Result<Both, Fail> {
+        Ok(Both {
+            reader: reader_of(alloc, max)?,
+            plain: plain_of(alloc, max)?,
+        })
+    }
+
+    /// One reader takes bytes up to an item, and the plain one as many: how many. It gives the same
+    /// item, and their other answers are the same then.
+    fn takes_some(&mut self, rt: &impl Abort, rest: &[u8]) -> usize {
+        let (used, item) = push_all(rt, &mut self.reader, rest);
+        let wanted = item_of(rt, &mut self.plain, rest.get(..used).unwrap_or(&[]));
+        is(rt, item, wanted);
+        same_state(rt, &self.reader, &self.plain);
+        used
+    }
+
+    /// Both take a piece.
+    fn takes(&mut self, rt: &impl Abort, piece: &[u8]) {
+        let mut at = 0usize;
+        for _byte in piece {
+            if at < piece.len() {
+                at = at.saturating_add(self.takes_some(rt, &piece[at..]));
+            }
+        }
+        is(rt, at, piece.len());
+    }
+}
+
+/// The same items where one reader takes pieces of a length, and the same answers behind each item
+/// and each piece.
+fn same_in_pieces(
+    rt: &impl Abort,
+    alloc: Global,
+    max: u16,
+    text: &[u8],
+    len: usize,
+) -> Result<(), Fail> {
+    let mut both = Both::new(alloc, max)?;
+    assert!(rt; 0 < len);
+    for piece in text.chunks(len) {
+        both.takes(rt, piece);
+    }
+    Ok(())
+}
+
+/// Byte by byte and in pieces.
+fn same(rt: &impl Abort, alloc: Global, text: &[u8]) -> Result<(), Fail> {
+    for max in MAXIMA {
+        same_by_bytes(rt, alloc, max, text)?;
+        for len in [1, 2, 3, 7, 8, 9, text.len()] {
+            same_in_pieces(rt, alloc, max, text, len)?;
+        }
+    }
+    Ok(())
+}
+
+#[test]
+fn published_frames(rt: HostRuntime) -> Result<(), Fail> {
+    let alloc = rt.alloc();
+    let text = published(alloc)?;
+    assert_eq!(rt; text.len(), 157);
+    same(&rt, alloc, &text)
+}
+
+/// The same frames with each byte changed in turn.
+#[test]
+fn changed_frames(rt: HostRuntime) -> Result<(), Fail> {
+    let alloc = rt.alloc();
+    let mut text = published(alloc)?;
+    for i in 0..text.len() {
+        text[i] ^= 0xFF;
+        same(&rt, alloc, &text)?;
+        text[i] ^= 0xFF;
+    }
+    Ok(())
+}
+
+/// Candidates that all fail, each begun within the one before.
+#[test]
+fn start_bytes_alone(rt: HostRuntime) -> Result<(), Fail> {
+    same(&rt, rt.alloc(), &[0x05; 300])
+}
+
+/// Whether an item is a good frame at the beginning.
+fn is_first(item: Option<Item>) -> bool {
+    matches!(item, Some(Item::Good(0, _)))
+}
+
+/// A piece gives one item at most, and an empty one nothing.
+#[test]
+fn up_to_an_item(rt: HostRuntime) -> Result<(), Fail> {
+    let mut reader = reader_of(rt.alloc(), 16383)?;
+    let text = published(rt.alloc())?;
+    let (used, item) = push_all(&rt, &mut reader, &text);
+    is(&rt, used, 8);
+    assert!(rt; is_first(item));
+    is(&rt, push_all(&rt, &mut reader, &[]), (0, None));
+    is(&rt, push_all(&rt, &mut reader, &[0x96; 5]), (5, None));
+    let (open, _kept, _offset) = counts(&reader);
+    is(&rt, open, 0);
+    Ok(())
+}

@@ -1,0 +1,377 @@
+//! A pair with refused memory.
+use crate::bench::{
+    ACK_2, Action, Answer, Bench, DATA_1, DATA_2, HANDED_UP, Step, USUAL, event_of, is_answer,
+    path, startup,
+};
+use crate::calls::events_of;
+use ddcmp_pair::{
+    ConfigRefusal, End, Event, Notice, Pair, PairRefusal, Recovered, RunRefusal, Settled,
+};
+use ddcmp_station::{Counters, Header, Numbers, State};
+use std::process::Abort;
+
+/// What an end of a pair tells.
+#[derive(Clone, Copy, PartialEq, Eq)]
+struct ToldByEnd {
+    given: usize,
+    handed_up: usize,
+    acknowledged: u64,
+    state: State,
+    numbers: Numbers,
+    outgoing: u8,
+    waiting: u8,
+    timer_on: bool,
+    counters: Counters,
+    next_header: Option<Header>,
+    held: usize,
+    open: usize,
+    offset: u64,
+}
+
+/// What a pair tells.
+#[derive(Clone, Copy, PartialEq, Eq)]
+struct Told {
+    honest: bool,
+    clean: bool,
+    a: ToldByEnd,
+    b: ToldByEnd,
+}
+
+fn told_by(pair: &Pair, end: End) -> ToldByEnd {
+    let station = pair.station(end);
+    ToldByEnd {
+        given: pair.given(end),
+        handed_up: pair.handed_up(end),
+        acknowledged: pair.acknowledged(end),
+        state: station.state(),
+        numbers: station.numbers(),
+        outgoing: station.outgoing(),
+        waiting: station.waiting(),
+        timer_on: station.timer_on(),
+        counters: *station.counters(),
+        next_header: station.next_header(),
+        held: station.held(),
+        open: station.open(),
+        offset: station.offset(),
+    }
+}
+
+fn tells(pair: &Pair) -> Told {
+    Told {
+        honest: pair.honest(),
+        clean: pair.clean(),
+        a: told_by(pair, End::A),
+        b: told_by(pair, End::B),
+    }
+}
+
+/// A message waits in B's inbox, and A is to send another.
+fn to_settle() -> [Step; 4] {
+    [
+        (Action::Send(End::A, b"abc"), Answer::Accepted(1)),
+        (Action::Poll(End::A), Answer::Wrote(DATA_1)),
+        (Action::Arrive(End::B, DATA_1), HANDED_UP),
+        (Action::Send(End::A, b"abc"), Answer::Accepted(2)),
+    ]
+}
+
+/// What a settle does then.
+fn settling() -> [Step; 8] {
+    [
+        (Action::Take(End::B), Answer::Took(b"abc")),
+        (Action::Poll(End::A), Answer::Wrote(DATA_2)),
+        (Action::Arrive(End::B, DATA_2), HANDED_UP),
+        (Action::Take(End::B), Answer::Took(b"abc")),
+        (Action::Poll(End::B), Answer::Wrote(ACK_2)),
+        (
+            Action::Arrive(End::A, ACK_2),
+            Answer::Notices(&[Notice::Acknowledged(2)]),
+        ),
+        (Action::Poll(End::A), Answer::Idle),
+        (Action::Poll(End::B), Answer::Idle),
+    ]
+}
+
+/// What each round does after it.
+fn round() -> [Step; 4] {
+    [
+        (Action::Expire(End::A), Answer::Expired(false)),
+        (Action::Expire(End::B), Answer::Expired(false)),
+        (Action::Poll(End::A), Answer::Idle),
+        (Action::Poll(End::B), Answer::Idle),
+    ]
+}
+
+/// Whether a pair tells this.
+fn is_told(pair: &Pair, seen: &Told) -> bool {
+    tells(pair) == *seen
+}
+
+/// A pair that does again what was refused for want of memory, and whether any was.
+struct Patient {
+    bench: Bench,
+    refused: bool,
+}
+
+// By hand, so that a pair is let go by a call: a derived one is written out at each such place.
+impl Drop for Patient {
+    fn drop(self) {
+        let Patient {
+            bench: _bench,
+            refused: _,
+        } = self;
+    }
+}
+
+impl Patient {
+    fn new(rt: &(impl Abort + AllocGlobal)) -> Patient {
+        match Bench::new(rt, USUAL, USUAL) {
+            Ok(bench) => Patient {
+                bench,
+                refused: false,
+            },
+            Err(PairRefusal::First(refusal)) | Err(PairRefusal::Second(refusal)) => {
+                assert!(rt; refusal == ConfigRefusal::Memory);
+                Patient {
+                    bench: Bench::ample(rt, USUAL, USUAL),
+                    refused: true,
+                }
+            }
+        }
+    }
+
+    /// An event of the test's own.
+    fn event(&mut self, rt: &(impl Abort + AllocGlobal), action: Action) -> Event {
+        match event_of(rt.alloc(), action) {
+            Ok(event) => event,
+            Err(_refused) => {
+                self.refused = true;
+                event_of(rt.alloc(), action).expect(rt, "memory is refused twice")
+            }
+        }
+    }
+
+    /// A step is answered, or nothing has changed, and then it is.
+    fn plays_one(&mut self, rt: &(impl Abort + AllocGlobal), action: Action, answer: Answer) {
+        let event = self.event(rt, action);
+        let before = tells(self.bench.pair());
+        match self.bench.step(event) {
+            Ok(reply) => assert!(rt; is_answer(&reply, answer)),
+            Err(_memory) => {
+                self.refused = true;
+                assert!(rt; is_told(self.bench.pair(), &before));
+                assert!(rt; self.bench.is_played(rt.alloc(), action, answer));
+            }
+        }
+    }
+
+    /// Each step is answered, or nothing has changed.
+    fn plays(&mut self, rt: &(impl Abort + AllocGlobal), steps: &[Step]) {
+        for (action, answer) in steps {
+            self.plays_one(rt, *action, *answer);
+        }
+    }
+
+    /// The settle is done, or some of its steps are. A frame that was polled then and didn't arrive
+    /// is lost, so the line settles again, and twice more when the timers have run out.
+    fn settles(&mut self, rt: &(impl Abort + AllocGlobal)) {
+        match self.bench.settle() {
+            Ok(settled) => assert!(rt; is_settled_at_once(settled)),
+            Err(_memory) => {
+                self.refused = true;
+                assert!(rt; is_among(rt, &[&settling()], &tells(self.bench.pair())));
+                self.settles_again(rt);
+                self.expires(rt);
+                self.settles_again(rt);
+                self.expires(rt);
+                self.settles_again(rt);
+            }
+        }
+    }
+
+    /// The recovery is done, or some of its steps are, and the next one is.
+    fn recovers(&mut self, rt: &(impl Abort + AllocGlobal)) {
+        match self.bench.recover() {
+            Ok(recovered) => assert!(rt; is_recovered_at_once(recovered)),
+            Err(_memory) => {
+                self.refused = true;
+                let seen = tells(self.bench.pair());
+                assert!(rt; is_among(rt, &[&settling(), &round(), &round()], &seen));
+                self.recovers_again(rt);
+            }
+        }
+        assert!(rt; self.bench.is_done());
+    }
+
+    fn settles_again(&mut self, rt: &impl Abort) {
+        match self.bench.settle() {
+            Ok(settled) => assert!(rt; settled.quiet),
+            Err(_memory) => panic!(rt; "memory is refused twice"),
+        }
+    }
+
+    fn recovers_again(&mut self, rt: &impl Abort) {
+        match self.bench.recover() {
+            Ok(recovered) => assert!(rt; recovered.quiet),
+            Err(_memory) => panic!(rt; "memory is refused twice"),
+        }
+    }
+
+    fn expires(&mut self, rt: &impl Abort) {
+        assert!(rt; self.bench.step(Event::Expire(End::A)).is_ok());
+        assert!(rt; self.bench.step(Event::Expire(End::B)).is_ok());
+    }
+}
+
+/// Whether a settle had one exchange, and the line is quiet then.
+fn is_settled_at_once(settled: Settled) -> bool {
+    let exchanges = 1;
+    settled
+        == Settled {
+            exchanges,
+            quiet: true,
+        }
+}
+
+/// Whether the first settle of a recovery had one exchange and the others none, and the line is
+/// quiet then.
+fn is_recovered_at_once(recovered: Recovered) -> bool {
+    let exchanges = [1, 0, 0];
+    recovered
+        == Recovered {
+            exchanges,
+            quiet: true,
+        }
+}
+
+/// Whether a pair tells this before one of these steps, which it does until then.
+fn is_before(
+    rt: &(impl Abort + AllocGlobal),
+    bench: &mut Bench,
+    steps: &[Step],
+    seen: &Told,
+) -> bool {
+    for (action, answer) in steps {
+        if is_told(bench.pair(), seen) {
+            return true;
+        }
+        assert!(rt; bench.is_played(rt.alloc(), *action, *answer));
+    }
+    false
+}
+
+/// Whether a pair that was to do these steps tells this between two of them.
+fn is_among(rt: &(impl Abort + AllocGlobal), parts: &[&[Step]], seen: &Told) -> bool {
+    let mut bench = Bench::running(rt, USUAL);
+    bench.plays(rt, &to_settle());
+    for steps in parts {
+        if is_before(rt, &mut bench, steps, seen) {
+            return true;
+        }
+    }
+    is_told(bench.pair(), seen)
+}
+
+/// Whether memory is refused on the path of one message.
+fn is_refused_to_steps(rt: &(impl Abort + AllocGlobal)) -> bool {
+    let mut patient = Patient::new(rt);
+    patient.plays(rt, path());
+    patient.bench.has_many(rt, b"abc", 1);
+    patient.refused
+}
+
+/// Whether memory is refused on the way to a settle, or to it.
+fn is_refused_to_a_settle(rt: &(impl Abort + AllocGlobal)) -> bool {
+    let mut patient = Patient::new(rt);
+    patient.plays(rt, startup());
+    patient.plays(rt, &to_settle());
+    patient.settles(rt);
+    patient.bench.has_many(rt, b"abc", 2);
+    patient.refused
+}
+
+/// Whether memory is refused on the way to a recovery, or to it.
+fn is_refused_to_a_recovery(rt: &(impl Abort + AllocGlobal)) -> bool {
+    let mut patient = Patient::new(rt);
+    patient.plays(rt, startup());
+    patient.plays(rt, &to_settle());
+    patient.recovers(rt);
+    patient.bench.has_many(rt, b"abc", 2);
+    patient.refused
+}
+
+/// The pair tells what one tells after these steps.
+fn is_after(rt: &(impl Abort + AllocGlobal), pair: &Pair, steps: &[Step]) {
+    let mut bench = Bench::ample(rt, USUAL, USUAL);
+    bench.plays(rt, steps);
+    assert!(rt; is_told(pair, &tells(bench.pair())));
+}
+
+/// Whether memory is refused to a run, or to its events.
+fn is_refused_to_a_run(rt: &(impl Abort + AllocGlobal)) -> bool {
+    let Ok(events) = events_of(rt.alloc(), path()) else {
+        return true;
+    };
+    match Bench::of_run(rt.alloc(), &events) {
+        Ok(bench) => {
+            bench.has_many(rt, b"abc", 1);
+            false
+        }
+        Err(refused) => {
+            is_as_far(rt, refused, path());
+            true
+        }
+    }
+}
+
+/// A run without memory was not begun, or is as far as it tells.
+fn is_as_far(rt: &(impl Abort + AllocGlobal), refused: RunRefusal, path: &[Step]) {
+    match refused {
+        RunRefusal::First(refusal) => assert!(rt; refusal == ConfigRefusal::Memory),
+        RunRefusal::Second(refusal) => assert!(rt; refusal == ConfigRefusal::Memory),
+        RunRefusal::Memory { done, pair } => {
+            assert!(rt; done < path.len());
+            is_after(rt, &pair, &path[..done]);
+        }
+    }
+}
+
+#[test]
+fn refused_memory_leaves_a_pair(rt: HostRuntime) {
+    let _either = is_refused_to_steps(&rt);
+}
+
+#[test]
+fn refused_memory_stops_a_settle(rt: HostRuntime) {
+    let _either = is_refused_to_a_settle(&rt);
+}
+
+#[test]
+fn refused_memory_stops_a_recovery(rt: HostRuntime) {
+    let _either = is_refused_to_a_recovery(&rt);
+}
+
+#[test]
+fn refused_memory_stops_a_run(rt: HostRuntime) {
+    let _either = is_refused_to_a_run(&rt);
+}
+
+#[test]
+fn ample_memory_steps(rt: HostRuntime) {
+    assert!(rt; !is_refused_to_steps(&rt));
+}
+
+#[test]
+fn ample_memory_settles(rt: HostRuntime) {
+    assert!(rt; !is_refused_to_a_settle(&rt));
+}
+
+#[test]
+fn ample_memory_recovers(rt: HostRuntime) {
+    assert!(rt; !is_refused_to_a_recovery(&rt));
+}
+
+#[test]
+fn ample_memory_runs(rt: HostRuntime) {
+    assert!(rt; !is_refused_to_a_run(&rt));
+}
