@@ -36,6 +36,14 @@ markerHeight=\"7\" orient=\"auto\"><path d=\"M0 0L10 5L0 10z\" fill=\"#003f7a\"/
 markerHeight=\"7\" orient=\"auto\"><path d=\"M0 0L10 5L0 10z\" fill=\"#c76a00\"/></marker>\
 </defs>\n";
 
+/// How a document is shown and named, up to its caption.
+const TITLE: &[u8] = b"\" role=\"img\" aria-labelledby=\"title desc\" \
+font-family=\"DejaVu Sans,Verdana,Arial,sans-serif\" font-size=\"12\">\n\
+<title id=\"title\">DDCMP: a run between the stations A and B</title>\n\
+<desc id=\"desc\">Time goes down. An arrow is a frame, from where it was sent to where it \
+arrived. A lost one ends in a cross, a damaged one is dashed and has a diamond, and of one \
+that ends in a bar only a part arrived. ";
+
 /// How high a row is.
 fn height_of(row: u64) -> u64 {
     row.saturating_mul(STEP).saturating_add(TOP)
@@ -56,33 +64,71 @@ fn class_of(end: End) -> &'static [u8] {
     }
 }
 
-/// An attribute with a number.
-fn write_attribute<W: Sink>(page: &mut Page, writer: &mut W, name: &[u8], value: u64) {
-    page.write(writer, b" ");
-    page.write(writer, name);
-    page.write(writer, b"=\"");
-    write_number(page, writer, value);
-    page.write(writer, b"\"");
+/// A part of an element: a text as it is, a number in digits, or a part of 1 in thousandths.
+#[derive(Clone, Copy)]
+enum Part<'a> {
+    Text(&'a [u8]),
+    Number(u64),
+    Thousandths(u64),
+}
+
+use Part::{Number, Text, Thousandths};
+
+/// Writes one part behind another.
+fn write<W: Sink>(page: &mut Page, writer: &mut W, parts: &[Part<'_>]) {
+    for part in parts {
+        match *part {
+            Text(text) => page.write(writer, text),
+            Number(n) => write_number(page, writer, n),
+            Thousandths(n) => write_thousandths(page, writer, n),
+        }
+    }
+}
+
+/// A part of 1 in thousandths.
+fn write_thousandths<W: Sink>(page: &mut Page, writer: &mut W, n: u64) {
+    if n >= 1000 {
+        return page.write(writer, b"1");
+    }
+    page.write(writer, b"0.");
+    write_number(page, writer, n / 100);
+    write_number(page, writer, n / 10 % 10);
+    write_number(page, writer, n % 10);
 }
 
 /// A text at a place, anchored at its start, its middle or its end.
-fn write_text<W: Sink>(page: &mut Page, writer: &mut W, x: u64, y: u64, how: &[u8], text: &[u8]) {
-    page.write(writer, b"<text");
-    write_attribute(page, writer, b"x", x);
-    write_attribute(page, writer, b"y", y);
-    page.write(writer, b" ");
-    page.write(writer, how);
-    page.write(writer, b">");
-    page.write(writer, text);
-    page.write(writer, b"</text>\n");
+fn write_text<'a, W: Sink>(
+    page: &mut Page,
+    writer: &mut W,
+    x: u64,
+    y: u64,
+    how: &'a [u8],
+    text: &'a [u8],
+) {
+    let parts = [
+        Text(b"<text x=\""),
+        Number(x),
+        Text(b"\" y=\""),
+        Number(y),
+        Text(b"\" "),
+        Text(how),
+        Text(b">"),
+        Text(text),
+        Text(b"</text>\n"),
+    ];
+    write(page, writer, &parts);
 }
 
 /// A dot on the line of an end.
 fn write_dot<W: Sink>(page: &mut Page, writer: &mut W, at: End, y: u64) {
-    page.write(writer, b"<circle");
-    write_attribute(page, writer, b"cx", line_of(at));
-    write_attribute(page, writer, b"cy", y);
-    page.write(writer, b" r=\"3\" fill=\"#555\"/>");
+    let parts = [
+        Text(b"<circle cx=\""),
+        Number(line_of(at)),
+        Text(b"\" cy=\""),
+        Number(y),
+        Text(b"\" r=\"3\" fill=\"#555\"/>"),
+    ];
+    write(page, writer, &parts);
 }
 
 /// Words beside the line of an end.
@@ -117,35 +163,6 @@ fn root(n: u64) -> u64 {
         }
     }
     root
-}
-
-/// A part of 1 in thousandths.
-fn write_thousandths<W: Sink>(page: &mut Page, writer: &mut W, n: u64) {
-    if n >= 1000 {
-        return page.write(writer, b"1");
-    }
-    page.write(writer, b"0.");
-    write_number(page, writer, n / 100);
-    write_number(page, writer, n / 10 % 10);
-    write_number(page, writer, n % 10);
-}
-
-/// The part of a matrix that turns, with what stands before each sine.
-fn write_turn<W: Sink>(
-    page: &mut Page,
-    writer: &mut W,
-    cosine: u64,
-    sine: u64,
-    rises: &[u8],
-    falls: &[u8],
-) {
-    write_thousandths(page, writer, cosine);
-    page.write(writer, rises);
-    write_thousandths(page, writer, sine);
-    page.write(writer, falls);
-    write_thousandths(page, writer, sine);
-    page.write(writer, b" ");
-    write_thousandths(page, writer, cosine);
 }
 
 /// A line from one place to another, or a part of an arrow.
@@ -184,20 +201,28 @@ impl Stroke {
     }
 
     fn write<W: Sink>(&self, page: &mut Page, writer: &mut W, class: &[u8], has_head: bool) {
-        page.write(writer, b"<line class=\"");
-        page.write(writer, class_of(self.from));
-        page.write(writer, class);
-        page.write(writer, b"\"");
-        write_attribute(page, writer, b"x1", self.x1);
-        write_attribute(page, writer, b"y1", self.y1);
-        write_attribute(page, writer, b"x2", self.x2);
-        write_attribute(page, writer, b"y2", self.y2);
-        if has_head {
-            page.write(writer, b" marker-end=\"url(#head-");
-            page.write(writer, class_of(self.from));
-            page.write(writer, b")\"");
-        }
-        page.write(writer, b"/>\n");
+        let head: &[u8] = match (has_head, self.from) {
+            (false, _) => b"",
+            (true, End::A) => b" marker-end=\"url(#head-a)\"",
+            (true, End::B) => b" marker-end=\"url(#head-b)\"",
+        };
+        let parts = [
+            Text(b"<line class=\""),
+            Text(class_of(self.from)),
+            Text(class),
+            Text(b"\" x1=\""),
+            Number(self.x1),
+            Text(b"\" y1=\""),
+            Number(self.y1),
+            Text(b"\" x2=\""),
+            Number(self.x2),
+            Text(b"\" y2=\""),
+            Number(self.y2),
+            Text(b"\""),
+            Text(head),
+            Text(b"/>\n"),
+        ];
+        write(page, writer, &parts);
     }
 
     /// Words above it, turned as it is, from where it begins.
@@ -210,29 +235,43 @@ impl Stroke {
         let length = root(across * across + down * down);
         let cosine = across.saturating_mul(1000) / length.max(1);
         let sine = down.saturating_mul(1000) / length.max(1);
-        page.write(writer, b"<text transform=\"matrix(");
-        match self.from {
-            End::A => write_turn(page, writer, cosine, sine, b" ", b" -"),
-            End::B => write_turn(page, writer, cosine, sine, b" -", b" "),
-        }
-        self.write_start(page, writer);
-        page.write(writer, text);
-        page.write(writer, b"</text>\n");
+        self.write_turned_label(page, writer, cosine, sine, text);
     }
 
-    /// The rest of a matrix that moves to where it begins, and how a text stands there.
-    fn write_start<W: Sink>(&self, page: &mut Page, writer: &mut W) {
-        page.write(writer, b" ");
-        write_number(page, writer, self.x1);
-        page.write(writer, b" ");
-        write_number(page, writer, self.y1);
-        page.write(writer, b")\"");
-        let how: &[u8] = match self.from {
-            End::A => b" x=\"10\" y=\"-",
-            End::B => b" text-anchor=\"end\" x=\"-10\" y=\"-",
+    /// Words that a matrix turns and moves to where it begins.
+    fn write_turned_label<W: Sink>(
+        &self,
+        page: &mut Page,
+        writer: &mut W,
+        cosine: u64,
+        sine: u64,
+        text: &[u8],
+    ) {
+        let (rises, falls, how): (&[u8], &[u8], &[u8]) = match self.from {
+            End::A => (b" ", b" -", b" x=\"10\" y=\"-"),
+            End::B => (b" -", b" ", b" text-anchor=\"end\" x=\"-10\" y=\"-"),
         };
-        page.write(writer, how);
-        page.write(writer, if self.x2 == MIDDLE { b"9\">" } else { b"5\">" });
+        let base: &[u8] = if self.x2 == MIDDLE { b"9\">" } else { b"5\">" };
+        let parts = [
+            Text(b"<text transform=\"matrix("),
+            Thousandths(cosine),
+            Text(rises),
+            Thousandths(sine),
+            Text(falls),
+            Thousandths(sine),
+            Text(b" "),
+            Thousandths(cosine),
+            Text(b" "),
+            Number(self.x1),
+            Text(b" "),
+            Number(self.y1),
+            Text(b")\""),
+            Text(how),
+            Text(base),
+            Text(text),
+            Text(b"</text>\n"),
+        ];
+        write(page, writer, &parts);
     }
 
     fn write_level_label<W: Sink>(&self, page: &mut Page, writer: &mut W, text: &[u8]) {
@@ -274,24 +313,30 @@ impl Stroke {
 
     /// A shape at the end.
     fn write_shape<W: Sink>(&self, page: &mut Page, writer: &mut W, x: u64, shape: &[u8]) {
-        page.write(writer, b"<path class=\"");
-        page.write(writer, class_of(self.from));
-        page.write(writer, b"\" style=\"stroke-width:2.5\" d=\"M");
-        write_number(page, writer, x);
-        page.write(writer, b" ");
-        write_number(page, writer, self.y2);
-        page.write(writer, shape);
-        page.write(writer, b"\"/>\n");
+        let parts = [
+            Text(b"<path class=\""),
+            Text(class_of(self.from)),
+            Text(b"\" style=\"stroke-width:2.5\" d=\"M"),
+            Number(x),
+            Text(b" "),
+            Number(self.y2),
+            Text(shape),
+            Text(b"\"/>\n"),
+        ];
+        write(page, writer, &parts);
     }
 
     /// What marks a frame that was damaged.
     fn write_damage<W: Sink>(&self, page: &mut Page, writer: &mut W) {
         let (x, y) = self.place(3);
-        page.write(writer, b"<path fill=\"#111\" d=\"M");
-        write_number(page, writer, x);
-        page.write(writer, b" ");
-        write_number(page, writer, y);
-        page.write(writer, b"m0 -7l7 7l-7 7l-7 -7z\"/>\n");
+        let parts = [
+            Text(b"<path fill=\"#111\" d=\"M"),
+            Number(x),
+            Text(b" "),
+            Number(y),
+            Text(b"m0 -7l7 7l-7 7l-7 -7z\"/>\n"),
+        ];
+        write(page, writer, &parts);
     }
 }
 
@@ -408,37 +453,34 @@ fn caption_lines(text: &[u8]) -> u64 {
 
 /// The line of an end.
 fn write_end_line<W: Sink>(page: &mut Page, writer: &mut W, x: u64, foot: u64) {
-    page.write(writer, b"<line class=\"end\"");
-    write_attribute(page, writer, b"x1", x);
-    write_attribute(page, writer, b"y1", TOP - 24);
-    write_attribute(page, writer, b"x2", x);
-    write_attribute(page, writer, b"y2", foot);
-    page.write(writer, b"/>\n");
+    let parts = [
+        Text(b"<line class=\"end\" x1=\""),
+        Number(x),
+        Text(b"\" y1=\""),
+        Number(TOP - 24),
+        Text(b"\" x2=\""),
+        Number(x),
+        Text(b"\" y2=\""),
+        Number(foot),
+        Text(b"\"/>\n"),
+    ];
+    write(page, writer, &parts);
 }
 
 /// What stands before the rows, up to the lines of both ends.
 fn write_head<W: Sink>(page: &mut Page, writer: &mut W, foot: u64, height: u64, caption: &[u8]) {
-    page.write(writer, b"<svg xmlns=\"http://www.w3.org/2000/svg\"");
-    write_attribute(page, writer, b"width", 840);
-    write_attribute(page, writer, b"height", height);
-    page.write(writer, b" viewBox=\"-20 0 840 ");
-    write_number(page, writer, height);
-    page.write(
-        writer,
-        b"\" role=\"img\" aria-labelledby=\"title desc\" \
-        font-family=\"DejaVu Sans,Verdana,Arial,sans-serif\" font-size=\"12\">\n\
-        <title id=\"title\">DDCMP: a run between the stations A and B</title>\n\
-        <desc id=\"desc\">Time goes down. An arrow is a frame, from where it was sent to where it \
-        arrived. A lost one ends in a cross, a damaged one is dashed and has a diamond, and of one \
-        that ends in a bar only a part arrived. ",
-    );
-    page.write(writer, caption);
-    page.write(writer, b"</desc>\n");
-    page.write(writer, STYLE);
-    page.write(
-        writer,
-        b"<rect x=\"-20\" width=\"840\" height=\"100%\" fill=\"#fff\"/>\n",
-    );
+    let parts = [
+        Text(b"<svg xmlns=\"http://www.w3.org/2000/svg\" width=\"840\" height=\""),
+        Number(height),
+        Text(b"\" viewBox=\"-20 0 840 "),
+        Number(height),
+        Text(TITLE),
+        Text(caption),
+        Text(b"</desc>\n"),
+        Text(STYLE),
+        Text(b"<rect x=\"-20\" width=\"840\" height=\"100%\" fill=\"#fff\"/>\n"),
+    ];
+    write(page, writer, &parts);
     write_end_line(page, writer, LINE_A, foot);
     write_end_line(page, writer, LINE_B, foot);
     let how = b"text-anchor=\"middle\" class=\"name\"";
