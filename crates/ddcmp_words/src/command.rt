@@ -109,99 +109,85 @@ fn explain_command<'a>(alloc: Global) -> clap::Command<'a>
 fn explain_parser<'a>(alloc: Global) -> Parser<'a>
     ensures { Makes result explain_app }
 {
-    Parser::new(explain_command(alloc))
+    Parser::new(alloc, explain_command(alloc))
         .option(place(
             alloc,
             "file",
             "FILE",
             "The file to read; standard input where it is left out or -",
         ))
-        .option(flag(
-            alloc,
-            "raw",
-            "Read bytes as they are, not hexadecimal digits",
-        ))
+        .flag("raw", "Read bytes as they are, not hexadecimal digits")
         .option(text(
             alloc,
             "from",
             "hexdump",
             "Read a dump of hexdump -C, xxd or od -A x -t x1",
         ))
-        .option(flag(alloc, "json", "Write an object of JSON in each line"))
-        .option(flag(
-            alloc,
+        .flag("json", "Write an object of JSON in each line")
+        .flag(
             "discarded",
             "Tell bytes that were passed over too, and the frame that is unfinished",
-        ))
-        .option(number(
-            alloc,
+        )
+        .number(
             "max",
             1,
             MAX_COUNT as u32,
             "The most bytes of data that a frame may have, 1 to 16383; 16383 by default",
-        ))
+        )
 }
 
 /// The options of two ends.
-pub(crate) fn with_sizes<'a>(alloc: Global, parser: Parser<'a>) -> Parser<'a>
+pub(crate) fn with_sizes<'a>(parser: Parser<'a>) -> Parser<'a>
     ensures { (app : App) → Makes parser.entry app → Makes result (with_sizes_of app) }
 {
     parser
-        .option(number(
-            alloc,
+        .number(
             "window",
             1,
             MAX_WINDOW as u32,
             "The most messages sent and not yet acknowledged, 1 to 255; 7 by default",
-        ))
-        .option(number(
-            alloc,
+        )
+        .number(
             "inbox",
             1,
             MAX_INBOX as u32,
             "The most messages that came and were not yet taken, 1 to 255; 8 by default",
-        ))
-        .option(number(
-            alloc,
+        )
+        .number(
             "max",
             1,
             MAX_COUNT as u32,
             "The most bytes of a message, 1 to 16383; 1500 by default",
-        ))
-        .option(number(
-            alloc,
+        )
+        .number(
             "syn",
             0,
             MAX_SYN as u32,
             "How many SYN bytes go before each frame, 0 to 16; 0 by default",
-        ))
-        .option(flag(
-            alloc,
+        )
+        .flag(
             "restart",
             "An end that runs begins anew where its peer does, if no message waits to be taken",
-        ))
+        )
 }
 
 /// How a run is shown.
-fn with_view<'a>(alloc: Global, parser: Parser<'a>) -> Parser<'a>
+fn with_view<'a>(parser: Parser<'a>) -> Parser<'a>
     ensures { (app : App) → Makes parser.entry app → Makes result (with_view_of app) }
 {
     parser
-        .option(flag(
-            alloc,
+        .flag(
             "svg",
             "Draw the run as a document in SVG, in place of the text",
-        ))
-        .option(flag(
-            alloc,
+        )
+        .flag(
             "ladder",
             "Draw the run as a ladder of text, in place of the text",
-        ))
-        .option(flag(
-            alloc,
+        )
+        .flag(
             "counters",
             "Write what both stations have counted, before the last line",
-        ))
+        )
 }
 
 /// The lines of a script, for a newcomer.
@@ -240,8 +226,8 @@ fn script_command<'a>(alloc: Global, name: &'a str, about: &'a str) -> clap::Com
 fn script_parser<'a>(alloc: Global, name: &'a str, about: &'a str) -> Parser<'a>
     ensures { Makes result (script_app name.entry.now) }
 {
-    let named = Parser::new(script_command(alloc, name, about));
-    with_view(alloc, with_sizes(alloc, named))
+    let named = Parser::new(alloc, script_command(alloc, name, about));
+    with_view(with_sizes(named))
 }
 
 /// `station` without its options.
@@ -258,7 +244,7 @@ fn station_command<'a>(alloc: Global) -> clap::Command<'a>
 fn station_parser<'a>(alloc: Global) -> Parser<'a>
     ensures { Makes result station_app }
 {
-    Parser::new(station_command(alloc))
+    Parser::new(alloc, station_command(alloc))
         .required(text(
             alloc,
             "role",
@@ -291,16 +277,14 @@ fn station_parser<'a>(alloc: Global) -> Parser<'a>
             "HEX",
             "A message that is sent once the station runs, at most 1500 bytes",
         ))
-        .option(flag(
-            alloc,
+        .flag(
             "restart",
             "Begin anew where the peer does, if no message waits to be taken",
-        ))
-        .option(flag(
-            alloc,
+        )
+        .flag(
             "counters",
             "Write what the station has counted, before the last line",
-        ))
+        )
 }
 
 /// What a station writes, for a newcomer.
@@ -326,7 +310,7 @@ fn program_command<'a>(alloc: Global) -> clap::Command<'a>
 fn program_parser<'a>(alloc: Global) -> Parser<'a>
     ensures { Makes result program }
 {
-    Parser::new(program_command(alloc))
+    Parser::new(alloc, program_command(alloc))
         .subcommand(explain_parser(alloc))
         .subcommand(script_parser(
             alloc,

@@ -6,9 +6,7 @@ ghost use Rattle.ddcmp_words.specs.Making.{Makes};
 ghost use Rattle.ddcmp_words.specs.Words.{HasLink, link_app, line_app, usual_syn_of};
 ghost use Rattle.ddcmp_proto.specs.declared.config.TheConstants.{MAX_SYN};
 
-use crate::command::{
-    flag, flag_given, number, number_given, sizes_given, text, text_given, with_sizes,
-};
+use crate::command::{flag_given, number_given, sizes_given, text, text_given, with_sizes};
 use crate::linked::Linked;
 use crate::parser::Parser;
 use clap::ArgMatches;
@@ -38,7 +36,7 @@ rest goes to standard error."
 fn line_parser<'a>(alloc: Global) -> Parser<'a>
     ensures { Makes result line_app }
 {
-    Parser::new(bare_command(alloc)).required(text(
+    Parser::new(alloc, bare_command(alloc)).required(text(
         alloc,
         "line",
         "LINE",
@@ -60,46 +58,33 @@ fn bare_command<'a>(alloc: Global) -> clap::Command<'a>
 pub(crate) fn link_parser<'a>(alloc: Global) -> Parser<'a>
     ensures { Makes result link_app }
 {
-    with_sizes(alloc, line_parser(alloc))
-        .option(number(
-            alloc,
+    with_sizes(line_parser(alloc))
+        .number(
             "timer-ms",
             0,
             u32::MAX,
             "How long it waits for an answer before it asks again; 3000 by default",
-        ))
-        .option(number(
-            alloc,
+        )
+        .number(
             "seconds",
             1,
             u32::MAX,
             "End after so many seconds as if standard input had ended",
-        ))
-        .option(flag(
-            alloc,
+        )
+        .flag(
             "binary",
             "Messages are bytes after their length, not digits",
-        ))
-        .option(flag(
-            alloc,
-            "stay",
-            "Go on once all of standard input was delivered",
-        ))
-        .option(flag(
-            alloc,
-            "again",
-            "Open the line anew where it ends, and start anew",
-        ))
-        .option(flag(
-            alloc,
+        )
+        .flag("stay", "Go on once all of standard input was delivered")
+        .flag("again", "Open the line anew where it ends, and start anew")
+        .flag(
             "counters",
             "Write what the station has counted, before the last line",
-        ))
-        .option(flag(
-            alloc,
+        )
+        .flag(
             "trace",
             "Tell each frame of both ways on standard error, with the milliseconds",
-        ))
+        )
 }
 
 /// How many SYN bytes a line has before each frame, where no option says how many: a serial line

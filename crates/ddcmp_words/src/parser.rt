@@ -3,15 +3,17 @@ ghost use Rattle.std.specs.Prelude.{◌≡◌, Ok, false};
 ghost use Rattle.clap.specs.Words.{App, Rule, app_of, rule_of, with_rule, with_subcommand};
 ghost use Rattle.clap.specs.declared.builder.command.Command.TheViews.{out-Command as fields_of};
 ghost use Rattle.ddcmp_words.specs.Making.{Makes};
-ghost use Rattle.ddcmp_words.specs.Words.{required as required_of};
+ghost use Rattle.ddcmp_words.specs.Words.{flag_rule, number_rule, required as required_of};
 
+use crate::command::{flag, number};
 use clap::Arg;
-use std::alloc::AllocError;
+use std::alloc::{AllocError, Global};
 
 /// A command of `clap` to which options and subcommands are added, or the want of memory for one.
 /// So a want of memory is looked at once, when all is made.
 #[derive(Drop)]
 pub(crate) struct Parser<'a> {
+    alloc: Global,
     made: Result<clap::Command<'a>, AllocError>,
 }
 
@@ -21,19 +23,40 @@ fn under<'a>(command: clap::Command<'a>, other: Parser<'a>) -> Parser<'a>
         → (fields_of command.entry).has_globals ≡ false → Makes other.entry under
         → Makes result (with_subcommand app under.top) }
 {
-    let Parser { made } = other;
+    let Parser { alloc, made } = other;
     let made = match made {
         Ok(subcommand) => command.subcommand(subcommand),
         Err(refused) => Err(refused),
     };
-    Parser { made }
+    Parser { alloc, made }
 }
 
 impl<'a> Parser<'a> {
-    pub(crate) fn new(command: clap::Command<'a>) -> Parser<'a>
+    pub(crate) fn new(alloc: Global, command: clap::Command<'a>) -> Parser<'a>
         ensures { result.made ≡ Ok command.entry }
     {
-        Parser { made: Ok(command) }
+        Parser {
+            alloc,
+            made: Ok(command),
+        }
+    }
+
+    /// With an option more that stands alone.
+    pub(crate) fn flag(self, name: &'a str, help: &'a str) -> Parser<'a>
+        ensures { (app : App) → Makes self.entry app
+            → Makes result (with_rule app (flag_rule name.entry.now)) }
+    {
+        let option = flag(self.alloc, name, help);
+        self.option(option)
+    }
+
+    /// With an option more that takes a number.
+    pub(crate) fn number(self, name: &'a str, low: u32, high: u32, help: &'a str) -> Parser<'a>
+        ensures { (app : App) → Makes self.entry app
+            → Makes result (with_rule app (number_rule name.entry.now low high)) }
+    {
+        let option = number(self.alloc, name, low, high, help);
+        self.option(option)
     }
 
     /// With an option more.
@@ -42,12 +65,12 @@ impl<'a> Parser<'a> {
             → rule_of option.entry ≡ rule → option.entry.global ≡ false
             → Makes result (with_rule app rule) }
     {
-        let Parser { made } = self;
+        let Parser { alloc, made } = self;
         let made = match made {
             Ok(command) => command.arg(option),
             Err(refused) => Err(refused),
         };
-        Parser { made }
+        Parser { alloc, made }
     }
 
     /// With an option more, which can't be left out.
@@ -64,10 +87,13 @@ impl<'a> Parser<'a> {
         ensures { (app under : App) → Makes self.entry app → Makes other.entry under
             → Makes result (with_subcommand app under.top) }
     {
-        let Parser { made } = self;
+        let Parser { alloc, made } = self;
         match made {
             Ok(command) => under(command, other),
-            Err(refused) => Parser { made: Err(refused) },
+            Err(refused) => Parser {
+                alloc,
+                made: Err(refused),
+            },
         }
     }
 
@@ -75,7 +101,7 @@ impl<'a> Parser<'a> {
     pub(crate) fn made(self) -> Result<clap::Command<'a>, AllocError>
         ensures { result ≡ self.entry.made }
     {
-        let Parser { made } = self;
+        let Parser { alloc: _, made } = self;
         made
     }
 }

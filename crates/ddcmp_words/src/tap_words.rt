@@ -5,7 +5,7 @@ ghost use Rattle.clap.specs.declared.builder.command.Command.TheViews.{out-Comma
 ghost use Rattle.ddcmp_words.specs.Making.{Makes};
 ghost use Rattle.ddcmp_words.specs.Words.{HasTap, tap_app};
 
-use crate::command::{flag, flag_given, notation_given, number, number_given, text, text_given};
+use crate::command::{flag_given, notation_given, number_given, text, text_given};
 use crate::parser::Parser;
 use crate::tapped::Tapped;
 use clap::ArgMatches;
@@ -35,7 +35,7 @@ fn tap_command<'a>(alloc: Global) -> clap::Command<'a>
 pub(crate) fn tap_parser<'a>(alloc: Global) -> Parser<'a>
     ensures { Makes result tap_app }
 {
-    Parser::new(tap_command(alloc))
+    Parser::new(alloc, tap_command(alloc))
         .required(text(
             alloc,
             "listen",
@@ -48,24 +48,21 @@ pub(crate) fn tap_parser<'a>(alloc: Global) -> Parser<'a>
             "ADDR",
             "Where to connect to once someone has connected",
         ))
-        .option(flag(alloc, "json", "Write an object of JSON in each line"))
-        .option(flag(
-            alloc,
+        .flag("json", "Write an object of JSON in each line")
+        .flag(
             "ladder",
             "Draw what passes as a ladder of text, in place of words",
-        ))
-        .option(flag(
-            alloc,
+        )
+        .flag(
             "time",
             "Write the milliseconds since both were connected in front of each line",
-        ))
-        .option(number(
-            alloc,
+        )
+        .number(
             "max",
             1,
             MAX_COUNT as u32,
             "The most bytes of data that a frame may have, 1 to 16383; 16383 by default",
-        ))
+        )
 }
 
 /// The tap that was asked for.

@@ -9,5 +9,4 @@ returns c =
     let three = c.required-3.ensures _ _ two c.number.ensures.rule c.number.ensures.local in
     let four = c.required-4.ensures _ _ three c.number-2.ensures.rule c.number-2.ensures.local in
     let five = c.option.ensures _ _ four c.text-3.ensures.rule c.text-3.ensures.local in
-    let six = c.option-2.ensures _ _ five c.flag.ensures.rule c.flag.ensures.local in
-    c.option-3.ensures _ _ six c.flag-2.ensures.rule c.flag-2.ensures.local
+    c.flag-2.ensures _ (c.flag.ensures _ five)
