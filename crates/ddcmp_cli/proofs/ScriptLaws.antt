@@ -3,8 +3,8 @@ use Rattle.std.proofs.Common.{◌≡◌, ◌≢◌, ◌⊎◌, ◌↔◌, IsTrue
 use Rattle.ddcmp_run.specs.Run.{PairState}
 use Rattle.ddcmp_carrier.specs.Carriages.{Carriage}
 use Rattle.ddcmp_script.specs.ScriptEnds.{around, Plays}
-use Rattle.ddcmp_script.specs.declared.script_fault.ScriptFault.{ScriptFault}
-use Rattle.ddcmp_script.specs.declared.script_fault.ScriptFault.TheVariants as scripting
+use Rattle.ddcmp_script_text.specs.declared.script_fault.ScriptFault.{ScriptFault}
+use Rattle.ddcmp_script_text.specs.declared.script_fault.ScriptFault.TheVariants as scripting
 use Rattle.ddcmp_cli.specs.declared.fault.Fault.{Fault}
 use Rattle.ddcmp_cli.specs.declared.fault.Fault.TheVariants.{Line, Hex as NotHexIn, Read, Write, Memory, Carrier}
 use Rattle.ddcmp_cli.specs.declared.ending.Ending.TheVariants.{Fault as Faulted}

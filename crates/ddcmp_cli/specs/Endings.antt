@@ -6,8 +6,8 @@ use Rattle.ddcmp_explain.specs.declared.explain_fault.ExplainFault.{ExplainFault
 use Rattle.ddcmp_explain.specs.declared.explain_fault.ExplainFault.TheVariants as explaining
 use Rattle.ddcmp_explain.specs.declared.dump_fault.DumpFault.{DumpFault}
 use Rattle.ddcmp_explain.specs.declared.dump_fault.DumpFault.TheVariants as dumping
-use Rattle.ddcmp_script.specs.declared.script_fault.ScriptFault.{ScriptFault}
-use Rattle.ddcmp_script.specs.declared.script_fault.ScriptFault.TheVariants as scripting
+use Rattle.ddcmp_script_text.specs.declared.script_fault.ScriptFault.{ScriptFault}
+use Rattle.ddcmp_script_text.specs.declared.script_fault.ScriptFault.TheVariants as scripting
 use Rattle.ddcmp_cli.specs.declared.fault.Fault.{Fault}
 use Rattle.ddcmp_cli.specs.declared.fault.Fault.TheVariants.{Odd, NotHex, Dump, Line, Hex as NotHexIn, Message, Read, Write, Memory as NoMemory, Carrier, Ended}
 use Rattle.ddcmp_run.specs.Run.{PairState, new_pair}

@@ -5,9 +5,9 @@ use crate::ladder::{write_ladder, write_ladder_head};
 use crate::mark::Mark;
 use crate::sheet::Sheet;
 use crate::svg::{write_document, write_element};
+use ddcmp_closing::write_closing;
 use ddcmp_io::{Page, Sink};
 use ddcmp_pair::Pair;
-use ddcmp_script::write_closing;
 use std::alloc::Global;
 
 /// How a run is drawn.

@@ -11,8 +11,7 @@ use ddcmp_carrier::Carrier;
 use ddcmp_io::input::read_within;
 use ddcmp_io::{Got, Sink, Source, Worst};
 use ddcmp_pair::Pair;
-use ddcmp_script::ScriptFault;
-use ddcmp_script_text::without_cr;
+use ddcmp_script_text::{ScriptFault, without_cr};
 use std::alloc::Global;
 
 /// How many bytes of a script are read at once.

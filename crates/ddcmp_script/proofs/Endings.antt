@@ -17,8 +17,8 @@ use Rattle.ddcmp_run.specs.Run.{PairState}
 use Rattle.ddcmp_script_text.specs.declared.command.ParsedLine.{ParsedLine}
 use Rattle.ddcmp_script.specs.declared.performing.Stop.{Stop}
 use Rattle.ddcmp_script.specs.declared.performing.Stop.TheVariants as stop
-use Rattle.ddcmp_script.specs.declared.script_fault.ScriptFault.{ScriptFault}
-use Rattle.ddcmp_script.specs.declared.script_fault.ScriptFault.TheVariants.{Line, Hex, Read, Write, Memory, Carrier}
+use Rattle.ddcmp_script_text.specs.declared.script_fault.ScriptFault.{ScriptFault}
+use Rattle.ddcmp_script_text.specs.declared.script_fault.ScriptFault.TheVariants.{Line, Hex, Read, Write, Memory, Carrier}
 use Rattle.ddcmp_script_text.specs.ScriptWords.{lines_of}
 use Rattle.ddcmp_script_text.specs.ScriptText.{closing_text}
 use Rattle.ddcmp_carrier.specs.Carriages.{Carriage}

@@ -12,8 +12,8 @@ use Rattle.ddcmp_run.specs.Settle.{WantsMemory}
 use Rattle.ddcmp_script_text.specs.declared.command.ScriptCommand.TheVariants as command
 use Rattle.ddcmp_script_text.specs.declared.command.ParsedLine.{ParsedLine}
 use Rattle.ddcmp_script_text.specs.declared.command.ParsedLine.TheVariants as reading
-use Rattle.ddcmp_script.specs.declared.script_fault.ScriptFault.{ScriptFault}
-use Rattle.ddcmp_script.specs.declared.script_fault.ScriptFault.TheVariants.{Line, Hex, Read, Write, Memory, Carrier}
+use Rattle.ddcmp_script_text.specs.declared.script_fault.ScriptFault.{ScriptFault}
+use Rattle.ddcmp_script_text.specs.declared.script_fault.ScriptFault.TheVariants.{Line, Hex, Read, Write, Memory, Carrier}
 use Rattle.ddcmp_script_text.specs.ScriptWords.{reading_of, lines_of}
 use Rattle.ddcmp_script_text.specs.ScriptText.{closing_text}
 use Rattle.ddcmp_carrier.specs.Carriages.{Carriage}

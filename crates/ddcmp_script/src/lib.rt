@@ -3,10 +3,9 @@
 
 mod frame_lines;
 mod performing;
-mod script_fault;
 mod scripting;
 
 pub use ddcmp_carrier::{Carrier, Direct, End, LineFault};
 pub use ddcmp_pair::Pair;
-pub use script_fault::ScriptFault;
-pub use scripting::{script, script_with, write_closing};
+pub use ddcmp_script_text::ScriptFault;
+pub use scripting::{script, script_with};

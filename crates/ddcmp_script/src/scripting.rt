@@ -4,7 +4,6 @@ ghost use Rattle.std.specs.Io.KnownBytes.{Appends, Consumes};
 ghost use Rattle.ddcmp_io.specs.Written.{AppendsPart, HandsOver, Output, output_of};
 ghost use Rattle.ddcmp_run.specs.Run.{PairState};
 ghost use Rattle.ddcmp_io.specs.Change.{sink_change, source_change};
-ghost use Rattle.ddcmp_script_text.specs.ScriptText.{yes_or_no as yes_or_no_text, totals_line, counters_lines, closing_text};
 ghost use Rattle.ddcmp_carrier.specs.Carriages.{Carriage};
 ghost use Rattle.ddcmp_script.specs.Script.{nothing_between};
 ghost use Rattle.ddcmp_script.specs.ScriptEnds.{Around, around, IsPlayed, PausedBefore, Plays};
@@ -13,14 +12,12 @@ ghost use Rattle.ddcmp_script.specs.ScriptProgress.{course, fresh, played};
 ghost use Rattle.ddcmp_script.specs.ScriptSteps.{TellsDevices};
 
 use crate::performing::{Stage, Stop};
-use crate::script_fault::ScriptFault;
 use ddcmp_carrier::Carrier;
+use ddcmp_closing::write_closing;
 use ddcmp_io::input::read_within;
-use ddcmp_io::text::write_number;
 use ddcmp_io::{Got, Page, Sink, Source, Worst};
-use ddcmp_pair::{End, Pair};
-use ddcmp_script_text::{end_name, without_cr};
-use ddcmp_station_text::write_counters;
+use ddcmp_pair::Pair;
+use ddcmp_script_text::{ScriptFault, without_cr};
 use std::alloc::Global;
 
 /// How many bytes of a script are read at once.
@@ -35,65 +32,6 @@ struct Player {
     /// How many lines were done.
     number: u64,
     seen: u64,
-}
-
-fn yes_or_no(is: bool) -> &'static [u8]
-    ensures { result.now ≡ yes_or_no_text is }
-{
-    if is { b"yes" } else { b"no" }
-}
-
-/// The last line: what has been done since the line was cleared.
-fn write_last_line<W: Sink>(page: &mut Page, writer: &mut W, pair: &Pair)
-    ensures { HandsOver (output_of W.broken W.contents writer.old page.old)
-        (output_of W.broken W.contents writer.new page.new) (totals_line pair.now) }
-{
-    page.write(writer, b"honest ");
-    page.write(writer, yes_or_no(pair.honest()));
-    page.write(writer, b" clean ");
-    page.write(writer, yes_or_no(pair.clean()));
-    page.write(writer, b" up A=");
-    write_number(page, writer, pair.handed_up(End::A));
-    page.write(writer, b" B=");
-    write_number(page, writer, pair.handed_up(End::B));
-    page.write(writer, b" acked A=");
-    write_number(page, writer, pair.acknowledged(End::A));
-    page.write(writer, b" B=");
-    write_number(page, writer, pair.acknowledged(End::B));
-    page.write(writer, b"\n");
-}
-
-/// A line of the counters of each station.
-fn write_both_counters<W: Sink>(page: &mut Page, writer: &mut W, pair: &Pair)
-    ensures { HandsOver (output_of W.broken W.contents writer.old page.old)
-        (output_of W.broken W.contents writer.new page.new) (counters_lines pair.now) }
-{
-    let first = pair.station(End::A).counters();
-    write_counters(page, writer, end_name(End::A), first);
-    let second = pair.station(End::B).counters();
-    write_counters(page, writer, end_name(End::B), second);
-}
-
-/// The counters, and the last line.
-fn write_counted_closing<W: Sink>(page: &mut Page, writer: &mut W, pair: &Pair)
-    ensures { HandsOver (output_of W.broken W.contents writer.old page.old)
-        (output_of W.broken W.contents writer.new page.new)
-        (counters_lines pair.now ++ totals_line pair.now) }
-{
-    write_both_counters(page, writer, pair);
-    write_last_line(page, writer, pair);
-}
-
-/// The end of the text: the counters, where they are asked for, and the last line.
-pub fn write_closing<W: Sink>(page: &mut Page, writer: &mut W, pair: &Pair, counted: bool)
-    ensures { HandsOver (output_of W.broken W.contents writer.old page.old)
-        (output_of W.broken W.contents writer.new page.new) (closing_text counted pair.now) }
-{
-    if counted {
-        write_counted_closing(page, writer, pair);
-    } else {
-        write_last_line(page, writer, pair);
-    }
 }
 
 impl Player {

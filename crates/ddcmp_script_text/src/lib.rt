@@ -1,5 +1,5 @@
-//! The text of scripts: what a line asks for, and what is written of an answer. Nothing happens
-//! here: `ddcmp_script` does what a line asks for.
+//! The text of scripts: what a line asks for, what is written of an answer, and why a script wasn't
+//! run to its end. Nothing happens here: `ddcmp_script` does what a line asks for.
 //!
 //! ```text
 //! send A 616263     asks that the station at A is given the message `abc`
@@ -9,6 +9,7 @@
 
 mod command;
 mod reply_text;
+mod script_fault;
 
 pub use command::{ParsedLine, ScriptCommand, read_line, without_cr};
 pub use reply_text::{
@@ -16,3 +17,4 @@ pub use reply_text::{
     start_refusal_name, write_bytes, write_counted, write_plain, write_recovered, write_reply,
     write_settled, write_station,
 };
+pub use script_fault::ScriptFault;

@@ -1,5 +1,5 @@
 use Rattle.ddcmp_io.specs.Change.{source_change}
-use Rattle.ddcmp_script.specs.declared.script_fault.ScriptFault.TheVariants.{Carrier}
+use Rattle.ddcmp_script_text.specs.declared.script_fault.ScriptFault.TheVariants.{Carrier}
 use Rattle.ddcmp_cli.proofs.ScriptLaws.{tells, told-back}
 use Rattle.ddcmp_cli.proofs.drawing.draw_over.Goals as goal
 
