@@ -1,4 +1,4 @@
-use Rattle.std.proofs.Common.{◌++◌, ◌+◌, Err, Some, ap, sym, subst, ◌∙◌, arith, length-append}
+use Rattle.std.proofs.Common.{◌++◌, ◌+◌, Err, Some, inr, ap, sym, subst, ◌∙◌, arith, length-append}
 use Rattle.std.specs.Io.KnownBytes.{Appends}
 use Rattle.std.specs.Option.{option_map}
 use Rattle.ddcmp_io.specs.Written.{AppendsPart}
@@ -48,3 +48,25 @@ returns-in-Err-clause-takes g c = λ max start seen p left.
     (subst
     (λ b. AppendsPart start (g.W.Sink.contents c.flush.new.writer) (lines_in style max b))
     (sym decoded.whole) told.1)))
+
+pub returns-in-None-clause-takes : goal.returns-in-None-clause-takes
+returns-in-None-clause-takes g c = λ max start seen p.
+    let decoded = c.decode-decoded.ensures.decodes seen p.expected p.left in
+    let told = c.in-Ok.ensures.told max start _ (c.push_all.ensures.told max start _ p.told) in
+    record {
+      expected = rw (c.decode-decoded.ensures.form) (
+          decoded.unexpected ∙ ap (option_map _) c.in-None.is
+          );
+      left = rw (c.decode-decoded.ensures.form) (decoded.left c.in-None.is);
+      long = length-append seen c.args.piece.now ∙ omega (arith, p.long);
+      told = rw (c.decode-decoded.ensures.form, decoded.whole) told.0;
+      written = rw (c.flush.ensures.style, c.decode-decoded.ensures.form, decoded.whole) told.1;
+    }
+
+pub returns-in-Some-clause-takes : goal.returns-in-Some-clause-takes
+returns-in-Some-clause-takes g c = λ max start seen p left.
+    let decoded = c.decode-decoded.ensures.decodes seen p.expected p.left in
+    let told = c.in-Ok.ensures.told max start _ (c.push_all.ensures.told max start _ p.told) in (
+      inr (length-append seen c.args.piece.now ∙ omega (arith, p.long, c.if-self.true)),
+      rw (c.flush.ensures.style, c.decode-decoded.ensures.form, decoded.whole) told.1,
+    )
