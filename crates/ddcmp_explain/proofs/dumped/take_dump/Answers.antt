@@ -1,8 +1,10 @@
-use Rattle.std.proofs.Common.{◌≡◌, ◌++◌, [], ℕ, List, Err, Some, refl, rules, sym, subst, take}
-use Rattle.std.proofs.Common.{arith, ◌∙◌, length, length-append, length-take-le}
-use Rattle.std.proofs.lemmas.Grind.{common_steps}
+use Rattle.std.proofs.Common.{◌≡◌, ◌++◌, [], ℕ, List, Err, Some, ap, refl, sym, subst, take}
+use Rattle.std.proofs.Common.{arith, ◌∙◌, length, length-append, length-drop, length-take-le}
+use Rattle.std.proofs.lemmas.Bool.{false_from_ne_true}
 use Rattle.std.proofs.lemmas.Result.{err_from_is_err_and}
 use Rattle.std.proofs.KnownBytes.{Consumes-trans}
+use Rattle.ddcmp_io.specs.Device.{worse}
+use Rattle.ddcmp_io.specs.declared.device.Got.TheVariants.{Bytes}
 use Rattle.ddcmp_dump.specs.Dump.{shown_from}
 use Rattle.ddcmp_explain.specs.Explains.{Tells}
 use Rattle.ddcmp_explain.specs.Progress.{Progress, Takes}
@@ -50,9 +52,19 @@ loop-explainer-preserved g c =
     let piece = take c.in-Bytes.n c.read_within.new.buf in
     let long = length-take-le c.in-Bytes.n c.read_within.new.buf c.in-Bytes.ensures.bytes.0 in
     record {
-      fine = first_of (search rules, grind (arith, common_steps));
-      whole = first_of (search rules, grind (arith, common_steps));
-      room = first_of (search rules, grind (arith, common_steps));
+      fine = c.in-Bytes.ensures.worst
+          ∙ ap (λ worst. worse worst (Bytes c.in-Bytes.n)) c.loop-explainer.invariant.fine;
+      whole = false_from_ne_true _
+          (λ broken. let failed = c.in_ok-take_piece-in-Bytes.ensures.write.1 broken in cc);
+      room = length-append c.take_piece.new.piece _ ∙ omega (
+        arith,
+        length-drop c.in-Bytes.n c.read_within.new.buf,
+        long,
+        c.take_piece.auto.piece,
+        c.in-Bytes.ensures.bytes.0,
+        c.read_within.auto.buf,
+        c.loop-explainer.invariant.room,
+      );
       form = c.in_ok-take_piece-in-Bytes.ensures.form ∙ c.loop-explainer.invariant.form;
       style = c.in_ok-take_piece-in-Bytes.ensures.style ∙ c.loop-explainer.invariant.style;
       so_far = λ max begun.
