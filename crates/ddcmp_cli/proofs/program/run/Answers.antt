@@ -1,56 +1,96 @@
-use Rattle.std.proofs.Common.{◌∙◌, ap, codes, inl, inr, refl, Some}
+use Rattle.std.proofs.Common.{◌∙◌, ap, codes, inl, inr, refl, Err, List, Ok, Some, map, ℕ}
+use Rattle.std.proofs.KnownBytes.{Keeps-refl}
+use Rattle.ddcmp_words.specs.declared.declined.Declined.TheVariants.{Memory}
+use borrow.Author.Rules.{rules}
+use Rattle.ddcmp_words.specs.Words.{IsAsked, IsName}
 use Rattle.ddcmp_cli.proofs.CommandLaws.{linked, not_declined, performed, stationed, tapped, reads_a_file, reads_no_file}
 use Rattle.ddcmp_cli.proofs.program.run.Goals as goal
 
-pub returns-in-Ok-clause-explains : goal.returns-in-Ok-clause-explains
-returns-in-Ok-clause-explains g c = λ input e asked. performed _ _ _ c.in-Ok.command _ _ asked c.in-Ok.ensures.reads.1 c.in-Ok.ensures.reads.2 (c.perform.ensures.performs input e)
-
-pub returns-in-Ok-clause-stations : goal.returns-in-Ok-clause-stations
-returns-in-Ok-clause-stations g c = λ asked. stationed _ _ c.in-Ok.command _ _ _ _ _ asked c.in-Ok.ensures.reads.1 c.in-Ok.ensures.reads.2 c.perform.ensures.stations
-
-pub returns-in-Ok-clause-taps : goal.returns-in-Ok-clause-taps
-returns-in-Ok-clause-taps g c = λ asked. tapped _ _ c.in-Ok.command _ _ _ _ _ asked c.in-Ok.ensures.reads.1 c.in-Ok.ensures.reads.2 c.perform.ensures.taps
-
-pub returns-in-Ok-clause-links : goal.returns-in-Ok-clause-links
-returns-in-Ok-clause-links g c = λ asked. linked _ _ c.in-Ok.command asked c.in-Ok.ensures.reads.1 c.perform.ensures.links
-
-pub returns-in-Ok-clause-untouched : goal.returns-in-Ok-clause-untouched
-returns-in-Ok-clause-untouched g c = λ asked some. reads_a_file _ _ c.in-Ok.command asked c.in-Ok.ensures.reads.1 c.in-Ok.ensures.reads.2 some c.perform.ensures.untouched
-
-pub returns-in-Ok-clause-read_only : goal.returns-in-Ok-clause-read_only
-returns-in-Ok-clause-read_only g c = λ no_station no_tap no_link no_file e.
+pub returns-in-Ok : goal.returns-in-Ok
+returns-in-Ok g c = record {
+  explains = λ input e asked. performed _ _ _ c.in-Ok.command _ _ asked c.in-Ok.ensures.reads.1 c.in-Ok.ensures.reads.2 (c.perform.ensures.performs input e);
+  ends = (Ok c.in-Ok.command, c.in-Ok.ensures.reads, c.perform.ensures.performs);
+  refused = λ out. absurd (out.some c.in-Ok.ensures.reads.0);
+  read = λ no_link e.
+    c.perform.ensures.read (λ n. no_link (c.in-Ok.ensures.reads.0, c.in-Ok.ensures.reads.1 ∙ ap Some n)) e;
+  read_only = λ no_station no_tap no_link no_file e.
     c.perform.ensures.read_only (λ n. no_station (c.in-Ok.ensures.reads.0, c.in-Ok.ensures.reads.1 ∙ ap Some n))
     (λ n. no_tap (c.in-Ok.ensures.reads.0, c.in-Ok.ensures.reads.1 ∙ ap Some n))
     (λ n. no_link (c.in-Ok.ensures.reads.0, c.in-Ok.ensures.reads.1 ∙ ap Some n))
-    (reads_no_file _ c.in-Ok.command c.in-Ok.ensures.reads.2 no_file) e
+    (reads_no_file _ c.in-Ok.command c.in-Ok.ensures.reads.2 no_file) e;
+  write = λ no_station no_tap. c.perform.ensures.write (λ n. no_station (c.in-Ok.ensures.reads.0, c.in-Ok.ensures.reads.1 ∙ ap Some n)) (λ n. no_tap (c.in-Ok.ensures.reads.0, c.in-Ok.ensures.reads.1 ∙ ap Some n));
+  whole = c.perform.ensures.whole;
+  untouched = λ asked some. reads_a_file _ _ c.in-Ok.command asked c.in-Ok.ensures.reads.1 c.in-Ok.ensures.reads.2 some c.perform.ensures.untouched;
+  stations = λ asked. stationed _ _ c.in-Ok.command _ _ _ _ _ asked c.in-Ok.ensures.reads.1 c.in-Ok.ensures.reads.2 c.perform.ensures.stations;
+  taps = λ asked. tapped _ _ c.in-Ok.command _ _ _ _ _ asked c.in-Ok.ensures.reads.1 c.in-Ok.ensures.reads.2 c.perform.ensures.taps;
+  links = λ asked. linked _ _ c.in-Ok.command asked c.in-Ok.ensures.reads.1 c.perform.ensures.links;
+}
 
-pub returns-in-Ok-clause-read : goal.returns-in-Ok-clause-read
-returns-in-Ok-clause-read g c = λ no_link e.
-    c.perform.ensures.read (λ n. no_link (c.in-Ok.ensures.reads.0, c.in-Ok.ensures.reads.1 ∙ ap Some n)) e
+pub returns-in-Err-Help : goal.returns-in-Err-Help
+returns-in-Err-Help g c =
+    let not_asked : (name : List ℕ) → IsName name → IsAsked (map (λ word. word.now) c.args.words.now) name → ⊥ =
+        λ name is asked. not_declined _ _ refl (search rules) (c.in-Err-Help.ensures.asked name is asked) in
+    record {
+  explains = λ input e asked. absurd (not_asked (codes "explain") (inl refl) asked);
+  ends = search rules;
+  refused = search rules;
+  read = λ _ e. absurd (e c.requires.fine);
+  read_only = search rules;
+  write = λ _ _. c.show.ensures.write;
+  whole = search rules;
+  untouched = λ asked some. refl;
+  stations = λ asked. absurd (not_asked (codes "station") (inr (inr (inr (inl refl)))) asked);
+  taps = λ asked. absurd (not_asked (codes "tap") (inr (inr (inr (inr (inl refl))))) asked);
+  links = search rules;
+}
 
-pub returns-in-Err-Help-clause-explains : goal.returns-in-Err-Help-clause-explains
-returns-in-Err-Help-clause-explains g c = λ input e asked. absurd (not_declined _ _ refl (λ e. cc) (c.in-Err-Help.ensures.asked (codes "explain") (inl refl) asked))
+pub returns-in-Err-Version : goal.returns-in-Err-Version
+returns-in-Err-Version g c =
+    let not_asked : (name : List ℕ) → IsName name → IsAsked (map (λ word. word.now) c.args.words.now) name → ⊥ =
+        λ name is asked. not_declined _ _ refl (search rules) (c.in-Err-Version.ensures.asked name is asked) in
+    record {
+  explains = λ input e asked. absurd (not_asked (codes "explain") (inl refl) asked);
+  ends = search rules;
+  refused = search rules;
+  read = λ _ e. absurd (e c.requires.fine);
+  read_only = search rules;
+  write = λ _ _. c.show-in-Err-Version.ensures.write;
+  whole = search rules;
+  untouched = λ asked some. refl;
+  stations = λ asked. absurd (not_asked (codes "station") (inr (inr (inr (inl refl)))) asked);
+  taps = λ asked. absurd (not_asked (codes "tap") (inr (inr (inr (inr (inl refl))))) asked);
+  links = search rules;
+}
 
-pub returns-in-Err-Help-clause-stations : goal.returns-in-Err-Help-clause-stations
-returns-in-Err-Help-clause-stations g c = λ asked. absurd (not_declined _ _ refl (λ e. cc) (c.in-Err-Help.ensures.asked (codes "station") (inr (inr (inr (inl refl)))) asked))
+pub returns-in-Err-Usage : goal.returns-in-Err-Usage
+returns-in-Err-Usage g c =
+    let not_asked : (name : List ℕ) → IsName name → IsAsked (map (λ word. word.now) c.args.words.now) name → ⊥ =
+        λ name is asked. not_declined _ _ refl (search rules) (c.in-Err-Usage.ensures.asked name is asked) in
+    record {
+  explains = λ input e asked. absurd (not_asked (codes "explain") (inl refl) asked);
+  ends = search rules;
+  refused = λ out. (refl, refl, refl);
+  read = λ _ e. absurd (e c.requires.fine);
+  read_only = search rules;
+  write = search rules;
+  whole = λ e. c.requires.whole;
+  untouched = λ asked some. refl;
+  stations = λ asked. absurd (not_asked (codes "station") (inr (inr (inr (inl refl)))) asked);
+  taps = λ asked. absurd (not_asked (codes "tap") (inr (inr (inr (inr (inl refl))))) asked);
+  links = search rules;
+}
 
-pub returns-in-Err-Help-clause-taps : goal.returns-in-Err-Help-clause-taps
-returns-in-Err-Help-clause-taps g c = λ asked. absurd (not_declined _ _ refl (λ e. cc) (c.in-Err-Help.ensures.asked (codes "tap") (inr (inr (inr (inr (inl refl))))) asked))
-
-pub returns-in-Err-Version-clause-explains : goal.returns-in-Err-Version-clause-explains
-returns-in-Err-Version-clause-explains g c = λ input e asked. absurd (not_declined _ _ refl (λ e. cc) (c.in-Err-Version.ensures.asked (codes "explain") (inl refl) asked))
-
-pub returns-in-Err-Version-clause-stations : goal.returns-in-Err-Version-clause-stations
-returns-in-Err-Version-clause-stations g c = λ asked. absurd (not_declined _ _ refl (λ e. cc) (c.in-Err-Version.ensures.asked (codes "station") (inr (inr (inr (inl refl)))) asked))
-
-pub returns-in-Err-Version-clause-taps : goal.returns-in-Err-Version-clause-taps
-returns-in-Err-Version-clause-taps g c = λ asked. absurd (not_declined _ _ refl (λ e. cc) (c.in-Err-Version.ensures.asked (codes "tap") (inr (inr (inr (inr (inl refl))))) asked))
-
-pub returns-in-Err-Usage-clause-explains : goal.returns-in-Err-Usage-clause-explains
-returns-in-Err-Usage-clause-explains g c = λ input e asked. absurd (not_declined _ _ refl (λ e. cc) (c.in-Err-Usage.ensures.asked (codes "explain") (inl refl) asked))
-
-pub returns-in-Err-Usage-clause-stations : goal.returns-in-Err-Usage-clause-stations
-returns-in-Err-Usage-clause-stations g c = λ asked. absurd (not_declined _ _ refl (λ e. cc) (c.in-Err-Usage.ensures.asked (codes "station") (inr (inr (inr (inl refl)))) asked))
-
-pub returns-in-Err-Usage-clause-taps : goal.returns-in-Err-Usage-clause-taps
-returns-in-Err-Usage-clause-taps g c = λ asked. absurd (not_declined _ _ refl (λ e. cc) (c.in-Err-Usage.ensures.asked (codes "tap") (inr (inr (inr (inr (inl refl))))) asked))
+pub returns-in-Err-Memory : goal.returns-in-Err-Memory
+returns-in-Err-Memory g c = record {
+  explains = search rules;
+  ends = (Err Memory, tt, (refl, Keeps-refl (g.W.Sink.contents c.args.writer.now), refl));
+  refused = λ out. (refl, refl, refl);
+  read = λ _ e. absurd (e c.requires.fine);
+  read_only = search rules;
+  write = search rules;
+  whole = λ e. c.requires.whole;
+  untouched = λ asked some. refl;
+  stations = search rules;
+  taps = search rules;
+  links = search rules;
+}
