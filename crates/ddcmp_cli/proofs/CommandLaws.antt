@@ -1,9 +1,11 @@
 -- What the words ask for, once the command that they name was run.
 use Rattle.ddcmp_cli.specs.Endings.{CanRun, Performs, ExplainsOrNoMemory, Streams, file_named, Stations, StationsOrNoMemory, TapsAsked, TapsOrNoMemory}
 use Rattle.ddcmp_cli.specs.declared.ending.Ending.{Ending}
+use Rattle.ddcmp_cli.specs.declared.ending.Ending.TheVariants.{Done, Fault as Faulted}
+use Rattle.ddcmp_cli.specs.declared.fault.Fault.TheVariants.{Write}
 use Rattle.std.specs.Str.{bytes_eq}
 use Rattle.std.proofs.lemmas.Slice.Eq.{bytes_eq-Decides}
-use Rattle.std.specs.Prelude.{IsOk}
+use Rattle.std.specs.Prelude.{IsOk, IsTrue}
 use Rattle.ddcmp_words.specs.declared.declined.Declined.{Declined}
 use Rattle.ddcmp_words.specs.declared.declined.Declined.TheVariants.{Memory}
 use Rattle.std.proofs.Common.{Bool, false, inl, inr, ◌⊎◌, Result, Ok, Err, ◌≤◌, ℕ, codes, ◌≡◌, ◌∙◌, sym, refl, true, ◌≢◌, List, Option, Some, None}
@@ -113,3 +115,8 @@ pub not_declined : {C : Type 0} (r : Result C Declined) (d : Declined) → r ≡
 not_declined (Ok x) d e n h = let bad : Ok x ≡ Err d = e in cc
 not_declined (Err f) d e n (inl ok) = let bad : ◌≡◌ {A = Bool} false true = ok in cc
 not_declined (Err f) d e n (inr m) = let same : d ≡ Memory = cc in n same
+
+-- where broken writes are told, nothing that is done left the sink broken
+pub unbroken : (ending : Ending) (broken : Bool) → (IsTrue broken → ending ≡ Faulted Write) → ending ≡ Done → broken ≡ false
+unbroken ending true told done = let bad : Done ≡ Faulted Write = sym done ∙ told refl in cc
+unbroken ending false told done = refl
