@@ -1,4 +1,5 @@
 pub mod Done
+pub mod Errors
 pub mod Feeding
 pub mod KeptLaws
 pub mod Placed
