@@ -7,8 +7,8 @@ use Rattle.ddcmp_io.specs.declared.device.Worst.TheVariants.{Fine}
 use Rattle.ddcmp_io.specs.declared.device.Got.{Got}
 use Rattle.ddcmp_io.specs.declared.device.Got.TheVariants.{Bytes, Idle, Failed}
 use Rattle.ddcmp_io.proofs.Inputs.{read-more, gave-most}
-use Rattle.ddcmp_script.specs.declared.script_fault.ScriptFault.{ScriptFault}
-use Rattle.ddcmp_script.specs.declared.script_fault.ScriptFault.TheVariants.{Write, Read, Carrier}
+use Rattle.ddcmp_script_text.specs.declared.script_fault.ScriptFault.{ScriptFault}
+use Rattle.ddcmp_script_text.specs.declared.script_fault.ScriptFault.TheVariants.{Write, Read, Carrier}
 use Rattle.ddcmp_picture.proofs.playing.Player.take_all.Goals as goal
 
 -- a read leaves a source fine where it gave bytes, and only there

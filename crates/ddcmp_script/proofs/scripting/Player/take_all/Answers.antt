@@ -8,7 +8,7 @@ use Rattle.ddcmp_io.specs.declared.device.Got.{Got}
 use Rattle.ddcmp_io.specs.declared.device.Got.TheVariants.{Bytes, Idle, Failed}
 use Rattle.std.proofs.KnownBytes.{Consumes-nil, Consumes-kept}
 use Rattle.ddcmp_io.specs.Written.{output_of}
-use Rattle.ddcmp_script.specs.declared.script_fault.ScriptFault.TheVariants.{Write, Read, Carrier}
+use Rattle.ddcmp_script_text.specs.declared.script_fault.ScriptFault.TheVariants.{Write, Read, Carrier}
 use Rattle.ddcmp_script.specs.declared.performing.Stop.{Stop}
 use Rattle.ddcmp_script.specs.declared.performing.Stop.TheVariants as stop
 use Rattle.ddcmp_script.specs.ScriptEnds.{around}
