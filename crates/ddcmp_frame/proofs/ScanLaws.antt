@@ -1,6 +1,6 @@
 -- What bytes of a piece do to what a scan holds.
-use Rattle.std.proofs.Common.{◌≡◌, ℕ, zero, suc, ◌+◌, ◌-◌, ◌<◌, ◌≤◌, Bool, true, false, List, [], ◌∷◌, ◌++◌, length, take, drop, slice_index, vec_capacity, refl, sym, ◌∙◌, ap, subst, arith, Ok, Err, Some, None, Option, ◌⊎◌, inl, inr, append_assoc, append-nil, length-append, length-drop}
-use Rattle.std.specs.Prelude.{nat_lt, if◌then◌else◌}
+use Rattle.std.proofs.Common.{◌≡◌, ℕ, zero, suc, ◌+◌, ◌-◌, ◌<◌, ◌≤◌, Bool, true, false, List, [], ◌∷◌, ◌++◌, length, take, drop, slice_index, refl, sym, ◌∙◌, ap, subst, arith, Ok, Err, Some, None, Option, ◌⊎◌, inl, inr, append_assoc, append-nil, length-append, length-drop}
+use Rattle.std.specs.Prelude.{nat_lt, if◌then◌else◌, vec_capacity}
 use Rattle.std.proofs.lemmas.List.{take-append-le, drop-append-le, drop_all, length-take, length-take-le, take-append-drop, take-take}
 use Rattle.std.proofs.lemmas.Bool.{cases_lt}
 use Rattle.std.proofs.Math.Seq.{take-add}
@@ -448,7 +448,10 @@ eight-taken s piece used x sound phase within few is full =
     }
 
 -- fewer bytes than a frame takes are held after a step that lends nothing
-pub kept-sound : (s t : Scan) → IsSoundScan s → s.lent ≡ 0 → t.max ≡ s.max → t.lent ≡ s.lent → vec_capacity s.buffer ≤ vec_capacity t.buffer → length t.buffer.items ≤ 8 → length (bytes_in t.phase t.buffer.items) ≤ t.offset → FitsPhase t.max t.phase t.buffer.items → IsSoundScan t
+pub kept-sound : (s t : Scan) → IsSoundScan s → s.lent ≡ 0 → t.max ≡ s.max → t.lent ≡ s.lent
+    → vec_capacity s.buffer ≤ vec_capacity t.buffer → length t.buffer.items ≤ 8
+    → length (bytes_in t.phase t.buffer.items) ≤ t.offset
+    → FitsPhase t.max t.phase t.buffer.items → IsSoundScan t
 kept-sound s t sound none same lent room few before fits = record {
   some = omega (arith, same, sound.some);
   most = subst (λ max. max ≤ MAX_COUNT) (sym same) sound.most;

@@ -1,4 +1,9 @@
-use Rattle.std.proofs.Common.{◌≡◌, ℕ, ◌+◌, ◌-◌, sym, ◌∙◌, ap, subst, List, length, arith, Bool, true, false, Some, None}
+use Rattle.std.proofs.Common.{◌≡◌, ℕ, ◌+◌, ◌-◌, ◌<◌, ◌≤◌, ◌++◌, refl, sym, ◌∙◌, ap, subst, zero-le}
+use Rattle.std.proofs.Common.{List, [], ◌∷◌, length, length-append, vec_len, vec_capacity, arith}
+use Rattle.std.proofs.Common.{Bool, true, false, true≢false, if◌then◌else◌, Some, None}
+use Rattle.ddcmp_num.specs.declared.limits.TheConstants.{MAX_COUNT}
+use Rattle.ddcmp_frame.specs.PlainRoom.{HasPlainRoom}
+use Rattle.ddcmp_frame.specs.declared.plain.PlainReader.TheInside.{Inside}
 use Rattle.ddcmp_frame.specs.declared.item.Item.TheVariants.{TooLong}
 use Rattle.ddcmp_frame.specs.declared.plain.Step.{Step}
 use Rattle.ddcmp_frame.specs.declared.plain.Step.TheVariants.{Unfinished, Skips, Fails, Announces, Gives}
@@ -15,6 +20,42 @@ row_is max at lost t u r s e f h =
 
 found_is : (max at : ℕ) (t u : List ℕ) (r s : Step) → t ≡ u → r ≡ s → Found max at t r → Found max at u s
 found_is max at t u r s e f h = subst (Found max at u) f (subst (λ x. Found max at x r) e h)
+
+-- how many bytes are held once one was stored
+stored_by : (max offset : ℕ) (finished : Bool) (old u : List ℕ) (byte : ℕ)
+    → (finished ≡ false → length old < max + 10) → (finished ≡ false → length old ≤ offset)
+    → u ≡ (if finished then [] else old) ++ byte ∷ []
+    → (length u ≤ max + 10) × (length u ≤ offset + 1)
+stored_by max offset true old u byte short before is =
+    (omega (arith, ap length is), omega (arith, ap length is))
+stored_by max offset false old u byte short before is =
+    let long = ap length is ∙ length-append old (byte ∷ []) in
+    (omega (arith, long, short refl), omega (arith, long, before refl))
+
+stored : (i : Inside) (u : List ℕ) (byte : ℕ) → HasPlainRoom i
+    → u ≡ (if i.finished then [] else i.buffer.items) ++ byte ∷ []
+    → (length u ≤ i.max + 10) × (length u ≤ i.offset + 1)
+stored i u byte room is =
+    stored_by i.max i.offset i.finished i.buffer.items u byte
+    (λ going. omega (arith, room.unfinished going)) (λ going. omega (arith, room.before going)) is
+
+-- the room that is left
+room_after : (i j : Inside) → HasPlainRoom i → j.max ≡ i.max
+    → vec_capacity i.buffer ≤ vec_capacity j.buffer → vec_len j.buffer ≤ i.max + 10
+    → (j.finished ≡ false → (vec_len j.buffer < i.max + 10) × (vec_len j.buffer ≤ j.offset))
+    → j.skipped + j.left ≤ MAX_COUNT + 10 → (0 < j.lent → 8 + j.lent ≤ vec_len j.buffer)
+    → j.lent ≤ i.max → HasPlainRoom j
+room_after i j room same more held short passing lent within = record {
+  some = omega (arith, same, room.some);
+  most = subst (λ max. max ≤ MAX_COUNT) (sym same) room.most;
+  reserved = omega (arith, same, room.reserved, more);
+  held = omega (arith, same, held);
+  unfinished = λ going. omega (arith, same, (short going).0);
+  before = λ going. (short going).1;
+  passing = passing;
+  lent = lent;
+  lent_within = omega (arith, same, within);
+}
 
 pub returns-then-self-gt1-clause-grows : goal.returns-then-self-gt1-clause-grows
 returns-then-self-gt1-clause-grows c = λ text.
@@ -82,3 +123,56 @@ returns-in-Gives-clause-grows c = λ text.
     let l = c.len.ensures ∙ sym c.deref.ensures.len ∙ ap length c.deref.ensures.value in
     subst (λ v. StandsFor v text → Grows v c.args.byte (Some c.in-Gives.item) (held i.max (i.offset + 1) false true u i.skipped i.left c.in-Gives.lent) text) c.self.view_is
     (λ s. exit_gives i.max i.offset i.lost i.finished i.buffer.items i.skipped i.left i.lent c.args.byte text u at c.in-Gives.item c.in-Gives.lent (record { stands = s; none = omega arith; bytes = c.store.ensures.items; at_front = ap (λ n. i.offset + 1 - n) l }) f e)
+
+pub overflow_sub-at : goal.overflow_sub-at
+overflow_sub-at c =
+    let fits = stored c.self.inside c.store.new.buffer.items c.args.byte c.self.invariant
+    c.store.ensures.items in
+    omega (arith, c.len.ensures, fits.1)
+
+pub invariant_of-self-in-Unfinished : goal.invariant_of-self-in-Unfinished
+invariant_of-self-in-Unfinished c =
+    let fits = stored c.self.inside c.store.new.buffer.items c.args.byte c.self.invariant
+    c.store.ensures.items in
+    room_after c.self.inside _ c.self.invariant refl c.store.ensures.room (omega (arith, fits.0))
+    (λ going. (
+      omega (arith, c.in-Unfinished.ensures.found, c.deref.ensures.len),
+      omega (arith, fits.1),
+    ))
+    c.self.invariant.passing (λ some. absurd (omega (arith, some))) zero-le
+
+pub invariant_of-self-in-Skips : goal.invariant_of-self-in-Skips
+invariant_of-self-in-Skips c =
+    let fits = stored c.self.inside c.store.new.buffer.items c.args.byte c.self.invariant
+    c.store.ensures.items in
+    room_after c.self.inside _ c.self.invariant refl c.store.ensures.room (omega (arith, fits.0))
+    (λ going. absurd (true≢false going))
+    c.self.invariant.passing (λ some. absurd (omega (arith, some))) zero-le
+
+pub invariant_of-self-in-Fails : goal.invariant_of-self-in-Fails
+invariant_of-self-in-Fails c =
+    let fits = stored c.self.inside c.store.new.buffer.items c.args.byte c.self.invariant
+    c.store.ensures.items in
+    let shorter = c.resume.ensures.shorter in
+    room_after c.self.inside _ c.self.invariant refl
+    (omega (arith, c.store.ensures.room, c.resume.ensures.room))
+    (omega (arith, shorter, fits.0))
+    (λ going. (omega (arith, shorter, fits.0), omega (arith, shorter, fits.1)))
+    c.self.invariant.passing (λ some. absurd (omega (arith, some))) zero-le
+
+pub invariant_of-self-in-Announces : goal.invariant_of-self-in-Announces
+invariant_of-self-in-Announces c =
+    let fits = stored c.self.inside c.store.new.buffer.items c.args.byte c.self.invariant
+    c.store.ensures.items in
+    room_after c.self.inside _ c.self.invariant refl c.store.ensures.room (omega (arith, fits.0))
+    (λ going. absurd (true≢false going))
+    (omega (arith, c.in-Announces.ensures.found.4)) (λ some. absurd (omega (arith, some))) zero-le
+
+pub invariant_of-self-in-Gives : goal.invariant_of-self-in-Gives
+invariant_of-self-in-Gives c =
+    let fits = stored c.self.inside c.store.new.buffer.items c.args.byte c.self.invariant
+    c.store.ensures.items in
+    let found = c.in-Gives.ensures.found in
+    room_after c.self.inside _ c.self.invariant refl c.store.ensures.room (omega (arith, fits.0))
+    (λ going. absurd (true≢false going))
+    c.self.invariant.passing (λ some. omega (arith, found.0, found.1, c.deref.ensures.len)) found.5

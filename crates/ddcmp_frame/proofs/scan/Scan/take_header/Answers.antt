@@ -1,4 +1,5 @@
-use Rattle.std.proofs.Common.{◌≡◌, ◌+◌, ◌-◌, ◌≤◌, [], ◌∷◌, Some, false, refl, sym, ◌∙◌, ap, subst, arith, rules, length, take, take_all, drop, slice_index, zero-le}
+use Rattle.std.proofs.Common.{◌≡◌, ◌+◌, ◌-◌, ◌≤◌, [], ◌∷◌, Some, false, refl, sym, ◌∙◌, ap, subst, arith, rules, length, take, take_all, drop}
+use Rattle.std.proofs.Common.{slice_index, zero-le}
 use Rattle.ddcmp_frame.specs.declared.scan.Candidate.TheVariants.{Fails, Gives, Begins, Announces}
 use Rattle.ddcmp_frame.specs.Spelling.{is_start, parsed}
 use Rattle.ddcmp_frame.specs.Reader.{LentBeside, EndsWith}
@@ -6,7 +7,8 @@ use Rattle.ddcmp_frame.specs.Reading.{by_verdict, place_after}
 use Rattle.ddcmp_frame.specs.Scan.{bytes_in, skipped_in, left_in, view_of, FitsPhase, IsCandidate}
 use Rattle.ddcmp_frame.proofs.ReadingLaws.{row-waits, row-full}
 use Rattle.ddcmp_frame.proofs.PushLaws.{next_place, loss_told}
-use Rattle.ddcmp_frame.proofs.ScanLaws.{takes-nothing, takes-item, index-take, header-few, header-taken, eight-taken, after-taking, waits, fails, gives, announces, row-short, resumed, loss-lends, kept-sound}
+use Rattle.ddcmp_frame.proofs.ScanLaws.{takes-nothing, takes-item, header-few, header-taken, eight-taken, after-taking, waits, fails, gives, announces, row-short, resumed, loss-lends}
+use Rattle.ddcmp_frame.proofs.ScanLaws.{index-take, kept-sound}
 use Rattle.ddcmp_frame.proofs.scan.Scan.take_header.Goals as goal
 
 pub returns-in_default-clause-takes : goal.returns-in_default-clause-takes
@@ -37,7 +39,9 @@ returns-in-Fails-clause-sound c =
     let used = c.min-used.result in
     let x = c.keep.new.buffer.items in
     let few = header-few s ready.sound c.requires.phase in
-    let t = eight-taken s c.args.piece.now used x ready.sound c.requires.phase (omega arith) (omega arith) c.keep.ensures.items (omega (arith, c.in-Some.ensures.cases.enough, c.deref.ensures.len)) in
+    let t = eight-taken s c.args.piece.now used x ready.sound c.requires.phase (omega arith)
+    (omega arith) c.keep.ensures.items
+    (omega (arith, c.in-Some.ensures.cases.enough, c.deref.ensures.len)) in
     let r = resumed s.max c.phase_of-self.result x c.resume.new.buffer.items c.deref-in-Fails.result.now t.eight c.resume.ensures.items c.deref-in-Fails.ensures.value c.phase_of-self.ensures.none c.phase_of-self.ensures.some in
     record {
       some = ready.sound.some;
@@ -59,7 +63,9 @@ returns-in-Fails-clause-takes c =
     let x = c.keep.new.buffer.items in
     let y = c.resume.new.buffer.items in
     let few = header-few s ready.sound c.requires.phase in
-    let t = eight-taken s piece used x ready.sound c.requires.phase (omega arith) (omega arith) c.keep.ensures.items (omega (arith, c.in-Some.ensures.cases.enough, c.deref.ensures.len)) in
+    let t = eight-taken s piece used x ready.sound c.requires.phase (omega arith)
+    (omega arith) c.keep.ensures.items
+    (omega (arith, c.in-Some.ensures.cases.enough, c.deref.ensures.len)) in
     let front = c.in-Some.ensures.cases.same ∙ ap (take 8) c.deref.ensures.value in
     let wrong = subst (λ z. IsCandidate s.max (s.offset + used - 8) z Fails) front c.in-Fails.ensures in
     let unlent = ap (λ n. take n (drop 8 y)) ready.lent in
@@ -84,7 +90,9 @@ returns-in-Gives-clause-takes c =
     let x = c.keep.new.buffer.items in
     let item = c.in-Gives.item in
     let few = header-few s ready.sound c.requires.phase in
-    let t = eight-taken s piece used x ready.sound c.requires.phase (omega arith) (omega arith) c.keep.ensures.items (omega (arith, c.in-Some.ensures.cases.enough, c.deref.ensures.len)) in
+    let t = eight-taken s piece used x ready.sound c.requires.phase (omega arith)
+    (omega arith) c.keep.ensures.items
+    (omega (arith, c.in-Some.ensures.cases.enough, c.deref.ensures.len)) in
     let place = next_place (s.offset + used - 8) s.lost x in
     let all : take 8 x ≡ x = take_all 8 x (omega (arith, t.eight)) in
     let front = c.in-Some.ensures.cases.same ∙ ap (take 8) c.deref.ensures.value in
@@ -104,7 +112,9 @@ returns-in-Begins-clause-takes c =
     let h = c.in-Begins.header in
     let n = c.in-Begins.count in
     let few = header-few s ready.sound c.requires.phase in
-    let t = eight-taken s piece used x ready.sound c.requires.phase (omega arith) (omega arith) c.keep.ensures.items (omega (arith, c.in-Some.ensures.cases.enough, c.deref.ensures.len)) in
+    let t = eight-taken s piece used x ready.sound c.requires.phase (omega arith)
+    (omega arith) c.keep.ensures.items
+    (omega (arith, c.in-Some.ensures.cases.enough, c.deref.ensures.len)) in
     let front = c.in-Some.ensures.cases.same ∙ ap (take 8) c.deref.ensures.value in
     let is = subst (λ y. IsCandidate s.max (s.offset + used - 8) y (Begins h n)) front c.in-Begins.ensures in
     takes-nothing (view_of s) _ piece used t.within (omega arith) refl refl (ap (λ n. take n (drop 8 x)) ready.lent) (λ text.
@@ -120,7 +130,9 @@ returns-in-Announces-clause-takes c =
     let h = c.in-Announces.header in
     let n = c.in-Announces.count in
     let few = header-few s ready.sound c.requires.phase in
-    let t = eight-taken s piece used x ready.sound c.requires.phase (omega arith) (omega arith) c.keep.ensures.items (omega (arith, c.in-Some.ensures.cases.enough, c.deref.ensures.len)) in
+    let t = eight-taken s piece used x ready.sound c.requires.phase (omega arith)
+    (omega arith) c.keep.ensures.items
+    (omega (arith, c.in-Some.ensures.cases.enough, c.deref.ensures.len)) in
     let front = c.in-Some.ensures.cases.same ∙ ap (take 8) c.deref.ensures.value in
     let is = subst (λ y. IsCandidate s.max (s.offset + used - 8) y (Announces h n)) front c.in-Announces.ensures in
     let unlent = ap (λ n. take n (drop 8 x)) ready.lent in
@@ -133,10 +145,13 @@ candidate_at-requires c =
     let sound = c.requires.ready.sound in
     let x = c.keep.new.buffer.items in
     let few = header-few s sound c.requires.phase in
-    let t = eight-taken s c.args.piece.now c.min-used.result x sound c.requires.phase (omega arith) (omega arith) c.keep.ensures.items (omega (arith, c.in-Some.ensures.cases.enough, c.deref.ensures.len)) in
+    let t = eight-taken s c.args.piece.now c.min-used.result x sound c.requires.phase
+    (omega arith) (omega arith) c.keep.ensures.items
+    (omega (arith, c.in-Some.ensures.cases.enough, c.deref.ensures.len)) in
     let front = c.in-Some.ensures.cases.same ∙ ap (take 8) c.deref.ensures.value in
     record {
-      start = ap (λ y. is_start (slice_index y 0)) front ∙ ap is_start (index-take 8 0 x (omega arith)) ∙ t.more.start;
+      start = ap (λ y. is_start (slice_index y 0)) front
+          ∙ ap is_start (index-take 8 0 x (omega arith)) ∙ t.more.start;
     }
 
 pub overflow_sub-at : goal.overflow_sub-at
@@ -145,7 +160,9 @@ overflow_sub-at c =
     let sound = c.requires.ready.sound in
     let x = c.keep.new.buffer.items in
     let few = header-few s sound c.requires.phase in
-    let t = eight-taken s c.args.piece.now c.min-used.result x sound c.requires.phase (omega arith) (omega arith) c.keep.ensures.items (omega (arith, c.in-Some.ensures.cases.enough, c.deref.ensures.len)) in
+    let t = eight-taken s c.args.piece.now c.min-used.result x sound c.requires.phase
+    (omega arith) (omega arith) c.keep.ensures.items
+    (omega (arith, c.in-Some.ensures.cases.enough, c.deref.ensures.len)) in
     t.before
 
 pub returns-in_default-clause-sound : goal.returns-in_default-clause-sound
@@ -154,14 +171,17 @@ returns-in_default-clause-sound c =
     let sound = c.requires.ready.sound in
     let x = c.keep.new.buffer.items in
     let few = header-few s sound c.requires.phase in
-    let t = header-taken s c.args.piece.now c.min-used.result x sound c.requires.phase (omega arith) (omega arith) c.keep.ensures.items in
+    let t = header-taken s c.args.piece.now c.min-used.result x sound c.requires.phase
+    (omega arith) (omega arith) c.keep.ensures.items in
     let start = (t.more (s.offset - length s.buffer.items) (omega (arith, t.before))).start in
     let short = c.in_default.ensures.cases in
+    let held = subst (λ p. FitsPhase s.max p s.buffer.items) c.requires.phase sound.fits in
     kept-sound s _ sound c.requires.ready.lent refl refl c.keep.ensures.room
     (omega (arith, short, c.deref.ensures.len))
-    (subst (λ p. length (bytes_in p x) ≤ s.offset + c.min-used.result) (sym c.requires.phase) (omega (arith, t.len, t.before)))
+    (subst (λ p. length (bytes_in p x) ≤ s.offset + c.min-used.result) (sym c.requires.phase)
+    (omega (arith, t.len, t.before)))
     (subst (λ p. FitsPhase s.max p x) (sym c.requires.phase) (record {
-      some = omega (arith, t.len, (subst (λ p. FitsPhase s.max p s.buffer.items) c.requires.phase sound.fits).some);
+      some = omega (arith, t.len, held.some);
       few = omega (arith, short, c.deref.ensures.len);
       start = start;
     }))
@@ -171,8 +191,11 @@ returns-in-Gives-clause-sound c =
     let s = c.args.self.now in
     let sound = c.requires.ready.sound in
     let few = header-few s sound c.requires.phase in
-    let t = eight-taken s c.args.piece.now c.min-used.result c.keep.new.buffer.items sound c.requires.phase (omega arith) (omega arith) c.keep.ensures.items (omega (arith, c.in-Some.ensures.cases.enough, c.deref.ensures.len)) in
-    kept-sound s _ sound c.requires.ready.lent refl refl c.keep.ensures.room (omega (arith, t.eight))
+    let t = eight-taken s c.args.piece.now c.min-used.result c.keep.new.buffer.items sound
+    c.requires.phase (omega arith) (omega arith) c.keep.ensures.items
+    (omega (arith, c.in-Some.ensures.cases.enough, c.deref.ensures.len)) in
+    kept-sound s _ sound c.requires.ready.lent refl refl c.keep.ensures.room
+    (omega (arith, t.eight))
     zero-le (tt)
 
 pub returns-in-Begins-clause-sound : goal.returns-in-Begins-clause-sound
@@ -180,10 +203,15 @@ returns-in-Begins-clause-sound c =
     let s = c.args.self.now in
     let sound = c.requires.ready.sound in
     let few = header-few s sound c.requires.phase in
-    let t = eight-taken s c.args.piece.now c.min-used.result c.keep.new.buffer.items sound c.requires.phase (omega arith) (omega arith) c.keep.ensures.items (omega (arith, c.in-Some.ensures.cases.enough, c.deref.ensures.len)) in
+    let t = eight-taken s c.args.piece.now c.min-used.result c.keep.new.buffer.items sound
+    c.requires.phase (omega arith) (omega arith) c.keep.ensures.items
+    (omega (arith, c.in-Some.ensures.cases.enough, c.deref.ensures.len)) in
     let front = c.in-Some.ensures.cases.same ∙ ap (take 8) c.deref.ensures.value in
-    let is = subst (λ y. IsCandidate s.max (s.offset + c.min-used.result - 8) y (Begins c.in-Begins.header c.in-Begins.count)) front c.in-Begins.ensures in
-    kept-sound s _ sound c.requires.ready.lent refl refl c.keep.ensures.room (omega (arith, t.eight))
+    let at = s.offset + c.min-used.result - 8 in
+    let is = subst (λ y. IsCandidate s.max at y (Begins c.in-Begins.header c.in-Begins.count))
+    front c.in-Begins.ensures in
+    kept-sound s _ sound c.requires.ready.lent refl refl c.keep.ensures.room
+    (omega (arith, t.eight))
     (omega (arith, t.eight, t.before)) (record {
       full = omega (arith, t.eight);
       short = omega (arith, t.eight);
@@ -198,8 +226,14 @@ returns-in-Announces-clause-sound c =
     let s = c.args.self.now in
     let sound = c.requires.ready.sound in
     let few = header-few s sound c.requires.phase in
-    let t = eight-taken s c.args.piece.now c.min-used.result c.keep.new.buffer.items sound c.requires.phase (omega arith) (omega arith) c.keep.ensures.items (omega (arith, c.in-Some.ensures.cases.enough, c.deref.ensures.len)) in
+    let t = eight-taken s c.args.piece.now c.min-used.result c.keep.new.buffer.items sound
+    c.requires.phase (omega arith) (omega arith) c.keep.ensures.items
+    (omega (arith, c.in-Some.ensures.cases.enough, c.deref.ensures.len)) in
     let front = c.in-Some.ensures.cases.same ∙ ap (take 8) c.deref.ensures.value in
-    let is = subst (λ y. IsCandidate s.max (s.offset + c.min-used.result - 8) y (Announces c.in-Announces.header c.in-Announces.count)) front c.in-Announces.ensures in
-    kept-sound s _ sound c.requires.ready.lent refl refl c.keep.ensures.room (omega (arith, t.eight))
+    let at = s.offset + c.min-used.result - 8 in
+    let h = c.in-Announces.header in
+    let is = subst (λ y. IsCandidate s.max at y (Announces h c.in-Announces.count))
+    front c.in-Announces.ensures in
+    kept-sound s _ sound c.requires.ready.lent refl refl c.keep.ensures.room
+    (omega (arith, t.eight))
     zero-le (omega arith, omega (arith, is.3))
