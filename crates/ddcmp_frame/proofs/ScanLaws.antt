@@ -447,16 +447,16 @@ eight-taken s piece used x sound phase within few is full =
       more = t.more (s.offset + used - 8) (omega (arith, t.before, t.len));
     }
 
--- fewer bytes than a frame takes are held after a step that lends nothing
+-- the buffer still has room after a step that lends nothing
 pub kept-sound : (s t : Scan) → IsSoundScan s → s.lent ≡ 0 → t.max ≡ s.max → t.lent ≡ s.lent
-    → vec_capacity s.buffer ≤ vec_capacity t.buffer → length t.buffer.items ≤ 8
+    → vec_capacity s.buffer ≤ vec_capacity t.buffer → length t.buffer.items ≤ s.max + 10
     → length (bytes_in t.phase t.buffer.items) ≤ t.offset
     → FitsPhase t.max t.phase t.buffer.items → IsSoundScan t
 kept-sound s t sound none same lent room few before fits = record {
   some = omega (arith, same, sound.some);
   most = subst (λ max. max ≤ MAX_COUNT) (sym same) sound.most;
   reserved = omega (arith, same, room, sound.reserved);
-  held = omega (arith, few);
+  held = omega (arith, same, few);
   before = before;
   fits = fits;
   lent = λ some. absurd (omega (arith, none, lent, some));

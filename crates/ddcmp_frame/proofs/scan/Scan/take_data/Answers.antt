@@ -1,13 +1,15 @@
 use Rattle.std.proofs.Common.{◌≡◌, ◌+◌, ◌-◌, ◌≤◌, [], ◌∷◌, Some, true, false, refl, sym, ◌∙◌, ap, subst, arith, rules, length, take, take_all, drop}
+use Rattle.std.proofs.Common.{zero-le}
 use Rattle.std.proofs.lemmas.List.{length-take}
 use Rattle.ddcmp_frame.specs.Spelling.{IsBytes}
 use Rattle.ddcmp_frame.specs.declared.item.Item.TheVariants.{Good, DataCheck}
 use Rattle.ddcmp_frame.specs.Reading.{place_after, is_data_right}
 use Rattle.ddcmp_frame.specs.Reader.{frame_length}
-use Rattle.ddcmp_frame.specs.Scan.{bytes_in, skipped_in, left_in, view_of}
+use Rattle.ddcmp_frame.specs.Scan.{bytes_in, skipped_in, left_in, view_of, FitsPhase}
 use Rattle.ddcmp_frame.proofs.WireLaws.{counted-whole, frame_length-counted}
 use Rattle.ddcmp_frame.proofs.PushLaws.{next_place}
 use Rattle.ddcmp_frame.proofs.ScanLaws.{takes-nothing, takes-item, frame-short, frame-taken, after-taking, waits, gives, row-short, row-whole}
+use Rattle.ddcmp_frame.proofs.ScanLaws.{kept-sound}
 use Rattle.ddcmp_frame.proofs.scan.Scan.take_data.Goals as goal
 
 pub returns-then-len-count-clause-takes : goal.returns-then-len-count-clause-takes
@@ -74,3 +76,71 @@ returns-clause-takes c =
     let all = take_all (frame_length h) x (omega (arith, t.len, frame_length-counted h n m.counted)) in
     takes-item (view_of s) _ piece used (Some (Good at h)) (omega arith) (omega arith) refl refl whole.0 (omega (arith, length-take n (drop 8 x), m.taken)) (λ text.
     gives (view_of s) _ text (take used piece) x at (Good at h) (n + 10) m.more row_is (omega (arith, t.len)) m.quiet (λ y ends. ends ∙ sym all ∙ whole.1) (after-taking (view_of s) _ piece used t.taken refl refl))
+
+pub overflow_sub-at : goal.overflow_sub-at
+overflow_sub-at c =
+    let s = c.args.self.now in
+    let sound = c.requires.ready.sound in
+    let phase = c.requires.phase in
+    let x = c.keep.new.buffer.items in
+    let short = frame-short s c.args.header c.args.count sound phase in
+    let t = frame-taken s c.args.header c.args.count c.args.piece.now c.min-used.result x sound
+    phase (omega arith) (omega arith) c.keep.ensures.items in
+    omega (arith, t.before, t.len, c.len-3.ensures)
+
+pub returns-then-len-count-clause-sound : goal.returns-then-len-count-clause-sound
+returns-then-len-count-clause-sound c =
+    let s = c.args.self.now in
+    let sound = c.requires.ready.sound in
+    let phase = c.requires.phase in
+    let x = c.keep.new.buffer.items in
+    let short = frame-short s c.args.header c.args.count sound phase in
+    let t = frame-taken s c.args.header c.args.count c.args.piece.now c.min-used.result x sound
+    phase (omega arith) (omega arith) c.keep.ensures.items in
+    let m = t.more (s.offset - length s.buffer.items) (omega (arith, t.before)) in
+    kept-sound s _ sound c.requires.ready.lent refl refl c.keep.ensures.room
+    (omega arith)
+    (subst (λ p. length (bytes_in p x) ≤ s.offset + c.min-used.result) (sym phase)
+    (omega (arith, t.len, t.before)))
+    (subst (λ p. FitsPhase s.max p x) (sym phase) (record {
+      full = m.full;
+      short = omega arith;
+      start = m.start;
+      is = m.is;
+      counted = m.counted;
+      taken = m.taken;
+    }))
+
+pub returns-then-not-data_right-clause-sound : goal.returns-then-not-data_right-clause-sound
+returns-then-not-data_right-clause-sound c =
+    let s = c.args.self.now in
+    let sound = c.requires.ready.sound in
+    let phase = c.requires.phase in
+    let x = c.keep.new.buffer.items in
+    let short = frame-short s c.args.header c.args.count sound phase in
+    let t = frame-taken s c.args.header c.args.count c.args.piece.now c.min-used.result x sound
+    phase (omega arith) (omega arith) c.keep.ensures.items in
+    let m = t.more (s.offset - length s.buffer.items) (omega (arith, t.before)) in
+    kept-sound s _ sound c.requires.ready.lent refl refl c.keep.ensures.room
+    (omega arith) zero-le tt
+
+pub returns-clause-sound : goal.returns-clause-sound
+returns-clause-sound c =
+    let s = c.args.self.now in
+    let sound = c.requires.ready.sound in
+    let phase = c.requires.phase in
+    let x = c.keep.new.buffer.items in
+    let short = frame-short s c.args.header c.args.count sound phase in
+    let t = frame-taken s c.args.header c.args.count c.args.piece.now c.min-used.result x sound
+    phase (omega arith) (omega arith) c.keep.ensures.items in
+    let m = t.more (s.offset - length s.buffer.items) (omega (arith, t.before)) in
+    record {
+      some = sound.some;
+      most = sound.most;
+      reserved = omega (arith, sound.reserved, c.keep.ensures.room);
+      held = omega arith;
+      before = zero-le;
+      fits = tt;
+      lent = λ some. omega arith;
+      lent_within = m.taken;
+    }
