@@ -2,6 +2,8 @@ use Rattle.std.proofs.Common.{rules, refl, ap, sym, Ok, Err}
 use Rattle.ddcmp_station.specs.UserCalls.{Calls}
 use Rattle.ddcmp_serve.specs.Serving.{closing_text, served_answer}
 use Rattle.ddcmp_serve.specs.Reporting.{Reports}
+use Rattle.ddcmp_serve.specs.declared.serve_fault.ServeFault.TheVariants.{Report}
+use Rattle.ddcmp_serve.proofs.AnswerLaws.{done_has_memory, done_is_no_line, ends_line, off_line, on_line, report_has_memory, report_is_no_line, told_broken, told_line, told_whole}
 use Rattle.ddcmp_serve.proofs.ServingLaws.{begun-of, drives-as, comes-to, comes-to-all, usual-room}
 use Rattle.ddcmp_serve.proofs.serving.serve.Goals as goal
 
@@ -49,3 +51,58 @@ returns-clause-serves g c = λ _.
           c.in-Err.ensures.drives;
       answers = refl;
     }
+
+pub returns-in-Ok-write_end-clause-read : goal.returns-in-Ok-write_end-clause-read
+returns-in-Ok-write_end-clause-read g c = off_line (Ok _) done_is_no_line c.in-Ok-drive.ensures.read
+
+pub returns-in-Ok-write_end-clause-write : goal.returns-in-Ok-write_end-clause-write
+returns-in-Ok-write_end-clause-write g c = off_line (Ok _) done_is_no_line c.in-Ok-drive.ensures.write
+
+pub returns-in-Ok-write_end-clause-ended : goal.returns-in-Ok-write_end-clause-ended
+returns-in-Ok-write_end-clause-ended g c = λ e. absurd (done_is_no_line _ e)
+
+pub returns-in-Ok-write_end-clause-told : goal.returns-in-Ok-write_end-clause-told
+returns-in-Ok-write_end-clause-told g c = told_whole c.in-Ok-write_end.ensures.broken
+
+pub returns-in-Ok-drive-clause-read : goal.returns-in-Ok-drive-clause-read
+returns-in-Ok-drive-clause-read g c = off_line (Err Report) report_is_no_line c.in-Ok-drive.ensures.read
+
+pub returns-in-Ok-drive-clause-write : goal.returns-in-Ok-drive-clause-write
+returns-in-Ok-drive-clause-write g c = off_line (Err Report) report_is_no_line c.in-Ok-drive.ensures.write
+
+pub returns-in-Ok-drive-clause-ended : goal.returns-in-Ok-drive-clause-ended
+returns-in-Ok-drive-clause-ended g c = λ e. absurd (report_is_no_line _ e)
+
+pub returns-in-Ok-drive-clause-told : goal.returns-in-Ok-drive-clause-told
+returns-in-Ok-drive-clause-told g c = told_broken c.in-Err-write_end.ensures.broken
+
+pub returns-clause-read : goal.returns-clause-read
+returns-clause-read g c = on_line c.in-Err.ensures.read
+
+pub returns-clause-write : goal.returns-clause-write
+returns-clause-write g c = on_line c.in-Err.ensures.write
+
+pub returns-clause-ended : goal.returns-clause-ended
+returns-clause-ended g c = ends_line c.in-Err.ensures.ended
+
+pub returns-clause-told : goal.returns-clause-told
+returns-clause-told g c = told_line
+
+pub returns-in-Ok-write_end-clause-memory : goal.returns-in-Ok-write_end-clause-memory
+returns-in-Ok-write_end-clause-memory g c = done_has_memory
+
+pub returns-in-Ok-drive-clause-memory : goal.returns-in-Ok-drive-clause-memory
+returns-in-Ok-drive-clause-memory g c = report_has_memory
+
+pub returns-clause-memory : goal.returns-clause-memory
+returns-clause-memory g c = search rules
+
+pub returns-in_default : goal.returns-in_default
+returns-in_default g c = record {
+  serves = λ other. absurd (other refl);
+  read = search rules;
+  write = search rules;
+  ended = search rules;
+  told = search rules;
+  memory = λ _. (refl, refl, refl, refl);
+}
