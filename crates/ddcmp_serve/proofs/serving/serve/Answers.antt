@@ -53,10 +53,12 @@ returns-clause-serves g c = λ _.
     }
 
 pub returns-in-Ok-write_end-clause-read : goal.returns-in-Ok-write_end-clause-read
-returns-in-Ok-write_end-clause-read g c = off_line (Ok _) done_is_no_line c.in-Ok-drive.ensures.read
+returns-in-Ok-write_end-clause-read g c =
+    off_line (Ok _) done_is_no_line c.in-Ok-drive.ensures.read
 
 pub returns-in-Ok-write_end-clause-write : goal.returns-in-Ok-write_end-clause-write
-returns-in-Ok-write_end-clause-write g c = off_line (Ok _) done_is_no_line c.in-Ok-drive.ensures.write
+returns-in-Ok-write_end-clause-write g c =
+    off_line (Ok _) done_is_no_line c.in-Ok-drive.ensures.write
 
 pub returns-in-Ok-write_end-clause-ended : goal.returns-in-Ok-write_end-clause-ended
 returns-in-Ok-write_end-clause-ended g c = λ e. absurd (done_is_no_line _ e)
@@ -65,10 +67,12 @@ pub returns-in-Ok-write_end-clause-told : goal.returns-in-Ok-write_end-clause-to
 returns-in-Ok-write_end-clause-told g c = told_whole c.in-Ok-write_end.ensures.broken
 
 pub returns-in-Ok-drive-clause-read : goal.returns-in-Ok-drive-clause-read
-returns-in-Ok-drive-clause-read g c = off_line (Err Report) report_is_no_line c.in-Ok-drive.ensures.read
+returns-in-Ok-drive-clause-read g c =
+    off_line (Err Report) report_is_no_line c.in-Ok-drive.ensures.read
 
 pub returns-in-Ok-drive-clause-write : goal.returns-in-Ok-drive-clause-write
-returns-in-Ok-drive-clause-write g c = off_line (Err Report) report_is_no_line c.in-Ok-drive.ensures.write
+returns-in-Ok-drive-clause-write g c =
+    off_line (Err Report) report_is_no_line c.in-Ok-drive.ensures.write
 
 pub returns-in-Ok-drive-clause-ended : goal.returns-in-Ok-drive-clause-ended
 returns-in-Ok-drive-clause-ended g c = λ e. absurd (report_is_no_line _ e)
