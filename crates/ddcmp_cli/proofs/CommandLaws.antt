@@ -8,7 +8,7 @@ use Rattle.std.proofs.lemmas.Slice.Eq.{bytes_eq-Decides}
 use Rattle.std.specs.Prelude.{IsOk, IsTrue}
 use Rattle.ddcmp_words.specs.declared.declined.Declined.{Declined}
 use Rattle.ddcmp_words.specs.declared.declined.Declined.TheVariants.{Memory}
-use Rattle.std.proofs.Common.{Bool, false, inl, inr, ◌⊎◌, Result, Ok, Err, ◌≤◌, ℕ, codes, ◌≡◌, ◌∙◌, sym, refl, true, ◌≢◌, List, Option, Some, None}
+use Rattle.std.proofs.Common.{Bool, ap, false, inl, inr, ◌⊎◌, Result, Ok, Err, ◌≤◌, ℕ, codes, ◌≡◌, ◌∙◌, sym, refl, true, ◌≢◌, List, Option, Some, None}
 use Rattle.std.proofs.lemmas.Bool.{le-leb}
 use Rattle.clap.specs.Words.{Text}
 use Rattle.ddcmp_words.specs.Words.{named_by, name_of, file_of, option_in, text_in, HasOptions, IsAsked}
@@ -117,6 +117,38 @@ not_declined (Err f) d e n (inl ok) = let bad : ◌≡◌ {A = Bool} false true 
 not_declined (Err f) d e n (inr m) = let same : d ≡ Memory = cc in n same
 
 -- where broken writes are told, nothing that is done left the sink broken
-pub unbroken : (ending : Ending) (broken : Bool) → (IsTrue broken → ending ≡ Faulted Write) → ending ≡ Done → broken ≡ false
+pub unbroken : (ending : Ending) (broken : Bool) → (IsTrue broken → ending ≡ Faulted Write)
+    → ending ≡ Done → broken ≡ false
 unbroken ending true told done = let bad : Done ≡ Faulted Write = sym done ∙ told refl in cc
 unbroken ending false told done = refl
+
+-- which command it is
+abbrev pub is_station : Command → Bool
+is_station (Explain explained) = false
+is_station (Simulate config view) = false
+is_station (Pair config view) = false
+is_station (Station served) = true
+is_station (Tap tapped) = false
+is_station (Link linked) = false
+
+abbrev pub is_tap : Command → Bool
+is_tap (Explain explained) = false
+is_tap (Simulate config view) = false
+is_tap (Pair config view) = false
+is_tap (Station served) = false
+is_tap (Tap tapped) = true
+is_tap (Link linked) = false
+
+abbrev pub is_link : Command → Bool
+is_link (Explain explained) = false
+is_link (Simulate config view) = false
+is_link (Pair config view) = false
+is_link (Station served) = false
+is_link (Tap tapped) = false
+is_link (Link linked) = true
+
+-- a command that is one isn't another
+pub differ : {A : Type 0} {command one another : Command} (test : Command → Bool) → command ≡ one
+    → test one ≡ false → command ≡ another → test another ≡ true → A
+differ test is one are another =
+    let bad : ◌≡◌ {A = Bool} false true = sym one ∙ ap test (sym is ∙ are) ∙ another in absurd cc

@@ -1,18 +1,22 @@
-use borrow.Author.Rules.{rules}
-use Rattle.ddcmp_cli.proofs.CommandLaws.{unbroken}
+use Rattle.std.proofs.Common.{◌∙◌, ap, refl, rules, sym}
+use Rattle.ddcmp_words.specs.Words.{name_of}
+use Rattle.ddcmp_cli.specs.Endings.{file_named}
+use Rattle.ddcmp_cli.proofs.CommandLaws.{differ, is_link, is_station, is_tap, unbroken}
 use Rattle.ddcmp_cli.proofs.program.perform.Goals as goal
 
 pub returns-in-Explain : goal.returns-in-Explain
 returns-in-Explain g c = record {
   performs = λ input left. rw (c.in-Explain.is) (c.explain_asked.ensures.explains input left);
   read = λ _ e. c.explain_asked.ensures.read e;
-  read_only = search rules;
+  read_only = λ _ _ _ none e.
+      c.explain_asked.ensures.read_only (sym (ap file_named c.in-Explain.is) ∙ none) e;
   write = λ _ _. c.explain_asked.ensures.write;
   whole = unbroken _ _ c.explain_asked.ensures.write.1;
-  untouched = search rules;
-  stations = search rules;
-  taps = search rules;
-  links = search rules;
+  untouched = λ some.
+      c.explain_asked.ensures.untouched (λ e. some (ap file_named c.in-Explain.is ∙ e));
+  stations = λ _ are. differ is_station c.in-Explain.is refl are refl;
+  taps = λ _ are. differ is_tap c.in-Explain.is refl are refl;
+  links = λ _ are. differ is_link c.in-Explain.is refl are refl;
 }
 
 pub returns-in-Simulate : goal.returns-in-Simulate
@@ -22,10 +26,10 @@ returns-in-Simulate g c = record {
   read_only = λ _ _ _ _ e. c.show_simulation.ensures.devices.read_only e;
   write = λ _ _. c.show_simulation.ensures.devices.write;
   whole = unbroken _ _ c.show_simulation.ensures.devices.write.1;
-  untouched = search rules;
-  stations = search rules;
-  taps = search rules;
-  links = search rules;
+  untouched = λ some. absurd (some (ap file_named c.in-Simulate.is));
+  stations = λ _ are. differ is_station c.in-Simulate.is refl are refl;
+  taps = λ _ are. differ is_tap c.in-Simulate.is refl are refl;
+  links = λ _ are. differ is_link c.in-Simulate.is refl are refl;
 }
 
 pub returns-in-Pair : goal.returns-in-Pair
@@ -35,47 +39,47 @@ returns-in-Pair g c = record {
   read_only = λ _ _ _ _ e. c.show_pair.ensures.devices.read_only e;
   write = λ _ _. c.show_pair.ensures.devices.write;
   whole = unbroken _ _ c.show_pair.ensures.devices.write.1;
-  untouched = search rules;
-  stations = search rules;
-  taps = search rules;
-  links = search rules;
+  untouched = λ some. absurd (some (ap file_named c.in-Pair.is));
+  stations = λ _ are. differ is_station c.in-Pair.is refl are refl;
+  taps = λ _ are. differ is_tap c.in-Pair.is refl are refl;
+  links = λ _ are. differ is_link c.in-Pair.is refl are refl;
 }
 
 pub returns-in-Station : goal.returns-in-Station
 returns-in-Station g c = record {
-  performs = search rules;
+  performs = λ input left. rw (c.in-Station.is) (left, c.station.ensures.stations);
   read = λ _ e. absurd (e c.requires.fine);
-  read_only = search rules;
-  write = search rules;
+  read_only = λ no_station. absurd (no_station (ap name_of c.in-Station.is));
+  write = λ no_station. absurd (no_station (ap name_of c.in-Station.is));
   whole = c.station.ensures.whole;
-  untouched = search rules;
+  untouched = λ _. refl;
   stations = search rules;
-  taps = search rules;
-  links = search rules;
+  taps = λ _ are. differ is_tap c.in-Station.is refl are refl;
+  links = λ _ are. differ is_link c.in-Station.is refl are refl;
 }
 
 pub returns-in-Tap : goal.returns-in-Tap
 returns-in-Tap g c = record {
-  performs = search rules;
+  performs = λ input left. rw (c.in-Tap.is) (left, c.tap.ensures.taps);
   read = λ _ e. absurd (e c.requires.fine);
-  read_only = search rules;
-  write = search rules;
+  read_only = λ _ no_tap. absurd (no_tap (ap name_of c.in-Tap.is));
+  write = λ _ no_tap. absurd (no_tap (ap name_of c.in-Tap.is));
   whole = unbroken _ _ c.tap.ensures.written;
-  untouched = search rules;
-  stations = search rules;
+  untouched = λ _. refl;
+  stations = λ _ are. differ is_station c.in-Tap.is refl are refl;
   taps = search rules;
-  links = search rules;
+  links = λ _ are. differ is_link c.in-Tap.is refl are refl;
 }
 
 pub returns-in-Link : goal.returns-in-Link
 returns-in-Link g c = record {
-  performs = search rules;
-  read = search rules;
-  read_only = search rules;
+  performs = λ input left. rw (c.in-Link.is) c.link.ensures.ending;
+  read = λ no_link. absurd (no_link (ap name_of c.in-Link.is));
+  read_only = λ _ _ no_link. absurd (no_link (ap name_of c.in-Link.is));
   write = λ _ _. c.link.ensures.write;
   whole = unbroken _ _ c.link.ensures.write.1;
-  untouched = search rules;
-  stations = search rules;
-  taps = search rules;
-  links = search rules;
+  untouched = λ some. absurd (some (ap file_named c.in-Link.is));
+  stations = λ _ are. differ is_station c.in-Link.is refl are refl;
+  taps = λ _ are. differ is_tap c.in-Link.is refl are refl;
+  links = λ _ _. c.link.ensures.ending;
 }
