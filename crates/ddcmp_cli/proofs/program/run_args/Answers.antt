@@ -90,7 +90,8 @@ returns-else-eq g c = record {
 pub returns-in_default : goal.returns-in_default
 returns-in_default g c = record {
   explains = search rules;
-  ends = rw (c.in-Ok.is) (Err Memory, tt, (refl, Keeps-refl (g.W.Sink.contents c.args.writer.now), refl));
+  ends = rw (c.in-Ok.is)
+      (Err Memory, tt, (refl, Keeps-refl (g.W.Sink.contents c.args.writer.now), refl));
   refused = search rules;
   no_memory = rw (c.in-Ok.is) tt;
   not_text = rw (c.in-Ok.is) tt;
