@@ -1,6 +1,7 @@
 use Rattle.std.proofs.Common.{◌≡◌, false, true, inr}
 use Rattle.ddcmp_cli.specs.Endings.{Pairs, PlaysBetween, is_refusal, Untouched, streams}
 use Rattle.ddcmp_cli.proofs.ScriptLaws.{shows-as}
+use borrow.Author.Rules.{rules}
 use Rattle.ddcmp_cli.proofs.drawing.show_pair.Goals as goal
 
 pub returns-clause-shows : goal.returns-clause-shows
@@ -11,3 +12,18 @@ returns-clause-shows g c = λ input e.
     (PlaysBetween false c.args.config view.counters s c.show_over.result)
     (Pairs c.args.config view.counters s c.show_over.result)
     (λ plays. inr plays) (c.show_over.ensures.shows input e)
+
+pub returns-then-view-2-clause-shows : goal.returns-then-view-2-clause-shows
+returns-then-view-2-clause-shows g c = search rules
+
+pub returns-then-view-2-clause-devices : goal.returns-then-view-2-clause-devices
+returns-then-view-2-clause-devices g c = search rules
+
+pub returns-in_default-clause-shows : goal.returns-in_default-clause-shows
+returns-in_default-clause-shows g c = search rules
+
+pub returns-in_default-clause-devices : goal.returns-in_default-clause-devices
+returns-in_default-clause-devices g c = search rules
+
+pub returns-clause-devices : goal.returns-clause-devices
+returns-clause-devices g c = search rules
