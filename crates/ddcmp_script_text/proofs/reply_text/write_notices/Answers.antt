@@ -20,5 +20,6 @@ pub returns : goal.returns
 returns g c =
     let i = c.loop-notice.notice-index in
     let end = c.loop-notice.auto.notice-index-end in
-    sends-as (all-there (notice_line c.args.who.now) c.args.notices.now i end c.loop-notice-test.false)
+    let last = c.loop-notice-test.false in
+    sends-as (all-there (notice_line c.args.who.now) c.args.notices.now i end last)
     c.loop-notice.invariant
