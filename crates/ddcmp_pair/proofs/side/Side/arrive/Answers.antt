@@ -108,8 +108,8 @@ module _ (from : ℕ) (old bytes all : List ℕ) (e : from ≡ length old) (q : 
         core = (core ∙ cut (λ x y. after_piece x y o.core)) i;
         syn = syn i;
         arrived = a i;
-        acknowledged = (m ∙ cut (λ x y. acknowledged + acknowledged_in (notices_of_piece x y o.core)))
-            i;
+        acknowledged = (m ∙ cut
+            (λ x y. acknowledged + acknowledged_in (notices_of_piece x y o.core))) i;
         starts = (b ∙ cut (λ x y. count_plus starts (restarts_in (notices_of_piece x y o.core)))) i;
       }
 
