@@ -1,3 +1,4 @@
 pub mod Cutting
 pub mod EachText
 pub mod ReplyLaws
+pub mod TakingLaws

@@ -1,54 +1,10 @@
-use Rattle.std.proofs.Common.{◌≡◌, ◌≢◌, ℕ, ◌+◌, ◌-◌, ◌<◌, ◌≤◌, Bool, IsTrue, true, false, ◌^◌}
-use Rattle.std.proofs.Common.{[], Result, Ok, Err, inl, inr, arith, refl, sym, ap, ◌∙◌}
+use Rattle.std.proofs.Common.{◌+◌, ◌-◌, ◌<◌, ◌^◌, [], Err, inl, inr, arith, refl, ap, ◌∙◌}
 use Rattle.std.proofs.KnownBytes.{Consumes-nil}
-use Rattle.ddcmp_io.specs.Device.{worse}
-use Rattle.ddcmp_io.specs.declared.device.Worst.{Worst}
-use Rattle.ddcmp_io.specs.declared.device.Worst.TheVariants.{Fine}
-use Rattle.ddcmp_io.specs.declared.device.Got.{Got}
-use Rattle.ddcmp_io.specs.declared.device.Got.TheVariants.{Bytes, Idle, Failed}
 use Rattle.ddcmp_io.proofs.Inputs.{read-more, gave-most}
-use Rattle.ddcmp_script_text.specs.declared.script_fault.ScriptFault.{ScriptFault}
-use Rattle.ddcmp_script_text.specs.declared.script_fault.ScriptFault.TheVariants.{Write, Read, Carrier}
+use Rattle.ddcmp_script_text.proofs.TakingLaws.{stays_fine, worsens, stays_whole, stays_below}
+use Rattle.ddcmp_script_text.proofs.TakingLaws.{write_or_read, read_or_write, write_or_carrier}
+use Rattle.ddcmp_script_text.proofs.TakingLaws.{read_or_carrier, same_fault, true_or_false}
 use Rattle.ddcmp_picture.proofs.playing.Player.take_all.Goals as goal
-
--- a read leaves a source fine where it gave bytes, and only there
-stays_fine : (old new : Worst) (got : Got) (n : ℕ) → old ≡ Fine → got ≡ Bytes n
-    → new ≡ worse old got → new ≡ Fine
-stays_fine old new got n fine is w = w ∙ ap (λ g. worse old g) is ∙ ap (λ o. worse o (Bytes n)) fine
-
-worsens : (old new : Worst) (got : Got) → old ≡ Fine → ((n : ℕ) → got ≡ Bytes n → ⊥)
-    → new ≡ worse old got → new ≢ Fine
-worsens old new (Bytes n) fine given w = absurd (given n refl)
-worsens old new Idle fine given w = λ e. absurd (cc (sym e ∙ w ∙ ap (λ o. worse o Idle) fine))
-worsens old new Failed fine given w = λ e. absurd (cc (sym e ∙ w ∙ ap (λ o. worse o Failed) fine))
-
--- the answers are apart
-write_or_read : ◌≡◌ {A = Result (Unit {0}) ScriptFault} (Err Write) (Err Read) → ⊥
-write_or_read e = cc
-
-write_or_carrier : ◌≡◌ {A = Result (Unit {0}) ScriptFault} (Err Write) (Err Carrier) → ⊥
-write_or_carrier e = cc
-
-read_or_write : ◌≡◌ {A = Result (Unit {0}) ScriptFault} (Err Read) (Err Write) → ⊥
-read_or_write e = cc
-
-read_or_carrier : ◌≡◌ {A = Result (Unit {0}) ScriptFault} (Err Read) (Err Carrier) → ⊥
-read_or_carrier e = cc
-
-same_fault : {T E : Type 0} (a b : E) → ◌≡◌ {A = Result T E} (Err a) (Err b) → a ≡ b
-same_fault a b e = cc
-
-true_or_false : (b : Bool) → b ≡ false → IsTrue b → ⊥
-true_or_false b f t = cc (sym t ∙ f)
-
-stays_whole : {E : Type 0} (b : Bool) (fault : E)
-    → (IsTrue b → ◌≡◌ {A = Result (Unit {0}) E} (Ok tt) (Err fault)) → b ≡ false
-stays_whole false fault h = refl
-stays_whole true fault h = absurd (cc (h refl))
-
-stays_below : (most seen n : ℕ) → n ≤ most - seen → seen < most → (seen + n ≡ most → ⊥)
-    → seen + n < most
-stays_below most seen n within below last = omega (arith, last)
 
 begins_below : 0 < 2 ^ 64 - 1
 begins_below = omega arith
@@ -67,7 +23,8 @@ loop-seen-preserved g c = record {
   fine = stays_fine _ _ _ _ c.loop-seen.invariant.fine c.in-Bytes.is c.read_within.ensures.worst;
   whole = stays_whole _ _ c.in-Ok.ensures.carrier.1;
   room = c.read_within.auto.buf ∙ c.loop-seen.invariant.room;
-  below = stays_below _ _ _ c.in-Bytes.ensures.within c.loop-seen.invariant.below c.if-seen.false;
+  below = stays_below _ _ _ _ c.in-Bytes.ensures.within c.loop-seen.invariant.below c.if-seen.false
+      refl;
   consumed = read-more c.loop-seen.seen c.in-Bytes.n _ _ _ _ _ c.loop-seen.invariant.consumed c.in-Bytes.ensures.bytes.0 c.in-Bytes.ensures.bytes.1 refl;
 }
 

@@ -1,64 +1,19 @@
-use Rattle.std.proofs.Common.{◌≡◌, ◌≢◌, ℕ, ◌+◌, ◌-◌, ◌<◌, ◌≤◌, List, Bool, IsTrue, Result, Ok, true}
-use Rattle.std.proofs.Common.{false, [], length, take, Err, inl, inr}
+use Rattle.std.proofs.Common.{◌≡◌, ℕ, ◌+◌, ◌<◌, ◌≤◌, List, [], length, take, Err, inl, inr}
 use Rattle.std.proofs.Common.{length-take-le, rules, refl, sym, ap, subst, ◌∙◌, arith}
-use Rattle.ddcmp_io.specs.Device.{worse}
-use Rattle.ddcmp_io.specs.declared.device.Worst.{Worst}
-use Rattle.ddcmp_io.specs.declared.device.Worst.TheVariants.{Fine}
-use Rattle.ddcmp_io.specs.declared.device.Got.{Got}
-use Rattle.ddcmp_io.specs.declared.device.Got.TheVariants.{Bytes, Idle, Failed}
 use Rattle.std.proofs.KnownBytes.{Consumes-nil, Consumes-kept}
 use Rattle.ddcmp_io.specs.Written.{output_of}
-use Rattle.ddcmp_script_text.specs.declared.script_fault.ScriptFault.TheVariants.{Write, Read, Carrier}
-use Rattle.ddcmp_script.specs.declared.performing.Stop.{Stop}
-use Rattle.ddcmp_script.specs.declared.performing.Stop.TheVariants as stop
+use Rattle.ddcmp_io.proofs.Inputs.{read-more}
+use Rattle.ddcmp_script_text.proofs.TakingLaws.{stays_fine, worsens, stays_whole, stays_below}
+use Rattle.ddcmp_script_text.proofs.TakingLaws.{write_or_read, read_or_write, write_or_carrier}
+use Rattle.ddcmp_script_text.proofs.TakingLaws.{read_or_carrier, same_fault, true_or_false}
 use Rattle.ddcmp_script.specs.ScriptEnds.{around}
 use Rattle.ddcmp_script.specs.ScriptProgress.{HasDone, course, fresh, played}
-use Rattle.ddcmp_script.proofs.Endings.{Answer, has-flushed, plays-paused, plays-unwritten}
+use Rattle.ddcmp_script.proofs.Endings.{has-flushed, plays-paused, plays-unwritten}
 use Rattle.ddcmp_script.proofs.Endings.{paused-before, kept-by, kept-left, left-after, none-left}
-use Rattle.ddcmp_io.proofs.Inputs.{read-more}
 use Rattle.ddcmp_script.proofs.scripting.Player.take_all.Goals as goal
-
--- a read leaves a source fine where it gave bytes, and only there
-stays_fine : (old new : Worst) (got : Got) (n : ℕ) → old ≡ Fine → got ≡ Bytes n
-    → new ≡ worse old got → new ≡ Fine
-stays_fine old new got n fine is w = w ∙ ap (λ g. worse old g) is ∙ ap (λ o. worse o (Bytes n)) fine
-
-worsens : (old new : Worst) (got : Got) → old ≡ Fine → ((n : ℕ) → got ≡ Bytes n → ⊥)
-    → new ≡ worse old got → new ≢ Fine
-worsens old new (Bytes n) fine not w = absurd (not n refl)
-worsens old new Idle fine not w = λ e. absurd (cc (sym e ∙ w ∙ ap (λ o. worse o Idle) fine))
-worsens old new Failed fine not w = λ e. absurd (cc (sym e ∙ w ∙ ap (λ o. worse o Failed) fine))
-
--- the answers are apart
-write_or_read : ◌≡◌ {A = Answer} (Err Write) (Err Read) → ⊥
-write_or_read e = cc
-
-read_or_write : ◌≡◌ {A = Answer} (Err Read) (Err Write) → ⊥
-read_or_write e = cc
-
-write_or_carrier : ◌≡◌ {A = Answer} (Err Write) (Err Carrier) → ⊥
-write_or_carrier e = cc
-
-read_or_carrier : ◌≡◌ {A = Answer} (Err Read) (Err Carrier) → ⊥
-read_or_carrier e = cc
-
-same_fault : {T E : Type 0} (a b : E) → ◌≡◌ {A = Result T E} (Err a) (Err b) → a ≡ b
-same_fault a b e = cc
-
-true_or_false : (b : Bool) → b ≡ false → IsTrue b → ⊥
-true_or_false b f t = cc (sym t ∙ f)
 
 less_or_most : (n m : ℕ) → n < m → n ≡ m → ⊥
 less_or_most n m l e = omega arith
-
-stays_whole : (b : Bool) → (IsTrue b → ◌≡◌ {A = Result (Unit {0}) Stop} (Ok tt) (Err stop.Carrier))
-    → b ≡ false
-stays_whole false h = refl
-stays_whole true h = absurd (cc (h refl))
-
-stays_below : (most seen n now : ℕ) → n ≤ most - seen → seen < most → (seen + n ≡ most → ⊥)
-    → now ≡ seen + n → now < most
-stays_below most seen n now within below not e = omega (arith, not)
 
 counts_lines : (old seen n new now : ℕ) (buf : List ℕ) → new ≤ old + length (take n buf)
     → old ≤ seen → n ≤ length buf → now ≡ seen + n → new ≤ now
@@ -73,7 +28,7 @@ returns-then-self-clause-consumed g c = read-more c.loop-self.self.seen c.in-Byt
 pub loop-self-preserved : goal.loop-self-preserved
 loop-self-preserved g c = record {
   fine = stays_fine _ _ _ _ c.loop-self.invariant.fine c.in-Bytes.is c.read_within.ensures.worst;
-  whole = stays_whole _ c.in-Ok.ensures.devices.carrier.1;
+  whole = stays_whole _ _ c.in-Ok.ensures.devices.carrier.1;
   room = c.read_within.auto.buf ∙ c.loop-self.invariant.room;
   below = stays_below _ _ _ _ c.in-Bytes.ensures.within c.loop-self.invariant.below c.if-self.false
       c.take.ensures.seen;
