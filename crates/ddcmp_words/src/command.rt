@@ -6,12 +6,10 @@ ghost use Rattle.ddcmp_words.specs.Making.{Makes};
 ghost use Rattle.ddcmp_words.specs.Words.{Declines, IsAsked, IsName, Reads, bare_app, name_of, program};
 ghost use Rattle.ddcmp_words.specs.Words.{HasExplain, HasFlag, HasForm, HasNotation, HasNumber, HasOptions};
 ghost use Rattle.ddcmp_words.specs.Words.{HasSizes, HasStation, HasStyle, explain_app, script_app};
-ghost use Rattle.ddcmp_words.specs.Words.{station_app};
-ghost use Rattle.ddcmp_words.specs.Words.{file_of, flag_rule, number_rule, place_rule, role_of};
-ghost use Rattle.ddcmp_words.specs.Words.{text_rule};
+ghost use Rattle.ddcmp_words.specs.Words.{file_of, role_of, station_app};
 ghost use Rattle.ddcmp_words.specs.Words.{HasView, with_sizes as with_sizes_of};
 ghost use Rattle.ddcmp_words.specs.Words.{with_view as with_view_of};
-ghost use Rattle.clap.specs.Words.{App, kind_of, app_of, new_app, rule_of, first_of, first_value};
+ghost use Rattle.clap.specs.Words.{App, kind_of, app_of, new_app, first_of, first_value};
 ghost use Rattle.clap.specs.Words.{found_of, one_of, one_text};
 ghost use Rattle.clap.specs.Words.{subcommand_name_of, subcommand_rows_of};
 ghost use Rattle.clap.specs.declared.builder.command.Command.TheViews.{out-Command as fields_of};
@@ -20,13 +18,14 @@ use crate::declined::Declined;
 use crate::explained::Explained;
 use crate::link_words::{link_given, link_parser};
 use crate::linked::Linked;
+use crate::options::{number, place, text};
 use crate::parser::Parser;
 use crate::served::{Role, Served};
 use crate::tap_words::{tap_given, tap_parser};
 use crate::tapped::Tapped;
 use crate::view::View;
 use clap::error::ErrorKind;
-use clap::{Arg, ArgAction, ArgMatches, Error};
+use clap::{ArgMatches, Error};
 use ddcmp_core::{MAX_COUNT, MAX_WINDOW};
 use ddcmp_explain::{Form, Notation, Style};
 use ddcmp_proto::{Config, MAX_INBOX, MAX_SYN};
@@ -47,52 +46,6 @@ pub enum Command<'a> {
     Tap(Tapped<'a>),
     /// Run a station over a line, with messages on standard input and output.
     Link(Linked<'a>),
-}
-
-pub(crate) fn flag<'a>(alloc: Global, name: &'a str, help: &'a str) -> Arg<'a>
-    ensures rule { rule_of result ≡ flag_rule name.entry.now }
-    ensures local { result.global ≡ false }
-{
-    Arg::new(alloc, name)
-        .long(name)
-        .action(ArgAction::SetTrue)
-        .help(help)
-}
-
-pub(crate) fn number<'a>(
-    alloc: Global,
-    name: &'a str,
-    low: u32,
-    high: u32,
-    help: &'a str,
-) -> Arg<'a>
-    ensures rule { rule_of result ≡ number_rule name.entry.now low high }
-    ensures local { result.global ≡ false }
-{
-    Arg::new(alloc, name)
-        .long(name)
-        .value_name("N")
-        .value_parser(clap::value_parser!(u32).range(low as i64..=high as i64))
-        .help(help)
-}
-
-/// An option that takes a text.
-pub(crate) fn text<'a>(alloc: Global, name: &'a str, value: &'a str, help: &'a str) -> Arg<'a>
-    ensures rule { rule_of result ≡ text_rule name.entry.now }
-    ensures local { result.global ≡ false }
-{
-    Arg::new(alloc, name)
-        .long(name)
-        .value_name(value)
-        .help(help)
-}
-
-/// A word that stands for itself, and may be left out.
-fn place<'a>(alloc: Global, name: &'a str, value: &'a str, help: &'a str) -> Arg<'a>
-    ensures rule { rule_of result ≡ place_rule name.entry.now }
-    ensures local { result.global ≡ false }
-{
-    Arg::new(alloc, name).value_name(value).help(help)
 }
 
 /// `explain` without its options.

@@ -7,6 +7,7 @@ pub mod declined;
 pub mod explained;
 mod link_words;
 pub mod linked;
+mod options;
 mod parser;
 pub mod served;
 mod tap_words;

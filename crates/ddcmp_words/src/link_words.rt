@@ -6,8 +6,9 @@ ghost use Rattle.ddcmp_words.specs.Making.{Makes};
 ghost use Rattle.ddcmp_words.specs.Words.{HasLink, link_app, line_app, usual_syn_of};
 ghost use Rattle.ddcmp_proto.specs.declared.config.TheConstants.{MAX_SYN};
 
-use crate::command::{flag_given, number_given, sizes_given, text, text_given, with_sizes};
+use crate::command::{flag_given, number_given, sizes_given, text_given, with_sizes};
 use crate::linked::Linked;
+use crate::options::text;
 use crate::parser::Parser;
 use clap::ArgMatches;
 use std::alloc::Global;

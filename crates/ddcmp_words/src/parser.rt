@@ -5,7 +5,7 @@ ghost use Rattle.clap.specs.declared.builder.command.Command.TheViews.{out-Comma
 ghost use Rattle.ddcmp_words.specs.Making.{Makes};
 ghost use Rattle.ddcmp_words.specs.Words.{flag_rule, number_rule, required as required_of};
 
-use crate::command::{flag, number};
+use crate::options::{flag, number};
 use clap::Arg;
 use std::alloc::{AllocError, Global};
 

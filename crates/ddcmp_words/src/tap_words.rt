@@ -5,7 +5,8 @@ ghost use Rattle.clap.specs.declared.builder.command.Command.TheViews.{out-Comma
 ghost use Rattle.ddcmp_words.specs.Making.{Makes};
 ghost use Rattle.ddcmp_words.specs.Words.{HasTap, tap_app};
 
-use crate::command::{flag_given, notation_given, number_given, text, text_given};
+use crate::command::{flag_given, notation_given, number_given, text_given};
+use crate::options::text;
 use crate::parser::Parser;
 use crate::tapped::Tapped;
 use clap::ArgMatches;
