@@ -1,7 +1,9 @@
 //! Headers and items as C gives and gets them.
 ghost use Rattle.std.specs.Prelude.{◌≡◌, Some, None, option_map};
 ghost use Rattle.ddcmp_frame.specs.declared.header.Header.TheVariants.{Data, Maint};
-ghost use Rattle.ddcmp_c.specs.Frames.{given_kind, given_counted, given_header, given_with, given_without, given_item, taken_flags, taken_counted, taken_short, taken_header, taken_item};
+ghost use Rattle.ddcmp_c.specs.Frames.{given_kind, given_counted, given_header, given_with};
+ghost use Rattle.ddcmp_c.specs.Frames.{given_without, given_item, taken_flags, taken_counted};
+ghost use Rattle.ddcmp_c.specs.Frames.{taken_short, taken_header, taken_item};
 
 use ddcmp_frame::{ControlType, Counted, Flags, Header, HeaderFault, Item, MAX_COUNT, Short};
 

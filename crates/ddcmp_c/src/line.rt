@@ -1,5 +1,6 @@
 //! The bytes of the line.
-ghost use Rattle.std.specs.Prelude.{◌≡◌, ◌≢◌, ◌+◌, ◌<◌, ◌≤◌, ◌^◌, ℕ, List, [], ◌++◌, unwrap_or, length, take, option_map, Some, None};
+ghost use Rattle.std.specs.Prelude.{◌≡◌, ◌≢◌, ◌+◌, ◌<◌, ◌≤◌, ◌^◌, ℕ, List, [], ◌++◌, unwrap_or};
+ghost use Rattle.std.specs.Prelude.{length, take, option_map, Some, None};
 ghost use Rattle.ddcmp_num.specs.Check.{check_of};
 ghost use Rattle.ddcmp_frame.specs.Reader.{StandsFor, open_of};
 ghost use Rattle.ddcmp_window.specs.Store.{with_front};

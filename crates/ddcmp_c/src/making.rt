@@ -1,7 +1,8 @@
 //! A station begins, starts, halts and ends.
 ghost use Rattle.std.specs.Prelude.{◌≡◌, ◌≢◌, [], true, false, Some, None};
 ghost use Rattle.ddcmp_frame.specs.Reader.{StandsFor};
-ghost use Rattle.ddcmp_core.specs.Table.{after_start, after_enter_maintenance, after_halt, is_halted};
+ghost use Rattle.ddcmp_core.specs.Table.{after_start, after_enter_maintenance, after_halt};
+ghost use Rattle.ddcmp_core.specs.Table.{is_halted};
 ghost use Rattle.ddcmp_proto.specs.Config.{first_refusal, core_made, config_of};
 ghost use Rattle.ddcmp_proto.specs.Station.{StationView};
 ghost use Rattle.ddcmp_c.specs.Codes.{code_of_config, code_of_state, given_config, taken_config};

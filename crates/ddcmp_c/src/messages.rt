@@ -1,10 +1,15 @@
 //! Messages that are sent, and mail.
-ghost use Rattle.std.specs.Prelude.{◌≡◌, ◌≢◌, ◌↔◌, ◌<◌, ◌≤◌, [], unwrap_or, false, length, slice_index_or, option_map, IsTrue, Some, None, Ok, if◌then◌else◌};
+ghost use Rattle.std.specs.Prelude.{◌≡◌, ◌≢◌, ◌↔◌, ◌<◌, ◌≤◌, [], unwrap_or, false, length};
+ghost use Rattle.std.specs.Prelude.{slice_index_or, option_map, IsTrue, Some, None, Ok};
+ghost use Rattle.std.specs.Prelude.{if◌then◌else◌};
 ghost use Rattle.ddcmp_num.specs.declared.seq.Seq.{Seq as SeqValue};
 ghost use Rattle.ddcmp_window.specs.Store.{first_message, with_front};
-ghost use Rattle.ddcmp_core.specs.Table.{send_refusal as send_refusal_of, answer_to_send, may_send, answer_to_send_maintenance, may_send_maintenance, after_accept, after_take};
+ghost use Rattle.ddcmp_core.specs.Table.{send_refusal as send_refusal_of, answer_to_send, may_send};
+ghost use Rattle.ddcmp_core.specs.Table.{answer_to_send_maintenance, may_send_maintenance};
+ghost use Rattle.ddcmp_core.specs.Table.{after_accept, after_take};
 ghost use Rattle.ddcmp_proto.specs.Station.{StationView};
-ghost use Rattle.ddcmp_c.specs.Codes.{code_of_send_answer, code_of_send_refusal, code_of_send_maintenance_answer};
+ghost use Rattle.ddcmp_c.specs.Codes.{code_of_send_answer, code_of_send_refusal};
+ghost use Rattle.ddcmp_c.specs.Codes.{code_of_send_maintenance_answer};
 ghost use Rattle.ddcmp_c.specs.Calls.{Asks, with_state};
 
 use crate::handle::{Handle, put_back, take_out};

@@ -1,9 +1,11 @@
 //! A reader alone, for tools, and frames as they go on the line.
-ghost use Rattle.std.specs.Prelude.{◌≡◌, ◌≢◌, ◌⊎◌, ◌↔◌, ◌+◌, ◌<◌, ◌≤◌, ◌^◌, ℕ, List, [], ◌++◌, IsTrue, length, take, drop, Some, None};
+ghost use Rattle.std.specs.Prelude.{◌≡◌, ◌≢◌, ◌⊎◌, ◌↔◌, ◌+◌, ◌<◌, ◌≤◌, ◌^◌, ℕ, List, [], ◌++◌};
+ghost use Rattle.std.specs.Prelude.{IsTrue, length, take, drop, Some, None};
 ghost use Rattle.ddcmp_frame.specs.declared.header.Header.{Header as HeaderValue};
 ghost use Rattle.ddcmp_frame.specs.Wire.{wire, IsFrame};
 ghost use Rattle.ddcmp_frame.specs.Reading.{items, open_at_end};
-ghost use Rattle.ddcmp_frame.specs.Reader.{ReaderView, StandsFor, items_given, LentBeside, EndsWith, open_of, frame_length};
+ghost use Rattle.ddcmp_frame.specs.Reader.{ReaderView, StandsFor, items_given, LentBeside};
+ghost use Rattle.ddcmp_frame.specs.Reader.{EndsWith, open_of, frame_length};
 ghost use Rattle.ddcmp_c.specs.Frames.{given_item, taken_header, taken_item};
 
 use crate::frame_values::{CHeader, CItem, header_of_c, item_for_c};

@@ -2,7 +2,10 @@
 ghost use Rattle.std.specs.Prelude.{◌≡◌, ◌≢◌, ℕ, option_to_list, None, Ok, IsErr};
 ghost use Rattle.ddcmp_num.specs.declared.seq.Seq.{Seq as SeqValue};
 ghost use Rattle.ddcmp_core.specs.Table.{acknowledged_by};
-ghost use Rattle.ddcmp_c.specs.Codes.{code_of_config, code_of_start_answer, code_of_send_answer, code_of_refusal, code_of_state, code_of_notices, acknowledged_of, given_nak_counts, given_counters, given_config, taken_config};
+ghost use Rattle.ddcmp_c.specs.Codes.{code_of_config, code_of_start_answer, code_of_send_answer};
+ghost use Rattle.ddcmp_c.specs.Codes.{code_of_refusal, code_of_state, code_of_notices};
+ghost use Rattle.ddcmp_c.specs.Codes.{acknowledged_of, given_nak_counts, given_counters};
+ghost use Rattle.ddcmp_c.specs.Codes.{given_config, taken_config};
 
 use ddcmp_proto::{
     Config, ConfigRefusal, Counters, NakCounts, Notice, Numbers, SendRefusal, Seq, StartRefusal,

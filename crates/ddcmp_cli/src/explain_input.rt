@@ -1,5 +1,6 @@
 //! Explaining standard input, or a file.
-ghost use Rattle.std.specs.Prelude.{◌≡◌, ◌≢◌, ◌⊎◌, ◌↔◌, ◌≤◌, false, true, IsTrue, List, ℕ, None, Some};
+ghost use Rattle.std.specs.Prelude.{◌≡◌, ◌≢◌, ◌⊎◌, ◌↔◌, ◌≤◌, false, true, IsTrue, List, ℕ, None};
+ghost use Rattle.std.specs.Prelude.{Some};
 ghost use Rattle.ddcmp_core.specs.Limits.{MAX_COUNT};
 ghost use Rattle.ddcmp_io.specs.Change.{source_change};
 ghost use Rattle.ddcmp_io.specs.Input.{GaveMost};

@@ -5,7 +5,8 @@ ghost use Rattle.std.specs.IoError.{error_kind};
 ghost use Rattle.ddcmp_io.specs.Input.{GaveMost};
 ghost use Rattle.ddcmp_words.specs.Words.{IsOutOfOrder, IsAsked, Asks, file_of, name_of, text_in};
 ghost use Rattle.ddcmp_words.specs.declared.served.Served.{Served as ServedValue};
-ghost use Rattle.ddcmp_cli.specs.Endings.{CanRun, Ends, ExplainsOrNoMemory, Performs, Shows, streams};
+ghost use Rattle.ddcmp_cli.specs.Endings.{CanRun, Ends, ExplainsOrNoMemory, Performs, Shows};
+ghost use Rattle.ddcmp_cli.specs.Endings.{streams};
 ghost use Rattle.ddcmp_words.specs.declared.tapped.Tapped.{Tapped as TappedValue};
 ghost use Rattle.ddcmp_cli.specs.Endings.{file_named, is_refusal, Stations, StationsOrNoMemory};
 ghost use Rattle.ddcmp_cli.specs.Endings.{TapsAsked, TapsOrNoMemory};
@@ -173,8 +174,8 @@ pub fn run_args<
         → ExplainsOrNoMemory (S.held system.now) (map string_bytes words.items) (streams input
         (R.left reader.new) (W.contents writer.old) (W.contents writer.new)) result) }
     ensures ends { IfOk args (λ words. Ends (S.held system.now) (S.peers system.now)
-        (map string_bytes words.items) (R.left reader.old) (R.left reader.new) (W.contents writer.old) (W.contents writer.new)
-        result) }
+        (map string_bytes words.items) (R.left reader.old) (R.left reader.new)
+        (W.contents writer.old) (W.contents writer.new) result) }
     ensures refused { IfOk args (λ words. IsOutOfOrder (map string_bytes words.items)
         → IsTrue (is_refusal result) × (reader.new ≡ reader.old) × (writer.new ≡ writer.old)) }
     ensures no_memory { IfErr args (λ error. error_kind error ≡ ErrorKind.OutOfMemory

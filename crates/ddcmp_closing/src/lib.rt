@@ -1,6 +1,6 @@
 //! The last lines of a run between two ends: what both stations have counted, where that is asked
-//! for, and what has been done since the line was cleared. Nothing happens here: what plays a script
-//! writes them at its end, as text or below a picture.
+//! for, and what has been done since the line was cleared. Nothing happens here: what plays a
+//! script writes them at its end, as text or below a picture.
 //!
 //! ```text
 //! honest yes clean yes up A=0 B=1 acked A=1 B=0

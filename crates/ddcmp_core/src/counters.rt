@@ -1,6 +1,8 @@
 //! Counters of what a station did and saw.
 ghost use Rattle.std.specs.Prelude.{◌≡◌, ◌≤◌, length};
-ghost use Rattle.ddcmp_core.specs.Counting.{count_plus, nak_counts_after, counters_after_sent, counters_after_again, counters_after_up, counters_after_fault, no_naks, no_counts};
+ghost use Rattle.ddcmp_core.specs.Counting.{count_plus, nak_counts_after, counters_after_sent};
+ghost use Rattle.ddcmp_core.specs.Counting.{counters_after_again, counters_after_up};
+ghost use Rattle.ddcmp_core.specs.Counting.{counters_after_fault, no_naks, no_counts};
 ghost use Rattle.ddcmp_core.specs.Frames.{received};
 
 use crate::input::Input;

@@ -87,9 +87,16 @@ impl<S: Store> Model for Core<S> {
 }
 
 impl<S: Store> Core<S> {
-    ghost use Rattle.std.specs.Prelude.{◌≡◌, ◌≢◌, ◌↔◌, ◌+◌, ◌*◌, ◌<◌, ◌≤◌, [], length, sum_by, slice_index_or, IsTrue, Some, Ok, Err, OnErr, option_map, if◌then◌else◌};
+    ghost use Rattle.std.specs.Prelude.{◌≡◌, ◌≢◌, ◌↔◌, ◌+◌, ◌*◌, ◌<◌, ◌≤◌, [], length, sum_by};
+    ghost use Rattle.std.specs.Prelude.{slice_index_or, IsTrue, Some, Ok, Err, OnErr, option_map};
+    ghost use Rattle.std.specs.Prelude.{if◌then◌else◌};
     ghost use Rattle.ddcmp_window.specs.Store.{first_message, with_front};
-    ghost use Rattle.ddcmp_core.specs.Table.{new_station, may_start, answer_to_start, after_start, after_enter_maintenance, station_begun, after_halt, send_refusal as send_refusal_of, answer_to_send, may_send, after_accept, answer_to_send_maintenance, may_send_maintenance, after_take, after_expire, is_on, is_fresh, after_take_arm};
+    ghost use Rattle.ddcmp_core.specs.Table.{new_station, may_start, answer_to_start, after_start};
+    ghost use Rattle.ddcmp_core.specs.Table.{after_enter_maintenance, station_begun, after_halt};
+    ghost use Rattle.ddcmp_core.specs.Table.{send_refusal as send_refusal_of, answer_to_send};
+    ghost use Rattle.ddcmp_core.specs.Table.{may_send, after_accept, answer_to_send_maintenance};
+    ghost use Rattle.ddcmp_core.specs.Table.{may_send_maintenance, after_take, after_expire, is_on};
+    ghost use Rattle.ddcmp_core.specs.Table.{is_fresh, after_take_arm};
     ghost use Rattle.ddcmp_core.specs.Counting.{no_counts, counters_after_expire};
     ghost use Rattle.ddcmp_core.specs.Core.{IsSound};
 

@@ -1,8 +1,14 @@
 //! Headers and their spelling.
-ghost use Rattle.std.specs.Prelude.{◌≡◌, ◌≢◌, ◌/◌, ◌%◌, ℕ, ◌<◌, ◌≤◌, ◌↔◌, IfOk, IfSome, IsSome, List, take, length, slice_index, true, false};
-ghost use Rattle.ddcmp_frame.specs.Spelling.{Spells, SpellsCounted, HasCheck, IsNoType, IsBytes, parsed, count_field, is_start as is_start_byte, kind_of as kind_of_code, is_check_right as check_holds_in, flags_of, short_of, counted_or_none, type_code as type_code_of};
+ghost use Rattle.std.specs.Prelude.{◌≡◌, ◌≢◌, ◌/◌, ◌%◌, ℕ, ◌<◌, ◌≤◌, ◌↔◌, IfOk, IfSome, IsSome};
+ghost use Rattle.std.specs.Prelude.{List, take, length, slice_index, true, false};
+ghost use Rattle.ddcmp_frame.specs.Spelling.{Spells, SpellsCounted, HasCheck, IsNoType, IsBytes};
+ghost use Rattle.ddcmp_frame.specs.Spelling.{parsed, count_field, is_start as is_start_byte};
+ghost use Rattle.ddcmp_frame.specs.Spelling.{kind_of as kind_of_code};
+ghost use Rattle.ddcmp_frame.specs.Spelling.{is_check_right as check_holds_in, flags_of, short_of};
+ghost use Rattle.ddcmp_frame.specs.Spelling.{counted_or_none, type_code as type_code_of};
 ghost use Rattle.ddcmp_frame.specs.Reader.{frame_length as length_of_frame};
-ghost use Rattle.ddcmp_frame.specs.Wire.{six_bytes, counted_bytes, eight_bytes, flag_bits as flag_bits_of};
+ghost use Rattle.ddcmp_frame.specs.Wire.{six_bytes, counted_bytes, eight_bytes};
+ghost use Rattle.ddcmp_frame.specs.Wire.{flag_bits as flag_bits_of};
 ghost use Rattle.ddcmp_frame.specs.declared.header.Header.{Header as HeaderValue};
 
 use crate::codes::{

@@ -1,5 +1,6 @@
 //! What both readers do with the bytes of a frame that they hold.
-ghost use Rattle.std.specs.Prelude.{◌≡◌, ◌+◌, ◌<◌, ◌≤◌, ◌↔◌, ℕ, IfOk, length, drop, Some, None, vec_len, vec_capacity, if◌then◌else◌};
+ghost use Rattle.std.specs.Prelude.{◌≡◌, ◌+◌, ◌<◌, ◌≤◌, ◌↔◌, ℕ, IfOk, length, drop, Some, None};
+ghost use Rattle.std.specs.Prelude.{vec_len, vec_capacity, if◌then◌else◌};
 ghost use Rattle.ddcmp_frame.specs.Reading.{count_of as count_in, is_data_right as data_right_in};
 ghost use Rattle.ddcmp_frame.specs.Resume.{from_start};
 ghost use Rattle.ddcmp_frame.specs.Spelling.{IsBytes};

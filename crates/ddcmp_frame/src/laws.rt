@@ -1,16 +1,21 @@
 //! What holds of frames and of the reading of texts, for the crates above: functions that do
 //! nothing, whose contracts are the laws.
-ghost use Rattle.std.specs.Prelude.{◌≡◌, ◌+◌, ◌<◌, ◌≤◌, ◌↔◌, ℕ, Bool, true, false, List, [], ◌∷◌, ◌++◌, length, take, drop, slice_index, replicate, if◌then◌else◌, Some, None, Result, Ok, Err};
+ghost use Rattle.std.specs.Prelude.{◌≡◌, ◌+◌, ◌<◌, ◌≤◌, ◌↔◌, ℕ, Bool, true, false, List, [], ◌∷◌};
+ghost use Rattle.std.specs.Prelude.{◌++◌, length, take, drop, slice_index, replicate};
+ghost use Rattle.std.specs.Prelude.{if◌then◌else◌, Some, None, Result, Ok, Err};
 ghost use Rattle.ddcmp_frame.specs.declared.codes.TheConstants.{SYN};
 ghost use Rattle.ddcmp_frame.specs.Spelling.{IsInRange, IsBytes, Spells, Says, is_start, parsed};
 ghost use Rattle.ddcmp_frame.specs.Wire.{six_bytes, wire, IsFrame};
-ghost use Rattle.ddcmp_frame.specs.Reading.{items, ending, beginning, read, with_more, good_frames_in, good_frames, open_at_end, count_of, data_after_header, is_data_right};
+ghost use Rattle.ddcmp_frame.specs.Reading.{items, ending, beginning, read, with_more};
+ghost use Rattle.ddcmp_frame.specs.Reading.{good_frames_in, good_frames, open_at_end, count_of};
+ghost use Rattle.ddcmp_frame.specs.Reading.{data_after_header, is_data_right};
 ghost use Rattle.ddcmp_frame.specs.Rows.{outcome_after, outcome_at_end};
 ghost use Rattle.ddcmp_frame.specs.Step.{place_untold};
 ghost use Rattle.ddcmp_frame.specs.Reader.{frame_length};
 ghost use Rattle.ddcmp_frame.specs.declared.header.Header.{Header as HeaderValue};
 ghost use Rattle.ddcmp_frame.specs.declared.header.HeaderFault.{HeaderFault as HeaderFaultValue};
-ghost use Rattle.ddcmp_frame.specs.declared.item.Item.TheVariants.{Good, HeaderCheck, DataCheck, TooLong, Format};
+ghost use Rattle.ddcmp_frame.specs.declared.item.Item.TheVariants.{Good, HeaderCheck, DataCheck};
+ghost use Rattle.ddcmp_frame.specs.declared.item.Item.TheVariants.{TooLong, Format};
 
 use crate::header::HeaderFault;
 

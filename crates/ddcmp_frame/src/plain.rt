@@ -1,9 +1,13 @@
 //! The plain reader, which keeps the bytes of the unfinished frame and reads their front again with
 //! each byte: the yardstick for `Reader`, whose contract it has.
-ghost use Rattle.std.specs.Prelude.{◌≡◌, ◌+◌, ◌-◌, ◌<◌, ◌≤◌, ◌^◌, ℕ, Bool, true, false, List, [], ◌∷◌, ◌++◌, length, take, drop, Some, None, vec_len, vec_capacity, if◌then◌else◌};
+ghost use Rattle.std.specs.Prelude.{◌≡◌, ◌+◌, ◌-◌, ◌<◌, ◌≤◌, ◌^◌, ℕ, Bool, true, false, List, []};
+ghost use Rattle.std.specs.Prelude.{◌∷◌, ◌++◌, length, take, drop, Some, None, vec_len};
+ghost use Rattle.std.specs.Prelude.{vec_capacity, if◌then◌else◌};
 ghost use Rattle.ddcmp_frame.specs.Spelling.{parsed};
-ghost use Rattle.ddcmp_frame.specs.Reading.{row as row_at, count_of as count_in, by_count, open_at_end, kept_at_end};
-ghost use Rattle.ddcmp_frame.specs.Reader.{StandsFor, Grows, LentBeside, MakesReader, Pushes, open_of, kept_of};
+ghost use Rattle.ddcmp_frame.specs.Reading.{row as row_at, count_of as count_in, by_count};
+ghost use Rattle.ddcmp_frame.specs.Reading.{open_at_end, kept_at_end};
+ghost use Rattle.ddcmp_frame.specs.Reader.{StandsFor, Grows, LentBeside, MakesReader, Pushes};
+ghost use Rattle.ddcmp_frame.specs.Reader.{open_of, kept_of};
 ghost use Rattle.ddcmp_frame.specs.Step.{place_untold, row_of_step, Found};
 
 use crate::header::{Header, HeaderFault, is_start};
@@ -30,7 +34,8 @@ pub struct PlainReader {
 }
 
 impl Model for PlainReader {
-    ghost use Rattle.std.specs.Prelude.{◌≡◌, ◌+◌, ◌<◌, ◌≤◌, take, drop, [], if◌then◌else◌, vec_len, vec_capacity, false};
+    ghost use Rattle.std.specs.Prelude.{◌≡◌, ◌+◌, ◌<◌, ◌≤◌, take, drop, [], if◌then◌else◌, vec_len};
+    ghost use Rattle.std.specs.Prelude.{vec_capacity, false};
     ghost use Rattle.ddcmp_frame.specs.Reader.{ReaderView};
 
     ghost Value = { ReaderView };

@@ -1,7 +1,8 @@
 //! A reader of frames that takes the bytes of a line in pieces.
 ghost use Rattle.std.specs.Prelude.{◌≡◌, ◌+◌, ◌<◌, ◌≤◌, ◌^◌, ℕ, List, [], length};
 ghost use Rattle.ddcmp_frame.specs.Reading.{open_at_end, kept_at_end};
-ghost use Rattle.ddcmp_frame.specs.Reader.{StandsFor, MakesReader, Pushes, PushesAll, open_of, kept_of};
+ghost use Rattle.ddcmp_frame.specs.Reader.{StandsFor, MakesReader, Pushes, PushesAll, open_of};
+ghost use Rattle.ddcmp_frame.specs.Reader.{kept_of};
 
 use crate::held::frame_buffer;
 use crate::item::{Item, Pushed};

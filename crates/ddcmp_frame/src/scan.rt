@@ -1,8 +1,10 @@
 //! A scan of a line for frames, step by step. `Reader` is what callers see of it.
-ghost use Rattle.std.specs.Prelude.{◌≡◌, ◌+◌, ◌<◌, ◌≤◌, ◌^◌, ◌++◌, ℕ, true, false, length, slice_index, take, None, vec_len, vec_capacity};
+ghost use Rattle.std.specs.Prelude.{◌≡◌, ◌+◌, ◌<◌, ◌≤◌, ◌^◌, ◌++◌, ℕ, true, false, length};
+ghost use Rattle.std.specs.Prelude.{slice_index, take, None, vec_len, vec_capacity};
 ghost use Rattle.ddcmp_frame.specs.Spelling.{is_start as is_start_byte};
 ghost use Rattle.ddcmp_frame.specs.Reader.{open_of, kept_of};
-ghost use Rattle.ddcmp_frame.specs.Scan.{IsSoundScan, IsReady, IsCandidate, Takes, TakesAll, view_of};
+ghost use Rattle.ddcmp_frame.specs.Scan.{IsSoundScan, IsReady, IsCandidate, Takes, TakesAll};
+ghost use Rattle.ddcmp_frame.specs.Scan.{view_of};
 
 use crate::header::{Header, HeaderFault, is_start};
 use crate::held::{count_of, data_right, loss, resume};

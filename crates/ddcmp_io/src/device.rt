@@ -1,5 +1,6 @@
 //! Where bytes come from and where they go.
-ghost use Rattle.std.specs.Prelude.{◌≡◌, ◌≢◌, ◌<◌, length, false, true, is_none, List, ℕ, Option, Bool, is_err};
+ghost use Rattle.std.specs.Prelude.{◌≡◌, ◌≢◌, ◌<◌, length, false, true, is_none, List, ℕ, Option};
+ghost use Rattle.std.specs.Prelude.{Bool, is_err};
 ghost use Rattle.ddcmp_io.specs.Device.{got_of_error as got_of_error_kind};
 ghost use Rattle.ddcmp_io.specs.Written.{Writes};
 

@@ -1,5 +1,6 @@
 //! Damage on the line is detected, and what is too long is passed over.
-ghost use Rattle.std.specs.Prelude.{◌≡◌, ◌+◌, ◌<◌, ◌⊎◌, ℕ, List, [], ◌∷◌, ◌++◌, length, drop, replicate, true, false, Ok, Err};
+ghost use Rattle.std.specs.Prelude.{◌≡◌, ◌+◌, ◌<◌, ◌⊎◌, ℕ, List, [], ◌∷◌, ◌++◌, length, drop};
+ghost use Rattle.std.specs.Prelude.{replicate, true, false, Ok, Err};
 ghost use Rattle.ddcmp_frame.specs.declared.codes.TheConstants.{SYN};
 ghost use Rattle.ddcmp_frame.specs.declared.header.Header.{Header as HeaderValue};
 ghost use Rattle.ddcmp_frame.specs.declared.header.HeaderFault.TheVariants.{Check, NotAStart};
@@ -32,8 +33,8 @@ pub fn damaged_data_are_told()
         → is_data_right n new ≡ false }
 {}
 
-/// A frame whose data are too long is told once and passed over whole: behind it nothing is open, so
-/// that the next frame is read.
+/// A frame whose data are too long is told once and passed over whole: behind it nothing is open,
+/// so that the next frame is read.
 pub fn too_long_is_passed_over()
     ensures told { (max fill : ℕ) (text message : List ℕ) (h : HeaderValue)
         → open_at_end max text ≡ 0 → IsInRange h → IsFrame h message → max < length message

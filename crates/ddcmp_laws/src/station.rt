@@ -1,15 +1,26 @@
 //! Laws of one station, of whatever sizes and in whatever it waits for.
-ghost use Rattle.std.specs.Prelude.{◌≡◌, ◌≢◌, ◌+◌, ◌%◌, ◌<◌, ◌≤◌, ◌↔◌, ◌⊎◌, ℕ, List, [], ◌∷◌, ◌++◌, length, true, false, Some, None, Ok};
+ghost use Rattle.std.specs.Prelude.{◌≡◌, ◌≢◌, ◌+◌, ◌%◌, ◌<◌, ◌≤◌, ◌↔◌, ◌⊎◌, ℕ, List, [], ◌∷◌, ◌++◌};
+ghost use Rattle.std.specs.Prelude.{length, true, false, Some, None, Ok};
 ghost use Rattle.ddcmp_num.specs.Sequence.{distance, Within};
 ghost use Rattle.ddcmp_core.specs.Seq.{Seq as SeqValue};
 ghost use Rattle.ddcmp_frame.specs.declared.nak.Nak.{Nak as Reason};
-ghost use Rattle.ddcmp_core.specs.declared.state.State.TheVariants.{Halted, AStart, Running, Maintenance};
+ghost use Rattle.ddcmp_core.specs.declared.state.State.TheVariants.{Halted, AStart, Running};
+ghost use Rattle.ddcmp_core.specs.declared.state.State.TheVariants.{Maintenance};
 ghost use Rattle.ddcmp_core.specs.declared.state.Owed.TheVariants.{Quiet, Ack, Nak};
 ghost use Rattle.ddcmp_core.specs.declared.state.Timer.TheVariants.{Off, Fresh, On};
-ghost use Rattle.ddcmp_core.specs.Table.{Limits, StationState, Frame, Data, Acked, Naked, Rep, Strt, Maint, Received, Good, Next, Idle, Sends, on, notice_of, acknowledged_by, next, after_next, next_frame, after_halt, may_send, may_send_maintenance, answer_to_send, after_accept, after_take, after_expire, after_take_arm};
+ghost use Rattle.ddcmp_core.specs.Table.{Limits, StationState, Frame, Data, Acked, Naked, Rep};
+ghost use Rattle.ddcmp_core.specs.Table.{Strt, Maint, Received, Good, Next, Idle, Sends, on};
+ghost use Rattle.ddcmp_core.specs.Table.{notice_of, acknowledged_by, next, after_next, next_frame};
+ghost use Rattle.ddcmp_core.specs.Table.{after_halt, may_send, may_send_maintenance};
+ghost use Rattle.ddcmp_core.specs.Table.{answer_to_send, after_accept, after_take, after_expire};
+ghost use Rattle.ddcmp_core.specs.Table.{after_take_arm};
 ghost use Rattle.ddcmp_core.specs.Core.{IsSound, IsReceivable};
-ghost use Rattle.ddcmp_laws.specs.Calls.{Call, after_calls, SendsInOrder, HandsUpInOrder, LeavesUnanswered};
-ghost use Rattle.ddcmp_laws.specs.Station.{HasHalted, Responds, AcknowledgesUpTo, AcknowledgesNothing, HandsUp, HandsUpNothing, tells_mail, IsNoMessage, IsNoMaintenance, CallsFor, SendsNak, BeginsAnew, HaltsAtRestart, KeepsUnder};
+ghost use Rattle.ddcmp_laws.specs.Calls.{Call, after_calls, SendsInOrder, HandsUpInOrder};
+ghost use Rattle.ddcmp_laws.specs.Calls.{LeavesUnanswered};
+ghost use Rattle.ddcmp_laws.specs.Station.{HasHalted, Responds, AcknowledgesUpTo};
+ghost use Rattle.ddcmp_laws.specs.Station.{AcknowledgesNothing, HandsUp, HandsUpNothing};
+ghost use Rattle.ddcmp_laws.specs.Station.{tells_mail, IsNoMessage, IsNoMaintenance, CallsFor};
+ghost use Rattle.ddcmp_laws.specs.Station.{SendsNak, BeginsAnew, HaltsAtRestart, KeepsUnder};
 
 /// A halted station is deaf and dumb: nothing that comes changes it, it sends nothing, and it takes
 /// no message. Who halts it finds its numbers, its messages and its mail as they were.

@@ -2,7 +2,10 @@
 ghost use Rattle.std.specs.Prelude.{◌≡◌, [], ◌∷◌, map};
 ghost use Rattle.ddcmp_run.specs.Run.{run, new_pair};
 ghost use Rattle.ddcmp_laws.specs.Vectors.{abc};
-ghost use Rattle.ddcmp_laws.specs.Story.{de, f, g, usual, tight, written_run, second_run, clear_run, event_in, reply_in, replies_to, EndsWell, counts_of_a, counts_of_b, second_counts_of_a, second_counts_of_b, clear_counts_of_a, clear_counts_of_b};
+ghost use Rattle.ddcmp_laws.specs.Story.{de, f, g, usual, tight, written_run, second_run};
+ghost use Rattle.ddcmp_laws.specs.Story.{clear_run, event_in, reply_in, replies_to, EndsWell};
+ghost use Rattle.ddcmp_laws.specs.Story.{counts_of_a, counts_of_b, second_counts_of_a};
+ghost use Rattle.ddcmp_laws.specs.Story.{second_counts_of_b, clear_counts_of_a, clear_counts_of_b};
 ghost use Rattle.ddcmp_laws.specs.Clear.{StaysClear};
 
 /// A startup, messages both ways, of which one is lost and one is damaged, a lost ACK, and the
@@ -24,8 +27,8 @@ pub fn second_run_is_answered()
         [] (abc ∷ de ∷ []) second_counts_of_a second_counts_of_b }
 {}
 
-/// The same of a run over a clear line, in which a timer runs out all the same: so the law that such
-/// a line wastes nothing speaks of runs in which messages are sent and asked for.
+/// The same of a run over a clear line, in which a timer runs out all the same: so the law that
+/// such a line wastes nothing speaks of runs in which messages are sent and asked for.
 pub fn clear_run_is_answered()
     ensures clear { StaysClear (map event_in clear_run) (new_pair usual usual) }
     ensures replies { replies_to (map event_in clear_run) (new_pair usual usual)

@@ -1,10 +1,13 @@
 //! Published checks, and each kind of frame as bytes, computed from the definitions.
 ghost use Rattle.std.specs.Prelude.{◌≡◌, true, false, List, ℕ, [], ◌∷◌};
 ghost use Rattle.ddcmp_num.specs.Check.{check_of};
-ghost use Rattle.ddcmp_frame.specs.declared.header.ControlType.TheVariants.{Ack, Nak, Rep, Strt as StrtType, Stack as StackType};
+ghost use Rattle.ddcmp_frame.specs.declared.header.ControlType.TheVariants.{Ack, Nak, Rep};
+ghost use Rattle.ddcmp_frame.specs.declared.header.ControlType.TheVariants.{Strt as StrtType};
+ghost use Rattle.ddcmp_frame.specs.declared.header.ControlType.TheVariants.{Stack as StackType};
 ghost use Rattle.ddcmp_frame.specs.declared.nak.Nak.TheVariants as reason;
 ghost use Rattle.ddcmp_core.specs.Table.{Data, Acked, Naked, Rep as RepFrame, Strt, Stack, Maint};
-ghost use Rattle.ddcmp_laws.specs.Vectors.{nine_digits, abc, control, data_of, maintenance_of, IsHeader, IsOnLine};
+ghost use Rattle.ddcmp_laws.specs.Vectors.{nine_digits, abc, control, data_of, maintenance_of};
+ghost use Rattle.ddcmp_laws.specs.Vectors.{IsHeader, IsOnLine};
 
 /// The checks that are published of CRC-16: of `123456789`, of `abc` and of nothing.
 pub fn published_checks()

@@ -84,8 +84,8 @@ impl Canvas {
         self.rows = self.rows.saturating_add(rows_of(mark));
     }
 
-    /// Ends the picture: whether there was memory for all of it. Behind it stands what has been done,
-    /// where there is a pair to ask.
+    /// Ends the picture: whether there was memory for all of it. Behind it stands what has been
+    /// done, where there is a pair to ask.
     pub(crate) fn end<W: Sink>(
         &mut self,
         alloc: Global,

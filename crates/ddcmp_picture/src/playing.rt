@@ -110,7 +110,8 @@ impl Player {
         carrier: &mut C,
     ) -> Result<(), Halt>
         requires whole { C.broken carrier.old ≡ false }
-        ensures carrier { (result ≡ Err (Halt.Stopped Stop.Carrier)) ↔ IsTrue (C.broken carrier.new) }
+        ensures carrier { (result ≡ Err (Halt.Stopped Stop.Carrier))
+            ↔ IsTrue (C.broken carrier.new) }
     {
         let line = without_cr(&self.line);
         match self.stage.do_line(pair, writer, carrier, line) {
@@ -135,7 +136,8 @@ impl Player {
         byte: u8,
     ) -> Result<(), Halt>
         requires whole { C.broken carrier.old ≡ false }
-        ensures carrier { (result ≡ Err (Halt.Stopped Stop.Carrier)) ↔ IsTrue (C.broken carrier.new) }
+        ensures carrier { (result ≡ Err (Halt.Stopped Stop.Carrier))
+            ↔ IsTrue (C.broken carrier.new) }
     {
         if byte == b'\n' {
             return self.end_line(pair, writer, carrier);
@@ -155,7 +157,8 @@ impl Player {
         piece: &[u8],
     ) -> Result<(), Halt>
         requires whole { C.broken carrier.old ≡ false }
-        ensures carrier { (result ≡ Err (Halt.Stopped Stop.Carrier)) ↔ IsTrue (C.broken carrier.new) }
+        ensures carrier { (result ≡ Err (Halt.Stopped Stop.Carrier))
+            ↔ IsTrue (C.broken carrier.new) }
     {
         for i in 0..piece.len() {
             match self.take_byte(pair, writer, carrier, piece[i]) {

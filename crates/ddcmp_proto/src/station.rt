@@ -1,7 +1,8 @@
 //! A station over the bytes of its line.
 mod feeding;
 
-ghost use Rattle.std.specs.Prelude.{◌≡◌, ◌+◌, ◌≤◌, ◌++◌, length, drop, replicate, option_map, IfSome};
+ghost use Rattle.std.specs.Prelude.{◌≡◌, ◌+◌, ◌≤◌, ◌++◌, length, drop, replicate, option_map};
+ghost use Rattle.std.specs.Prelude.{IfSome};
 ghost use Rattle.ddcmp_frame.specs.Wire.{wire, IsFrame};
 ghost use Rattle.ddcmp_window.specs.Store.{with_front};
 ghost use Rattle.ddcmp_core.specs.Table.{next, next_frame};
@@ -140,16 +141,24 @@ impl Station {
 }
 
 impl Station {
-    ghost use Rattle.std.specs.Prelude.{◌≡◌, ◌≢◌, ◌↔◌, ℕ, ◌+◌, ◌<◌, ◌≤◌, true, false, List, [], length, slice_index_or, IsTrue, Some, Err, OnErr, IfSome, option_map, if◌then◌else◌};
+    ghost use Rattle.std.specs.Prelude.{◌≡◌, ◌≢◌, ◌↔◌, ℕ, ◌+◌, ◌<◌, ◌≤◌, true, false, List, []};
+    ghost use Rattle.std.specs.Prelude.{length, slice_index_or, IsTrue, Some, Err, OnErr, IfSome};
+    ghost use Rattle.std.specs.Prelude.{option_map, if◌then◌else◌};
     ghost use Rattle.ddcmp_frame.specs.Reader.{StandsFor, open_of};
     ghost use Rattle.ddcmp_frame.specs.Reading.{open_at_end, kept_at_end};
     ghost use Rattle.ddcmp_window.specs.Store.{first_message, with_front};
-    ghost use Rattle.ddcmp_core.specs.Table.{may_start, answer_to_start, after_start, after_enter_maintenance, after_halt, send_refusal as send_refusal_of, answer_to_send, may_send, after_accept, answer_to_send_maintenance, may_send_maintenance, after_take, after_expire, is_on, is_fresh, is_halted, after_take_arm, next, next_frame};
+    ghost use Rattle.ddcmp_core.specs.Table.{may_start, answer_to_start, after_start};
+    ghost use Rattle.ddcmp_core.specs.Table.{after_enter_maintenance, after_halt};
+    ghost use Rattle.ddcmp_core.specs.Table.{send_refusal as send_refusal_of, answer_to_send};
+    ghost use Rattle.ddcmp_core.specs.Table.{may_send, after_accept, answer_to_send_maintenance};
+    ghost use Rattle.ddcmp_core.specs.Table.{may_send_maintenance, after_take, after_expire, is_on};
+    ghost use Rattle.ddcmp_core.specs.Table.{is_fresh, is_halted, after_take_arm, next, next_frame};
     ghost use Rattle.ddcmp_core.specs.Frames.{header_of};
     ghost use Rattle.ddcmp_core.specs.Counting.{counters_after_expire};
     ghost use Rattle.ddcmp_proto.specs.Bytes.{frame_on_line, after_poll};
     ghost use Rattle.ddcmp_proto.specs.Config.{config_of};
-    ghost use Rattle.ddcmp_proto.specs.Station.{IsSoundStation, held_of, held_at_most, message_bytes};
+    ghost use Rattle.ddcmp_proto.specs.Station.{IsSoundStation, held_of, held_at_most};
+    ghost use Rattle.ddcmp_proto.specs.Station.{message_bytes};
 
     /// Asks the peer to start: how many messages that waited to be sent were dropped.
     pub fn start(&mut self) -> Result<u8, StartRefusal>

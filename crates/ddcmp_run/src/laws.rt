@@ -1,11 +1,14 @@
 //! Laws of a line: functions that do nothing, whose contracts are the laws.
-ghost use Rattle.std.specs.Prelude.{◌≡◌, ◌↔◌, ℕ, ◌+◌, ◌-◌, ◌%◌, ◌≤◌, List, [], ◌∷◌, ◌++◌, length, true, IsTrue, Some, None, is_some, option_and_then};
+ghost use Rattle.std.specs.Prelude.{◌≡◌, ◌↔◌, ℕ, ◌+◌, ◌-◌, ◌%◌, ◌≤◌, List, [], ◌∷◌, ◌++◌, length};
+ghost use Rattle.std.specs.Prelude.{true, IsTrue, Some, None, is_some, option_and_then};
 ghost use Rattle.ddcmp_core.specs.Sequence.{distance, Within};
 ghost use Rattle.ddcmp_core.specs.Numbers.{next_number};
-ghost use Rattle.ddcmp_run.specs.Place.{WholeFrame, same_frame, place_after, place_of, IsSubsequence};
+ghost use Rattle.ddcmp_run.specs.Place.{WholeFrame, same_frame, place_after, place_of};
+ghost use Rattle.ddcmp_run.specs.Place.{IsSubsequence};
 ghost use Rattle.ddcmp_run.specs.declared.event.Event.{Event as EventValue};
 ghost use Rattle.ddcmp_run.specs.declared.event.End.{End as EndValue};
-ghost use Rattle.ddcmp_run.specs.Run.{PairState, at, after_event, reply_to, run, new_pair, is_clean};
+ghost use Rattle.ddcmp_run.specs.Run.{PairState, at, after_event, reply_to, run, new_pair};
+ghost use Rattle.ddcmp_run.specs.Run.{is_clean};
 ghost use Rattle.ddcmp_run.specs.InOrder.{IsInOrder, IsLink, NoRestart};
 ghost use Rattle.ddcmp_proto.specs.Config.{first_refusal};
 ghost use Rattle.ddcmp_proto.specs.declared.config.Config.{Config as ConfigValue};

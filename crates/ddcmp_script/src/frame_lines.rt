@@ -1,5 +1,7 @@
 //! What is left of the frames on both lines.
-ghost use Rattle.std.specs.Prelude.{◌≡◌, ◌∷◌, ◌+◌, ◌<◌, ◌≤◌, ◌==◌, [], length, drop, slice_set, slice_index_or, bit_xor, true, false, IfSome, MatchOption, List, ℕ};
+ghost use Rattle.std.specs.Prelude.{◌≡◌, ◌∷◌, ◌+◌, ◌<◌, ◌≤◌, ◌==◌, [], length, drop, slice_set};
+ghost use Rattle.std.specs.Prelude.{slice_index_or, bit_xor, true, false, IfSome, MatchOption};
+ghost use Rattle.std.specs.Prelude.{List, ℕ};
 ghost use Rattle.ddcmp_script.specs.Script.{changed, taken_off, with_change, has_byte};
 
 use ddcmp_pair::{Bytes, End, Reply};
@@ -76,7 +78,8 @@ impl Model for FrameLines {
 }
 
 impl FrameLines {
-    ghost use Rattle.ddcmp_script.specs.Script.{cleared_by, nothing_between, frames_of, with_frames};
+    ghost use Rattle.ddcmp_script.specs.Script.{cleared_by, nothing_between, frames_of};
+    ghost use Rattle.ddcmp_script.specs.Script.{with_frames};
     ghost use Rattle.ddcmp_core.specs.Store.{first_message};
 
     /// Two empty lines.

@@ -1,5 +1,7 @@
 //! A script: lines that say what happens between two ends.
-ghost use Rattle.std.specs.Prelude.{◌≡◌, ◌≢◌, ◌⊎◌, ◌↔◌, ◌+◌, ◌-◌, ◌<◌, ◌≤◌, ◌^◌, ◌∷◌, ◌++◌, [], false, Bool, List, ℕ, Option, Some, Err, IsOk, OnErr, IsTrue, length};
+ghost use Rattle.std.specs.Prelude.{◌≡◌, ◌≢◌, ◌⊎◌, ◌↔◌, ◌+◌, ◌-◌, ◌<◌, ◌≤◌, ◌^◌, ◌∷◌, ◌++◌, []};
+ghost use Rattle.std.specs.Prelude.{false, Bool, List, ℕ, Option, Some, Err, IsOk, OnErr, IsTrue};
+ghost use Rattle.std.specs.Prelude.{length};
 ghost use Rattle.std.specs.Io.KnownBytes.{Appends, Consumes};
 ghost use Rattle.ddcmp_io.specs.Written.{AppendsPart, HandsOver, Output, output_of};
 ghost use Rattle.ddcmp_run.specs.Run.{PairState};
@@ -7,7 +9,8 @@ ghost use Rattle.ddcmp_io.specs.Change.{sink_change, source_change};
 ghost use Rattle.ddcmp_carrier.specs.Carriages.{Carriage};
 ghost use Rattle.ddcmp_script.specs.Script.{nothing_between};
 ghost use Rattle.ddcmp_script.specs.ScriptEnds.{Around, around, IsPlayed, PausedBefore, Plays};
-ghost use Rattle.ddcmp_script.specs.ScriptProgress.{HasDone, IsPlaying, PlaysOut, Stops, Takes, moment};
+ghost use Rattle.ddcmp_script.specs.ScriptProgress.{HasDone, IsPlaying, PlaysOut, Stops, Takes};
+ghost use Rattle.ddcmp_script.specs.ScriptProgress.{moment};
 ghost use Rattle.ddcmp_script.specs.ScriptProgress.{course, fresh, played};
 ghost use Rattle.ddcmp_script.specs.ScriptSteps.{TellsDevices};
 
@@ -64,8 +67,9 @@ impl Player {
         ensures seen { self.new.seen ≡ self.old.seen }
         ensures number { self.new.number ≤ self.old.number + 1 }
         ensures refused { OnErr result (self.new.number ≡ self.old.number) }
-        ensures devices { TellsDevices (output_of W.broken W.contents writer.new self.new.stage.page)
-            (C.broken carrier.new) result }
+        ensures devices { TellsDevices
+            (output_of W.broken W.contents writer.new self.new.stage.page) (C.broken carrier.new)
+            result }
         ensures direct { C.direct carrier.new ≡ C.direct carrier.old }
         ensures takes { Takes (byte ∷ []) (C.direct carrier.old)
             (moment self.old (output_of W.broken W.contents writer.old self.old.stage.page)
@@ -105,8 +109,9 @@ impl Player {
         ensures seen { self.new.seen ≡ self.old.seen }
         ensures number { self.new.number ≤ self.old.number + length piece.now }
         ensures refused { OnErr result (self.new.number < self.old.number + length piece.now) }
-        ensures devices { TellsDevices (output_of W.broken W.contents writer.new self.new.stage.page)
-            (C.broken carrier.new) result }
+        ensures devices { TellsDevices
+            (output_of W.broken W.contents writer.new self.new.stage.page) (C.broken carrier.new)
+            result }
         ensures direct { C.direct carrier.new ≡ C.direct carrier.old }
         ensures takes { Takes piece.now (C.direct carrier.old)
             (moment self.old (output_of W.broken W.contents writer.old self.old.stage.page)
@@ -164,8 +169,9 @@ impl Player {
         requires whole { C.broken carrier.old ≡ false }
         ensures seen { self.new.seen ≡ self.old.seen }
         ensures number { self.new.number ≡ self.old.number }
-        ensures devices { TellsDevices (output_of W.broken W.contents writer.new self.new.stage.page)
-            (C.broken carrier.new) result }
+        ensures devices { TellsDevices
+            (output_of W.broken W.contents writer.new self.new.stage.page) (C.broken carrier.new)
+            result }
         ensures ends { (input : List ℕ) (p : PairState) (d : Bool)
             (log : Option (List Carriage)) (start : Output) → C.direct carrier.old ≡ d
             → HasDone input []
@@ -303,8 +309,8 @@ pub fn script<R: Source, W: Sink, C: Carrier>(
     script_with(alloc, pair, reader, writer, carrier, false)
 }
 
-/// Does what the lines of a script say, and writes what comes of each, the counters of both stations
-/// where they are asked for, and a last line of what has been done.
+/// Does what the lines of a script say, and writes what comes of each, the counters of both
+/// stations where they are asked for, and a last line of what has been done.
 pub fn script_with<R: Source, W: Sink, C: Carrier>(
     alloc: Global,
     pair: &mut Pair,

@@ -1,9 +1,18 @@
 //! What a line of a script asks for.
-ghost use Rattle.std.specs.Prelude.{◌≡◌, ◌∷◌, ◌*◌, ◌^◌, ◌<◌, ◌==◌, [], length, take, Some, None, is_some, IfSome, IfOk, codes};
+ghost use Rattle.std.specs.Prelude.{◌≡◌, ◌∷◌, ◌*◌, ◌^◌, ◌<◌, ◌==◌, [], length, take, Some, None};
+ghost use Rattle.std.specs.Prelude.{is_some, IfSome, IfOk, codes};
 ghost use Rattle.std.specs.Option.{option_map_or};
 ghost use Rattle.std.specs.List.{slice_split};
 ghost use Rattle.ddcmp_run.specs.Place.{same_bytes};
-ghost use Rattle.ddcmp_script_text.specs.ScriptWords.{is_digit as is_digit_byte, end_named as end_of_word, number_in as number_of_word, bytes_of_digits as bytes_of_word, byte_in as byte_of_word, alone, command_at as command_of, asked_at, cut_of, asked_with, asked_damage, asked_by, asked_in, words as words_of, reading_of, without_cr as without_cr_of};
+ghost use Rattle.ddcmp_script_text.specs.ScriptWords.{is_digit as is_digit_byte};
+ghost use Rattle.ddcmp_script_text.specs.ScriptWords.{end_named as end_of_word};
+ghost use Rattle.ddcmp_script_text.specs.ScriptWords.{number_in as number_of_word};
+ghost use Rattle.ddcmp_script_text.specs.ScriptWords.{bytes_of_digits as bytes_of_word};
+ghost use Rattle.ddcmp_script_text.specs.ScriptWords.{byte_in as byte_of_word, alone};
+ghost use Rattle.ddcmp_script_text.specs.ScriptWords.{command_at as command_of, asked_at, cut_of};
+ghost use Rattle.ddcmp_script_text.specs.ScriptWords.{asked_with, asked_damage, asked_by, asked_in};
+ghost use Rattle.ddcmp_script_text.specs.ScriptWords.{words as words_of, reading_of};
+ghost use Rattle.ddcmp_script_text.specs.ScriptWords.{without_cr as without_cr_of};
 
 use ddcmp_proto::Memory;
 use ddcmp_run::{Bytes, End, Event};

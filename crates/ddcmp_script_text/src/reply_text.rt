@@ -3,7 +3,13 @@ ghost use Rattle.std.specs.Prelude.{◌≡◌, ◌++◌};
 ghost use Rattle.std.specs.List.{flat_map};
 ghost use Rattle.ddcmp_io.specs.Written.{HandsOver, output_of};
 ghost use Rattle.ddcmp_station_text.specs.StationText.{notice_line};
-ghost use Rattle.ddcmp_script_text.specs.ScriptText.{end_name, name_before, start_refusal_text, clear_refusal_text, send_refusal_text, expired_text, counted_line, bytes_line, reply_text, timer_text, numbers_text, station_line, quiet_text, settled_text, done_text, count_text, recovered_text, damage_text};
+ghost use Rattle.ddcmp_script_text.specs.ScriptText.{end_name, name_before, start_refusal_text};
+ghost use Rattle.ddcmp_script_text.specs.ScriptText.{clear_refusal_text, send_refusal_text};
+ghost use Rattle.ddcmp_script_text.specs.ScriptText.{expired_text, counted_line, bytes_line};
+ghost use Rattle.ddcmp_script_text.specs.ScriptText.{reply_text, timer_text, numbers_text};
+ghost use Rattle.ddcmp_script_text.specs.ScriptText.{station_line, quiet_text, settled_text};
+ghost use Rattle.ddcmp_script_text.specs.ScriptText.{done_text, count_text, recovered_text};
+ghost use Rattle.ddcmp_script_text.specs.ScriptText.{damage_text};
 
 use ddcmp_io::text::{write_hex, write_number};
 use ddcmp_io::{Page, Sink};
@@ -72,7 +78,8 @@ pub fn expired_name(was_on: bool) -> &'static [u8]
 
 fn write_notices<W: Sink>(page: &mut Page, writer: &mut W, who: &[u8], notices: &[Notice])
     ensures { HandsOver (output_of W.broken W.contents writer.old page.old)
-        (output_of W.broken W.contents writer.new page.new) (flat_map (notice_line who.now) notices.now) }
+        (output_of W.broken W.contents writer.new page.new)
+        (flat_map (notice_line who.now) notices.now) }
 {
     for notice in notices {
         write_notice(page, writer, who, *notice);
@@ -88,7 +95,8 @@ pub fn write_counted<W: Sink>(
     number: u64,
 )
     ensures { HandsOver (output_of W.broken W.contents writer.old page.old)
-        (output_of W.broken W.contents writer.new page.new) (counted_line who.now words.now number) }
+        (output_of W.broken W.contents writer.new page.new)
+        (counted_line who.now words.now number) }
 {
     page.write(writer, who);
     page.write(writer, words);
@@ -108,7 +116,8 @@ pub fn write_plain<W: Sink>(page: &mut Page, writer: &mut W, who: &[u8], words: 
 /// A line with bytes in it.
 pub fn write_bytes<W: Sink>(page: &mut Page, writer: &mut W, who: &[u8], words: &[u8], bytes: &[u8])
     ensures { HandsOver (output_of W.broken W.contents writer.old page.old)
-        (output_of W.broken W.contents writer.new page.new) (bytes_line who.now words.now bytes.now) }
+        (output_of W.broken W.contents writer.new page.new)
+        (bytes_line who.now words.now bytes.now) }
 {
     page.write(writer, who);
     page.write(writer, words);
@@ -156,7 +165,8 @@ fn timer_name(on: bool) -> &'static [u8]
 /// The state and the numbers of a station.
 fn write_numbers<W: Sink>(page: &mut Page, writer: &mut W, station: &Station)
     ensures { HandsOver (output_of W.broken W.contents writer.old page.old)
-        (output_of W.broken W.contents writer.new page.new) (numbers_text station.now.core.station) }
+        (output_of W.broken W.contents writer.new page.new)
+        (numbers_text station.now.core.station) }
 {
     let numbers = station.numbers();
     page.write(writer, state_name(station.state()));
@@ -173,7 +183,8 @@ fn write_numbers<W: Sink>(page: &mut Page, writer: &mut W, station: &Station)
 /// The line of a station.
 pub fn write_station<W: Sink>(page: &mut Page, writer: &mut W, who: &[u8], station: &Station)
     ensures { HandsOver (output_of W.broken W.contents writer.old page.old)
-        (output_of W.broken W.contents writer.new page.new) (station_line who.now station.now.core.station) }
+        (output_of W.broken W.contents writer.new page.new)
+        (station_line who.now station.now.core.station) }
 {
     page.write(writer, who);
     write_numbers(page, writer, station);

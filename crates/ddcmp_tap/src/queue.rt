@@ -1,5 +1,6 @@
 //! The bytes of one direction that came and still wait.
-ghost use Rattle.std.specs.Prelude.{◌≡◌, ◌+◌, ◌≤◌, ◌++◌, [], IfOk, drop, length, vec_capacity, vec_len};
+ghost use Rattle.std.specs.Prelude.{◌≡◌, ◌+◌, ◌≤◌, ◌++◌, [], IfOk, drop, length, vec_capacity};
+ghost use Rattle.std.specs.Prelude.{vec_len};
 ghost use Rattle.ddcmp_tap.specs.Passing.{no_bytes};
 
 use std::alloc::{AllocError, Global};

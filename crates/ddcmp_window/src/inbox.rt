@@ -1,5 +1,6 @@
 //! The receiving half: messages that came in sequence.
-ghost use Rattle.std.specs.Prelude.{◌≡◌, ◌≢◌, ◌↔◌, ◌+◌, ◌<◌, ◌≤◌, [], ◌∷◌, ◌++◌, length, slice_index_or, sum_by, IsTrue, Option, Some, None, option_map};
+ghost use Rattle.std.specs.Prelude.{◌≡◌, ◌≢◌, ◌↔◌, ◌+◌, ◌<◌, ◌≤◌, [], ◌∷◌, ◌++◌, length};
+ghost use Rattle.std.specs.Prelude.{slice_index_or, sum_by, IsTrue, Option, Some, None, option_map};
 
 use crate::store::{Store, take_first};
 use ddcmp_num::Seq;
@@ -42,7 +43,9 @@ impl<S: Store> Model for Inbox<S> {
 impl<S: Store> Inbox<S> {
     ghost use Rattle.ddcmp_window.specs.Store.{first_message, with_front};
     ghost use Rattle.ddcmp_window.specs.Numbers.{next_number};
-    ghost use Rattle.ddcmp_window.specs.Inbox.{IsSoundInbox, nothing_received, answer_to_offer, incoming_after_offer, incoming_after_put, incoming_after_take};
+    ghost use Rattle.ddcmp_window.specs.Inbox.{IsSoundInbox, nothing_received, answer_to_offer};
+    ghost use Rattle.ddcmp_window.specs.Inbox.{incoming_after_offer, incoming_after_put};
+    ghost use Rattle.ddcmp_window.specs.Inbox.{incoming_after_take};
 
     /// An inbox that has received nothing.
     pub fn new(store: S) -> Self

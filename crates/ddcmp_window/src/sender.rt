@@ -1,5 +1,7 @@
 //! The sending half: messages are kept until they are acknowledged.
-ghost use Rattle.std.specs.Prelude.{◌≡◌, ◌≢◌, ◌↔◌, ◌+◌, ◌<◌, ◌≤◌, ◌%◌, ℕ, [], length, sum_by, IsTrue, Option, Some, None, option_map, if◌then◌else◌, Err, OnOk};
+ghost use Rattle.std.specs.Prelude.{◌≡◌, ◌≢◌, ◌↔◌, ◌+◌, ◌<◌, ◌≤◌, ◌%◌, ℕ, [], length, sum_by};
+ghost use Rattle.std.specs.Prelude.{IsTrue, Option, Some, None, option_map, if◌then◌else◌, Err};
+ghost use Rattle.std.specs.Prelude.{OnOk};
 
 use crate::store::{Store, take_first};
 use ddcmp_num::Seq;
@@ -58,7 +60,12 @@ impl<S: Store> Model for Sender<S> {
 
 impl<S: Store> Sender<S> {
     ghost use Rattle.ddcmp_window.specs.Store.{first_message, with_front};
-    ghost use Rattle.ddcmp_window.specs.Sender.{IsSoundSender, nothing_sent, outgoing_before_next, outgoing_after_accept, accept_refusal, number_accepted, answer_unless, count_acknowledged, outgoing_after_ack, outgoing_after_nak, next_message, outgoing_after_next, outgoing_after_pop};
+    ghost use Rattle.ddcmp_window.specs.Sender.{IsSoundSender, nothing_sent, outgoing_before_next};
+    ghost use Rattle.ddcmp_window.specs.Sender.{outgoing_after_accept, accept_refusal};
+    ghost use Rattle.ddcmp_window.specs.Sender.{number_accepted, answer_unless, count_acknowledged};
+    ghost use Rattle.ddcmp_window.specs.Sender.{outgoing_after_ack, outgoing_after_nak};
+    ghost use Rattle.ddcmp_window.specs.Sender.{next_message, outgoing_after_next};
+    ghost use Rattle.ddcmp_window.specs.Sender.{outgoing_after_pop};
     ghost use Rattle.ddcmp_window.specs.Numbers.{is_within, next_number};
     ghost use Rattle.ddcmp_num.specs.Sequence.{distance};
 

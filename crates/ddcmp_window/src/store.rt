@@ -1,5 +1,6 @@
 //! What holds messages, within two limits.
-ghost use Rattle.std.specs.Prelude.{◌≡◌, ◌↔◌, ℕ, ◌+◌, ◌<◌, ◌≤◌, List, [], ◌∷◌, ◌++◌, length, drop, slice_index_or, sum_by, IsTrue, Option, Some, None, option_map};
+ghost use Rattle.std.specs.Prelude.{◌≡◌, ◌↔◌, ℕ, ◌+◌, ◌<◌, ◌≤◌, List, [], ◌∷◌, ◌++◌, length, drop};
+ghost use Rattle.std.specs.Prelude.{slice_index_or, sum_by, IsTrue, Option, Some, None, option_map};
 ghost use Rattle.ddcmp_num.specs.declared.limits.TheConstants.{MAX_COUNT, MAX_WINDOW};
 ghost use Rattle.ddcmp_window.specs.Store.{first_message, with_front};
 

@@ -77,7 +77,8 @@ impl<S: Store> Core<S> {
     ghost use Rattle.ddcmp_window.specs.Store.{with_front};
     ghost use Rattle.ddcmp_core.specs.Table.{next, next_running, next_frame, after_next};
     ghost use Rattle.ddcmp_core.specs.NextSending.{next_of, FitsSending};
-    ghost use Rattle.ddcmp_core.specs.Frames.{header_of, message_of, data_length, header_and_length};
+    ghost use Rattle.ddcmp_core.specs.Frames.{header_of, message_of, data_length};
+    ghost use Rattle.ddcmp_core.specs.Frames.{header_and_length};
     ghost use Rattle.ddcmp_core.specs.Counting.{counters_after_next};
     ghost use Rattle.ddcmp_core.specs.Core.{IsSound};
 

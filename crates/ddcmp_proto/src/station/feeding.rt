@@ -15,10 +15,12 @@ pub struct Fed {
 }
 
 impl Station {
-    ghost use Rattle.std.specs.Prelude.{◌≡◌, ℕ, ◌+◌, ◌<◌, ◌≤◌, ◌^◌, List, [], ◌++◌, length, take, option_to_list, Some, None};
+    ghost use Rattle.std.specs.Prelude.{◌≡◌, ℕ, ◌+◌, ◌<◌, ◌≤◌, ◌^◌, List, [], ◌++◌, length, take};
+    ghost use Rattle.std.specs.Prelude.{option_to_list, Some, None};
     ghost use Rattle.ddcmp_frame.specs.Reader.{StandsFor, LentBeside};
     ghost use Rattle.ddcmp_core.specs.Table.{acknowledged_by};
-    ghost use Rattle.ddcmp_proto.specs.Bytes.{after_piece, notices_of_piece, after_item, notices_of_item};
+    ghost use Rattle.ddcmp_proto.specs.Bytes.{after_piece, notices_of_piece, after_item};
+    ghost use Rattle.ddcmp_proto.specs.Bytes.{notices_of_item};
     ghost use Rattle.ddcmp_proto.specs.OnePart.{TakesPart};
 
     /// Takes bytes of the line, up to the first that gives a notice.
