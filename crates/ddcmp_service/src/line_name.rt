@@ -2,6 +2,9 @@
 ghost use Rattle.std.specs.Prelude.{◌≡◌, ◌≢◌, MatchOption};
 ghost use Rattle.ddcmp_service.specs.LineNames.{word_of, IsPlain};
 
+use crate::fault::{Attempt, NotOpened};
+use std::io::ErrorKind;
+
 /// A line, as a word names it.
 #[derive(Clone, Copy, Debug, PartialEq, Eq)]
 pub enum LineName<'a> {
@@ -31,6 +34,21 @@ impl<'a> LineName<'a> {
             }
             "device" => Some(LineName::Device(rest)),
             _ => None,
+        }
+    }
+
+    /// What is said of a line that couldn't be opened, as the system said this.
+    pub(crate) fn not_opened(self, kind: ErrorKind) -> NotOpened<'a> {
+        let (attempt, name) = match self {
+            LineName::Connect(name) => (Attempt::Connect, name),
+            LineName::Listen(name) => (Attempt::Listen, name),
+            LineName::Udp { local, .. } => (Attempt::Open, local),
+            LineName::Device(name) => (Attempt::Open, name),
+        };
+        NotOpened {
+            attempt,
+            name,
+            kind,
         }
     }
 }

@@ -1,5 +1,4 @@
 //! Opening the line that a name names.
-use crate::fault::{Attempt, NotOpened};
 use crate::line::Line;
 use crate::line_name::LineName;
 use crate::waiting::Waiting;
@@ -49,27 +48,12 @@ impl<'a> Opener<'a> {
         self.listener.is_some()
     }
 
-    /// What is said of an opening that failed.
-    fn fault(&self, error: &io::Error) -> NotOpened<'a> {
-        let (attempt, name) = match self.name {
-            LineName::Connect(name) => (Attempt::Connect, name),
-            LineName::Listen(name) => (Attempt::Listen, name),
-            LineName::Udp { local, .. } => (Attempt::Open, local),
-            LineName::Device(name) => (Attempt::Open, name),
-        };
-        NotOpened {
-            attempt,
-            name,
-            kind: error.kind(),
-        }
-    }
-
-    /// Listens, where the line is one of whoever comes: the address.
+    /// Listens, where the line is one of whoever comes: the address, or what the system said.
     pub(crate) fn listen<N: Net<Stream = net::TcpStream, Listener = net::TcpListener>>(
         &mut self,
         net: &N,
         waiting: &mut Waiting,
-    ) -> Result<Option<SocketAddr>, NotOpened<'a>> {
+    ) -> Result<Option<SocketAddr>, ErrorKind> {
         let LineName::Listen(name) = self.name else {
             return Ok(None);
         };
@@ -78,16 +62,12 @@ impl<'a> Opener<'a> {
                 self.listener = Some(listener);
                 Ok(Some(addr))
             }
-            Err(error) => Err(self.fault(&error)),
+            Err(error) => Err(error.kind()),
         }
     }
 
-    /// Opens the line, or takes who has come.
-    pub(crate) fn open<S>(
-        &mut self,
-        system: &S,
-        waiting: &mut Waiting,
-    ) -> Result<Opened, NotOpened<'a>>
+    /// Opens the line, or takes who has come; else what the system said.
+    pub(crate) fn open<S>(&mut self, system: &S, waiting: &mut Waiting) -> Result<Opened, ErrorKind>
     where
         S: Net<Stream = net::TcpStream, Listener = net::TcpListener> + Files<File = File>,
     {
@@ -99,7 +79,7 @@ impl<'a> Opener<'a> {
         };
         match opened {
             Ok(opened) => Ok(opened),
-            Err(error) => Err(self.fault(&error)),
+            Err(error) => Err(error.kind()),
         }
     }
 }

@@ -1,5 +1,5 @@
 //! A link over a line, from its opening to its end.
-ghost use Rattle.std.specs.Prelude.{◌≡◌, ◌↔◌, Err, IsTrue};
+ghost use Rattle.std.specs.Prelude.{◌≡◌, ◌≢◌, ◌↔◌, Err, IsTrue};
 
 use crate::fault::{Attempt, NotOpened, ServiceFault};
 use crate::line::Line;
@@ -55,10 +55,13 @@ pub enum Served {
     SomeRefused,
 }
 
-/// Why a service stopped before all was delivered.
+/// Why a service stopped before all was delivered. The name of the line is told with it at last.
 #[derive(Clone, Copy)]
-enum Ended<'a> {
-    Open(NotOpened<'a>),
+enum Ended {
+    /// The line couldn't be opened, as the system said this.
+    NotOpened(ErrorKind),
+    /// The system can't wait for several devices, and said this.
+    CannotWait(ErrorKind),
     Stopped(Stop),
     Memory,
 }
@@ -92,11 +95,11 @@ impl Moments {
 }
 
 /// Opens the line, or takes who has come and tells who that is; none where nobody has come yet.
-fn try_line<'a, S>(
+fn try_line<S>(
     system: &S,
-    opener: &mut Opener<'a>,
+    opener: &mut Opener<'_>,
     waiting: &mut Waiting,
-) -> Result<Option<Line>, NotOpened<'a>>
+) -> Result<Option<Line>, ErrorKind>
 where
     S: Net<Stream = net::TcpStream, Listener = net::TcpListener> + Files<File = File> + Eprint,
 {
@@ -107,20 +110,20 @@ where
             Ok(Some(line))
         }
         Ok(Opened::NotYet) => Ok(None),
-        Err(fault) => Err(fault),
+        Err(kind) => Err(kind),
     }
 }
 
 /// Opens the line: none where the time was over first. A line that can't be opened is told, and
 /// tried again where that is asked for.
-fn open_line<'a, S: System>(
+fn open_line<S: System, C: Clock>(
     system: &S,
-    options: &Options<'a>,
-    opener: &mut Opener<'a>,
+    options: &Options<'_>,
+    opener: &mut Opener<'_>,
     waiting: &mut Waiting,
-    clock: &mut Elapsed<'_, S>,
+    clock: &mut C,
     is_first: bool,
-) -> Result<Option<Line>, NotOpened<'a>> {
+) -> Result<Option<Line>, ErrorKind> {
     for _try in 0..u64::MAX {
         let moments = Moments::at(clock.now(), options);
         if moments.is_over() {
@@ -129,8 +132,8 @@ fn open_line<'a, S: System>(
         let again = match try_line(system, opener, waiting) {
             Ok(Some(line)) => return Ok(Some(line)),
             Ok(None) => None,
-            Err(fault) if is_first || !options.again => return Err(fault),
-            Err(_fault) => Some(moments.now.saturating_add(AGAIN_MS)),
+            Err(kind) if is_first || !options.again => return Err(kind),
+            Err(_kind) => Some(moments.now.saturating_add(AGAIN_MS)),
         };
         if !waiting.wait(Wanted::NOTHING, moments.most(again)) {
             break;
@@ -140,19 +143,16 @@ fn open_line<'a, S: System>(
 }
 
 /// Runs the link over a line, until all is delivered.
-fn run_line<S, R: Source, W: Sink>(
+fn run_line<S: Eprint, C: Clock, R: Source, W: Sink>(
     system: &S,
     options: &Options<'_>,
     desk: &mut Desk,
     line: &mut Line,
     waiting: &mut Waiting,
-    clock: &mut Elapsed<'_, S>,
+    clock: &mut C,
     reader: &mut R,
     writer: &mut W,
-) -> Result<(), Stop>
-where
-    S: Eprint + time::Clock,
-{
+) -> Result<(), Stop> {
     for _pass in 0..u64::MAX {
         let moments = Moments::at(clock.now(), options);
         desk.wake(moments.now);
@@ -190,11 +190,11 @@ fn pass<S: Eprint, R: Source, W: Sink>(
 }
 
 /// Listens, where the line is one of whoever comes, and tells at which address.
-fn begin_listening<'a, S>(
+fn begin_listening<S>(
     system: &S,
-    opener: &mut Opener<'a>,
+    opener: &mut Opener<'_>,
     waiting: &mut Waiting,
-) -> Result<(), NotOpened<'a>>
+) -> Result<(), ErrorKind>
 where
     S: Net<Stream = net::TcpStream, Listener = net::TcpListener> + Eprint,
 {
@@ -204,7 +204,7 @@ where
             let _ = system.eprintln(Told::Listening(addr));
             Ok(())
         }
-        Err(fault) => Err(fault),
+        Err(kind) => Err(kind),
     }
 }
 
@@ -224,17 +224,17 @@ fn leave_line<E: Eprint, W: Sink>(
 }
 
 /// Runs the link over one line after the other, until all is delivered or a line ends for good.
-fn run_lines<'a, S: System, R: Source, W: Sink>(
+fn run_lines<S: System, R: Source, W: Sink>(
     system: &S,
-    options: &Options<'a>,
+    options: &Options<'_>,
     desk: &mut Desk,
     waiting: &mut Waiting,
     reader: &mut R,
     writer: &mut W,
-) -> Result<(), Ended<'a>> {
+) -> Result<(), Ended> {
     let mut opener = Opener::new(options.line);
-    if let Err(fault) = begin_listening(system, &mut opener, waiting) {
-        return Err(Ended::Open(fault));
+    if let Err(kind) = begin_listening(system, &mut opener, waiting) {
+        return Err(Ended::NotOpened(kind));
     }
     let mut clock = Elapsed::new(system);
     for opened in 0..u64::MAX {
@@ -249,7 +249,7 @@ fn run_lines<'a, S: System, R: Source, W: Sink>(
         ) {
             Ok(Some(line)) => line,
             Ok(None) => break,
-            Err(fault) => return Err(Ended::Open(fault)),
+            Err(kind) => return Err(Ended::NotOpened(kind)),
         };
         if desk.link.begin_anew().is_err() {
             break;
@@ -303,67 +303,60 @@ where
         + time::Clock,
     ensures broken { (result ≡ Err ServiceFault.Write) ↔ IsTrue (W.broken writer.new) }
 {
-    match make_desk(system, alloc, &options) {
+    let ended = match make_desk(system, alloc, &options) {
         Some(mut desk) => serve_desk(system, alloc, &options, &mut desk, reader, writer),
-        None => fault_of(writer, Ended::Memory),
-    }
+        None => Err(Ended::Memory),
+    };
+    ending_of(ended, options.line, writer)
 }
 
 /// Runs a link that was made, between its devices.
-fn serve_desk<'a, S: System, R: Source, W: Sink>(
+fn serve_desk<S: System, R: Source, W: Sink>(
     system: &S,
     alloc: Global,
-    options: &Options<'a>,
+    options: &Options<'_>,
     desk: &mut Desk,
     reader: &mut R,
     writer: &mut W,
-) -> Result<Served, ServiceFault<'a>>
-    ensures broken { (result ≡ Err ServiceFault.Write) ↔ IsTrue (W.broken writer.new) }
-{
+) -> Result<Served, Ended> {
     match Waiting::new(system, alloc) {
         Ok(mut waiting) => serve(system, options, desk, &mut waiting, reader, writer),
-        Err(error) => fault_of(writer, no_epoll(error.kind())),
+        Err(error) => Err(Ended::CannotWait(error.kind())),
     }
 }
 
-/// The system can't wait for several devices, and says why.
-fn no_epoll<'a>(kind: ErrorKind) -> Ended<'a> {
-    Ended::Open(NotOpened {
-        attempt: Attempt::Open,
-        name: "epoll",
-        kind,
-    })
-}
-
 /// Runs a link that has all that it needs.
-fn serve<'a, S: System, R: Source, W: Sink>(
+fn serve<S: System, R: Source, W: Sink>(
     system: &S,
-    options: &Options<'a>,
+    options: &Options<'_>,
     desk: &mut Desk,
     waiting: &mut Waiting,
     reader: &mut R,
     writer: &mut W,
-) -> Result<Served, ServiceFault<'a>>
-    ensures broken { (result ≡ Err ServiceFault.Write) ↔ IsTrue (W.broken writer.new) }
-{
-    let ended = run_lines(system, options, desk, waiting, reader, writer);
-    end(system, options, desk, writer, ended.is_ok());
-    ending_of(ended, desk.was_refused, writer)
+) -> Result<Served, Ended> {
+    let ran = run_lines(system, options, desk, waiting, reader, writer);
+    end(system, options, desk, writer, ran.is_ok());
+    match ran {
+        Ok(()) if desk.was_refused => Ok(Served::SomeRefused),
+        Ok(()) => Ok(Served::Delivered),
+        Err(ended) => Err(ended),
+    }
 }
 
-/// How a service ends that ran.
+/// How a service ends over a line of this name: by a fault of the output first.
 fn ending_of<'a, W: Sink>(
-    ended: Result<(), Ended<'a>>,
-    was_refused: bool,
+    ended: Result<Served, Ended>,
+    line: LineName<'a>,
     writer: &W,
 ) -> Result<Served, ServiceFault<'a>>
     ensures broken { (result ≡ Err ServiceFault.Write) ↔ IsTrue (W.broken writer.now) }
 {
+    if writer.failed() {
+        return Err(ServiceFault::Write);
+    }
     match ended {
-        Ok(()) if writer.failed() => Err(ServiceFault::Write),
-        Ok(()) if was_refused => Ok(Served::SomeRefused),
-        Ok(()) => Ok(Served::Delivered),
-        Err(ended) => fault_of(writer, ended),
+        Ok(served) => Ok(served),
+        Err(ended) => Err(fault_of(ended, line)),
     }
 }
 
@@ -393,17 +386,19 @@ fn make_desk<S: Files<File = File>>(
     Some(Desk::new(link, streams, trace, options.form, messages, kept))
 }
 
-/// The fault of a service: that of the output first.
-fn fault_of<'a, W: Sink>(writer: &W, ended: Ended<'a>) -> Result<Served, ServiceFault<'a>>
-    ensures { (result ≡ Err ServiceFault.Write) ↔ IsTrue (W.broken writer.now) }
+/// Why a service ended over a line of this name, the output being whole.
+fn fault_of<'a>(ended: Ended, line: LineName<'a>) -> ServiceFault<'a>
+    ensures { result ≢ ServiceFault.Write }
 {
-    if writer.failed() {
-        return Err(ServiceFault::Write);
-    }
-    Err(match ended {
-        Ended::Open(fault) => ServiceFault::Open(fault),
+    match ended {
+        Ended::NotOpened(kind) => ServiceFault::Open(line.not_opened(kind)),
+        Ended::CannotWait(kind) => ServiceFault::Open(NotOpened {
+            attempt: Attempt::Open,
+            name: "epoll",
+            kind,
+        }),
         Ended::Stopped(Stop::Read) => ServiceFault::Read,
         Ended::Stopped(Stop::Line | Stop::Write) => ServiceFault::Ended,
         Ended::Memory => ServiceFault::Memory,
-    })
+    }
 }
