@@ -21,7 +21,7 @@ use crate::declined::Declined;
 use crate::explained::Explained;
 use crate::link_words::{link_given, link_parser};
 use crate::linked::Linked;
-use crate::options::{number, place, text};
+use crate::options::{CommandOption, Takes};
 use crate::parser::Parser;
 use crate::served::{Role, Served};
 use crate::tap_words::{tap_given, tap_parser};
@@ -62,88 +62,135 @@ fn explain_command<'a>(alloc: Global) -> clap::Command<'a>
 }
 
 /// The options of `explain`.
+static EXPLAIN_OPTIONS: [CommandOption; 6] = [
+    CommandOption {
+        name: "file",
+        takes: Takes::Place("FILE"),
+        is_required: false,
+        help: "The file to read; standard input where it is left out or -",
+    },
+    CommandOption {
+        name: "raw",
+        takes: Takes::Nothing,
+        is_required: false,
+        help: "Read bytes as they are, not hexadecimal digits",
+    },
+    CommandOption {
+        name: "from",
+        takes: Takes::Text("hexdump"),
+        is_required: false,
+        help: "Read a dump of hexdump -C, xxd or od -A x -t x1",
+    },
+    CommandOption {
+        name: "json",
+        takes: Takes::Nothing,
+        is_required: false,
+        help: "Write an object of JSON in each line",
+    },
+    CommandOption {
+        name: "discarded",
+        takes: Takes::Nothing,
+        is_required: false,
+        help: "Tell bytes that were passed over too, and the frame that is unfinished",
+    },
+    CommandOption {
+        name: "max",
+        takes: Takes::Number {
+            low: 1,
+            high: MAX_COUNT as u32,
+        },
+        is_required: false,
+        help: "The most bytes of data that a frame may have, 1 to 16383; 16383 by default",
+    },
+];
+
+/// `explain` with its options.
 fn explain_parser<'a>(alloc: Global) -> Parser<'a>
     ensures { Makes result explain_app }
 {
-    Parser::new(alloc, explain_command(alloc))
-        .option(place(
-            alloc,
-            "file",
-            "FILE",
-            "The file to read; standard input where it is left out or -",
-        ))
-        .flag("raw", "Read bytes as they are, not hexadecimal digits")
-        .option(text(
-            alloc,
-            "from",
-            "hexdump",
-            "Read a dump of hexdump -C, xxd or od -A x -t x1",
-        ))
-        .flag("json", "Write an object of JSON in each line")
-        .flag(
-            "discarded",
-            "Tell bytes that were passed over too, and the frame that is unfinished",
-        )
-        .number(
-            "max",
-            1,
-            MAX_COUNT as u32,
-            "The most bytes of data that a frame may have, 1 to 16383; 16383 by default",
-        )
+    Parser::new(alloc, explain_command(alloc)).with(&EXPLAIN_OPTIONS)
 }
 
 /// The options of two ends.
+static SIZE_OPTIONS: [CommandOption; 5] = [
+    CommandOption {
+        name: "window",
+        takes: Takes::Number {
+            low: 1,
+            high: MAX_WINDOW as u32,
+        },
+        is_required: false,
+        help: "The most messages sent and not yet acknowledged, 1 to 255; 7 by default",
+    },
+    CommandOption {
+        name: "inbox",
+        takes: Takes::Number {
+            low: 1,
+            high: MAX_INBOX as u32,
+        },
+        is_required: false,
+        help: "The most messages that came and were not yet taken, 1 to 255; 8 by default",
+    },
+    CommandOption {
+        name: "max",
+        takes: Takes::Number {
+            low: 1,
+            high: MAX_COUNT as u32,
+        },
+        is_required: false,
+        help: "The most bytes of a message, 1 to 16383; 1500 by default",
+    },
+    CommandOption {
+        name: "syn",
+        takes: Takes::Number {
+            low: 0,
+            high: MAX_SYN as u32,
+        },
+        is_required: false,
+        help: "How many SYN bytes go before each frame, 0 to 16; 0 by default",
+    },
+    CommandOption {
+        name: "restart",
+        takes: Takes::Nothing,
+        is_required: false,
+        help: "An end that runs begins anew where its peer does, if no message waits to be taken",
+    },
+];
+
+/// A parser with the options of two ends.
 pub(crate) fn with_sizes<'a>(parser: Parser<'a>) -> Parser<'a>
     ensures { (app : App) → Makes parser.entry app → Makes result (with_sizes_of app) }
 {
-    parser
-        .number(
-            "window",
-            1,
-            MAX_WINDOW as u32,
-            "The most messages sent and not yet acknowledged, 1 to 255; 7 by default",
-        )
-        .number(
-            "inbox",
-            1,
-            MAX_INBOX as u32,
-            "The most messages that came and were not yet taken, 1 to 255; 8 by default",
-        )
-        .number(
-            "max",
-            1,
-            MAX_COUNT as u32,
-            "The most bytes of a message, 1 to 16383; 1500 by default",
-        )
-        .number(
-            "syn",
-            0,
-            MAX_SYN as u32,
-            "How many SYN bytes go before each frame, 0 to 16; 0 by default",
-        )
-        .flag(
-            "restart",
-            "An end that runs begins anew where its peer does, if no message waits to be taken",
-        )
+    parser.with(&SIZE_OPTIONS)
 }
 
 /// How a run is shown.
+static VIEW_OPTIONS: [CommandOption; 3] = [
+    CommandOption {
+        name: "svg",
+        takes: Takes::Nothing,
+        is_required: false,
+        help: "Draw the run as a document in SVG, in place of the text",
+    },
+    CommandOption {
+        name: "ladder",
+        takes: Takes::Nothing,
+        is_required: false,
+        help: "Draw the run as a ladder of text, in place of the text",
+    },
+    CommandOption {
+        name: "counters",
+        takes: Takes::Nothing,
+        is_required: false,
+        help: "Write what both stations have counted, before the last line",
+    },
+];
+
+/// A parser with the options for how a run is shown.
 fn with_view<'a>(parser: Parser<'a>) -> Parser<'a>
     ensures { (app : App) → Makes parser.entry app → Makes result (with_view_of app) }
 {
-    parser
-        .flag(
-            "svg",
-            "Draw the run as a document in SVG, in place of the text",
-        )
-        .flag(
-            "ladder",
-            "Draw the run as a ladder of text, in place of the text",
-        )
-        .flag(
-            "counters",
-            "Write what both stations have counted, before the last line",
-        )
+    parser.with(&VIEW_OPTIONS)
 }
 
 /// The lines of a script, for a newcomer.
@@ -197,50 +244,62 @@ fn station_command<'a>(alloc: Global) -> clap::Command<'a>
 }
 
 /// The options of a station over a connection.
+static STATION_OPTIONS: [CommandOption; 7] = [
+    CommandOption {
+        name: "role",
+        takes: Takes::Text("connect|listen"),
+        is_required: true,
+        help: "Who opens the connection; start the listener first",
+    },
+    CommandOption {
+        name: "addr",
+        takes: Takes::Text("ADDR"),
+        is_required: true,
+        help: "Where to connect or to listen, such as 127.0.0.1:7000",
+    },
+    CommandOption {
+        name: "turns",
+        takes: Takes::Number {
+            low: 0,
+            high: u32::MAX,
+        },
+        is_required: true,
+        help: "How many turns the station has; a turn waits at most 10 ms for bytes",
+    },
+    CommandOption {
+        name: "timer-ms",
+        takes: Takes::Number {
+            low: 0,
+            high: u32::MAX,
+        },
+        is_required: true,
+        help: "How long it waits for an answer before it asks again",
+    },
+    CommandOption {
+        name: "send",
+        takes: Takes::Text("HEX"),
+        is_required: false,
+        help: "A message that is sent once the station runs, at most 1500 bytes",
+    },
+    CommandOption {
+        name: "restart",
+        takes: Takes::Nothing,
+        is_required: false,
+        help: "Begin anew where the peer does, if no message waits to be taken",
+    },
+    CommandOption {
+        name: "counters",
+        takes: Takes::Nothing,
+        is_required: false,
+        help: "Write what the station has counted, before the last line",
+    },
+];
+
+/// `station` with its options.
 fn station_parser<'a>(alloc: Global) -> Parser<'a>
     ensures { Makes result station_app }
 {
-    Parser::new(alloc, station_command(alloc))
-        .required(text(
-            alloc,
-            "role",
-            "connect|listen",
-            "Who opens the connection; start the listener first",
-        ))
-        .required(text(
-            alloc,
-            "addr",
-            "ADDR",
-            "Where to connect or to listen, such as 127.0.0.1:7000",
-        ))
-        .required(number(
-            alloc,
-            "turns",
-            0,
-            u32::MAX,
-            "How many turns the station has; a turn waits at most 10 ms for bytes",
-        ))
-        .required(number(
-            alloc,
-            "timer-ms",
-            0,
-            u32::MAX,
-            "How long it waits for an answer before it asks again",
-        ))
-        .option(text(
-            alloc,
-            "send",
-            "HEX",
-            "A message that is sent once the station runs, at most 1500 bytes",
-        ))
-        .flag(
-            "restart",
-            "Begin anew where the peer does, if no message waits to be taken",
-        )
-        .flag(
-            "counters",
-            "Write what the station has counted, before the last line",
-        )
+    Parser::new(alloc, station_command(alloc)).with(&STATION_OPTIONS)
 }
 
 /// What a station writes, for a newcomer.

@@ -8,7 +8,7 @@ ghost use Rattle.ddcmp_proto.specs.declared.config.TheConstants.{MAX_SYN};
 
 use crate::command::{flag_given, number_given, sizes_given, text_given, with_sizes};
 use crate::linked::Linked;
-use crate::options::text;
+use crate::options::{CommandOption, Takes};
 use crate::parser::Parser;
 use clap::ArgMatches;
 use std::alloc::Global;
@@ -33,16 +33,19 @@ With --binary messages are bytes after their length in two, high byte first, and
 rest goes to standard error."
 }
 
+/// The line of a link, which can't be left out.
+static LINE_OPTIONS: [CommandOption; 1] = [CommandOption {
+    name: "line",
+    takes: Takes::Text("LINE"),
+    is_required: true,
+    help: "The line of the station, as connect:127.0.0.1:7000",
+}];
+
 /// `link` with the name of its line alone.
 fn line_parser<'a>(alloc: Global) -> Parser<'a>
     ensures { Makes result line_app }
 {
-    Parser::new(alloc, bare_command(alloc)).required(text(
-        alloc,
-        "line",
-        "LINE",
-        "The line of the station, as connect:127.0.0.1:7000",
-    ))
+    Parser::new(alloc, bare_command(alloc)).with(&LINE_OPTIONS)
 }
 
 /// `link` without its options.
@@ -55,37 +58,63 @@ fn bare_command<'a>(alloc: Global) -> clap::Command<'a>
         .after_help(link_help())
 }
 
-/// The options of a link.
+/// The options of a link beside its line and its sizes.
+static LINK_OPTIONS: [CommandOption; 7] = [
+    CommandOption {
+        name: "timer-ms",
+        takes: Takes::Number {
+            low: 0,
+            high: u32::MAX,
+        },
+        is_required: false,
+        help: "How long it waits for an answer before it asks again; 3000 by default",
+    },
+    CommandOption {
+        name: "seconds",
+        takes: Takes::Number {
+            low: 1,
+            high: u32::MAX,
+        },
+        is_required: false,
+        help: "End after so many seconds as if standard input had ended",
+    },
+    CommandOption {
+        name: "binary",
+        takes: Takes::Nothing,
+        is_required: false,
+        help: "Messages are bytes after their length, not digits",
+    },
+    CommandOption {
+        name: "stay",
+        takes: Takes::Nothing,
+        is_required: false,
+        help: "Go on once all of standard input was delivered",
+    },
+    CommandOption {
+        name: "again",
+        takes: Takes::Nothing,
+        is_required: false,
+        help: "Open the line anew where it ends, and start anew",
+    },
+    CommandOption {
+        name: "counters",
+        takes: Takes::Nothing,
+        is_required: false,
+        help: "Write what the station has counted, before the last line",
+    },
+    CommandOption {
+        name: "trace",
+        takes: Takes::Nothing,
+        is_required: false,
+        help: "Tell each frame of both ways on standard error, with the milliseconds",
+    },
+];
+
+/// `link` with its options.
 pub(crate) fn link_parser<'a>(alloc: Global) -> Parser<'a>
     ensures { Makes result link_app }
 {
-    with_sizes(line_parser(alloc))
-        .number(
-            "timer-ms",
-            0,
-            u32::MAX,
-            "How long it waits for an answer before it asks again; 3000 by default",
-        )
-        .number(
-            "seconds",
-            1,
-            u32::MAX,
-            "End after so many seconds as if standard input had ended",
-        )
-        .flag(
-            "binary",
-            "Messages are bytes after their length, not digits",
-        )
-        .flag("stay", "Go on once all of standard input was delivered")
-        .flag("again", "Open the line anew where it ends, and start anew")
-        .flag(
-            "counters",
-            "Write what the station has counted, before the last line",
-        )
-        .flag(
-            "trace",
-            "Tell each frame of both ways on standard error, with the milliseconds",
-        )
+    with_sizes(line_parser(alloc)).with(&LINK_OPTIONS)
 }
 
 /// How many SYN bytes a line has before each frame, where no option says how many: a serial line

@@ -1,13 +1,56 @@
-//! Options of the commands, one function for each kind of them.
+//! Options of the commands, as tables have them and as `clap` does.
 ghost use Rattle.std.specs.Prelude.{◌≡◌, false};
 ghost use Rattle.clap.specs.Words.{rule_of};
+ghost use Rattle.ddcmp_words.specs.Making.{rule_of_option};
 ghost use Rattle.ddcmp_words.specs.Words.{flag_rule, number_rule, place_rule, text_rule};
 
 use clap::{Arg, ArgAction};
 use std::alloc::Global;
 
+/// An option of a command.
+#[derive(Clone, Copy)]
+pub(crate) struct CommandOption {
+    pub(crate) name: &'static str,
+    pub(crate) takes: Takes,
+    pub(crate) is_required: bool,
+    pub(crate) help: &'static str,
+}
+
+/// What an option takes.
+#[derive(Clone, Copy)]
+pub(crate) enum Takes {
+    /// Nothing: it stands alone.
+    Nothing,
+    /// A number in this range.
+    Number { low: u32, high: u32 },
+    /// A text, which help calls so.
+    Text(&'static str),
+    /// It is a word that stands for itself, which help calls so.
+    Place(&'static str),
+}
+
+/// An option as `clap` has it.
+pub(crate) fn argument<'a>(alloc: Global, option: &CommandOption) -> Arg<'a>
+    ensures rule { rule_of result ≡ rule_of_option option.now }
+    ensures local { result.global ≡ false }
+{
+    let CommandOption {
+        name,
+        takes,
+        is_required,
+        help,
+    } = *option;
+    let made = match takes {
+        Takes::Nothing => flag(alloc, name, help),
+        Takes::Number { low, high } => number(alloc, name, low, high, help),
+        Takes::Text(value) => text(alloc, name, value, help),
+        Takes::Place(value) => place(alloc, name, value, help),
+    };
+    made.required(is_required)
+}
+
 /// An option that stands alone.
-pub(crate) fn flag<'a>(alloc: Global, name: &'a str, help: &'a str) -> Arg<'a>
+fn flag<'a>(alloc: Global, name: &'a str, help: &'a str) -> Arg<'a>
     ensures rule { rule_of result ≡ flag_rule name.entry.now }
     ensures local { result.global ≡ false }
 {
@@ -18,13 +61,7 @@ pub(crate) fn flag<'a>(alloc: Global, name: &'a str, help: &'a str) -> Arg<'a>
 }
 
 /// An option that takes a number from `low` to `high`.
-pub(crate) fn number<'a>(
-    alloc: Global,
-    name: &'a str,
-    low: u32,
-    high: u32,
-    help: &'a str,
-) -> Arg<'a>
+fn number<'a>(alloc: Global, name: &'a str, low: u32, high: u32, help: &'a str) -> Arg<'a>
     ensures rule { rule_of result ≡ number_rule name.entry.now low high }
     ensures local { result.global ≡ false }
 {
@@ -36,7 +73,7 @@ pub(crate) fn number<'a>(
 }
 
 /// An option that takes a text.
-pub(crate) fn text<'a>(alloc: Global, name: &'a str, value: &'a str, help: &'a str) -> Arg<'a>
+fn text<'a>(alloc: Global, name: &'a str, value: &'a str, help: &'a str) -> Arg<'a>
     ensures rule { rule_of result ≡ text_rule name.entry.now }
     ensures local { result.global ≡ false }
 {
@@ -47,7 +84,7 @@ pub(crate) fn text<'a>(alloc: Global, name: &'a str, value: &'a str, help: &'a s
 }
 
 /// A word that stands for itself, and may be left out.
-pub(crate) fn place<'a>(alloc: Global, name: &'a str, value: &'a str, help: &'a str) -> Arg<'a>
+fn place<'a>(alloc: Global, name: &'a str, value: &'a str, help: &'a str) -> Arg<'a>
     ensures rule { rule_of result ≡ place_rule name.entry.now }
     ensures local { result.global ≡ false }
 {

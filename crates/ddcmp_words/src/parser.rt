@@ -1,11 +1,10 @@
 //! A parser of words in the making.
-ghost use Rattle.std.specs.Prelude.{◌≡◌, Ok, false};
+ghost use Rattle.std.specs.Prelude.{◌≡◌, Ok, false, map};
 ghost use Rattle.clap.specs.Words.{App, Rule, app_of, rule_of, with_rule, with_subcommand};
 ghost use Rattle.clap.specs.declared.builder.command.Command.TheViews.{out-Command as fields_of};
-ghost use Rattle.ddcmp_words.specs.Making.{Makes};
-ghost use Rattle.ddcmp_words.specs.Words.{flag_rule, number_rule, required as required_of};
+ghost use Rattle.ddcmp_words.specs.Making.{Makes, rule_of_option, with_rules};
 
-use crate::options::{flag, number};
+use crate::options::{CommandOption, argument};
 use clap::Arg;
 use std::alloc::{AllocError, Global};
 
@@ -41,26 +40,21 @@ impl<'a> Parser<'a> {
         }
     }
 
-    /// With an option more that stands alone.
-    pub(crate) fn flag(self, name: &'a str, help: &'a str) -> Parser<'a>
+    /// With the options of a table.
+    pub(crate) fn with(self, options: &[CommandOption]) -> Parser<'a>
         ensures { (app : App) → Makes self.entry app
-            → Makes result (with_rule app (flag_rule name.entry.now)) }
+            → Makes result (with_rules app (map rule_of_option options.now)) }
     {
-        let option = flag(self.alloc, name, help);
-        self.option(option)
-    }
-
-    /// With an option more that takes a number.
-    pub(crate) fn number(self, name: &'a str, low: u32, high: u32, help: &'a str) -> Parser<'a>
-        ensures { (app : App) → Makes self.entry app
-            → Makes result (with_rule app (number_rule name.entry.now low high)) }
-    {
-        let option = number(self.alloc, name, low, high, help);
-        self.option(option)
+        let mut parser = self;
+        for option in options {
+            let made = argument(parser.alloc, option);
+            parser = parser.option(made);
+        }
+        parser
     }
 
     /// With an option more.
-    pub(crate) fn option(self, option: Arg<'a>) -> Parser<'a>
+    fn option(self, option: Arg<'a>) -> Parser<'a>
         ensures { (app : App) (rule : Rule) → Makes self.entry app
             → rule_of option.entry ≡ rule → option.entry.global ≡ false
             → Makes result (with_rule app rule) }
@@ -71,15 +65,6 @@ impl<'a> Parser<'a> {
             Err(refused) => Err(refused),
         };
         Parser { alloc, made }
-    }
-
-    /// With an option more, which can't be left out.
-    pub(crate) fn required(self, option: Arg<'a>) -> Parser<'a>
-        ensures { (app : App) (rule : Rule) → Makes self.entry app
-            → rule_of option.entry ≡ rule → option.entry.global ≡ false
-            → Makes result (with_rule app (required_of rule)) }
-    {
-        self.option(option.required(true))
     }
 
     /// With a subcommand more.

@@ -6,7 +6,7 @@ ghost use Rattle.ddcmp_words.specs.Making.{Makes};
 ghost use Rattle.ddcmp_words.specs.Words.{HasTap, tap_app};
 
 use crate::command::{flag_given, notation_given, number_given, text_given};
-use crate::options::text;
+use crate::options::{CommandOption, Takes};
 use crate::parser::Parser;
 use crate::tapped::Tapped;
 use clap::ArgMatches;
@@ -33,37 +33,53 @@ fn tap_command<'a>(alloc: Global) -> clap::Command<'a>
 }
 
 /// The options of a tap.
+static TAP_OPTIONS: [CommandOption; 6] = [
+    CommandOption {
+        name: "listen",
+        takes: Takes::Text("ADDR"),
+        is_required: true,
+        help: "Where to listen for one connection, such as 127.0.0.1:7000",
+    },
+    CommandOption {
+        name: "connect",
+        takes: Takes::Text("ADDR"),
+        is_required: true,
+        help: "Where to connect to once someone has connected",
+    },
+    CommandOption {
+        name: "json",
+        takes: Takes::Nothing,
+        is_required: false,
+        help: "Write an object of JSON in each line",
+    },
+    CommandOption {
+        name: "ladder",
+        takes: Takes::Nothing,
+        is_required: false,
+        help: "Draw what passes as a ladder of text, in place of words",
+    },
+    CommandOption {
+        name: "time",
+        takes: Takes::Nothing,
+        is_required: false,
+        help: "Write the milliseconds since both were connected in front of each line",
+    },
+    CommandOption {
+        name: "max",
+        takes: Takes::Number {
+            low: 1,
+            high: MAX_COUNT as u32,
+        },
+        is_required: false,
+        help: "The most bytes of data that a frame may have, 1 to 16383; 16383 by default",
+    },
+];
+
+/// `tap` with its options.
 pub(crate) fn tap_parser<'a>(alloc: Global) -> Parser<'a>
     ensures { Makes result tap_app }
 {
-    Parser::new(alloc, tap_command(alloc))
-        .required(text(
-            alloc,
-            "listen",
-            "ADDR",
-            "Where to listen for one connection, such as 127.0.0.1:7000",
-        ))
-        .required(text(
-            alloc,
-            "connect",
-            "ADDR",
-            "Where to connect to once someone has connected",
-        ))
-        .flag("json", "Write an object of JSON in each line")
-        .flag(
-            "ladder",
-            "Draw what passes as a ladder of text, in place of words",
-        )
-        .flag(
-            "time",
-            "Write the milliseconds since both were connected in front of each line",
-        )
-        .number(
-            "max",
-            1,
-            MAX_COUNT as u32,
-            "The most bytes of data that a frame may have, 1 to 16383; 16383 by default",
-        )
+    Parser::new(alloc, tap_command(alloc)).with(&TAP_OPTIONS)
 }
 
 /// The tap that was asked for.

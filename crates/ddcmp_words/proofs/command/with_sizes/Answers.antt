@@ -1,6 +1,6 @@
+use Rattle.ddcmp_words.specs.Making.{with_rules}
 use Rattle.ddcmp_words.proofs.command.with_sizes.Goals as goal
 
 pub returns : goal.returns
-returns c = λ app start.
-    let two = c.number-2.ensures _ (c.number.ensures _ start) in
-    c.flag.ensures _ (c.number-4.ensures _ (c.number-3.ensures _ two))
+unfolding with_rules
+returns c = λ app start. c.with.ensures _ start

@@ -1,4 +1,6 @@
+use Rattle.ddcmp_words.specs.Making.{with_rules}
 use Rattle.ddcmp_words.proofs.command.with_view.Goals as goal
 
 pub returns : goal.returns
-returns c = λ app start. c.flag-3.ensures _ (c.flag-2.ensures _ (c.flag.ensures _ start))
+unfolding with_rules
+returns c = λ app start. c.with.ensures _ start
