@@ -1,14 +1,17 @@
 -- What C's structs of a header and of an item stand for.
-use Rattle.std.specs.Prelude.{ℕ, ◌==◌, ◌&&◌, Bool, not, nat_lt, if◌then◌else◌, Option, Some, None, option_map}
+use Rattle.std.specs.Prelude.{ℕ, ◌==◌, ◌&&◌, Bool, not, nat_lt, if◌then◌else◌, Option, Some, None}
+use Rattle.std.specs.Prelude.{option_map}
 use Rattle.ddcmp_frame.specs.declared.header.Flags.{Flags}
 use Rattle.ddcmp_frame.specs.declared.header.ControlType.{ControlType}
 use Rattle.ddcmp_frame.specs.declared.header.ControlType.TheVariants.{Ack, Nak, Rep, Strt, Stack}
 use Rattle.ddcmp_frame.specs.declared.header.Header.{Header}
 use Rattle.ddcmp_frame.specs.declared.header.Header.TheVariants.{Data, Maint, Control}
 use Rattle.ddcmp_frame.specs.declared.header.HeaderFault.{HeaderFault}
-use Rattle.ddcmp_frame.specs.declared.header.HeaderFault.TheVariants.{NotAStart, Check, BadType, CountZero}
+use Rattle.ddcmp_frame.specs.declared.header.HeaderFault.TheVariants.{NotAStart, Check, BadType}
+use Rattle.ddcmp_frame.specs.declared.header.HeaderFault.TheVariants.{CountZero}
 use Rattle.ddcmp_frame.specs.declared.item.Item.{Item}
-use Rattle.ddcmp_frame.specs.declared.item.Item.TheVariants.{Good, HeaderCheck, DataCheck, TooLong, Format}
+use Rattle.ddcmp_frame.specs.declared.item.Item.TheVariants.{Good, HeaderCheck, DataCheck, TooLong}
+use Rattle.ddcmp_frame.specs.declared.item.Item.TheVariants.{Format}
 use Rattle.ddcmp_frame.specs.Fields.{CountedFields}
 pub use Rattle.ddcmp_frame.specs.Reader.{ReaderView}
 use Rattle.ddcmp_c.specs.declared.frame_values.CHeader.{CHeader}

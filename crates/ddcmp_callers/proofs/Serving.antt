@@ -11,31 +11,48 @@ use Rattle.ddcmp_station.specs.Driving.{Driving, Devices}
 use Rattle.ddcmp_proto.specs.Station.{StationView}
 use Rattle.ddcmp_serve.specs.declared.serve_fault.ServeFault.{ServeFault}
 use Rattle.ddcmp_serve.specs.declared.serve_fault.ServeFault.TheVariants.{Line}
-use Rattle.ddcmp_serve.specs.Serving.{usual_config, HasStarted, OffersOnce, WritesOut, report_text, served_answer, Serves}
+use Rattle.ddcmp_serve.specs.Serving.{usual_config, HasStarted, OffersOnce, WritesOut, report_text}
+use Rattle.ddcmp_serve.specs.Serving.{served_answer, Serves}
 use Rattle.ddcmp_laws.specs.Faithful.{Begins}
 use Rattle.ddcmp_callers.specs.Driven.{DriveCall, driven, IsDriven, after_drives, begun, seen_of}
 use Rattle.ddcmp_callers.specs.Served.{IsServed}
 use Rattle.ddcmp_callers.proofs.Drives.{drives_by_a_call}
 
-one_drive : (restart : Bool) (call : DriveCall) → after_drives 0 (call ∷ []) (begun (usual_config restart)) ≡ driven 0 call (begun (usual_config restart)).core []
+one_drive : (restart : Bool) (call : DriveCall)
+    → after_drives 0 (call ∷ []) (begun (usual_config restart))
+    ≡ driven 0 call (begun (usual_config restart)).core []
 unfolding after_drives
 one_drive restart call = refl
 
-from_start : (restart : Bool) (call : DriveCall) (old : StationView) → HasStarted restart old → driven old.syn call old.core [] ≡ after_drives 0 (call ∷ []) (begun (usual_config restart))
-from_start restart call old h = ap (λ n. driven n call old.core []) h.syn ∙ ap (λ (k : CoreView). driven 0 call k []) h.core ∙ sym (one_drive restart call)
+from_start : (restart : Bool) (call : DriveCall) (old : StationView) → HasStarted restart old
+    → driven old.syn call old.core [] ≡ after_drives 0 (call ∷ []) (begun (usual_config restart))
+from_start restart call old h =
+    ap (λ n. driven n call old.core []) h.syn ∙ ap (λ (k : CoreView). driven 0 call k []) h.core
+    ∙ sym (one_drive restart call)
 
-not_memory : (told : Result Driven LineFault) (failed : Bool) (answer : Result (Unit {0}) ServeFault) → answer ≡ served_answer told failed → answer ≢ Err (Line Memory) → told ≢ Err Memory
+not_memory : (told : Result Driven LineFault) (failed : Bool)
+    (answer : Result (Unit {0}) ServeFault) → answer ≡ served_answer told failed
+    → answer ≢ Err (Line Memory) → told ≢ Err Memory
 not_memory told failed answer e n m = n (e ∙ ap (λ t. served_answer t failed) m)
 
-pub served : (ms turns : ℕ) (restart counted : Bool) (send : List ℕ) (devices : Devices) (failed : Bool) (report report_after : Known) (answer : Result (Unit {0}) ServeFault) → answer ≢ Err (Line Memory)
-    → Serves ms turns restart counted send devices failed report report_after answer → (call : DriveCall) × IsServed ms restart counted send call devices failed report report_after
+pub served : (ms turns : ℕ) (restart counted : Bool) (send : List ℕ) (devices : Devices)
+    (failed : Bool) (report report_after : Known) (answer : Result (Unit {0}) ServeFault)
+    → answer ≢ Err (Line Memory)
+    → Serves ms turns restart counted send devices failed report report_after answer
+    → (call : DriveCall)
+    × IsServed ms restart counted send call devices failed report report_after
 served ms turns restart counted send devices failed report report_after answer n s =
-    let saw : List UserCall → Type 0 = λ calls. OffersOnce send calls × WritesOut failed report report_after (report_text counted calls s.driven s.new.core) in
-    let c = drives_by_a_call ms turns s.old s.new devices saw s.driven (not_memory s.driven failed answer s.answers n) s.drives in
+    let saw : List UserCall → Type 0 =
+    λ calls. OffersOnce send calls
+    × WritesOut failed report report_after (report_text counted calls s.driven s.new.core) in
+    let c =
+    drives_by_a_call ms turns s.old s.new devices saw s.driven
+    (not_memory s.driven failed answer s.answers n) s.drives in
     let call = c.0 in
     let d : IsDriven ms call s.old s.new devices saw = c.1 in
     let e = from_start restart call s.old s.begun in
-    let seen : d.seen ≡ seen_of (usual_config restart) (call ∷ []) = sym (d.seen_is [] s.begun.line) ∙ ap (λ (x : Driving). x.seen) e in
+    let seen : d.seen ≡ seen_of (usual_config restart) (call ∷ []) =
+    sym (d.seen_is [] s.begun.line) ∙ ap (λ (x : Driving). x.seen) e in
     let shown = subst saw seen d.shown in (
       call,
       record {

@@ -1,5 +1,6 @@
 -- Two links over streams.
-use Rattle.std.proofs.Common.{◌≡◌, ℕ, ◌+◌, Bool, true, false, cond, List, [], ◌∷◌, ◌++◌, length, refl, sym, ◌∙◌, ap, subst, arith, None}
+use Rattle.std.proofs.Common.{◌≡◌, ℕ, ◌+◌, Bool, true, false, cond, List, [], ◌∷◌, ◌++◌, length}
+use Rattle.std.proofs.Common.{refl, sym, ◌∙◌, ap, subst, arith, None}
 use Rattle.std.specs.Prelude.{◌&&◌}
 use Rattle.std.proofs.lemmas.List.Sums.{sum_by-append}
 use Rattle.ddcmp_frame.specs.Reader.{ReaderView}
@@ -14,19 +15,29 @@ use Rattle.ddcmp_run.specs.declared.event.End.TheVariants.{A, B}
 use Rattle.ddcmp_run.specs.InOrder.{Delivers}
 use Rattle.ddcmp_run.specs.Run.{EndState, PairState, new_pair, is_clean}
 use Rattle.ddcmp_laws.specs.Faithful.{written, Begins, IsFaithful}
-use Rattle.ddcmp_callers.specs.Calls.{Call, Poll, Expire, after_calls_here, after_call, run_calls, calls_at, starts_by, starts_in}
+use Rattle.ddcmp_callers.specs.Calls.{Call, Poll, Expire, after_calls_here, after_call, run_calls}
+use Rattle.ddcmp_callers.specs.Calls.{calls_at, starts_by, starts_in}
 use Rattle.ddcmp_callers.specs.Streams.{OverStreams}
-use Rattle.ddcmp_callers.specs.Links.{LinkCall, Starts, BeginsAnew, Halts, Wakes, Offers, FillsOne, IsSent, Feeds, Takes, station_calls, HasDone, LinkHistory, LinkStep, after_step, IsSameEnd, Links, link_at, after_step_at, AreStreams, LinkOverStreams, after_steps, starts_in_call, count_if, link_starts, AreStartedOnce, new_links, received, LinkReaches}
+use Rattle.ddcmp_callers.specs.Links.{LinkCall, Starts, BeginsAnew, Halts, Wakes, Offers, FillsOne}
+use Rattle.ddcmp_callers.specs.Links.{IsSent, Feeds, Takes, station_calls, HasDone, LinkHistory}
+use Rattle.ddcmp_callers.specs.Links.{LinkStep, after_step, IsSameEnd, Links, link_at}
+use Rattle.ddcmp_callers.specs.Links.{after_step_at, AreStreams, LinkOverStreams, after_steps}
+use Rattle.ddcmp_callers.specs.Links.{starts_in_call, count_if, link_starts, AreStartedOnce}
+use Rattle.ddcmp_callers.specs.Links.{new_links, received, LinkReaches}
 use Rattle.ddcmp_callers.proofs.Runs.{calls_in_order, calls_clean}
-use Rattle.ddcmp_callers.proofs.Acknowledged.{IsAcknowledged, calls_acknowledged, all_up, first_of_three}
+use Rattle.ddcmp_callers.proofs.Acknowledged.{IsAcknowledged, calls_acknowledged, all_up}
+use Rattle.ddcmp_callers.proofs.Acknowledged.{first_of_three}
 use Rattle.ddcmp_callers.proofs.Streaming.{streams_honest}
-use Rattle.ddcmp_callers.proofs.InTurn.{at_one, own_a, own_b, other_a, other_b, begins_more, over_a, over_b}
+use Rattle.ddcmp_callers.proofs.InTurn.{at_one, own_a, own_b, other_a, other_b, begins_more, over_a}
+use Rattle.ddcmp_callers.proofs.InTurn.{over_b}
 use Rattle.ddcmp_callers.proofs.LinkCalls.{step_same, new_same}
 
 -- the calls of both stations
 in_steps : List (End × LinkStep) → Links → List (End × Call)
 in_steps [] q = []
-in_steps (step ∷ rest) q = at_one step.0 (station_calls step.1.call (link_at step.0 q).link) ++ in_steps rest (after_step_at step.0 step.1 q)
+in_steps (step ∷ rest) q =
+    at_one step.0 (station_calls step.1.call (link_at step.0 q).link)
+    ++ in_steps rest (after_step_at step.0 step.1 q)
 
 record AreSame (p : PairState) (q : Links) : Type 0 where
   a : IsSameEnd p.a q.a
@@ -36,64 +47,107 @@ record AreSame (p : PairState) (q : Links) : Type 0 where
 gone_written : (x : EndState) (h : LinkHistory) → IsSameEnd x h → Begins h.gone (written x)
 gone_written x h s = (h.link.outbox.waiting, sym s.wrote)
 
-reads : (x y : EndState) (h k : LinkHistory) → IsSameEnd x h → IsSameEnd y k → Begins h.used k.gone → Begins x.arrived (written y)
-reads x y h k s t b = subst (λ ys. Begins ys (written y)) (sym s.arrived) (begins_more h.used k.gone (written y) b (gone_written y k t))
+reads : (x y : EndState) (h k : LinkHistory) → IsSameEnd x h → IsSameEnd y k → Begins h.used k.gone
+    → Begins x.arrived (written y)
+reads x y h k s t b =
+    subst (λ ys. Begins ys (written y)) (sym s.arrived)
+    (begins_more h.used k.gone (written y) b (gone_written y k t))
 
 -- ---- over streams
 
-over_steps : (steps : List (End × LinkStep)) (q : Links) (p : PairState) → AreSame p q → IsFaithful p → LinkOverStreams steps q → OverStreams (in_steps steps q) p
+over_steps : (steps : List (End × LinkStep)) (q : Links) (p : PairState) → AreSame p q
+    → IsFaithful p → LinkOverStreams steps q → OverStreams (in_steps steps q) p
 unfolding in_steps
 over_steps [] q p s f o = tt
-over_steps (step ∷ rest) q p s f o = by step.0 step.1 o.0 o.1 (over_steps rest (after_step_at step.0 step.1 q)) o.2
+over_steps (step ∷ rest) q p s f o =
+    by step.0 step.1 o.0 o.1 (over_steps rest (after_step_at step.0 step.1 q)) o.2
   where
-    by : (end : End) (one : LinkStep) → HasDone one.call (link_at end q).used (link_at end q).link one.link → AreStreams (after_step_at end one q)
-        → ((r : PairState) → AreSame r (after_step_at end one q) → IsFaithful r → LinkOverStreams rest (after_step_at end one q) → OverStreams (in_steps rest (after_step_at end one q)) r)
+    by : (end : End) (one : LinkStep)
+        → HasDone one.call (link_at end q).used (link_at end q).link one.link
+        → AreStreams (after_step_at end one q)
+        → ((r : PairState) → AreSame r (after_step_at end one q) → IsFaithful r
         → LinkOverStreams rest (after_step_at end one q)
-        → OverStreams (at_one end (station_calls one.call (link_at end q).link) ++ in_steps rest (after_step_at end one q)) p
+        → OverStreams (in_steps rest (after_step_at end one q)) r)
+        → LinkOverStreams rest (after_step_at end one q)
+        → OverStreams
+        (at_one end (station_calls one.call (link_at end q).link)
+        ++ in_steps rest (after_step_at end one q)) p
     by A one e streams more later =
         let calls = station_calls one.call q.a.link in
         let x = after_calls_here calls p.a in
         let u : IsSameEnd x (after_step one q.a) = step_same one q.a p.a e s.a in
-        over_a calls (in_steps rest (after_step_at A one q)) p (reads x p.b (after_step one q.a) q.b u s.b streams.to_a) f.to_b
-        (λ r g k ff. more r (record { a = subst (λ y. IsSameEnd y (after_step one q.a)) (sym g) u; b = subst (λ y. IsSameEnd y q.b) (sym k) s.b }) ff later) f
+        over_a calls (in_steps rest (after_step_at A one q)) p
+        (reads x p.b (after_step one q.a) q.b u s.b streams.to_a) f.to_b
+        (λ r g k ff. more r
+        (record {
+          a = subst (λ y. IsSameEnd y (after_step one q.a)) (sym g) u;
+          b = subst (λ y. IsSameEnd y q.b) (sym k) s.b;
+        }) ff later) f
     by B one e streams more later =
         let calls = station_calls one.call q.b.link in
         let x = after_calls_here calls p.b in
         let u : IsSameEnd x (after_step one q.b) = step_same one q.b p.b e s.b in
-        over_b calls (in_steps rest (after_step_at B one q)) p (reads x p.a (after_step one q.b) q.a u s.a streams.to_b) f.to_a
-        (λ r g k ff. more r (record { b = subst (λ y. IsSameEnd y (after_step one q.b)) (sym g) u; a = subst (λ y. IsSameEnd y q.a) (sym k) s.a }) ff later) f
+        over_b calls (in_steps rest (after_step_at B one q)) p
+        (reads x p.a (after_step one q.b) q.a u s.a streams.to_b) f.to_a
+        (λ r g k ff. more r
+        (record {
+          b = subst (λ y. IsSameEnd y (after_step one q.b)) (sym g) u;
+          a = subst (λ y. IsSameEnd y q.a) (sym k) s.a;
+        }) ff later) f
 
 -- ---- where they lead
 
 runs_a : (P : PairState → Type 0) (calls : List Call) (rest : List (End × Call)) (p : PairState)
-    → ((q : PairState) → q.a ≡ after_calls_here calls p.a → q.b ≡ p.b → P (run_calls rest q)) → P (run_calls (at_one A calls ++ rest) p)
+    → ((q : PairState) → q.a ≡ after_calls_here calls p.a → q.b ≡ p.b → P (run_calls rest q))
+    → P (run_calls (at_one A calls ++ rest) p)
 unfolding run_calls after_calls_here
 runs_a P [] rest p more = more p refl refl
 runs_a P (c ∷ calls) rest p more = runs_a P calls rest (after_call A c p) more
 
 runs_b : (P : PairState → Type 0) (calls : List Call) (rest : List (End × Call)) (p : PairState)
-    → ((q : PairState) → q.b ≡ after_calls_here calls p.b → q.a ≡ p.a → P (run_calls rest q)) → P (run_calls (at_one B calls ++ rest) p)
+    → ((q : PairState) → q.b ≡ after_calls_here calls p.b → q.a ≡ p.a → P (run_calls rest q))
+    → P (run_calls (at_one B calls ++ rest) p)
 unfolding run_calls after_calls_here
 runs_b P [] rest p more = more p refl refl
 runs_b P (c ∷ calls) rest p more = runs_b P calls rest (after_call B c p) more
 
-steps_same : (steps : List (End × LinkStep)) (q : Links) (p : PairState) → AreSame p q → LinkOverStreams steps q → AreSame (run_calls (in_steps steps q) p) (after_steps steps q)
+steps_same : (steps : List (End × LinkStep)) (q : Links) (p : PairState) → AreSame p q
+    → LinkOverStreams steps q → AreSame (run_calls (in_steps steps q) p) (after_steps steps q)
 unfolding in_steps run_calls after_steps
 steps_same [] q p s o = s
-steps_same (step ∷ rest) q p s o = by step.0 step.1 o.0 (steps_same rest (after_step_at step.0 step.1 q)) o.2
+steps_same (step ∷ rest) q p s o =
+    by step.0 step.1 o.0 (steps_same rest (after_step_at step.0 step.1 q)) o.2
   where
-    by : (end : End) (one : LinkStep) → HasDone one.call (link_at end q).used (link_at end q).link one.link
-        → ((r : PairState) → AreSame r (after_step_at end one q) → LinkOverStreams rest (after_step_at end one q) → AreSame (run_calls (in_steps rest (after_step_at end one q)) r) (after_steps rest (after_step_at end one q)))
+    by : (end : End) (one : LinkStep)
+        → HasDone one.call (link_at end q).used (link_at end q).link one.link
+        → ((r : PairState) → AreSame r (after_step_at end one q)
         → LinkOverStreams rest (after_step_at end one q)
-        → AreSame (run_calls (at_one end (station_calls one.call (link_at end q).link) ++ in_steps rest (after_step_at end one q)) p) (after_steps rest (after_step_at end one q))
+        → AreSame (run_calls (in_steps rest (after_step_at end one q)) r)
+        (after_steps rest (after_step_at end one q)))
+        → LinkOverStreams rest (after_step_at end one q)
+        → AreSame
+        (run_calls
+        (at_one end (station_calls one.call (link_at end q).link)
+        ++ in_steps rest (after_step_at end one q)) p)
+        (after_steps rest (after_step_at end one q))
     by A one e more later =
         let u = step_same one q.a p.a e s.a in
-        runs_a (λ r. AreSame r (after_steps rest (after_step_at A one q))) (station_calls one.call q.a.link) (in_steps rest (after_step_at A one q)) p
-        (λ r g k. more r (record { a = subst (λ y. IsSameEnd y (after_step one q.a)) (sym g) u; b = subst (λ y. IsSameEnd y q.b) (sym k) s.b }) later)
+        runs_a (λ r. AreSame r (after_steps rest (after_step_at A one q)))
+        (station_calls one.call q.a.link) (in_steps rest (after_step_at A one q)) p
+        (λ r g k. more r
+        (record {
+          a = subst (λ y. IsSameEnd y (after_step one q.a)) (sym g) u;
+          b = subst (λ y. IsSameEnd y q.b) (sym k) s.b;
+        }) later)
     by B one e more later =
         let u = step_same one q.b p.b e s.b in
-        runs_b (λ r. AreSame r (after_steps rest (after_step_at B one q))) (station_calls one.call q.b.link) (in_steps rest (after_step_at B one q)) p
-        (λ r g k. more r (record { b = subst (λ y. IsSameEnd y (after_step one q.b)) (sym g) u; a = subst (λ y. IsSameEnd y q.a) (sym k) s.a }) later)
+        runs_b (λ r. AreSame r (after_steps rest (after_step_at B one q)))
+        (station_calls one.call q.b.link) (in_steps rest (after_step_at B one q)) p
+        (λ r g k. more r
+        (record {
+          b = subst (λ y. IsSameEnd y (after_step one q.b)) (sym g) u;
+          a = subst (λ y. IsSameEnd y q.a) (sym k) s.a;
+        }) later)
 
 -- ---- each is started as often as its link
 
@@ -107,36 +161,55 @@ call_starts BeginsAnew d = refl
 call_starts Halts d = refl
 call_starts (Wakes now) d =
     let due = deadline_at d.milliseconds now d.station.core.station.timer d.deadline in
-    starts_if (is_on (core_after_take_arm d.station.core).station.timer && is_due now due) Expire refl
+    starts_if (is_on (core_after_take_arm d.station.core).station.timer && is_due now due)
+    Expire refl
 call_starts (Offers message) d = refl
 call_starts FillsOne d = starts_if (polls d) Poll refl
 call_starts (IsSent n) d = refl
 call_starts (Feeds used) d = refl
 call_starts Takes d = refl
 
-starts_a : (steps : List (End × LinkStep)) (q : Links) → starts_in (calls_at A (in_steps steps q)) ≡ link_starts A steps
+starts_a : (steps : List (End × LinkStep)) (q : Links)
+    → starts_in (calls_at A (in_steps steps q)) ≡ link_starts A steps
 unfolding in_steps calls_at link_starts
 starts_a [] q = refl
 starts_a (step ∷ rest) q = by step.0 step.1 (starts_a rest (after_step_at step.0 step.1 q))
   where
-    by : (end : End) (one : LinkStep) → starts_in (calls_at A (in_steps rest (after_step_at end one q))) ≡ link_starts A rest
-        → starts_in (calls_at A (at_one end (station_calls one.call (link_at end q).link) ++ in_steps rest (after_step_at end one q))) ≡ count_if A end (starts_in_call one.call) + link_starts A rest
+    by : (end : End) (one : LinkStep)
+        → starts_in (calls_at A (in_steps rest (after_step_at end one q))) ≡ link_starts A rest
+        → starts_in
+        (calls_at A
+        (at_one end (station_calls one.call (link_at end q).link)
+        ++ in_steps rest (after_step_at end one q)))
+        ≡ count_if A end (starts_in_call one.call) + link_starts A rest
     by A one e =
         let calls = station_calls one.call q.a.link in
         let more = calls_at A (in_steps rest (after_step_at A one q)) in
         let f = call_starts one.call q.a.link in
         let g = sum_by-append starts_by calls more in
         ap starts_in (own_a calls (in_steps rest (after_step_at A one q))) ∙ omega (arith, e, f, g)
-    by B one e = ap starts_in (other_a (station_calls one.call q.b.link) (in_steps rest (after_step_at B one q))) ∙ omega (arith, e)
+    by B one e =
+        ap starts_in
+        (other_a (station_calls one.call q.b.link) (in_steps rest (after_step_at B one q)))
+        ∙ omega (arith, e)
 
-starts_b : (steps : List (End × LinkStep)) (q : Links) → starts_in (calls_at B (in_steps steps q)) ≡ link_starts B steps
+starts_b : (steps : List (End × LinkStep)) (q : Links)
+    → starts_in (calls_at B (in_steps steps q)) ≡ link_starts B steps
 unfolding in_steps calls_at link_starts
 starts_b [] q = refl
 starts_b (step ∷ rest) q = by step.0 step.1 (starts_b rest (after_step_at step.0 step.1 q))
   where
-    by : (end : End) (one : LinkStep) → starts_in (calls_at B (in_steps rest (after_step_at end one q))) ≡ link_starts B rest
-        → starts_in (calls_at B (at_one end (station_calls one.call (link_at end q).link) ++ in_steps rest (after_step_at end one q))) ≡ count_if B end (starts_in_call one.call) + link_starts B rest
-    by A one e = ap starts_in (other_b (station_calls one.call q.a.link) (in_steps rest (after_step_at A one q))) ∙ omega (arith, e)
+    by : (end : End) (one : LinkStep)
+        → starts_in (calls_at B (in_steps rest (after_step_at end one q))) ≡ link_starts B rest
+        → starts_in
+        (calls_at B
+        (at_one end (station_calls one.call (link_at end q).link)
+        ++ in_steps rest (after_step_at end one q)))
+        ≡ count_if B end (starts_in_call one.call) + link_starts B rest
+    by A one e =
+        ap starts_in
+        (other_b (station_calls one.call q.a.link) (in_steps rest (after_step_at A one q)))
+        ∙ omega (arith, e)
     by B one e =
         let calls = station_calls one.call q.b.link in
         let more = calls_at B (in_steps rest (after_step_at B one q)) in
@@ -146,23 +219,34 @@ starts_b (step ∷ rest) q = by step.0 step.1 (starts_b rest (after_step_at step
 
 -- ---- from two new links
 
-delivered_all : (x y : EndState) (h k : LinkHistory) → IsSameEnd x h → IsSameEnd y k → Delivers x y → IsAcknowledged x → delivered h.link ≡ true → received k ≡ h.accepted
+delivered_all : (x y : EndState) (h k : LinkHistory) → IsSameEnd x h → IsSameEnd y k → Delivers x y
+    → IsAcknowledged x → delivered h.link ≡ true → received k ≡ h.accepted
 delivered_all x y h k s t d told e =
-    let none : length x.core.station.out ≡ 0 = ap (λ (c : CoreView). length c.station.out) s.core ∙ first_of_three (length h.link.station.core.station.out) _ _ e in
-    sym (ap (λ ys. ys ++ y.core.station.inbox) t.taken ∙ ap (λ (c : CoreView). k.taken ++ c.station.inbox) t.core)
+    let none : length x.core.station.out ≡ 0 =
+    ap (λ (c : CoreView). length c.station.out) s.core
+    ∙ first_of_three (length h.link.station.core.station.out) _ _ e in
+    sym
+    (ap (λ ys. ys ++ y.core.station.inbox) t.taken
+    ∙ ap (λ (c : CoreView). k.taken ++ c.station.inbox) t.core)
     ∙ all_up x y d (told none) ∙ s.given
 
-reaches : (x y : EndState) (h k : LinkHistory) → IsSameEnd x h → IsSameEnd y k → Delivers x y → LinkReaches h k
+reaches : (x y : EndState) (h k : LinkHistory) → IsSameEnd x h → IsSameEnd y k → Delivers x y
+    → LinkReaches h k
 reaches x y h k s t d =
     let up : y.taken ++ y.core.station.inbox ≡ k.taken ++ k.link.station.core.station.inbox =
     ap (λ ys. ys ++ y.core.station.inbox) t.taken ∙ ap (λ c. k.taken ++ c.station.inbox) t.core in
     record {
       order = (d.order.0, ap (λ ys. ys ++ d.order.0) (sym up) ∙ d.order.1 ∙ s.given);
-      acknowledged = let e = ap length up in let f = s.acknowledged in let g = d.acknowledged in omega (arith, e, f, g);
+      acknowledged =
+          let e = ap length up in let f = s.acknowledged in let g = d.acknowledged in
+          omega (arith, e, f, g);
     }
 
-module _ (first second : Config) (ms other_ms : ℕ) (line other_line : ReaderView) (steps : List (End × LinkStep)) (f : first_refusal first ≡ None) (g : first_refusal second ≡ None)
-    (o : LinkOverStreams steps (new_links first ms line second other_ms other_line)) (once : AreStartedOnce steps) where
+module _ (first second : Config) (ms other_ms : ℕ) (line other_line : ReaderView)
+    (steps : List (End × LinkStep)) (f : first_refusal first ≡ None)
+    (g : first_refusal second ≡ None)
+    (o : LinkOverStreams steps (new_links first ms line second other_ms other_line))
+    (once : AreStartedOnce steps) where
   abbrev links : Links
   links = new_links first ms line second other_ms other_line
 
@@ -173,10 +257,16 @@ module _ (first second : Config) (ms other_ms : ℕ) (line other_line : ReaderVi
   begun = record { a = new_same first ms line; b = new_same second other_ms other_line }
 
   faithful : IsFaithful (new_pair first second)
-  faithful = record { to_a = (written (new_pair first second).b, refl); to_b = (written (new_pair first second).a, refl) }
+  faithful =
+      record {
+        to_a = (written (new_pair first second).b, refl);
+        to_b = (written (new_pair first second).a, refl);
+      }
 
   honest : (run_calls calls (new_pair first second)).honest ≡ true
-  honest = streams_honest first second calls f g (over_steps steps links (new_pair first second) begun faithful o)
+  honest =
+      streams_honest first second calls f g
+      (over_steps steps links (new_pair first second) begun faithful o)
 
   clean : is_clean (run_calls calls (new_pair first second)) ≡ true
   clean = calls_clean first second calls f g (record {
@@ -188,13 +278,25 @@ module _ (first second : Config) (ms other_ms : ℕ) (line other_line : ReaderVi
   ends = steps_same steps links (new_pair first second) begun o
 
   pub link_reaches_b : LinkReaches (after_steps steps links).a (after_steps steps links).b
-  link_reaches_b = reaches _ _ _ _ ends.a ends.b ((calls_in_order first second calls f g).where_clean honest clean).a_to_b
+  link_reaches_b =
+      reaches _ _ _ _ ends.a ends.b
+      ((calls_in_order first second calls f g).where_clean honest clean).a_to_b
 
   pub link_reaches_a : LinkReaches (after_steps steps links).b (after_steps steps links).a
-  link_reaches_a = reaches _ _ _ _ ends.b ends.a ((calls_in_order first second calls f g).where_clean honest clean).b_to_a
+  link_reaches_a =
+      reaches _ _ _ _ ends.b ends.a
+      ((calls_in_order first second calls f g).where_clean honest clean).b_to_a
 
-  pub delivered_to_b : delivered (after_steps steps links).a.link ≡ true → received (after_steps steps links).b ≡ (after_steps steps links).a.accepted
-  delivered_to_b = delivered_all _ _ _ _ ends.a ends.b ((calls_in_order first second calls f g).where_clean honest clean).a_to_b (calls_acknowledged first second calls f g honest clean).0
+  pub delivered_to_b : delivered (after_steps steps links).a.link ≡ true
+      → received (after_steps steps links).b ≡ (after_steps steps links).a.accepted
+  delivered_to_b =
+      delivered_all _ _ _ _ ends.a ends.b
+      ((calls_in_order first second calls f g).where_clean honest clean).a_to_b
+      (calls_acknowledged first second calls f g honest clean).0
 
-  pub delivered_to_a : delivered (after_steps steps links).b.link ≡ true → received (after_steps steps links).a ≡ (after_steps steps links).b.accepted
-  delivered_to_a = delivered_all _ _ _ _ ends.b ends.a ((calls_in_order first second calls f g).where_clean honest clean).b_to_a (calls_acknowledged first second calls f g honest clean).1
+  pub delivered_to_a : delivered (after_steps steps links).b.link ≡ true
+      → received (after_steps steps links).a ≡ (after_steps steps links).b.accepted
+  delivered_to_a =
+      delivered_all _ _ _ _ ends.b ends.a
+      ((calls_in_order first second calls f g).where_clean honest clean).b_to_a
+      (calls_acknowledged first second calls f g honest clean).1

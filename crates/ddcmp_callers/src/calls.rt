@@ -1,5 +1,5 @@
 //! Any calls of two stations.
-ghost use Rattle.std.specs.Prelude.{◌≡◌, ◌+◌, ◌++◌, ℕ, List, [], ◌∷◌, length, true, false, None};
+ghost use Rattle.std.specs.Prelude.{◌≡◌, ℕ, List, true, false, None};
 ghost use Rattle.std.specs.List.{All};
 ghost use Rattle.ddcmp_core.specs.declared.counters.Counters.{Counters as CountersValue};
 ghost use Rattle.ddcmp_core.specs.Counting.{counters_on, counters_after_next};
@@ -13,9 +13,7 @@ ghost use Rattle.ddcmp_core.specs.Table.{after_take, after_expire, after_take_ar
 ghost use Rattle.ddcmp_proto.specs.Config.{first_refusal};
 ghost use Rattle.ddcmp_proto.specs.declared.config.Config.{Config as ConfigValue};
 ghost use Rattle.ddcmp_run.specs.declared.event.End.{End as EndValue};
-ghost use Rattle.ddcmp_run.specs.declared.event.Event.{Event as EventValue};
-ghost use Rattle.ddcmp_run.specs.Run.{EndState, PairState, at, handed_up, notices_at, reply_to};
-ghost use Rattle.ddcmp_run.specs.Run.{run, new_pair, is_clean};
+ghost use Rattle.ddcmp_run.specs.Run.{PairState, at, notices_at, run, new_pair, is_clean};
 ghost use Rattle.ddcmp_run.specs.InOrder.{IsInOrder, IsLink};
 ghost use Rattle.ddcmp_callers.specs.Calls.{Call, Arrive, after_call, run_calls, events_in};
 ghost use Rattle.ddcmp_callers.specs.Calls.{IsStartedOnce, IsSameStation, IsSamePair};

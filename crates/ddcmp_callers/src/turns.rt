@@ -10,7 +10,7 @@ ghost use Rattle.ddcmp_station.specs.UserCalls.{Calls};
 ghost use Rattle.ddcmp_station.specs.Driving.{DriveTurn, Devices, Drives, driving_from};
 ghost use Rattle.ddcmp_station.specs.Driving.{after_turns};
 ghost use Rattle.ddcmp_run.specs.declared.event.End.{End as EndValue};
-ghost use Rattle.ddcmp_run.specs.Run.{EndState, run, new_pair, acknowledged_in};
+ghost use Rattle.ddcmp_run.specs.Run.{EndState, new_pair};
 ghost use Rattle.ddcmp_callers.specs.Calls.{Call, after_calls_here, run_calls};
 ghost use Rattle.ddcmp_callers.specs.Driven.{shown_in, accepted_from, handed_to, acknowledged_to};
 ghost use Rattle.ddcmp_callers.specs.Driven.{calls_of_turns, DriveCall, driven, calls_of_drive};

@@ -11,6 +11,7 @@ pub record Carriage : Type 0 where
 
 -- One more carriage: a carrier that tells them tells it too, and one that is direct gave what it
 -- was handed.
-pub record HasCarried (is_direct : Bool) (old new : Option (List Carriage)) (c : Carriage) : Type 0 where
+pub record HasCarried (is_direct : Bool) (old new : Option (List Carriage)) (c : Carriage)
+    : Type 0 where
   pub told : Logs old new (c ∷ [])
   pub direct : is_direct ≡ true → c.came ≡ c.bytes

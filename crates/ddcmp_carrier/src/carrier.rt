@@ -1,6 +1,6 @@
 //! What carries the bytes of frames from one end to the other.
-ghost use Rattle.std.specs.Prelude.{◌≡◌, ◌∷◌, [], length, take, true, false, None, Some, is_err};
-ghost use Rattle.std.specs.Prelude.{IfOk, IsOk, IsTrue, OnErr, Bool, List, ℕ, Option};
+ghost use Rattle.std.specs.Prelude.{◌≡◌, [], length, take, true, false, None, is_err, IfOk, IsOk};
+ghost use Rattle.std.specs.Prelude.{IsTrue, OnErr, Bool, List, Option};
 
 use ddcmp_run::End;
 use ddcmp_station::LineFault;

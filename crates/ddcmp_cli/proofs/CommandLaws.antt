@@ -1,5 +1,6 @@
 -- What the words ask for, once the command that they name was run.
-use Rattle.ddcmp_cli.specs.Endings.{CanRun, Performs, ExplainsOrNoMemory, Streams, file_named, Stations, StationsOrNoMemory, TapsAsked, TapsOrNoMemory}
+use Rattle.ddcmp_cli.specs.Endings.{Performs, ExplainsOrNoMemory, Streams, file_named, Stations}
+use Rattle.ddcmp_cli.specs.Endings.{StationsOrNoMemory, TapsAsked, TapsOrNoMemory}
 use Rattle.ddcmp_cli.specs.declared.ending.Ending.{Ending}
 use Rattle.ddcmp_cli.specs.declared.ending.Ending.TheVariants.{Done, Fault as Faulted}
 use Rattle.ddcmp_cli.specs.declared.fault.Fault.TheVariants.{Write}
@@ -8,41 +9,18 @@ use Rattle.std.proofs.lemmas.Slice.Eq.{bytes_eq-Decides}
 use Rattle.std.specs.Prelude.{IsOk, IsTrue}
 use Rattle.ddcmp_words.specs.declared.declined.Declined.{Declined}
 use Rattle.ddcmp_words.specs.declared.declined.Declined.TheVariants.{Memory}
-use Rattle.std.proofs.Common.{Bool, ap, false, inl, inr, ◌⊎◌, Result, Ok, Err, ◌≤◌, ℕ, codes, ◌≡◌, ◌∙◌, sym, refl, true, ◌≢◌, List, Option, Some, None}
-use Rattle.std.proofs.lemmas.Bool.{le-leb}
+use Rattle.std.proofs.Common.{Bool, ap, false, inl, inr, ◌⊎◌, Result, Ok, Err, ℕ, codes, ◌≡◌, ◌∙◌}
+use Rattle.std.proofs.Common.{sym, refl, true, ◌≢◌, List, Option, Some, None}
 use Rattle.clap.specs.Words.{Text}
-use Rattle.ddcmp_words.specs.Words.{named_by, name_of, file_of, option_in, text_in, HasOptions, IsAsked}
-use Rattle.ddcmp_core.specs.Limits.{MAX_COUNT, MAX_WINDOW}
-use Rattle.ddcmp_proto.specs.declared.config.Config.{Config}
-use Rattle.ddcmp_proto.specs.declared.config.TheConstants.{MAX_INBOX, MAX_SYN}
-use Rattle.ddcmp_station.specs.Config.{first_refusal}
+use Rattle.ddcmp_words.specs.Words.{named_by, name_of, file_of, option_in, text_in, HasOptions}
+use Rattle.ddcmp_words.specs.Words.{IsAsked}
 use Rattle.ddcmp_words.specs.declared.command.Command.{Command}
-use Rattle.ddcmp_words.specs.declared.command.Command.TheVariants.{Explain, Simulate, Pair, Station, Tap, Link}
+use Rattle.ddcmp_words.specs.declared.command.Command.TheVariants.{Explain, Simulate, Pair, Station}
+use Rattle.ddcmp_words.specs.declared.command.Command.TheVariants.{Tap, Link}
 use Rattle.ddcmp_words.specs.declared.served.Served.{Served}
 use Rattle.ddcmp_cli.specs.Connections.{Peers}
 use Rattle.ddcmp_words.specs.declared.tapped.Tapped.{Tapped}
 use Rattle.ddcmp_words.specs.declared.linked.Linked.{Linked}
-
-sized : (config : Config) → (1 ≤ config.window) × (config.window ≤ MAX_WINDOW) → (1 ≤ config.inbox) × (config.inbox ≤ MAX_INBOX)
-    → (1 ≤ config.max) × (config.max ≤ MAX_COUNT) → (0 ≤ config.syn) × (config.syn ≤ MAX_SYN) → first_refusal config ≡ None
-sized config w i m s =
-    rw (
-      le-leb 1 config.window w.0,
-      le-leb config.window MAX_WINDOW w.1,
-      le-leb 1 config.inbox i.0,
-      le-leb config.inbox MAX_INBOX i.1,
-      le-leb 1 config.max m.0,
-      le-leb config.max MAX_COUNT m.1,
-      le-leb config.syn MAX_SYN s.1,
-    ) refl
-
-pub can_run : (o t : Text → Option Text) (command : Command) → HasOptions o t command → CanRun command
-can_run o t (Explain e) h = h.max.in_range
-can_run o t (Station served) h = tt
-can_run o t (Tap tapped) h = h.max.in_range
-can_run o t (Link linked) h = tt
-can_run o t (Simulate config view) h = sized config h.0.window.in_range h.0.inbox.in_range h.0.max.in_range h.0.syn.in_range
-can_run o t (Pair config view) h = sized config h.0.window.in_range h.0.inbox.in_range h.0.max.in_range h.0.syn.in_range
 
 -- Names that differ as texts aren't one name. A new command costs one line of each law below.
 other : (a b : Text) → bytes_eq a b ≡ false → ◌≡◌ {A = Option Text} (Some a) (Some b) → ⊥
@@ -50,49 +28,85 @@ other a b differ e =
     let same : a ≡ b = cc in
     let bad : ◌≡◌ {A = Bool} false true = sym differ ∙ (bytes_eq-Decides a b).1 same in cc
 
-pub performed : (held : Text → Option (List ℕ)) (peers : Peers) (words : List Text) (command : Command) (s : Streams) (ending : Ending) → IsAsked words (codes "explain") → named_by words ≡ Some (name_of command) → HasOptions (option_in words) (text_in words) command → Performs held peers command s ending → ExplainsOrNoMemory held words s ending
+pub performed : (held : Text → Option (List ℕ)) (peers : Peers) (words : List Text)
+    (command : Command) (s : Streams) (ending : Ending) → IsAsked words (codes "explain")
+    → named_by words ≡ Some (name_of command) → HasOptions (option_in words) (text_in words) command
+    → Performs held peers command s ending → ExplainsOrNoMemory held words s ending
 performed held peers words (Explain e) s ending a n h p = inr (e, h, p)
-performed held peers words (Simulate config view) s ending a n h p = absurd (other (codes "explain") (codes "simulate") refl (sym a.names ∙ n))
-performed held peers words (Pair config view) s ending a n h p = absurd (other (codes "explain") (codes "pair") refl (sym a.names ∙ n))
-performed held peers words (Station served) s ending a n h p = absurd (other (codes "explain") (codes "station") refl (sym a.names ∙ n))
-performed held peers words (Tap tapped) s ending a n h p = absurd (other (codes "explain") (codes "tap") refl (sym a.names ∙ n))
-performed held peers words (Link linked) s ending a n h p = absurd (other (codes "explain") (codes "link") refl (sym a.names ∙ n))
+performed held peers words (Simulate config view) s ending a n h p =
+    absurd (other (codes "explain") (codes "simulate") refl (sym a.names ∙ n))
+performed held peers words (Pair config view) s ending a n h p =
+    absurd (other (codes "explain") (codes "pair") refl (sym a.names ∙ n))
+performed held peers words (Station served) s ending a n h p =
+    absurd (other (codes "explain") (codes "station") refl (sym a.names ∙ n))
+performed held peers words (Tap tapped) s ending a n h p =
+    absurd (other (codes "explain") (codes "tap") refl (sym a.names ∙ n))
+performed held peers words (Link linked) s ending a n h p =
+    absurd (other (codes "explain") (codes "link") refl (sym a.names ∙ n))
 
 -- words that ask for a station are answered by it
-pub stationed : {R : Type 0} (peers : Peers) (words : List Text) (command : Command) (reader reader_after : R) (old new : Option (List ℕ)) (ending : Ending) → IsAsked words (codes "station") → named_by words ≡ Some (name_of command) → HasOptions (option_in words) (text_in words) command
-    → ((served : Served) → command ≡ Station served → (reader_after ≡ reader) × Stations peers served old new ending) → (reader_after ≡ reader) × StationsOrNoMemory peers words old new ending
-stationed peers words (Explain e) reader after old new ending a n h p = absurd (other (codes "station") (codes "explain") refl (sym a.names ∙ n))
-stationed peers words (Simulate config view) reader after old new ending a n h p = absurd (other (codes "station") (codes "simulate") refl (sym a.names ∙ n))
-stationed peers words (Pair config view) reader after old new ending a n h p = absurd (other (codes "station") (codes "pair") refl (sym a.names ∙ n))
+pub stationed : {R : Type 0} (peers : Peers) (words : List Text) (command : Command)
+    (reader reader_after : R) (old new : Option (List ℕ)) (ending : Ending)
+    → IsAsked words (codes "station") → named_by words ≡ Some (name_of command)
+    → HasOptions (option_in words) (text_in words) command
+    → ((served : Served) → command ≡ Station served
+    → (reader_after ≡ reader) × Stations peers served old new ending)
+    → (reader_after ≡ reader) × StationsOrNoMemory peers words old new ending
+stationed peers words (Explain e) reader after old new ending a n h p =
+    absurd (other (codes "station") (codes "explain") refl (sym a.names ∙ n))
+stationed peers words (Simulate config view) reader after old new ending a n h p =
+    absurd (other (codes "station") (codes "simulate") refl (sym a.names ∙ n))
+stationed peers words (Pair config view) reader after old new ending a n h p =
+    absurd (other (codes "station") (codes "pair") refl (sym a.names ∙ n))
 stationed peers words (Station served) reader after old new ending a n h p =
     let s = p served refl in
     (s.0, inr (served, h, s.1))
-stationed peers words (Tap tapped) reader after old new ending a n h p = absurd (other (codes "station") (codes "tap") refl (sym a.names ∙ n))
-stationed peers words (Link linked) reader after old new ending a n h p = absurd (other (codes "station") (codes "link") refl (sym a.names ∙ n))
+stationed peers words (Tap tapped) reader after old new ending a n h p =
+    absurd (other (codes "station") (codes "tap") refl (sym a.names ∙ n))
+stationed peers words (Link linked) reader after old new ending a n h p =
+    absurd (other (codes "station") (codes "link") refl (sym a.names ∙ n))
 
 -- words that ask for a tap are answered by it
-pub tapped : {R : Type 0} (Further : Type 0) (words : List Text) (command : Command) (reader reader_after : R) (old new : Option (List ℕ)) (ending : Ending) → IsAsked words (codes "tap") → named_by words ≡ Some (name_of command) → HasOptions (option_in words) (text_in words) command
-    → ((tapped : Tapped) → command ≡ Tap tapped → (reader_after ≡ reader) × TapsAsked tapped old new ending × Further) → (reader_after ≡ reader) × TapsOrNoMemory words old new ending × Further
-tapped F words (Explain e) reader after old new ending a n h p = absurd (other (codes "tap") (codes "explain") refl (sym a.names ∙ n))
-tapped F words (Simulate config view) reader after old new ending a n h p = absurd (other (codes "tap") (codes "simulate") refl (sym a.names ∙ n))
-tapped F words (Pair config view) reader after old new ending a n h p = absurd (other (codes "tap") (codes "pair") refl (sym a.names ∙ n))
-tapped F words (Station served) reader after old new ending a n h p = absurd (other (codes "tap") (codes "station") refl (sym a.names ∙ n))
+pub tapped : {R : Type 0} (Further : Type 0) (words : List Text) (command : Command)
+    (reader reader_after : R) (old new : Option (List ℕ)) (ending : Ending)
+    → IsAsked words (codes "tap") → named_by words ≡ Some (name_of command)
+    → HasOptions (option_in words) (text_in words) command
+    → ((tapped : Tapped) → command ≡ Tap tapped
+    → (reader_after ≡ reader) × TapsAsked tapped old new ending × Further)
+    → (reader_after ≡ reader) × TapsOrNoMemory words old new ending × Further
+tapped F words (Explain e) reader after old new ending a n h p =
+    absurd (other (codes "tap") (codes "explain") refl (sym a.names ∙ n))
+tapped F words (Simulate config view) reader after old new ending a n h p =
+    absurd (other (codes "tap") (codes "simulate") refl (sym a.names ∙ n))
+tapped F words (Pair config view) reader after old new ending a n h p =
+    absurd (other (codes "tap") (codes "pair") refl (sym a.names ∙ n))
+tapped F words (Station served) reader after old new ending a n h p =
+    absurd (other (codes "tap") (codes "station") refl (sym a.names ∙ n))
 tapped F words (Tap t) reader after old new ending a n h p =
     let s = p t refl in
     (s.0, inr (t, h, s.1), s.2)
-tapped F words (Link l) reader after old new ending a n h p = absurd (other (codes "tap") (codes "link") refl (sym a.names ∙ n))
+tapped F words (Link l) reader after old new ending a n h p =
+    absurd (other (codes "tap") (codes "link") refl (sym a.names ∙ n))
 
 -- words that ask for a link are answered by it
-pub linked : (Answered : Type 0) (words : List Text) (command : Command) → IsAsked words (codes "link") → named_by words ≡ Some (name_of command) → ((linked : Linked) → command ≡ Link linked → Answered) → Answered
-linked A words (Explain e) a n p = absurd (other (codes "link") (codes "explain") refl (sym a.names ∙ n))
-linked A words (Simulate config view) a n p = absurd (other (codes "link") (codes "simulate") refl (sym a.names ∙ n))
-linked A words (Pair config view) a n p = absurd (other (codes "link") (codes "pair") refl (sym a.names ∙ n))
-linked A words (Station served) a n p = absurd (other (codes "link") (codes "station") refl (sym a.names ∙ n))
+pub linked : (Answered : Type 0) (words : List Text) (command : Command)
+    → IsAsked words (codes "link") → named_by words ≡ Some (name_of command)
+    → ((linked : Linked) → command ≡ Link linked → Answered) → Answered
+linked A words (Explain e) a n p =
+    absurd (other (codes "link") (codes "explain") refl (sym a.names ∙ n))
+linked A words (Simulate config view) a n p =
+    absurd (other (codes "link") (codes "simulate") refl (sym a.names ∙ n))
+linked A words (Pair config view) a n p =
+    absurd (other (codes "link") (codes "pair") refl (sym a.names ∙ n))
+linked A words (Station served) a n p =
+    absurd (other (codes "link") (codes "station") refl (sym a.names ∙ n))
 linked A words (Tap t) a n p = absurd (other (codes "link") (codes "tap") refl (sym a.names ∙ n))
 linked A words (Link l) a n p = p l refl
 
 -- where the words name no file, the command reads none
-pub reads_no_file : (words : List Text) (command : Command) → HasOptions (option_in words) (text_in words) command → file_of (text_in words (codes "file")) ≡ None → file_named command ≡ None
+pub reads_no_file : (words : List Text) (command : Command)
+    → HasOptions (option_in words) (text_in words) command
+    → file_of (text_in words (codes "file")) ≡ None → file_named command ≡ None
 reads_no_file words (Explain explained) h e = h.file ∙ e
 reads_no_file words (Simulate config view) h e = refl
 reads_no_file words (Pair config view) h e = refl
@@ -101,17 +115,25 @@ reads_no_file words (Tap tapped) h e = refl
 reads_no_file words (Link linked) h e = refl
 
 -- and where they name one, it reads one
-pub reads_a_file : (A : Type 0) (words : List Text) (command : Command) → IsAsked words (codes "explain") → named_by words ≡ Some (name_of command) → HasOptions (option_in words) (text_in words) command
+pub reads_a_file : (A : Type 0) (words : List Text) (command : Command)
+    → IsAsked words (codes "explain") → named_by words ≡ Some (name_of command)
+    → HasOptions (option_in words) (text_in words) command
     → file_of (text_in words (codes "file")) ≢ None → (file_named command ≢ None → A) → A
 reads_a_file A words (Explain explained) a n h some then = then (λ e. some (sym h.file ∙ e))
-reads_a_file A words (Simulate config view) a n h some then = absurd (other (codes "explain") (codes "simulate") refl (sym a.names ∙ n))
-reads_a_file A words (Pair config view) a n h some then = absurd (other (codes "explain") (codes "pair") refl (sym a.names ∙ n))
-reads_a_file A words (Station served) a n h some then = absurd (other (codes "explain") (codes "station") refl (sym a.names ∙ n))
-reads_a_file A words (Tap tapped) a n h some then = absurd (other (codes "explain") (codes "tap") refl (sym a.names ∙ n))
-reads_a_file A words (Link linked) a n h some then = absurd (other (codes "explain") (codes "link") refl (sym a.names ∙ n))
+reads_a_file A words (Simulate config view) a n h some then =
+    absurd (other (codes "explain") (codes "simulate") refl (sym a.names ∙ n))
+reads_a_file A words (Pair config view) a n h some then =
+    absurd (other (codes "explain") (codes "pair") refl (sym a.names ∙ n))
+reads_a_file A words (Station served) a n h some then =
+    absurd (other (codes "explain") (codes "station") refl (sym a.names ∙ n))
+reads_a_file A words (Tap tapped) a n h some then =
+    absurd (other (codes "explain") (codes "tap") refl (sym a.names ∙ n))
+reads_a_file A words (Link linked) a n h some then =
+    absurd (other (codes "explain") (codes "link") refl (sym a.names ∙ n))
 
 -- words that ask for a command are declined for want of memory alone
-pub not_declined : {C : Type 0} (r : Result C Declined) (d : Declined) → r ≡ Err d → d ≢ Memory → IsOk r ⊎ (r ≡ Err Memory) → ⊥
+pub not_declined : {C : Type 0} (r : Result C Declined) (d : Declined) → r ≡ Err d → d ≢ Memory
+    → IsOk r ⊎ (r ≡ Err Memory) → ⊥
 not_declined (Ok x) d e n h = let bad : Ok x ≡ Err d = e in cc
 not_declined (Err f) d e n (inl ok) = let bad : ◌≡◌ {A = Bool} false true = ok in cc
 not_declined (Err f) d e n (inr m) = let same : d ≡ Memory = cc in n same

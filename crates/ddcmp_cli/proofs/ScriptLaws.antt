@@ -1,12 +1,14 @@
 -- What the program calls the faults of a script, and how a run is shown.
-use Rattle.std.proofs.Common.{◌≡◌, ◌≢◌, ◌⊎◌, ◌↔◌, IsTrue, ◌∙◌, sym, ap, subst, ℕ, Bool, true, false, List, Option, Some, None, Result, Err, refl}
+use Rattle.std.proofs.Common.{◌≡◌, ◌≢◌, ◌⊎◌, ◌↔◌, IsTrue, ◌∙◌, sym, ap, subst, ℕ, Bool, true, false}
+use Rattle.std.proofs.Common.{List, Option, Some, None, Result, Err, refl}
 use Rattle.ddcmp_run.specs.Run.{PairState}
 use Rattle.ddcmp_carrier.specs.Carriages.{Carriage}
 use Rattle.ddcmp_script.specs.ScriptEnds.{around, Plays}
 use Rattle.ddcmp_script_text.specs.declared.script_fault.ScriptFault.{ScriptFault}
 use Rattle.ddcmp_script_text.specs.declared.script_fault.ScriptFault.TheVariants as scripting
 use Rattle.ddcmp_cli.specs.declared.fault.Fault.{Fault}
-use Rattle.ddcmp_cli.specs.declared.fault.Fault.TheVariants.{Line, Hex as NotHexIn, Read, Write, Memory, Carrier}
+use Rattle.ddcmp_cli.specs.declared.fault.Fault.TheVariants.{Line, Hex as NotHexIn, Read, Write}
+use Rattle.ddcmp_cli.specs.declared.fault.Fault.TheVariants.{Memory, Carrier}
 use Rattle.ddcmp_cli.specs.declared.ending.Ending.TheVariants.{Fault as Faulted}
 use Rattle.ddcmp_io.specs.declared.device.Worst.TheVariants.{Fine}
 use Rattle.ddcmp_io.specs.Change.{SourceChange}
@@ -14,7 +16,9 @@ use Rattle.ddcmp_io.specs.Input.{GaveMost}
 use Rattle.ddcmp_cli.specs.Endings.{script_fault, ShowsBy, TellsDevices}
 
 -- a fault that the script answered is the one that the program tells
-pub told : (r : Result (Unit {0}) ScriptFault) (fault known : ScriptFault) (made : Fault) → r ≡ Err fault → made ≡ script_fault fault → r ≡ Err known → Faulted made ≡ Faulted (script_fault known)
+pub told : (r : Result (Unit {0}) ScriptFault) (fault known : ScriptFault) (made : Fault)
+    → r ≡ Err fault → made ≡ script_fault fault → r ≡ Err known
+    → Faulted made ≡ Faulted (script_fault known)
 told r fault known made e m k =
     let both : ◌≡◌ {A = Result (Unit {0}) ScriptFault} (Err fault) (Err known) = sym e ∙ k in
     let same : fault ≡ known = cc in
@@ -52,8 +56,12 @@ pub told-back : (r : Result (Unit {0}) ScriptFault) (fault known : ScriptFault) 
 told-back r fault known made e m k = e ∙ ap Err (same fault known (ap Faulted (sym m) ∙ k))
 
 -- what a carrier that tells nothing did is known of none
-pub untold : (counted : Bool) (input : List ℕ) (before p q : PairState) (is_direct : Bool) (t u : Option (List Carriage)) (Wrote WrotePart : List ℕ → Type 0) (r : Result (Unit {0}) ScriptFault)
-    → before ≡ p → t ≡ None → u ≡ None → Plays counted input (around before q is_direct t u) Wrote WrotePart r → Plays counted input (around p q is_direct None None) Wrote WrotePart r
+pub untold : (counted : Bool) (input : List ℕ) (before p q : PairState) (is_direct : Bool)
+    (t u : Option (List Carriage)) (Wrote WrotePart : List ℕ → Type 0)
+    (r : Result (Unit {0}) ScriptFault)
+    → before ≡ p → t ≡ None → u ≡ None
+    → Plays counted input (around before q is_direct t u) Wrote WrotePart r
+    → Plays counted input (around p q is_direct None None) Wrote WrotePart r
 untold counted input before p q is_direct t u Wrote WrotePart r e n m h =
     subst (λ b. Plays counted input (around b q is_direct None None) Wrote WrotePart r) e
     (subst (λ x. Plays counted input (around before q is_direct x None) Wrote WrotePart r) n

@@ -1,5 +1,6 @@
 -- What became of a station that was asked for.
-use Rattle.std.proofs.Common.{◌≡◌, ◌≤◌, ℕ, List, length, refl, inr, inl, ◌⊎◌, subst, Option, Some, None, Result, Ok, Err}
+use Rattle.std.proofs.Common.{◌≡◌, ◌≤◌, ℕ, List, length, refl, inr, inl, ◌⊎◌, subst, Option, Some}
+use Rattle.std.proofs.Common.{None, Result, Ok, Err}
 use Rattle.std.specs.Result.{result_ok}
 use Rattle.hex.specs.Hex.{decode_of}
 use Rattle.hex.specs.declared.error.FromHexError.{FromHexError}
@@ -14,13 +15,19 @@ use Rattle.ddcmp_serve.specs.declared.serve_fault.ServeFault.TheVariants as serv
 use Rattle.ddcmp_station.specs.declared.driving.LineFault.TheVariants as line
 use Rattle.ddcmp_cli.specs.Endings.{Connects, SendsDecoded, Stations, ending_of, serve_fault}
 
-decoded : (peers : Peers) (role : Role) (served : Served) (d : Result (List ℕ) FromHexError) (message : List ℕ) (old new : Option (List ℕ)) (ending : Ending)
-    → Some message ≡ result_ok d → Connects peers role served message old new ending → SendsDecoded peers role served d old new ending
-decoded peers role served (Ok bytes) message old new ending e c = subst (λ m. Connects peers role served m old new ending) (cc e) c
-decoded peers role served (Err refused) message old new ending e c = let e' : ◌≡◌ (Some message) None = e in cc
+decoded : (peers : Peers) (role : Role) (served : Served) (d : Result (List ℕ) FromHexError)
+    (message : List ℕ) (old new : Option (List ℕ)) (ending : Ending)
+    → Some message ≡ result_ok d → Connects peers role served message old new ending
+    → SendsDecoded peers role served d old new ending
+decoded peers role served (Ok bytes) message old new ending e c =
+    subst (λ m. Connects peers role served m old new ending) (cc e) c
+decoded peers role served (Err refused) message old new ending e c =
+    let e' : ◌≡◌ (Some message) None = e in cc
 
 -- an ending that tells want of memory is an answer of want of memory
-pub want-of : (answer : Result (Unit {0}) ServeFault) → ending_of serve_fault answer ≡ Faulted NoMemory → (answer ≡ Err serving.Config) ⊎ (answer ≡ Err (serving.Line line.Memory))
+pub want-of : (answer : Result (Unit {0}) ServeFault)
+    → ending_of serve_fault answer ≡ Faulted NoMemory
+    → (answer ≡ Err serving.Config) ⊎ (answer ≡ Err (serving.Line line.Memory))
 want-of (Ok u) e = cc
 want-of (Err serving.Config) e = inl refl
 want-of (Err serving.Report) e = cc
@@ -30,8 +37,15 @@ want-of (Err (serving.Line line.Ended)) e = cc
 want-of (Err (serving.Line line.Memory)) e = inr refl
 
 -- a message was read, and then the connection was opened or not
-pub connects : (peers : Peers) (role : Role) (served : Served) (message : List ℕ) (old new : Option (List ℕ)) (ending : Ending)
+pub connects : (peers : Peers) (role : Role) (served : Served) (message : List ℕ)
+    (old new : Option (List ℕ)) (ending : Ending)
     → served.role ≡ Some role → length served.send.now ≤ 3000
-    → Some message ≡ result_ok (decode_of served.send.now) → Connects peers role served message old new ending → Stations peers served old new ending
+    → Some message ≡ result_ok (decode_of served.send.now)
+    → Connects peers role served message old new ending → Stations peers served old new ending
 connects peers role served message old new ending r l e c =
-    inr (role, r, l, decoded peers role served (decode_of served.send.now) message old new ending e c)
+    inr (
+      role,
+      r,
+      l,
+      decoded peers role served (decode_of served.send.now) message old new ending e c,
+    )

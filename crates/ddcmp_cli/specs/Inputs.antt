@@ -2,7 +2,9 @@
 use Rattle.std.specs.declared.io.ErrorKind.{ErrorKind}
 use Rattle.std.specs.declared.io.ErrorKind.TheVariants as kind
 use Rattle.ddcmp_cli.specs.declared.inputs.OpenFault.{OpenFault}
-use Rattle.ddcmp_cli.specs.declared.inputs.OpenFault.TheVariants.{NotFound, PermissionDenied, NotADirectory, LinkLoop, NameTooLong, Other}
+use Rattle.ddcmp_cli.specs.declared.inputs.OpenFault.TheVariants.{NotFound, PermissionDenied}
+use Rattle.ddcmp_cli.specs.declared.inputs.OpenFault.TheVariants.{NotADirectory, LinkLoop}
+use Rattle.ddcmp_cli.specs.declared.inputs.OpenFault.TheVariants.{NameTooLong, Other}
 
 -- by the kind of the error that the system gave
 abbrev pub open_fault : ErrorKind → OpenFault

@@ -1,8 +1,10 @@
 -- How a link of the command line ends.
 use Rattle.std.specs.Prelude.{⊤}
-use Rattle.ddcmp_cli.specs.declared.fault.Fault.TheVariants.{Odd, NotHex, Dump, Line, Hex, Message, Read, Write, Memory, Carrier, Ended}
+use Rattle.ddcmp_cli.specs.declared.fault.Fault.TheVariants.{Odd, NotHex, Dump, Line, Hex, Message}
+use Rattle.ddcmp_cli.specs.declared.fault.Fault.TheVariants.{Read, Write, Memory, Carrier, Ended}
 use Rattle.ddcmp_cli.specs.declared.ending.Ending.{Ending}
-use Rattle.ddcmp_cli.specs.declared.ending.Ending.TheVariants.{Done, SomeRefused, NoLine, Unopened, Usage, NotText, Fault as Faulted}
+use Rattle.ddcmp_cli.specs.declared.ending.Ending.TheVariants.{Done, SomeRefused, NoLine, Unopened}
+use Rattle.ddcmp_cli.specs.declared.ending.Ending.TheVariants.{Usage, NotText, Fault as Faulted}
 
 -- All was delivered, or all that was a message; the line isn't one, or can't be opened, or has
 -- ended; standard input or output failed; or memory was refused.

@@ -5,7 +5,8 @@ use Rattle.ddcmp_io.specs.Written.{Known}
 use Rattle.ddcmp_pump.specs.declared.tap_fault.TapFault.{TapFault}
 use Rattle.ddcmp_pump.specs.declared.tap_fault.TapFault.TheVariants as tapping
 use Rattle.ddcmp_cli.specs.declared.fault.Fault.{Fault}
-use Rattle.ddcmp_cli.specs.declared.fault.Fault.TheVariants.{Read, Write, Memory as NoMemory, Carrier}
+use Rattle.ddcmp_cli.specs.declared.fault.Fault.TheVariants.{Read, Write, Memory as NoMemory}
+use Rattle.ddcmp_cli.specs.declared.fault.Fault.TheVariants.{Carrier}
 use Rattle.ddcmp_cli.specs.declared.ending.Ending.{Ending}
 use Rattle.ddcmp_cli.specs.declared.ending.Ending.TheVariants.{Done, Fault as Faulted}
 

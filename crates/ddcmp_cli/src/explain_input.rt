@@ -4,10 +4,10 @@ ghost use Rattle.std.specs.Prelude.{Some};
 ghost use Rattle.ddcmp_core.specs.Limits.{MAX_COUNT};
 ghost use Rattle.ddcmp_io.specs.Change.{source_change};
 ghost use Rattle.ddcmp_io.specs.Input.{GaveMost};
-ghost use Rattle.ddcmp_cli.specs.Endings.{ExplainsAsked, ExplainsFile};
-ghost use Rattle.ddcmp_cli.specs.Endings.{ExplainsInput, TellsDevices, streams};
+ghost use Rattle.ddcmp_cli.specs.Endings.{ExplainsAsked, ExplainsFile, ExplainsInput, TellsDevices};
+ghost use Rattle.ddcmp_cli.specs.Endings.{streams};
 ghost use Rattle.std.specs.Option.{option_map};
-ghost use Rattle.ddcmp_cli.specs.Endings.{is_misused as is_misused_by, is_refusal};
+ghost use Rattle.ddcmp_cli.specs.Endings.{is_misused as is_misused_by};
 
 use crate::ending::Ending;
 use crate::fault::Fault;

@@ -1,7 +1,7 @@
 //! A tap between two addresses.
 ghost use Rattle.std.specs.Prelude.{◌≡◌, ◌≤◌, IsTrue, false};
 ghost use Rattle.ddcmp_core.specs.Limits.{MAX_COUNT};
-ghost use Rattle.ddcmp_cli.specs.Endings.{TapsAsked, is_json as is_json_notation, is_refusal};
+ghost use Rattle.ddcmp_cli.specs.Endings.{TapsAsked, is_json as is_json_notation};
 ghost use Rattle.ddcmp_cli.specs.TapEndings.{Taps, tap_fault};
 
 use crate::ending::Ending;

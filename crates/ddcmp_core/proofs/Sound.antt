@@ -1,5 +1,6 @@
 -- Each function of the table keeps what holds of every core.
-use Rattle.std.proofs.Common.{◌≡◌, ◌≢◌, ℕ, ◌<◌, ◌≤◌, Bool, true, false, cond, List, [], ◌∷◌, ◌++◌, length, drop, refl, ap, arith}
+use Rattle.std.proofs.Common.{◌≡◌, ◌≢◌, ℕ, ◌<◌, ◌≤◌, Bool, true, false, cond, List, [], ◌∷◌, ◌++◌}
+use Rattle.std.proofs.Common.{length, drop, refl, ap, arith}
 use Rattle.std.specs.Prelude.{◌==◌}
 use Rattle.std.proofs.lemmas.List.{nil_from_length}
 use Rattle.ddcmp_window.specs.declared.inbox.Offer.{Offer}
@@ -8,17 +9,32 @@ use Rattle.ddcmp_window.specs.Store.{IsStored}
 use Rattle.ddcmp_window.specs.Numbers.{is_within, next_number}
 use Rattle.ddcmp_window.specs.Inbox.{answer_to_offer}
 use Rattle.ddcmp_core.specs.declared.state.State.{State}
-use Rattle.ddcmp_core.specs.declared.state.State.TheVariants.{Halted, IStart, AStart, Running, Maintenance}
+use Rattle.ddcmp_core.specs.declared.state.State.TheVariants.{Halted, IStart, AStart, Running}
+use Rattle.ddcmp_core.specs.declared.state.State.TheVariants.{Maintenance}
 use Rattle.ddcmp_core.specs.declared.state.Owed.{Owed}
 use Rattle.ddcmp_core.specs.declared.state.Owed.TheVariants.{Quiet}
 use Rattle.ddcmp_core.specs.declared.state.Timer.{Timer}
 use Rattle.ddcmp_core.specs.declared.state.Timer.TheVariants.{Off, Fresh, On}
-use Rattle.ddcmp_core.specs.Table.{StationState, Limits, Data, Acked, Naked, Rep, Strt, Stack, Maint, Received, Good, BadHeader, BadData, TooLong, BadFormat, outgoing, incoming, station_begun, new_station, newly_acknowledged, after_ack, before_next, takes_data, has_room, reply_to_offer, after_offer, on_data, on_nak, on_maintenance, on_by, on, after_startup, after_halt, after_restart, may_restart, on_strt, may_start, after_start, after_enter_maintenance, may_send, may_send_maintenance, after_accept, after_take, after_take_arm, after_expire_in, after_expire_with, after_expire, is_running, is_maintenance, is_starting, is_fresh, Next, next, timer_started, after_next}
+use Rattle.ddcmp_core.specs.Table.{StationState, Limits, Data, Acked, Naked, Rep, Strt, Stack}
+use Rattle.ddcmp_core.specs.Table.{Maint, Received, Good, BadHeader, BadData, TooLong, BadFormat}
+use Rattle.ddcmp_core.specs.Table.{outgoing, incoming, station_begun, new_station}
+use Rattle.ddcmp_core.specs.Table.{newly_acknowledged, after_ack, before_next, takes_data, has_room}
+use Rattle.ddcmp_core.specs.Table.{reply_to_offer, after_offer, on_data, on_nak, on_maintenance}
+use Rattle.ddcmp_core.specs.Table.{on_by, on, after_startup, after_halt, after_restart, may_restart}
+use Rattle.ddcmp_core.specs.Table.{on_strt, may_start, after_start, after_enter_maintenance}
+use Rattle.ddcmp_core.specs.Table.{may_send, may_send_maintenance, after_accept, after_take}
+use Rattle.ddcmp_core.specs.Table.{after_take_arm, after_expire_in, after_expire_with, after_expire}
+use Rattle.ddcmp_core.specs.Table.{is_running, is_maintenance, is_starting, is_fresh, Next, next}
+use Rattle.ddcmp_core.specs.Table.{timer_started, after_next}
 use Rattle.ddcmp_core.specs.Core.{IsSound, IsReceivable, FitsState, is_sent_reply}
-use Rattle.ddcmp_core.specs.NextFrame.{SentFor, sends_strt, sends_stack, sends_nak, sends_rep, sends_data, sends_ack, sends_maint, halted_idles, starting_idles, running_idles, maintenance_idles}
+use Rattle.ddcmp_core.specs.NextFrame.{SentFor, sends_strt, sends_stack, sends_nak, sends_rep}
+use Rattle.ddcmp_core.specs.NextFrame.{sends_data, sends_ack, sends_maint, halted_idles}
+use Rattle.ddcmp_core.specs.NextFrame.{starting_idles, running_idles, maintenance_idles}
 use Rattle.ddcmp_core.proofs.Fits.{fits_any}
 use Rattle.ddcmp_core.proofs.Sent.{sending}
-use Rattle.ddcmp_core.proofs.Windows.{window_acknowledging, window_again, window_sent, window_more, window_new, window_popped, stored_drop, stored_none, stored_more}
+use Rattle.ddcmp_core.proofs.Windows.{window_acknowledging, window_again, window_sent, window_more}
+use Rattle.ddcmp_core.proofs.Windows.{window_new, window_popped, stored_drop, stored_none}
+use Rattle.ddcmp_core.proofs.Windows.{stored_more}
 
 running_other : (p : State) → p ≡ Running → p ≢ Maintenance
 running_other p e m = cc
@@ -27,14 +43,24 @@ halted_other : (p : State) → p ≡ Halted → p ≢ Maintenance
 halted_other p e m = cc
 
 -- another state, other flags and another timer
-flags : (l : Limits) (s : StationState) (p : State) (due : Bool) (reply : Owed) (rep : Bool) (timer : Timer)
-    → (IsSound l s → FitsState (record s { state = p; due = due; reply = reply; rep = rep; timer = timer }))
-    → IsSound l s → IsSound l (record s { state = p; due = due; reply = reply; rep = rep; timer = timer })
+flags : (l : Limits) (s : StationState) (p : State) (due : Bool) (reply : Owed) (rep : Bool)
+    (timer : Timer)
+    → (IsSound l s
+    → FitsState (record s { state = p; due = due; reply = reply; rep = rep; timer = timer }))
+    → IsSound l s
+    → IsSound l (record s { state = p; due = due; reply = reply; rep = rep; timer = timer })
 flags l s p due reply rep timer f h =
-    record { r_byte = h.r_byte; in_window = h.in_window; out_stored = h.out_stored; inbox_stored = h.inbox_stored; fits = f h }
+    record {
+      r_byte = h.r_byte;
+      in_window = h.in_window;
+      out_stored = h.out_stored;
+      inbox_stored = h.inbox_stored;
+      fits = f h;
+    }
 
 -- the state stays
-same_state : (l : Limits) (s : StationState) (due : Bool) (reply : Owed) (rep : Bool) (timer : Timer) → is_sent_reply reply ≡ true
+same_state : (l : Limits) (s : StationState) (due : Bool) (reply : Owed) (rep : Bool)
+    (timer : Timer) → is_sent_reply reply ≡ true
     → IsSound l s → IsSound l (record s { due = due; reply = reply; rep = rep; timer = timer })
 same_state l s due reply rep timer r h =
     flags l s s.state due reply rep timer
@@ -48,19 +74,24 @@ same_state l s due reply rep timer r h =
     })
     h
 
-to_running : (l : Limits) (s : StationState) (reply : Owed) → is_sent_reply reply ≡ true → IsSound l s → IsSound l (record s { state = Running; due = false; timer = Off; reply = reply })
+to_running : (l : Limits) (s : StationState) (reply : Owed) → is_sent_reply reply ≡ true
+    → IsSound l s
+    → IsSound l (record s { state = Running; due = false; timer = Off; reply = reply })
 to_running l s reply r h =
     flags l s Running false reply s.rep Off
-    (λ k. fits_any (record s { state = Running; due = false; reply = reply; timer = Off }) refl (running_other Running refl) r)
+    (λ k. fits_any (record s { state = Running; due = false; reply = reply; timer = Off }) refl
+    (running_other Running refl) r)
     h
 
 pub sound_halted : (l : Limits) (s : StationState) → IsSound l s → IsSound l (after_halt s)
 sound_halted l s h =
-    flags l s Halted false Quiet false Off (λ k. fits_any (after_halt s) refl (halted_other Halted refl) refl) h
+    flags l s Halted false Quiet false Off
+    (λ k. fits_any (after_halt s) refl (halted_other Halted refl) refl) h
 
 -- ---- a beginning
 
-begun_fits : (p : State) (due : Bool) (inbox : List (List ℕ)) → inbox ≡ [] → FitsState (station_begun p due inbox)
+begun_fits : (p : State) (due : Bool) (inbox : List (List ℕ)) → inbox ≡ []
+    → FitsState (station_begun p due inbox)
 begun_fits p due inbox e =
     record {
       starting_r = λ q. refl;
@@ -71,7 +102,8 @@ begun_fits p due inbox e =
       sent_reply = refl;
     }
 
-sound_begun : (l : Limits) (s : StationState) (p : State) (due : Bool) → s.inbox ≡ [] → IsSound l s → IsSound l (station_begun p due s.inbox)
+sound_begun : (l : Limits) (s : StationState) (p : State) (due : Bool) → s.inbox ≡ [] → IsSound l s
+    → IsSound l (station_begun p due s.inbox)
 sound_begun l s p due e h =
     record {
       r_byte = omega arith;
@@ -84,39 +116,56 @@ sound_begun l s p due e h =
 empty_inbox : (s : StationState) → may_start s ≡ true → s.inbox ≡ []
 empty_inbox s e = let z : length s.inbox ≡ 0 = grind (arith) in nil_from_length s.inbox z
 
-pub sound_new : (l : Limits) → IsStored l.window l.longest [] → IsStored l.room l.longest [] → IsSound l new_station
+pub sound_new : (l : Limits) → IsStored l.window l.longest [] → IsStored l.room l.longest []
+    → IsSound l new_station
 sound_new l out inbox =
-    record { r_byte = omega arith; in_window = window_new; out_stored = out; inbox_stored = inbox; fits = begun_fits Halted false [] refl }
+    record {
+      r_byte = omega arith;
+      in_window = window_new;
+      out_stored = out;
+      inbox_stored = inbox;
+      fits = begun_fits Halted false [] refl;
+    }
 
-pub sound_started : (l : Limits) (s : StationState) → may_start s ≡ true → IsSound l s → IsSound l (after_start s)
+pub sound_started : (l : Limits) (s : StationState) → may_start s ≡ true → IsSound l s
+    → IsSound l (after_start s)
 sound_started l s e h = sound_begun l s IStart true (empty_inbox s e) h
 
-pub sound_in_maintenance : (l : Limits) (s : StationState) → may_start s ≡ true → IsSound l s → IsSound l (after_enter_maintenance s)
+pub sound_in_maintenance : (l : Limits) (s : StationState) → may_start s ≡ true → IsSound l s
+    → IsSound l (after_enter_maintenance s)
 sound_in_maintenance l s e h = sound_begun l s Maintenance false (empty_inbox s e) h
 
 sound_strt : (l : Limits) (s : StationState) → IsSound l s → IsSound l (on_strt l s)
 sound_strt l s h = by (may_restart l s) refl
   where
     by : (b : Bool) → may_restart l s ≡ b → IsSound l (cond b (after_restart s) (after_halt s))
-    by true e = let z : length s.inbox ≡ 0 = grind (arith) in sound_begun l s AStart true (nil_from_length s.inbox z) h
+    by true e =
+        let z : length s.inbox ≡ 0 = grind (arith) in
+        sound_begun l s AStart true (nil_from_length s.inbox z) h
     by false e = sound_halted l s h
 
 -- ---- what comes at a running station
 
-sound_acknowledging : (l : Limits) (s : StationState) (q : ℕ) → s.state ≡ Running → q < 256 → IsSound l s → IsSound l (after_ack s q)
+sound_acknowledging : (l : Limits) (s : StationState) (q : ℕ) → s.state ≡ Running → q < 256
+    → IsSound l s → IsSound l (after_ack s q)
 sound_acknowledging l s q e hq h =
     record {
       r_byte = h.r_byte;
       in_window = window_acknowledging (outgoing s) q hq h.in_window;
       out_stored = stored_drop l.window l.longest (newly_acknowledged s q) s.out h.out_stored;
       inbox_stored = h.inbox_stored;
-      fits = fits_any (after_ack s q) (ap is_starting e) (running_other s.state e) h.fits.sent_reply;
+      fits =
+          fits_any (after_ack s q) (ap is_starting e) (running_other s.state e) h.fits.sent_reply;
     }
 
-sound_nak : (l : Limits) (s : StationState) (q : ℕ) → s.state ≡ Running → q < 256 → IsSound l s → IsSound l (on_nak s q)
+sound_nak : (l : Limits) (s : StationState) (q : ℕ) → s.state ≡ Running → q < 256 → IsSound l s
+    → IsSound l (on_nak s q)
 sound_nak l s q e hq h = by (is_within s.a q s.n)
   where
-    by : (b : Bool) → IsSound l (cond b (record (after_ack s q) { t = next_number (after_ack s q).a; rep = false; timer = Off }) s)
+    by : (b : Bool)
+        → IsSound l
+        (cond b
+        (record (after_ack s q) { t = next_number (after_ack s q).a; rep = false; timer = Off }) s)
     by true =
         let u = after_ack s q in
         let k = sound_acknowledging l s q e hq h in
@@ -125,11 +174,14 @@ sound_nak l s q e hq h = by (is_within s.a q s.n)
           in_window = window_again (outgoing u) k.in_window;
           out_stored = k.out_stored;
           inbox_stored = k.inbox_stored;
-          fits = fits_any (record u { t = next_number u.a; rep = false; timer = Off }) (ap is_starting e) (running_other s.state e) h.fits.sent_reply;
+          fits =
+              fits_any (record u { t = next_number u.a; rep = false; timer = Off })
+              (ap is_starting e) (running_other s.state e) h.fits.sent_reply;
         }
     by false = h
 
-offer_fits : (o : Offer) (reply : Owed) → is_sent_reply reply ≡ true → is_sent_reply (reply_to_offer o reply) ≡ true
+offer_fits : (o : Offer) (reply : Owed) → is_sent_reply reply ≡ true
+    → is_sent_reply (reply_to_offer o reply) ≡ true
 offer_fits offer.Accepted reply r = refl
 offer_fits offer.NoRoom reply r = refl
 offer_fits offer.OutOfSequence reply r = r
@@ -138,7 +190,8 @@ byte_if : (b : Bool) (x y : ℕ) → x < 256 → y < 256 → cond b x y < 256
 byte_if true x y hx hy = hx
 byte_if false x y hx hy = hy
 
-sound_put : (l : Limits) (s : StationState) (num : ℕ) (message : List ℕ) → s.state ≡ Running → num < 256 → 1 ≤ length message → length message ≤ l.longest
+sound_put : (l : Limits) (s : StationState) (num : ℕ) (message : List ℕ) → s.state ≡ Running
+    → num < 256 → 1 ≤ length message → length message ≤ l.longest
     → IsSound l s → IsSound l (after_offer l s num message)
 sound_put l s num message e hn low high h =
     record {
@@ -146,19 +199,26 @@ sound_put l s num message e hn low high h =
       in_window = h.in_window;
       out_stored = h.out_stored;
       inbox_stored = by (takes_data l s num) refl;
-      fits = fits_any (after_offer l s num message) (ap is_starting e) (running_other s.state e) (offer_fits (answer_to_offer l.room (incoming s) num) s.reply h.fits.sent_reply);
+      fits =
+          fits_any (after_offer l s num message) (ap is_starting e) (running_other s.state e)
+          (offer_fits (answer_to_offer l.room (incoming s) num) s.reply h.fits.sent_reply);
     }
   where
-    by : (b : Bool) → takes_data l s num ≡ b → IsStored l.room l.longest (cond b (s.inbox ++ message ∷ []) s.inbox)
-    by true t = let room : length s.inbox < l.room = grind (arith) in stored_more l.room l.longest s.inbox message room low high h.inbox_stored
+    by : (b : Bool) → takes_data l s num ≡ b
+        → IsStored l.room l.longest (cond b (s.inbox ++ message ∷ []) s.inbox)
+    by true t =
+        let room : length s.inbox < l.room = grind (arith) in
+        stored_more l.room l.longest s.inbox message room low high h.inbox_stored
     by false t = h.inbox_stored
 
-sound_data : (l : Limits) (s : StationState) (resp num : ℕ) (message : List ℕ) → s.state ≡ Running → resp < 256 → num < 256 → 1 ≤ length message → length message ≤ l.longest
+sound_data : (l : Limits) (s : StationState) (resp num : ℕ) (message : List ℕ) → s.state ≡ Running
+    → resp < 256 → num < 256 → 1 ≤ length message → length message ≤ l.longest
     → IsSound l s → IsSound l (on_data l s resp num message)
 sound_data l s resp num message e hr hn low high h =
     sound_put l (after_ack s resp) num message e hn low high (sound_acknowledging l s resp e hr h)
 
-sound_maintenance : (l : Limits) (s : StationState) (message : List ℕ) → s.state ≡ Maintenance → 1 ≤ length message → length message ≤ l.longest
+sound_maintenance : (l : Limits) (s : StationState) (message : List ℕ) → s.state ≡ Maintenance
+    → 1 ≤ length message → length message ≤ l.longest
     → IsSound l s → IsSound l (on_maintenance l s (Good (Maint message)))
 sound_maintenance l s message e low high h =
     record {
@@ -176,11 +236,15 @@ sound_maintenance l s message e low high h =
       };
     }
   where
-    by : (b : Bool) → has_room l s ≡ b → IsStored l.room l.longest (cond b (s.inbox ++ message ∷ []) s.inbox)
-    by true t = let room : length s.inbox < l.room = grind (arith) in stored_more l.room l.longest s.inbox message room low high h.inbox_stored
+    by : (b : Bool) → has_room l s ≡ b
+        → IsStored l.room l.longest (cond b (s.inbox ++ message ∷ []) s.inbox)
+    by true t =
+        let room : length s.inbox < l.room = grind (arith) in
+        stored_more l.room l.longest s.inbox message room low high h.inbox_stored
     by false t = h.inbox_stored
 
-pub sound_on : (l : Limits) (s : StationState) (e : Received) → IsReceivable l e → IsSound l s → IsSound l (on l s e)
+pub sound_on : (l : Limits) (s : StationState) (e : Received) → IsReceivable l e → IsSound l s
+    → IsSound l (on l s e)
 unfolding on
 sound_on l s e g h = by s.state refl e g
   where
@@ -231,7 +295,8 @@ sound_on l s e g h = by s.state refl e g
     by Running e (Good (Acked resp)) g = sound_acknowledging l s resp e g h
     by Running e (Good (Naked why resp)) g = sound_nak l s resp e g h
     by Running e (Good (Rep num)) g = replies _ (grind (arith, sent))
-    by Running e (Good (Data resp num message)) g = sound_data l s resp num message e g.0 g.1 g.2 g.3 h
+    by Running e (Good (Data resp num message)) g =
+        sound_data l s resp num message e g.0 g.1 g.2 g.3 h
     by Running e (Good (Maint message)) g = h
     by Running e BadHeader g = replies _ (grind (arith, sent))
     by Running e (BadData b) g = replies _ (grind (arith, sent))
@@ -240,20 +305,39 @@ sound_on l s e g h = by s.state refl e g
 
 -- ---- what is sent
 
-sound_sent : (l : Limits) (s : StationState) (timer : Timer) → s.state ≡ Running → before_next s < length s.out → IsSound l s
-    → IsSound l (record s { n = cond (s.t == next_number s.n) s.t s.n; t = next_number s.t; reply = Quiet; timer = timer })
+sound_sent : (l : Limits) (s : StationState) (timer : Timer) → s.state ≡ Running
+    → before_next s < length s.out → IsSound l s
+    → IsSound l
+    (record s {
+      n = cond (s.t == next_number s.n) s.t s.n;
+      t = next_number s.t;
+      reply = Quiet;
+      timer = timer;
+    })
 sound_sent l s timer e place h =
     record {
       r_byte = h.r_byte;
-      in_window = window_sent (outgoing s) place (omega (arith, h.out_stored.count, h.out_stored.limit_max)) h.in_window;
+      in_window =
+          window_sent (outgoing s) place (omega (arith, h.out_stored.count, h.out_stored.limit_max))
+          h.in_window;
       out_stored = h.out_stored;
       inbox_stored = h.inbox_stored;
-      fits = fits_any (record s { n = cond (s.t == next_number s.n) s.t s.n; t = next_number s.t; reply = Quiet; timer = timer }) (ap is_starting e) (running_other s.state e) refl;
+      fits =
+          fits_any
+          (record s {
+            n = cond (s.t == next_number s.n) s.t s.n;
+            t = next_number s.t;
+            reply = Quiet;
+            timer = timer;
+          }) (ap is_starting e) (running_other s.state e) refl;
     }
 
-sound_rest : (l : Limits) (s : StationState) (message : List ℕ) (rest : List (List ℕ)) → s.state ≡ Maintenance → s.out ≡ message ∷ rest → IsSound l s → IsSound l (record s { out = rest })
+sound_rest : (l : Limits) (s : StationState) (message : List ℕ) (rest : List (List ℕ))
+    → s.state ≡ Maintenance → s.out ≡ message ∷ rest → IsSound l s
+    → IsSound l (record s { out = rest })
 sound_rest l s message rest e o h =
-    let all : IsStored l.window l.longest (drop 1 s.out) = stored_drop l.window l.longest 1 s.out h.out_stored in
+    let all : IsStored l.window l.longest (drop 1 s.out) =
+    stored_drop l.window l.longest 1 s.out h.out_stored in
     record {
       r_byte = h.r_byte;
       in_window = window_popped (outgoing s) rest (h.fits.maintenance_n e) h.in_window;
@@ -269,7 +353,8 @@ sound_rest l s message rest e o h =
       };
     }
 
-sound_turn : (l : Limits) (s : StationState) (t : Next) → SentFor s t → IsSound l s → IsSound l (after_next t s)
+sound_turn : (l : Limits) (s : StationState) (t : Next) → SentFor s t → IsSound l s
+    → IsSound l (after_next t s)
 sound_turn l s _ (sends_strt p d) h = same_state l s false s.reply s.rep Fresh h.fits.sent_reply h
 sound_turn l s _ (sends_stack p d) h = same_state l s false s.reply s.rep Fresh h.fits.sent_reply h
 sound_turn l s _ (sends_nak c p r) h = same_state l s s.due Quiet s.rep s.timer refl h
@@ -303,9 +388,11 @@ sound_expired l s h = at s.timer
     at On = by s.state
 
 pub sound_armed : (l : Limits) (s : StationState) → IsSound l s → IsSound l (after_take_arm s)
-sound_armed l s h = same_state l s s.due s.reply s.rep (cond (is_fresh s.timer) On s.timer) h.fits.sent_reply h
+sound_armed l s h =
+    same_state l s s.due s.reply s.rep (cond (is_fresh s.timer) On s.timer) h.fits.sent_reply h
 
-accepts : (l : Limits) (s : StationState) (message : List ℕ) → is_starting s.state ≡ false → length s.out < l.window → 1 ≤ length message → length message ≤ l.longest
+accepts : (l : Limits) (s : StationState) (message : List ℕ) → is_starting s.state ≡ false
+    → length s.out < l.window → 1 ≤ length message → length message ≤ l.longest
     → IsSound l s → IsSound l (after_accept s message)
 accepts l s message e room low high h =
     record {
@@ -337,16 +424,20 @@ maintains_only AStart e = absurd (cc)
 maintains_only Running e = refl
 maintains_only Maintenance e = refl
 
-pub sound_accepted : (l : Limits) (s : StationState) (message : List ℕ) → may_send l s message ≡ true → IsSound l s → IsSound l (after_accept s message)
+pub sound_accepted : (l : Limits) (s : StationState) (message : List ℕ)
+    → may_send l s message ≡ true → IsSound l s → IsSound l (after_accept s message)
 sound_accepted l s message e h =
     let p : is_running s.state ≡ true = grind (arith) in
-    let f : (length s.out < l.window) × (1 ≤ length message) × (length message ≤ l.longest) = grind (arith) in
+    let f : (length s.out < l.window) × (1 ≤ length message) × (length message ≤ l.longest) =
+    grind (arith) in
     accepts l s message (runs_only s.state p) f.0 f.1 f.2 h
 
-pub sound_accepted_maintenance : (l : Limits) (s : StationState) (message : List ℕ) → may_send_maintenance l s message ≡ true → IsSound l s → IsSound l (after_accept s message)
+pub sound_accepted_maintenance : (l : Limits) (s : StationState) (message : List ℕ)
+    → may_send_maintenance l s message ≡ true → IsSound l s → IsSound l (after_accept s message)
 sound_accepted_maintenance l s message e h =
     let p : is_maintenance s.state ≡ true = grind (arith) in
-    let f : (length s.out < l.window) × (1 ≤ length message) × (length message ≤ l.longest) = grind (arith) in
+    let f : (length s.out < l.window) × (1 ≤ length message) × (length message ≤ l.longest) =
+    grind (arith) in
     accepts l s message (maintains_only s.state p) f.0 f.1 f.2 h
 
 pub sound_taken : (l : Limits) (s : StationState) → IsSound l s → IsSound l (after_take s)

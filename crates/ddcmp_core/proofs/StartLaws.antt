@@ -1,5 +1,6 @@
 -- What an end does at startup, and what it sends.
-use Rattle.std.proofs.Common.{◌≡◌, ◌≢◌, ℕ, ◌+◌, ◌-◌, ◌%◌, ◌<◌, ◌≤◌, Bool, true, false, cond, List, length, refl, sym, ◌∙◌, ap, subst, arith}
+use Rattle.std.proofs.Common.{◌≡◌, ◌≢◌, ℕ, ◌+◌, ◌-◌, ◌%◌, ◌<◌, ◌≤◌, Bool, true, false, cond, List}
+use Rattle.std.proofs.Common.{length, refl, sym, ◌∙◌, ap, subst, arith}
 use Rattle.std.specs.Prelude.{◌==◌}
 use Rattle.ddcmp_frame.specs.declared.nak.Nak.{Nak as Reason}
 use Rattle.ddcmp_frame.specs.declared.nak.Nak.TheVariants as reason
@@ -9,14 +10,22 @@ use Rattle.ddcmp_frame.specs.Spelling.{IsInRange}
 use Rattle.ddcmp_window.specs.Numbers.{is_within, next_number}
 use Rattle.ddcmp_window.specs.Sender.{Outgoing}
 use Rattle.ddcmp_core.specs.declared.state.State.{State}
-use Rattle.ddcmp_core.specs.declared.state.State.TheVariants.{Halted, IStart, AStart, Running, Maintenance}
+use Rattle.ddcmp_core.specs.declared.state.State.TheVariants.{Halted, IStart, AStart, Running}
+use Rattle.ddcmp_core.specs.declared.state.State.TheVariants.{Maintenance}
 use Rattle.ddcmp_core.specs.declared.state.Timer.{Timer}
 use Rattle.ddcmp_core.specs.declared.state.Timer.TheVariants.{Off, Fresh, On}
-use Rattle.ddcmp_core.specs.Table.{StationState, Limits, Frame, Data, Acked, Naked, Rep, Strt, Stack, Maint, Received, Good, BadHeader, BadData, TooLong, BadFormat, before_next, after_ack, on_data, on_nak, on_by, on, after_startup, after_halt, after_restart, may_restart, on_strt, after_expire_in, after_expire_with, after_expire, is_starting, Next, Idle, Sends, next, after_next}
+use Rattle.ddcmp_core.specs.Table.{StationState, Limits, Frame, Data, Acked, Naked, Rep, Strt}
+use Rattle.ddcmp_core.specs.Table.{Stack, Maint, Received, Good, BadHeader, BadData, TooLong}
+use Rattle.ddcmp_core.specs.Table.{BadFormat, before_next, after_ack, on_data, on_nak, on_by, on}
+use Rattle.ddcmp_core.specs.Table.{after_startup, after_halt, after_restart, may_restart, on_strt}
+use Rattle.ddcmp_core.specs.Table.{after_expire_in, after_expire_with, after_expire, is_starting}
+use Rattle.ddcmp_core.specs.Table.{Next, Idle, Sends, next, after_next}
 use Rattle.ddcmp_core.specs.Frames.{frame_of, header_of, message_of}
 use Rattle.ddcmp_core.specs.Core.{IsSound, is_sent_reason, is_sent_reply}
 use Rattle.ddcmp_core.specs.Laws.{BeginsRunning, IsSentInWindow, HasNothing}
-use Rattle.ddcmp_core.specs.NextFrame.{SentFor, sends_strt, sends_stack, sends_nak, sends_rep, sends_data, sends_ack, sends_maint, halted_idles, starting_idles, running_idles, maintenance_idles}
+use Rattle.ddcmp_core.specs.NextFrame.{SentFor, sends_strt, sends_stack, sends_nak, sends_rep}
+use Rattle.ddcmp_core.specs.NextFrame.{sends_data, sends_ack, sends_maint, halted_idles}
+use Rattle.ddcmp_core.specs.NextFrame.{starting_idles, running_idles, maintenance_idles}
 use Rattle.ddcmp_core.proofs.Sent.{sending}
 
 -- ---- states
@@ -24,22 +33,28 @@ use Rattle.ddcmp_core.proofs.Sent.{sending}
 nak_state : (s : StationState) (q : ℕ) → (on_nak s q).state ≡ s.state
 nak_state s q = by (is_within s.a q s.n)
   where
-    by : (b : Bool) → (cond b (record (after_ack s q) { t = next_number (after_ack s q).a; rep = false; timer = Off }) s).state ≡ s.state
+    by : (b : Bool)
+        → (cond b
+        (record (after_ack s q) { t = next_number (after_ack s q).a; rep = false; timer = Off })
+        s).state ≡ s.state
     by true = refl
     by false = refl
 
-strt_state : (l : Limits) (s : StationState) (p : State) → (Halted ≡ p → ⊥) → (AStart ≡ p → ⊥) → (on_strt l s).state ≡ p → ⊥
+strt_state : (l : Limits) (s : StationState) (p : State) → (Halted ≡ p → ⊥) → (AStart ≡ p → ⊥)
+    → (on_strt l s).state ≡ p → ⊥
 strt_state l s p no_halt no_astart = by (may_restart l s)
   where
     by : (b : Bool) → (cond b (after_restart s) (after_halt s)).state ≡ p → ⊥
     by true e = no_astart e
     by false e = no_halt e
 
-pub istart_stays : (l : Limits) (s : StationState) (h : Received) → (on l s h).state ≡ IStart → s.state ≡ IStart
+pub istart_stays : (l : Limits) (s : StationState) (h : Received) → (on l s h).state ≡ IStart
+    → s.state ≡ IStart
 unfolding on
 istart_stays l s h = by s.state refl h
   where
-    by : (p : State) → s.state ≡ p → (h : Received) → (on_by p l s h).state ≡ IStart → s.state ≡ IStart
+    by : (p : State) → s.state ≡ p → (h : Received) → (on_by p l s h).state ≡ IStart
+        → s.state ≡ IStart
     by Halted e h i = i
     by IStart e h i = e
     by AStart e (Good Strt) i = i
@@ -51,7 +66,8 @@ istart_stays l s h = by s.state refl h
         go false i = i
     by AStart e (Good (Data resp num message)) i = go (resp == 0) i
       where
-        go : (b : Bool) → (cond b (on_data l (after_startup s) resp num message) s).state ≡ IStart → s.state ≡ IStart
+        go : (b : Bool) → (cond b (on_data l (after_startup s) resp num message) s).state ≡ IStart
+            → s.state ≡ IStart
         go true i = absurd (cc i)
         go false i = i
     by AStart e h i = i
@@ -69,11 +85,13 @@ istart_stays l s h = by s.state refl h
     by Maintenance e (Good (Maint message)) i = i
     by Maintenance e h i = i
 
-pub begins_running : (l : Limits) (s : StationState) (h : Received) → s.state ≢ Running → (on l s h).state ≡ Running → BeginsRunning s.state h
+pub begins_running : (l : Limits) (s : StationState) (h : Received) → s.state ≢ Running
+    → (on l s h).state ≡ Running → BeginsRunning s.state h
 unfolding on
 begins_running l s h n = by s.state refl h
   where
-    by : (p : State) → s.state ≡ p → (h : Received) → (on_by p l s h).state ≡ Running → BeginsRunning p h
+    by : (p : State) → s.state ≡ p → (h : Received) → (on_by p l s h).state ≡ Running
+        → BeginsRunning p h
     by Halted e h i = absurd (n i)
     by IStart e (Good Strt) i = absurd (cc i)
     by IStart e (Good Stack) i = tt
@@ -87,7 +105,8 @@ begins_running l s h n = by s.state refl h
         go false z i = absurd (n i)
     by AStart e (Good (Data resp num message)) i = go (resp == 0) refl i
       where
-        go : (b : Bool) → (resp == 0) ≡ b → (cond b (on_data l (after_startup s) resp num message) s).state ≡ Running → resp ≡ 0
+        go : (b : Bool) → (resp == 0) ≡ b
+            → (cond b (on_data l (after_startup s) resp num message) s).state ≡ Running → resp ≡ 0
         go true z i = grind (arith)
         go false z i = absurd (n i)
     by AStart e h i = absurd (n i)
@@ -152,7 +171,8 @@ strt_turn s _ (starting_idles p d) = tt
 strt_turn s _ (running_idles p r f place) = tt
 strt_turn s _ (maintenance_idles p o) = tt
 
-pub sent_in_state : (s : StationState) (f : Frame) (u : StationState) → next s ≡ Sends f u → StrtIn s f
+pub sent_in_state : (s : StationState) (f : Frame) (u : StationState) → next s ≡ Sends f u
+    → StrtIn s f
 sent_in_state s f u e = subst (OfFrame (StrtIn s)) e (strt_turn s (next s) (sending s))
 
 abbrev pub DataIn : StationState → Frame → Type 0
@@ -162,13 +182,22 @@ DataIn s _ = Unit {0}
 number_of : (a t : ℕ) → a < 256 → t < 256 → t ≡ (a + ((t + 511 - a) % 256 + 1)) % 256
 number_of a t ha ht = omega arith
 
-data_turn : (l : Limits) (s : StationState) (t : Next) → IsSound l s → SentFor s t → OfFrame (DataIn s) t
+data_turn : (l : Limits) (s : StationState) (t : Next) → IsSound l s → SentFor s t
+    → OfFrame (DataIn s) t
 data_turn l s _ h (sends_strt p d) = tt
 data_turn l s _ h (sends_stack p d) = tt
 data_turn l s _ h (sends_nak c p r) = tt
 data_turn l s _ h (sends_rep p r f) = tt
-data_turn l s _ h (sends_data p r f place) =
-    (refl, record { place = place; message_at = refl; number = number_of s.a s.t h.in_window.a_byte h.in_window.t_byte; within = h.in_window.next_sent })
+data_turn l s _ h (sends_data p r f place) = (
+  refl,
+  record {
+    place = place;
+    message_at = refl;
+    number =
+        number_of s.a s.t h.in_window.a_byte h.in_window.t_byte;
+    within = h.in_window.next_sent;
+  },
+)
 data_turn l s _ h (sends_ack p r f place) = tt
 data_turn l s _ h (sends_maint m ms p o) = tt
 data_turn l s _ h (halted_idles p) = tt
@@ -176,14 +205,20 @@ data_turn l s _ h (starting_idles p d) = tt
 data_turn l s _ h (running_idles p r f place) = tt
 data_turn l s _ h (maintenance_idles p o) = tt
 
-pub data_sent : (l : Limits) (s : StationState) (resp num : ℕ) (message : List ℕ) (u : StationState) → IsSound l s → next s ≡ Sends (Data resp num message) u → (resp ≡ s.r) × IsSentInWindow s num message
-data_sent l s resp num message u h e = subst (OfFrame (DataIn s)) e (data_turn l s (next s) h (sending s))
+pub data_sent : (l : Limits) (s : StationState) (resp num : ℕ) (message : List ℕ) (u : StationState)
+    → IsSound l s → next s ≡ Sends (Data resp num message) u
+    → (resp ≡ s.r) × IsSentInWindow s num message
+data_sent l s resp num message u h e =
+    subst (OfFrame (DataIn s)) e (data_turn l s (next s) h (sending s))
 
 -- a frame that is sent is read as the frame that it is
 abbrev pub IsRead : Limits → Frame → Type 0
-IsRead l f = (frame_of (header_of f) (message_of f) ≡ f) × IsFrame (header_of f) (message_of f) × IsInRange (header_of f) × (length (message_of f) ≤ l.longest)
+IsRead l f =
+    (frame_of (header_of f) (message_of f) ≡ f) × IsFrame (header_of f) (message_of f)
+    × IsInRange (header_of f) × (length (message_of f) ≤ l.longest)
 
-reason_read : (why : Reason) → is_sent_reason why ≡ true → (reason_of (subtype_of why) ≡ why) × (subtype_of why < 64)
+reason_read : (why : Reason) → is_sent_reason why ≡ true
+    → (reason_of (subtype_of why) ≡ why) × (subtype_of why < 64)
 reason_read reason.HeaderCheck e = (refl, omega arith)
 reason_read reason.DataCheck e = (refl, omega arith)
 reason_read reason.ReplyToRep e = (refl, omega arith)
@@ -193,7 +228,8 @@ reason_read reason.TooLong e = (refl, omega arith)
 reason_read reason.Format e = (refl, omega arith)
 reason_read (reason.Other n) e = absurd (cc e)
 
-read_turn : (l : Limits) (s : StationState) (t : Next) → IsSound l s → SentFor s t → OfFrame (IsRead l) t
+read_turn : (l : Limits) (s : StationState) (t : Next) → IsSound l s → SentFor s t
+    → OfFrame (IsRead l) t
 read_turn l s _ h (sends_strt p d) = (refl, refl, omega arith, omega arith)
 read_turn l s _ h (sends_stack p d) = (refl, refl, omega arith, omega arith)
 read_turn l s _ h (sends_nak why p r) =
@@ -215,12 +251,14 @@ read_turn l s _ h (starting_idles p d) = tt
 read_turn l s _ h (running_idles p r f place) = tt
 read_turn l s _ h (maintenance_idles p o) = tt
 
-pub read_sent : (l : Limits) (s : StationState) (f : Frame) (u : StationState) → IsSound l s → next s ≡ Sends f u → IsRead l f
+pub read_sent : (l : Limits) (s : StationState) (f : Frame) (u : StationState) → IsSound l s
+    → next s ≡ Sends f u → IsRead l f
 read_sent l s f u h e = subst (OfFrame (IsRead l)) e (read_turn l s (next s) h (sending s))
 
 -- ---- startup and maintenance
 
-pub nothing_at_start : (l : Limits) (s : StationState) → IsSound l s → is_starting s.state ≡ true → HasNothing s
+pub nothing_at_start : (l : Limits) (s : StationState) → IsSound l s → is_starting s.state ≡ true
+    → HasNothing s
 nothing_at_start l s h e =
     let o = h.fits.starting_out e in
     record {
@@ -232,5 +270,6 @@ nothing_at_start l s h e =
       inbox = h.fits.starting_inbox e;
     }
 
-pub maintenance_pops : (l : Limits) (s : StationState) → IsSound l s → s.state ≡ Maintenance → (s.a ≡ s.n) × (s.t ≡ next_number s.a)
+pub maintenance_pops : (l : Limits) (s : StationState) → IsSound l s → s.state ≡ Maintenance
+    → (s.a ≡ s.n) × (s.t ≡ next_number s.a)
 maintenance_pops l s h e = (h.fits.maintenance_n e, h.fits.maintenance_t e)

@@ -13,7 +13,8 @@ use Rattle.ddcmp_core.specs.declared.state.State.TheVariants.{Running, Maintenan
 use Rattle.ddcmp_core.specs.declared.state.Owed.{Owed}
 use Rattle.ddcmp_core.specs.declared.state.Owed.TheVariants.{Quiet, Ack, Nak}
 use Rattle.ddcmp_core.specs.declared.state.Timer.TheVariants.{Off}
-use Rattle.ddcmp_core.specs.Table.{Limits, StationState, Data, Acked, Naked, Maint, Received, Good, outgoing, is_starting}
+use Rattle.ddcmp_core.specs.Table.{Limits, StationState, Data, Acked, Naked, Maint, Received, Good}
+use Rattle.ddcmp_core.specs.Table.{outgoing, is_starting}
 
 pub record CoreView : Type 0 where
   pub limits : Limits

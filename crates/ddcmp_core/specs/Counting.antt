@@ -6,8 +6,11 @@ use Rattle.ddcmp_window.specs.Numbers.{next_number}
 use Rattle.ddcmp_core.specs.declared.counters.NakCounts.{NakCounts}
 use Rattle.ddcmp_core.specs.declared.counters.Counters.{Counters}
 use Rattle.ddcmp_core.specs.declared.state.State.{State}
-use Rattle.ddcmp_core.specs.declared.state.State.TheVariants.{Halted, IStart, AStart, Running, Maintenance}
-use Rattle.ddcmp_core.specs.Table.{Limits, StationState, Data, Naked, Rep, Maint, Received, Good, BadHeader, BadData, TooLong, BadFormat, Next, Sends, takes_data, has_room, is_on}
+use Rattle.ddcmp_core.specs.declared.state.State.TheVariants.{Halted, IStart, AStart, Running}
+use Rattle.ddcmp_core.specs.declared.state.State.TheVariants.{Maintenance}
+use Rattle.ddcmp_core.specs.Table.{Limits, StationState, Data, Naked, Rep, Maint, Received, Good}
+use Rattle.ddcmp_core.specs.Table.{BadHeader, BadData, TooLong, BadFormat, Next, Sends, takes_data}
+use Rattle.ddcmp_core.specs.Table.{has_room, is_on}
 
 -- a counter after k more: it stays at its largest value
 abbrev pub count_plus : ℕ → ℕ → ℕ

@@ -10,7 +10,8 @@ use Rattle.ddcmp_frame.specs.Naks.{reason_of, subtype_of}
 use Rattle.ddcmp_frame.specs.Wire.{IsFrame}
 use Rattle.ddcmp_core.specs.declared.input.Input.{Input}
 use Rattle.ddcmp_core.specs.declared.input.Input.TheVariants as input
-use Rattle.ddcmp_core.specs.Table.{Frame, Data, Acked, Naked, Rep, Strt, Stack, Maint, Received, Good, BadHeader, BadData, TooLong, BadFormat}
+use Rattle.ddcmp_core.specs.Table.{Frame, Data, Acked, Naked, Rep, Strt, Stack, Maint, Received}
+use Rattle.ddcmp_core.specs.Table.{Good, BadHeader, BadData, TooLong, BadFormat}
 
 -- ---- as the table reads them
 

@@ -1,11 +1,14 @@
 -- What is sent next, by cases with their reasons.
 use Rattle.std.specs.Prelude.{◌≡◌, ℕ, ◌<◌, ◌≤◌, Bool, true, false, List, [], ◌∷◌, length}
 use Rattle.ddcmp_frame.specs.declared.nak.Nak.{Nak as Reason}
-use Rattle.ddcmp_core.specs.declared.state.State.TheVariants.{Halted, IStart, AStart, Running, Maintenance}
+use Rattle.ddcmp_core.specs.declared.state.State.TheVariants.{Halted, IStart, AStart, Running}
+use Rattle.ddcmp_core.specs.declared.state.State.TheVariants.{Maintenance}
 use Rattle.ddcmp_core.specs.declared.state.Owed.{Owed}
 use Rattle.ddcmp_core.specs.declared.state.Owed.TheVariants.{Quiet, Ack, Nak}
 use Rattle.ddcmp_core.specs.declared.state.Timer.TheVariants.{Fresh}
-use Rattle.ddcmp_core.specs.Table.{StationState, Data, Acked, Naked, Rep, Strt, Stack, Maint, Next, Idle, Sends, before_next, message_at_next, after_data, is_starting}
+use Rattle.ddcmp_core.specs.Table.{StationState, Data, Acked, Naked, Rep, Strt, Stack, Maint, Next}
+use Rattle.ddcmp_core.specs.Table.{Idle, Sends, before_next, message_at_next, after_data}
+use Rattle.ddcmp_core.specs.Table.{is_starting}
 
 abbrev pub is_nak : Owed → Bool
 is_nak (Nak why) = true

@@ -1,5 +1,7 @@
 -- The station's table: its state, the user's calls, what comes in each state, and what is sent.
-use Rattle.std.specs.Prelude.{ℕ, Bool, true, false, ◌&&◌, if◌then◌else◌, nat_lt, ◌==◌, List, [], ◌∷◌, ◌++◌, length, slice_index_or, Option, Some, None, is_none, Result}
+use Rattle.std.specs.Prelude.{ℕ, Bool, true, false, ◌&&◌, if◌then◌else◌, nat_lt, ◌==◌, List, []}
+use Rattle.std.specs.Prelude.{◌∷◌, ◌++◌, length, slice_index_or, Option, Some, None, is_none}
+use Rattle.std.specs.Prelude.{Result}
 use Rattle.ddcmp_num.specs.declared.seq.Seq.{Seq}
 use Rattle.ddcmp_frame.specs.declared.nak.Nak.{Nak as Reason}
 use Rattle.ddcmp_frame.specs.declared.nak.Nak.TheVariants as reason
@@ -8,10 +10,14 @@ use Rattle.ddcmp_window.specs.declared.sender.SendRefusal.TheVariants.{WrongStat
 use Rattle.ddcmp_window.specs.declared.inbox.Offer.{Offer}
 use Rattle.ddcmp_window.specs.declared.inbox.Offer.TheVariants as offer
 use Rattle.ddcmp_window.specs.Numbers.{is_within, next_number}
-use Rattle.ddcmp_window.specs.Sender.{Outgoing, outgoing_before_next, accept_refusal, number_accepted, answer_unless, count_acknowledged, outgoing_after_ack}
-use Rattle.ddcmp_window.specs.Inbox.{Incoming, answer_to_offer, incoming_after_offer, incoming_after_put, incoming_after_take, may_receive}
+use Rattle.ddcmp_window.specs.Sender.{Outgoing, outgoing_before_next, accept_refusal}
+use Rattle.ddcmp_window.specs.Sender.{number_accepted, answer_unless, count_acknowledged}
+use Rattle.ddcmp_window.specs.Sender.{outgoing_after_ack}
+use Rattle.ddcmp_window.specs.Inbox.{Incoming, answer_to_offer, incoming_after_offer}
+use Rattle.ddcmp_window.specs.Inbox.{incoming_after_put, incoming_after_take, may_receive}
 use Rattle.ddcmp_core.specs.declared.state.State.{State}
-use Rattle.ddcmp_core.specs.declared.state.State.TheVariants.{Halted, IStart, AStart, Running, Maintenance}
+use Rattle.ddcmp_core.specs.declared.state.State.TheVariants.{Halted, IStart, AStart, Running}
+use Rattle.ddcmp_core.specs.declared.state.State.TheVariants.{Maintenance}
 use Rattle.ddcmp_core.specs.declared.state.Owed.{Owed}
 use Rattle.ddcmp_core.specs.declared.state.Owed.TheVariants.{Quiet, Ack, Nak}
 use Rattle.ddcmp_core.specs.declared.state.Timer.{Timer}

@@ -1,5 +1,5 @@
 //! Counters of what a station did and saw.
-ghost use Rattle.std.specs.Prelude.{◌≡◌, ◌≤◌, length};
+ghost use Rattle.std.specs.Prelude.{◌≡◌, ◌≤◌};
 ghost use Rattle.ddcmp_core.specs.Counting.{count_plus, nak_counts_after, counters_after_sent};
 ghost use Rattle.ddcmp_core.specs.Counting.{counters_after_again, counters_after_up};
 ghost use Rattle.ddcmp_core.specs.Counting.{counters_after_fault, no_naks, no_counts};

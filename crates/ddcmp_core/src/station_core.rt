@@ -63,7 +63,7 @@ impl<S: Store + Drop> Drop for Core<S> {
 }
 
 impl<S: Store> Model for Core<S> {
-    ghost use Rattle.std.specs.Prelude.{◌≡◌, ℕ};
+    ghost use Rattle.std.specs.Prelude.{◌≡◌};
     ghost use Rattle.ddcmp_window.specs.Sender.{IsSoundSender};
     ghost use Rattle.ddcmp_window.specs.Inbox.{IsSoundInbox};
     ghost use Rattle.ddcmp_core.specs.Core.{CoreView, FitsState, state_of};
@@ -87,7 +87,7 @@ impl<S: Store> Model for Core<S> {
 }
 
 impl<S: Store> Core<S> {
-    ghost use Rattle.std.specs.Prelude.{◌≡◌, ◌≢◌, ◌↔◌, ◌+◌, ◌*◌, ◌<◌, ◌≤◌, [], length, sum_by};
+    ghost use Rattle.std.specs.Prelude.{◌≡◌, ◌↔◌, ◌+◌, ◌*◌, ◌<◌, ◌≤◌, [], length, sum_by};
     ghost use Rattle.std.specs.Prelude.{slice_index_or, IsTrue, Some, Ok, Err, OnErr, option_map};
     ghost use Rattle.std.specs.Prelude.{if◌then◌else◌};
     ghost use Rattle.ddcmp_window.specs.Store.{first_message, with_front};

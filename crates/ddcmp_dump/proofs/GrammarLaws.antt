@@ -5,13 +5,11 @@ use Rattle.std.specs.Prelude.{◌==◌, ◌||◌, if◌then◌else◌}
 use Rattle.std.specs.Char.{is_ascii_hexdigit}
 use Rattle.std.specs.List.{All, filter}
 use Rattle.std.proofs.lemmas.List.Elements.{All-head, All-tail}
-use Rattle.ddcmp_dump.specs.declared.place.Kind.{Kind}
 use Rattle.ddcmp_dump.specs.declared.place.Kind.TheVariants as kind
 use Rattle.ddcmp_dump.specs.declared.place.Place.{Place}
 use Rattle.ddcmp_dump.specs.declared.place.Place.TheVariants.{Start, Address, Blanks, High, Low}
 use Rattle.ddcmp_dump.specs.declared.place.Place.TheVariants.{Colon, Gap, First, Second, Third}
-use Rattle.ddcmp_dump.specs.declared.place.Place.TheVariants.{Fourth, Text, Return, Refused}
-use Rattle.ddcmp_dump.specs.declared.place.Place.TheVariants.{LeftOut}
+use Rattle.ddcmp_dump.specs.declared.place.Place.TheVariants.{Fourth, Text, Return}
 use Rattle.ddcmp_dump.specs.Dump.{kind_of_byte, place_of_kind, place_after, shown_at, shown_from}
 use Rattle.ddcmp_dump.specs.Dump.{place_from, text_then}
 use Rattle.ddcmp_dump.specs.Grammar.{IsDigit, IsOneLine, Bytes, NoByte, Blank, Byte, Column, Groups}

@@ -16,7 +16,6 @@ use Rattle.ddcmp_io.specs.declared.device.Worst.TheVariants.{Fine}
 use Rattle.ddcmp_io.specs.Input.{GaveMost}
 use Rattle.ddcmp_explain.specs.declared.dump_fault.DumpFault.{DumpFault}
 use Rattle.ddcmp_explain.specs.declared.dump_fault.DumpFault.TheVariants as dumping
-use Rattle.ddcmp_explain.specs.declared.explain_fault.ExplainFault.{ExplainFault}
 use Rattle.ddcmp_explain.specs.declared.explain_fault.ExplainFault.TheVariants.{Odd, NotHex, Read}
 use Rattle.ddcmp_explain.specs.declared.explain_fault.ExplainFault.TheVariants.{Write, Memory}
 use Rattle.ddcmp_explain.specs.declared.form.Form.{Form}

@@ -6,11 +6,10 @@ use Rattle.std.proofs.lemmas.Grind.{flat_map-append}
 use Rattle.ddcmp_frame.specs.Reading.{ReadItem, Place, items}
 use Rattle.ddcmp_frame.specs.Step.{item_offset}
 use Rattle.ddcmp_explain.specs.declared.notation.Notation.{Notation}
-use Rattle.ddcmp_explain.specs.declared.style.Style.{Style}
 use Rattle.ddcmp_explain.specs.Output.{lines, line_in}
 use Rattle.ddcmp_explain.specs.Discarded.{Part, Told, behind, passed, parts_from, reached}
-use Rattle.ddcmp_explain.specs.Discarded.{part_line, part_lines, lines_by, lines_in, open_header}
-use Rattle.ddcmp_explain.specs.Discarded.{open_text, opened, passed_text}
+use Rattle.ddcmp_explain.specs.Discarded.{part_line, part_lines, lines_by, open_header, open_text}
+use Rattle.ddcmp_explain.specs.Discarded.{opened, passed_text}
 use Rattle.std.proofs.lemmas.List.{append-nil}
 use Rattle.ddcmp_frame.proofs.Tests.{ltb-is, ltb-isnt}
 

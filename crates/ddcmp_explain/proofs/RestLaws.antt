@@ -1,13 +1,12 @@
 -- What one more byte leaves open at the end of a text.
 use Rattle.std.proofs.Common.{◌≡◌, ◌⊎◌, inl, inr, ℕ, zero, suc, ◌+◌, ◌-◌, ◌*◌, ◌<◌, ◌≤◌, Bool, true}
 use Rattle.std.proofs.Common.{false, List, [], ◌∷◌, ◌++◌, length, take, drop, refl, sym, ◌∙◌, ap}
-use Rattle.std.proofs.Common.{subst, arith, Option, Some, None, length-append, slice_index, Ok}
+use Rattle.std.proofs.Common.{arith, Option, Some, None, length-append, slice_index, Ok}
 use Rattle.std.specs.Prelude.{nat_lt, if◌then◌else◌}
 use Rattle.std.proofs.lemmas.List.{take-append-le, drop-append-le, get_or_append_left}
 use Rattle.ddcmp_frame.specs.declared.header.Header.{Header}
-use Rattle.ddcmp_frame.specs.declared.header.HeaderFault.{HeaderFault}
-use Rattle.ddcmp_frame.specs.Reading.{ReadItem, Place, row, weight, read, with_more, ending}
-use Rattle.ddcmp_frame.specs.Reading.{by_length, by_count, by_verdict, is_start, count_of}
+use Rattle.ddcmp_frame.specs.Reading.{Place, row, weight, read, with_more, ending, by_length}
+use Rattle.ddcmp_frame.specs.Reading.{by_count, is_start}
 use Rattle.ddcmp_frame.specs.Spelling.{parsed}
 use Rattle.ddcmp_frame.proofs.RowsLaws as rows
 use Rattle.ddcmp_frame.proofs.ReadingLaws.{Row, Counts, Waits, drop-drop, row-falls, row-by}

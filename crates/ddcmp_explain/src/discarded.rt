@@ -1,11 +1,10 @@
 //! The lines of bytes that no item takes.
-ghost use Rattle.std.specs.Prelude.{◌≡◌, ◌+◌, ◌≤◌, ◌++◌, Option, codes, decimal};
-ghost use Rattle.std.specs.Option.{option_map};
+ghost use Rattle.std.specs.Prelude.{◌≡◌, ◌+◌, ◌≤◌, Option};
 ghost use Rattle.ddcmp_frame.specs.Reader.{frame_length as length_of};
 ghost use Rattle.ddcmp_io.specs.Written.{HandsOver, output_of};
 ghost use Rattle.ddcmp_explain.specs.Discarded.{open_end, open_front};
-ghost use Rattle.ddcmp_explain.specs.Discarded.{open_length as length_of_open};
-ghost use Rattle.ddcmp_explain.specs.Discarded.{open_text, passed_text};
+ghost use Rattle.ddcmp_explain.specs.Discarded.{open_length as length_of_open, open_text};
+ghost use Rattle.ddcmp_explain.specs.Discarded.{passed_text};
 ghost use Rattle.ddcmp_explain.specs.Putting.{Puts};
 
 use crate::json::{put_header as put_json_header, put_start};

@@ -1,6 +1,6 @@
 //! Explaining an input, piece by piece.
 ghost use Rattle.std.specs.Prelude.{◌≡◌, ◌≢◌, ◌⊎◌, ◌↔◌, ◌+◌, ◌-◌, ◌<◌, ◌≤◌, ◌^◌, ◌++◌, [], false};
-ghost use Rattle.std.specs.Prelude.{Bool, List, ℕ, Option, length, IsTrue};
+ghost use Rattle.std.specs.Prelude.{List, ℕ, Option, length, IsTrue};
 ghost use Rattle.std.specs.Io.KnownBytes.{Consumes, IsAtEnd};
 ghost use Rattle.ddcmp_frame.specs.Reader.{StandsFor};
 ghost use Rattle.ddcmp_explain.specs.Explains.{Tells};

@@ -1,5 +1,5 @@
 //! The short labels of frames, for pictures.
-ghost use Rattle.std.specs.Prelude.{◌≡◌, ◌+◌, ◌≤◌, ◌++◌, codes, decimal, if◌then◌else◌, ◌==◌};
+ghost use Rattle.std.specs.Prelude.{◌+◌, ◌≤◌, ◌++◌, codes, decimal, if◌then◌else◌, ◌==◌};
 ghost use Rattle.ddcmp_explain.specs.Label.{control_label, count_label, frame_label, item_label};
 ghost use Rattle.ddcmp_explain.specs.Putting.{Puts};
 

@@ -4,6 +4,7 @@ pub mod RowsLaws
 pub mod ReadingLaws
 pub mod PushLaws
 pub mod ScanLaws
+pub mod PartLaws
 pub mod WireLaws
 pub mod FrameLaws
 pub mod PutLaws

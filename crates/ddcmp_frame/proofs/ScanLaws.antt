@@ -1,29 +1,38 @@
 -- What bytes of a piece do to what a scan holds.
-use Rattle.std.proofs.Common.{◌≡◌, ℕ, zero, suc, ◌+◌, ◌-◌, ◌<◌, ◌≤◌, Bool, true, false, List, [], ◌∷◌, ◌++◌, length, take, drop, slice_index, refl, sym, ◌∙◌, ap, subst, arith, Ok, Err, Some, None, Option, ◌⊎◌, inl, inr, append_assoc, append-nil, length-append, length-drop}
+use Rattle.std.proofs.Common.{◌≡◌, ℕ, zero, suc, ◌+◌, ◌-◌, ◌<◌, ◌≤◌, Bool, true, false, List, []}
+use Rattle.std.proofs.Common.{◌∷◌, ◌++◌, length, take, drop, slice_index, refl, sym, ◌∙◌, ap, subst}
+use Rattle.std.proofs.Common.{arith, Ok, Err, Some, None, Option, inl, inr, append_assoc}
+use Rattle.std.proofs.Common.{append-nil, length-append, length-drop}
 use Rattle.std.specs.Prelude.{nat_lt, if◌then◌else◌, vec_capacity}
-use Rattle.std.proofs.lemmas.List.{take-append-le, drop-append-le, drop_all, length-take, length-take-le, take-append-drop, take-take}
-use Rattle.std.proofs.lemmas.Bool.{cases_lt}
-use Rattle.std.proofs.Math.Seq.{take-add}
+use Rattle.std.proofs.lemmas.List.{take-append-le, drop-append-le, drop_all, length-take-le}
+use Rattle.std.proofs.lemmas.List.{take-append-drop}
 use Rattle.ddcmp_num.specs.declared.limits.TheConstants.{MAX_COUNT}
 use Rattle.ddcmp_frame.specs.declared.header.Header.{Header}
 use Rattle.ddcmp_frame.specs.declared.header.HeaderFault.TheVariants.{Check}
 use Rattle.ddcmp_frame.specs.declared.item.Item.{Item}
 use Rattle.ddcmp_frame.specs.declared.item.Item.TheVariants.{Good, HeaderCheck, DataCheck, TooLong}
 use Rattle.ddcmp_frame.specs.declared.scan.Phase.{Phase}
-use Rattle.ddcmp_frame.specs.declared.scan.Phase.TheVariants as phase
 use Rattle.ddcmp_frame.specs.declared.scan.Scan.{Scan}
 use Rattle.ddcmp_frame.specs.Spelling.{is_start, parsed}
 use Rattle.ddcmp_frame.specs.Rows.{outcome_after}
-use Rattle.ddcmp_frame.specs.Reading.{Place, place_after, count_of, data_after_header, is_data_right, by_length, by_count, read, row, items, ending, with_more}
+use Rattle.ddcmp_frame.specs.Reading.{Place, place_after, count_of, data_after_header}
+use Rattle.ddcmp_frame.specs.Reading.{is_data_right, by_length, by_count, read, row, items, ending}
+use Rattle.ddcmp_frame.specs.Reading.{with_more}
 use Rattle.ddcmp_frame.specs.Resume.{from_start}
-use Rattle.ddcmp_frame.specs.Reader.{ReaderView, Summarises, StandsFor, LentBeside, EndsWith, items_given, candidate_length, bytes_to_come, Grows}
-use Rattle.ddcmp_frame.specs.Scan.{IsSoundScan, HasHeader, HasFrame, FitsPhase, bytes_in, skipped_in, left_in, view_of, GrowsBy, TakesPiece, TakesAll}
-use Rattle.ddcmp_frame.proofs.Tests.{ltb-is, ltb-isnt, false-true, some-none}
+use Rattle.ddcmp_frame.specs.Reader.{ReaderView, Summarises, StandsFor, LentBeside, EndsWith}
+use Rattle.ddcmp_frame.specs.Reader.{items_given, candidate_length, bytes_to_come}
+use Rattle.ddcmp_frame.specs.Scan.{IsSoundScan, HasHeader, HasFrame, FitsPhase, bytes_in}
+use Rattle.ddcmp_frame.specs.Scan.{skipped_in, left_in, view_of, GrowsBy, TakesPiece}
+use Rattle.ddcmp_frame.proofs.Tests.{ltb-is, ltb-isnt, false-true}
 use Rattle.ddcmp_frame.proofs.WireLaws.{frame_length-counted}
-use Rattle.ddcmp_frame.proofs.ReadingLaws.{read-none, read-some, read-nothing, items-more, ending-more, ending-offset, ending-suffix, row-nothing, row-passes, row-waits, row-by}
-use Rattle.ddcmp_frame.proofs.PushLaws.{next_place, holding, passing, passed, counts-more, row-told, length_by-counts, when, unless, LossTold}
+use Rattle.ddcmp_frame.proofs.ReadingLaws.{read-none, read-some, read-nothing, items-more}
+use Rattle.ddcmp_frame.proofs.ReadingLaws.{ending-more, ending-offset, ending-suffix, row-nothing}
+use Rattle.ddcmp_frame.proofs.ReadingLaws.{row-passes, row-waits, row-by}
+use Rattle.ddcmp_frame.proofs.PushLaws.{next_place, holding, passing, passed, counts-more, row-told}
+use Rattle.ddcmp_frame.proofs.PushLaws.{length_by-counts, when, unless, LossTold}
 use Rattle.ddcmp_frame.proofs.FrameLaws.{append-cancel}
 use Rattle.ddcmp_frame.proofs.TableLaws.{read-too-long, read-passing}
+use Rattle.ddcmp_frame.specs.declared.scan.Phase.TheVariants as phase
 
 -- ---- a reading that goes on by several bytes
 
@@ -32,13 +41,15 @@ front-nothing [] t e = refl
 front-nothing (a ∷ s) t e = cc
 
 -- where more bytes give no item, no front of them does
-pub quiet-front : (max : ℕ) (text u : List ℕ) (n : ℕ) → items max (text ++ u) ≡ items max text → items max (text ++ take n u) ≡ items max text
+pub quiet-front : (max : ℕ) (text u : List ℕ) (n : ℕ) → items max (text ++ u) ≡ items max text
+    → items max (text ++ take n u) ≡ items max text
 quiet-front max text u n e =
     let front = take n u in
     let back = drop n u in
     let x = (read max (with_more (ending max text) front)).items in
     let y = (read max (with_more (ending max (text ++ front)) back)).items in
-    let whole : text ++ u ≡ (text ++ front) ++ back = ap (λ t. text ++ t) (sym (take-append-drop n u)) ∙ sym (append_assoc text front back) in
+    let whole : text ++ u ≡ (text ++ front) ++ back =
+    ap (λ t. text ++ t) (sym (take-append-drop n u)) ∙ sym (append_assoc text front back) in
     let both : items max text ++ (x ++ y) ≡ items max text ++ [] =
     sym (append_assoc (items max text) x y)
     ∙ ap (λ t. t ++ y) (sym (items-more max text front))
@@ -47,11 +58,13 @@ quiet-front max text u n e =
     ∙ e
     ∙ sym (append-nil (items max text)) in
     items-more max text front
-    ∙ ap (λ t. items max text ++ t) (front-nothing x y (append-cancel (items max text) (x ++ y) [] both))
+    ∙ ap (λ t. items max text ++ t)
+    (front-nothing x y (append-cancel (items max text) (x ++ y) [] both))
     ∙ append-nil (items max text)
 
 -- q is the place from which the bytes are read
-record ReadFrom (v w : ReaderView) (text u : List ℕ) (given : Option Item) (q : Place) : Type 0 where
+record ReadFrom (v w : ReaderView) (text u : List ℕ) (given : Option Item) (q : Place)
+    : Type 0 where
   stands : StandsFor v text
   is : with_more (ending v.max text) u ≡ q
   max : w.max ≡ v.max
@@ -59,20 +72,27 @@ record ReadFrom (v w : ReaderView) (text u : List ℕ) (given : Option Item) (q 
   its : (read v.max q).items ≡ items_given given w.lent
   place : Summarises w (read v.max q).place
 
-read-from-items : (v w : ReaderView) (text u : List ℕ) (given : Option Item) (q : Place) → ReadFrom v w text u given q → items v.max (text ++ u) ≡ items v.max text ++ items_given given w.lent
+read-from-items : (v w : ReaderView) (text u : List ℕ) (given : Option Item) (q : Place)
+    → ReadFrom v w text u given q
+    → items v.max (text ++ u) ≡ items v.max text ++ items_given given w.lent
 read-from-items v w text u given q r =
-    items-more v.max text u ∙ ap (λ x. items v.max text ++ (read v.max x).items) r.is ∙ ap (λ x. items v.max text ++ x) r.its
+    items-more v.max text u ∙ ap (λ x. items v.max text ++ (read v.max x).items) r.is
+    ∙ ap (λ x. items v.max text ++ x) r.its
 
-read-from-stands : (v w : ReaderView) (text u : List ℕ) (given : Option Item) (q : Place) → ReadFrom v w text u given q → StandsFor w (text ++ u)
+read-from-stands : (v w : ReaderView) (text u : List ℕ) (given : Option Item) (q : Place)
+    → ReadFrom v w text u given q → StandsFor w (text ++ u)
 read-from-stands v w text u given q r =
-    let e : (read v.max q).place ≡ ending w.max (text ++ u) = ap (λ x. (read v.max x).place) (sym r.is) ∙ sym (ending-more v.max text u) ∙ ap (λ m. ending m (text ++ u)) (sym r.max) in
+    let e : (read v.max q).place ≡ ending w.max (text ++ u) =
+    ap (λ x. (read v.max x).place) (sym r.is) ∙ sym (ending-more v.max text u)
+    ∙ ap (λ m. ending m (text ++ u)) (sym r.max) in
     let s = r.stands in
     record {
       offset = omega (arith, length-append text u, s.offset, r.counted);
       place = subst (Summarises w) e r.place;
     }
 
-grown-quiet : (v w : ReaderView) (text u : List ℕ) (q : Place) → ReadFrom v w text u None q → GrowsBy v u None w text
+grown-quiet : (v w : ReaderView) (text u : List ℕ) (q : Place) → ReadFrom v w text u None q
+    → GrowsBy v u None w text
 grown-quiet v w text u q r =
     let e = read-from-items v w text u None q r ∙ append-nil (items v.max text) in
     record {
@@ -82,20 +102,25 @@ grown-quiet v w text u q r =
       wire = tt;
     }
 
-grown-given : (v w : ReaderView) (text u : List ℕ) (given : Option Item) (q : Place) → ReadFrom v w text u given q → ((n : ℕ) → n < length u → row v.max (with_more (ending v.max text) (take n u)) ≡ None) → EndsWith given w.lent (text ++ u) → GrowsBy v u given w text
+grown-given : (v w : ReaderView) (text u : List ℕ) (given : Option Item) (q : Place)
+    → ReadFrom v w text u given q
+    → ((n : ℕ) → n < length u → row v.max (with_more (ending v.max text) (take n u)) ≡ None)
+    → EndsWith given w.lent (text ++ u) → GrowsBy v u given w text
 grown-given v w text u given q r none wired =
     record {
       stands = read-from-stands v w text u given q r;
       first = λ n few.
           items-more v.max text (take n u)
-          ∙ ap (λ o. items v.max text ++ o.items) (read-none v.max (with_more (ending v.max text) (take n u)) (none n few))
+          ∙ ap (λ o. items v.max text ++ o.items)
+          (read-none v.max (with_more (ending v.max text) (take n u)) (none n few))
           ∙ append-nil (items v.max text);
       items = read-from-items v w text u given q r;
       wire = wired;
     }
 
 -- what a reader has after more bytes
-pub record After (v w : ReaderView) (u : List ℕ) (is_lost : Bool) (kept : List ℕ) (past to_come : ℕ) : Type 0 where
+pub record After (v w : ReaderView) (u : List ℕ) (is_lost : Bool) (kept : List ℕ) (past to_come : ℕ)
+    : Type 0 where
   pub max : w.max ≡ v.max
   pub counted : w.offset ≡ v.offset + length u
   pub lost : w.lost ≡ is_lost
@@ -105,7 +130,9 @@ pub record After (v w : ReaderView) (u : List ℕ) (is_lost : Bool) (kept : List
 
 -- ---- a too long frame goes on
 
-pub passes : (v w : ReaderView) (text u : List ℕ) → length u < v.left → After v w u v.lost [] (v.skipped + length u) (v.left - length u) → StandsFor v text → GrowsBy v u None w text
+pub passes : (v w : ReaderView) (text u : List ℕ) → length u < v.left
+    → After v w u v.lost [] (v.skipped + length u) (v.left - length u) → StandsFor v text
+    → GrowsBy v u None w text
 unfolding counts-more passing
 passes v w text u few a s =
     let k = passing v text s (omega arith) in
@@ -114,7 +141,9 @@ passes v w text u few a s =
     let kq = counts-more p.rest u k.counts in
     let longer = length-append p.rest u in
     let kl = k.left in
-    let none : row v.max q ≡ None = row-told v.max q kq k.above k.told ∙ when (nat_lt (length q.rest) (k.counts.count + 10)) _ _ (ltb-is _ _ (omega arith)) in
+    let none : row v.max q ≡ None =
+    row-told v.max q kq k.above k.told
+    ∙ when (nat_lt (length q.rest) (k.counts.count + 10)) _ _ (ltb-is _ _ (omega arith)) in
     let e = read-none v.max q none in
     grown-quiet v w text u q (record {
       stands = s;
@@ -126,11 +155,18 @@ passes v w text u few a s =
         lost = a.lost ∙ s.place.lost;
         bytes = a.bytes ∙ sym (when q.told [] q.rest k.told);
         skipped = omega (arith, a.skipped, k.skipped, when q.told (length q.rest) 0 k.told);
-        left = omega (arith, a.left, length_by-counts q.rest kq, when q.told (bytes_to_come q.rest) 0 k.told);
+        left =
+            omega (
+              arith,
+              a.left,
+              length_by-counts q.rest kq,
+              when q.told (bytes_to_come q.rest) 0 k.told,
+            );
       });
     })
 
-pub passes-all : (v w : ReaderView) (text u : List ℕ) → 0 < v.left → length u ≡ v.left → After v w u false [] 0 0 → StandsFor v text → GrowsBy v u None w text
+pub passes-all : (v w : ReaderView) (text u : List ℕ) → 0 < v.left → length u ≡ v.left
+    → After v w u false [] 0 0 → StandsFor v text → GrowsBy v u None w text
 unfolding counts-more passing
 passes-all v w text u some last a s =
     let k = passing v text s some in
@@ -139,8 +175,11 @@ passes-all v w text u some last a s =
     let kq = counts-more p.rest u k.counts in
     let longer = length-append p.rest u in
     let kl = k.left in
-    let all : row v.max q ≡ Some ([], place_after (k.counts.count + 10) false q) = row-told v.max q kq k.above k.told ∙ unless (nat_lt (length q.rest) (k.counts.count + 10)) _ _ (ltb-isnt _ _ (omega arith)) in
-    let z : drop (k.counts.count + 10) q.rest ≡ [] = drop_all (k.counts.count + 10) q.rest (omega arith) in
+    let all : row v.max q ≡ Some ([], place_after (k.counts.count + 10) false q) =
+    row-told v.max q kq k.above k.told
+    ∙ unless (nat_lt (length q.rest) (k.counts.count + 10)) _ _ (ltb-isnt _ _ (omega arith)) in
+    let z : drop (k.counts.count + 10) q.rest ≡ [] =
+    drop_all (k.counts.count + 10) q.rest (omega arith) in
     let e = read-some v.max q _ all in
     let n = read-nothing v.max (place_after (k.counts.count + 10) false q) z in
     grown-quiet v w text u q (record {
@@ -165,13 +204,22 @@ pub record More (v : ReaderView) (u x : List ℕ) (at : ℕ) : Type 0 where
   pub bytes : x ≡ v.bytes ++ u
   pub at_front : at ≡ v.offset - length v.bytes
 
-next-at : (v : ReaderView) (text u x : List ℕ) (at : ℕ) → More v u x at → StandsFor v text → with_more (ending v.max text) u ≡ next_place at v.lost x
+next-at : (v : ReaderView) (text u x : List ℕ) (at : ℕ) → More v u x at → StandsFor v text
+    → with_more (ending v.max text) u ≡ next_place at v.lost x
 next-at v text u x at m s =
     let h = holding v text s m.none in
-    ap (λ p. with_more p u) h.place ∙ (λ i. record { offset = (sym m.at_front) i; lost = v.lost; told = false; rest = (sym m.bytes) i })
+    ap (λ p. with_more p u) h.place
+    ∙ (λ
+    i. record {
+      offset = (sym m.at_front) i;
+      lost = v.lost;
+      told = false;
+      rest = (sym m.bytes) i;
+    })
 
 -- from the offset of the unfinished frame on the text is what is held
-ends-at : (v : ReaderView) (text u x : List ℕ) (at : ℕ) → More v u x at → StandsFor v text → drop at (text ++ u) ≡ x
+ends-at : (v : ReaderView) (text u x : List ℕ) (at : ℕ) → More v u x at → StandsFor v text
+    → drop at (text ++ u) ≡ x
 ends-at v text u x at m s =
     let is = next-at v text u x at m s in
     let o : (ending v.max text).offset ≡ at = ap (λ p. p.offset) is in
@@ -183,15 +231,21 @@ ends-at v text u x at m s =
 
 -- no row fits before the last byte
 abbrev pub Quiet : ReaderView → List ℕ → ℕ → Type 0
-Quiet v u at = (n : ℕ) → n < length u → row v.max (next_place at v.lost (v.bytes ++ take n u)) ≡ None
+Quiet v u at =
+    (n : ℕ) → n < length u → row v.max (next_place at v.lost (v.bytes ++ take n u)) ≡ None
 
-quiet-at : (v : ReaderView) (text u x : List ℕ) (at : ℕ) → More v u x at → StandsFor v text → Quiet v u at → (n : ℕ) → n < length u → row v.max (with_more (ending v.max text) (take n u)) ≡ None
+quiet-at : (v : ReaderView) (text u x : List ℕ) (at : ℕ) → More v u x at → StandsFor v text
+    → Quiet v u at → (n : ℕ) → n < length u
+    → row v.max (with_more (ending v.max text) (take n u)) ≡ None
 quiet-at v text u x at m s quiet n few =
-    let part : More v (take n u) (v.bytes ++ take n u) at = record { none = m.none; bytes = refl; at_front = m.at_front } in
+    let part : More v (take n u) (v.bytes ++ take n u) at =
+    record { none = m.none; bytes = refl; at_front = m.at_front } in
     ap (row v.max) (next-at v text (take n u) (v.bytes ++ take n u) at part s) ∙ quiet n few
 
 -- the frame is unfinished as before
-pub waits : (v w : ReaderView) (text u x : List ℕ) (at : ℕ) → More v u x at → row v.max (next_place at v.lost x) ≡ None → After v w u v.lost x 0 0 → StandsFor v text → GrowsBy v u None w text
+pub waits : (v w : ReaderView) (text u x : List ℕ) (at : ℕ) → More v u x at
+    → row v.max (next_place at v.lost x) ≡ None → After v w u v.lost x 0 0 → StandsFor v text
+    → GrowsBy v u None w text
 waits v w text u x at m none a s =
     let q = next_place at v.lost x in
     let e = read-none v.max q none in
@@ -201,7 +255,9 @@ waits v w text u x at m none a s =
       max = a.max;
       counted = a.counted;
       its = ap (λ o. o.items) e;
-      place = subst (Summarises w) (sym (ap (λ o. o.place) e)) (record { lost = a.lost; bytes = a.bytes; skipped = a.skipped; left = a.left });
+      place =
+          subst (Summarises w) (sym (ap (λ o. o.place) e))
+          (record { lost = a.lost; bytes = a.bytes; skipped = a.skipped; left = a.left });
     })
 
 -- ---- junk
@@ -209,33 +265,49 @@ waits v w text u x at m none a s =
 one-further : (o n : ℕ) → o + 1 + n ≡ o + suc n
 one-further o n = omega arith
 
-junk-read : (max o : ℕ) (lost : Bool) (n : ℕ) (t : List ℕ) → n ≤ length t → ((i : ℕ) → i < n → is_start (slice_index t i) ≡ false) → read max (next_place o lost t) ≡ read max (next_place (o + n) lost (drop n t))
+junk-read : (max o : ℕ) (lost : Bool) (n : ℕ) (t : List ℕ) → n ≤ length t
+    → ((i : ℕ) → i < n → is_start (slice_index t i) ≡ false)
+    → read max (next_place o lost t) ≡ read max (next_place (o + n) lost (drop n t))
 junk-read max o lost zero t few other = ap (λ k. read max (next_place k lost t)) (omega arith)
 junk-read max o lost (suc n) [] few other = absurd (omega arith)
 junk-read max o lost (suc n) (b ∷ t) few other =
-    read-some max (next_place o lost (b ∷ t)) ([], next_place (o + 1) lost t) (row-passes max _ b t refl (other 0 (omega arith)))
+    read-some max (next_place o lost (b ∷ t)) ([], next_place (o + 1) lost t)
+    (row-passes max _ b t refl (other 0 (omega arith)))
     ∙ junk-read max (o + 1) lost n t (omega arith) (λ i below. other (suc i) (omega arith))
     ∙ ap (λ k. read max (next_place k lost (drop n t))) (one-further o n)
 
 -- bytes that begin nothing are passed over, up to what is held then
-pub seeks : (v w : ReaderView) (text u : List ℕ) (n : ℕ) → v.bytes ≡ [] → v.left ≡ 0 → n ≤ length u → ((i : ℕ) → i < n → is_start (slice_index u i) ≡ false) → row v.max (next_place (v.offset + n) v.lost (drop n u)) ≡ None → After v w u v.lost (drop n u) 0 0 → StandsFor v text → GrowsBy v u None w text
+pub seeks : (v w : ReaderView) (text u : List ℕ) (n : ℕ) → v.bytes ≡ [] → v.left ≡ 0 → n ≤ length u
+    → ((i : ℕ) → i < n → is_start (slice_index u i) ≡ false)
+    → row v.max (next_place (v.offset + n) v.lost (drop n u)) ≡ None
+    → After v w u v.lost (drop n u) 0 0 → StandsFor v text → GrowsBy v u None w text
 seeks v w text u n nothing none few other stuck a s =
     let at : v.offset ≡ v.offset - length v.bytes = omega (arith, ap length nothing) in
     let q = next_place v.offset v.lost u in
-    let e = junk-read v.max v.offset v.lost n u few other ∙ read-none v.max (next_place (v.offset + n) v.lost (drop n u)) stuck in
+    let e =
+    junk-read v.max v.offset v.lost n u few other
+    ∙ read-none v.max (next_place (v.offset + n) v.lost (drop n u)) stuck in
     grown-quiet v w text u q (record {
       stands = s;
-      is = next-at v text u u v.offset (record { none = none; bytes = ap (λ t. t ++ u) (sym nothing); at_front = at }) s;
+      is =
+          next-at v text u u v.offset
+          (record { none = none; bytes = ap (λ t. t ++ u) (sym nothing); at_front = at }) s;
       max = a.max;
       counted = a.counted;
       its = ap (λ o. o.items) e;
-      place = subst (Summarises w) (sym (ap (λ o. o.place) e)) (record { lost = a.lost; bytes = a.bytes; skipped = a.skipped; left = a.left });
+      place =
+          subst (Summarises w) (sym (ap (λ o. o.place) e))
+          (record { lost = a.lost; bytes = a.bytes; skipped = a.skipped; left = a.left });
     })
 
 -- ---- a candidate
 
 -- an item that is all that is held
-pub gives : (v w : ReaderView) (text u x : List ℕ) (at : ℕ) (item : Item) (n : ℕ) → More v u x at → row v.max (next_place at v.lost x) ≡ Some ((item, w.lent) ∷ [], place_after n false (next_place at v.lost x)) → length x ≤ n → Quiet v u at → ((t : List ℕ) → drop at t ≡ x → EndsWith (Some item) w.lent t) → After v w u false [] 0 0 → StandsFor v text → GrowsBy v u (Some item) w text
+pub gives : (v w : ReaderView) (text u x : List ℕ) (at : ℕ) (item : Item) (n : ℕ) → More v u x at
+    → row v.max (next_place at v.lost x)
+    ≡ Some ((item, w.lent) ∷ [], place_after n false (next_place at v.lost x)) → length x ≤ n
+    → Quiet v u at → ((t : List ℕ) → drop at t ≡ x → EndsWith (Some item) w.lent t)
+    → After v w u false [] 0 0 → StandsFor v text → GrowsBy v u (Some item) w text
 gives v w text u x at item n m fits all quiet wired a s =
     let q = next_place at v.lost x in
     let z : drop n x ≡ [] = drop_all n x all in
@@ -247,11 +319,16 @@ gives v w text u x at item n m fits all quiet wired a s =
       max = a.max;
       counted = a.counted;
       its = ap (λ o. o.items) e ∙ ap (λ o. (item, w.lent) ∷ o.items) r;
-      place = subst (Summarises w) (sym (ap (λ o. o.place) e ∙ ap (λ o. o.place) r)) (record { lost = a.lost; bytes = a.bytes ∙ sym z; skipped = a.skipped; left = a.left });
+      place =
+          subst (Summarises w) (sym (ap (λ o. o.place) e ∙ ap (λ o. o.place) r))
+          (record { lost = a.lost; bytes = a.bytes ∙ sym z; skipped = a.skipped; left = a.left });
     }) (quiet-at v text u x at m s quiet) (wired (text ++ u) (ends-at v text u x at m s))
 
 -- a candidate whose check is wrong: what is left of it is passed over up to the next start byte
-pub fails : (v w : ReaderView) (text u x : List ℕ) (at : ℕ) (given : Option Item) → More v u x at → length x ≡ 8 → is_start (slice_index x 0) ≡ true → parsed (take 8 x) ≡ Err Check → LossTold at v.lost given → Quiet v u at → w.lent ≡ [] → After v w u true (from_start (drop 1 x)) 0 0 → StandsFor v text → GrowsBy v u given w text
+pub fails : (v w : ReaderView) (text u x : List ℕ) (at : ℕ) (given : Option Item) → More v u x at
+    → length x ≡ 8 → is_start (slice_index x 0) ≡ true → parsed (take 8 x) ≡ Err Check
+    → LossTold at v.lost given → Quiet v u at → w.lent ≡ []
+    → After v w u true (from_start (drop 1 x)) 0 0 → StandsFor v text → GrowsBy v u given w text
 fails v w text u x at given m eight start wrong told quiet unlent a s =
     let q = next_place at v.lost x in
     let e = read-some v.max q _ (row-by v.max q (Err Check) start (omega arith) wrong) in
@@ -262,28 +339,62 @@ fails v w text u x at given m eight start wrong told quiet unlent a s =
       is = next-at v text u x at m s;
       max = a.max;
       counted = a.counted;
-      its = ap (λ o. o.items) e ∙ ap (λ o. (if v.lost then [] else (HeaderCheck at, []) ∷ []) ++ o) p.items ∙ append-nil _ ∙ sym (its v.lost told) ∙ ap (items_given given) (sym unlent);
+      its =
+          ap (λ o. o.items) e
+          ∙ ap (λ o. (if v.lost then [] else (HeaderCheck at, []) ∷ []) ++ o) p.items ∙ append-nil _
+          ∙ sym (its v.lost told) ∙ ap (items_given given) (sym unlent);
       place = record {
         lost = a.lost ∙ sym (ap (λ o. o.place.lost) e ∙ p.lost);
-        bytes = a.bytes ∙ sym (unless (read v.max q).place.told [] (read v.max q).place.rest not_told ∙ ap (λ o. o.place.rest) e ∙ p.rest);
-        skipped = a.skipped ∙ sym (unless (read v.max q).place.told (length (read v.max q).place.rest) 0 not_told);
-        left = a.left ∙ sym (unless (read v.max q).place.told (bytes_to_come (read v.max q).place.rest) 0 not_told);
+        bytes =
+            a.bytes
+            ∙ sym
+            (unless (read v.max q).place.told [] (read v.max q).place.rest not_told
+            ∙ ap (λ o. o.place.rest) e ∙ p.rest);
+        skipped =
+            a.skipped
+            ∙ sym (unless (read v.max q).place.told (length (read v.max q).place.rest) 0 not_told);
+        left =
+            a.left
+            ∙ sym
+            (unless (read v.max q).place.told (bytes_to_come (read v.max q).place.rest) 0 not_told);
       };
     }) (quiet-at v text u x at m s quiet) (wired told)
   where
-    its : (lost : Bool) → LossTold at lost given → items_given given [] ≡ (if lost then [] else (HeaderCheck at, []) ∷ [])
-    its true told = elim told [ inl yes_lost ↦ ap (λ g. items_given g []) yes_lost.1 | inr not_lost ↦ absurd (false-true (sym not_lost.0)) ]
-    its false told = elim told [ inl yes_lost ↦ absurd (false-true yes_lost.0) | inr not_lost ↦ ap (λ g. items_given g []) not_lost.1 ]
+    its : (lost : Bool) → LossTold at lost given
+        → items_given given [] ≡ (if lost then [] else (HeaderCheck at, []) ∷ [])
+    its true told =
+        elim told [
+          | inl yes_lost ↦ ap (λ g. items_given g []) yes_lost.1
+          | inr not_lost ↦ absurd
+              (false-true (sym not_lost.0))
+        ]
+    its false told =
+        elim told [
+          | inl yes_lost ↦ absurd (false-true yes_lost.0)
+          | inr not_lost ↦ ap (λ g. items_given g [])
+              not_lost.1
+        ]
 
     wired : LossTold at v.lost given → EndsWith given w.lent (text ++ u)
-    wired told = elim told [ inl yes_lost ↦ subst (λ g. EndsWith g w.lent (text ++ u)) (sym yes_lost.1) tt | inr not_lost ↦ subst (λ g. EndsWith g w.lent (text ++ u)) (sym not_lost.1) tt ]
+    wired told =
+        elim told [
+          | inl yes_lost ↦ subst (λ g. EndsWith g w.lent (text ++ u)) (sym yes_lost.1)
+              tt
+          | inr not_lost ↦ subst (λ g. EndsWith g w.lent (text ++ u)) (sym not_lost.1) tt
+        ]
 
 -- a header of more data than the reader takes
-pub announces : (v w : ReaderView) (text u x : List ℕ) (at : ℕ) (h : Header) (n : ℕ) → More v u x at → length x ≡ 8 → is_start (slice_index x 0) ≡ true → parsed (take 8 x) ≡ Ok h → count_of h ≡ Some n → v.max < n → Quiet v u at → w.lent ≡ [] → After v w u v.lost [] 8 (n + 2) → StandsFor v text → GrowsBy v u (Some (TooLong at h)) w text
+pub announces : (v w : ReaderView) (text u x : List ℕ) (at : ℕ) (h : Header) (n : ℕ) → More v u x at
+    → length x ≡ 8 → is_start (slice_index x 0) ≡ true → parsed (take 8 x) ≡ Ok h
+    → count_of h ≡ Some n → v.max < n → Quiet v u at → w.lent ≡ [] → After v w u v.lost [] 8 (n + 2)
+    → StandsFor v text → GrowsBy v u (Some (TooLong at h)) w text
 announces v w text u x at h n m eight start is some above quiet unlent a s =
     let q = next_place at v.lost x in
     let full : 8 ≤ length x = omega arith in
-    let e = read-too-long v.max at n v.lost x h start full is some above ∙ ap (outcome_after ((TooLong at h, []) ∷ [])) (read-passing v.max at n v.lost x h start full is some above (omega arith)) in
+    let e =
+    read-too-long v.max at n v.lost x h start full is some above
+    ∙ ap (outcome_after ((TooLong at h, []) ∷ []))
+    (read-passing v.max at n v.lost x h start full is some above (omega arith)) in
     let come = ap candidate_length is ∙ frame_length-counted h n some in
     grown-given v w text u (Some (TooLong at h)) q (record {
       stands = s;
@@ -318,7 +429,9 @@ index-drop (suc n) [] = refl
 index-drop (suc n) (b ∷ t) = index-drop n t
 
 -- the same of a scan, where the bytes held are those of the buffer
-more-of : (s : Scan) (u x : List ℕ) (at : ℕ) → left_in s.phase ≡ 0 → bytes_in s.phase s.buffer.items ≡ s.buffer.items → x ≡ s.buffer.items ++ u → at + length s.buffer.items ≡ s.offset → More (view_of s) u x at
+more-of : (s : Scan) (u x : List ℕ) (at : ℕ) → left_in s.phase ≡ 0
+    → bytes_in s.phase s.buffer.items ≡ s.buffer.items → x ≡ s.buffer.items ++ u
+    → at + length s.buffer.items ≡ s.offset → More (view_of s) u x at
 more-of s u x at none all is front = record {
   none = none;
   bytes = is ∙ ap (λ t. t ++ u) (sym all);
@@ -331,34 +444,62 @@ pub record HeaderMore (s : Scan) (u x : List ℕ) (at : ℕ) : Type 0 where
   pub start : is_start (slice_index x 0) ≡ true
   pub quiet : Quiet (view_of s) u at
 
-pub header-more : (s : Scan) (u x : List ℕ) (at : ℕ) → IsSoundScan s → s.phase ≡ phase.Header → x ≡ s.buffer.items ++ u → length x ≤ 8 → at + length s.buffer.items ≡ s.offset → HeaderMore s u x at
+pub header-more : (s : Scan) (u x : List ℕ) (at : ℕ) → IsSoundScan s → s.phase ≡ phase.Header
+    → x ≡ s.buffer.items ++ u → length x ≤ 8 → at + length s.buffer.items ≡ s.offset
+    → HeaderMore s u x at
 header-more s u x at sound phase is few front =
-    let fits : HasHeader s.buffer.items = subst (λ p. FitsPhase s.max p s.buffer.items) phase sound.fits in
-    let all : bytes_in s.phase s.buffer.items ≡ s.buffer.items = ap (λ p. bytes_in p s.buffer.items) phase in
+    let fits : HasHeader s.buffer.items =
+    subst (λ p. FitsPhase s.max p s.buffer.items) phase sound.fits in
+    let all : bytes_in s.phase s.buffer.items ≡ s.buffer.items =
+    ap (λ p. bytes_in p s.buffer.items) phase in
     let lx = ap length is ∙ length-append s.buffer.items u in
     record {
       more = more-of s u x at (ap left_in phase) all is front;
-      start = ap (λ t. is_start (slice_index t 0)) is ∙ ap is_start (first-more s.buffer.items u fits.some) ∙ fits.start;
+      start =
+          ap (λ t. is_start (slice_index t 0)) is
+          ∙ ap is_start (first-more s.buffer.items u fits.some) ∙ fits.start;
       quiet = λ n less.
           ap (λ t. row s.max (next_place at s.lost (t ++ take n u))) all
-          ∙ row-waits s.max (next_place at s.lost (s.buffer.items ++ take n u)) (ap is_start (first-more s.buffer.items (take n u) fits.some) ∙ fits.start) (omega (arith, length-append s.buffer.items (take n u), length-take-le n u (omega arith)));
+          ∙ row-waits s.max (next_place at s.lost (s.buffer.items ++ take n u))
+          (ap is_start (first-more s.buffer.items (take n u) fits.some) ∙ fits.start)
+          (omega
+          (arith, length-append s.buffer.items (take n u), length-take-le n u (omega arith)));
     }
 
-counted-row : (max : ℕ) (p : Place) (h : Header) (n : ℕ) → is_start (slice_index p.rest 0) ≡ true → 8 ≤ length p.rest → parsed (take 8 p.rest) ≡ Ok h → count_of h ≡ Some n → n ≤ max → row max p ≡ by_length p h n false p.told
+counted-row : (max : ℕ) (p : Place) (h : Header) (n : ℕ) → is_start (slice_index p.rest 0) ≡ true
+    → 8 ≤ length p.rest → parsed (take 8 p.rest) ≡ Ok h → count_of h ≡ Some n → n ≤ max
+    → row max p ≡ by_length p h n false p.told
 counted-row max p h n start full is some taken =
-    row-by max p (Ok h) start full is ∙ ap (by_count max p h) some ∙ ap (λ b. by_length p h n b p.told) (ltb-isnt max n taken)
+    row-by max p (Ok h) start full is ∙ ap (by_count max p h) some
+    ∙ ap (λ b. by_length p h n b p.told) (ltb-isnt max n taken)
 
 -- a frame that is unfinished
-pub row-short : (max at : ℕ) (lost : Bool) (x : List ℕ) (h : Header) (n : ℕ) → is_start (slice_index x 0) ≡ true → 8 ≤ length x → parsed (take 8 x) ≡ Ok h → count_of h ≡ Some n → n ≤ max → length x < n + 10 → row max (next_place at lost x) ≡ None
+pub row-short : (max at : ℕ) (lost : Bool) (x : List ℕ) (h : Header) (n : ℕ)
+    → is_start (slice_index x 0) ≡ true → 8 ≤ length x → parsed (take 8 x) ≡ Ok h
+    → count_of h ≡ Some n → n ≤ max → length x < n + 10 → row max (next_place at lost x) ≡ None
 row-short max at lost x h n start full is some taken short =
-    counted-row max (next_place at lost x) h n start full is some taken ∙ when (nat_lt (length x) (n + 10)) _ _ (ltb-is _ _ short)
+    counted-row max (next_place at lost x) h n start full is some taken
+    ∙ when (nat_lt (length x) (n + 10)) _ _ (ltb-is _ _ short)
 
 -- and one that is whole
-pub row-whole : (max at : ℕ) (lost : Bool) (x : List ℕ) (h : Header) (n : ℕ) (right : Bool) → is_start (slice_index x 0) ≡ true → 8 ≤ length x → parsed (take 8 x) ≡ Ok h → count_of h ≡ Some n → n ≤ max → n + 10 ≤ length x → is_data_right n x ≡ right → row max (next_place at lost x) ≡ Some ((if right then (Good at h, data_after_header n x) else (DataCheck at h, [])) ∷ [], place_after (n + 10) false (next_place at lost x))
+pub row-whole : (max at : ℕ) (lost : Bool) (x : List ℕ) (h : Header) (n : ℕ) (right : Bool)
+    → is_start (slice_index x 0) ≡ true → 8 ≤ length x → parsed (take 8 x) ≡ Ok h
+    → count_of h ≡ Some n → n ≤ max → n + 10 ≤ length x → is_data_right n x ≡ right
+    → row max (next_place at lost x)
+    ≡ Some (
+      (if right then (Good at h, data_after_header n x) else (DataCheck at h, []))
+          ∷ [],
+      place_after (n + 10) false (next_place at lost x),
+    )
 row-whole max at lost x h n right start full is some taken whole check =
     counted-row max (next_place at lost x) h n start full is some taken
     ∙ unless (nat_lt (length x) (n + 10)) _ _ (ltb-isnt _ _ whole)
-    ∙ ap (λ b. Some ((if b then (Good at h, data_after_header n x) else (DataCheck at h, [])) ∷ [], place_after (n + 10) false (next_place at lost x))) check
+    ∙ ap
+    (λ b. Some (
+      (if b then (Good at h, data_after_header n x) else (DataCheck at h, []))
+          ∷ [],
+      place_after (n + 10) false (next_place at lost x),
+    )) check
 
 -- a part of a frame, and more of it
 pub record FrameMore (s : Scan) (h : Header) (n : ℕ) (u x : List ℕ) (at : ℕ) : Type 0 where
@@ -370,7 +511,9 @@ pub record FrameMore (s : Scan) (h : Header) (n : ℕ) (u x : List ℕ) (at : �
   pub taken : n ≤ s.max
   pub quiet : Quiet (view_of s) u at
 
-pub frame-more : (s : Scan) (h : Header) (n : ℕ) (u x : List ℕ) (at : ℕ) → IsSoundScan s → s.phase ≡ phase.Frame h n → x ≡ s.buffer.items ++ u → length x ≤ n + 10 → at + length s.buffer.items ≡ s.offset → FrameMore s h n u x at
+pub frame-more : (s : Scan) (h : Header) (n : ℕ) (u x : List ℕ) (at : ℕ) → IsSoundScan s
+    → s.phase ≡ phase.Frame h n → x ≡ s.buffer.items ++ u → length x ≤ n + 10
+    → at + length s.buffer.items ≡ s.offset → FrameMore s h n u x at
 frame-more s h n u x at sound phase is few front =
     let t = s.buffer.items in
     let fits : HasFrame s.max h n t = subst (λ p. FitsPhase s.max p t) phase sound.fits in
@@ -378,7 +521,9 @@ frame-more s h n u x at sound phase is few front =
     let lx = ap length is ∙ length-append t u in
     record {
       more = more-of s u x at (ap left_in phase) all is front;
-      start = ap (λ t. is_start (slice_index t 0)) is ∙ ap is_start (first-more t u (omega (arith, fits.full))) ∙ fits.start;
+      start =
+          ap (λ t. is_start (slice_index t 0)) is
+          ∙ ap is_start (first-more t u (omega (arith, fits.full))) ∙ fits.start;
       full = omega (arith, fits.full);
       is = ap (λ t. parsed (take 8 t)) is ∙ ap parsed (take-append-le 8 t u fits.full) ∙ fits.is;
       counted = fits.counted;
@@ -388,12 +533,18 @@ frame-more s h n u x at sound phase is few front =
           let ly = length-append t y in
           let lk = length-take-le k u (omega arith) in
           ap (λ t. row s.max (next_place at s.lost (t ++ y))) all
-          ∙ row-short s.max at s.lost (t ++ y) h n (ap is_start (first-more t y (omega (arith, fits.full))) ∙ fits.start) (omega (arith, fits.full)) (ap parsed (take-append-le 8 t y fits.full) ∙ fits.is) fits.counted fits.taken (omega arith);
+          ∙ row-short s.max at s.lost (t ++ y) h n
+          (ap is_start (first-more t y (omega (arith, fits.full))) ∙ fits.start)
+          (omega (arith, fits.full)) (ap parsed (take-append-le 8 t y fits.full) ∙ fits.is)
+          fits.counted fits.taken (omega arith);
     }
 
 -- ---- a step, where it gives nothing
 
-pub takes-nothing : (v w : ReaderView) (piece : List ℕ) (used : ℕ) → used ≤ length piece → 0 < used → w.offset ≡ v.offset + used → w.max ≡ v.max → w.lent ≡ [] → ((text : List ℕ) → StandsFor v text → GrowsBy v (take used piece) None w text) → TakesPiece v piece used None w
+pub takes-nothing : (v w : ReaderView) (piece : List ℕ) (used : ℕ) → used ≤ length piece → 0 < used
+    → w.offset ≡ v.offset + used → w.max ≡ v.max → w.lent ≡ []
+    → ((text : List ℕ) → StandsFor v text → GrowsBy v (take used piece) None w text)
+    → TakesPiece v piece used None w
 takes-nothing v w piece used within some counted same unlent grows = record {
   within = within;
   some = some;
@@ -408,7 +559,8 @@ takes-nothing v w piece used within some counted same unlent grows = record {
 
 pub header-few : (s : Scan) → IsSoundScan s → s.phase ≡ phase.Header → length s.buffer.items < 8
 header-few s sound phase =
-    let fits : HasHeader s.buffer.items = subst (λ p. FitsPhase s.max p s.buffer.items) phase sound.fits in
+    let fits : HasHeader s.buffer.items =
+    subst (λ p. FitsPhase s.max p s.buffer.items) phase sound.fits in
     fits.few
 
 pub record HeaderTaken (s : Scan) (piece : List ℕ) (used : ℕ) (x : List ℕ) : Type 0 where
@@ -417,7 +569,9 @@ pub record HeaderTaken (s : Scan) (piece : List ℕ) (used : ℕ) (x : List ℕ)
   pub before : length s.buffer.items ≤ s.offset
   pub more : (at : ℕ) → at + length s.buffer.items ≡ s.offset → HeaderMore s (take used piece) x at
 
-pub header-taken : (s : Scan) (piece : List ℕ) (used : ℕ) (x : List ℕ) → IsSoundScan s → s.phase ≡ phase.Header → used ≤ length piece → length s.buffer.items + used ≤ 8 → x ≡ s.buffer.items ++ take used piece → HeaderTaken s piece used x
+pub header-taken : (s : Scan) (piece : List ℕ) (used : ℕ) (x : List ℕ) → IsSoundScan s
+    → s.phase ≡ phase.Header → used ≤ length piece → length s.buffer.items + used ≤ 8
+    → x ≡ s.buffer.items ++ take used piece → HeaderTaken s piece used x
 header-taken s piece used x sound phase within eight is =
     let lu = length-take-le used piece within in
     let lx = ap length is ∙ length-append s.buffer.items (take used piece) in
@@ -436,7 +590,9 @@ pub record EightTaken (s : Scan) (piece : List ℕ) (used : ℕ) (x : List ℕ) 
   pub before : 8 ≤ s.offset + used
   pub more : HeaderMore s (take used piece) x (s.offset + used - 8)
 
-pub eight-taken : (s : Scan) (piece : List ℕ) (used : ℕ) (x : List ℕ) → IsSoundScan s → s.phase ≡ phase.Header → used ≤ length piece → length s.buffer.items + used ≤ 8 → x ≡ s.buffer.items ++ take used piece → 8 ≤ length x → EightTaken s piece used x
+pub eight-taken : (s : Scan) (piece : List ℕ) (used : ℕ) (x : List ℕ) → IsSoundScan s
+    → s.phase ≡ phase.Header → used ≤ length piece → length s.buffer.items + used ≤ 8
+    → x ≡ s.buffer.items ++ take used piece → 8 ≤ length x → EightTaken s piece used x
 eight-taken s piece used x sound phase within few is full =
     let t = header-taken s piece used x sound phase within few is in
     record {
@@ -468,21 +624,34 @@ pub record WholeHeader (s : Scan) (u : List ℕ) : Type 0 where
   pub more : More (view_of s) u u s.offset
   pub quiet : Quiet (view_of s) u s.offset
 
-pub whole-header : (s : Scan) (u : List ℕ) → s.phase ≡ phase.Seeking → length u ≡ 8 → is_start (slice_index u 0) ≡ true → WholeHeader s u
+pub whole-header : (s : Scan) (u : List ℕ) → s.phase ≡ phase.Seeking → length u ≡ 8
+    → is_start (slice_index u 0) ≡ true → WholeHeader s u
 whole-header s u phase eight start =
-    let nothing : bytes_in s.phase s.buffer.items ≡ [] = ap (λ p. bytes_in p s.buffer.items) phase in
+    let nothing : bytes_in s.phase s.buffer.items ≡ [] =
+    ap (λ p. bytes_in p s.buffer.items) phase in
     record {
-      more = record { none = ap left_in phase; bytes = ap (λ t. t ++ u) (sym nothing); at_front = omega (arith, ap length nothing) };
-      quiet = λ n less. ap (λ t. row s.max (next_place s.offset s.lost (t ++ take n u))) nothing ∙ by n less;
+      more =
+          record {
+            none = ap left_in phase;
+            bytes = ap (λ t. t ++ u) (sym nothing);
+            at_front = omega (arith, ap length nothing);
+          };
+      quiet =
+          λ n less. ap (λ t. row s.max (next_place s.offset s.lost (t ++ take n u))) nothing
+          ∙ by n less;
     }
   where
     by : (n : ℕ) → n < length u → row s.max (next_place s.offset s.lost (take n u)) ≡ None
     by zero less = row-nothing s.max (next_place s.offset s.lost []) refl
     by (suc n) less =
-        row-waits s.max (next_place s.offset s.lost (take (suc n) u)) (ap is_start (index-take (suc n) 0 u (omega arith)) ∙ start) (omega (arith, length-take-le (suc n) u (omega arith)))
+        row-waits s.max (next_place s.offset s.lost (take (suc n) u))
+        (ap is_start (index-take (suc n) 0 u (omega arith)) ∙ start)
+        (omega (arith, length-take-le (suc n) u (omega arith)))
 
 -- what a scan has after it took bytes, as its fields say
-pub after-taking : (v w : ReaderView) (piece : List ℕ) (used : ℕ) → length (take used piece) ≡ used → w.max ≡ v.max → w.offset ≡ v.offset + used → After v w (take used piece) w.lost w.bytes w.skipped w.left
+pub after-taking : (v w : ReaderView) (piece : List ℕ) (used : ℕ) → length (take used piece) ≡ used
+    → w.max ≡ v.max → w.offset ≡ v.offset + used
+    → After v w (take used piece) w.lost w.bytes w.skipped w.left
 after-taking v w piece used taken same counted = record {
   max = same;
   counted = counted ∙ ap (λ n. v.offset + n) (sym taken);
@@ -492,18 +661,25 @@ after-taking v w piece used taken same counted = record {
   left = refl;
 }
 
-pub frame-short : (s : Scan) (h : Header) (n : ℕ) → IsSoundScan s → s.phase ≡ phase.Frame h n → length s.buffer.items < n + 10
+pub frame-short : (s : Scan) (h : Header) (n : ℕ) → IsSoundScan s → s.phase ≡ phase.Frame h n
+    → length s.buffer.items < n + 10
 frame-short s h n sound phase =
-    let fits : HasFrame s.max h n s.buffer.items = subst (λ p. FitsPhase s.max p s.buffer.items) phase sound.fits in
+    let fits : HasFrame s.max h n s.buffer.items =
+    subst (λ p. FitsPhase s.max p s.buffer.items) phase sound.fits in
     fits.short
 
-pub record FrameTaken (s : Scan) (h : Header) (n : ℕ) (piece : List ℕ) (used : ℕ) (x : List ℕ) : Type 0 where
+pub record FrameTaken (s : Scan) (h : Header) (n : ℕ) (piece : List ℕ) (used : ℕ) (x : List ℕ)
+    : Type 0 where
   pub taken : length (take used piece) ≡ used
   pub len : length s.buffer.items + used ≡ length x
   pub before : length s.buffer.items ≤ s.offset
-  pub more : (at : ℕ) → at + length s.buffer.items ≡ s.offset → FrameMore s h n (take used piece) x at
+  pub more : (at : ℕ) → at + length s.buffer.items ≡ s.offset
+      → FrameMore s h n (take used piece) x at
 
-pub frame-taken : (s : Scan) (h : Header) (n : ℕ) (piece : List ℕ) (used : ℕ) (x : List ℕ) → IsSoundScan s → s.phase ≡ phase.Frame h n → used ≤ length piece → length s.buffer.items + used ≤ n + 10 → x ≡ s.buffer.items ++ take used piece → FrameTaken s h n piece used x
+pub frame-taken : (s : Scan) (h : Header) (n : ℕ) (piece : List ℕ) (used : ℕ) (x : List ℕ)
+    → IsSoundScan s → s.phase ≡ phase.Frame h n → used ≤ length piece
+    → length s.buffer.items + used ≤ n + 10 → x ≡ s.buffer.items ++ take used piece
+    → FrameTaken s h n piece used x
 frame-taken s h n piece used x sound phase within whole is =
     let lu = length-take-le used piece within in
     let lx = ap length is ∙ length-append s.buffer.items (take used piece) in
@@ -520,15 +696,20 @@ from-start-short : (t : List ℕ) → length (from_start t) ≤ length t
 from-start-short [] = omega arith
 from-start-short (b ∷ t) = by (is_start b) (from-start-short t)
   where
-    by : (x : Bool) → length (from_start t) ≤ length t → length (if x then b ∷ t else from_start t) ≤ length (b ∷ t)
+    by : (x : Bool) → length (from_start t) ≤ length t
+        → length (if x then b ∷ t else from_start t) ≤ length (b ∷ t)
     by true less = omega arith
     by false less = omega arith
 
-from-start-begins : (t : List ℕ) → 0 < length (from_start t) → is_start (slice_index (from_start t) 0) ≡ true
+from-start-begins : (t : List ℕ) → 0 < length (from_start t)
+    → is_start (slice_index (from_start t) 0) ≡ true
 from-start-begins [] some = absurd (omega arith)
 from-start-begins (b ∷ t) some = by (is_start b) refl (from-start-begins t) some
   where
-    by : (x : Bool) → is_start b ≡ x → (0 < length (from_start t) → is_start (slice_index (from_start t) 0) ≡ true) → 0 < length (if x then b ∷ t else from_start t) → is_start (slice_index (if x then b ∷ t else from_start t) 0) ≡ true
+    by : (x : Bool) → is_start b ≡ x
+        → (0 < length (from_start t) → is_start (slice_index (from_start t) 0) ≡ true)
+        → 0 < length (if x then b ∷ t else from_start t)
+        → is_start (slice_index (if x then b ∷ t else from_start t) 0) ≡ true
     by true e ih some = e
     by false e ih some = ih some
 
@@ -540,26 +721,49 @@ pub record Resumed (max : ℕ) (p : Phase) (y : List ℕ) : Type 0 where
   pub left : left_in p ≡ 0
   pub fits : FitsPhase max p y
 
-pub resumed : (max : ℕ) (p : Phase) (x y seen : List ℕ) → length x ≡ 8 → y ≡ from_start (drop 1 x) → seen ≡ y → (length seen ≡ 0 → p ≡ phase.Seeking) → (0 < length seen → p ≡ phase.Header) → Resumed max p y
+pub resumed : (max : ℕ) (p : Phase) (x y seen : List ℕ) → length x ≡ 8 → y ≡ from_start (drop 1 x)
+    → seen ≡ y → (length seen ≡ 0 → p ≡ phase.Seeking) → (0 < length seen → p ≡ phase.Header)
+    → Resumed max p y
 resumed max p x y seen eight is same none some =
     let ly = ap length is in
     let short = from-start-short (drop 1 x) in
     let few : length y < 8 = omega (arith, length-drop 1 x) in
-    by y (subst (λ t. length t ≡ 0 → p ≡ phase.Seeking) same none) (subst (λ t. 0 < length t → p ≡ phase.Header) same some) few (λ more. ap (λ t. is_start (slice_index t 0)) is ∙ from-start-begins (drop 1 x) (omega arith))
+    by y (subst (λ t. length t ≡ 0 → p ≡ phase.Seeking) same none)
+    (subst (λ t. 0 < length t → p ≡ phase.Header) same some) few
+    (λ more. ap (λ t. is_start (slice_index t 0)) is
+    ∙ from-start-begins (drop 1 x) (omega arith))
   where
-    by : (y : List ℕ) → (length y ≡ 0 → p ≡ phase.Seeking) → (0 < length y → p ≡ phase.Header) → length y < 8 → (0 < length y → is_start (slice_index y 0) ≡ true) → Resumed max p y
+    by : (y : List ℕ) → (length y ≡ 0 → p ≡ phase.Seeking) → (0 < length y → p ≡ phase.Header)
+        → length y < 8 → (0 < length y → is_start (slice_index y 0) ≡ true) → Resumed max p y
     by [] none some few start =
-        subst (λ q. Resumed max q []) (sym (none refl)) (record { few = few; bytes = refl; skipped = refl; left = refl; fits = tt })
+        subst (λ q. Resumed max q []) (sym (none refl))
+        (record { few = few; bytes = refl; skipped = refl; left = refl; fits = tt })
     by (b ∷ t) none some few start =
         let more : 0 < length (b ∷ t) = omega arith in
-        subst (λ q. Resumed max q (b ∷ t)) (sym (some more)) (record { few = few; bytes = refl; skipped = refl; left = refl; fits = record { some = more; few = few; start = start more } })
+        subst (λ q. Resumed max q (b ∷ t)) (sym (some more))
+        (record {
+          few = few;
+          bytes = refl;
+          skipped = refl;
+          left = refl;
+          fits = record { some = more; few = few; start = start more };
+        })
 
-pub loss-lends : (at : ℕ) (lost : Bool) (given : Option Item) (lent : List ℕ) → LossTold at lost given → lent ≡ [] → LentBeside given lent
+pub loss-lends : (at : ℕ) (lost : Bool) (given : Option Item) (lent : List ℕ)
+    → LossTold at lost given → lent ≡ [] → LentBeside given lent
 loss-lends at lost given lent told none =
-    elim told [ inl yes_lost ↦ subst (λ g. LentBeside g lent) (sym yes_lost.1) none | inr not_lost ↦ subst (λ g. LentBeside g lent) (sym not_lost.1) none ]
+    elim told [
+      | inl yes_lost ↦ subst (λ g. LentBeside g lent) (sym yes_lost.1) none
+      | inr not_lost ↦ subst
+          (λ g. LentBeside g lent) (sym not_lost.1) none
+    ]
 
 -- a step that gives an item
-pub takes-item : (v w : ReaderView) (piece : List ℕ) (used : ℕ) (given : Option Item) → used ≤ length piece → 0 < used → w.offset ≡ v.offset + used → w.max ≡ v.max → LentBeside given w.lent → length w.lent ≤ v.max → ((text : List ℕ) → StandsFor v text → GrowsBy v (take used piece) given w text) → TakesPiece v piece used given w
+pub takes-item : (v w : ReaderView) (piece : List ℕ) (used : ℕ) (given : Option Item)
+    → used ≤ length piece → 0 < used → w.offset ≡ v.offset + used → w.max ≡ v.max
+    → LentBeside given w.lent → length w.lent ≤ v.max
+    → ((text : List ℕ) → StandsFor v text → GrowsBy v (take used piece) given w text)
+    → TakesPiece v piece used given w
 takes-item v w piece used given within some counted same lent lent_within grows = record {
   within = within;
   some = some;
@@ -569,112 +773,3 @@ takes-item v w piece used given within some counted same lent lent_within grows 
   lent_within = lent_within;
   grows = grows;
 }
-
--- ---- step after step
-
--- the first bytes of a piece were taken, and gave no item
-pub record TakesPart (old : ReaderView) (piece : List ℕ) (used : ℕ) (new : ReaderView) : Type 0 where
-  pub within : used ≤ length piece
-  pub counted : new.offset ≡ old.offset + used
-  pub max : new.max ≡ old.max
-  pub grows : (text : List ℕ) → StandsFor old text → GrowsBy old (take used piece) None new text
-
-pub takes-none : (v : ReaderView) (piece : List ℕ) → TakesPart v piece 0 v
-takes-none v piece = record {
-  within = omega arith;
-  counted = omega arith;
-  max = refl;
-  grows = λ text s. record {
-    stands = subst (StandsFor v) (sym (append-nil text)) s;
-    first = λ n few. absurd (omega arith);
-    items = ap (items v.max) (append-nil text) ∙ sym (append-nil (items v.max text));
-    wire = tt;
-  };
-}
-
--- a part of a piece and then more of it
-pub grows-on : (old mid new : ReaderView) (piece : List ℕ) (a b : ℕ) (given : Option Item) (text : List ℕ) → a ≤ length piece → b ≤ length (drop a piece) → mid.max ≡ old.max → GrowsBy old (take a piece) None mid text → GrowsBy mid (take b (drop a piece)) given new (text ++ take a piece) → GrowsBy old (take (a + b) piece) given new text
-grows-on old mid new piece a b given text la lb same f g =
-    let front = take a piece in
-    let back = take b (drop a piece) in
-    let both : take (a + b) piece ≡ front ++ back = take-add a b piece in
-    let whole : text ++ take (a + b) piece ≡ (text ++ front) ++ back = ap (λ t. text ++ t) both ∙ sym (append_assoc text front back) in
-    let quiet : items old.max (text ++ front) ≡ items old.max text = f.items ∙ append-nil (items old.max text) in
-    record {
-      stands = subst (StandsFor new) (sym whole) g.stands;
-      first = λ n few. by n few (cases_lt n a) quiet;
-      items =
-          ap (items old.max) whole
-          ∙ ap (λ m. items m ((text ++ front) ++ back)) (sym same)
-          ∙ g.items
-          ∙ ap (λ m. items m (text ++ front) ++ items_given given new.lent) same
-          ∙ ap (λ t. t ++ items_given given new.lent) quiet;
-      wire = subst (EndsWith given new.lent) (sym whole) g.wire;
-    }
-  where
-    by : (n : ℕ) → n < length (take (a + b) piece) → (n < a) ⊎ (a ≤ n) → items old.max (text ++ take a piece) ≡ items old.max text → items old.max (text ++ take n (take (a + b) piece)) ≡ items old.max text
-    by n few (inl less) quiet =
-        ap (λ t. items old.max (text ++ t)) (take-take n (a + b) piece (omega arith) ∙ sym (take-take n a piece (omega arith)))
-        ∙ f.first n (omega (arith, length-take-le a piece la))
-    by n few (inr most) quiet =
-        let k = n - a in
-        let e : n ≡ a + k = omega arith in
-        let lk : k < length (take b (drop a piece)) = omega (arith, length-take (a + b) piece, length-take-le b (drop a piece) lb) in
-        ap (λ t. items old.max (text ++ t)) (take-take n (a + b) piece (omega (arith, length-take (a + b) piece)) ∙ ap (λ m. take m piece) e ∙ take-add a k piece)
-        ∙ ap (items old.max) (sym (append_assoc text (take a piece) (take k (drop a piece))))
-        ∙ ap (λ t. items old.max ((text ++ take a piece) ++ t)) (sym (take-take k b (drop a piece) (omega (arith, length-take-le b (drop a piece) lb))))
-        ∙ ap (λ m. items m ((text ++ take a piece) ++ take k (take b (drop a piece)))) (sym same)
-        ∙ g.first k lk
-        ∙ ap (λ m. items m (text ++ take a piece)) same
-        ∙ quiet
-
-pub part-more : (old mid new : ReaderView) (piece : List ℕ) (a b : ℕ) → TakesPart old piece a mid → TakesPiece mid (drop a piece) b None new → TakesPart old piece (a + b) new
-part-more old mid new piece a b p t = record {
-  within = omega (arith, length-drop a piece, p.within, t.within);
-  counted = omega (arith, p.counted, t.counted);
-  max = t.max ∙ p.max;
-  grows = λ text s.
-      let f = p.grows text s in
-      grows-on old mid new piece a b None text p.within t.within p.max f (t.grows (text ++ take a piece) f.stands);
-}
-
-pub part-last : (old mid new : ReaderView) (piece : List ℕ) (a b : ℕ) (item : Item) → TakesPart old piece a mid → TakesPiece mid (drop a piece) b (Some item) new → TakesAll old piece (a + b) (Some item) new
-part-last old mid new piece a b item p t = record {
-  within = omega (arith, length-drop a piece, p.within, t.within);
-  whole = λ none. absurd (some-none none);
-  some = λ more. omega (arith, t.some);
-  counted = omega (arith, p.counted, t.counted);
-  max = t.max ∙ p.max;
-  lent = t.lent;
-  lent_within = subst (λ m. length new.lent ≤ m) p.max t.lent_within;
-  grows = λ text s.
-      let f = p.grows text s in
-      grows-on old mid new piece a b (Some item) text p.within t.within p.max f (t.grows (text ++ take a piece) f.stands);
-}
-
-pub part-all : (old new : ReaderView) (piece : List ℕ) (used : ℕ) → used ≡ length piece → new.lent ≡ [] → TakesPart old piece used new → TakesAll old piece used None new
-part-all old new piece used all unlent p = record {
-  within = p.within;
-  whole = λ none. all;
-  some = λ more. omega arith;
-  counted = p.counted;
-  max = p.max;
-  lent = unlent;
-  lent_within = omega (arith, ap length unlent);
-  grows = p.grows;
-}
-
--- ---- a reader that lends no longer
-
-pub stands-unlent : (v : ReaderView) (lent : List ℕ) (text : List ℕ) → StandsFor v text → StandsFor (record v { lent = lent }) text
-stands-unlent v lent text s = record {
-  offset = s.offset;
-  place = record { lost = s.place.lost; bytes = s.place.bytes; skipped = s.place.skipped; left = s.place.left };
-}
-
--- what a step over one byte does
-pub one-byte : (v w : ReaderView) (b used : ℕ) (given : Option Item) (text : List ℕ) → TakesPiece (record v { lent = [] }) (b ∷ []) used given w → StandsFor v text → Grows v b given w text
-one-byte v w b used given text t s =
-    let single : used ≡ 1 = omega (arith, t.within, t.some) in
-    let grows = subst (λ n. GrowsBy (record v { lent = [] }) (take n (b ∷ [])) given w text) single (t.grows text (stands-unlent v [] text s)) in
-    record { stands = grows.stands; items = grows.items; wire = grows.wire }

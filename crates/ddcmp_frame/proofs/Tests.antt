@@ -1,9 +1,11 @@
 -- What tests of numbers say, and choices by them.
-use Rattle.std.proofs.Common.{◌≡◌, ◌≢◌, ℕ, ◌<◌, ◌≤◌, Bool, true, false, cond, List, [], ◌∷◌, refl, arith, ◌↔◌, ◌⊎◌, inl, inr, Some, None, Option, Result, Ok}
+use Rattle.std.proofs.Common.{◌≡◌, ◌≢◌, ℕ, ◌<◌, ◌≤◌, Bool, true, false, cond, List, [], ◌∷◌, refl}
+use Rattle.std.proofs.Common.{arith, ◌↔◌, ◌⊎◌, inl, inr, Some, None, Option, Result, Ok}
 use Rattle.std.specs.Prelude.{◌==◌, ◌&&◌, nat_lt, IsTrue}
 use Rattle.std.proofs.lemmas.Bool.Decides.{nat_tests}
 
-pub chosen : {A : Type 0} (b : Bool) (x y z : A) → cond b x y ≡ z → ((b ≡ true) × (x ≡ z)) ⊎ ((b ≡ false) × (y ≡ z))
+pub chosen : {A : Type 0} (b : Bool) (x y z : A) → cond b x y ≡ z
+    → ((b ≡ true) × (x ≡ z)) ⊎ ((b ≡ false) × (y ≡ z))
 chosen true x y z h = inl (refl, h)
 chosen false x y z h = inr (refl, h)
 
@@ -42,10 +44,12 @@ ltb-less a b h = grind (arith, nat_tests)
 pub ltb-not : (a b : ℕ) → nat_lt a b ≡ false → b ≤ a
 ltb-not a b h = grind (arith, nat_tests)
 
-pub pair_from_tests : (x y p q : ℕ) → ((x == p) && (y == q)) ≡ true → ◌≡◌ {A = List ℕ} (x ∷ y ∷ []) (p ∷ q ∷ [])
+pub pair_from_tests : (x y p q : ℕ) → ((x == p) && (y == q)) ≡ true
+    → ◌≡◌ {A = List ℕ} (x ∷ y ∷ []) (p ∷ q ∷ [])
 pair_from_tests x y p q h = grind (arith, nat_tests)
 
-pub tests_from_pair : (x y p q : ℕ) → ◌≡◌ {A = List ℕ} (x ∷ y ∷ []) (p ∷ q ∷ []) → ((x == p) && (y == q)) ≡ true
+pub tests_from_pair : (x y p q : ℕ) → ◌≡◌ {A = List ℕ} (x ∷ y ∷ []) (p ∷ q ∷ [])
+    → ((x == p) && (y == q)) ≡ true
 tests_from_pair x y p q h = let a : x ≡ p = cc in let b : y ≡ q = cc in grind (arith, nat_tests)
 
 pub same_bool : (x y : Bool) (P : Type 0) → (IsTrue x ↔ P) → (IsTrue y ↔ P) → x ≡ y

@@ -1,7 +1,9 @@
 -- The reasons of a NAK and the numbers that its SUBTYPE has for them.
 use Rattle.std.specs.Prelude.{ℕ, ◌==◌, if◌then◌else◌}
 use Rattle.ddcmp_frame.specs.declared.nak.Nak.{Nak}
-use Rattle.ddcmp_frame.specs.declared.nak.Nak.TheVariants.{HeaderCheck, DataCheck, ReplyToRep, NoBuffer, Overrun, TooLong, Format, Other}
+use Rattle.ddcmp_frame.specs.declared.nak.Nak.TheVariants.{HeaderCheck, DataCheck, ReplyToRep}
+use Rattle.ddcmp_frame.specs.declared.nak.Nak.TheVariants.{NoBuffer, Overrun, TooLong, Format}
+use Rattle.ddcmp_frame.specs.declared.nak.Nak.TheVariants.{Other}
 
 -- the SUBTYPE of a reason
 abbrev pub subtype_of : Nak → ℕ

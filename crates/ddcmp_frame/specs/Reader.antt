@@ -1,14 +1,17 @@
 -- What contracts see of a reader, and the texts that it stands for.
-use Rattle.std.specs.Prelude.{◌≡◌, ℕ, ◌+◌, ◌-◌, ◌<◌, ◌≤◌, ◌↔◌, Bool, List, [], ◌∷◌, ◌++◌, length, take, drop, if◌then◌else◌, Option, Some, None, Result, Ok, Err, IfOk}
+use Rattle.std.specs.Prelude.{◌≡◌, ℕ, ◌+◌, ◌-◌, ◌<◌, ◌≤◌, ◌↔◌, Bool, List, [], ◌∷◌, ◌++◌, length}
+use Rattle.std.specs.Prelude.{take, drop, if◌then◌else◌, Option, Some, None, Result, Ok, Err, IfOk}
 use Rattle.ddcmp_num.specs.declared.limits.TheConstants.{MAX_COUNT}
 use Rattle.ddcmp_frame.specs.declared.header.Header.{Header}
 use Rattle.ddcmp_frame.specs.declared.header.Header.TheVariants.{Data, Maint, Control}
 use Rattle.ddcmp_frame.specs.declared.header.HeaderFault.{HeaderFault}
 use Rattle.ddcmp_frame.specs.declared.item.Item.{Item}
-use Rattle.ddcmp_frame.specs.declared.item.Item.TheVariants.{Good, HeaderCheck, DataCheck, TooLong, Format}
+use Rattle.ddcmp_frame.specs.declared.item.Item.TheVariants.{Good, HeaderCheck, DataCheck, TooLong}
+use Rattle.ddcmp_frame.specs.declared.item.Item.TheVariants.{Format}
 use Rattle.ddcmp_frame.specs.declared.item.Pushed.{Pushed}
 use Rattle.ddcmp_frame.specs.declared.reader.ReaderRefusal.{ReaderRefusal}
-use Rattle.ddcmp_frame.specs.declared.reader.ReaderRefusal.TheVariants.{MaxZero, MaxAbove16383, Memory}
+use Rattle.ddcmp_frame.specs.declared.reader.ReaderRefusal.TheVariants.{MaxZero, MaxAbove16383}
+use Rattle.ddcmp_frame.specs.declared.reader.ReaderRefusal.TheVariants.{Memory}
 use Rattle.ddcmp_frame.specs.Spelling.{IsInRange, parsed}
 use Rattle.ddcmp_frame.specs.Wire.{wire, IsFrame}
 use Rattle.ddcmp_frame.specs.Reading.{ReadItem, Place, items, ending}

@@ -1,5 +1,7 @@
 -- How a header is spelled in bytes.
-use Rattle.std.specs.Prelude.{◌≡◌, ◌≢◌, ℕ, ◌+◌, ◌*◌, ◌/◌, ◌%◌, ◌<◌, ◌≤◌, ◌==◌, ◌&&◌, ◌||◌, ◌↔◌, Bool, true, false, IsTrue, List, length, take, drop, slice_index, if◌then◌else◌, Option, Some, None, Result, Ok, Err}
+use Rattle.std.specs.Prelude.{◌≡◌, ◌≢◌, ℕ, ◌+◌, ◌*◌, ◌/◌, ◌%◌, ◌<◌, ◌≤◌, ◌==◌, ◌&&◌, ◌||◌, ◌↔◌}
+use Rattle.std.specs.Prelude.{Bool, true, false, IsTrue, List, length, take, drop, slice_index}
+use Rattle.std.specs.Prelude.{if◌then◌else◌, Option, Some, None, Result, Ok, Err}
 use Rattle.ddcmp_num.specs.Check.{check_of, check_pair}
 use Rattle.ddcmp_frame.specs.declared.header.Flags.{Flags}
 use Rattle.ddcmp_frame.specs.declared.header.ControlType.{ControlType}
@@ -7,9 +9,12 @@ use Rattle.ddcmp_frame.specs.declared.header.ControlType.TheVariants.{Ack, Nak, 
 use Rattle.ddcmp_frame.specs.declared.header.Header.{Header}
 use Rattle.ddcmp_frame.specs.declared.header.Header.TheVariants.{Data, Maint, Control}
 use Rattle.ddcmp_frame.specs.declared.header.HeaderFault.{HeaderFault}
-use Rattle.ddcmp_frame.specs.declared.header.HeaderFault.TheVariants.{NotAStart, Check, BadType, CountZero}
+use Rattle.ddcmp_frame.specs.declared.header.HeaderFault.TheVariants.{NotAStart, Check, BadType}
+use Rattle.ddcmp_frame.specs.declared.header.HeaderFault.TheVariants.{CountZero}
 use Rattle.ddcmp_num.specs.declared.limits.TheConstants.{MAX_COUNT}
-use Rattle.ddcmp_frame.specs.declared.codes.TheConstants.{CONTROL_START, DATA_START, MAINT_START, ACK_TYPE, NAK_TYPE, REP_TYPE, STRT_TYPE, STACK_TYPE}
+use Rattle.ddcmp_frame.specs.declared.codes.TheConstants.{CONTROL_START, DATA_START, MAINT_START}
+use Rattle.ddcmp_frame.specs.declared.codes.TheConstants.{ACK_TYPE, NAK_TYPE, REP_TYPE, STRT_TYPE}
+use Rattle.ddcmp_frame.specs.declared.codes.TheConstants.{STACK_TYPE}
 use Rattle.ddcmp_frame.specs.Fields.{ShortFields, CountedFields}
 
 -- a text: each of its numbers is below 256

@@ -1,11 +1,14 @@
 -- The rows of the table as a reader finds them at the front of the bytes that it holds.
-use Rattle.std.specs.Prelude.{◌≡◌, ℕ, ◌+◌, ◌<◌, ◌≤◌, Bool, true, false, List, [], ◌∷◌, length, take, slice_index, if◌then◌else◌, Option, Some, None, Ok, Err}
+use Rattle.std.specs.Prelude.{◌≡◌, ℕ, ◌+◌, ◌<◌, ◌≤◌, Bool, true, false, List, [], ◌∷◌, length, take}
+use Rattle.std.specs.Prelude.{slice_index, if◌then◌else◌, Option, Some, None, Ok, Err}
 use Rattle.ddcmp_num.specs.declared.limits.TheConstants.{MAX_COUNT}
 use Rattle.ddcmp_frame.specs.declared.header.HeaderFault.TheVariants.{Check}
 use Rattle.ddcmp_frame.specs.declared.item.Item.{Item}
-use Rattle.ddcmp_frame.specs.declared.item.Item.TheVariants.{Good, HeaderCheck, DataCheck, TooLong, Format}
+use Rattle.ddcmp_frame.specs.declared.item.Item.TheVariants.{Good, HeaderCheck, DataCheck, TooLong}
+use Rattle.ddcmp_frame.specs.declared.item.Item.TheVariants.{Format}
 use Rattle.ddcmp_frame.specs.declared.plain.Step.{Step}
-use Rattle.ddcmp_frame.specs.declared.plain.Step.TheVariants.{Unfinished, Skips, Fails, Announces, Gives}
+use Rattle.ddcmp_frame.specs.declared.plain.Step.TheVariants.{Unfinished, Skips, Fails, Announces}
+use Rattle.ddcmp_frame.specs.declared.plain.Step.TheVariants.{Gives}
 use Rattle.ddcmp_frame.specs.Spelling.{is_start, parsed}
 use Rattle.ddcmp_frame.specs.Wire.{wire, IsFrame}
 use Rattle.ddcmp_frame.specs.Reading.{ReadItem, Place, place_after, count_of, data_after_header}

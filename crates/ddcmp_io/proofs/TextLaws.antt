@@ -10,18 +10,23 @@ pub sends-as : {a b : Output} {s t : List ℕ} → s ≡ t → HandsOver a b s �
 sends-as {a} {b} e p = subst (λ t. HandsOver a b t) e p
 
 pub sends-nothing : (a : Output) → HandsOver a a []
-sends-nothing a = record { holds = λ start before h. subst (λ t. Holds start t a) (sym (append-nil before)) h }
+sends-nothing a =
+    record { holds = λ start before h. subst (λ t. Holds start t a) (sym (append-nil before)) h }
 
 encode-append : (t x y : List ℕ) → encode_with t (x ++ y) ≡ encode_with t x ++ encode_with t y
 unfolding encode_with
 encode-append t [] y = refl
-encode-append t (b ∷ x) y = ap (λ r. slice_index t (b / 16) ∷ slice_index t (b % 16) ∷ r) (encode-append t x y)
+encode-append t (b ∷ x) y =
+    ap (λ r. slice_index t (b / 16) ∷ slice_index t (b % 16) ∷ r) (encode-append t x y)
 
 pub hex-nothing : encode_lower [] ≡ []
 unfolding encode_with
 hex-nothing = refl
 
 -- the next part of some bytes
-pub hex-more : (bytes : List ℕ) (i n : ℕ) → encode_lower (take i bytes) ++ encode_lower (take n (drop i bytes)) ≡ encode_lower (take (i + n) bytes)
+pub hex-more : (bytes : List ℕ) (i n : ℕ)
+    → encode_lower (take i bytes) ++ encode_lower (take n (drop i bytes))
+    ≡ encode_lower (take (i + n) bytes)
 hex-more bytes i n =
-    sym (encode-append lower_digits (take i bytes) (take n (drop i bytes))) ∙ ap encode_lower (sym (take-add i n bytes))
+    sym (encode-append lower_digits (take i bytes) (take n (drop i bytes)))
+    ∙ ap encode_lower (sym (take-add i n bytes))

@@ -8,7 +8,8 @@ use Rattle.ddcmp_io.specs.declared.device.ToWrite.{ToWrite}
 use Rattle.ddcmp_io.specs.declared.device.Got.{Got}
 use Rattle.ddcmp_io.specs.declared.device.Got.TheVariants.{Bytes, Idle, Failed}
 use Rattle.ddcmp_io.specs.declared.device.Worst.{Worst}
-use Rattle.ddcmp_io.specs.declared.device.Worst.TheVariants.{Fine, Idle as HadIdle, Failed as HadFailed}
+use Rattle.ddcmp_io.specs.declared.device.Worst.TheVariants.{Fine, Idle as HadIdle}
+use Rattle.ddcmp_io.specs.declared.device.Worst.TheVariants.{Failed as HadFailed}
 
 -- a read gave the bytes at its front, none only at the end
 abbrev pub ReadGives : Option (List ℕ) → Option (List ℕ) → Got → List ℕ → Type 0

@@ -1,6 +1,9 @@
 -- A clear line wastes nothing.
-use Rattle.std.proofs.Common.{◌≡◌, ◌≢◌, ◌⊎◌, inl, inr, ℕ, ◌<◌, ◌≤◌, Bool, true, false, cond, List, [], ◌∷◌, ◌++◌, map, length, drop, refl, sym, ap, ◌∙◌, subst, arith, append_assoc, append-nil, Option, Some, None}
-use Rattle.std.specs.Prelude.{nat_le, is_some, is_none, ◌&&◌, ◌==◌, if◌then◌else◌, option_map, option_to_list}
+use Rattle.std.proofs.Common.{◌≡◌, ◌≢◌, ◌⊎◌, inl, inr, ℕ, ◌<◌, ◌≤◌, Bool, true, false, cond, List}
+use Rattle.std.proofs.Common.{[], ◌∷◌, ◌++◌, map, length, drop, refl, sym, ap, ◌∙◌, subst, arith}
+use Rattle.std.proofs.Common.{append_assoc, append-nil, Option, Some, None}
+use Rattle.std.specs.Prelude.{nat_le, is_some, is_none, ◌&&◌, ◌==◌, if◌then◌else◌, option_map}
+use Rattle.std.specs.Prelude.{option_to_list}
 use Rattle.std.proofs.lemmas.List.{append_cancel_left, drop_all, drop-append-le, map-append}
 use Rattle.std.proofs.lemmas.List.Sums.{sum_by-cons}
 use Rattle.ddcmp_frame.specs.declared.header.ControlType.{ControlType}
@@ -11,10 +14,14 @@ use Rattle.ddcmp_frame.specs.Fields.{ShortFields}
 use Rattle.ddcmp_frame.specs.Reading.{items, good_frames_in, good_frames}
 use Rattle.ddcmp_frame.proofs.ReadingLaws.{items-nothing}
 use Rattle.ddcmp_core.specs.declared.state.State.{State}
-use Rattle.ddcmp_core.specs.declared.state.State.TheVariants.{Halted, IStart, AStart, Running, Maintenance}
+use Rattle.ddcmp_core.specs.declared.state.State.TheVariants.{Halted, IStart, AStart, Running}
+use Rattle.ddcmp_core.specs.declared.state.State.TheVariants.{Maintenance}
 use Rattle.ddcmp_core.specs.declared.station_core.StartRefusal.{StartRefusal}
 use Rattle.ddcmp_core.specs.declared.station_core.StartRefusal.TheVariants.{NotHalted, Untaken}
-use Rattle.ddcmp_core.specs.Table.{StationState, Limits, Frame, Data, Acked, Naked, Rep, Strt, Stack, Maint, Good, is_halted, before_next, may_start, after_start, may_send, after_accept, on, Next, Idle, Sends, next, next_frame, after_next}
+use Rattle.ddcmp_core.specs.Table.{StationState, Limits, Frame, Data, Acked, Naked, Rep, Strt}
+use Rattle.ddcmp_core.specs.Table.{Stack, Maint, Good, is_halted, before_next, may_start}
+use Rattle.ddcmp_core.specs.Table.{after_start, may_send, after_accept, on, Next, Idle, Sends, next}
+use Rattle.ddcmp_core.specs.Table.{next_frame, after_next}
 use Rattle.ddcmp_core.specs.Frames.{frame_of, frame_of_control}
 use Rattle.ddcmp_core.specs.Counting.{count_plus}
 use Rattle.ddcmp_core.specs.Core.{IsSound, IsReceivable}
@@ -32,10 +39,16 @@ use Rattle.ddcmp_run.specs.declared.event.Event.TheVariants as event
 use Rattle.ddcmp_run.specs.InOrder.{IsRun}
 use Rattle.ddcmp_run.specs.Link.{link_of}
 use Rattle.ddcmp_run.specs.Place.{WholeFrame, place_of}
-use Rattle.ddcmp_run.specs.Run.{EndState, PairState, with_station, restarts_in, notices_at, frames_polled, whole_frame, after_start_here, after_send_here, after_poll_here, after_arrival_here, after_expire_here, after_take_here, after_event_here, clear_refusal, cleared, after_clear_by, end_of, after_event_at, after_event, run, new_end, new_pair}
+use Rattle.ddcmp_run.specs.Run.{EndState, PairState, with_station, restarts_in, notices_at}
+use Rattle.ddcmp_run.specs.Run.{frames_polled, whole_frame, after_start_here, after_send_here}
+use Rattle.ddcmp_run.specs.Run.{after_poll_here, after_arrival_here, after_expire_here}
+use Rattle.ddcmp_run.specs.Run.{after_take_here, after_event_here, clear_refusal, cleared}
+use Rattle.ddcmp_run.specs.Run.{after_clear_by, end_of, after_event_at, after_event, run, new_end}
+use Rattle.ddcmp_run.specs.Run.{new_pair}
 use Rattle.ddcmp_run.proofs.Places.{good_frames_in-append}
 use Rattle.ddcmp_run.proofs.Modulo.{back-between}
-use Rattle.ddcmp_run.proofs.Relation.{Face, face, up, Wire, no_wire, wire_data, StateFits, Stands, not_begun, begun, Fits, Pending}
+use Rattle.ddcmp_run.proofs.Relation.{Face, face, up, Wire, no_wire, wire_data, StateFits, Stands}
+use Rattle.ddcmp_run.proofs.Relation.{not_begun, begun, Fits, Pending}
 use Rattle.ddcmp_run.proofs.Comings.{comes}
 use Rattle.ddcmp_run.proofs.Sendings.{awake}
 use Rattle.ddcmp_run.proofs.Receptions.{hearing, fits_frame}
@@ -48,9 +61,12 @@ use Rattle.ddcmp_laws.specs.Faithful.{written, Begins}
 use Rattle.ddcmp_laws.specs.Positions.{messages_in}
 use Rattle.ddcmp_laws.specs.Clear.{IsClear, StaysClear, messages_sent, WastesNothing}
 use Rattle.ddcmp_laws.proofs.CountLaws.{inbox_grows}
-use Rattle.ddcmp_laws.proofs.FaithfulLaws.{AllWritable, IsWell, IsStraight, straight_event, well_new}
-use Rattle.ddcmp_laws.proofs.ClearSteps.{Follows, NoData, no_data_more, IsPlain, Goes, goes_nowhere, goes_on, MayCome, hears, NoNaks, polls, expires}
-use Rattle.ddcmp_laws.proofs.ClearReads.{AllGood, good_back, AllShort, short_more, has_read, placed, way_from, heard, items_heard, inbox_heard}
+use Rattle.ddcmp_laws.proofs.FaithfulLaws.{AllWritable, IsWell, IsStraight, straight_event}
+use Rattle.ddcmp_laws.proofs.FaithfulLaws.{well_new}
+use Rattle.ddcmp_laws.proofs.ClearSteps.{Follows, NoData, no_data_more, IsPlain, Goes, goes_nowhere}
+use Rattle.ddcmp_laws.proofs.ClearSteps.{goes_on, MayCome, hears, NoNaks, polls, expires}
+use Rattle.ddcmp_laws.proofs.ClearReads.{AllGood, good_back, AllShort, short_more, has_read, placed}
+use Rattle.ddcmp_laws.proofs.ClearReads.{way_from, heard, items_heard, inbox_heard}
 
 -- ---- frames come to x from y
 
@@ -81,7 +97,8 @@ no_data_back : (fs gs : List Frame) → NoData (fs ++ gs) → NoData gs
 no_data_back [] gs h = h
 no_data_back (f ∷ fs) gs h = no_data_back fs gs h.1
 
-naked_control : (k : ControlType) (h : ShortFields) → is_nak_type k ≡ false → is_naked (frame_of_control k h) ≡ false
+naked_control : (k : ControlType) (h : ShortFields) → is_nak_type k ≡ false
+    → is_naked (frame_of_control k h) ≡ false
 naked_control control.Ack h e = refl
 naked_control control.Nak h e = absurd (cc e)
 naked_control control.Rep h e = refl
@@ -93,25 +110,31 @@ naked_seen (header.Data h) m e = refl
 naked_seen (header.Maint h) m e = refl
 naked_seen (header.Control h) m e = naked_control h.kind h e
 
-all_coming : (l : Limits) (fs : List WholeFrame) → AllWritable fs → AllShort l.longest fs → NoNaks fs
+all_coming : (l : Limits) (fs : List WholeFrame) → AllWritable fs → AllShort l.longest fs
+    → NoNaks fs
     → AllComing l (map seen fs)
 all_coming l [] w s n = tt
-all_coming l (f ∷ fs) w s n = ((w.0.receivable l s.0, naked_seen f.0 f.1 n.0), all_coming l fs w.1 s.1 n.1)
+all_coming l (f ∷ fs) w s n =
+    ((w.0.receivable l s.0, naked_seen f.0 f.1 n.0), all_coming l fs w.1 s.1 n.1)
 
 never_maintenance : (x : Face) (n t : ℕ) → Stands x n t → x.station.state ≢ Maintenance
 never_maintenance x n t (not_begun z h g u) e = let y = sym h ∙ e in cc
 never_maintenance x n t (begun z c f) e = let y = subst (λ p. StateFits p x.given) e f in y
 
 -- nothing was given where a station answers a startup, so nothing is acknowledged to it
-resp_zero : (x y : Face) (fs rest : List Frame) (resp num : ℕ) (message : List ℕ) → x.station.state ≡ AStart
+resp_zero : (x y : Face) (fs rest : List Frame) (resp num : ℕ) (message : List ℕ)
+    → x.station.state ≡ AStart
     → Fits x y fs (Data resp num message ∷ rest) → resp ≡ 0
-resp_zero x y fs rest resp num message e h = let c = comes x y fs [] (Data resp num message) rest h in by c.first c.pending
+resp_zero x y fs rest resp num message e h =
+    let c = comes x y fs [] (Data resp num message) rest h in by c.first c.pending
   where
-    by : {ks qs : List ℕ} → Wire y.given (Data resp num message ∷ []) ks qs → Pending x y fs rest ks qs → resp ≡ 0
+    by : {ks qs : List ℕ} → Wire y.given (Data resp num message ∷ []) ks qs
+        → Pending x y fs rest ks qs → resp ≡ 0
     by (wire_data {q = q} r n a no_wire) p =
         let b = awake x p.sent p.next (λ z. let w = sym e ∙ z in cc) p.stands in
         let k =
-        back-between x.limits.window q p.back (link_of x.given x.acknowledged p.sent (up y) p.forward (q ∷ p.back)) p.reached refl in
+        back-between x.limits.window q p.back
+        (link_of x.given x.acknowledged p.sent (up y) p.forward (q ∷ p.back)) p.reached refl in
         let g : x.given ≡ [] = subst (λ s. StateFits s x.given) e b.state in
         let none : length x.given ≡ 0 = ap length g in
         let most = b.counts.sent_given in
@@ -138,21 +161,28 @@ may_come : (x y : Face) (fs : List Frame) (f : Frame) (rest : List Frame) → Cl
     → MayCome x.limits x.station f
 may_come x y fs (Data resp num message) rest c v n early room = (by x.station.state refl, room, v.0)
   where
-    by : (p : State) → x.station.state ≡ p → (x.station.state ≡ Running) ⊎ ((x.station.state ≡ AStart) × (resp ≡ 0))
+    by : (p : State) → x.station.state ≡ p
+        → (x.station.state ≡ Running) ⊎ ((x.station.state ≡ AStart) × (resp ≡ 0))
     by Halted e =
-        absurd (let t = c.related.there.runs (sender_runs y.station resp num message rest early) in let z = c.fresh e in omega (arith, t.0, z))
-    by IStart e = absurd ((c.related.there.runs (sender_runs y.station resp num message rest early)).1 e)
+        absurd
+        (let t = c.related.there.runs (sender_runs y.station resp num message rest early) in
+        let z = c.fresh e in omega (arith, t.0, z))
+    by IStart e =
+        absurd ((c.related.there.runs (sender_runs y.station resp num message rest early)).1 e)
     by AStart e = inr (e, resp_zero x y fs rest resp num message e c.related.fits)
     by Running e = inl e
-    by Maintenance e = absurd (never_maintenance x c.related.fits.sent c.related.fits.next c.related.fits.stands e)
+    by Maintenance e =
+        absurd (never_maintenance x c.related.fits.sent c.related.fits.next c.related.fits.stands e)
 may_come x y fs (Acked resp) rest c v n early room = v
 may_come x y fs (Naked why resp) rest c v n early room = absurd (cc n)
 may_come x y fs (Rep num) rest c v n early room = tt
-may_come x y fs Strt rest c v n early room = λ e. let z = no-strt-comes y x [] Strt rest c.related.here e in cc
+may_come x y fs Strt rest c v n early room =
+    λ e. let z = no-strt-comes y x [] Strt rest c.related.here e in cc
 may_come x y fs Stack rest c v n early room = tt
 may_come x y fs (Maint message) rest c v n early room = tt
 
-one_heard : (x y : Face) (fs : List Frame) (f : Frame) (rest : List Frame) → Clears x y fs (f ∷ rest)
+one_heard : (x y : Face) (fs : List Frame) (f : Frame) (rest : List Frame)
+    → Clears x y fs (f ∷ rest)
     → IsReceivable x.limits (Good f) → is_naked f ≡ false
     → (y.station.state ≢ Running → NoData (f ∷ rest)) → length x.station.inbox < x.limits.room
     → Clears (hearing x (Good f)) y fs rest × Goes x.station (on x.limits x.station (Good f))
@@ -160,7 +190,9 @@ one_heard x y fs f rest c v n early room =
     let r = c.related in
     let m = may_come x y fs f rest c v n early room in
     let h =
-    hears x.limits x.station f rest y.station.n (never_maintenance x r.fits.sent r.fits.next r.fits.stands) c.sound.in_window c.plain m c.follows in (
+    hears x.limits x.station f rest y.station.n
+    (never_maintenance x r.fits.sent r.fits.next r.fits.stands)
+    c.sound.in_window c.plain m c.follows in (
       record {
         related = record {
           fits = fits_frame x y fs [] f rest (no-strt-comes y x [] f rest r.here) r.fits;
@@ -185,8 +217,11 @@ all_heard (f ∷ mid) rest x y fs c v early room =
     let one = inbox_grows x.limits x.station (Good f) in
     let more = inbox_heard mid (hearing x (Good f)) in
     let s = one_heard x y fs f (mid ++ rest) c v.0.0 v.0.1 early (omega (arith, one, more, room)) in
-    let r = all_heard mid rest (hearing x (Good f)) y fs s.0 v.1 (λ e. (early e).1) room in
-    (r.0, goes_on x.station (on x.limits x.station (Good f)) (heard mid (hearing x (Good f))).station s.1 r.1)
+    let r = all_heard mid rest (hearing x (Good f)) y fs s.0 v.1 (λ e. (early e).1) room in (
+      r.0,
+      goes_on x.station (on x.limits x.station (Good f))
+          (heard mid (hearing x (Good f))).station s.1 r.1,
+    )
 
 -- ---- an end, and the frames on their way
 
@@ -220,13 +255,23 @@ record Tidy (most : ℕ) (x y : EndState) : Type 0 where
   back : Way most y x
 
 tidy_turned : (most : ℕ) (x y : EndState) → Tidy most x y → Tidy most y x
-tidy_turned most x y t = record { longest_x = t.longest_y; longest_y = t.longest_x; here = t.there; there = t.here; forth = t.back; back = t.forth }
+tidy_turned most x y t =
+    record {
+      longest_x = t.longest_y;
+      longest_y = t.longest_x;
+      here = t.there;
+      there = t.here;
+      forth = t.back;
+      back = t.forth;
+    }
 
 -- ---- bytes arrive
 
-tidy_arrive : (most : ℕ) (bytes : List ℕ) (x y : EndState) → Tidy most x y → Linked x y → IsWell x → IsWell y
+tidy_arrive : (most : ℕ) (bytes : List ℕ) (x y : EndState) → Tidy most x y → Linked x y → IsWell x
+    → IsWell y
     → Begins (x.arrived ++ bytes) (written y)
-    → length (after_arrival_here bytes x).core.station.inbox < (after_arrival_here bytes x).core.limits.room
+    → length (after_arrival_here bytes x).core.station.inbox
+    < (after_arrival_here bytes x).core.limits.room
     → Tidy most (after_arrival_here bytes x) y
 tidy_arrive most bytes x y t l hx hy b room =
     let k = has_read most y.syn y.sent (x.arrived ++ bytes) hy.sent t.there.short b in
@@ -238,19 +283,26 @@ tidy_arrive most bytes x y t l hx hy b room =
     let came' : good_frames most (x.arrived ++ bytes) ≡ came ++ mid =
     ap good_frames_in all ∙ good_frames_in-append (items most x.arrived) its in
     let both : came ++ (mid ++ k.rest) ≡ came ++ t.back.rest =
-    sym (append_assoc came mid k.rest) ∙ ap (λ (z : List WholeFrame). z ++ k.rest) (sym came') ∙ k.rest_is
+    sym (append_assoc came mid k.rest) ∙ ap (λ (z : List WholeFrame). z ++ k.rest) (sym came')
+    ∙ k.rest_is
     ∙ sym t.back.rest_is in
-    let split : mid ++ k.rest ≡ t.back.rest = append_cancel_left came (mid ++ k.rest) t.back.rest both in
+    let split : mid ++ k.rest ≡ t.back.rest =
+    append_cancel_left came (mid ++ k.rest) t.back.rest both in
     let seen_split : map seen t.back.rest ≡ map seen mid ++ map seen k.rest =
     ap (map seen) (sym split) ∙ map-append seen mid k.rest in
     let way : on_the_way l.here y.sent ≡ map seen t.back.rest =
-    way_from came t.back.rest y.sent l.here t.back.rest_is (ap (λ m. place_of (good_frames m x.arrived) y.sent) (sym t.longest_x) ∙ l.here_is) in
-    let c : Clears (face x) (face y) (on_the_way l.there x.sent) (map seen mid ++ map seen k.rest) = record {
-      related = subst (λ fs. Related (face x) (face y) (on_the_way l.there x.sent) fs) (way ∙ seen_split) l.related;
+    way_from came t.back.rest y.sent l.here t.back.rest_is
+    (ap (λ m. place_of (good_frames m x.arrived) y.sent) (sym t.longest_x) ∙ l.here_is) in
+    let c : Clears (face x) (face y) (on_the_way l.there x.sent) (map seen mid ++ map seen k.rest) =
+    record {
+      related =
+          subst (λ fs. Related (face x) (face y) (on_the_way l.there x.sent) fs) (way ∙ seen_split)
+          l.related;
       sound = hx.sound;
       fresh = λ e. (t.here.fresh e).starts_is;
       plain = t.here.plain;
-      follows = subst (λ fs. Follows x.core.station.r fs y.core.station.n) seen_split t.back.follows;
+      follows =
+          subst (λ fs. Follows x.core.station.r fs y.core.station.n) seen_split t.back.follows;
     } in
     let whole : map seen y.sent ≡ map seen came ++ (map seen mid ++ map seen k.rest) =
     ap (map seen) (sym t.back.rest_is) ∙ map-append seen came t.back.rest
@@ -259,21 +311,28 @@ tidy_arrive most bytes x y t l hx hy b room =
     coming_front x.core.limits (map seen mid) (map seen k.rest)
     (coming_back x.core.limits (map seen came) _
     (subst (AllComing x.core.limits) whole
-    (all_coming x.core.limits y.sent hy.sent (subst (λ m. AllShort m y.sent) (sym t.longest_x) t.there.short) t.there.no_naks))) in
-    let early : y.core.station.state ≢ Running → NoData (map seen mid ++ map seen k.rest) = λ e. subst NoData seen_split (t.back.early e) in
+    (all_coming x.core.limits y.sent hy.sent
+    (subst (λ m. AllShort m y.sent) (sym t.longest_x) t.there.short) t.there.no_naks))) in
+    let early : y.core.station.state ≢ Running → NoData (map seen mid ++ map seen k.rest) =
+    λ e. subst NoData seen_split (t.back.early e) in
     let is : (after_arrival_here bytes x).core.station ≡ (heard (map seen mid) (face x)).station =
     ap (λ m. (after_items (items_added m x.arrived bytes) x.core).station) t.longest_x
     ∙ items_heard its x.core (face x) good refl refl in
-    let limits : (after_arrival_here bytes x).core.limits ≡ x.core.limits = after_piece-limits x.arrived bytes x.core in
+    let limits : (after_arrival_here bytes x).core.limits ≡ x.core.limits =
+    after_piece-limits x.arrived bytes x.core in
     let inbox = ap (λ (s : StationState). length s.inbox) is in
     let most_room = ap (λ (z : Limits). z.room) limits in
     let r =
-    all_heard (map seen mid) (map seen k.rest) (face x) (face y) (on_the_way l.there x.sent) c coming early (omega (arith, inbox, most_room, room)) in
-    let g : Goes x.core.station (after_arrival_here bytes x).core.station = subst (Goes x.core.station) (sym is) r.1 in
+    all_heard (map seen mid) (map seen k.rest) (face x) (face y) (on_the_way l.there x.sent)
+    c coming early (omega (arith, inbox, most_room, room)) in
+    let g : Goes x.core.station (after_arrival_here bytes x).core.station =
+    subst (Goes x.core.station) (sym is) r.1 in
     let quiet = (linked-arrival bytes x y t.here.once
-    (ap (λ m. is_some (place_of (good_frames m (x.arrived ++ bytes)) y.sent)) t.longest_x ∙ placed (good_frames most (x.arrived ++ bytes)) k.rest y.sent k.rest_is) l).quiet in
+    (ap (λ m. is_some (place_of (good_frames m (x.arrived ++ bytes)) y.sent)) t.longest_x
+    ∙ placed (good_frames most (x.arrived ++ bytes)) k.rest y.sent k.rest_is) l).quiet in
     let starts : (after_arrival_here bytes x).starts ≡ x.starts =
-    same-starts x.starts (restarts_in (notices_at bytes x)) t.here.once (none-anew (notices_at bytes x) quiet) in
+    same-starts x.starts (restarts_in (notices_at bytes x)) t.here.once
+    (none-anew (notices_at bytes x) quiet) in
     record {
       longest_x = ap (λ (z : Limits). z.longest) limits ∙ t.longest_x;
       longest_y = t.longest_y;
@@ -297,13 +356,17 @@ tidy_arrive most bytes x y t l hx hy b room =
       forth = record {
         rest = t.forth.rest;
         rest_is = t.forth.rest_is;
-        follows = subst (λ n. Follows y.core.station.r (map seen t.forth.rest) n) (sym g.n) t.forth.follows;
+        follows =
+            subst (λ n. Follows y.core.station.r (map seen t.forth.rest) n) (sym g.n)
+            t.forth.follows;
         early = λ e. t.forth.early (λ q. e (g.runs q));
       };
       back = record {
         rest = k.rest;
         rest_is = k.rest_is;
-        follows = subst (λ (s : StationState). Follows s.r (map seen k.rest) y.core.station.n) (sym is) r.0.follows;
+        follows =
+            subst (λ (s : StationState). Follows s.r (map seen k.rest) y.core.station.n) (sym is)
+            r.0.follows;
         early = λ e. no_data_back (map seen mid) (map seen k.rest) (early e);
       };
     }
@@ -314,7 +377,9 @@ halted_starts : (s : StationState) → may_start s ≡ true → s.state ≡ Halt
 halted_starts s = by s.state
   where
     by : (p : State)
-        → is_none (if is_halted p then (if length s.inbox == 0 then None else Some Untaken) else Some NotHalted) ≡ true
+        → is_none
+        (if is_halted p then (if length s.inbox == 0 then None else Some Untaken)
+        else Some NotHalted) ≡ true
         → p ≡ Halted
     by Halted e = refl
     by IStart e = absurd (cc e)
@@ -324,7 +389,8 @@ halted_starts s = by s.state
 
 abbrev start_by : Bool → EndState → EndState
 start_by b x =
-    record (with_station (cond b (after_start x.core.station) x.core.station) x) { starts = cond b (count_plus x.starts 1) x.starts }
+    record (with_station (cond b (after_start x.core.station) x.core.station) x)
+    { starts = cond b (count_plus x.starts 1) x.starts }
 
 tidy_start : (most : ℕ) (x y : EndState) → Tidy most x y → Tidy most (after_start_here x) y
 tidy_start most x y t = by (may_start x.core.station) refl
@@ -344,41 +410,53 @@ tidy_start most x y t = by (may_start x.core.station) refl
             plain = record { quiet = refl; ahead = refl };
             no_naks = t.here.no_naks;
             order =
-                ap (λ (z : List (List ℕ)). messages_sent x ++ z) (sym (ap (drop (before_next x.core.station)) u.out_is ∙ drop_all (before_next x.core.station) [] (omega arith)))
+                ap (λ (z : List (List ℕ)). messages_sent x ++ z)
+                (sym
+                (ap (drop (before_next x.core.station)) u.out_is
+                ∙ drop_all (before_next x.core.station) [] (omega arith)))
                 ∙ t.here.order;
           };
           there = t.there;
           forth = record {
             rest = t.forth.rest;
             rest_is = t.forth.rest_is;
-            follows = subst (λ n. Follows y.core.station.r (map seen t.forth.rest) n) u.n_is t.forth.follows;
+            follows =
+                subst (λ n. Follows y.core.station.r (map seen t.forth.rest) n)
+                u.n_is t.forth.follows;
             early = λ z. t.forth.early (λ q. let w = sym h ∙ q in cc);
           };
           back = record {
             rest = t.back.rest;
             rest_is = t.back.rest_is;
-            follows = subst (λ r. Follows r (map seen t.back.rest) y.core.station.n) u.r_is t.back.follows;
+            follows =
+                subst (λ r. Follows r (map seen t.back.rest) y.core.station.n)
+                u.r_is t.back.follows;
             early = t.back.early;
           };
         }
 
 abbrev send_by : Bool → List ℕ → EndState → EndState
 send_by b message x =
-    record (with_station (cond b (after_accept x.core.station message) x.core.station) x) { given = cond b (x.given ++ message ∷ []) x.given }
+    record (with_station (cond b (after_accept x.core.station message) x.core.station) x)
+    { given = cond b (x.given ++ message ∷ []) x.given }
 
-sends_running : (l : Limits) (s : StationState) (message : List ℕ) → may_send l s message ≡ true → s.state ≢ Halted
+sends_running : (l : Limits) (s : StationState) (message : List ℕ) → may_send l s message ≡ true
+    → s.state ≢ Halted
 sends_running l s message e h = absurd (grind (arith, e, h))
 
 tidy_send : (most : ℕ) (message : List ℕ) (x y : EndState) → IsWell x → Tidy most x y
     → Tidy most (after_send_here message x) y
 tidy_send most message x y w t = by (may_send x.core.limits x.core.station message) refl
   where
-    by : (b : Bool) → may_send x.core.limits x.core.station message ≡ b → Tidy most (send_by b message x) y
+    by : (b : Bool) → may_send x.core.limits x.core.station message ≡ b
+        → Tidy most (send_by b message x) y
     by false e = t
     by true e =
         let s = x.core.station in
         let p = before_next s in
-        let kept : p ≤ length s.out = (let a = w.sound.in_window.next_sent in let b = w.sound.in_window.sent_kept in omega (arith, a, b)) in
+        let kept : p ≤ length s.out =
+        (let a = w.sound.in_window.next_sent in let b = w.sound.in_window.sent_kept in
+        omega (arith, a, b)) in
         record {
           longest_x = t.longest_x;
           longest_y = t.longest_y;
@@ -389,17 +467,32 @@ tidy_send most message x y w t = by (may_send x.core.limits x.core.station messa
             plain = record { quiet = t.here.plain.quiet; ahead = t.here.plain.ahead };
             no_naks = t.here.no_naks;
             order =
-                ap (λ (z : List (List ℕ)). messages_sent x ++ z) (drop-append-le p s.out (message ∷ []) kept)
+                ap (λ (z : List (List ℕ)). messages_sent x ++ z)
+                (drop-append-le p s.out (message ∷ []) kept)
                 ∙ sym (append_assoc (messages_sent x) (drop p s.out) (message ∷ []))
                 ∙ ap (λ (z : List (List ℕ)). z ++ message ∷ []) t.here.order;
           };
           there = t.there;
-          forth = record { rest = t.forth.rest; rest_is = t.forth.rest_is; follows = t.forth.follows; early = t.forth.early };
-          back = record { rest = t.back.rest; rest_is = t.back.rest_is; follows = t.back.follows; early = t.back.early };
+          forth =
+              record {
+                rest = t.forth.rest;
+                rest_is = t.forth.rest_is;
+                follows = t.forth.follows;
+                early = t.forth.early;
+              };
+          back =
+              record {
+                rest = t.back.rest;
+                rest_is = t.back.rest_is;
+                follows = t.back.follows;
+                early = t.back.early;
+              };
         }
 
 abbrev expire_by : StationState → EndState → EndState
-expire_by u x = record x { core = record x.core { station = u; counters = (after_expire_here x).core.counters } }
+expire_by u x =
+    record x
+    { core = record x.core { station = u; counters = (after_expire_here x).core.counters } }
 
 tidy_expire : (most : ℕ) (x y : EndState) → Tidy most x y → Tidy most (after_expire_here x) y
 tidy_expire most x y t =
@@ -410,15 +503,29 @@ tidy_expire most x y t =
       longest_y = t.longest_y;
       here = record {
         short = t.here.short;
-        fresh = λ z. (let u = t.here.fresh z in record { starts_is = u.starts_is; r_is = u.r_is; n_is = u.n_is; out_is = u.out_is });
+        fresh =
+            λ z. (let u = t.here.fresh z in
+            record { starts_is = u.starts_is; r_is = u.r_is; n_is = u.n_is; out_is = u.out_is });
         once = t.here.once;
         plain = record { quiet = t.here.plain.quiet; ahead = t.here.plain.ahead };
         no_naks = t.here.no_naks;
         order = t.here.order;
       };
       there = t.there;
-      forth = record { rest = t.forth.rest; rest_is = t.forth.rest_is; follows = t.forth.follows; early = t.forth.early };
-      back = record { rest = t.back.rest; rest_is = t.back.rest_is; follows = t.back.follows; early = t.back.early };
+      forth =
+          record {
+            rest = t.forth.rest;
+            rest_is = t.forth.rest_is;
+            follows = t.forth.follows;
+            early = t.forth.early;
+          };
+      back =
+          record {
+            rest = t.back.rest;
+            rest_is = t.back.rest_is;
+            follows = t.back.follows;
+            early = t.back.early;
+          };
     })
 
 tidy_take : (most : ℕ) (x y : EndState) → Tidy most x y → Tidy most (after_take_here x) y
@@ -427,15 +534,29 @@ tidy_take most x y t = record {
   longest_y = t.longest_y;
   here = record {
     short = t.here.short;
-    fresh = λ z. (let u = t.here.fresh z in record { starts_is = u.starts_is; r_is = u.r_is; n_is = u.n_is; out_is = u.out_is });
+    fresh =
+        λ z. (let u = t.here.fresh z in
+        record { starts_is = u.starts_is; r_is = u.r_is; n_is = u.n_is; out_is = u.out_is });
     once = t.here.once;
     plain = record { quiet = t.here.plain.quiet; ahead = t.here.plain.ahead };
     no_naks = t.here.no_naks;
     order = t.here.order;
   };
   there = t.there;
-  forth = record { rest = t.forth.rest; rest_is = t.forth.rest_is; follows = t.forth.follows; early = t.forth.early };
-  back = record { rest = t.back.rest; rest_is = t.back.rest_is; follows = t.back.follows; early = t.back.early };
+  forth =
+      record {
+        rest = t.forth.rest;
+        rest_is = t.forth.rest_is;
+        follows = t.forth.follows;
+        early = t.forth.early;
+      };
+  back =
+      record {
+        rest = t.back.rest;
+        rest_is = t.back.rest_is;
+        follows = t.back.follows;
+        early = t.back.early;
+      };
 }
 
 -- ---- a frame is sent
@@ -446,7 +567,8 @@ no_naks_more (f ∷ fs) gs h g = (h.0, no_naks_more fs gs h.1 g)
 
 messages_more : (fs gs : List Frame) → messages_in (fs ++ gs) ≡ messages_in fs ++ messages_in gs
 messages_more [] gs = refl
-messages_more (Data resp num message ∷ fs) gs = ap (λ (z : List (List ℕ)). message ∷ z) (messages_more fs gs)
+messages_more (Data resp num message ∷ fs) gs =
+    ap (λ (z : List (List ℕ)). message ∷ z) (messages_more fs gs)
 messages_more (Acked resp ∷ fs) gs = messages_more fs gs
 messages_more (Naked why resp ∷ fs) gs = messages_more fs gs
 messages_more (Rep num ∷ fs) gs = messages_more fs gs
@@ -459,7 +581,8 @@ short_polled : (l : Limits) (s : StationState) (t : Next) → next s ≡ t → I
 short_polled l s Idle e h = tt
 short_polled l s (Sends f u) e h = ((read_sent l s f u h e).3, tt)
 
-tidy_poll : (most : ℕ) (x y : EndState) → Linked x y → IsWell x → Tidy most x y → Tidy most (after_poll_here x) y
+tidy_poll : (most : ℕ) (x y : EndState) → Linked x y → IsWell x → Tidy most x y
+    → Tidy most (after_poll_here x) y
 tidy_poll most x y l w t =
     let s = x.core.station in
     let f = l.related.fits in
@@ -467,13 +590,16 @@ tidy_poll most x y l w t =
     let count = w.sound.out_stored.count in
     let limit = w.sound.out_stored.limit_max in
     let p =
-    polls s (next s) (sending s) (never_maintenance (face x) f.sent f.next f.stands) w.sound.in_window (omega (arith, count, limit)) t.here.plain in
+    polls s (next s) (sending s) (never_maintenance (face x) f.sent f.next f.stands)
+    w.sound.in_window (omega (arith, count, limit)) t.here.plain in
     record {
       longest_x = t.longest_x;
       longest_y = t.longest_y;
       here = record {
         short =
-            short_more most x.sent new t.here.short (subst (λ m. AllShort m new) t.longest_x (short_polled x.core.limits s (next s) refl w.sound));
+            short_more most x.sent new t.here.short
+            (subst (λ m. AllShort m new) t.longest_x
+            (short_polled x.core.limits s (next s) refl w.sound));
         fresh = λ z.
             let same = p.halted z in
             let u = t.here.fresh (ap (λ (s : StationState). s.state) (sym same) ∙ z) in
@@ -487,7 +613,11 @@ tidy_poll most x y l w t =
         plain = p.plain;
         no_naks = no_naks_more x.sent new t.here.no_naks p.no_naks;
         order =
-            ap (λ (z : List (List ℕ)). z ++ drop (before_next (after_next (next s) s)) (after_next (next s) s).out) (ap messages_in (map-append seen x.sent new) ∙ messages_more (map seen x.sent) (map seen new))
+            ap
+            (λ (z : List (List ℕ)). z
+            ++ drop (before_next (after_next (next s) s)) (after_next (next s) s).out)
+            (ap messages_in (map-append seen x.sent new)
+            ∙ messages_more (map seen x.sent) (map seen new))
             ∙ append_assoc (messages_sent x) (messages_in (map seen new)) _
             ∙ ap (λ (z : List (List ℕ)). messages_sent x ++ z) p.unsent ∙ t.here.order;
       };
@@ -498,15 +628,19 @@ tidy_poll most x y l w t =
             sym (append_assoc (good_frames most y.arrived) t.forth.rest new)
             ∙ ap (λ (z : List WholeFrame). z ++ new) t.forth.rest_is;
         follows =
-            subst (λ fs. Follows y.core.station.r fs (after_next (next s) s).n) (sym (map-append seen t.forth.rest new)) (p.follows y.core.station.r (map seen t.forth.rest) t.forth.follows);
+            subst (λ fs. Follows y.core.station.r fs (after_next (next s) s).n)
+            (sym (map-append seen t.forth.rest new))
+            (p.follows y.core.station.r (map seen t.forth.rest) t.forth.follows);
         early = λ z.
             let e : s.state ≢ Running = λ q. z (p.state ∙ q) in
-            subst NoData (sym (map-append seen t.forth.rest new)) (no_data_more (map seen t.forth.rest) (map seen new) (t.forth.early e) (p.early e));
+            subst NoData (sym (map-append seen t.forth.rest new))
+            (no_data_more (map seen t.forth.rest) (map seen new) (t.forth.early e) (p.early e));
       };
       back = record {
         rest = t.back.rest;
         rest_is = t.back.rest_is;
-        follows = subst (λ r. Follows r (map seen t.back.rest) y.core.station.n) (sym p.r) t.back.follows;
+        follows =
+            subst (λ r. Follows r (map seen t.back.rest) y.core.station.n) (sym p.r) t.back.follows;
         early = t.back.early;
       };
     }
@@ -520,13 +654,15 @@ is_halted_at AStart e = absurd (cc)
 is_halted_at Running e = absurd (cc)
 is_halted_at Maintenance e = absurd (cc)
 
-both_halted : (a b c : Bool) → (if a && b then (if c then None else Some Untaken) else Some NotHalted) ≡ None
+both_halted : (a b c : Bool)
+    → (if a && b then (if c then None else Some Untaken) else Some NotHalted) ≡ None
     → (a ≡ true) × (b ≡ true)
 both_halted true true c e = (refl, refl)
 both_halted true false c e = absurd (cc e)
 both_halted false b c e = absurd (cc e)
 
-tidy_cleared : (most : ℕ) (x : EndState) → x.core.station.state ≡ Halted → IsTidy most x → IsTidy most (cleared x)
+tidy_cleared : (most : ℕ) (x : EndState) → x.core.station.state ≡ Halted → IsTidy most x
+    → IsTidy most (cleared x)
 tidy_cleared most x h t =
     let u = t.fresh h in
     record {
@@ -535,7 +671,9 @@ tidy_cleared most x h t =
       once = omega arith;
       plain = t.plain;
       no_naks = tt;
-      order = ap (drop (before_next x.core.station)) u.out_is ∙ drop_all (before_next x.core.station) [] (omega arith);
+      order =
+          ap (drop (before_next x.core.station)) u.out_is
+          ∙ drop_all (before_next x.core.station) [] (omega arith);
     }
 
 nothing_read : (most : ℕ) → good_frames most [] ++ [] ≡ []
@@ -544,9 +682,11 @@ nothing_read most = append-nil (good_frames most []) ∙ ap good_frames_in (item
 
 way_cleared : (most : ℕ) (x y : EndState) → y.core.station.r ≡ 0 → x.core.station.n ≡ 0
     → Way most (cleared x) (cleared y)
-way_cleared most x y r n = record { rest = []; rest_is = nothing_read most; follows = r ∙ sym n; early = λ e. tt }
+way_cleared most x y r n =
+    record { rest = []; rest_is = nothing_read most; follows = r ∙ sym n; early = λ e. tt }
 
-tidy_clear : (most : ℕ) (o : Option StartRefusal) (p : PairState) → clear_refusal p ≡ o → Tidy most p.a p.b
+tidy_clear : (most : ℕ) (o : Option StartRefusal) (p : PairState) → clear_refusal p ≡ o
+    → Tidy most p.a p.b
     → Tidy most (after_clear_by o p).a (after_clear_by o p).b
 tidy_clear most (Some refusal) p e t = t
 tidy_clear most None p e t =
@@ -572,13 +712,15 @@ NoHalt e = Unit {0}
 
 tidy_here : (most : ℕ) (e : Event) (x y : EndState) → NoHalt e → Linked x y → IsWell x → IsWell y
     → Begins (after_event_here e x).arrived (written y)
-    → length (after_event_here e x).core.station.inbox < (after_event_here e x).core.limits.room → Tidy most x y
+    → length (after_event_here e x).core.station.inbox < (after_event_here e x).core.limits.room
+    → Tidy most x y
     → Tidy most (after_event_here e x) y
 tidy_here most (event.Start e) x y n l hx hy b room t = tidy_start most x y t
 tidy_here most (event.Halt e) x y n l hx hy b room t = absurd n
 tidy_here most (event.Send e message) x y n l hx hy b room t = tidy_send most message x y hx t
 tidy_here most (event.Poll e) x y n l hx hy b room t = tidy_poll most x y l hx t
-tidy_here most (event.Arrive e bytes) x y n l hx hy b room t = tidy_arrive most bytes x y t l hx hy b room
+tidy_here most (event.Arrive e bytes) x y n l hx hy b room t =
+    tidy_arrive most bytes x y t l hx hy b room
 tidy_here most (event.Expire e) x y n l hx hy b room t = tidy_expire most x y t
 tidy_here most (event.Take e) x y n l hx hy b room t = tidy_take most x y t
 tidy_here most event.Clear x y n l hx hy b room t = t
@@ -593,23 +735,29 @@ clean_is m n h g = grind (arith)
 
 neat_linked : (most : ℕ) (p : PairState) → Neat most p → Linked p.a p.b
 neat_linked most p n =
-    (run-holds p n.leads).linked n.straight.honest (clean_is p.a.starts p.b.starts n.tidy.here.once n.tidy.there.once)
+    (run-holds p n.leads).linked n.straight.honest
+    (clean_is p.a.starts p.b.starts n.tidy.here.once n.tidy.there.once)
 
-tidy_at : (most : ℕ) (o : Option End) (e : Event) (p : PairState) → NoHalt e → IsClear (after_event_at o e p)
+tidy_at : (most : ℕ) (o : Option End) (e : Event) (p : PairState) → NoHalt e
+    → IsClear (after_event_at o e p)
     → Neat most p → Tidy most (after_event_at o e p).a (after_event_at o e p).b
 tidy_at most (Some A) e p h c n =
-    tidy_here most e p.a p.b h (neat_linked most p n) n.straight.a n.straight.b c.faithful.to_a c.room_a n.tidy
+    tidy_here most e p.a p.b h (neat_linked most p n)
+    n.straight.a n.straight.b c.faithful.to_a c.room_a n.tidy
 tidy_at most (Some B) e p h c n =
     tidy_turned most _ p.a
-    (tidy_here most e p.b p.a h (linked-turned p.a p.b (neat_linked most p n)) n.straight.b n.straight.a c.faithful.to_b c.room_b (tidy_turned most p.a p.b n.tidy))
+    (tidy_here most e p.b p.a h (linked-turned p.a p.b (neat_linked most p n))
+    n.straight.b n.straight.a c.faithful.to_b c.room_b (tidy_turned most p.a p.b n.tidy))
 tidy_at most None e p h c n = tidy_clear most (clear_refusal p) p refl n.tidy
 
-tidy_event : (most : ℕ) (e : Event) (p : PairState) → NoHalt e → IsClear (after_event e p) → Neat most p
+tidy_event : (most : ℕ) (e : Event) (p : PairState) → NoHalt e → IsClear (after_event e p)
+    → Neat most p
     → Tidy most (after_event e p).a (after_event e p).b
 unfolding after_event
 tidy_event most e p h c n = tidy_at most (end_of e) e p h c n
 
-neat_event : (most : ℕ) (e : Event) (p : PairState) → NoHalt e → IsClear (after_event e p) → Neat most p
+neat_event : (most : ℕ) (e : Event) (p : PairState) → NoHalt e → IsClear (after_event e p)
+    → Neat most p
     → Neat most (after_event e p)
 neat_event most e p h c n = record {
   leads = run-event e p (after_event e p) refl n.leads;
@@ -632,7 +780,9 @@ neat_run : (most : ℕ) (events : List Event) (p : PairState) → StaysClear eve
     → Neat most (run events p)
 unfolding run
 neat_run most [] p s n = n
-neat_run most (e ∷ rest) p s n = let f = first_clear e rest p s in neat_run most rest (after_event e p) f.1.1 (neat_event most e p f.0 f.1.0 n)
+neat_run most (e ∷ rest) p s n =
+    let f = first_clear e rest p s in
+    neat_run most rest (after_event e p) f.1.1 (neat_event most e p f.0 f.1.0 n)
 
 tidy_new : (most : ℕ) (config : Config) → IsTidy most (new_end config)
 tidy_new most config = record {
@@ -645,9 +795,11 @@ tidy_new most config = record {
 }
 
 way_new : (most : ℕ) (first second : Config) → Way most (new_end first) (new_end second)
-way_new most first second = record { rest = []; rest_is = nothing_read most; follows = refl; early = λ e. tt }
+way_new most first second =
+    record { rest = []; rest_is = nothing_read most; follows = refl; early = λ e. tt }
 
-neat_new : (first second : Config) → first_refusal first ≡ None → first_refusal second ≡ None → first.max ≡ second.max
+neat_new : (first second : Config) → first_refusal first ≡ None → first_refusal second ≡ None
+    → first.max ≡ second.max
     → Neat first.max (new_pair first second)
 neat_new first second f g same = record {
   leads = run-new first second f g (new_pair first second) refl;
@@ -676,11 +828,18 @@ none_among (f ∷ sent) n =
     omega (arith, one, more, sum)
 
 wastes_nothing : (most : ℕ) (x : EndState) → IsTidy most x → WastesNothing x
-wastes_nothing most x t = record { no_nak = none_among x.sent t.no_naks; once = (drop (before_next x.core.station) x.core.station.out, t.order) }
+wastes_nothing most x t =
+    record {
+      no_nak = none_among x.sent t.no_naks;
+      once = (drop (before_next x.core.station) x.core.station.out, t.order);
+    }
 
-pub clear_wastes_nothing : (first second : Config) (events : List Event) → first_refusal first ≡ None
-    → first_refusal second ≡ None → first.max ≡ second.max → StaysClear events (new_pair first second)
-    → WastesNothing (run events (new_pair first second)).a × WastesNothing (run events (new_pair first second)).b
+pub clear_wastes_nothing : (first second : Config) (events : List Event)
+    → first_refusal first ≡ None
+    → first_refusal second ≡ None → first.max ≡ second.max
+    → StaysClear events (new_pair first second)
+    → WastesNothing (run events (new_pair first second)).a
+    × WastesNothing (run events (new_pair first second)).b
 clear_wastes_nothing first second events f g same s =
     let n = neat_run first.max events (new_pair first second) s (neat_new first second f g same) in
     (wastes_nothing first.max _ n.tidy.here, wastes_nothing first.max _ n.tidy.there)

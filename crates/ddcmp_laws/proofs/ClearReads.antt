@@ -1,5 +1,7 @@
 -- What is read of a clear line: the first frames that were written, and nothing else.
-use Rattle.std.proofs.Common.{◌≡◌, ℕ, ◌+◌, ◌≤◌, Bool, true, false, cond, List, [], ◌∷◌, ◌++◌, map, length, drop, refl, sym, ap, ◌∙◌, subst, arith, append_assoc, append-nil, Some}
+use Rattle.std.proofs.Common.{◌≡◌, ℕ, ◌+◌, ◌≤◌, Bool, true, false, cond, List, [], ◌∷◌, ◌++◌, map}
+use Rattle.std.proofs.Common.{length, drop, refl, sym, ap, ◌∙◌, subst, arith, append_assoc}
+use Rattle.std.proofs.Common.{append-nil, Some}
 use Rattle.std.specs.Prelude.{replicate, is_some, option_map}
 use Rattle.std.proofs.Math.Seq.{drop-append_seam}
 use Rattle.std.proofs.lemmas.List.{drop-drop}
@@ -48,7 +50,8 @@ abbrev pub AllShort : ℕ → List WholeFrame → Type 0
 AllShort most [] = Unit {0}
 AllShort most (f ∷ fs) = (length f.1 ≤ most) × AllShort most fs
 
-pub short_more : (most : ℕ) (fs gs : List WholeFrame) → AllShort most fs → AllShort most gs → AllShort most (fs ++ gs)
+pub short_more : (most : ℕ) (fs gs : List WholeFrame) → AllShort most fs → AllShort most gs
+    → AllShort most (fs ++ gs)
 short_more most [] gs h g = g
 short_more most (f ∷ fs) gs h g = (h.0, short_more most fs gs h.1 g)
 
@@ -72,7 +75,8 @@ reads_all most fill text (f ∷ rest) none w s =
     let given : ReadItem = (item.Good (length text + fill) f.0, f.1) in
     let e = whole-items most text f.1 fill f.0 none w.0.in_range w.0.frame s.0 in
     let r =
-    reads_all most fill (text ++ one) rest (whole-closed most text f.1 fill f.0 none w.0.in_range w.0.frame s.0) w.1 s.1 in
+    reads_all most fill (text ++ one) rest
+    (whole-closed most text f.1 fill f.0 none w.0.in_range w.0.frame s.0) w.1 s.1 in
     record {
       added = given ∷ r.added;
       items_are =
@@ -89,7 +93,8 @@ pub record HasRead (most : ℕ) (front : List ℕ) (frames : List WholeFrame) : 
   pub rest : List WholeFrame
   pub rest_is : good_frames most front ++ rest ≡ frames
 
-pub has_read : (most fill : ℕ) (frames : List WholeFrame) (front : List ℕ) → AllWritable frames → AllShort most frames
+pub has_read : (most fill : ℕ) (frames : List WholeFrame) (front : List ℕ) → AllWritable frames
+    → AllShort most frames
     → Begins front (bytes_of fill frames) → HasRead most front frames
 has_read most fill frames front w s b =
     let r = reads_all most fill [] frames (ap (λ p. length p.rest) (ending-nothing most)) w s in
@@ -101,7 +106,9 @@ has_read most fill frames front w s b =
     record {
       good = good_front (items most front) more (subst AllGood (sym parts) r.good);
       rest = good_frames_in more;
-      rest_is = sym (good_frames_in-append (items most front) more) ∙ ap good_frames_in parts ∙ r.frames_are;
+      rest_is =
+          sym (good_frames_in-append (items most front) more) ∙ ap good_frames_in parts
+          ∙ r.frames_are;
     }
 
 -- ---- their place
@@ -114,21 +121,26 @@ place_front p (f ∷ came) rest sent e =
     let one : p + 0 + 1 ≡ p + 1 = omega arith in
     let hit : place_after f sent p ≡ Some (p + 1) =
     ap (λ t. option_map (λ i. p + i + 1) (first_index f t)) e
-    ∙ ap (λ b. option_map (λ i. p + i + 1) (cond b (Some 0) (option_map (λ i. i + 1) (first_index f (came ++ rest))))) (same-refl f)
+    ∙ ap
+    (λ b. option_map (λ i. p + i + 1)
+    (cond b (Some 0) (option_map (λ i. i + 1) (first_index f (came ++ rest))))) (same-refl f)
     ∙ ap Some one in
     let later : drop (p + 1) sent ≡ came ++ rest = sym (drop-drop 1 p sent) ∙ ap (drop 1) e in
     let sum : p + 1 + length came ≡ p + length (f ∷ came) = omega arith in
     ap (λ q. place_from q came sent) hit ∙ place_front (p + 1) came rest sent later ∙ ap Some sum
 
-pub way_from : (came rest sent : List WholeFrame) (here : ℕ) → came ++ rest ≡ sent → place_of came sent ≡ Some here
+pub way_from : (came rest sent : List WholeFrame) (here : ℕ) → came ++ rest ≡ sent
+    → place_of came sent ≡ Some here
     → on_the_way here sent ≡ map seen rest
 way_from came rest sent here e h =
     let z : Some (0 + length came) ≡ Some here = sym (place_front 0 came rest sent (sym e)) ∙ h in
     let y : 0 + length came ≡ here = cc in
     let n : here ≡ length came = omega (arith, y) in
-    ap (map seen) (ap (λ k. drop k sent) n ∙ ap (drop (length came)) (sym e) ∙ drop-append_seam came rest)
+    ap (map seen)
+    (ap (λ k. drop k sent) n ∙ ap (drop (length came)) (sym e) ∙ drop-append_seam came rest)
 
-pub placed : (came rest sent : List WholeFrame) → came ++ rest ≡ sent → is_some (place_of came sent) ≡ true
+pub placed : (came rest sent : List WholeFrame) → came ++ rest ≡ sent
+    → is_some (place_of came sent) ≡ true
 placed came rest sent e = ap is_some (place_front 0 came rest sent (sym e))
 
 -- ---- items as frames
@@ -137,19 +149,22 @@ unfoldable pub heard : List Frame → Face → Face
 heard [] x = x
 heard (f ∷ fs) x = heard fs (hearing x (Good f))
 
-pub items_heard : (given : List ReadItem) (k : CoreView) (x : Face) → AllGood given → k.limits ≡ x.limits
+pub items_heard : (given : List ReadItem) (k : CoreView) (x : Face) → AllGood given
+    → k.limits ≡ x.limits
     → k.station ≡ x.station
     → (after_items given k).station ≡ (heard (map seen (good_frames_in given)) x).station
 unfolding after_items good_frames_in heard
 items_heard [] k x g l s = s
 items_heard ((item.Good o h, lent) ∷ rest) k x g l s =
-    items_heard rest (after_item (item.Good o h, lent) k) (hearing x (Good (frame_of h lent))) g.1 l (λ i. on (l i) (s i) (Good (frame_of h lent)))
+    items_heard rest (after_item (item.Good o h, lent) k) (hearing x (Good (frame_of h lent))) g.1 l
+    (λ i. on (l i) (s i) (Good (frame_of h lent)))
 items_heard ((item.HeaderCheck o, lent) ∷ rest) k x g l s = absurd (let z = g.0 in cc)
 items_heard ((item.DataCheck o h, lent) ∷ rest) k x g l s = absurd (let z = g.0 in cc)
 items_heard ((item.TooLong o h, lent) ∷ rest) k x g l s = absurd (let z = g.0 in cc)
 items_heard ((item.Format o f, lent) ∷ rest) k x g l s = absurd (let z = g.0 in cc)
 
-pub inbox_heard : (fs : List Frame) (x : Face) → length x.station.inbox ≤ length (heard fs x).station.inbox
+pub inbox_heard : (fs : List Frame) (x : Face)
+    → length x.station.inbox ≤ length (heard fs x).station.inbox
 unfolding heard
 inbox_heard [] x = omega arith
 inbox_heard (f ∷ fs) x =

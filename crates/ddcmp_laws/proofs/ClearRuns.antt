@@ -33,7 +33,9 @@ has_room_by : (x : EndState) → has_room x ≡ true → length x.core.station.i
 has_room_by x e = grind (arith)
 
 unfoldable pub is_clear : PairState → Bool
-is_clear p = (begins p.a.arrived (written p.b) && begins p.b.arrived (written p.a)) && (has_room p.a && has_room p.b)
+is_clear p =
+    (begins p.a.arrived (written p.b) && begins p.b.arrived (written p.a))
+    && (has_room p.a && has_room p.b)
 
 clear_by : (p : PairState) → is_clear p ≡ true → IsClear p
 unfolding is_clear
@@ -42,7 +44,11 @@ clear_by p e =
     let lines = both _ _ t.0 in
     let rooms = both _ _ t.1 in
     record {
-      faithful = record { to_a = begins_by p.a.arrived (written p.b) lines.0; to_b = begins_by p.b.arrived (written p.a) lines.1 };
+      faithful =
+          record {
+            to_a = begins_by p.a.arrived (written p.b) lines.0;
+            to_b = begins_by p.b.arrived (written p.a) lines.1;
+          };
       room_a = has_room_by p.a rooms.0;
       room_b = has_room_by p.b rooms.1;
     }
@@ -52,14 +58,17 @@ stays_clear [] p = true
 stays_clear (event.Halt e ∷ rest) p = false
 stays_clear (e ∷ rest) p = is_clear (after_event e p) && stays_clear rest (after_event e p)
 
-pub stays_by : (events : List Event) (p : PairState) → stays_clear events p ≡ true → StaysClear events p
+pub stays_by : (events : List Event) (p : PairState) → stays_clear events p ≡ true
+    → StaysClear events p
 unfolding stays_clear
 stays_by [] p e = tt
 stays_by (event.Halt end ∷ rest) p e = absurd (cc e)
 stays_by (event.Start end ∷ rest) p e = let t = both _ _ e in (clear_by _ t.0, stays_by rest _ t.1)
-stays_by (event.Send end message ∷ rest) p e = let t = both _ _ e in (clear_by _ t.0, stays_by rest _ t.1)
+stays_by (event.Send end message ∷ rest) p e =
+    let t = both _ _ e in (clear_by _ t.0, stays_by rest _ t.1)
 stays_by (event.Poll end ∷ rest) p e = let t = both _ _ e in (clear_by _ t.0, stays_by rest _ t.1)
-stays_by (event.Arrive end bytes ∷ rest) p e = let t = both _ _ e in (clear_by _ t.0, stays_by rest _ t.1)
+stays_by (event.Arrive end bytes ∷ rest) p e =
+    let t = both _ _ e in (clear_by _ t.0, stays_by rest _ t.1)
 stays_by (event.Expire end ∷ rest) p e = let t = both _ _ e in (clear_by _ t.0, stays_by rest _ t.1)
 stays_by (event.Take end ∷ rest) p e = let t = both _ _ e in (clear_by _ t.0, stays_by rest _ t.1)
 stays_by (event.Clear ∷ rest) p e = let t = both _ _ e in (clear_by _ t.0, stays_by rest _ t.1)

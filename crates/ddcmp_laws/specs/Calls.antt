@@ -1,7 +1,10 @@
 -- What is done to one station, call by call, and what goes in and comes out.
 use Rattle.std.specs.Prelude.{◌≡◌, ◌⊎◌, ℕ, List, [], ◌∷◌, ◌++◌, map, if◌then◌else◌, option_to_list}
 use Rattle.ddcmp_core.specs.Store.{first_message}
-use Rattle.ddcmp_core.specs.Table.{Limits, StationState, Frame, Data, Acked, Naked, Strt, Maint, Received, Good, on, next, next_frame, after_next, may_send, may_send_maintenance, after_accept, after_take, after_expire, after_take_arm}
+use Rattle.ddcmp_core.specs.Table.{Limits, StationState, Frame, Data, Acked, Naked, Strt, Maint}
+use Rattle.ddcmp_core.specs.Table.{Received, Good, on, next, next_frame, after_next, may_send}
+use Rattle.ddcmp_core.specs.Table.{may_send_maintenance, after_accept, after_take, after_expire}
+use Rattle.ddcmp_core.specs.Table.{after_take_arm}
 
 -- The user sends a message or a maintenance message or takes one, a frame is asked for, something
 -- comes, the timer runs out, or its start is taken note of.

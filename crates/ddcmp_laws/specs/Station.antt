@@ -1,5 +1,6 @@
 -- What the laws of one station say, in words of their own.
-use Rattle.std.specs.Prelude.{◌≡◌, ℕ, ◌+◌, ◌%◌, ◌<◌, Bool, true, false, List, [], ◌∷◌, ◌++◌, length, drop, slice_index_or, Option, Some}
+use Rattle.std.specs.Prelude.{◌≡◌, ℕ, ◌+◌, ◌%◌, ◌<◌, Bool, true, false, List, [], ◌∷◌, ◌++◌, length}
+use Rattle.std.specs.Prelude.{drop, slice_index_or, Option, Some}
 use Rattle.ddcmp_num.specs.Sequence.{distance}
 use Rattle.ddcmp_frame.specs.declared.nak.Nak.{Nak as Reason}
 use Rattle.ddcmp_frame.specs.Naks.{subtype_of}
@@ -8,7 +9,9 @@ use Rattle.ddcmp_core.specs.declared.notice.Notice.TheVariants as notice
 use Rattle.ddcmp_core.specs.declared.state.State.TheVariants.{Halted, AStart}
 use Rattle.ddcmp_core.specs.declared.state.Owed.TheVariants.{Quiet, Ack}
 use Rattle.ddcmp_core.specs.declared.state.Timer.TheVariants.{Off}
-use Rattle.ddcmp_core.specs.Table.{StationState, Data, Acked, Naked, Strt, Stack, Received, Good, BadHeader, BadData, TooLong, BadFormat, next, next_frame, acknowledged_by, Maint}
+use Rattle.ddcmp_core.specs.Table.{StationState, Data, Acked, Naked, Strt, Stack, Received, Good}
+use Rattle.ddcmp_core.specs.Table.{BadHeader, BadData, TooLong, BadFormat, next, next_frame}
+use Rattle.ddcmp_core.specs.Table.{acknowledged_by, Maint}
 
 -- ---- what a halt leaves
 

@@ -1,5 +1,5 @@
 //! Published checks, and each kind of frame as bytes, computed from the definitions.
-ghost use Rattle.std.specs.Prelude.{◌≡◌, true, false, List, ℕ, [], ◌∷◌};
+ghost use Rattle.std.specs.Prelude.{◌≡◌, true, false, [], ◌∷◌};
 ghost use Rattle.ddcmp_num.specs.Check.{check_of};
 ghost use Rattle.ddcmp_frame.specs.declared.header.ControlType.TheVariants.{Ack, Nak, Rep};
 ghost use Rattle.ddcmp_frame.specs.declared.header.ControlType.TheVariants.{Strt as StrtType};

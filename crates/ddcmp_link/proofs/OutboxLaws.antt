@@ -1,5 +1,7 @@
 -- Bytes on their way to the line.
-use Rattle.std.proofs.Common.{◌≡◌, ℕ, ◌+◌, ◌-◌, ◌<◌, ◌≤◌, List, ◌++◌, length, take, drop, replicate, ◌∙◌, ap, arith, length-append, Option, Some, None, option_map, is_some, true}
+use Rattle.std.proofs.Common.{◌≡◌, ℕ, ◌+◌, ◌-◌, ◌<◌, ◌≤◌, List, ◌++◌, length, take, drop, replicate}
+use Rattle.std.proofs.Common.{◌∙◌, ap, arith, length-append, Option, Some, None, option_map}
+use Rattle.std.proofs.Common.{is_some, true}
 use Rattle.std.proofs.lemmas.List.{length-take, drop-append-le}
 use Rattle.std.proofs.Math.Seq.{take-append_seam, take-append-add}
 use Rattle.ddcmp_frame.specs.Wire.{wire, six_bytes}
@@ -37,9 +39,12 @@ wire_some Stack = omega arith
 wire_some (Maint message) = omega arith
 
 some_bytes : (syn : ℕ) (f : Frame) → 0 < length (frame_on_line syn f)
-some_bytes syn f = omega (arith, length-append (replicate syn SYN) (wire (header_of f) (message_of f)), wire_some f)
+some_bytes syn f =
+    omega
+    (arith, length-append (replicate syn SYN) (wire (header_of f) (message_of f)), wire_some f)
 
-pub less_room : (syn : ℕ) (f : Option Frame) (room : ℕ) → is_some f ≡ true → 0 < room → room - length (bytes_of syn f) < room
+pub less_room : (syn : ℕ) (f : Option Frame) (room : ℕ) → is_some f ≡ true → 0 < room
+    → room - length (bytes_of syn f) < room
 less_room syn None room e r = cc
 less_room syn (Some f) room e r = omega (arith, some_bytes syn f, r)
 

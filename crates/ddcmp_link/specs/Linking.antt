@@ -1,5 +1,7 @@
 -- A link as its callers see it: a station as a service, and what each call does.
-use Rattle.std.specs.Prelude.{ℕ, zero, suc, ◌+◌, ◌-◌, Bool, true, false, ◌&&◌, not, nat_le, nat_lt, ◌==◌, if◌then◌else◌, min, List, [], ◌∷◌, ◌++◌, length, drop, Option, Some, None, is_none, is_some, Result}
+use Rattle.std.specs.Prelude.{ℕ, zero, suc, ◌+◌, ◌-◌, Bool, true, false, ◌&&◌, not, nat_le, nat_lt}
+use Rattle.std.specs.Prelude.{◌==◌, if◌then◌else◌, min, List, [], ◌∷◌, ◌++◌, length, drop, Option}
+use Rattle.std.specs.Prelude.{Some, None, is_none, is_some, Result}
 use Rattle.ddcmp_frame.specs.declared.codes.TheConstants.{NO_BUFFER_REASON}
 use Rattle.ddcmp_frame.specs.declared.header.ControlType.{ControlType}
 use Rattle.ddcmp_frame.specs.declared.header.ControlType.TheVariants as control
@@ -9,14 +11,17 @@ use Rattle.ddcmp_frame.specs.Reader.{ReaderView}
 use Rattle.ddcmp_window.specs.declared.sender.SendRefusal.{SendRefusal}
 use Rattle.ddcmp_window.specs.Sender.{answer_unless}
 use Rattle.ddcmp_core.specs.declared.notice.Notice.{Notice}
-use Rattle.ddcmp_core.specs.Table.{Frame, Limits, StationState, is_running, is_on, has_room, may_start, after_start, send_refusal, may_send, after_accept, after_take, next, next_frame, acknowledged_by}
+use Rattle.ddcmp_core.specs.Table.{Frame, Limits, StationState, is_running, is_on, has_room}
+use Rattle.ddcmp_core.specs.Table.{may_start, after_start, send_refusal, may_send, after_accept}
+use Rattle.ddcmp_core.specs.Table.{after_take, next, next_frame, acknowledged_by}
 use Rattle.ddcmp_core.specs.Core.{CoreView}
 use Rattle.ddcmp_core.specs.Frames.{header_of}
 use Rattle.ddcmp_proto.specs.Bytes.{after_poll, frame_on_line}
 use Rattle.ddcmp_proto.specs.Config.{core_made}
 use Rattle.ddcmp_proto.specs.declared.config.Config.{Config}
 use Rattle.ddcmp_proto.specs.Station.{StationView}
-use Rattle.ddcmp_station.specs.Driving.{deadline_at, core_at_deadline, core_after_take_arm, core_after_halt}
+use Rattle.ddcmp_station.specs.Driving.{deadline_at, core_at_deadline, core_after_take_arm}
+use Rattle.ddcmp_station.specs.Driving.{core_after_halt}
 use Rattle.ddcmp_link.specs.declared.link.Totals.{Totals}
 use Rattle.ddcmp_link.specs.declared.outbox.TheConstants.{ROOM}
 

@@ -65,22 +65,20 @@ impl Model for Link {
 }
 
 impl Link {
-    ghost use Rattle.std.specs.Prelude.{◌≡◌, ◌≢◌, ◌↔◌, ◌⊎◌, ℕ, ◌+◌, ◌<◌, ◌≤◌, ◌^◌, true, false};
-    ghost use Rattle.std.specs.Prelude.{List, [], ◌++◌, length, take, min, IsOk, IfOk, OnErr};
-    ghost use Rattle.std.specs.Prelude.{IsTrue, Some, None, Err, option_map, option_to_list};
+    ghost use Rattle.std.specs.Prelude.{◌≡◌, ◌⊎◌, ℕ, ◌+◌, ◌<◌, ◌≤◌, ◌^◌, true, false, List, []};
+    ghost use Rattle.std.specs.Prelude.{◌++◌, length, take, min, IsOk, IfOk, Some, None, Err};
+    ghost use Rattle.std.specs.Prelude.{option_map, option_to_list};
     ghost use Rattle.ddcmp_frame.specs.Reader.{StandsFor};
     ghost use Rattle.ddcmp_window.specs.Store.{first_message, with_front};
-    ghost use Rattle.ddcmp_core.specs.Table.{after_halt, answer_to_start, has_room, next};
-    ghost use Rattle.ddcmp_core.specs.Table.{next_frame};
+    ghost use Rattle.ddcmp_core.specs.Table.{after_halt, answer_to_start, has_room};
     ghost use Rattle.ddcmp_proto.specs.Bytes.{after_piece, notices_of_piece};
     ghost use Rattle.ddcmp_proto.specs.Config.{first_refusal, config_of};
-    ghost use Rattle.ddcmp_station.specs.Driving.{core_after_halt};
-    ghost use Rattle.ddcmp_link.specs.Linking.{link_made, with_state, with_core, started, anew};
-    ghost use Rattle.ddcmp_link.specs.Linking.{after_wake, wakes_at, takes_message, after_offered};
+    ghost use Rattle.ddcmp_link.specs.Linking.{link_made, with_state, started, anew, after_wake};
+    ghost use Rattle.ddcmp_link.specs.Linking.{wakes_at, takes_message, after_offered};
     ghost use Rattle.ddcmp_link.specs.Linking.{answer_to_offered, puts_frame, after_frame};
-    ghost use Rattle.ddcmp_link.specs.Linking.{after_frames, is_held_back, frame_of_link};
-    ghost use Rattle.ddcmp_link.specs.Linking.{after_sent, countable, totals_after_feed};
-    ghost use Rattle.ddcmp_link.specs.Linking.{after_taking, delivered, holds_back};
+    ghost use Rattle.ddcmp_link.specs.Linking.{after_frames, after_sent, countable};
+    ghost use Rattle.ddcmp_link.specs.Linking.{totals_after_feed, after_taking, delivered};
+    ghost use Rattle.ddcmp_link.specs.Linking.{holds_back};
 
     /// A halted link, whose timer runs out `timer_ms` milliseconds after it was started.
     pub fn new(alloc: Global, config: Config, timer_ms: u32) -> Result<Link, ConfigRefusal>

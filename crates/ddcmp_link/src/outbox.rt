@@ -1,6 +1,6 @@
 //! The bytes on their way to the line.
-ghost use Rattle.std.specs.Prelude.{◌≡◌, ◌+◌, ◌≤◌, ◌++◌, [], IfOk, IfSome, drop, take, length};
-ghost use Rattle.std.specs.Prelude.{is_some, option_map, vec_len};
+ghost use Rattle.std.specs.Prelude.{◌≡◌, ◌+◌, ◌≤◌, ◌++◌, IfOk, IfSome, drop, take, length, is_some};
+ghost use Rattle.std.specs.Prelude.{option_map, vec_len};
 ghost use Rattle.ddcmp_link.specs.Linking.{no_bytes, after_taken, after_put, bytes_of};
 ghost use Rattle.ddcmp_core.specs.Table.{next, next_frame};
 ghost use Rattle.ddcmp_proto.specs.Bytes.{after_poll, frame_on_line};

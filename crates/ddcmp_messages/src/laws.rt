@@ -1,14 +1,12 @@
 //! Laws of messages: functions that do nothing.
-ghost use Rattle.std.specs.Prelude.{◌≡◌, ◌≢◌, ℕ, ◌<◌, ◌≤◌, Bool, List, [], ◌∷◌, ◌++◌, length, map};
+ghost use Rattle.std.specs.Prelude.{◌≡◌, ◌≢◌, ℕ, ◌<◌, Bool, List, [], ◌∷◌, ◌++◌, length, map};
 ghost use Rattle.std.specs.List.{All};
 ghost use Rattle.hex.specs.Hex.{encode_lower, encode_upper, IsBytes};
 ghost use Rattle.ddcmp_messages.specs.declared.entry.Entry.{Entry as EntryValue};
 ghost use Rattle.ddcmp_messages.specs.declared.entry.Entry.TheVariants.{Message, TooLong};
 ghost use Rattle.ddcmp_messages.specs.declared.lengths.Place.TheVariants.{Start};
-ghost use Rattle.ddcmp_messages.specs.Lengths.{LengthsView};
-ghost use Rattle.ddcmp_messages.specs.Lengths.{after_bytes, entries_of_bytes};
-ghost use Rattle.ddcmp_messages.specs.HexLines.{HexView, in_line};
-ghost use Rattle.ddcmp_messages.specs.HexLines.{after_bytes as after_digits};
+ghost use Rattle.ddcmp_messages.specs.Lengths.{LengthsView, after_bytes, entries_of_bytes};
+ghost use Rattle.ddcmp_messages.specs.HexLines.{HexView, in_line, after_bytes as after_digits};
 ghost use Rattle.ddcmp_messages.specs.HexLines.{entries_of_bytes as entries_of_digits};
 ghost use Rattle.ddcmp_messages.specs.Told.{Got, Refused};
 ghost use Rattle.ddcmp_messages.specs.InBinary.{told_by_byte, told_in, behind_length, in_binary};

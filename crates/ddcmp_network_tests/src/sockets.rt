@@ -1,6 +1,5 @@
 // A connection of the program with itself, on systems that are crowded, that listen at one address
 // alone, that hand over the stream of another, or that keep a handle of each stream.
-ghost use Rattle.std.specs.Prelude.{◌≡◌};
 
 use crate::same::is;
 use ddcmp_carrier::{Carrier, End, LineFault};

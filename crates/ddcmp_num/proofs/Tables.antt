@@ -1,5 +1,7 @@
 -- Eight turns of the register by a table, and the tables of the block check.
-use Rattle.std.proofs.Common.{◌≡◌, ℕ, zero, suc, ◌+◌, ◌*◌, ◌/◌, ◌%◌, ◌^◌, ◌<◌, Bool, true, false, cond, List, [], ◌∷◌, ◌++◌, length, get_or, refl, sym, ◌∙◌, ap, arith, map, append_assoc, bit_xor}
+use Rattle.std.proofs.Common.{◌≡◌, ℕ, zero, suc, ◌+◌, ◌*◌, ◌/◌, ◌%◌, ◌^◌, ◌<◌, Bool, true, false}
+use Rattle.std.proofs.Common.{cond, List, [], ◌∷◌, ◌++◌, length, get_or, refl, sym, ◌∙◌, ap, arith}
+use Rattle.std.proofs.Common.{map, append_assoc, bit_xor}
 use Rattle.std.specs.Prelude.{replicate, ◌==◌}
 use Rattle.std.specs.List.{range_with_len}
 use Rattle.std.proofs.Math.Bool.{xor}
@@ -19,9 +21,12 @@ xor_swap a b c = sym (xor_assoc a b c) ∙ ap (λ t. bit_xor t c) (xor_comm a b)
 
 xor_four : (a b c d : ℕ) → bit_xor (bit_xor a b) (bit_xor c d) ≡ bit_xor (bit_xor a c) (bit_xor b d)
 xor_four a b c d =
-    xor_assoc a b (bit_xor c d) ∙ ap (bit_xor a) (xor_swap b c d) ∙ sym (xor_assoc a c (bit_xor b d))
+    xor_assoc a b (bit_xor c d) ∙ ap (bit_xor a) (xor_swap b c d)
+    ∙ sym (xor_assoc a c (bit_xor b d))
 
-chosen-xor : (x y : Bool) (p q d : ℕ) → cond (xor x y) (bit_xor (bit_xor p q) d) (bit_xor p q) ≡ bit_xor (cond x (bit_xor p d) p) (cond y (bit_xor q d) q)
+chosen-xor : (x y : Bool) (p q d : ℕ)
+    → cond (xor x y) (bit_xor (bit_xor p q) d) (bit_xor p q)
+    ≡ bit_xor (cond x (bit_xor p d) p) (cond y (bit_xor q d) q)
 unfolding xor
 chosen-xor true true p q d =
     sym (xor_four p d q d ∙ ap (bit_xor (bit_xor p q)) (xor_self d) ∙ xor_zero_r (bit_xor p q))
@@ -31,7 +36,9 @@ chosen-xor false false p q d = refl
 
 next-xor : (a b : ℕ) → next (bit_xor a b) ≡ bit_xor (next a) (next b)
 unfolding next
-next-xor a b = rw (bit-xor, xor_shr a b 1) (chosen-xor (a % 2 == 1) (b % 2 == 1) (a / 2) (b / 2) divisor_register)
+next-xor a b =
+    rw (bit-xor, xor_shr a b 1)
+    (chosen-xor (a % 2 == 1) (b % 2 == 1) (a / 2) (b / 2) divisor_register)
 
 turns-xor : (k a b : ℕ) → turns k (bit_xor a b) ≡ bit_xor (turns k a) (turns k b)
 unfolding turns
@@ -79,7 +86,9 @@ turns-register r =
     ∙ ap (λ t. bit_xor (r / 256) (turns 8 t)) (omega arith)
 
 -- a register that takes a byte, by its two bytes
-turns-pushed : (register byte : ℕ) → turns 8 (bit_xor register byte) ≡ bit_xor (register / 256) (turns 8 (bit_xor (register % 256) byte))
+turns-pushed : (register byte : ℕ)
+    → turns 8 (bit_xor register byte)
+    ≡ bit_xor (register / 256) (turns 8 (bit_xor (register % 256) byte))
 turns-pushed register byte =
     turns-xor 8 register byte
     ∙ ap (λ t. bit_xor t (turns 8 byte)) (turns-register register)
@@ -102,41 +111,51 @@ tables-computed : BYTE_CHECKS ≡ tables_from 8 (map (turns 8) (range_with_len 0
 unfolding tables_from turns next
 tables-computed = refl
 
-tables_from-entry : (n k b : ℕ) (table : List ℕ) → k < n → b < length table → get_or (get_or (tables_from n table) k []) b 0 ≡ zero_bytes k (get_or table b 0)
+tables_from-entry : (n k b : ℕ) (table : List ℕ) → k < n → b < length table
+    → get_or (get_or (tables_from n table) k []) b 0 ≡ zero_bytes k (get_or table b 0)
 unfolding tables_from zero_bytes
 tables_from-entry zero k b table h l = absurd (omega arith)
 tables_from-entry (suc n) zero b table h l = refl
 tables_from-entry (suc n) (suc k) b table h l =
-    tables_from-entry n k b (map (turns 8) table) (omega arith) (omega (arith, length-map table (turns 8)))
+    tables_from-entry n k b (map (turns 8) table) (omega arith)
+    (omega (arith, length-map table (turns 8)))
     ∙ ap (zero_bytes k) (get_or-map (turns 8) table b 0 0 l)
 
 -- zero bytes behind a text
-zero_bytes-check : (k register : ℕ) (text : List ℕ) → register ≡ check_of text → zero_bytes k register ≡ check_of (text ++ replicate k 0)
+zero_bytes-check : (k register : ℕ) (text : List ℕ) → register ≡ check_of text
+    → zero_bytes k register ≡ check_of (text ++ replicate k 0)
 unfolding zero_bytes
 zero_bytes-check zero register text h = h ∙ ap check_of (sym (append-nil text))
 zero_bytes-check (suc k) register text h =
-    zero_bytes-check k (turns 8 register) (text ++ 0 ∷ []) (ap (turns 8) (sym (xor_zero_r register)) ∙ turned text register 0 h (omega arith))
+    zero_bytes-check k (turns 8 register) (text ++ 0 ∷ [])
+    (ap (turns 8) (sym (xor_zero_r register)) ∙ turned text register 0 h (omega arith))
     ∙ ap check_of (append_assoc text (0 ∷ []) (replicate k 0))
 
 -- the register after a byte and zero bytes holds their check
 byte-check : (k b : ℕ) → b < 256 → zero_bytes k (turns 8 b) ≡ check_of (b ∷ replicate k 0)
 byte-check k b h =
-    zero_bytes-check k (turns 8 b) (b ∷ []) (ap (turns 8) (sym (xor_zero_l b)) ∙ turned [] 0 b (sym none_yet) (omega arith))
+    zero_bytes-check k (turns 8 b) (b ∷ [])
+    (ap (turns 8) (sym (xor_zero_l b)) ∙ turned [] 0 b (sym none_yet) (omega arith))
 
 -- entry b of table k is the check of the byte b and of k zero bytes behind it
-pub table-check : (k b : ℕ) → k < 8 → b < 256 → get_or (get_or BYTE_CHECKS k []) b 0 ≡ check_of (b ∷ replicate k 0)
+pub table-check : (k b : ℕ) → k < 8 → b < 256
+    → get_or (get_or BYTE_CHECKS k []) b 0 ≡ check_of (b ∷ replicate k 0)
 table-check k b h l =
     ap (λ t. get_or (get_or t k []) b 0) tables-computed
-    ∙ tables_from-entry 8 k b (map (turns 8) (range_with_len 0 256)) h (omega (arith, length-map-range_with_len (turns 8) 0 256))
+    ∙ tables_from-entry 8 k b (map (turns 8) (range_with_len 0 256)) h
+    (omega (arith, length-map-range_with_len (turns 8) 0 256))
     ∙ ap (zero_bytes k) (get_or-map-range_with_len (turns 8) 0 256 b b 0 l (omega arith))
     ∙ byte-check k b l
 
 -- one more byte, by the first table
-pub push_by_table : (text : List ℕ) (register byte high entry : ℕ) → register ≡ check_of text → byte < 256
-    → high ≡ register / 256 → entry ≡ check_of (bit_xor (register % 256) byte ∷ []) → bit_xor high entry ≡ check_of (text ++ byte ∷ [])
+pub push_by_table : (text : List ℕ) (register byte high entry : ℕ) → register ≡ check_of text
+    → byte < 256
+    → high ≡ register / 256 → entry ≡ check_of (bit_xor (register % 256) byte ∷ [])
+    → bit_xor high entry ≡ check_of (text ++ byte ∷ [])
 unfolding zero_bytes
 push_by_table text register byte high entry e h top looked_up =
-    let index : bit_xor (register % 256) byte < 256 = xor_of_8 (register % 256) byte (omega arith) (omega arith) in
+    let index : bit_xor (register % 256) byte < 256 =
+    xor_of_8 (register % 256) byte (omega arith) (omega arith) in
     ap (bit_xor high) (looked_up ∙ sym (byte-check 0 (bit_xor (register % 256) byte) index))
     ∙ ap (λ t. bit_xor t (turns 8 (bit_xor (register % 256) byte))) top
     ∙ sym (turns-pushed register byte)
@@ -144,21 +163,25 @@ push_by_table text register byte high entry e h top looked_up =
 
 -- ---- eight bytes at once
 
-zero_bytes-xor : (k a b : ℕ) → zero_bytes k (bit_xor a b) ≡ bit_xor (zero_bytes k a) (zero_bytes k b)
+zero_bytes-xor : (k a b : ℕ)
+    → zero_bytes k (bit_xor a b) ≡ bit_xor (zero_bytes k a) (zero_bytes k b)
 unfolding zero_bytes
 zero_bytes-xor zero a b = refl
-zero_bytes-xor (suc k) a b = ap (zero_bytes k) (turns-xor 8 a b) ∙ zero_bytes-xor k (turns 8 a) (turns 8 b)
+zero_bytes-xor (suc k) a b =
+    ap (zero_bytes k) (turns-xor 8 a b) ∙ zero_bytes-xor k (turns 8 a) (turns 8 b)
 
 -- the register after these bytes
 absorbed : List ℕ → ℕ → ℕ
 absorbed [] register = register
 absorbed (b ∷ bytes) register = absorbed bytes (turns 8 (bit_xor register b))
 
-absorbed-check : (bytes text : List ℕ) (register : ℕ) → AreBytes bytes → register ≡ check_of text → absorbed bytes register ≡ check_of (text ++ bytes)
+absorbed-check : (bytes text : List ℕ) (register : ℕ) → AreBytes bytes → register ≡ check_of text
+    → absorbed bytes register ≡ check_of (text ++ bytes)
 unfolding absorbed
 absorbed-check [] text register all e = e ∙ ap check_of (sym (append-nil text))
 absorbed-check (b ∷ bytes) text register all e =
-    absorbed-check bytes (text ++ b ∷ []) (turns 8 (bit_xor register b)) all.1 (turned text register b e all.0)
+    absorbed-check bytes (text ++ b ∷ []) (turns 8 (bit_xor register b)) all.1
+    (turned text register b e all.0)
     ∙ ap check_of (append_assoc text (b ∷ []) bytes)
 
 -- a sum, and each byte with as many zero bytes behind it as bytes follow it
@@ -166,7 +189,8 @@ gathered : List ℕ → ℕ → ℕ
 gathered [] sum = sum
 gathered (b ∷ bytes) sum = gathered bytes (bit_xor sum (zero_bytes (suc (length bytes)) b))
 
-absorbed-gathered : (bytes : List ℕ) (register : ℕ) → absorbed bytes register ≡ gathered bytes (zero_bytes (length bytes) register)
+absorbed-gathered : (bytes : List ℕ) (register : ℕ)
+    → absorbed bytes register ≡ gathered bytes (zero_bytes (length bytes) register)
 unfolding absorbed gathered zero_bytes
 absorbed-gathered [] register = refl
 absorbed-gathered (b ∷ bytes) register =
@@ -174,18 +198,31 @@ absorbed-gathered (b ∷ bytes) register =
     ∙ ap (gathered bytes) (zero_bytes-xor (suc (length bytes)) register b)
 
 -- zero bytes behind a register, by its two bytes
-parted : (k register : ℕ) → zero_bytes (suc k) register ≡ bit_xor (zero_bytes k (register / 256)) (zero_bytes (suc k) (register % 256))
+parted : (k register : ℕ)
+    → zero_bytes (suc k) register
+    ≡ bit_xor (zero_bytes k (register / 256)) (zero_bytes (suc k) (register % 256))
 unfolding zero_bytes
-parted k register = ap (zero_bytes k) (turns-register register) ∙ zero_bytes-xor k (register / 256) (turns 8 (register % 256))
+parted k register =
+    ap (zero_bytes k) (turns-register register)
+    ∙ zero_bytes-xor k (register / 256) (turns 8 (register % 256))
 
 -- the register's two bytes go with the first two bytes
-first_two : (k register a b : ℕ) → bit_xor (bit_xor (zero_bytes (suc k) register) (zero_bytes (suc k) a)) (zero_bytes k b) ≡ bit_xor (zero_bytes (suc k) (bit_xor (register % 256) a)) (zero_bytes k (bit_xor (register / 256) b))
+first_two : (k register a b : ℕ)
+    → bit_xor (bit_xor (zero_bytes (suc k) register) (zero_bytes (suc k) a)) (zero_bytes k b)
+    ≡ bit_xor (zero_bytes (suc k) (bit_xor (register % 256) a))
+    (zero_bytes k (bit_xor (register / 256) b))
 first_two k register a b =
-    ap (λ t. bit_xor (bit_xor t (zero_bytes (suc k) a)) (zero_bytes k b)) (parted k register ∙ xor_comm (zero_bytes k (register / 256)) (zero_bytes (suc k) (register % 256)))
-    ∙ xor_assoc (bit_xor (zero_bytes (suc k) (register % 256)) (zero_bytes k (register / 256))) (zero_bytes (suc k) a) (zero_bytes k b)
-    ∙ xor_four (zero_bytes (suc k) (register % 256)) (zero_bytes k (register / 256)) (zero_bytes (suc k) a) (zero_bytes k b)
-    ∙ ap (bit_xor (bit_xor (zero_bytes (suc k) (register % 256)) (zero_bytes (suc k) a))) (sym (zero_bytes-xor k (register / 256) b))
-    ∙ ap (λ t. bit_xor t (zero_bytes k (bit_xor (register / 256) b))) (sym (zero_bytes-xor (suc k) (register % 256) a))
+    ap (λ t. bit_xor (bit_xor t (zero_bytes (suc k) a)) (zero_bytes k b))
+    (parted k register
+    ∙ xor_comm (zero_bytes k (register / 256)) (zero_bytes (suc k) (register % 256)))
+    ∙ xor_assoc (bit_xor (zero_bytes (suc k) (register % 256)) (zero_bytes k (register / 256)))
+    (zero_bytes (suc k) a) (zero_bytes k b)
+    ∙ xor_four (zero_bytes (suc k) (register % 256)) (zero_bytes k (register / 256))
+    (zero_bytes (suc k) a) (zero_bytes k b)
+    ∙ ap (bit_xor (bit_xor (zero_bytes (suc k) (register % 256)) (zero_bytes (suc k) a)))
+    (sym (zero_bytes-xor k (register / 256) b))
+    ∙ ap (λ t. bit_xor t (zero_bytes k (bit_xor (register / 256) b)))
+    (sym (zero_bytes-xor (suc k) (register % 256) a))
 
 -- the check of a byte and of k zero bytes behind it
 abbrev pub entry : ℕ → ℕ → ℕ
@@ -197,17 +234,28 @@ entry-zero_bytes k b h = byte-check k b h
 
 -- eight bytes by their places
 eight_of : (bytes : List ℕ) → length bytes ≡ 8
-    → bytes ≡ get_or bytes 0 0 ∷ get_or bytes 1 0 ∷ get_or bytes 2 0 ∷ get_or bytes 3 0 ∷ get_or bytes 4 0 ∷ get_or bytes 5 0 ∷ get_or bytes 6 0 ∷ get_or bytes 7 0 ∷ []
+    → bytes
+    ≡ get_or bytes 0 0 ∷ get_or bytes 1 0 ∷ get_or bytes 2 0 ∷ get_or bytes 3 0
+    ∷ get_or bytes 4 0 ∷ get_or bytes 5 0 ∷ get_or bytes 6 0 ∷ get_or bytes 7 0 ∷ []
 eight_of (a ∷ b ∷ c ∷ d ∷ e ∷ f ∷ g ∷ h ∷ []) l = refl
 eight_of _ l = absurd (omega arith)
 
 -- the sum of eight bytes
 gathered-eight : (register a b c d e f g h : ℕ)
     → gathered (a ∷ b ∷ c ∷ d ∷ e ∷ f ∷ g ∷ h ∷ []) (zero_bytes 8 register)
-    ≡ bit_xor (bit_xor (bit_xor (bit_xor (bit_xor (bit_xor (bit_xor (zero_bytes 8 (bit_xor (register % 256) a)) (zero_bytes 7 (bit_xor (register / 256) b)))
-    (zero_bytes 6 c)) (zero_bytes 5 d)) (zero_bytes 4 e)) (zero_bytes 3 f)) (zero_bytes 2 g)) (zero_bytes 1 h)
+    ≡ bit_xor
+    (bit_xor
+    (bit_xor
+    (bit_xor
+    (bit_xor
+    (bit_xor
+    (bit_xor (zero_bytes 8 (bit_xor (register % 256) a))
+    (zero_bytes 7 (bit_xor (register / 256) b)))
+    (zero_bytes 6 c)) (zero_bytes 5 d)) (zero_bytes 4 e)) (zero_bytes 3 f)) (zero_bytes 2 g))
+    (zero_bytes 1 h)
 unfolding gathered
-gathered-eight register a b c d e f g h = ap (gathered (c ∷ d ∷ e ∷ f ∷ g ∷ h ∷ [])) (first_two 7 register a b)
+gathered-eight register a b c d e f g h =
+    ap (gathered (c ∷ d ∷ e ∷ f ∷ g ∷ h ∷ [])) (first_two 7 register a b)
 
 -- a sum of eight, of which two are added last
 added_last : (a b c d e f g h : ℕ)
@@ -227,14 +275,24 @@ added_last a b c d e f g h =
     ∙ ap (λ t. bit_xor t e) (sym (xor_assoc w c d)))))
 
 -- eight more bytes, each by a table of its own
-pub push_by_tables : (text bytes : List ℕ) (register : ℕ) → register < 2 ^ 16 → length bytes ≡ 8 → ((i : ℕ) → get_or bytes i 0 < 256) → register ≡ check_of text
-    → bit_xor (bit_xor (bit_xor (bit_xor (bit_xor (bit_xor (entry 5 (get_or bytes 2 0)) (entry 4 (get_or bytes 3 0))) (entry 3 (get_or bytes 4 0))) (entry 2 (get_or bytes 5 0))) (entry 1 (get_or bytes 6 0))) (entry 0 (get_or bytes 7 0)))
-    (bit_xor (entry 7 (bit_xor (register % 256) (get_or bytes 0 0))) (entry 6 (bit_xor (register / 256) (get_or bytes 1 0))))
+pub push_by_tables : (text bytes : List ℕ) (register : ℕ) → register < 2 ^ 16 → length bytes ≡ 8
+    → ((i : ℕ) → get_or bytes i 0 < 256) → register ≡ check_of text
+    → bit_xor
+    (bit_xor
+    (bit_xor
+    (bit_xor
+    (bit_xor (bit_xor (entry 5 (get_or bytes 2 0)) (entry 4 (get_or bytes 3 0)))
+    (entry 3 (get_or bytes 4 0))) (entry 2 (get_or bytes 5 0))) (entry 1 (get_or bytes 6 0)))
+    (entry 0 (get_or bytes 7 0)))
+    (bit_xor (entry 7 (bit_xor (register % 256) (get_or bytes 0 0)))
+    (entry 6 (bit_xor (register / 256) (get_or bytes 1 0))))
     ≡ check_of (text ++ bytes)
 push_by_tables text bytes register fits l small is =
     let byte : ℕ → ℕ = λ i. get_or bytes i 0 in
-    let low : bit_xor (register % 256) (byte 0) < 256 = xor_of_8 (register % 256) (byte 0) (omega arith) (omega (arith, small 0)) in
-    let high : bit_xor (register / 256) (byte 1) < 256 = xor_of_8 (register / 256) (byte 1) (omega arith) (omega (arith, small 1)) in
+    let low : bit_xor (register % 256) (byte 0) < 256 =
+    xor_of_8 (register % 256) (byte 0) (omega arith) (omega (arith, small 0)) in
+    let high : bit_xor (register / 256) (byte 1) < 256 =
+    xor_of_8 (register / 256) (byte 1) (omega arith) (omega (arith, small 1)) in
     rw (
       ← entry-zero_bytes 7 (bit_xor (register % 256) (byte 0)) low,
       ← entry-zero_bytes 6 (bit_xor (register / 256) (byte 1)) high,
@@ -245,9 +303,13 @@ push_by_tables text bytes register fits l small is =
       ← entry-zero_bytes 1 (byte 6) (small 6),
       ← entry-zero_bytes 0 (byte 7) (small 7),
     )
-    (added_last (zero_bytes 8 (bit_xor (register % 256) (byte 0))) (zero_bytes 7 (bit_xor (register / 256) (byte 1)))
-    (zero_bytes 6 (byte 2)) (zero_bytes 5 (byte 3)) (zero_bytes 4 (byte 4)) (zero_bytes 3 (byte 5)) (zero_bytes 2 (byte 6)) (zero_bytes 1 (byte 7))
-    ∙ sym (gathered-eight register (byte 0) (byte 1) (byte 2) (byte 3) (byte 4) (byte 5) (byte 6) (byte 7))
+    (added_last (zero_bytes 8 (bit_xor (register % 256) (byte 0)))
+    (zero_bytes 7 (bit_xor (register / 256) (byte 1)))
+    (zero_bytes 6 (byte 2)) (zero_bytes 5 (byte 3)) (zero_bytes 4 (byte 4)) (zero_bytes 3 (byte 5))
+    (zero_bytes 2 (byte 6)) (zero_bytes 1 (byte 7))
+    ∙ sym
+    (gathered-eight register (byte 0) (byte 1) (byte 2) (byte 3) (byte 4) (byte 5) (byte 6)
+    (byte 7))
     ∙ ap (λ t. gathered t (zero_bytes 8 register)) (sym (eight_of bytes l))
     ∙ ap (λ n. gathered bytes (zero_bytes n register)) (sym l)
     ∙ sym (absorbed-gathered bytes register)

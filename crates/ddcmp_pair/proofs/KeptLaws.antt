@@ -1,5 +1,6 @@
 -- What is kept, as more is kept.
-use Rattle.std.proofs.Common.{◌≡◌, ℕ, zero, suc, ◌+◌, ◌-◌, ◌<◌, ◌≤◌, List, [], ◌∷◌, ◌++◌, length, take, drop, get_or, refl, ◌∙◌, ap, arith}
+use Rattle.std.proofs.Common.{◌≡◌, ℕ, zero, suc, ◌+◌, ◌-◌, ◌<◌, ◌≤◌, List, [], ◌∷◌, ◌++◌, length}
+use Rattle.std.proofs.Common.{take, drop, get_or, refl, ◌∙◌, ap, arith}
 use Rattle.std.specs.Prelude.{zip}
 use Rattle.std.proofs.lemmas.List.{take-append-le, drop-append-le, take_all, length-drop}
 use Rattle.std.proofs.Math.Seq.{drop-length}
@@ -25,17 +26,13 @@ unfolding AreEnds
 ends-more at [] size more e = (let same : at ≡ size = e in omega (arith, same), refl)
 ends-more at (end ∷ ends) size more h = (h.0, ends-more end ends size more h.1)
 
--- where message i begins: at the end of the one before it
-pub begin-after : (at : ℕ) (ends : List ℕ) (i : ℕ) → 0 < i → get_or (at ∷ ends) i 0 ≡ get_or ends (i - 1) 0
-begin-after at ends zero h = absurd (omega (arith, h))
-begin-after at ends (suc i) h = ap (λ n. get_or ends n 0) (omega arith)
-
 pub in-order : (at : ℕ) (ends : List ℕ) (size i d : ℕ) → AreEnds at ends size → i < length ends
     → (get_or (at ∷ ends) i 0 ≤ get_or ends i d) × (get_or ends i d ≤ size)
 unfolding AreEnds
 in-order at [] size i d h below = absurd (omega (arith, below))
 in-order at (end ∷ ends) size zero d h below = (h.0, ends-within end ends size h.1)
-in-order at (end ∷ ends) size (suc i) d h below = in-order end ends size i d h.1 (omega (arith, below))
+in-order at (end ∷ ends) size (suc i) d h below =
+    in-order end ends size i d h.1 (omega (arith, below))
 
 -- ---- bytes cut into messages
 
@@ -43,17 +40,20 @@ piece-stays : (at end : ℕ) (bytes more : List ℕ) → at ≤ end → end ≤ 
     → take (end - at) (drop at (bytes ++ more)) ≡ take (end - at) (drop at bytes)
 piece-stays at end bytes more a b =
     ap (take (end - at)) (drop-append-le at bytes more (omega (arith, a, b)))
-    ∙ take-append-le (end - at) (drop at bytes) more (let left = length-drop at bytes in omega (arith, a, b, left))
+    ∙ take-append-le (end - at) (drop at bytes) more
+    (let left = length-drop at bytes in omega (arith, a, b, left))
 
 last-piece : (bytes more : List ℕ)
     → take (length bytes + length more - length bytes) (drop (length bytes) (bytes ++ more)) ≡ more
 last-piece bytes more =
     ap (take (length bytes + length more - length bytes))
-    (drop-append-le (length bytes) bytes more (omega arith) ∙ ap (λ t. t ++ more) (drop-length bytes))
+    (drop-append-le (length bytes) bytes more (omega arith)
+    ∙ ap (λ t. t ++ more) (drop-length bytes))
     ∙ take_all (length bytes + length more - length bytes) more (omega arith)
 
 pub cut-more : (at : ℕ) (ends bytes more : List ℕ) → AreEnds at ends (length bytes)
-    → cut_from at (ends ++ (length bytes + length more) ∷ []) (bytes ++ more) ≡ cut_from at ends bytes ++ more ∷ []
+    → cut_from at (ends ++ (length bytes + length more) ∷ []) (bytes ++ more)
+    ≡ cut_from at ends bytes ++ more ∷ []
 unfolding cut_from AreEnds
 cut-more at [] bytes more e =
     let same : at ≡ length bytes = e in
@@ -74,7 +74,8 @@ unfolding cut_from
 cut-nothing bytes = refl
 
 pub cut-at : (at : ℕ) (ends bytes : List ℕ) (i e : ℕ) (d : List ℕ) → i < length ends
-    → get_or (cut_from at ends bytes) i d ≡ take (get_or ends i e - get_or (at ∷ ends) i 0) (drop (get_or (at ∷ ends) i 0) bytes)
+    → get_or (cut_from at ends bytes) i d
+    ≡ take (get_or ends i e - get_or (at ∷ ends) i 0) (drop (get_or (at ∷ ends) i 0) bytes)
 unfolding cut_from
 cut-at at [] bytes i e d below = absurd (omega (arith, below))
 cut-at at (end ∷ ends) bytes zero e d below = refl
@@ -89,14 +90,17 @@ zip-more [] (b ∷ ys) x y e = absurd (omega (arith, e))
 zip-more (a ∷ xs) [] x y e = absurd (omega (arith, e))
 zip-more (a ∷ xs) (b ∷ ys) x y e = ap (λ r. (a, b) ∷ r) (zip-more xs ys x y (omega (arith, e)))
 
-pub zip-length : {X Y : Type 0} (xs : List X) (ys : List Y) → length xs ≡ length ys → length (zip xs ys) ≡ length xs
+pub zip-length : {X Y : Type 0} (xs : List X) (ys : List Y) → length xs ≡ length ys
+    → length (zip xs ys) ≡ length xs
 zip-length [] ys e = refl
 zip-length (a ∷ xs) [] e = absurd (omega (arith, e))
 zip-length (a ∷ xs) (b ∷ ys) e = ap suc (zip-length xs ys (omega (arith, e)))
 
-pub zip-at : {X Y : Type 0} (xs : List X) (ys : List Y) (i : ℕ) (d : X × Y) (x : X) (y : Y) → length xs ≡ length ys → i < length xs
+pub zip-at : {X Y : Type 0} (xs : List X) (ys : List Y) (i : ℕ) (d : X × Y) (x : X) (y : Y)
+    → length xs ≡ length ys → i < length xs
     → get_or (zip xs ys) i d ≡ (get_or xs i x, get_or ys i y)
 zip-at [] ys i d x y e below = absurd (omega (arith, below))
 zip-at (a ∷ xs) [] i d x y e below = absurd (omega (arith, e))
 zip-at (a ∷ xs) (b ∷ ys) zero d x y e below = refl
-zip-at (a ∷ xs) (b ∷ ys) (suc i) d x y e below = zip-at xs ys i d x y (omega (arith, e)) (omega (arith, below))
+zip-at (a ∷ xs) (b ∷ ys) (suc i) d x y e below =
+    zip-at xs ys i d x y (omega (arith, e)) (omega (arith, below))

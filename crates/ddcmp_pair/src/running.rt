@@ -1,5 +1,5 @@
 //! A run from its beginning.
-ghost use Rattle.std.specs.Prelude.{◌≡◌, ◌≢◌, ◌⊎◌, ◌<◌, ℕ, length, take, true, Some, None, Err};
+ghost use Rattle.std.specs.Prelude.{◌≡◌, ◌⊎◌, ◌<◌, ℕ, length, take, true, Some, None, Err};
 ghost use Rattle.std.specs.Prelude.{slice_index_or, IsOk, IfOk};
 ghost use Rattle.ddcmp_proto.specs.Config.{first_refusal};
 ghost use Rattle.ddcmp_run.specs.declared.event.Event.TheVariants as event_value;

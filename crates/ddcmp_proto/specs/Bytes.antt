@@ -5,7 +5,8 @@ use Rattle.ddcmp_frame.specs.declared.item.Item.TheVariants as item
 use Rattle.ddcmp_frame.specs.Reading.{ReadItem, items}
 use Rattle.ddcmp_frame.specs.Wire.{wire}
 use Rattle.ddcmp_core.specs.declared.notice.Notice.{Notice}
-use Rattle.ddcmp_core.specs.Table.{Frame, Received, Good, BadHeader, BadData, TooLong, BadFormat, on, notice_of, next, after_next}
+use Rattle.ddcmp_core.specs.Table.{Frame, Received, Good, BadHeader, BadData, TooLong, BadFormat}
+use Rattle.ddcmp_core.specs.Table.{on, notice_of, next, after_next}
 use Rattle.ddcmp_core.specs.Frames.{frame_of, header_of, message_of, is_data_header}
 use Rattle.ddcmp_core.specs.Counting.{counters_on, counters_after_next}
 use Rattle.ddcmp_core.specs.Core.{CoreView}

@@ -1,5 +1,6 @@
 -- Bytes of the line up to an item, as their part of `feed` is proved.
-use Rattle.std.specs.Prelude.{◌≡◌, ℕ, ◌+◌, ◌<◌, ◌≤◌, List, ◌++◌, length, take, option_to_list, Option}
+use Rattle.std.specs.Prelude.{◌≡◌, ℕ, ◌+◌, ◌<◌, ◌≤◌, List, ◌++◌, length, take, option_to_list}
+use Rattle.std.specs.Prelude.{Option}
 use Rattle.ddcmp_frame.specs.Reader.{StandsFor}
 use Rattle.ddcmp_frame.specs.Reading.{ReadItem, items}
 use Rattle.ddcmp_core.specs.declared.notice.Notice.{Notice}

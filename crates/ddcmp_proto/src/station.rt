@@ -141,8 +141,8 @@ impl Station {
 }
 
 impl Station {
-    ghost use Rattle.std.specs.Prelude.{◌≡◌, ◌≢◌, ◌↔◌, ℕ, ◌+◌, ◌<◌, ◌≤◌, true, false, List, []};
-    ghost use Rattle.std.specs.Prelude.{length, slice_index_or, IsTrue, Some, Err, OnErr, IfSome};
+    ghost use Rattle.std.specs.Prelude.{◌≡◌, ◌↔◌, ℕ, ◌+◌, ◌<◌, ◌≤◌, true, false, List, [], length};
+    ghost use Rattle.std.specs.Prelude.{slice_index_or, IsTrue, Some, Err, OnErr, IfSome};
     ghost use Rattle.std.specs.Prelude.{option_map, if◌then◌else◌};
     ghost use Rattle.ddcmp_frame.specs.Reader.{StandsFor, open_of};
     ghost use Rattle.ddcmp_frame.specs.Reading.{open_at_end, kept_at_end};

@@ -1,13 +1,13 @@
 -- Steps of one direction.
-use Rattle.std.proofs.Common.{◌≡◌, ℕ, List, [], ◌++◌, length, sym, ◌∙◌, ap, refl, subst}
-use Rattle.std.proofs.Common.{append_assoc, Bool, true}
+use Rattle.std.proofs.Common.{◌≡◌, ℕ, List, [], ◌++◌, sym, ◌∙◌, ap, refl, subst, append_assoc, Bool}
+use Rattle.std.proofs.Common.{true}
 use Rattle.std.specs.Io.KnownBytes.{Appends, Consumes, Keeps}
 use Rattle.std.proofs.KnownBytes.{Appends-nil, Appends-kept, Appends-trans, Consumes-nil}
 use Rattle.std.proofs.KnownBytes.{Consumes-kept, Consumes-trans}
 use Rattle.std.proofs.lemmas.List.{append-nil}
 use Rattle.ddcmp_io.specs.Written.{Known}
 use Rattle.ddcmp_tap.specs.Passing.{DirectionView, Passes, QueueView}
-use Rattle.ddcmp_pump.specs.Pumping.{FlowView, IsSame, Moves}
+use Rattle.ddcmp_pump.specs.Pumping.{FlowView, Moves}
 
 pub no-more : (d : DirectionView) (came handed told : List ℕ) → Passes d came handed told
     → Passes d (came ++ []) (handed ++ []) told

@@ -1,7 +1,7 @@
 -- Pieces of what both sides say, and their text.
-use Rattle.std.proofs.Common.{◌≡◌, ℕ, ◌+◌, ◌≤◌, List, [], ◌∷◌, ◌++◌, length, drop, take, sym, ◌∙◌}
-use Rattle.std.proofs.Common.{ap, refl, subst, append_assoc, arith, Bool, true, false, Option, Some}
-use Rattle.std.proofs.Common.{None, Result, Ok, Err, inl, inr, ◌⊎◌, is_some}
+use Rattle.std.proofs.Common.{◌≡◌, ℕ, ◌+◌, List, [], ◌∷◌, ◌++◌, length, drop, take, sym, ◌∙◌, ap}
+use Rattle.std.proofs.Common.{refl, subst, append_assoc, Bool, true, false, Option, Some, None}
+use Rattle.std.proofs.Common.{Result, Ok, Err, inl, inr, ◌⊎◌, is_some}
 use Rattle.std.specs.Io.KnownBytes.{Appends, Consumes, IsAtEnd}
 use Rattle.std.proofs.KnownBytes.{Appends-nil, Appends-trans, Consumes-nil, Consumes-trans}
 use Rattle.std.proofs.Math.Seq.{drop-append_seam, take-append-add, take-append_seam}
@@ -20,7 +20,7 @@ use Rattle.ddcmp_pump.specs.declared.tap_fault.TapFault.TheVariants.{Memory}
 use Rattle.ddcmp_pump.specs.Pumping.{Begins, Ends, FlowView, HasSaid, Pumps, tap_text, HasFlown}
 use Rattle.ddcmp_pump.specs.Pumping.{HasMoved, IsOf, IsOfReport, IsOfSide, IsSame, Moves, Piece}
 use Rattle.ddcmp_pump.specs.Pumping.{Runs, Stopped, Stops, TellsOf, Turns, WritesText, AreStamped}
-use Rattle.ddcmp_pump.specs.Pumping.{items_added, of_side, pieces_text, said}
+use Rattle.ddcmp_pump.specs.Pumping.{items_added, pieces_text, said}
 
 -- the text of the items that bytes add
 pub text-told
@@ -194,24 +194,6 @@ written old new text (Err Write) h a = a
 written old new text (Err Carrier) h a = absurd h
 written old new text (Err Report) h a = absurd h
 written old new text (Err Memory) h a = absurd h
-
--- what was said is no fault of a connection or of the output
-pub said-met : (result : Result (Unit {0}) TapFault) → HasSaid result
-    → ◌≡◌ {A = Result (Unit {0}) TapFault} result (Err Carrier) → ⊥
-said-met (Ok u) h e = cc
-said-met (Err Read) h e = cc
-said-met (Err Write) h e = cc
-said-met (Err Carrier) h e = h
-said-met (Err Report) h e = cc
-said-met (Err Memory) h e = cc
-
-pub report-met : (fault : TapFault) → IsOfReport fault
-    → ◌≡◌ {A = Result (Unit {0}) TapFault} (Err fault) (Err Carrier) → ⊥
-report-met Carrier f e = not-report Carrier (inl refl) f
-report-met Read f e = cc
-report-met Write f e = cc
-report-met Report f e = cc
-report-met Memory f e = cc
 
 pub last-as
     : (side : Side) (notation : Notation) (max : ℕ) (stamp : Option ℕ) (d : DirectionView)

@@ -1,5 +1,5 @@
 -- What follows from whether the last lines of a tap are to come.
-use Rattle.std.proofs.Common.{ℕ, Bool, List, Result, Ok, Err, inl, inr, refl}
+use Rattle.std.proofs.Common.{ℕ, Bool, Result, Ok, Err, inl, inr, refl}
 use Rattle.ddcmp_io.specs.Written.{Known}
 use Rattle.ddcmp_tap.specs.declared.notation.Notation.{Notation}
 use Rattle.ddcmp_pump.specs.declared.tap_fault.TapFault.{TapFault}

@@ -1,6 +1,6 @@
 -- What a tap hands on in both directions, and what it writes.
 use Rattle.std.specs.Prelude.{◌≡◌, ◌⊎◌, ℕ, Bool, true, false, List, [], ◌∷◌, ◌++◌, All, drop}
-use Rattle.std.specs.Prelude.{is_some, length, ⊤, Option, Some, None, Result, Ok, Err}
+use Rattle.std.specs.Prelude.{is_some, length, ⊤, Option, Result, Ok, Err}
 use Rattle.std.specs.Io.KnownBytes.{Appends, Consumes, IsAtEnd, Keeps}
 use Rattle.ddcmp_io.specs.Written.{AppendsPart, Known}
 use Rattle.ddcmp_frame.specs.Reading.{ReadItem, items}

@@ -1,11 +1,12 @@
 -- Frames on their way from one end to the other, in their order, by numbers that have no bound.
-use Rattle.std.proofs.Common.{◌≡◌, ◌≢◌, ◌⊎◌, inl, inr, ℕ, ◌+◌, ◌%◌, ◌<◌, ◌≤◌, max, Bool, true, false, cond, List, [], ◌∷◌, ◌++◌, refl, arith}
+use Rattle.std.proofs.Common.{◌≡◌, ◌≢◌, ◌⊎◌, inl, inr, ℕ, ◌+◌, ◌%◌, ◌<◌, ◌≤◌, max, Bool, true}
+use Rattle.std.proofs.Common.{false, cond, List, [], ◌∷◌, ◌++◌, refl, arith}
 use Rattle.std.specs.Prelude.{◌==◌}
 use Rattle.ddcmp_frame.specs.declared.nak.Nak.{Nak as Reason}
 use Rattle.ddcmp_core.specs.Table.{Frame, Data, Acked, Naked, Rep, Strt, Stack}
 
--- q: how many messages are handed up where it was sent; k: the position of a message; n: the highest
--- position sent
+-- q: how many messages are handed up where it was sent; k: the position of a message; n: the
+-- highest position sent
 pub data Flight : Type 0 where
   data_flies : (q k : ℕ) → List ℕ → Flight
   ack_flies : (q : ℕ) → Flight
@@ -128,12 +129,14 @@ StrtsFirst (f ∷ fs) = ((is_strt_flight f ≡ true) ⊎ Each is_strt_flight fal
 
 -- ---- a frame goes behind
 
-pub latest-behind : (low : ℕ) (fs : List Flight) (f : Flight) → latest low (fs ++ f ∷ []) ≡ told f (latest low fs)
+pub latest-behind : (low : ℕ) (fs : List Flight) (f : Flight)
+    → latest low (fs ++ f ∷ []) ≡ told f (latest low fs)
 unfolding latest
 latest-behind low [] f = refl
 latest-behind low (g ∷ fs) f = latest-behind (told g low) fs f
 
-pub reach-behind : (u : ℕ) (fs : List Flight) (f : Flight) → reach u (fs ++ f ∷ []) ≡ moved f (reach u fs)
+pub reach-behind : (u : ℕ) (fs : List Flight) (f : Flight)
+    → reach u (fs ++ f ∷ []) ≡ moved f (reach u fs)
 unfolding reach
 reach-behind u [] f = refl
 reach-behind u (g ∷ fs) f = reach-behind (moved g u) fs f
@@ -153,10 +156,12 @@ moved-grows stack_flies u = omega arith
 pub reach-grows : (u : ℕ) (fs : List Flight) → u ≤ reach u fs
 unfolding reach
 reach-grows u [] = omega arith
-reach-grows u (f ∷ fs) = let m = moved-grows f u in let r = reach-grows (moved f u) fs in omega (arith, m, r)
+reach-grows u (f ∷ fs) =
+    let m = moved-grows f u in let r = reach-grows (moved f u) fs in omega (arith, m, r)
 
 -- a frame that carries what is handed up, or no count
-pub rises-behind : (low high : ℕ) (fs : List Flight) (f : Flight) → Rises low high fs → ((tells_count f ≡ false) ⊎ (told f high ≡ high)) → Rises low high (fs ++ f ∷ [])
+pub rises-behind : (low high : ℕ) (fs : List Flight) (f : Flight) → Rises low high fs
+    → ((tells_count f ≡ false) ⊎ (told f high ≡ high)) → Rises low high (fs ++ f ∷ [])
 unfolding Rises
 rises-behind low high (g ∷ fs) f r c = (r.0, rises-behind (told g low) high fs f r.1 c)
 rises-behind low high [] (data_flies q k m) r (inl c) = absurd (cc)
@@ -169,7 +174,8 @@ rises-behind low high [] (rep_flies n) r c = (omega arith, r)
 rises-behind low high [] strt_flies r c = (omega arith, r)
 rises-behind low high [] stack_flies r c = (omega arith, r)
 
-pub rises-more : (low high higher : ℕ) (fs : List Flight) → high ≤ higher → Rises low high fs → Rises low higher fs
+pub rises-more : (low high higher : ℕ) (fs : List Flight) → high ≤ higher → Rises low high fs
+    → Rises low higher fs
 unfolding Rises
 rises-more low high higher [] h r = omega (arith, h, r)
 rises-more low high higher (f ∷ fs) h r = (r.0, rises-more (told f low) high higher fs h r.1)
@@ -177,19 +183,24 @@ rises-more low high higher (f ∷ fs) h r = (r.0, rises-more (told f low) high h
 pub rises-ends : (low high : ℕ) (fs : List Flight) → Rises low high fs → low ≤ high
 unfolding Rises
 rises-ends low high [] r = r
-rises-ends low high (f ∷ fs) r = let a = r.0 in let b = rises-ends (told f low) high fs r.1 in omega (arith, a, b)
+rises-ends low high (f ∷ fs) r =
+    let a = r.0 in let b = rises-ends (told f low) high fs r.1 in omega (arith, a, b)
 
 -- the first count lies between what is acknowledged and what is handed up
-pub rises-first : (low high : ℕ) (f : Flight) (fs : List Flight) → Rises low high (f ∷ fs) → (low ≤ told f low) × (told f low ≤ high) × Rises (told f low) high fs
+pub rises-first : (low high : ℕ) (f : Flight) (fs : List Flight) → Rises low high (f ∷ fs)
+    → (low ≤ told f low) × (told f low ≤ high) × Rises (told f low) high fs
 unfolding Rises
 rises-first low high f fs r = (r.0, rises-ends (told f low) high fs r.1, r.1)
 
-pub latest-within : (low high : ℕ) (fs : List Flight) → Rises low high fs → (low ≤ latest low fs) × (latest low fs ≤ high)
+pub latest-within : (low high : ℕ) (fs : List Flight) → Rises low high fs
+    → (low ≤ latest low fs) × (latest low fs ≤ high)
 unfolding Rises latest
 latest-within low high [] r = (omega arith, r)
-latest-within low high (f ∷ fs) r = let a = r.0 in let b = latest-within (told f low) high fs r.1 in (omega (arith, a, b.0), b.1)
+latest-within low high (f ∷ fs) r =
+    let a = r.0 in let b = latest-within (told f low) high fs r.1 in (omega (arith, a, b.0), b.1)
 
-pub latest-first : (low : ℕ) (f : Flight) (fs : List Flight) → latest low (f ∷ fs) ≡ latest (told f low) fs
+pub latest-first : (low : ℕ) (f : Flight) (fs : List Flight)
+    → latest low (f ∷ fs) ≡ latest (told f low) fs
 unfolding latest
 latest-first low f fs = refl
 
@@ -203,12 +214,14 @@ latest-none low (rep_flies n ∷ fs) u = latest-none low fs u.1
 latest-none low (strt_flies ∷ fs) u = latest-none low fs u.1
 latest-none low (stack_flies ∷ fs) u = latest-none low fs u.1
 
-pub uncounted-behind : (fs : List Flight) (f : Flight) → tells_count f ≡ false → Uncounted fs → Uncounted (fs ++ f ∷ [])
+pub uncounted-behind : (fs : List Flight) (f : Flight) → tells_count f ≡ false → Uncounted fs
+    → Uncounted (fs ++ f ∷ [])
 unfolding Uncounted
 uncounted-behind [] f e u = (e, tt)
 uncounted-behind (g ∷ fs) f e u = (u.0, uncounted-behind fs f e u.1)
 
-pub uncounted-first : (f : Flight) (fs : List Flight) → Uncounted (f ∷ fs) → (tells_count f ≡ false) × Uncounted fs
+pub uncounted-first : (f : Flight) (fs : List Flight) → Uncounted (f ∷ fs)
+    → (tells_count f ≡ false) × Uncounted fs
 unfolding Uncounted
 uncounted-first f fs u = u
 
@@ -217,7 +230,8 @@ uncounted-first f fs u = u
 pub near-ends : (w n most : ℕ) (fs : List Flight) → Near w n most fs → most ≤ n
 unfolding Near
 near-ends w n most [] r = r
-near-ends w n most (data_flies q k m ∷ fs) r = let e = near-ends w n (max most k) fs r.1 in omega (arith, e)
+near-ends w n most (data_flies q k m ∷ fs) r =
+    let e = near-ends w n (max most k) fs r.1 in omega (arith, e)
 near-ends w n most (ack_flies q ∷ fs) r = near-ends w n most fs r.1
 near-ends w n most (nak_flies why q ∷ fs) r = near-ends w n most fs r.1
 near-ends w n most (rep_flies k ∷ fs) r = near-ends w n most fs r.1
@@ -225,13 +239,21 @@ near-ends w n most (strt_flies ∷ fs) r = near-ends w n most fs r.1
 near-ends w n most (stack_flies ∷ fs) r = near-ends w n most fs r.1
 
 -- less may be handed up, and more is sent
-pub near-less : (w n n' most less : ℕ) (fs : List Flight) → n ≤ n' → less ≤ most → Near w n most fs → Near w n' less fs
+pub near-less : (w n n' most less : ℕ) (fs : List Flight) → n ≤ n' → less ≤ most → Near w n most fs
+    → Near w n' less fs
 unfolding Near
 near-less w n n' most less [] h g r = omega (arith, h, g, r)
-near-less w n n' most less (data_flies q k m ∷ fs) h g r = let a = r.0 in ((omega (arith, a.0, g), omega (arith, a.1, h)), near-less w n n' (max most k) (max less k) fs h (omega (arith, g)) r.1)
+near-less w n n' most less (data_flies q k m ∷ fs) h g r =
+    let a = r.0 in (
+      (omega (arith, a.0, g), omega (arith, a.1, h)),
+      near-less w n n' (max most k) (max less k) fs h (omega (arith, g)) r.1,
+    )
 near-less w n n' most less (ack_flies q ∷ fs) h g r = (tt, near-less w n n' most less fs h g r.1)
-near-less w n n' most less (nak_flies why q ∷ fs) h g r = (tt, near-less w n n' most less fs h g r.1)
-near-less w n n' most less (rep_flies k ∷ fs) h g r = let a = r.0 in ((omega (arith, a.0, g), omega (arith, a.1, h)), near-less w n n' most less fs h g r.1)
+near-less w n n' most less (nak_flies why q ∷ fs) h g r =
+    (tt, near-less w n n' most less fs h g r.1)
+near-less w n n' most less (rep_flies k ∷ fs) h g r =
+    let a = r.0 in
+    ((omega (arith, a.0, g), omega (arith, a.1, h)), near-less w n n' most less fs h g r.1)
 near-less w n n' most less (strt_flies ∷ fs) h g r = (tt, near-less w n n' most less fs h g r.1)
 near-less w n n' most less (stack_flies ∷ fs) h g r = (tt, near-less w n n' most less fs h g r.1)
 
@@ -241,7 +263,8 @@ TellsSent n (data_flies q k m) = ⊥
 TellsSent n (rep_flies k) = k ≡ n
 TellsSent n _ = Unit {0}
 
-pub near-behind : (w n most : ℕ) (fs : List Flight) (f : Flight) → TellsSent n f → Near w n most fs → Near w n most (fs ++ f ∷ [])
+pub near-behind : (w n most : ℕ) (fs : List Flight) (f : Flight) → TellsSent n f → Near w n most fs
+    → Near w n most (fs ++ f ∷ [])
 unfolding Near
 near-behind w n most (g ∷ fs) f e r = (r.0, near-behind w n (raised g most) fs f e r.1)
 near-behind w n most [] (data_flies q k m) e r = absurd e
@@ -251,19 +274,28 @@ near-behind w n most [] (rep_flies k) e r = ((omega (arith, e, r), omega (arith,
 near-behind w n most [] strt_flies e r = (tt, r)
 near-behind w n most [] stack_flies e r = (tt, r)
 
-pub near-data : (w n n' most q k : ℕ) (m : List ℕ) (fs : List Flight) → n ≤ n' → n < k + w → k ≤ n' → Near w n most fs → Near w n' most (fs ++ data_flies q k m ∷ [])
+pub near-data : (w n n' most q k : ℕ) (m : List ℕ) (fs : List Flight) → n ≤ n' → n < k + w → k ≤ n'
+    → Near w n most fs → Near w n' most (fs ++ data_flies q k m ∷ [])
 unfolding Near
 near-data w n n' most q k m [] h g i r = ((omega (arith, r, g), i), omega (arith, r, h, i))
-near-data w n n' most q k m (data_flies q' k' m' ∷ fs) h g i r = let a = r.0 in ((a.0, omega (arith, a.1, h)), near-data w n n' (max most k') q k m fs h g i r.1)
-near-data w n n' most q k m (ack_flies q' ∷ fs) h g i r = (tt, near-data w n n' most q k m fs h g i r.1)
-near-data w n n' most q k m (nak_flies why q' ∷ fs) h g i r = (tt, near-data w n n' most q k m fs h g i r.1)
-near-data w n n' most q k m (rep_flies k' ∷ fs) h g i r = let a = r.0 in ((a.0, omega (arith, a.1, h)), near-data w n n' most q k m fs h g i r.1)
-near-data w n n' most q k m (strt_flies ∷ fs) h g i r = (tt, near-data w n n' most q k m fs h g i r.1)
-near-data w n n' most q k m (stack_flies ∷ fs) h g i r = (tt, near-data w n n' most q k m fs h g i r.1)
+near-data w n n' most q k m (data_flies q' k' m' ∷ fs) h g i r =
+    let a = r.0 in ((a.0, omega (arith, a.1, h)), near-data w n n' (max most k') q k m fs h g i r.1)
+near-data w n n' most q k m (ack_flies q' ∷ fs) h g i r =
+    (tt, near-data w n n' most q k m fs h g i r.1)
+near-data w n n' most q k m (nak_flies why q' ∷ fs) h g i r =
+    (tt, near-data w n n' most q k m fs h g i r.1)
+near-data w n n' most q k m (rep_flies k' ∷ fs) h g i r =
+    let a = r.0 in ((a.0, omega (arith, a.1, h)), near-data w n n' most q k m fs h g i r.1)
+near-data w n n' most q k m (strt_flies ∷ fs) h g i r =
+    (tt, near-data w n n' most q k m fs h g i r.1)
+near-data w n n' most q k m (stack_flies ∷ fs) h g i r =
+    (tt, near-data w n n' most q k m fs h g i r.1)
 
-pub near-first : (w n most : ℕ) (f : Flight) (fs : List Flight) → Near w n most (f ∷ fs) → IsNear w n most f × Near w n most fs
+pub near-first : (w n most : ℕ) (f : Flight) (fs : List Flight) → Near w n most (f ∷ fs)
+    → IsNear w n most f × Near w n most fs
 unfolding Near
-near-first w n most (data_flies q k m) fs r = (r.0, near-less w n n (max most k) most fs (omega arith) (omega arith) r.1)
+near-first w n most (data_flies q k m) fs r =
+    (r.0, near-less w n n (max most k) most fs (omega arith) (omega arith) r.1)
 near-first w n most (ack_flies q) fs r = r
 near-first w n most (nak_flies why q) fs r = r
 near-first w n most (rep_flies k) fs r = r
@@ -271,33 +303,39 @@ near-first w n most strt_flies fs r = r
 near-first w n most stack_flies fs r = r
 
 -- the position that comes is handed up
-pub near-up : (w n most q k : ℕ) (m : List ℕ) (fs : List Flight) → Near w n most (data_flies q k m ∷ fs) → Near w n k fs
+pub near-up : (w n most q k : ℕ) (m : List ℕ) (fs : List Flight)
+    → Near w n most (data_flies q k m ∷ fs) → Near w n k fs
 unfolding Near
 near-up w n most q k m fs r = near-less w n n (max most k) k fs (omega arith) (omega arith) r.1
 
 -- ---- kinds
 
-pub each-behind : (p : Flight → Bool) (b : Bool) (fs : List Flight) (f : Flight) → p f ≡ b → Each p b fs → Each p b (fs ++ f ∷ [])
+pub each-behind : (p : Flight → Bool) (b : Bool) (fs : List Flight) (f : Flight) → p f ≡ b
+    → Each p b fs → Each p b (fs ++ f ∷ [])
 unfolding Each
 each-behind p b [] f e u = (e, tt)
 each-behind p b (g ∷ fs) f e u = (u.0, each-behind p b fs f e u.1)
 
-pub each-first : (p : Flight → Bool) (b : Bool) (f : Flight) (fs : List Flight) → Each p b (f ∷ fs) → (p f ≡ b) × Each p b fs
+pub each-first : (p : Flight → Bool) (b : Bool) (f : Flight) (fs : List Flight) → Each p b (f ∷ fs)
+    → (p f ≡ b) × Each p b fs
 unfolding Each
 each-first p b f fs u = u
 
-pub has-behind : (p : Flight → Bool) (fs : List Flight) (f : Flight) → Has p fs → Has p (fs ++ f ∷ [])
+pub has-behind : (p : Flight → Bool) (fs : List Flight) (f : Flight) → Has p fs
+    → Has p (fs ++ f ∷ [])
 unfolding Has
 has-behind p [] f h = absurd h
 has-behind p (g ∷ fs) f (inl e) = inl e
 has-behind p (g ∷ fs) f (inr h) = inr (has-behind p fs f h)
 
-pub has-last : (p : Flight → Bool) (fs : List Flight) (f : Flight) → p f ≡ true → Has p (fs ++ f ∷ [])
+pub has-last : (p : Flight → Bool) (fs : List Flight) (f : Flight) → p f ≡ true
+    → Has p (fs ++ f ∷ [])
 unfolding Has
 has-last p [] f e = inl e
 has-last p (g ∷ fs) f e = inr (has-last p fs f e)
 
-pub has-first : (p : Flight → Bool) (f : Flight) (fs : List Flight) → Has p (f ∷ fs) → (p f ≡ true) ⊎ Has p fs
+pub has-first : (p : Flight → Bool) (f : Flight) (fs : List Flight) → Has p (f ∷ fs)
+    → (p f ≡ true) ⊎ Has p fs
 unfolding Has
 has-first p f fs h = h
 
@@ -305,18 +343,21 @@ pub has-none : (p : Flight → Bool) → Has p [] → ⊥
 unfolding Has
 has-none p h = h
 
-pub firsts-behind : (fs : List Flight) (f : Flight) → is_strt_flight f ≡ false → StrtsFirst fs → StrtsFirst (fs ++ f ∷ [])
+pub firsts-behind : (fs : List Flight) (f : Flight) → is_strt_flight f ≡ false → StrtsFirst fs
+    → StrtsFirst (fs ++ f ∷ [])
 unfolding StrtsFirst Each
 firsts-behind [] f e u = (inr tt, tt)
 firsts-behind (g ∷ fs) f e (inl s, u) = (inl s, firsts-behind fs f e u)
-firsts-behind (g ∷ fs) f e (inr s, u) = (inr (each-behind is_strt_flight false fs f e s), firsts-behind fs f e u)
+firsts-behind (g ∷ fs) f e (inr s, u) =
+    (inr (each-behind is_strt_flight false fs f e s), firsts-behind fs f e u)
 
 pub firsts-all : (fs : List Flight) → Each is_strt_flight true fs → StrtsFirst fs
 unfolding StrtsFirst Each
 firsts-all [] u = tt
 firsts-all (f ∷ fs) u = (inl u.0, firsts-all fs u.1)
 
-pub firsts-first : (f : Flight) (fs : List Flight) → StrtsFirst (f ∷ fs) → ((is_strt_flight f ≡ true) ⊎ Each is_strt_flight false fs) × StrtsFirst fs
+pub firsts-first : (f : Flight) (fs : List Flight) → StrtsFirst (f ∷ fs)
+    → ((is_strt_flight f ≡ true) ⊎ Each is_strt_flight false fs) × StrtsFirst fs
 unfolding StrtsFirst
 firsts-first f fs u = u
 
@@ -330,17 +371,21 @@ sent-on r next h = by (next == r + 1) refl
     by true e = omega arith
     by false e = let z : next ≢ r + 1 = grind (arith) in omega (arith, z, h)
 
-pub reach-sent : (u next q : ℕ) (m : List ℕ) (fs : List Flight) → next ≤ reach u fs + 1 → next + 1 ≤ reach u (fs ++ data_flies q next m ∷ []) + 1
+pub reach-sent : (u next q : ℕ) (m : List ℕ) (fs : List Flight) → next ≤ reach u fs + 1
+    → next + 1 ≤ reach u (fs ++ data_flies q next m ∷ []) + 1
 reach-sent u next q m fs h =
     let e = reach-behind u fs (data_flies q next m) in
     let s = sent-on (reach u fs) next h in
     omega (arith, e, s)
 
-pub chained-data : (u next q : ℕ) (m : List ℕ) (fs : List Flight) → Chained u next fs → Chained u (next + 1) (fs ++ data_flies q next m ∷ [])
+pub chained-data : (u next q : ℕ) (m : List ℕ) (fs : List Flight) → Chained u next fs
+    → Chained u (next + 1) (fs ++ data_flies q next m ∷ [])
 unfolding Chained reach
 chained-data u next q m [] c = ((λ h. omega arith), tt)
-chained-data u next q m (data_flies q' k m' ∷ fs) c = ((λ h. reach-sent k next q m fs (c.0 h)), chained-data u next q m fs c.1)
-chained-data u next q m (rep_flies n ∷ fs) c = ((λ h. reach-sent n next q m fs (c.0 h)), chained-data u next q m fs c.1)
+chained-data u next q m (data_flies q' k m' ∷ fs) c =
+    ((λ h. reach-sent k next q m fs (c.0 h)), chained-data u next q m fs c.1)
+chained-data u next q m (rep_flies n ∷ fs) c =
+    ((λ h. reach-sent n next q m fs (c.0 h)), chained-data u next q m fs c.1)
 chained-data u next q m (ack_flies q' ∷ fs) c = (tt, chained-data u next q m fs c.1)
 chained-data u next q m (nak_flies why q' ∷ fs) c = (tt, chained-data u next q m fs c.1)
 chained-data u next q m (strt_flies ∷ fs) c = (tt, chained-data u next q m fs c.1)
@@ -352,7 +397,8 @@ TellsAll next (data_flies q k m) = ⊥
 TellsAll next (rep_flies n) = next ≤ n + 1
 TellsAll next _ = Unit {0}
 
-reach-still : (u next : ℕ) (fs : List Flight) (f : Flight) → TellsAll next f → reach u (fs ++ f ∷ []) ≡ reach u fs
+reach-still : (u next : ℕ) (fs : List Flight) (f : Flight) → TellsAll next f
+    → reach u (fs ++ f ∷ []) ≡ reach u fs
 reach-still u next fs (data_flies q k m) t = absurd t
 reach-still u next fs (ack_flies q) t = reach-behind u fs (ack_flies q)
 reach-still u next fs (nak_flies why q) t = reach-behind u fs (nak_flies why q)
@@ -360,10 +406,12 @@ reach-still u next fs (rep_flies n) t = reach-behind u fs (rep_flies n)
 reach-still u next fs strt_flies t = reach-behind u fs strt_flies
 reach-still u next fs stack_flies t = reach-behind u fs stack_flies
 
-pub reach-other : (u next : ℕ) (fs : List Flight) (f : Flight) → TellsAll next f → reach u (fs ++ f ∷ []) ≡ reach u fs
+pub reach-other : (u next : ℕ) (fs : List Flight) (f : Flight) → TellsAll next f
+    → reach u (fs ++ f ∷ []) ≡ reach u fs
 reach-other u next fs f t = reach-still u next fs f t
 
-pub chained-other : (u next : ℕ) (fs : List Flight) (f : Flight) → TellsAll next f → Chained u next fs → Chained u next (fs ++ f ∷ [])
+pub chained-other : (u next : ℕ) (fs : List Flight) (f : Flight) → TellsAll next f
+    → Chained u next fs → Chained u next (fs ++ f ∷ [])
 unfolding Chained reach
 chained-other u next [] (data_flies q k m) t c = absurd t
 chained-other u next [] (ack_flies q) t c = (tt, tt)
@@ -371,25 +419,45 @@ chained-other u next [] (nak_flies why q) t c = (tt, tt)
 chained-other u next [] (rep_flies n) t c = ((λ h. t), tt)
 chained-other u next [] strt_flies t c = (tt, tt)
 chained-other u next [] stack_flies t c = (tt, tt)
-chained-other u next (data_flies q k m ∷ fs) f t c = ((λ h. let e = reach-still k next fs f t in let z = c.0 h in omega (arith, e, z)), chained-other u next fs f t c.1)
-chained-other u next (rep_flies n ∷ fs) f t c = ((λ h. let e = reach-still n next fs f t in let z = c.0 h in omega (arith, e, z)), chained-other u next fs f t c.1)
+chained-other u next (data_flies q k m ∷ fs) f t c = (
+  (λ h. let e = reach-still k next fs f t in let z = c.0 h in omega (arith, e, z)),
+  chained-other u next fs f t c.1,
+)
+chained-other u next (rep_flies n ∷ fs) f t c = (
+  (λ h. let e = reach-still n next fs f t in let z = c.0 h in omega (arith, e, z)),
+  chained-other u next fs f t c.1,
+)
 chained-other u next (ack_flies q ∷ fs) f t c = (tt, chained-other u next fs f t c.1)
 chained-other u next (nak_flies why q ∷ fs) f t c = (tt, chained-other u next fs f t c.1)
 chained-other u next (strt_flies ∷ fs) f t c = (tt, chained-other u next fs f t c.1)
 chained-other u next (stack_flies ∷ fs) f t c = (tt, chained-other u next fs f t c.1)
 
 -- more is handed up, and the next one to send is at most the one behind that
-pub chained-moves : (u u' next next' : ℕ) (fs : List Flight) → u ≤ u' → next' ≤ max next (u' + 1) → Chained u next fs → Chained u' next' fs
+pub chained-moves : (u u' next next' : ℕ) (fs : List Flight) → u ≤ u' → next' ≤ max next (u' + 1)
+    → Chained u next fs → Chained u' next' fs
 unfolding Chained
 chained-moves u u' next next' [] h g c = tt
-chained-moves u u' next next' (data_flies q k m ∷ fs) h g c = ((λ i. let z = c.0 (omega (arith, h, i)) in let r = reach-grows k fs in omega (arith, z, r, i, g)), chained-moves u u' next next' fs h g c.1)
-chained-moves u u' next next' (rep_flies n ∷ fs) h g c = ((λ i. let z = c.0 (omega (arith, h, i)) in let r = reach-grows n fs in omega (arith, z, r, i, g)), chained-moves u u' next next' fs h g c.1)
-chained-moves u u' next next' (ack_flies q ∷ fs) h g c = (tt, chained-moves u u' next next' fs h g c.1)
-chained-moves u u' next next' (nak_flies why q ∷ fs) h g c = (tt, chained-moves u u' next next' fs h g c.1)
-chained-moves u u' next next' (strt_flies ∷ fs) h g c = (tt, chained-moves u u' next next' fs h g c.1)
-chained-moves u u' next next' (stack_flies ∷ fs) h g c = (tt, chained-moves u u' next next' fs h g c.1)
+chained-moves u u' next next' (data_flies q k m ∷ fs) h g c = (
+  (λ i. let z = c.0 (omega (arith, h, i)) in let r = reach-grows k fs in
+      omega (arith, z, r, i, g)),
+  chained-moves u u' next next' fs h g c.1,
+)
+chained-moves u u' next next' (rep_flies n ∷ fs) h g c = (
+  (λ i. let z = c.0 (omega (arith, h, i)) in let r = reach-grows n fs in
+      omega (arith, z, r, i, g)),
+  chained-moves u u' next next' fs h g c.1,
+)
+chained-moves u u' next next' (ack_flies q ∷ fs) h g c =
+    (tt, chained-moves u u' next next' fs h g c.1)
+chained-moves u u' next next' (nak_flies why q ∷ fs) h g c =
+    (tt, chained-moves u u' next next' fs h g c.1)
+chained-moves u u' next next' (strt_flies ∷ fs) h g c =
+    (tt, chained-moves u u' next next' fs h g c.1)
+chained-moves u u' next next' (stack_flies ∷ fs) h g c =
+    (tt, chained-moves u u' next next' fs h g c.1)
 
-pub chained-first : (u next : ℕ) (f : Flight) (fs : List Flight) → Chained u next (f ∷ fs) → LeadsOn u next f fs × Chained u next fs
+pub chained-first : (u next : ℕ) (f : Flight) (fs : List Flight) → Chained u next (f ∷ fs)
+    → LeadsOn u next f fs × Chained u next fs
 unfolding Chained
 chained-first u next f fs c = c
 

@@ -1,5 +1,8 @@
--- A recovery in lock step is a list of events on a line that loses nothing: a settle and two rounds.
-use Rattle.std.proofs.Common.{◌≡◌, ℕ, zero, suc, Bool, true, false, cond, List, [], ◌∷◌, ◌++◌, length, drop, Option, Some, None, refl, sym, ap, ◌∙◌, subst, append-nil}
+-- A recovery in lock step is a list of events on a line that loses nothing: a settle and two
+-- rounds.
+use Rattle.std.proofs.Common.{◌≡◌, ℕ, zero, suc, Bool, true, false, cond, List, [], ◌∷◌, ◌++◌}
+use Rattle.std.proofs.Common.{length, drop, Option, Some, None, refl, sym, ap, ◌∙◌, subst}
+use Rattle.std.proofs.Common.{append-nil}
 use Rattle.std.specs.Prelude.{is_some, replicate}
 use Rattle.ddcmp_core.specs.Core.{IsSound}
 use Rattle.ddcmp_run.specs.declared.event.End.{End}
@@ -9,12 +12,15 @@ use Rattle.ddcmp_run.specs.declared.event.Event.TheVariants as event
 use Rattle.ddcmp_run.specs.InOrder.{IsRun}
 use Rattle.ddcmp_run.specs.Recovery.{both_expire, rounding, rounded, is_ready}
 use Rattle.ddcmp_run.specs.Run.{PairState, line_bytes, after_event, run}
-use Rattle.ddcmp_run.specs.Settle.{mail_events, carried, crossing_of, crossing, exchange, either_writes, counted, exchanges_within, most_exchanges, all_mail, settling, settled}
+use Rattle.ddcmp_run.specs.Settle.{mail_events, carried, crossing_of, crossing, exchange}
+use Rattle.ddcmp_run.specs.Settle.{either_writes, counted, exchanges_within, most_exchanges}
+use Rattle.ddcmp_run.specs.Settle.{all_mail, settling, settled}
 use Rattle.ddcmp_run.proofs.Quiets.{Rests}
 use Rattle.ddcmp_run.proofs.Ready.{run-recovers}
 use Rattle.ddcmp_run.proofs.Recoveries.{rounding-events}
 use Rattle.ddcmp_run.proofs.Runs.{run-append}
-use Rattle.ddcmp_recovery.specs.LossFree.{Line, empty_line, bytes_or_none, after_on_line, IsLossFree, run_on_line}
+use Rattle.ddcmp_recovery.specs.LossFree.{Line, empty_line, bytes_or_none, after_on_line}
+use Rattle.ddcmp_recovery.specs.LossFree.{IsLossFree, run_on_line}
 use Rattle.ddcmp_recovery.specs.Rests.{GoesOn}
 use Rattle.ddcmp_recovery.specs.Delivers.{IsAtRest, runs_out, IsRoundInAnyOrder, IsTwoRounds}
 use Rattle.ddcmp_recovery.proofs.Settling.{drop_front}
@@ -32,12 +38,14 @@ goes-append (event.Start e ∷ rest) second g h = absurd g
 goes-append (event.Halt e ∷ rest) second g h = absurd g
 goes-append (event.Clear ∷ rest) second g h = goes-append rest second g h
 
-loss-append : (first second : List Event) (l : Line) → IsLossFree first l → IsLossFree second (run_on_line first l) → IsLossFree (first ++ second) l
+loss-append : (first second : List Event) (l : Line) → IsLossFree first l
+    → IsLossFree second (run_on_line first l) → IsLossFree (first ++ second) l
 unfolding run_on_line
 loss-append [] second l f g = g
 loss-append (e ∷ first) second l f g = (f.0, loss-append first second (after_on_line e l) f.1 g)
 
-line-append : (first second : List Event) (l : Line) → run_on_line (first ++ second) l ≡ run_on_line second (run_on_line first l)
+line-append : (first second : List Event) (l : Line)
+    → run_on_line (first ++ second) l ≡ run_on_line second (run_on_line first l)
 unfolding run_on_line
 line-append [] second l = refl
 line-append (e ∷ first) second l = line-append first second (after_on_line e l)
@@ -48,11 +56,16 @@ record Clears (events : List Event) (p : PairState) : Type 0 where
   loss_free : IsLossFree events (empty_line p)
   leads : run_on_line events (empty_line p) ≡ empty_line (run events p)
 
-clears-append : (first second : List Event) (p : PairState) → Clears first p → Clears second (run first p) → Clears (first ++ second) p
+clears-append : (first second : List Event) (p : PairState) → Clears first p
+    → Clears second (run first p) → Clears (first ++ second) p
 clears-append first second p c d = record {
   goes = goes-append first second c.goes d.goes;
-  loss_free = loss-append first second (empty_line p) c.loss_free (subst (λ (l : Line). IsLossFree second l) (sym c.leads) d.loss_free);
-  leads = line-append first second (empty_line p) ∙ ap (λ (l : Line). run_on_line second l) c.leads ∙ d.leads ∙ ap (λ (q : PairState). empty_line q) (sym (run-append first second p));
+  loss_free =
+      loss-append first second (empty_line p) c.loss_free
+      (subst (λ (l : Line). IsLossFree second l) (sym c.leads) d.loss_free);
+  leads =
+      line-append first second (empty_line p) ∙ ap (λ (l : Line). run_on_line second l) c.leads
+      ∙ d.leads ∙ ap (λ (q : PairState). empty_line q) (sym (run-append first second p));
 }
 
 clears-none : (p : PairState) → Clears [] p
@@ -77,7 +90,8 @@ mail B p = takes B (length p.b.core.station.inbox) p
 all-gone : (bytes : List ℕ) → drop (length bytes) bytes ≡ []
 all-gone bytes = ap (drop (length bytes)) (sym (append-nil bytes)) ∙ drop_front bytes []
 
-carried-a : (bytes : List ℕ) (p : PairState) → line_bytes p.a ≡ Some bytes → Clears (carried A bytes) p
+carried-a : (bytes : List ℕ) (p : PairState) → line_bytes p.a ≡ Some bytes
+    → Clears (carried A bytes) p
 unfolding run run_on_line
 carried-a bytes p e =
     let way : bytes_or_none (line_bytes p.a) ≡ bytes = ap bytes_or_none e in
@@ -91,7 +105,8 @@ carried-a bytes p e =
       });
     }
 
-carried-b : (bytes : List ℕ) (p : PairState) → line_bytes p.b ≡ Some bytes → Clears (carried B bytes) p
+carried-b : (bytes : List ℕ) (p : PairState) → line_bytes p.b ≡ Some bytes
+    → Clears (carried B bytes) p
 unfolding run run_on_line
 carried-b bytes p e =
     let way : bytes_or_none (line_bytes p.b) ≡ bytes = ap bytes_or_none e in
@@ -107,11 +122,33 @@ carried-b bytes p e =
 
 idle-a : (p : PairState) → line_bytes p.a ≡ None → Clears (event.Poll A ∷ []) p
 unfolding run run_on_line
-idle-a p e = record { goes = tt; loss_free = (tt, tt); leads = (λ i. record { pair = after_event (event.Poll A) p; to_a = []; to_b = bytes_or_none (e i) }) }
+idle-a p e =
+    record {
+      goes = tt;
+      loss_free = (tt, tt);
+      leads =
+          (λ
+          i. record {
+            pair = after_event (event.Poll A) p;
+            to_a = [];
+            to_b = bytes_or_none (e i);
+          });
+    }
 
 idle-b : (p : PairState) → line_bytes p.b ≡ None → Clears (event.Poll B ∷ []) p
 unfolding run run_on_line
-idle-b p e = record { goes = tt; loss_free = (tt, tt); leads = (λ i. record { pair = after_event (event.Poll B) p; to_a = bytes_or_none (e i); to_b = [] }) }
+idle-b p e =
+    record {
+      goes = tt;
+      loss_free = (tt, tt);
+      leads =
+          (λ
+          i. record {
+            pair = after_event (event.Poll B) p;
+            to_a = bytes_or_none (e i);
+            to_b = [];
+          });
+    }
 
 crossing-a : (p : PairState) → Clears (crossing A p) p
 unfolding crossing
@@ -119,7 +156,9 @@ crossing-a p = by (line_bytes p.a) refl
   where
     by : (o : Option (List ℕ)) → line_bytes p.a ≡ o → Clears (crossing_of A o p) p
     by None e = idle-a p e
-    by (Some bytes) e = clears-append (carried A bytes) (mail_events B (run (carried A bytes) p)) p (carried-a bytes p e) (mail B (run (carried A bytes) p))
+    by (Some bytes) e =
+        clears-append (carried A bytes) (mail_events B (run (carried A bytes) p)) p
+        (carried-a bytes p e) (mail B (run (carried A bytes) p))
 
 crossing-b : (p : PairState) → Clears (crossing B p) p
 unfolding crossing
@@ -127,12 +166,16 @@ crossing-b p = by (line_bytes p.b) refl
   where
     by : (o : Option (List ℕ)) → line_bytes p.b ≡ o → Clears (crossing_of B o p) p
     by None e = idle-b p e
-    by (Some bytes) e = clears-append (carried B bytes) (mail_events A (run (carried B bytes) p)) p (carried-b bytes p e) (mail A (run (carried B bytes) p))
+    by (Some bytes) e =
+        clears-append (carried B bytes) (mail_events A (run (carried B bytes) p)) p
+        (carried-b bytes p e) (mail A (run (carried B bytes) p))
 
 -- ---- exchanges, a settle and a round
 
 exchanges : (p : PairState) → Clears (exchange p) p
-exchanges p = clears-append (crossing A p) (crossing B (run (crossing A p) p)) p (crossing-a p) (crossing-b (run (crossing A p) p))
+exchanges p =
+    clears-append (crossing A p) (crossing B (run (crossing A p) p)) p (crossing-a p)
+    (crossing-b (run (crossing A p) p))
 
 within : (n : ℕ) (p : PairState) → Clears (exchanges_within n p).events p
 unfolding exchanges_within
@@ -140,25 +183,35 @@ within zero p = clears-none p
 within (suc n) p = by (either_writes p) (within n (run (exchange p) p))
   where
     by : (b : Bool) → Clears (exchanges_within n (run (exchange p) p)).events (run (exchange p) p)
-        → Clears (cond b (counted (exchange p) (exchanges_within n (run (exchange p) p))) (record { events = exchange p; exchanges = 0; quiet = true })).events p
-    by true c = clears-append (exchange p) (exchanges_within n (run (exchange p) p)).events p (exchanges p) c
+        → Clears
+        (cond b (counted (exchange p) (exchanges_within n (run (exchange p) p)))
+        (record { events = exchange p; exchanges = 0; quiet = true })).events p
+    by true c =
+        clears-append (exchange p) (exchanges_within n (run (exchange p) p)).events p (exchanges p)
+        c
     by false c = exchanges p
 
 all-mail : (p : PairState) → Clears (all_mail p) p
-all-mail p = clears-append (mail_events A p) (mail_events B (run (mail_events A p) p)) p (mail A p) (mail B (run (mail_events A p) p))
+all-mail p =
+    clears-append (mail_events A p) (mail_events B (run (mail_events A p) p)) p (mail A p)
+    (mail B (run (mail_events A p) p))
 
 settle : (p : PairState) → Clears (settling p).events p
 unfolding settling
 settle p =
     let q = run (all_mail p) p in
-    clears-append (all_mail p) (exchanges_within (most_exchanges p) q).events p (all-mail p) (within (most_exchanges p) q)
+    clears-append (all_mail p) (exchanges_within (most_exchanges p) q).events p (all-mail p)
+    (within (most_exchanges p) q)
 
 expire : (p : PairState) → Clears both_expire p
 unfolding run run_on_line
 expire p = record { goes = tt; loss_free = (tt, (tt, tt)); leads = refl }
 
 round : (p : PairState) → Clears (rounding p).events p
-round p = subst (λ e. Clears e p) (sym (rounding-events p)) (clears-append both_expire (settling (run both_expire p)).events p (expire p) (settle (run both_expire p)))
+round p =
+    subst (λ e. Clears e p) (sym (rounding-events p))
+    (clears-append both_expire (settling (run both_expire p)).events p (expire p)
+    (settle (run both_expire p)))
 
 expires : (e : End) (p : PairState) → runs_out e (rounding p).events ≡ true
 unfolding runs_out
@@ -172,7 +225,13 @@ no-bytes None e = refl
 no-bytes (Some bytes) e = absurd (cc e)
 
 at-rest : (p : PairState) → Rests p → IsAtRest (empty_line p)
-at-rest p r = record { none_to_a = refl; none_to_b = refl; idle_a = no-bytes (line_bytes p.a) r.a; idle_b = no-bytes (line_bytes p.b) r.b }
+at-rest p r =
+    record {
+      none_to_a = refl;
+      none_to_b = refl;
+      idle_a = no-bytes (line_bytes p.a) r.a;
+      idle_b = no-bytes (line_bytes p.b) r.b;
+    }
 
 a-round : (p : PairState) → Rests (rounded p) → IsRoundInAnyOrder (rounding p).events (empty_line p)
 a-round p r =
@@ -185,7 +244,8 @@ a-round p r =
       rests = subst (λ (l : Line). IsAtRest l) (sym c.leads) (at-rest (rounded p) r);
     }
 
-pub two-rounds : (p : PairState) → IsRun p → IsSound p.a.core.limits p.a.core.station → IsSound p.b.core.limits p.b.core.station → is_ready p ≡ true → IsTwoRounds p
+pub two-rounds : (p : PairState) → IsRun p → IsSound p.a.core.limits p.a.core.station
+    → IsSound p.b.core.limits p.b.core.station → is_ready p ≡ true → IsTwoRounds p
 two-rounds p r a b e =
     let h = run-recovers p r a b e in
     let s = settle p in

@@ -1,12 +1,16 @@
 -- In a settle each frame costs something.
-use Rattle.std.proofs.Common.{◌≡◌, ℕ, ◌+◌, ◌-◌, ◌*◌, ◌<◌, ◌≤◌, Bool, true, false, cond, refl, ap, arith}
+use Rattle.std.proofs.Common.{◌≡◌, ℕ, ◌+◌, ◌-◌, ◌*◌, ◌<◌, ◌≤◌, Bool, true, false, cond, refl, ap}
+use Rattle.std.proofs.Common.{arith}
 use Rattle.std.specs.Prelude.{◌==◌}
 use Rattle.ddcmp_core.specs.declared.state.State.{State}
-use Rattle.ddcmp_core.specs.declared.state.State.TheVariants.{Halted, IStart, AStart, Running, Maintenance}
+use Rattle.ddcmp_core.specs.declared.state.State.TheVariants.{Halted, IStart, AStart, Running}
+use Rattle.ddcmp_core.specs.declared.state.State.TheVariants.{Maintenance}
 use Rattle.ddcmp_core.specs.declared.state.Owed.{Owed}
 use Rattle.ddcmp_core.specs.declared.state.Owed.TheVariants.{Quiet, Ack, Nak}
 use Rattle.ddcmp_frame.specs.declared.nak.Nak.TheVariants as reason
-use Rattle.ddcmp_run.proofs.Views.{View, Ordered, Crossing, c_strt, c_stack, c_nak, c_rep, c_data, c_ack, c_waits, c_rests, hears_strt, hears_stack, hears_nak, hears_rep, hears_ack, hears_data}
+use Rattle.ddcmp_run.proofs.Views.{View, Ordered, Crossing, c_strt, c_stack, c_nak, c_rep, c_data}
+use Rattle.ddcmp_run.proofs.Views.{c_ack, c_waits, c_rests, hears_strt, hears_stack, hears_nak}
+use Rattle.ddcmp_run.proofs.Views.{hears_rep, hears_ack, hears_data}
 
 abbrev cost_due : State → Bool → ℕ
 cost_due IStart true = 3
@@ -23,7 +27,8 @@ cost_rep W true = 2 + 2 * W
 cost_rep W false = 0
 
 abbrev pub cost : ℕ → View → ℕ
-cost W v = cost_due v.state v.due + cost_reply W v.reply + cost_rep W v.rep + 2 * (v.given + 1 - v.next)
+cost W v =
+    cost_due v.state v.due + cost_reply W v.reply + cost_rep W v.rep + 2 * (v.given + 1 - v.next)
 
 due_most : (p : State) (b : Bool) → cost_due p b ≤ 3
 due_most IStart true = omega arith
@@ -40,7 +45,9 @@ rep_most W true = omega arith
 rep_most W false = omega arith
 
 pub cost_most : (W : ℕ) (v w : View) → Ordered W v w → cost W v ≤ 6 * W + 6
-cost_most W v w h = omega (arith, due_most v.state v.due, reply_most W v.reply, rep_most W v.rep, h.window, h.next_low)
+cost_most W v w h =
+    omega
+    (arith, due_most v.state v.due, reply_most W v.reply, rep_most W v.rep, h.window, h.next_low)
 
 rep_falls : (W : ℕ) (b c : Bool) → cost_rep W (cond b c false) ≤ cost_rep W c
 rep_falls W true c = omega arith
@@ -65,7 +72,8 @@ module _ (W : ℕ) (w : View) where
   stack_brings Halted = omega arith
   stack_brings Maintenance = omega arith
 
-  nak_brings : (p : State) (q : ℕ) → w.given ≤ w.acked + W → w.acked ≤ q → cost W (hears_nak p w q) ≤ cost W w + 2 * W
+  nak_brings : (p : State) (q : ℕ) → w.given ≤ w.acked + W → w.acked ≤ q
+      → cost W (hears_nak p w q) ≤ cost W w + 2 * W
   nak_brings Running q h g = omega arith
   nak_brings IStart q h g = omega arith
   nak_brings AStart q h g = omega arith
@@ -87,8 +95,10 @@ module _ (W : ℕ) (w : View) where
   ack_brings Maintenance q = omega arith
 
   data_brings : (p : State) (q k : ℕ) → cost W (hears_data p w q k) ≤ cost W w + 1
-  data_brings Running q k = omega (arith, rep_falls W (q == w.acked) w.rep, reply_up W (k == w.up + 1) w.reply)
-  data_brings AStart q k = omega (arith, rep_falls W (q == w.acked) w.rep, reply_up W (k == w.up + 1) w.reply)
+  data_brings Running q k =
+      omega (arith, rep_falls W (q == w.acked) w.rep, reply_up W (k == w.up + 1) w.reply)
+  data_brings AStart q k =
+      omega (arith, rep_falls W (q == w.acked) w.rep, reply_up W (k == w.up + 1) w.reply)
   data_brings IStart q k = omega arith
   data_brings Halted q k = omega arith
   data_brings Maintenance q k = omega arith
@@ -98,12 +108,28 @@ abbrev pub Falls : Bool → ℕ → ℕ → Type 0
 Falls true new old = new < old
 Falls false new old = new ≤ old
 
-pub falls : (W : ℕ) (v w : View) (b : Bool) (v' w' : View) → Ordered W v w → Ordered W w v → Crossing v w b v' w' → Falls b (cost W v' + cost W w') (cost W v + cost W w)
-falls W v w _ _ _ o o' (c_strt p d) = omega (arith, strt_brings W w w.state refl, ap (λ (e : State × Bool). cost_due e.0 e.1) (λ i. (p i, d i)), ap (λ e. cost_due e false) p)
-falls W v w _ _ _ o o' (c_stack p d) = omega (arith, stack_brings W w w.state, ap (λ (e : State × Bool). cost_due e.0 e.1) (λ i. (p i, d i)), ap (λ e. cost_due e false) p)
-falls W v w _ _ _ o o' (c_nak c p r) = omega (arith, nak_brings W w w.state v.up o'.window o'.low, ap (λ r. cost_reply W r) r)
-falls W v w _ _ _ o o' (c_rep p r f) = omega (arith, rep_brings W w w.state v.sent, ap (λ b. cost_rep W b) f)
+pub falls : (W : ℕ) (v w : View) (b : Bool) (v' w' : View) → Ordered W v w → Ordered W w v
+    → Crossing v w b v' w' → Falls b (cost W v' + cost W w') (cost W v + cost W w)
+falls W v w _ _ _ o o' (c_strt p d) =
+    omega (
+      arith,
+      strt_brings W w w.state refl,
+      ap (λ (e : State × Bool). cost_due e.0 e.1) (λ i. (p i, d i)),
+      ap (λ e. cost_due e false) p,
+    )
+falls W v w _ _ _ o o' (c_stack p d) =
+    omega (
+      arith,
+      stack_brings W w w.state,
+      ap (λ (e : State × Bool). cost_due e.0 e.1) (λ i. (p i, d i)),
+      ap (λ e. cost_due e false) p,
+    )
+falls W v w _ _ _ o o' (c_nak c p r) =
+    omega (arith, nak_brings W w w.state v.up o'.window o'.low, ap (λ r. cost_reply W r) r)
+falls W v w _ _ _ o o' (c_rep p r f) =
+    omega (arith, rep_brings W w w.state v.sent, ap (λ b. cost_rep W b) f)
 falls W v w _ _ _ o o' (c_data p r f room) = omega (arith, data_brings W w w.state v.up v.next)
-falls W v w _ _ _ o o' (c_ack p r f room) = omega (arith, ack_brings W w w.state v.up, ap (λ r. cost_reply W r) r)
+falls W v w _ _ _ o o' (c_ack p r f room) =
+    omega (arith, ack_brings W w w.state v.up, ap (λ r. cost_reply W r) r)
 falls W v w _ _ _ o o' (c_waits p d) = omega arith
 falls W v w _ _ _ o o' (c_rests p r f room) = omega arith

@@ -1,13 +1,17 @@
 -- What the events of a crossing do to both ends: a frame goes whole from one to the other.
-use Rattle.std.proofs.Common.{◌≡◌, ℕ, List, [], ◌∷◌, ◌++◌, length, drop, replicate, Option, Some, None, refl, sym, ap, ◌∙◌, append-nil}
+use Rattle.std.proofs.Common.{◌≡◌, ℕ, List, [], ◌∷◌, ◌++◌, length, drop, replicate, Option, Some}
+use Rattle.std.proofs.Common.{None, refl, sym, ap, ◌∙◌, append-nil}
 use Rattle.std.specs.Prelude.{◌&&◌, ◌||◌, is_some, option_map}
 use Rattle.ddcmp_run.specs.declared.event.End.TheVariants.{A, B}
 use Rattle.ddcmp_run.specs.declared.event.Event.TheVariants as event
 use Rattle.ddcmp_core.specs.Table.{Frame, next_frame, next}
 use Rattle.ddcmp_core.specs.Frames.{header_of}
 use Rattle.ddcmp_proto.specs.Bytes.{frame_on_line}
-use Rattle.ddcmp_run.specs.Run.{EndState, PairState, with_station, after_poll_here, after_arrival_here, after_take_here, is_honest_here, line_bytes, after_event, run}
-use Rattle.ddcmp_run.specs.Settle.{mail_events, carried, crossing, exchange, either_writes, all_mail}
+use Rattle.ddcmp_run.specs.Run.{EndState, PairState, with_station, after_poll_here}
+use Rattle.ddcmp_run.specs.Run.{after_arrival_here, after_take_here, is_honest_here, line_bytes}
+use Rattle.ddcmp_run.specs.Run.{after_event, run}
+use Rattle.ddcmp_run.specs.Settle.{mail_events, carried, crossing, exchange, either_writes}
+use Rattle.ddcmp_run.specs.Settle.{all_mail}
 use Rattle.ddcmp_run.proofs.Calls.{take-up}
 use Rattle.ddcmp_run.proofs.Lines.{nothing-polled}
 use Rattle.ddcmp_run.proofs.Runs.{run-append, crossing-writes, crossing-idles}
@@ -21,24 +25,30 @@ emptied x =
     }
 
 emptied-after-take : (x : EndState) → emptied (after_take_here x) ≡ emptied x
-emptied-after-take x = ap (λ t. record (emptied x) { taken = t }) (take-up x.taken x.core.station.inbox)
+emptied-after-take x =
+    ap (λ t. record (emptied x) { taken = t }) (take-up x.taken x.core.station.inbox)
 
 pub emptied-none : (x : EndState) → x.core.station.inbox ≡ [] → emptied x ≡ x
 emptied-none x e =
-    let t : x.taken ++ x.core.station.inbox ≡ x.taken = ap (λ l. x.taken ++ l) e ∙ append-nil x.taken in
+    let t : x.taken ++ x.core.station.inbox ≡ x.taken =
+    ap (λ l. x.taken ++ l) e ∙ append-nil x.taken in
     λ i. record (with_station (record x.core.station { inbox = sym e i }) x) { taken = t i }
 
-taken-a : (inbox : List (List ℕ)) (p : PairState) → p.a.core.station.inbox ≡ inbox → run (replicate (length inbox) (event.Take A)) p ≡ record p { a = emptied p.a }
+taken-a : (inbox : List (List ℕ)) (p : PairState) → p.a.core.station.inbox ≡ inbox
+    → run (replicate (length inbox) (event.Take A)) p ≡ record p { a = emptied p.a }
 unfolding run after_event
 taken-a [] p e = ap (λ x. record p { a = x }) (sym (emptied-none p.a e))
 taken-a (m ∷ rest) p e =
-    taken-a rest (after_event (event.Take A) p) (ap (drop 1) e) ∙ ap (λ x. record p { a = x }) (emptied-after-take p.a)
+    taken-a rest (after_event (event.Take A) p) (ap (drop 1) e)
+    ∙ ap (λ x. record p { a = x }) (emptied-after-take p.a)
 
-taken-b : (inbox : List (List ℕ)) (p : PairState) → p.b.core.station.inbox ≡ inbox → run (replicate (length inbox) (event.Take B)) p ≡ record p { b = emptied p.b }
+taken-b : (inbox : List (List ℕ)) (p : PairState) → p.b.core.station.inbox ≡ inbox
+    → run (replicate (length inbox) (event.Take B)) p ≡ record p { b = emptied p.b }
 unfolding run after_event
 taken-b [] p e = ap (λ x. record p { b = x }) (sym (emptied-none p.b e))
 taken-b (m ∷ rest) p e =
-    taken-b rest (after_event (event.Take B) p) (ap (drop 1) e) ∙ ap (λ x. record p { b = x }) (emptied-after-take p.b)
+    taken-b rest (after_event (event.Take B) p) (ap (drop 1) e)
+    ∙ ap (λ x. record p { b = x }) (emptied-after-take p.b)
 
 pub mail-a : (p : PairState) → run (mail_events A p) p ≡ record p { a = emptied p.a }
 mail-a p = taken-a p.a.core.station.inbox p refl
@@ -52,7 +62,8 @@ mailed p = record p { a = emptied p.a; b = emptied p.b }
 
 pub all-mail : (p : PairState) → run (all_mail p) p ≡ mailed p
 all-mail p =
-    run-append (mail_events A p) _ p ∙ ap (λ q. run (mail_events B q) q) (mail-a p) ∙ mail-b (record p { a = emptied p.a })
+    run-append (mail_events A p) _ p ∙ ap (λ q. run (mail_events B q) q) (mail-a p)
+    ∙ mail-b (record p { a = emptied p.a })
 
 -- ---- the ends turned round
 
@@ -75,10 +86,12 @@ crossed p = crossed_by (line_bytes p.a) p
 abbrev pub half : PairState → PairState
 half p = turned (crossed p)
 
-no-header : (x : EndState) → line_bytes x ≡ None → None ≡ option_map header_of (next_frame (next x.core.station))
+no-header : (x : EndState) → line_bytes x ≡ None
+    → None ≡ option_map header_of (next_frame (next x.core.station))
 no-header x e = by (next_frame (next x.core.station)) e
   where
-    by : (o : Option Frame) → option_map (frame_on_line x.syn) o ≡ None → None ≡ option_map header_of o
+    by : (o : Option Frame) → option_map (frame_on_line x.syn) o ≡ None
+        → None ≡ option_map header_of o
     by None e = refl
     by (Some f) e = absurd (cc)
 
@@ -122,14 +135,19 @@ crossing-a p = by (line_bytes p.a) refl
 pub crossing-b : (p : PairState) → run (crossing B p) p ≡ turned (crossed (turned p))
 crossing-b p = by (line_bytes p.b) refl
   where
-    by : (o : Option (List ℕ)) → line_bytes p.b ≡ o → run (crossing B p) p ≡ turned (crossed_by o (turned p))
+    by : (o : Option (List ℕ)) → line_bytes p.b ≡ o
+        → run (crossing B p) p ≡ turned (crossed_by o (turned p))
     by None e = ap (λ t. run t p) (crossing-idles B p e) ∙ idle-b p e
     by (Some bytes) e =
         ap (λ t. run t p) (crossing-writes B p bytes e) ∙ run-append (carried B bytes) _ p
         ∙ ap (λ q. run (mail_events A q) q) (carried-b bytes p) ∙ mail-a _
 
 pub exchange-is : (p : PairState) → run (exchange p) p ≡ half (half p)
-exchange-is p = run-append (crossing A p) _ p ∙ ap (λ q. run (crossing B q) q) (crossing-a p) ∙ crossing-b (crossed p)
+exchange-is p =
+    run-append (crossing A p) _ p ∙ ap (λ q. run (crossing B q) q) (crossing-a p)
+    ∙ crossing-b (crossed p)
 
-pub either-is : (p : PairState) → either_writes p ≡ (is_some (line_bytes p.a) || is_some (line_bytes (half p).a))
-either-is p = ap (λ (q : PairState). is_some (line_bytes p.a) || is_some (line_bytes q.b)) (crossing-a p)
+pub either-is : (p : PairState)
+    → either_writes p ≡ (is_some (line_bytes p.a) || is_some (line_bytes (half p).a))
+either-is p =
+    ap (λ (q : PairState). is_some (line_bytes p.a) || is_some (line_bytes q.b)) (crossing-a p)

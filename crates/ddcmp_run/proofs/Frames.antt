@@ -1,5 +1,6 @@
 -- Frames are the same by their test exactly where they are equal.
-use Rattle.std.proofs.Common.{◌≡◌, ◌↔◌, ℕ, Bool, true, false, ◌&&◌, ◌==◌, IsTrue, List, [], ◌∷◌, refl, sym, ◌∙◌, ap, subst, Some}
+use Rattle.std.proofs.Common.{◌≡◌, ◌↔◌, ℕ, Bool, true, false, ◌&&◌, ◌==◌, IsTrue, List, [], ◌∷◌}
+use Rattle.std.proofs.Common.{refl, sym, ◌∙◌, ap, subst, Some}
 use Rattle.std.proofs.lemmas.Bool.{eqb-true, eq-eqb}
 use Rattle.ddcmp_frame.proofs.Tests.{same_bool, some-inj, false-true}
 use Rattle.ddcmp_frame.specs.Fields.{ShortFields, CountedFields}
@@ -9,7 +10,8 @@ use Rattle.ddcmp_frame.specs.declared.header.ControlType.{ControlType}
 use Rattle.ddcmp_frame.specs.declared.header.ControlType.TheVariants as control
 use Rattle.ddcmp_frame.specs.declared.header.Header.{Header}
 use Rattle.ddcmp_frame.specs.declared.header.Header.TheVariants as header
-use Rattle.ddcmp_run.specs.Place.{WholeFrame, same_flag, same_flags, same_short, same_counted, same_header, same_bytes, same_frame}
+use Rattle.ddcmp_run.specs.Place.{WholeFrame, same_flag, same_flags, same_short, same_counted}
+use Rattle.ddcmp_run.specs.Place.{same_header, same_bytes, same_frame}
 
 both : (a b : Bool) → (a && b) ≡ true → (a ≡ true) × (b ≡ true)
 both true b h = (refl, h)
@@ -60,10 +62,25 @@ shorts g h e =
     let resp = eqb-true g.resp h.resp d.0 in
     let num = eqb-true g.num h.num n.0 in
     let addr = eqb-true g.addr h.addr n.1 in
-    λ i. record { kind = kind i; sub = sub i; flags = flag i; resp = resp i; num = num i; addr = addr i }
+    λ i. record {
+      kind = kind i;
+      sub = sub i;
+      flags = flag i;
+      resp = resp i;
+      num = num i;
+      addr = addr i;
+    }
 
 shorts-refl : (h : ShortFields) → same_short h h ≡ true
-shorts-refl h = rw (eqb-refl (type_code h.kind), eqb-refl h.sub, flags-refl h.flags, eqb-refl h.resp, eqb-refl h.num, eqb-refl h.addr) refl
+shorts-refl h =
+    rw (
+      eqb-refl (type_code h.kind),
+      eqb-refl h.sub,
+      flags-refl h.flags,
+      eqb-refl h.resp,
+      eqb-refl h.num,
+      eqb-refl h.addr,
+    ) refl
 
 counts : (g h : CountedFields) → same_counted g h ≡ true → g ≡ h
 counts g h e =
@@ -79,7 +96,8 @@ counts g h e =
     λ i. record { count = count i; flags = flag i; resp = resp i; num = num i; addr = addr i }
 
 counts-refl : (h : CountedFields) → same_counted h h ≡ true
-counts-refl h = rw (eqb-refl h.count, flags-refl h.flags, eqb-refl h.resp, eqb-refl h.num, eqb-refl h.addr) refl
+counts-refl h =
+    rw (eqb-refl h.count, flags-refl h.flags, eqb-refl h.resp, eqb-refl h.num, eqb-refl h.addr) refl
 
 headers : (g h : Header) → same_header g h ≡ true → g ≡ h
 headers (header.Data g) (header.Data h) e = ap header.Data (counts g h e)

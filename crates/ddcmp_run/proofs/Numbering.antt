@@ -5,7 +5,8 @@ use Rattle.ddcmp_core.specs.Table.{StationState, before_next}
 use Rattle.ddcmp_run.proofs.Relation.{Counts}
 use Rattle.ddcmp_run.proofs.Numbers.{before-is}
 
-module _ (s : StationState) (w : ℕ) (given : List (List ℕ)) (acked sent next up : ℕ) (c : Counts s w given acked sent next up) where
+module _ (s : StationState) (w : ℕ) (given : List (List ℕ)) (acked sent next up : ℕ)
+    (c : Counts s w given acked sent next up) where
   pub sent_is : acked + distance s.a s.n ≡ sent
   sent_is = omega (arith, c.a_is, c.n_is, c.acked_given, c.sent_given, c.window, c.small)
 

@@ -1,9 +1,14 @@
 -- A STRT never comes to an end that runs.
-use Rattle.std.proofs.Common.{◌≡◌, ◌≢◌, ℕ, ◌<◌, Bool, true, false, List, [], ◌∷◌, ◌++◌, refl, sym, ◌∙◌, subst, arith, append-nil}
+use Rattle.std.proofs.Common.{◌≡◌, ◌≢◌, ℕ, ◌<◌, Bool, true, false, List, [], ◌∷◌, ◌++◌, refl, sym}
+use Rattle.std.proofs.Common.{◌∙◌, subst, arith, append-nil}
 use Rattle.ddcmp_core.specs.declared.state.State.{State}
-use Rattle.ddcmp_core.specs.declared.state.State.TheVariants.{Halted, IStart, AStart, Running, Maintenance}
-use Rattle.ddcmp_core.specs.Table.{Limits, StationState, Frame, Data, Acked, Naked, Rep, Strt, Stack, Maint, Received, Good, Next, on, after_start, next}
-use Rattle.ddcmp_core.specs.NextFrame.{SentFor, sends_strt, sends_stack, sends_nak, sends_rep, sends_data, sends_ack, sends_maint, halted_idles, starting_idles, running_idles, maintenance_idles}
+use Rattle.ddcmp_core.specs.declared.state.State.TheVariants.{Halted, IStart, AStart, Running}
+use Rattle.ddcmp_core.specs.declared.state.State.TheVariants.{Maintenance}
+use Rattle.ddcmp_core.specs.Table.{Limits, StationState, Frame, Data, Acked, Naked, Rep, Strt}
+use Rattle.ddcmp_core.specs.Table.{Stack, Maint, Received, Good, Next, on, after_start, next}
+use Rattle.ddcmp_core.specs.NextFrame.{SentFor, sends_strt, sends_stack, sends_nak, sends_rep}
+use Rattle.ddcmp_core.specs.NextFrame.{sends_data, sends_ack, sends_maint, halted_idles}
+use Rattle.ddcmp_core.specs.NextFrame.{starting_idles, running_idles, maintenance_idles}
 use Rattle.ddcmp_core.specs.Laws.{is_fault}
 use Rattle.ddcmp_core.proofs.Sent.{sending}
 use Rattle.ddcmp_core.proofs.StartLaws.{istart_stays}
@@ -54,7 +59,8 @@ none-last : (fs : List Frame) (f : Frame) → is_strt f ≡ false → NoStrt fs 
 none-last [] f e h = (e, tt)
 none-last (g ∷ fs) f e h = (h.0, none-last fs f e h.1)
 
-first-last : (fs : List Frame) (f : Frame) → is_strt f ≡ false → StrtsFirst fs → StrtsFirst (fs ++ f ∷ [])
+first-last : (fs : List Frame) (f : Frame) → is_strt f ≡ false → StrtsFirst fs
+    → StrtsFirst (fs ++ f ∷ [])
 first-last [] f e h = ((λ n. tt), tt)
 first-last (g ∷ fs) f e h = ((λ n. none-last fs f e (h.0 n)), first-last fs f e h.1)
 
@@ -71,7 +77,8 @@ some-starts n h = omega (arith)
 
 -- ---- something comes
 
-no-strt : (l : Limits) (s : StationState) (f : Frame) → (on l s (Good f)).state ≡ Running → is_strt f ≡ false
+no-strt : (l : Limits) (s : StationState) (f : Frame) → (on l s (Good f)).state ≡ Running
+    → is_strt f ≡ false
 no-strt l s Strt e = absurd (stops l s e)
 no-strt l s (Data resp num m) e = refl
 no-strt l s (Acked resp) e = refl
@@ -81,7 +88,8 @@ no-strt l s Stack e = refl
 no-strt l s (Maint m) e = refl
 
 -- a frame comes to x, in front of which some are lost
-pub starting-comes : (y x : Face) (lost : List Frame) (f : Frame) (rest : List Frame) → Starting y x (lost ++ f ∷ rest)
+pub starting-comes : (y x : Face) (lost : List Frame) (f : Frame) (rest : List Frame)
+    → Starting y x (lost ++ f ∷ rest)
     → Starting y (hearing x (Good f)) rest
 starting-comes y x lost f rest h = record {
   first = (first-rest lost (f ∷ rest) h.first).1;
@@ -95,12 +103,14 @@ starting-comes y x lost f rest h = record {
       );
 }
 
-pub no-strt-comes : (y x : Face) (lost : List Frame) (f : Frame) (rest : List Frame) → Starting y x (lost ++ f ∷ rest) → x.station.state ≡ Running
+pub no-strt-comes : (y x : Face) (lost : List Frame) (f : Frame) (rest : List Frame)
+    → Starting y x (lost ++ f ∷ rest) → x.station.state ≡ Running
     → is_strt f ≡ false
 no-strt-comes y x lost f rest h r = (none-rest lost (f ∷ rest) (h.runs r).2).0
 
 -- nothing is sent or arrives
-pub starting-kept : (y x y' x' : Face) (fs : List Frame) → y'.starts ≡ y.starts → (y'.station.state ≡ IStart → y.station.state ≡ IStart)
+pub starting-kept : (y x y' x' : Face) (fs : List Frame) → y'.starts ≡ y.starts
+    → (y'.station.state ≡ IStart → y.station.state ≡ IStart)
     → (x'.station.state ≡ Running → x.station.state ≡ Running) → Starting y x fs → Starting y' x' fs
 starting-kept y x y' x' fs n p r h = record {
   first = h.first;
@@ -110,23 +120,32 @@ starting-kept y x y' x' fs n p r h = record {
 }
 
 -- y hears
-pub starting-hears : (y x : Face) (fs : List Frame) (h : Received) → Starting y x fs → Starting (hearing y h) x fs
-starting-hears y x fs h s = starting-kept y x (hearing y h) x fs refl (λ p. istart_stays y.limits y.station h p) (λ r. r) s
+pub starting-hears : (y x : Face) (fs : List Frame) (h : Received) → Starting y x fs
+    → Starting (hearing y h) x fs
+starting-hears y x fs h s =
+    starting-kept y x (hearing y h) x fs refl (λ p. istart_stays y.limits y.station h p) (λ r. r) s
 
 -- x hears what is no frame
-pub starting-fault : (y x : Face) (fs : List Frame) (h : Received) → is_fault h ≡ true → Starting y x fs → Starting y (hearing x h) fs
-starting-fault y x fs h f s = starting-kept y x y (hearing x h) fs refl (λ p. p) (λ r. sym (fault-stays x.limits x.station h f) ∙ r) s
+pub starting-fault : (y x : Face) (fs : List Frame) (h : Received) → is_fault h ≡ true
+    → Starting y x fs → Starting y (hearing x h) fs
+starting-fault y x fs h f s =
+    starting-kept y x y (hearing x h) fs refl (λ p. p)
+    (λ r. sym (fault-stays x.limits x.station h f) ∙ r) s
 
 -- ---- y sends
 
-starting-more : (y x : Face) (fs : List Frame) (f : Frame) (s : StationState) → s.state ≡ y.station.state → (y.station.state ≡ Halted → ⊥)
-    → (y.starts ≡ 0 → y.station.state ≡ Halted) → (is_strt f ≡ true → y.station.state ≡ IStart) → (y.station.state ≡ IStart → is_strt f ≡ true)
+starting-more : (y x : Face) (fs : List Frame) (f : Frame) (s : StationState)
+    → s.state ≡ y.station.state → (y.station.state ≡ Halted → ⊥)
+    → (y.starts ≡ 0 → y.station.state ≡ Halted) → (is_strt f ≡ true → y.station.state ≡ IStart)
+    → (y.station.state ≡ IStart → is_strt f ≡ true)
     → Starting y x fs → Starting (record y { station = s }) x (fs ++ f ∷ [])
 starting-more y x fs f s e awake off only all h = record {
   first = by (is_strt f) refl;
   fresh = λ p. let q : y.station.state ≡ IStart = sym e ∙ p in only-last fs f (all q) (h.fresh q);
   unsent = λ z. absurd (awake (off z));
-  runs = λ r. let g = h.runs r in (g.0, (λ p. g.1 (sym e ∙ p)), none-last fs f (no g.1 (is_strt f) refl) g.2);
+  runs =
+      λ r. let g =
+      h.runs r in (g.0, (λ p. g.1 (sym e ∙ p)), none-last fs f (no g.1 (is_strt f) refl) g.2);
 }
   where
     no : (y.station.state ≢ IStart) → (b : Bool) → is_strt f ≡ b → is_strt f ≡ false
@@ -137,37 +156,49 @@ starting-more y x fs f s e awake off only all h = record {
     by true b = first-only _ (only-last fs f b (h.fresh (only b)))
     by false b = first-last fs f b h.first
 
-starting-running : (y x : Face) (fs : List Frame) (f : Frame) (s : StationState) (p : State) → s.state ≡ y.station.state → y.station.state ≡ p
-    → (p ≡ Halted → ⊥) → (p ≡ IStart → ⊥) → is_strt f ≡ false → (y.starts ≡ 0 → y.station.state ≡ Halted)
+starting-running : (y x : Face) (fs : List Frame) (f : Frame) (s : StationState) (p : State)
+    → s.state ≡ y.station.state → y.station.state ≡ p
+    → (p ≡ Halted → ⊥) → (p ≡ IStart → ⊥) → is_strt f ≡ false
+    → (y.starts ≡ 0 → y.station.state ≡ Halted)
     → Starting y x fs → Starting (record y { station = s }) x (fs ++ f ∷ [])
 starting-running y x fs f s p e r awake started none off h =
-    starting-more y x fs f s e (λ q. awake (sym r ∙ q)) off (λ b. absurd (cc (b, none))) (λ q. absurd (started (sym r ∙ q))) h
+    starting-more y x fs f s e (λ q. awake (sym r ∙ q)) off (λ b. absurd (cc (b, none)))
+    (λ q. absurd (started (sym r ∙ q))) h
 
 idle : (y x : Face) (fs : List Frame) → Starting y x fs → Starting y x (fs ++ [])
 idle y x fs h = subst (λ l. Starting y x l) (sym (append-nil fs)) h
 
-starting-next : (y x : Face) (fs : List Frame) (t : Next) → SentFor y.station t → (y.starts ≡ 0 → y.station.state ≡ Halted)
+starting-next : (y x : Face) (fs : List Frame) (t : Next) → SentFor y.station t
+    → (y.starts ≡ 0 → y.station.state ≡ Halted)
     → Starting y x fs → Starting (after_sending y t) x (fs ++ frames_next t)
 starting-next y x fs _ (sends_strt p d) off h =
     starting-more y x fs Strt _ refl (λ q. let z = sym p ∙ q in cc) off (λ b. p) (λ q. refl) h
-starting-next y x fs _ (sends_stack p d) off h = starting-running y x fs Stack _ AStart refl p (λ q. cc) (λ q. cc) refl off h
+starting-next y x fs _ (sends_stack p d) off h =
+    starting-running y x fs Stack _ AStart refl p (λ q. cc) (λ q. cc) refl off h
 starting-next y x fs _ (sends_nak why p r) off h =
-    starting-running y x fs (as_read (Naked why y.station.r)) _ Running refl p (λ q. cc) (λ q. cc) refl off h
-starting-next y x fs _ (sends_rep p n r) off h = starting-running y x fs (Rep y.station.n) _ Running refl p (λ q. cc) (λ q. cc) refl off h
-starting-next y x fs _ (sends_data p n r room) off h = starting-running y x fs _ _ Running refl p (λ q. cc) (λ q. cc) refl off h
-starting-next y x fs _ (sends_ack p r n room) off h = starting-running y x fs (Acked y.station.r) _ Running refl p (λ q. cc) (λ q. cc) refl off h
-starting-next y x fs _ (sends_maint m rest p o) off h = starting-running y x fs (Maint m) _ Maintenance refl p (λ q. cc) (λ q. cc) refl off h
+    starting-running y x fs (as_read (Naked why y.station.r)) _ Running refl p (λ q. cc) (λ q. cc)
+    refl off h
+starting-next y x fs _ (sends_rep p n r) off h =
+    starting-running y x fs (Rep y.station.n) _ Running refl p (λ q. cc) (λ q. cc) refl off h
+starting-next y x fs _ (sends_data p n r room) off h =
+    starting-running y x fs _ _ Running refl p (λ q. cc) (λ q. cc) refl off h
+starting-next y x fs _ (sends_ack p r n room) off h =
+    starting-running y x fs (Acked y.station.r) _ Running refl p (λ q. cc) (λ q. cc) refl off h
+starting-next y x fs _ (sends_maint m rest p o) off h =
+    starting-running y x fs (Maint m) _ Maintenance refl p (λ q. cc) (λ q. cc) refl off h
 starting-next y x fs _ (halted_idles p) off h = idle y x fs h
 starting-next y x fs _ (starting_idles p d) off h = idle y x fs h
 starting-next y x fs _ (running_idles p r n room) off h = idle y x fs h
 starting-next y x fs _ (maintenance_idles p o) off h = idle y x fs h
 
-pub starting-sends : (y x : Face) (fs : List Frame) → (y.starts ≡ 0 → y.station.state ≡ Halted) → Starting y x fs
+pub starting-sends : (y x : Face) (fs : List Frame) → (y.starts ≡ 0 → y.station.state ≡ Halted)
+    → Starting y x fs
     → Starting (after_sending y (next y.station)) x (fs ++ frames_next (next y.station))
 starting-sends y x fs off h = starting-next y x fs (next y.station) (sending y.station) off h
 
 -- y starts for the first time
-pub starting-starts : (y x : Face) (fs : List Frame) (starts : ℕ) → y.starts ≡ 0 → 0 < starts → Starting y x fs
+pub starting-starts : (y x : Face) (fs : List Frame) (starts : ℕ) → y.starts ≡ 0 → 0 < starts
+    → Starting y x fs
     → Starting (record y { station = after_start y.station; starts = starts }) x fs
 starting-starts y x fs starts z some h = record {
   first = h.first;
@@ -177,4 +208,11 @@ starting-starts y x fs starts z some h = record {
 }
 
 pub starting-nothing : (y x : Face) → x.station.state ≡ Halted → Starting y x []
-starting-nothing y x h = record { first = tt; fresh = λ p. tt; unsent = λ z. refl; runs = λ r. let z = sym h ∙ r in absurd (cc) }
+starting-nothing y x h =
+    record {
+      first = tt;
+      fresh = λ p. tt;
+      unsent = λ z. refl;
+      runs = λ r. let z = sym h ∙ r in
+          absurd (cc);
+    }

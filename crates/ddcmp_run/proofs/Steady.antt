@@ -1,15 +1,21 @@
--- A settle is a run: what holds of two ends at any time of it, and each frame as their numbers see it.
-use Rattle.std.proofs.Common.{◌≡◌, ◌≢◌, ◌⊎◌, inl, inr, ℕ, ◌≤◌, max, Bool, true, false, List, [], ◌∷◌, length, refl, sym, subst, arith}
+-- A settle is a run: what holds of two ends at any time of it, and each frame as their numbers see
+-- it.
+use Rattle.std.proofs.Common.{◌≡◌, ◌≢◌, ◌⊎◌, inl, inr, ℕ, ◌≤◌, max, Bool, true, false, List, []}
+use Rattle.std.proofs.Common.{◌∷◌, length, refl, sym, subst, arith}
 use Rattle.std.specs.Prelude.{◌&&◌, nat_le, is_some}
 use Rattle.ddcmp_frame.specs.Reading.{open_at_end, good_frames}
 use Rattle.ddcmp_core.specs.declared.state.State.{State}
-use Rattle.ddcmp_core.specs.declared.state.State.TheVariants.{Halted, IStart, AStart, Running, Maintenance}
-use Rattle.ddcmp_core.specs.Table.{StationState, Next, after_next, after_expire_in, after_expire_with, after_expire, is_starting}
+use Rattle.ddcmp_core.specs.declared.state.State.TheVariants.{Halted, IStart, AStart, Running}
+use Rattle.ddcmp_core.specs.declared.state.State.TheVariants.{Maintenance}
+use Rattle.ddcmp_core.specs.Table.{StationState, Next, after_next, after_expire_in}
+use Rattle.ddcmp_core.specs.Table.{after_expire_with, after_expire, is_starting}
 use Rattle.ddcmp_core.specs.declared.state.Timer.{Timer}
 use Rattle.ddcmp_core.specs.declared.state.Timer.TheVariants.{Off, Fresh, On}
 use Rattle.ddcmp_core.specs.Counting.{count_plus}
 use Rattle.ddcmp_core.specs.Core.{IsSound, IsTimed}
-use Rattle.ddcmp_core.specs.NextFrame.{SentFor, sends_strt, sends_stack, sends_nak, sends_rep, sends_data, sends_ack, sends_maint, halted_idles, starting_idles, running_idles, maintenance_idles}
+use Rattle.ddcmp_core.specs.NextFrame.{SentFor, sends_strt, sends_stack, sends_nak, sends_rep}
+use Rattle.ddcmp_core.specs.NextFrame.{sends_data, sends_ack, sends_maint, halted_idles}
+use Rattle.ddcmp_core.specs.NextFrame.{starting_idles, running_idles, maintenance_idles}
 use Rattle.ddcmp_run.specs.declared.event.End.TheVariants.{A, B}
 use Rattle.ddcmp_run.specs.declared.event.Event.{Event}
 use Rattle.ddcmp_run.specs.Place.{place_of}
@@ -25,7 +31,8 @@ use Rattle.ddcmp_run.proofs.Relation.{Counts}
 pub record Shows (x y : EndState) : Type 0 where
   pub sent : ℕ
   pub next : ℕ
-  pub numbers : Counts x.core.station x.core.limits.window x.given x.acknowledged sent next (length (handed_up x))
+  pub numbers : Counts x.core.station x.core.limits.window x.given x.acknowledged sent next
+      (length (handed_up x))
   pub low : x.acknowledged ≤ length (handed_up y)
   pub high : length (handed_up y) ≤ sent
   pub prefix : IsPrefixOf (handed_up y) x.given
@@ -42,10 +49,13 @@ pub record IsAwake (p : PairState) : Type 0 where
 -- a property of pairs that each event keeps, and that shows this of both directions
 pub record IsKept (Holds : PairState → Type 0) : Type 0 where
   pub event : (e : Event) (p : PairState) → Holds p → Holds (after_event e p)
-  pub from_a : (p : PairState) → Holds p → p.honest ≡ true → is_clean p ≡ true → IsAwake p → Shows p.a p.b
-  pub from_b : (p : PairState) → Holds p → p.honest ≡ true → is_clean p ≡ true → IsAwake p → Shows p.b p.a
+  pub from_a : (p : PairState) → Holds p → p.honest ≡ true → is_clean p ≡ true → IsAwake p
+      → Shows p.a p.b
+  pub from_b : (p : PairState) → Holds p → p.honest ≡ true → is_clean p ≡ true → IsAwake p
+      → Shows p.b p.a
 
-pub run-keeps : (Holds : PairState → Type 0) → IsKept Holds → (events : List Event) (p : PairState) → Holds p → Holds (run events p)
+pub run-keeps : (Holds : PairState → Type 0) → IsKept Holds → (events : List Event) (p : PairState)
+    → Holds p → Holds (run events p)
 unfolding run
 run-keeps Holds k [] p h = h
 run-keeps Holds k (e ∷ rest) p h = run-keeps Holds k rest (after_event e p) (k.event e p h)
@@ -78,7 +88,8 @@ clean-turned p e = by (nat_le p.a.starts 1) (nat_le p.b.starts 1) e
     by true false e = absurd (cc)
     by false d e = absurd (cc)
 
-pub steady-turned : (Holds : PairState → Type 0) (W : ℕ) (p : PairState) → Steady Holds W p → Steady Holds W (turned p)
+pub steady-turned : (Holds : PairState → Type 0) (W : ℕ) (p : PairState) → Steady Holds W p
+    → Steady Holds W (turned p)
 steady-turned Holds W p h = record {
   kept = by h.kept;
   honest = h.honest;
@@ -93,21 +104,30 @@ steady-turned Holds W p h = record {
     by (inl k) = inr k
     by (inr k) = inl k
 
-    larger : max p.a.core.limits.window p.b.core.limits.window ≡ W → max p.b.core.limits.window p.a.core.limits.window ≡ W
+    larger : max p.a.core.limits.window p.b.core.limits.window ≡ W
+        → max p.b.core.limits.window p.a.core.limits.window ≡ W
     larger e = omega (arith, e)
 
-pub steady-shows : (Holds : PairState → Type 0) → IsKept Holds → (W : ℕ) (p : PairState) → Steady Holds W p → Shows p.a p.b
+pub steady-shows : (Holds : PairState → Type 0) → IsKept Holds → (W : ℕ) (p : PairState)
+    → Steady Holds W p → Shows p.a p.b
 steady-shows Holds k W p h = by h.kept
   where
     by : Holds p ⊎ Holds (turned p) → Shows p.a p.b
     by (inl g) = k.from_a p g h.honest h.clean (record { a = h.a.awake; b = h.b.awake })
-    by (inr g) = k.from_b (turned p) g h.honest (clean-turned p h.clean) (record { a = h.b.awake; b = h.a.awake })
+    by (inr g) =
+        k.from_b (turned p) g h.honest (clean-turned p h.clean)
+        (record { a = h.b.awake; b = h.a.awake })
 
 -- ---- half an exchange
 
-pub half-kept : (Holds : PairState → Type 0) → IsKept Holds → (p : PairState) → Holds p ⊎ Holds (turned p) → Holds (half p) ⊎ Holds (turned (half p))
-half-kept Holds k p (inl g) = inr (subst (λ (q : PairState). Holds q) (crossing-a p) (run-keeps Holds k (crossing A p) p g))
-half-kept Holds k p (inr g) = inl (subst (λ (q : PairState). Holds q) (crossing-b (turned p)) (run-keeps Holds k (crossing B (turned p)) (turned p) g))
+pub half-kept : (Holds : PairState → Type 0) → IsKept Holds → (p : PairState)
+    → Holds p ⊎ Holds (turned p) → Holds (half p) ⊎ Holds (turned (half p))
+half-kept Holds k p (inl g) =
+    inr (subst (λ (q : PairState). Holds q) (crossing-a p) (run-keeps Holds k (crossing A p) p g))
+half-kept Holds k p (inr g) =
+    inl
+    (subst (λ (q : PairState). Holds q) (crossing-b (turned p))
+    (run-keeps Holds k (crossing B (turned p)) (turned p) g))
 
 -- the inbox stays while an end sends
 pub inbox-sent : (s : StationState) (z : Next) → SentFor s z → (after_next z s).inbox ≡ s.inbox

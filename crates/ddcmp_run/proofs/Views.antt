@@ -1,8 +1,10 @@
--- Two ends by their numbers, which have no bound here, and what one frame that arrives as it is sent does to them.
+-- Two ends by their numbers, which have no bound here, and what one frame that arrives as it is
+-- sent does to them.
 use Rattle.std.proofs.Common.{◌≡◌, ◌≢◌, ℕ, ◌+◌, ◌<◌, ◌≤◌, max, Bool, true, false, cond}
 use Rattle.std.specs.Prelude.{◌==◌}
 use Rattle.ddcmp_core.specs.declared.state.State.{State}
-use Rattle.ddcmp_core.specs.declared.state.State.TheVariants.{Halted, IStart, AStart, Running, Maintenance}
+use Rattle.ddcmp_core.specs.declared.state.State.TheVariants.{Halted, IStart, AStart, Running}
+use Rattle.ddcmp_core.specs.declared.state.State.TheVariants.{Maintenance}
 use Rattle.ddcmp_core.specs.declared.state.Owed.{Owed}
 use Rattle.ddcmp_core.specs.declared.state.Owed.TheVariants.{Quiet, Ack, Nak}
 use Rattle.ddcmp_frame.specs.declared.nak.Nak.{Nak as Reason}
@@ -33,7 +35,8 @@ ran v = record v { state = Running; due = false }
 
 -- message k comes
 abbrev pub comes_up : View → ℕ → View
-comes_up v k = record v { up = cond (k == v.up + 1) k v.up; reply = cond (k == v.up + 1) Ack v.reply }
+comes_up v k =
+    record v { up = cond (k == v.up + 1) k v.up; reply = cond (k == v.up + 1) Ack v.reply }
 
 -- never of a running end
 abbrev pub hears_strt : State → View → View
@@ -70,14 +73,22 @@ hears_data _ v q k = v
 
 -- v sends, or doesn't, and w hears
 pub data Crossing (v w : View) : Bool → View → View → Type 0 where
-  c_strt : v.state ≡ IStart → v.due ≡ true → Crossing v w true (record v { due = false }) (hears_strt w.state w)
-  c_stack : v.state ≡ AStart → v.due ≡ true → Crossing v w true (record v { due = false }) (hears_stack w.state w)
-  c_nak : (c : Reason) → v.state ≡ Running → v.reply ≡ Nak c → Crossing v w true (record v { reply = Quiet }) (hears_nak w.state w v.up)
-  c_rep : v.state ≡ Running → is_nak v.reply ≡ false → v.rep ≡ true → Crossing v w true (record v { rep = false }) (hears_rep w.state w v.sent)
-  c_data : v.state ≡ Running → is_nak v.reply ≡ false → v.rep ≡ false → v.next ≤ v.given → Crossing v w true (record v { sent = max v.sent v.next; next = v.next + 1; reply = Quiet }) (hears_data w.state w v.up v.next)
-  c_ack : v.state ≡ Running → v.reply ≡ Ack → v.rep ≡ false → v.given < v.next → Crossing v w true (record v { reply = Quiet }) (hears_ack w.state w v.up)
+  c_strt : v.state ≡ IStart → v.due ≡ true
+      → Crossing v w true (record v { due = false }) (hears_strt w.state w)
+  c_stack : v.state ≡ AStart → v.due ≡ true
+      → Crossing v w true (record v { due = false }) (hears_stack w.state w)
+  c_nak : (c : Reason) → v.state ≡ Running → v.reply ≡ Nak c
+      → Crossing v w true (record v { reply = Quiet }) (hears_nak w.state w v.up)
+  c_rep : v.state ≡ Running → is_nak v.reply ≡ false → v.rep ≡ true
+      → Crossing v w true (record v { rep = false }) (hears_rep w.state w v.sent)
+  c_data : v.state ≡ Running → is_nak v.reply ≡ false → v.rep ≡ false → v.next ≤ v.given
+      → Crossing v w true (record v { sent = max v.sent v.next; next = v.next + 1; reply = Quiet })
+      (hears_data w.state w v.up v.next)
+  c_ack : v.state ≡ Running → v.reply ≡ Ack → v.rep ≡ false → v.given < v.next
+      → Crossing v w true (record v { reply = Quiet }) (hears_ack w.state w v.up)
   c_waits : is_starting v.state ≡ true → v.due ≡ false → Crossing v w false v w
-  c_rests : v.state ≡ Running → v.reply ≡ Quiet → v.rep ≡ false → v.given < v.next → Crossing v w false v w
+  c_rests : v.state ≡ Running → v.reply ≡ Quiet → v.rep ≡ false → v.given < v.next
+      → Crossing v w false v w
 
 -- what holds of v against w at any time of a settle, W being the larger window
 pub record Ordered (W : ℕ) (v w : View) : Type 0 where

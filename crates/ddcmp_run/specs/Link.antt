@@ -1,6 +1,7 @@
 -- One direction of a link: what is left of a line once its frames, timers and startup are put aside
 -- and numbers have no bound. The messages given are numbered from 1; such a number is a position.
-use Rattle.std.specs.Prelude.{◌≡◌, ℕ, ◌+◌, ◌-◌, max, Bool, ◌&&◌, if◌then◌else◌, nat_le, nat_lt, ◌==◌, List, [], ◌∷◌, ◌++◌, length, remove, slice_index_or}
+use Rattle.std.specs.Prelude.{◌≡◌, ℕ, ◌+◌, ◌-◌, max, Bool, ◌&&◌, if◌then◌else◌, nat_le, nat_lt}
+use Rattle.std.specs.Prelude.{◌==◌, List, [], ◌∷◌, ◌++◌, length, remove, slice_index_or}
 
 -- The messages given at one end, how many of them were acknowledged to it, and the highest position
 -- that it sent; the messages handed up at the other end; and what is on its way, in the order in

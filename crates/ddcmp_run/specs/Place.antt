@@ -1,5 +1,6 @@
 -- Where the frames that arrived stand among those that were sent.
-use Rattle.std.specs.Prelude.{◌≡◌, ℕ, ◌+◌, ◌⊎◌, Bool, true, false, ◌&&◌, ◌==◌, List, [], ◌∷◌, drop, if◌then◌else◌, Option, Some, None, option_map, option_and_then}
+use Rattle.std.specs.Prelude.{◌≡◌, ℕ, ◌+◌, ◌⊎◌, Bool, true, false, ◌&&◌, ◌==◌, List, [], ◌∷◌, drop}
+use Rattle.std.specs.Prelude.{if◌then◌else◌, Option, Some, None, option_map, option_and_then}
 use Rattle.ddcmp_frame.specs.Fields.{ShortFields, CountedFields}
 use Rattle.ddcmp_frame.specs.Spelling.{type_code}
 use Rattle.ddcmp_frame.specs.declared.item.Item.{Item}

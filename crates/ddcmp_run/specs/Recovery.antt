@@ -1,5 +1,6 @@
 -- Recovery: a line settles, and then twice both timers run out and it settles again.
-use Rattle.std.specs.Prelude.{◌≡◌, ℕ, ◌+◌, ◌*◌, ◌≤◌, max, Bool, true, not, ◌&&◌, ◌==◌, List, [], ◌∷◌, ◌++◌, length, bytes_eq}
+use Rattle.std.specs.Prelude.{◌≡◌, ℕ, ◌+◌, ◌*◌, ◌≤◌, max, Bool, true, not, ◌&&◌, ◌==◌, List, []}
+use Rattle.std.specs.Prelude.{◌∷◌, ◌++◌, length, bytes_eq}
 use Rattle.std.specs.List.{All}
 use Rattle.std.specs.Cmp.Lexicographic.{pointwise}
 use Rattle.ddcmp_frame.specs.Reading.{open_at_end}

@@ -1,6 +1,8 @@
 -- Two ends on a line: what each event does, what it answers, and what has been done since the line
 -- was cleared.
-use Rattle.std.specs.Prelude.{ℕ, ◌+◌, Bool, true, false, ◌&&◌, if◌then◌else◌, nat_le, nat_lt, ◌==◌, List, [], ◌∷◌, ◌++◌, length, sum_by, Option, Some, None, is_some, option_map, option_to_list, Result, Ok, Err}
+use Rattle.std.specs.Prelude.{ℕ, ◌+◌, Bool, true, false, ◌&&◌, if◌then◌else◌, nat_le, nat_lt, ◌==◌}
+use Rattle.std.specs.Prelude.{List, [], ◌∷◌, ◌++◌, length, sum_by, Option, Some, None, is_some}
+use Rattle.std.specs.Prelude.{option_map, option_to_list, Result, Ok, Err}
 use Rattle.ddcmp_frame.specs.Reading.{good_frames}
 use Rattle.ddcmp_core.specs.Store.{first_message}
 use Rattle.ddcmp_core.specs.declared.notice.Notice.{Notice}
@@ -9,7 +11,10 @@ use Rattle.ddcmp_core.specs.declared.station_core.StartRefusal.{StartRefusal}
 use Rattle.ddcmp_core.specs.declared.station_core.StartRefusal.TheVariants.{NotHalted, Untaken}
 use Rattle.ddcmp_core.specs.SendRefusal.{SendRefusal}
 use Rattle.ddcmp_core.specs.Seq.{Seq}
-use Rattle.ddcmp_core.specs.Table.{StationState, Frame, is_halted, may_start, after_start, answer_to_start, after_halt, may_send, after_accept, answer_to_send, after_take, after_expire, is_on, next, next_frame, acknowledged_by}
+use Rattle.ddcmp_core.specs.Table.{StationState, Frame, is_halted, may_start, after_start}
+use Rattle.ddcmp_core.specs.Table.{answer_to_start, after_halt, may_send, after_accept}
+use Rattle.ddcmp_core.specs.Table.{answer_to_send, after_take, after_expire, is_on, next}
+use Rattle.ddcmp_core.specs.Table.{next_frame, acknowledged_by}
 use Rattle.ddcmp_core.specs.Frames.{header_of, message_of}
 use Rattle.ddcmp_core.specs.Counting.{count_plus, counters_after_expire}
 use Rattle.ddcmp_core.specs.Core.{CoreView}

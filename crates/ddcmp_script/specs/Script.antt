@@ -1,5 +1,7 @@
 -- Scripts: what their lines do to two ends and to the frames between them.
-use Rattle.std.specs.Prelude.{◌≡◌, ◌≢◌, ◌≤◌, ℕ, Bool, true, false, if◌then◌else◌, nat_lt, ◌==◌, List, [], ◌∷◌, ◌++◌, length, take, drop, map, slice_set, slice_index_or, bit_xor, codes, Option, Some, None, ⊤}
+use Rattle.std.specs.Prelude.{◌≡◌, ◌≢◌, ◌≤◌, ℕ, Bool, true, false, if◌then◌else◌, nat_lt, ◌==◌}
+use Rattle.std.specs.Prelude.{List, [], ◌∷◌, ◌++◌, length, take, drop, map, slice_set}
+use Rattle.std.specs.Prelude.{slice_index_or, bit_xor, codes, Option, Some, None, ⊤}
 use Rattle.ddcmp_carrier.specs.Carriages.{Carriage}
 use Rattle.ddcmp_io.specs.Device.{Logs}
 use Rattle.ddcmp_run.specs.declared.event.End.{End}
@@ -9,14 +11,19 @@ use Rattle.ddcmp_run.specs.declared.event.Event.TheVariants as event
 use Rattle.ddcmp_run.specs.declared.event.Reply.{Reply}
 use Rattle.ddcmp_run.specs.declared.event.Reply.TheVariants as reply
 use Rattle.ddcmp_script_text.specs.declared.command.ScriptCommand.{ScriptCommand}
-use Rattle.ddcmp_script_text.specs.declared.command.ScriptCommand.TheVariants.{Happens, Carry, Lose, Damage, Raw, Settle, Recover, State}
+use Rattle.ddcmp_script_text.specs.declared.command.ScriptCommand.TheVariants.{Happens, Carry, Lose}
+use Rattle.ddcmp_script_text.specs.declared.command.ScriptCommand.TheVariants.{Damage, Raw, Settle}
+use Rattle.ddcmp_script_text.specs.declared.command.ScriptCommand.TheVariants.{Recover, State}
 use Rattle.ddcmp_script_text.specs.declared.command.ParsedLine.{ParsedLine}
-use Rattle.ddcmp_script_text.specs.declared.command.ParsedLine.TheVariants.{Skipped, Asks, NoCommand, NotHex}
+use Rattle.ddcmp_script_text.specs.declared.command.ParsedLine.TheVariants.{Skipped, Asks}
+use Rattle.ddcmp_script_text.specs.declared.command.ParsedLine.TheVariants.{NoCommand, NotHex}
 use Rattle.ddcmp_run.specs.Run.{PairState, at, reply_to, end_of, run}
 use Rattle.ddcmp_run.specs.Settle.{other, settling}
 use Rattle.ddcmp_run.specs.Recovery.{recovering, recovered, is_done}
 use Rattle.ddcmp_script_text.specs.ScriptWords.{reading_of}
-use Rattle.ddcmp_script_text.specs.ScriptText.{end_name, name_before, counted_line, reply_text, settled_text, recovered_text, damage_text, station_line}
+use Rattle.ddcmp_script_text.specs.ScriptText.{end_name, name_before, counted_line, reply_text}
+use Rattle.ddcmp_script_text.specs.ScriptText.{settled_text, recovered_text, damage_text}
+use Rattle.ddcmp_script_text.specs.ScriptText.{station_line}
 
 -- ---- both ends, and what is between them
 

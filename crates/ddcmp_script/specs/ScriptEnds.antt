@@ -1,5 +1,6 @@
 -- How a script ends: which of its lines were done, what was written, and what the pair is after.
-use Rattle.std.specs.Prelude.{◌≡◌, ◌≢◌, ⊤, ◌⊎◌, ◌↔◌, ℕ, ◌+◌, ◌-◌, ◌<◌, ◌^◌, Bool, false, List, [], ◌∷◌, ◌++◌, length, Option, Some, Result, Ok, Err, IsOk, IsTrue}
+use Rattle.std.specs.Prelude.{◌≡◌, ◌≢◌, ⊤, ◌⊎◌, ◌↔◌, ℕ, ◌+◌, ◌-◌, ◌<◌, ◌^◌, Bool, false, List, []}
+use Rattle.std.specs.Prelude.{◌∷◌, ◌++◌, length, Option, Some, Result, Ok, Err, IsOk, IsTrue}
 use Rattle.std.specs.Io.KnownBytes.{Appends}
 use Rattle.ddcmp_io.specs.declared.device.Worst.TheVariants.{Fine}
 use Rattle.ddcmp_io.specs.Change.{SourceChange, SinkChange}
@@ -13,11 +14,15 @@ use Rattle.ddcmp_script_text.specs.declared.command.ScriptCommand.TheVariants as
 use Rattle.ddcmp_script_text.specs.declared.command.ParsedLine.{ParsedLine}
 use Rattle.ddcmp_script_text.specs.declared.command.ParsedLine.TheVariants as reading
 use Rattle.ddcmp_script_text.specs.declared.script_fault.ScriptFault.{ScriptFault}
-use Rattle.ddcmp_script_text.specs.declared.script_fault.ScriptFault.TheVariants.{Line, Hex, Read, Write, Memory, Carrier}
+use Rattle.ddcmp_script_text.specs.declared.script_fault.ScriptFault.TheVariants.{Line, Hex, Read}
+use Rattle.ddcmp_script_text.specs.declared.script_fault.ScriptFault.TheVariants.{Write, Memory}
+use Rattle.ddcmp_script_text.specs.declared.script_fault.ScriptFault.TheVariants.{Carrier}
 use Rattle.ddcmp_script_text.specs.ScriptWords.{reading_of, lines_of}
 use Rattle.ddcmp_script_text.specs.ScriptText.{closing_text}
 use Rattle.ddcmp_carrier.specs.Carriages.{Carriage}
-use Rattle.ddcmp_script.specs.Script.{Carries, Scene, DoneLine, AllFit, nothing_between, lines_done, after_lines, text_of_lines, carriages_of_lines, events_by, carriages_by}
+use Rattle.ddcmp_script.specs.Script.{Carries, Scene, DoneLine, AllFit, nothing_between, lines_done}
+use Rattle.ddcmp_script.specs.Script.{after_lines, text_of_lines, carriages_of_lines, events_by}
+use Rattle.ddcmp_script.specs.Script.{carriages_by}
 
 -- a pair that has nothing between its ends
 abbrev pub scene_with : PairState → Scene

@@ -1,21 +1,25 @@
 -- How far a script has been played.
-use Rattle.std.specs.Prelude.{◌≡◌, ℕ, ◌+◌, Bool, false, List, [], ◌++◌, length, Option, Some, Result, Ok, Err}
+use Rattle.std.specs.Prelude.{◌≡◌, ℕ, ◌+◌, Bool, false, List, [], ◌++◌, length, Option, Some}
+use Rattle.std.specs.Prelude.{Result, Ok, Err}
 use Rattle.ddcmp_carrier.specs.Carriages.{Carriage}
 use Rattle.ddcmp_run.specs.Run.{PairState}
 use Rattle.ddcmp_script.specs.declared.scripting.Player.{Player}
 use Rattle.ddcmp_io.specs.Written.{Known, Output, HandsOver}
 use Rattle.ddcmp_script_text.specs.declared.command.ParsedLine.TheVariants as reading
 use Rattle.ddcmp_script.specs.declared.performing.Stop.{Stop}
-use Rattle.ddcmp_script.specs.declared.performing.Stop.TheVariants.{NoCommand, NotHex, Write, Memory, Carrier}
+use Rattle.ddcmp_script.specs.declared.performing.Stop.TheVariants.{NoCommand, NotHex, Write}
+use Rattle.ddcmp_script.specs.declared.performing.Stop.TheVariants.{Memory, Carrier}
 use Rattle.ddcmp_script_text.specs.ScriptWords.{lines_of}
 use Rattle.ddcmp_script.specs.Script.{Between, DoneLine}
-use Rattle.ddcmp_script.specs.ScriptEnds.{Around, around, HasNoLf, Begins, Did, StoppedAt, Broken, AsksCarrier, scene_then}
+use Rattle.ddcmp_script.specs.ScriptEnds.{Around, around, HasNoLf, Begins, Did, StoppedAt, Broken}
+use Rattle.ddcmp_script.specs.ScriptEnds.{AsksCarrier, scene_then}
 
 -- a sink, and an empty page in front of it
 abbrev pub fresh : Known → Output
 fresh sink = record { broken = false; sink = sink; waiting = [] }
 
--- What a player has: the line that it has begun, how many it has done, and what is between the ends.
+-- What a player has: the line that it has begun, how many it has done, and what is between the
+-- ends.
 pub record PlayerView : Type 0 where
   pub line : List ℕ
   pub number : ℕ
@@ -73,8 +77,8 @@ abbrev pub PlaysOn : List ℕ → List ℕ → PlayerView → Course → Result 
 PlaysOn input rest player way (Ok u) = HasDone input rest player way
 PlaysOn input rest player way (Err stop) = Stops input player.number way stop
 
--- What there is at a moment: how far the player is, what was written, the ends, and what the carrier
--- has told.
+-- What there is at a moment: how far the player is, what was written, the ends, and what the
+-- carrier has told.
 pub record Moment : Type 0 where
   pub player : PlayerView
   pub output : Output

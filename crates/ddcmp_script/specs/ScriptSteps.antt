@@ -1,5 +1,6 @@
 -- What became of one line of a script, as the code does it.
-use Rattle.std.specs.Prelude.{◌≡◌, ◌⊎◌, ◌↔◌, ℕ, Bool, false, IsTrue, List, [], Option, Result, Ok, Err}
+use Rattle.std.specs.Prelude.{◌≡◌, ◌⊎◌, ◌↔◌, ℕ, Bool, false, IsTrue, List, [], Option, Result, Ok}
+use Rattle.std.specs.Prelude.{Err}
 use Rattle.ddcmp_io.specs.Device.{Logs}
 use Rattle.ddcmp_io.specs.Written.{Output, HandsOver}
 use Rattle.ddcmp_run.specs.declared.event.End.{End}
@@ -7,11 +8,13 @@ use Rattle.ddcmp_script_text.specs.declared.command.ScriptCommand.TheVariants.{C
 use Rattle.ddcmp_script_text.specs.declared.command.ParsedLine.{ParsedLine}
 use Rattle.ddcmp_script_text.specs.declared.command.ParsedLine.TheVariants as reading
 use Rattle.ddcmp_script.specs.declared.performing.Stop.{Stop}
-use Rattle.ddcmp_script.specs.declared.performing.Stop.TheVariants.{NoCommand, NotHex, Write, Memory, Carrier}
+use Rattle.ddcmp_script.specs.declared.performing.Stop.TheVariants.{NoCommand, NotHex, Write}
+use Rattle.ddcmp_script.specs.declared.performing.Stop.TheVariants.{Memory, Carrier}
 use Rattle.ddcmp_run.specs.Run.{PairState}
 use Rattle.ddcmp_run.specs.Settle.{WantsMemory}
 use Rattle.ddcmp_carrier.specs.Carriages.{Carriage}
-use Rattle.ddcmp_script.specs.Script.{events_by, Between, Scene, Effect, Carries, after_outcome, scene_after, text_of, carriages_by}
+use Rattle.ddcmp_script.specs.Script.{events_by, Between, Scene, Effect, Carries, after_outcome}
+use Rattle.ddcmp_script.specs.Script.{scene_after, text_of, carriages_by}
 
 abbrev pub scene_of : PairState → Between → Scene
 scene_of p lines = record { pair = p; lines = lines }
@@ -21,8 +24,8 @@ pub record Comes (o : Effect) (old new : Scene) (before after : Output) : Type 0
   pub scene : new ≡ after_outcome o old
   pub text : HandsOver before after o.text
 
--- What a line hands to the carrier was carried; some of its events happened, each of them whole; and
--- the next one asks for memory.
+-- What a line hands to the carrier was carried; some of its events happened, each of them whole;
+-- and the next one asks for memory.
 pub record HasBegun (is_direct : Bool) (log log_after : Option (List Carriage)) (r : ParsedLine)
     (old new : Scene) : Type 0 where
   pub came : List ℕ

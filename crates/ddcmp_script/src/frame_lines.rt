@@ -1,7 +1,6 @@
 //! What is left of the frames on both lines.
-ghost use Rattle.std.specs.Prelude.{◌≡◌, ◌∷◌, ◌+◌, ◌<◌, ◌≤◌, ◌==◌, [], length, drop, slice_set};
-ghost use Rattle.std.specs.Prelude.{slice_index_or, bit_xor, true, false, IfSome, MatchOption};
-ghost use Rattle.std.specs.Prelude.{List, ℕ};
+ghost use Rattle.std.specs.Prelude.{◌≡◌, ◌∷◌, ◌+◌, ◌<◌, ◌≤◌, ◌==◌, [], length, drop, true, false};
+ghost use Rattle.std.specs.Prelude.{MatchOption, List, ℕ};
 ghost use Rattle.ddcmp_script.specs.Script.{changed, taken_off, with_change, has_byte};
 
 use ddcmp_pair::{Bytes, End, Reply};

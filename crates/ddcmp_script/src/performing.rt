@@ -1,27 +1,19 @@
 //! Doing what the lines of a script ask for.
-ghost use Rattle.std.specs.Prelude.{◌≡◌, ◌≢◌, ◌↔◌, ◌<◌, ◌++◌, ◌∷◌, [], true, false, length, Some};
-ghost use Rattle.std.specs.Prelude.{None, Ok, Err, IsOk, OnOk, OnErr, List, ℕ, IsTrue};
+ghost use Rattle.std.specs.Prelude.{◌≡◌, ◌<◌, [], false, length, Some, None, Ok, Err, IsOk, OnErr};
+ghost use Rattle.std.specs.Prelude.{IsTrue};
 ghost use Rattle.std.specs.VecDeque.{deque_capacity, deque_len};
-ghost use Rattle.ddcmp_io.specs.Device.{Logs};
 ghost use Rattle.ddcmp_io.specs.Written.{HandsOver, output_of};
-ghost use Rattle.ddcmp_run.specs.Run.{PairState, at, end_of, after_event, reply_to, run};
-ghost use Rattle.ddcmp_run.specs.Run.{asks_memory};
+ghost use Rattle.ddcmp_run.specs.Run.{PairState, at, end_of, after_event, reply_to, asks_memory};
 ghost use Rattle.ddcmp_run.specs.Settle.{other, settling, WantsMemory};
 ghost use Rattle.ddcmp_run.specs.Recovery.{recovering};
 ghost use Rattle.ddcmp_script_text.specs.ScriptWords.{reading_of};
 ghost use Rattle.ddcmp_script_text.specs.ScriptText.{end_name, name_before, reply_text};
-ghost use Rattle.ddcmp_carrier.specs.Carriages.{HasCarried};
-ghost use Rattle.ddcmp_script.specs.Script.{Carries, Between, lines_after, nothing_between};
-ghost use Rattle.ddcmp_script.specs.Script.{frames_after, frames_of, with_frames, part_of};
-ghost use Rattle.ddcmp_script.specs.Script.{outcome_of, outcome_of_event, outcome_of_carry};
-ghost use Rattle.ddcmp_script.specs.Script.{outcome_of_lose, outcome_of_damage, outcome_of_settle};
-ghost use Rattle.ddcmp_script.specs.Script.{outcome_of_recover, arrival_text, after_outcome};
-ghost use Rattle.ddcmp_script.specs.Script.{events_by};
+ghost use Rattle.ddcmp_script.specs.Script.{nothing_between, frames_after, frames_of, part_of};
+ghost use Rattle.ddcmp_script.specs.Script.{outcome_of_event, outcome_of_lose, outcome_of_damage};
+ghost use Rattle.ddcmp_script.specs.Script.{outcome_of_settle, outcome_of_recover, arrival_text};
 ghost use Rattle.ddcmp_script.specs.ScriptSteps.{scene_of, stopped_of, Comes, LineEnds};
 ghost use Rattle.ddcmp_script.specs.ScriptSteps.{TellsDevices};
-ghost use Rattle.ddcmp_script_text.specs.declared.command.ParsedLine.{ParsedLine as ReadingValue};
 ghost use Rattle.ddcmp_run.specs.declared.event.Event.TheVariants as event_value;
-ghost use Rattle.ddcmp_run.specs.declared.event.Reply.{Reply as ReplyValue};
 
 use crate::frame_lines::{FrameLeft, FrameLines};
 use ddcmp_carrier::Carrier;

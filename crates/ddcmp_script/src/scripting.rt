@@ -1,17 +1,15 @@
 //! A script: lines that say what happens between two ends.
-ghost use Rattle.std.specs.Prelude.{◌≡◌, ◌≢◌, ◌⊎◌, ◌↔◌, ◌+◌, ◌-◌, ◌<◌, ◌≤◌, ◌^◌, ◌∷◌, ◌++◌, []};
-ghost use Rattle.std.specs.Prelude.{false, Bool, List, ℕ, Option, Some, Err, IsOk, OnErr, IsTrue};
-ghost use Rattle.std.specs.Prelude.{length};
+ghost use Rattle.std.specs.Prelude.{◌≡◌, ◌≢◌, ◌⊎◌, ◌↔◌, ◌+◌, ◌-◌, ◌<◌, ◌≤◌, ◌^◌, ◌∷◌, [], false};
+ghost use Rattle.std.specs.Prelude.{Bool, List, ℕ, Option, Some, Err, OnErr, IsTrue, length};
 ghost use Rattle.std.specs.Io.KnownBytes.{Appends, Consumes};
-ghost use Rattle.ddcmp_io.specs.Written.{AppendsPart, HandsOver, Output, output_of};
+ghost use Rattle.ddcmp_io.specs.Written.{AppendsPart, Output, output_of};
 ghost use Rattle.ddcmp_run.specs.Run.{PairState};
 ghost use Rattle.ddcmp_io.specs.Change.{sink_change, source_change};
 ghost use Rattle.ddcmp_carrier.specs.Carriages.{Carriage};
 ghost use Rattle.ddcmp_script.specs.Script.{nothing_between};
 ghost use Rattle.ddcmp_script.specs.ScriptEnds.{Around, around, IsPlayed, PausedBefore, Plays};
 ghost use Rattle.ddcmp_script.specs.ScriptProgress.{HasDone, IsPlaying, PlaysOut, Stops, Takes};
-ghost use Rattle.ddcmp_script.specs.ScriptProgress.{moment};
-ghost use Rattle.ddcmp_script.specs.ScriptProgress.{course, fresh, played};
+ghost use Rattle.ddcmp_script.specs.ScriptProgress.{moment, course, fresh, played};
 ghost use Rattle.ddcmp_script.specs.ScriptSteps.{TellsDevices};
 
 use crate::performing::{Stage, Stop};

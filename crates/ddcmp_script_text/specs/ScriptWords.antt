@@ -1,5 +1,7 @@
 -- The words of a script: what each of its lines asks for.
-use Rattle.std.specs.Prelude.{ℕ, ◌+◌, ◌-◌, ◌*◌, Bool, ◌&&◌, ◌||◌, nat_le, nat_lt, ◌==◌, if◌then◌else◌, List, [], ◌∷◌, length, take, codes, slice_index_or, Option, Some, None, Result, Ok, Err}
+use Rattle.std.specs.Prelude.{ℕ, ◌+◌, ◌-◌, ◌*◌, Bool, ◌&&◌, ◌||◌, nat_le, nat_lt, ◌==◌}
+use Rattle.std.specs.Prelude.{if◌then◌else◌, List, [], ◌∷◌, length, take, codes, slice_index_or}
+use Rattle.std.specs.Prelude.{Option, Some, None, Result, Ok, Err}
 use Rattle.std.specs.List.{slice_split}
 use Rattle.hex.specs.Hex.{decode_of, decode_sized}
 use Rattle.hex.specs.declared.error.FromHexError.{FromHexError}
@@ -7,9 +9,12 @@ use Rattle.ddcmp_run.specs.declared.event.End.{End}
 use Rattle.ddcmp_run.specs.declared.event.End.TheVariants.{A, B}
 use Rattle.ddcmp_run.specs.declared.event.Event.TheVariants as event
 use Rattle.ddcmp_script_text.specs.declared.command.ScriptCommand.{ScriptCommand}
-use Rattle.ddcmp_script_text.specs.declared.command.ScriptCommand.TheVariants.{Happens, Carry, Lose, Damage, Raw, Settle, Recover, State}
+use Rattle.ddcmp_script_text.specs.declared.command.ScriptCommand.TheVariants.{Happens, Carry, Lose}
+use Rattle.ddcmp_script_text.specs.declared.command.ScriptCommand.TheVariants.{Damage, Raw, Settle}
+use Rattle.ddcmp_script_text.specs.declared.command.ScriptCommand.TheVariants.{Recover, State}
 use Rattle.ddcmp_script_text.specs.declared.command.ParsedLine.{ParsedLine}
-use Rattle.ddcmp_script_text.specs.declared.command.ParsedLine.TheVariants.{Skipped, Asks, NoCommand, NotHex}
+use Rattle.ddcmp_script_text.specs.declared.command.ParsedLine.TheVariants.{Skipped, Asks}
+use Rattle.ddcmp_script_text.specs.declared.command.ParsedLine.TheVariants.{NoCommand, NotHex}
 use Rattle.ddcmp_run.specs.Place.{same_bytes}
 
 -- ---- words

@@ -4,7 +4,8 @@ use Rattle.std.specs.Prelude.{◌↔◌}
 use Rattle.ddcmp_station.specs.declared.driving.LineFault.{LineFault}
 use Rattle.ddcmp_station.specs.declared.driving.LineFault.TheVariants.{Memory}
 use Rattle.ddcmp_serve.specs.declared.serve_fault.ServeFault.{ServeFault}
-use Rattle.ddcmp_serve.specs.declared.serve_fault.ServeFault.TheVariants.{Config as NoStation, Line, Report}
+use Rattle.ddcmp_serve.specs.declared.serve_fault.ServeFault.TheVariants.{Config as NoStation, Line}
+use Rattle.ddcmp_serve.specs.declared.serve_fault.ServeFault.TheVariants.{Report}
 
 abbrev pub Answer : Type 0
 Answer = Result (Unit {0}) ServeFault

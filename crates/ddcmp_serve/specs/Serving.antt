@@ -1,5 +1,6 @@
 -- What a served station does.
-use Rattle.std.specs.Prelude.{◌≡◌, ℕ, Bool, true, false, if◌then◌else◌, List, [], ◌∷◌, ◌++◌, codes, decimal, Result, Ok, Err}
+use Rattle.std.specs.Prelude.{◌≡◌, ℕ, Bool, true, false, if◌then◌else◌, List, [], ◌∷◌, ◌++◌, codes}
+use Rattle.std.specs.Prelude.{decimal, Result, Ok, Err}
 use Rattle.std.specs.List.{flat_map}
 use Rattle.std.specs.Io.KnownBytes.{Appends}
 use Rattle.hex.specs.Hex.{encode_lower}
@@ -82,7 +83,8 @@ served_answer (Err fault) failed = Err (Line fault)
 -- and reported all that it was told and handed, and the answer tells what came of it. `counted` is
 -- whether the counters are asked for, and `failed` whether a write of the report has failed.
 pub record Serves (milliseconds turns : ℕ) (restart counted : Bool) (send : List ℕ)
-    (devices : Devices) (failed : Bool) (report report_after : Known) (answer : Result (Unit {0}) ServeFault)
+    (devices : Devices) (failed : Bool) (report report_after : Known)
+    (answer : Result (Unit {0}) ServeFault)
     : Type 0 where
   pub old : StationView
   pub new : StationView

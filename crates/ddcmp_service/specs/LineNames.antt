@@ -1,7 +1,8 @@
 -- The words that name lines.
 use Rattle.std.specs.Prelude.{ℕ, List, ◌++◌, ◌≢◌, codes, get_or, length, ◌<◌, ⊤}
 use Rattle.ddcmp_service.specs.declared.line_name.LineName.{LineName}
-use Rattle.ddcmp_service.specs.declared.line_name.LineName.TheVariants.{Connect, Listen, Udp, Device}
+use Rattle.ddcmp_service.specs.declared.line_name.LineName.TheVariants.{Connect, Listen, Udp}
+use Rattle.ddcmp_service.specs.declared.line_name.LineName.TheVariants.{Device}
 
 -- what a line is called by
 unfoldable pub word_of : LineName → List ℕ

@@ -1,5 +1,5 @@
 //! Bytes on their way between a device and the link.
-ghost use Rattle.std.specs.Prelude.{◌≡◌, ◌≤◌, length};
+ghost use Rattle.std.specs.Prelude.{◌≤◌, length};
 
 use ddcmp_io::Sink;
 use std::alloc::{AllocError, Global};

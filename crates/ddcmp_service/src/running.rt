@@ -1,6 +1,6 @@
 //! What stands between a link and the devices of a service, and the steps of its loop. Each step
 //! says whether it moved anything.
-ghost use Rattle.std.specs.Prelude.{◌≡◌, ◌≢◌, false};
+ghost use Rattle.std.specs.Prelude.{false};
 
 use crate::held::Held;
 use crate::line::{Line, Moved};

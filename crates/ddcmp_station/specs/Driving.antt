@@ -1,5 +1,7 @@
 -- What `drive` does: its turns, and what came of them.
-use Rattle.std.specs.Prelude.{◌≡◌, ℕ, ◌+◌, ◌≤◌, ◌<◌, Bool, false, ◌&&◌, if◌then◌else◌, ◌==◌, nat_le, min, List, [], ◌∷◌, ◌++◌, length, take, Option, Some, None, Result, Ok, Err}
+use Rattle.std.specs.Prelude.{◌≡◌, ℕ, ◌+◌, ◌≤◌, ◌<◌, Bool, false, ◌&&◌, if◌then◌else◌, ◌==◌, nat_le}
+use Rattle.std.specs.Prelude.{min, List, [], ◌∷◌, ◌++◌, length, take, Option, Some, None, Result}
+use Rattle.std.specs.Prelude.{Ok, Err}
 use Rattle.std.specs.List.{flat_map}
 use Rattle.std.specs.Io.KnownBytes.{Appends, Consumes}
 use Rattle.ddcmp_io.specs.declared.device.Worst.{Worst}
@@ -10,7 +12,8 @@ use Rattle.ddcmp_io.specs.declared.device.Got.{Got}
 use Rattle.ddcmp_io.specs.declared.device.Got.TheVariants.{Bytes, Idle, Failed}
 use Rattle.ddcmp_core.specs.declared.state.Timer.{Timer}
 use Rattle.ddcmp_core.specs.declared.state.Timer.TheVariants.{Off, Fresh, On}
-use Rattle.ddcmp_core.specs.Table.{Frame, after_halt, may_send, after_accept, after_expire, after_take_arm, is_on, next, next_frame}
+use Rattle.ddcmp_core.specs.Table.{Frame, after_halt, may_send, after_accept, after_expire}
+use Rattle.ddcmp_core.specs.Table.{after_take_arm, is_on, next, next_frame}
 use Rattle.ddcmp_core.specs.Counting.{counters_after_expire}
 use Rattle.ddcmp_core.specs.Core.{CoreView}
 use Rattle.ddcmp_station.specs.declared.driving.Driven.{Driven}

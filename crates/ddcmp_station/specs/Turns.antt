@@ -1,5 +1,6 @@
 -- One turn of `drive`, as its parts are proved.
-use Rattle.std.specs.Prelude.{◌≡◌, ℕ, ◌+◌, ◌<◌, ◌≤◌, List, [], ◌∷◌, ◌++◌, length, take, Option, Result, Ok, Err}
+use Rattle.std.specs.Prelude.{◌≡◌, ℕ, ◌+◌, ◌<◌, ◌≤◌, List, [], ◌∷◌, ◌++◌, length, take, Option}
+use Rattle.std.specs.Prelude.{Result, Ok, Err}
 use Rattle.std.specs.Io.KnownBytes.{Appends, Consumes}
 use Rattle.ddcmp_io.specs.declared.device.Worst.{Worst}
 use Rattle.ddcmp_io.specs.declared.device.Worst.TheVariants.{Fine}
@@ -9,7 +10,8 @@ use Rattle.ddcmp_station.specs.declared.driving.LineFault.TheVariants.{Read, Wri
 use Rattle.ddcmp_station.specs.declared.driving.Tally.{Tally}
 use Rattle.ddcmp_proto.specs.Station.{StationView}
 use Rattle.ddcmp_station.specs.UserCalls.{UserCall}
-use Rattle.ddcmp_station.specs.Driving.{DriveTurn, Devices, IsSentPart, before_read, after_turn, bytes_read, read_answer, last_read_answer, TakesTurns}
+use Rattle.ddcmp_station.specs.Driving.{DriveTurn, Devices, IsSentPart, before_read, after_turn}
+use Rattle.ddcmp_station.specs.Driving.{bytes_read, read_answer, last_read_answer, TakesTurns}
 use Rattle.ddcmp_frame.specs.Device.{Logs}
 use Rattle.ddcmp_io.specs.declared.device.Got.{Got}
 

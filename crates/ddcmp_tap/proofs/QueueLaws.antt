@@ -1,5 +1,6 @@
 -- Bytes that are left over.
-use Rattle.std.proofs.Common.{zero, suc, ◌≡◌, ℕ, ◌≤◌, List, [], ◌∷◌, drop, length, length-drop, arith, ap, refl}
+use Rattle.std.proofs.Common.{zero, suc, ◌≡◌, ℕ, ◌≤◌, List, [], ◌∷◌, drop, length, length-drop}
+use Rattle.std.proofs.Common.{arith, ap, refl}
 
 -- nothing is left behind the last byte
 pub dropped : (n : ℕ) (xs : List ℕ) → n ≡ length xs → drop n xs ≡ []

@@ -1,8 +1,10 @@
--- The ladder of a tap: a line for each item, an arrow from the side that it comes from to the other. The
--- caller stands on the left.
-use Rattle.std.specs.Prelude.{[], ℕ, ◌-◌, List, ◌++◌, codes, decimal, length, replicate, Option, Some, None}
+-- The ladder of a tap: a line for each item, an arrow from the side that it comes from to the
+-- other. The caller stands on the left.
+use Rattle.std.specs.Prelude.{[], ℕ, ◌-◌, List, ◌++◌, codes, decimal, length, replicate, Option}
+use Rattle.std.specs.Prelude.{Some, None}
 use Rattle.ddcmp_frame.specs.declared.item.Item.{Item}
-use Rattle.ddcmp_frame.specs.declared.item.Item.TheVariants.{Good, HeaderCheck, DataCheck, TooLong, Format}
+use Rattle.ddcmp_frame.specs.declared.item.Item.TheVariants.{Good, HeaderCheck, DataCheck, TooLong}
+use Rattle.ddcmp_frame.specs.declared.item.Item.TheVariants.{Format}
 use Rattle.ddcmp_explain.specs.Label.{item_label}
 use Rattle.ddcmp_tap.specs.declared.side.Side.{Side}
 use Rattle.ddcmp_tap.specs.declared.side.Side.TheVariants.{Caller, Called}

@@ -1,5 +1,5 @@
--- What a tap writes of each direction: the lines that `explain` writes of its bytes, and in front of
--- each the milliseconds, where they are asked for, and from which side it is.
+-- What a tap writes of each direction: the lines that `explain` writes of its bytes, and in front
+-- of each the milliseconds, where they are asked for, and from which side it is.
 use Rattle.std.specs.Prelude.{ℕ, List, ◌++◌, codes, decimal, drop, Option, Some, None}
 use Rattle.std.specs.List.{flat_map}
 use Rattle.ddcmp_frame.specs.Reading.{ReadItem}

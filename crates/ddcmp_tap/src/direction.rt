@@ -1,8 +1,8 @@
 //! One direction of a tap: bytes that came from a side, to be handed on as they are and explained.
-ghost use Rattle.std.specs.Prelude.{◌≡◌, ◌+◌, ◌<◌, ◌≤◌, ◌++◌, [], ℕ, List, IfOk, IsOk, drop};
-ghost use Rattle.std.specs.Prelude.{false, length, take, true, ◌&&◌, ◌==◌};
+ghost use Rattle.std.specs.Prelude.{◌≡◌, ◌+◌, ◌<◌, ◌≤◌, ◌++◌, [], ℕ, List, IfOk, IsOk, drop, false};
+ghost use Rattle.std.specs.Prelude.{length, take, true};
 ghost use Rattle.ddcmp_frame.specs.Limits.{MAX_COUNT};
-ghost use Rattle.ddcmp_tap.specs.Passing.{HasTold, Passes, Tells, came_of, room_of};
+ghost use Rattle.ddcmp_tap.specs.Passing.{HasTold, Passes, Tells, room_of};
 ghost use Rattle.ddcmp_tap.specs.Tapped.{tapped_last};
 
 use crate::notation::Notation;

@@ -1,5 +1,5 @@
 //! Text in memory.
-ghost use Rattle.std.specs.Prelude.{◌≡◌, ◌<◌, [], false, Some, set, vec_len};
+ghost use Rattle.std.specs.Prelude.{◌≡◌, ◌<◌, [], false, Some};
 
 use ddcmp_io::Sink;
 use std::alloc::Global;

@@ -7,4 +7,5 @@ pub front-rotated : {A B : Type 0} (f : A → B) (n m k : ℕ) (xs : List A) →
     → map f (take m (drop n xs ++ take n xs)) ≡ drop n (map f (take k xs))
 front-rotated f n m k xs total inside =
     let short : m ≤ length (drop n xs) = omega (arith, length-drop n xs) in
-    rw (drop-map f n (take k xs), ← total) (rw (take-append-le m (drop n xs) (take n xs) short, drop-take n m xs) refl)
+    rw (drop-map f n (take k xs), ← total)
+    (rw (take-append-le m (drop n xs) (take n xs) short, drop-take n m xs) refl)

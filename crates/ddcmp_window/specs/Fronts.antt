@@ -1,6 +1,7 @@
 -- The first elements of a list, each seen by a function: lemmas that the impl of `Store` cites for
 -- what holds of every store, and may take from specs/ alone.
-use Rattle.std.proofs.Common.{◌≡◌, ℕ, zero, suc, ◌<◌, ◌≤◌, List, [], ◌∷◌, length, take, map, get_or, arith}
+use Rattle.std.proofs.Common.{◌≡◌, ℕ, zero, suc, ◌<◌, ◌≤◌, List, [], ◌∷◌, length, take, map, get_or}
+use Rattle.std.proofs.Common.{arith}
 use Rattle.std.proofs.lemmas.List.{length-map, length-take-le}
 
 pub length-front : {A B : Type 0} (f : A → B) (n : ℕ) (xs : List A) → n ≤ length xs

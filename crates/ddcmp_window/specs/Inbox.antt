@@ -1,5 +1,6 @@
 -- Receiving in sequence, on numbers modulo 256 and a list of messages.
-use Rattle.std.specs.Prelude.{ℕ, ◌<◌, Bool, ◌&&◌, if◌then◌else◌, nat_lt, ◌==◌, List, [], ◌∷◌, ◌++◌, length, drop}
+use Rattle.std.specs.Prelude.{ℕ, ◌<◌, Bool, ◌&&◌, if◌then◌else◌, nat_lt, ◌==◌, List, [], ◌∷◌, ◌++◌}
+use Rattle.std.specs.Prelude.{length, drop}
 use Rattle.ddcmp_window.specs.declared.inbox.Offer.{Offer}
 use Rattle.ddcmp_window.specs.declared.inbox.Offer.TheVariants.{Accepted, OutOfSequence, NoRoom}
 use Rattle.ddcmp_window.specs.Numbers.{next_number}

@@ -1,5 +1,6 @@
 -- What a store holds, and what is copied out of it.
-use Rattle.std.specs.Prelude.{ℕ, ◌<◌, ◌≤◌, List, [], ◌∷◌, ◌++◌, length, drop, slice_index_or, Option, Some, None}
+use Rattle.std.specs.Prelude.{ℕ, ◌<◌, ◌≤◌, List, [], ◌∷◌, ◌++◌, length, drop, slice_index_or}
+use Rattle.std.specs.Prelude.{Option, Some, None}
 use Rattle.ddcmp_num.specs.declared.limits.TheConstants.{MAX_COUNT, MAX_WINDOW}
 
 -- the messages and their lengths are within a store's limits, and these in their ranges

@@ -1,6 +1,6 @@
 //! The receiving half: messages that came in sequence.
-ghost use Rattle.std.specs.Prelude.{◌≡◌, ◌≢◌, ◌↔◌, ◌+◌, ◌<◌, ◌≤◌, [], ◌∷◌, ◌++◌, length};
-ghost use Rattle.std.specs.Prelude.{slice_index_or, sum_by, IsTrue, Option, Some, None, option_map};
+ghost use Rattle.std.specs.Prelude.{◌≡◌, ◌≢◌, ◌↔◌, ◌<◌, ◌≤◌, [], length, slice_index_or, sum_by};
+ghost use Rattle.std.specs.Prelude.{IsTrue, Option, Some, option_map};
 
 use crate::store::{Store, take_first};
 use ddcmp_num::Seq;

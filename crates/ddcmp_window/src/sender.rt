@@ -1,7 +1,6 @@
 //! The sending half: messages are kept until they are acknowledged.
-ghost use Rattle.std.specs.Prelude.{◌≡◌, ◌≢◌, ◌↔◌, ◌+◌, ◌<◌, ◌≤◌, ◌%◌, ℕ, [], length, sum_by};
-ghost use Rattle.std.specs.Prelude.{IsTrue, Option, Some, None, option_map, if◌then◌else◌, Err};
-ghost use Rattle.std.specs.Prelude.{OnOk};
+ghost use Rattle.std.specs.Prelude.{◌≡◌, ◌≢◌, ◌↔◌, ◌<◌, ◌≤◌, [], length, sum_by, IsTrue, Option};
+ghost use Rattle.std.specs.Prelude.{Some, None, option_map, if◌then◌else◌, Err, OnOk};
 
 use crate::store::{Store, take_first};
 use ddcmp_num::Seq;
@@ -34,8 +33,7 @@ pub struct Sender<S: Store> {
 }
 
 impl<S: Store> Model for Sender<S> {
-    ghost use Rattle.ddcmp_window.specs.Sender.{SenderView};
-    ghost use Rattle.ddcmp_window.specs.Sender.{IsInWindow};
+    ghost use Rattle.ddcmp_window.specs.Sender.{SenderView, IsInWindow};
 
     ghost Value = { SenderView };
 

@@ -1,7 +1,7 @@
 //! A store that keeps each message in a buffer of its own.
 ghost use Rattle.ddcmp_num.specs.declared.limits.TheConstants.{MAX_COUNT, MAX_WINDOW};
-ghost use Rattle.std.specs.Prelude.{◌≡◌, ◌<◌, ◌≤◌, ℕ, List, [], length, slice_index_or, vec_len};
-ghost use Rattle.std.specs.Prelude.{vec_capacity, IfOk};
+ghost use Rattle.std.specs.Prelude.{◌≡◌, ◌<◌, ◌≤◌, ℕ, [], length, slice_index_or, vec_capacity};
+ghost use Rattle.std.specs.Prelude.{IfOk};
 
 use crate::store::{Memory, Store};
 use std::alloc::Global;

@@ -1,5 +1,6 @@
 -- Where a parser begins, and what is made of it.
-use Rattle.std.proofs.Common.{◌≡◌, ◌∷◌, [], ◌++◌, ◌+◌, ◌<◌, ◌∙◌, List, ℕ, length, map, take, ap, subst, sym, refl, false, Ok, get_or}
+use Rattle.std.proofs.Common.{◌≡◌, ◌∷◌, [], ◌++◌, ◌+◌, ◌<◌, ◌∙◌, List, ℕ, length, map, take, ap}
+use Rattle.std.proofs.Common.{subst, sym, refl, false, Ok, get_or}
 use Rattle.std.proofs.lemmas.List.{take_more, map-append}
 use Rattle.clap.specs.Words.{App, Rule, app_of, with_rule}
 use Rattle.clap.specs.declared.builder.command.Command.{Command}
@@ -32,10 +33,16 @@ with_rules-push app (first ∷ rules) rule = with_rules-push (with_rule app firs
 -- one option more
 pub with-more : (parser : Parser) (app : App) (options : List CommandOption) (i : ℕ)
     (d : CommandOption) → i < length options
-    → Makes parser (with_rule (with_rules app (map rule_of_option (take i options))) (rule_of_option (get_or options i d)))
+    → Makes parser
+    (with_rule (with_rules app (map rule_of_option (take i options)))
+    (rule_of_option (get_or options i d)))
     → Makes parser (with_rules app (map rule_of_option (take (i + 1) options)))
 with-more parser app options i d lt h =
-    let pushed = with_rules-push app (map rule_of_option (take i options)) (rule_of_option (get_or options i d)) in
+    let pushed =
+    with_rules-push app (map rule_of_option (take i options))
+    (rule_of_option (get_or options i d)) in
     let mapped = map-append rule_of_option (take i options) (get_or options i d ∷ []) in
-    let on = ap (λ xs. with_rules app (map rule_of_option xs)) (take_more options i d lt) ∙ ap (with_rules app) mapped ∙ pushed in
+    let on =
+    ap (λ xs. with_rules app (map rule_of_option xs)) (take_more options i d lt)
+    ∙ ap (with_rules app) mapped ∙ pushed in
     subst (Makes parser) (sym on) h

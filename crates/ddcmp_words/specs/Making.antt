@@ -4,7 +4,8 @@ use Rattle.clap.specs.Words.{App, Rule, Text, app_of, with_rule}
 use Rattle.clap.specs.declared.builder.command.Command.TheViews.{out-Command as fields_of}
 use Rattle.ddcmp_words.specs.declared.options.CommandOption.{CommandOption}
 use Rattle.ddcmp_words.specs.declared.options.Takes.{Takes}
-use Rattle.ddcmp_words.specs.declared.options.Takes.TheVariants.{Nothing, Number, Text as TakesText, Place}
+use Rattle.ddcmp_words.specs.declared.options.Takes.TheVariants.{Nothing, Number, Text as TakesText}
+use Rattle.ddcmp_words.specs.declared.options.Takes.TheVariants.{Place}
 use Rattle.ddcmp_words.specs.Words.{flag_rule, number_rule, place_rule, text_rule}
 use Rattle.ddcmp_words.specs.declared.parser.Parser.{Parser}
 

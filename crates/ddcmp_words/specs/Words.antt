@@ -1,5 +1,7 @@
 -- The command line, as `clap` reads it.
-use Rattle.std.specs.Prelude.{◌∷◌, ℕ, pos, unwrap_or, if◌then◌else◌, ◌≡◌, ◌≢◌, ◌⊎◌, ◌≤◌, Bool, true, false, List, [], codes, decimal, Option, Some, None, Result, Ok, Err, ⊤}
+use Rattle.std.specs.Prelude.{◌∷◌, ℕ, pos, unwrap_or, if◌then◌else◌, ◌≡◌, ◌≢◌, ◌⊎◌, ◌≤◌, Bool, true}
+use Rattle.std.specs.Prelude.{false, List, [], codes, decimal, Option, Some, None, Result, Ok, Err}
+use Rattle.std.specs.Prelude.{⊤}
 use Rattle.std.specs.Option.{option_map, option_and_then}
 use Rattle.std.specs.List.{starts_with}
 use Rattle.std.specs.Str.{bytes_eq}
@@ -10,7 +12,8 @@ use Rattle.ddcmp_explain.specs.declared.notation.Notation.{Notation}
 use Rattle.ddcmp_explain.specs.declared.notation.Notation.TheVariants.{Plain, Json}
 use Rattle.ddcmp_explain.specs.declared.style.Style.{Style}
 use Rattle.ddcmp_words.specs.declared.command.Command.{Command}
-use Rattle.ddcmp_words.specs.declared.command.Command.TheVariants.{Explain, Simulate, Pair, Station, Tap, Link}
+use Rattle.ddcmp_words.specs.declared.command.Command.TheVariants.{Explain, Simulate, Pair, Station}
+use Rattle.ddcmp_words.specs.declared.command.Command.TheVariants.{Tap, Link}
 use Rattle.ddcmp_words.specs.declared.explained.Explained.{Explained}
 use Rattle.ddcmp_words.specs.declared.served.Role.{Role}
 use Rattle.ddcmp_words.specs.declared.served.Role.TheVariants.{Connect, Listen}
@@ -21,11 +24,13 @@ use Rattle.ddcmp_words.specs.declared.view.View.{View}
 use Rattle.ddcmp_words.specs.declared.declined.Declined.{Declined}
 use Rattle.ddcmp_words.specs.declared.declined.Declined.TheVariants.{Help, Version, Usage, Memory}
 use Rattle.clap.specs.declared.error.kind.ErrorKind.{ErrorKind}
-use Rattle.clap.specs.declared.error.kind.ErrorKind.TheVariants.{DisplayHelp, DisplayVersion, OutOfMemory}
+use Rattle.clap.specs.declared.error.kind.ErrorKind.TheVariants.{DisplayHelp, DisplayVersion}
+use Rattle.clap.specs.declared.error.kind.ErrorKind.TheVariants.{OutOfMemory}
 use Rattle.ddcmp_core.specs.Limits.{MAX_COUNT, MAX_WINDOW}
 use Rattle.ddcmp_proto.specs.declared.config.Config.{Config}
 use Rattle.ddcmp_proto.specs.declared.config.TheConstants.{MAX_INBOX, MAX_SYN}
-use Rattle.clap.specs.Words.{IsAmong, fault_of, App, Rule, Text, first_of, new_app, new_rule, one_of, subcommand_of, takes, with_rule, with_subcommand}
+use Rattle.clap.specs.Words.{IsAmong, fault_of, App, Rule, Text, first_of, new_app, new_rule}
+use Rattle.clap.specs.Words.{one_of, subcommand_of, takes, with_rule, with_subcommand}
 use Rattle.clap.specs.declared.builder.ArgAction.TheVariants.{SetTrue}
 use Rattle.clap.specs.declared.builder.value_parser.ValueParser.TheVariants.{Signed}
 

@@ -1,20 +1,16 @@
 //! The words of the command line.
-ghost use Rattle.std.specs.Prelude.{◌≡◌, ◌≢◌, ◌⊎◌, ◌↔◌, ◌≤◌, IsTrue, IfOk, IfSome, IsOk, None};
-ghost use Rattle.std.specs.Prelude.{Some};
+ghost use Rattle.std.specs.Prelude.{◌≡◌, ◌≢◌, ◌⊎◌, ◌↔◌, ◌≤◌, IsTrue, IfSome, IsOk, None, Some};
 ghost use Rattle.std.specs.Prelude.{codes, map, unwrap_or, [], false, List, ℕ};
 ghost use Rattle.std.specs.Option.{option_and_then, option_map};
 ghost use Rattle.ddcmp_words.specs.Making.{Makes};
 ghost use Rattle.ddcmp_words.specs.Words.{Declines, IsAsked, IsName, Reads, bare_app, name_of};
-ghost use Rattle.ddcmp_words.specs.Words.{program};
-ghost use Rattle.ddcmp_words.specs.Words.{HasExplain, HasFlag, HasForm, HasNotation, HasNumber};
-ghost use Rattle.ddcmp_words.specs.Words.{HasOptions};
-ghost use Rattle.ddcmp_words.specs.Words.{HasSizes, HasStation, HasStyle, explain_app, script_app};
-ghost use Rattle.ddcmp_words.specs.Words.{file_of, role_of, station_app};
+ghost use Rattle.ddcmp_words.specs.Words.{program, HasExplain, HasFlag, HasForm, HasNotation};
+ghost use Rattle.ddcmp_words.specs.Words.{HasNumber, HasOptions, HasSizes, HasStation, HasStyle};
+ghost use Rattle.ddcmp_words.specs.Words.{explain_app, script_app, file_of, role_of, station_app};
 ghost use Rattle.ddcmp_words.specs.Words.{HasView, with_sizes as with_sizes_of};
 ghost use Rattle.ddcmp_words.specs.Words.{with_view as with_view_of};
-ghost use Rattle.clap.specs.Words.{App, kind_of, app_of, new_app, first_of, first_value};
-ghost use Rattle.clap.specs.Words.{found_of, one_of, one_text};
-ghost use Rattle.clap.specs.Words.{subcommand_name_of, subcommand_rows_of};
+ghost use Rattle.clap.specs.Words.{App, kind_of, app_of, new_app, first_of, first_value, found_of};
+ghost use Rattle.clap.specs.Words.{one_of, one_text, subcommand_name_of, subcommand_rows_of};
 ghost use Rattle.clap.specs.declared.builder.command.Command.TheViews.{out-Command as fields_of};
 
 use crate::declined::Declined;

@@ -1,5 +1,4 @@
 //! A store to which things are done one after another, and each call once with ample memory.
-ghost use Rattle.std.specs.Prelude.{◌≡◌, ◌≤◌, []};
 
 use crate::windows::inboxes::takes_in_sequence;
 use crate::windows::senders::{

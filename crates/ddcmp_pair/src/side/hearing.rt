@@ -1,14 +1,13 @@
 //! What arrives at an end.
-ghost use Rattle.std.specs.Prelude.{◌≡◌, ◌↔◌, IsTrue, ◌+◌, ◌-◌, ◌<◌, ◌≤◌, ◌^◌, ℕ, ◌&&◌, true};
-ghost use Rattle.std.specs.Prelude.{false, [], ◌∷◌, ◌++◌, length, take, drop, Some, is_some};
-ghost use Rattle.std.specs.Prelude.{IfSome, vec_len, vec_capacity};
+ghost use Rattle.std.specs.Prelude.{◌≡◌, ◌+◌, ◌-◌, ◌<◌, ◌≤◌, ◌^◌, ℕ, ◌&&◌, true, false, [], ◌∷◌};
+ghost use Rattle.std.specs.Prelude.{◌++◌, length, take, drop, Some, is_some, IfSome, vec_len};
+ghost use Rattle.std.specs.Prelude.{vec_capacity};
 ghost use Rattle.ddcmp_frame.specs.Reader.{StandsFor};
 ghost use Rattle.ddcmp_frame.specs.Reading.{good_frames};
 ghost use Rattle.ddcmp_core.specs.Table.{is_halted, acknowledged_by};
 ghost use Rattle.ddcmp_core.specs.Counting.{count_plus};
 ghost use Rattle.ddcmp_proto.specs.Bytes.{after_piece, notices_of_piece};
-ghost use Rattle.ddcmp_run.specs.Place.{same_frame, place_after as place_after_of, place_next};
-ghost use Rattle.ddcmp_run.specs.Place.{place_of};
+ghost use Rattle.ddcmp_run.specs.Place.{place_after as place_after_of, place_next, place_of};
 ghost use Rattle.ddcmp_run.specs.Run.{acknowledged_in, restarts_by, restarts_in};
 
 use crate::frames::Frames;

@@ -1,5 +1,4 @@
 //! Calls of `drive` over memory, of which tests see what came of them.
-ghost use Rattle.std.specs.Prelude.{◌≡◌};
 
 use crate::same::is;
 use ddcmp_frame::failing::{Pieces, Taken};

@@ -1,5 +1,6 @@
 use Rattle.std.proofs.Common.{refl}
-use Rattle.ddcmp_callers.proofs.Runs.{run_same, calls_in_order, calls_linked, calls_quiet, calls_clean}
+use Rattle.ddcmp_callers.proofs.Runs.{run_same, calls_in_order, calls_linked, calls_quiet}
+use Rattle.ddcmp_callers.proofs.Runs.{calls_clean}
 use Rattle.ddcmp_callers.proofs.calls.every_caller.Goals as goal
 
 pub returns-clause-order : goal.returns-clause-order

@@ -1,7 +1,10 @@
 use Rattle.std.proofs.Common.{ap}
-use Rattle.ddcmp_core.specs.Table.{on, notice_of, next, next_frame, after_next, is_on, after_take, after_expire}
+use Rattle.ddcmp_core.specs.Table.{on, notice_of, next, next_frame, after_next, is_on, after_take}
+use Rattle.ddcmp_core.specs.Table.{after_expire}
 use Rattle.ddcmp_core.specs.Counting.{counters_on, counters_after_next, counters_after_expire}
-use Rattle.ddcmp_callers.proofs.Stations.{is_on_noted, on_armed, notice_armed, counters_armed, next_armed, frame_armed, sent_counts_armed, take_armed, expire_armed, expired_counts_armed, same_by, value_by}
+use Rattle.ddcmp_callers.proofs.Stations.{is_on_noted, on_armed, notice_armed, counters_armed}
+use Rattle.ddcmp_callers.proofs.Stations.{next_armed, frame_armed, sent_counts_armed, take_armed}
+use Rattle.ddcmp_callers.proofs.Stations.{expire_armed, expired_counts_armed, same_by, value_by}
 use Rattle.ddcmp_callers.proofs.calls.fresh_is_on.Goals as goal
 
 pub returns-clause-receives : goal.returns-clause-receives
@@ -17,7 +20,8 @@ returns-clause-sends c = λ s t same. (
 )
 
 pub returns-clause-takes : goal.returns-clause-takes
-returns-clause-takes c = λ s t same. (same_by after_take take_armed s t same, ap (λ u. u.inbox) same)
+returns-clause-takes c =
+    λ s t same. (same_by after_take take_armed s t same, ap (λ u. u.inbox) same)
 
 pub returns-clause-expires : goal.returns-clause-expires
 returns-clause-expires c = λ s t same. (

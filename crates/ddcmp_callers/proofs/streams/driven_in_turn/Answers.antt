@@ -7,10 +7,14 @@ use Rattle.ddcmp_callers.proofs.streams.driven_in_turn.Goals as goal
 
 pub returns-clause-to_b : goal.returns-clause-to_b
 returns-clause-to_b c = λ first second drives f g h.
-    reaches_b first second (drives_at A drives) (drives_at B drives) (all_calls first second drives h) f g (all_driven first second drives h)
-    (streams_honest first second (all_calls first second drives h) f g (all_over first second drives h))
+    reaches_b first second (drives_at A drives) (drives_at B drives)
+    (all_calls first second drives h) f g (all_driven first second drives h)
+    (streams_honest first second (all_calls first second drives h) f g
+    (all_over first second drives h))
 
 pub returns-clause-to_a : goal.returns-clause-to_a
 returns-clause-to_a c = λ first second drives f g h.
-    reaches_a first second (drives_at A drives) (drives_at B drives) (all_calls first second drives h) f g (all_driven first second drives h)
-    (streams_honest first second (all_calls first second drives h) f g (all_over first second drives h))
+    reaches_a first second (drives_at A drives) (drives_at B drives)
+    (all_calls first second drives h) f g (all_driven first second drives h)
+    (streams_honest first second (all_calls first second drives h) f g
+    (all_over first second drives h))

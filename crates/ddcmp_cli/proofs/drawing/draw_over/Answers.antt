@@ -11,4 +11,6 @@ returns-clause-devices g c =
     c.draw.ensures.read_only c.draw.ensures.write
 
 pub returns-clause-carried : goal.returns-clause-carried
-returns-clause-carried g c = λ h. c.draw.ensures.carried (told-back c.draw.result c.in-Err.fault Carrier c.from.result c.in-Err.is c.from.ensures h)
+returns-clause-carried g c =
+    λ h. c.draw.ensures.carried
+    (told-back c.draw.result c.in-Err.fault Carrier c.from.result c.in-Err.is c.from.ensures h)

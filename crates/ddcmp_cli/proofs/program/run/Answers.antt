@@ -3,7 +3,8 @@ use Rattle.std.proofs.KnownBytes.{Keeps-refl}
 use Rattle.ddcmp_words.specs.declared.declined.Declined.TheVariants.{Memory}
 use borrow.Author.Rules.{rules}
 use Rattle.ddcmp_words.specs.Words.{IsAsked, IsName}
-use Rattle.ddcmp_cli.proofs.CommandLaws.{linked, not_declined, performed, stationed, tapped, reads_a_file, reads_no_file}
+use Rattle.ddcmp_cli.proofs.CommandLaws.{linked, not_declined, performed, stationed, tapped}
+use Rattle.ddcmp_cli.proofs.CommandLaws.{reads_a_file, reads_no_file}
 use Rattle.ddcmp_cli.proofs.program.run.Goals as goal
 
 pub returns-in-Ok : goal.returns-in-Ok

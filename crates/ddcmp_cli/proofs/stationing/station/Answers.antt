@@ -8,20 +8,30 @@ use Rattle.ddcmp_cli.proofs.stationing.station.Goals as goal
 
 pub returns-clause-stations : goal.returns-clause-stations
 returns-clause-stations g c =
-    connects (g.S.Connections.peers c.args.system.now) c.in-Some.role c.args.served.now c.in-Some-message_in.message.now _ _ _ (let is = c.in-Some.is in cc) (omega (arith, c.if-served.false)) c.in-Some-message_in.ensures.bytes (let ends = ap Faulted c.from.ensures ∙ sym (ap (ending_of serve_fault) c.in-Err.is) in inr (
+    connects (g.S.Connections.peers c.args.system.now)
+    c.in-Some.role c.args.served.now c.in-Some-message_in.message.now _ _ _
+    (let is = c.in-Some.is in cc) (omega (arith, c.if-served.false))
+    c.in-Some-message_in.ensures.bytes
+    (let ends = ap Faulted c.from.ensures ∙ sym (ap (ending_of serve_fault) c.in-Err.is) in
+    inr (
       c.in-Some-connection.ensures.opens,
       record {
         answer = c.serve.result;
         failed = g.W.Sink.broken c.serve.new.report;
         ends = ends;
         serves = λ made. (_, c.in-Some-connection.ensures.gives, c.serve.ensures.serves made);
-        kept = λ e. subst (λ r. Keeps (g.W.Sink.contents c.args.report.now) (g.W.Sink.contents r)) (sym (c.serve.ensures.memory (want-of c.serve.result (sym ends ∙ e))).3) (Keeps-refl _);
+        kept =
+            λ e. subst (λ r. Keeps (g.W.Sink.contents c.args.report.now) (g.W.Sink.contents r))
+            (sym (c.serve.ensures.memory (want-of c.serve.result (sym ends ∙ e))).3) (Keeps-refl _);
       },
     ))
 
 pub returns-in-Ok-clause-stations : goal.returns-in-Ok-clause-stations
 returns-in-Ok-clause-stations g c =
-    connects (g.S.Connections.peers c.args.system.now) c.in-Some.role c.args.served.now c.in-Some-message_in.message.now _ _ _ (let is = c.in-Some.is in cc) (omega (arith, c.if-served.false)) c.in-Some-message_in.ensures.bytes (inr (
+    connects (g.S.Connections.peers c.args.system.now)
+    c.in-Some.role c.args.served.now c.in-Some-message_in.message.now _ _ _
+    (let is = c.in-Some.is in cc) (omega (arith, c.if-served.false))
+    c.in-Some-message_in.ensures.bytes (inr (
       c.in-Some-connection.ensures.opens,
       record {
         answer = c.serve.result;

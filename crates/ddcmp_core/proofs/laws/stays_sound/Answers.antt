@@ -1,4 +1,7 @@
-use Rattle.ddcmp_core.proofs.Sound.{sound_new, sound_on, sound_next, sound_started, sound_in_maintenance, sound_halted, sound_accepted, sound_accepted_maintenance, sound_taken, sound_expired, sound_armed}
+use Rattle.ddcmp_core.proofs.Sound.{sound_new, sound_on, sound_next, sound_started}
+use Rattle.ddcmp_core.proofs.Sound.{sound_in_maintenance, sound_halted, sound_accepted}
+use Rattle.ddcmp_core.proofs.Sound.{sound_accepted_maintenance, sound_taken, sound_expired}
+use Rattle.ddcmp_core.proofs.Sound.{sound_armed}
 use Rattle.ddcmp_core.proofs.laws.stays_sound.Goals as goal
 
 pub returns-clause-new : goal.returns-clause-new

@@ -1,4 +1,6 @@
-use Rattle.ddcmp_core.proofs.TimedLaws.{timed_new, timed_on, timed_next, timed_started, timed_in_maintenance, timed_halted, timed_accepted, timed_taken, timed_expired, timed_armed}
+use Rattle.ddcmp_core.proofs.TimedLaws.{timed_new, timed_on, timed_next, timed_started}
+use Rattle.ddcmp_core.proofs.TimedLaws.{timed_in_maintenance, timed_halted, timed_accepted}
+use Rattle.ddcmp_core.proofs.TimedLaws.{timed_taken, timed_expired, timed_armed}
 use Rattle.ddcmp_core.proofs.laws.stays_timed.Goals as goal
 
 pub returns-clause-new : goal.returns-clause-new

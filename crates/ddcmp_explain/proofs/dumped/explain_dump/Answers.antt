@@ -1,10 +1,10 @@
-use Rattle.std.proofs.Common.{◌≡◌, ◌≢◌, ◌⊎◌, [], Some, Err, inl, inr, subst, sym, ◌∙◌}
-use Rattle.ddcmp_dump.specs.Dump.{DumpView, dump_begun}
+use Rattle.std.proofs.Common.{◌≢◌, [], subst, sym}
+use Rattle.ddcmp_dump.specs.Dump.{DumpView}
 use Rattle.ddcmp_io.specs.declared.device.Worst.TheVariants.{Fine}
 use Rattle.ddcmp_explain.specs.declared.form.Form.TheVariants.{Hex}
 use Rattle.ddcmp_explain.specs.Progress.{Progress}
-use Rattle.ddcmp_explain.proofs.DumpLaws.{SawDump, SawFrom, explains-dump, gave-most-dump}
-use Rattle.ddcmp_explain.proofs.DumpLaws.{no-memory, ok-dump, read-only-dump}
+use Rattle.ddcmp_explain.proofs.DumpLaws.{SawDump, SawFrom, explains-dump, no-memory, ok-dump}
+use Rattle.ddcmp_explain.proofs.DumpLaws.{read-only-dump}
 use Rattle.ddcmp_explain.proofs.dumped.explain_dump.Goals as goal
 use Rattle.ddcmp_explain.proofs.dumped.explain_dump.Goals.{After-drop-explainer}
 

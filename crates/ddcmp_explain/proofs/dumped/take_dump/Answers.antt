@@ -1,5 +1,5 @@
-use Rattle.std.proofs.Common.{◌≡◌, ◌++◌, [], ℕ, List, Err, Some, ap, refl, sym, subst, take}
-use Rattle.std.proofs.Common.{arith, ◌∙◌, length, length-append, length-drop, length-take-le}
+use Rattle.std.proofs.Common.{◌++◌, Err, ap, refl, sym, subst, take, arith, ◌∙◌, length-append}
+use Rattle.std.proofs.Common.{length-drop, length-take-le}
 use Rattle.std.proofs.lemmas.Bool.{false_from_ne_true}
 use Rattle.std.proofs.lemmas.Result.{err_from_is_err_and}
 use Rattle.std.proofs.KnownBytes.{Consumes-trans}
@@ -7,7 +7,6 @@ use Rattle.ddcmp_io.specs.Device.{worse}
 use Rattle.ddcmp_io.specs.declared.device.Got.TheVariants.{Bytes}
 use Rattle.ddcmp_dump.specs.Dump.{shown_from}
 use Rattle.ddcmp_explain.specs.Explains.{Tells}
-use Rattle.ddcmp_explain.specs.Progress.{Progress, Takes}
 use Rattle.ddcmp_explain.proofs.DumpLaws.{consumes-end, dump-more, length-shown, shown-after}
 use Rattle.ddcmp_explain.proofs.DumpLaws.{so-far-more, so-far-none}
 use Rattle.ddcmp_explain.proofs.dumped.take_dump.Goals as goal

@@ -14,9 +14,16 @@ returns-in-None c =
     let is : parsed t ≡ Ok h = search rules in
     let eight : length t ≡ 8 = omega arith in
     let all : take 8 t ≡ t = take_all 8 t (omega arith) in
-    let whole = control-whole h t (λ i. omega (arith, c.fits-front i)) (omega arith) (ap parsed all ∙ is) none in
+    let whole =
+    control-whole h t (λ i. omega (arith, c.fits-front i)) (omega arith) (ap parsed all ∙ is)
+    none in
     record {
-      row = λ lost. ap (by_verdict c.args.max (place_untold c.args.at lost t)) is ∙ ap (by_count c.args.max (place_untold c.args.at lost t) h) none;
+      row =
+          λ lost. ap (by_verdict c.args.max (place_untold c.args.at lost t)) is
+          ∙ ap (by_count c.args.max (place_untold c.args.at lost t) h) none;
       lent = whole.0;
-      wire = λ text ends. ends ∙ sym (take_all (frame_length h) t (omega (arith, frame_length-control h none))) ∙ whole.1;
+      wire =
+          λ text ends. ends
+          ∙ sym (take_all (frame_length h) t (omega (arith, frame_length-control h none)))
+          ∙ whole.1;
     }

@@ -11,5 +11,9 @@ loop-at-preserved g c =
     record {
       whole = c.in-Some.ensures.broken;
       within = omega (arith, taken.0, length-drop c.loop-at.at c.args.bytes.now);
-      written = subst (λ t. Appends (g.W.Sink.contents c.args.writer.now) (g.W.Sink.contents c.write.new.self) t) (sym (take-add c.loop-at.at c.in-Some.n c.args.bytes.now)) (Appends-trans _ _ _ _ _ c.loop-at.invariant.written taken.2);
+      written =
+          subst
+          (λ t. Appends (g.W.Sink.contents c.args.writer.now) (g.W.Sink.contents c.write.new.self)
+          t) (sym (take-add c.loop-at.at c.in-Some.n c.args.bytes.now))
+          (Appends-trans _ _ _ _ _ c.loop-at.invariant.written taken.2);
     }

@@ -6,7 +6,8 @@ abbrev pub invariant-loop-at : goal.invariant-loop-at
 invariant-loop-at g l = record {
   whole : g.W.Sink.broken l.writer ≡ false;
   within : l.at ≤ length l.bytes;
-  written : Appends (g.W.Sink.contents l.initial.writer) (g.W.Sink.contents l.writer) (take l.at l.bytes);
+  written : Appends (g.W.Sink.contents l.initial.writer) (g.W.Sink.contents l.writer)
+      (take l.at l.bytes);
 }
 
 abbrev pub decreases-loop-at : goal.decreases-loop-at

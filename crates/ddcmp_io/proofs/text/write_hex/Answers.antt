@@ -5,7 +5,8 @@ use Rattle.ddcmp_io.proofs.TextLaws.{sends-as, sends-nothing, hex-nothing, hex-m
 use Rattle.ddcmp_io.proofs.text.write_hex.Goals as goal
 
 pub loop-at-init : goal.loop-at-init
-loop-at-init g c = record { within = omega arith; sent = sends-as (sym hex-nothing) (sends-nothing _) }
+loop-at-init g c =
+    record { within = omega arith; sent = sends-as (sym hex-nothing) (sends-nothing _) }
 
 pub loop-at-preserved : goal.loop-at-preserved
 loop-at-preserved g c =
@@ -17,5 +18,7 @@ loop-at-preserved g c =
       within = omega (arith, c.min.ensures, c.loop-at-test.true);
       sent =
           sends-as (hex-more bytes i n)
-          (sends-then c.loop-at.invariant.sent (sends-as (ap (λ k. encode_lower (take k (drop i bytes))) length_is) c.write_chunk.ensures));
+          (sends-then c.loop-at.invariant.sent
+          (sends-as (ap (λ k. encode_lower (take k (drop i bytes))) length_is)
+          c.write_chunk.ensures));
     }

@@ -1,4 +1,5 @@
-use Rattle.ddcmp_laws.proofs.RecoveredLaws.{accepts_recovered, hands_over_recovered, accepts_first, hands_over_first}
+use Rattle.ddcmp_laws.proofs.RecoveredLaws.{accepts_recovered, hands_over_recovered, accepts_first}
+use Rattle.ddcmp_laws.proofs.RecoveredLaws.{hands_over_first}
 use Rattle.ddcmp_laws.proofs.starts.takes_messages_once_recovered.Goals as goal
 
 pub returns-clause-accepts : goal.returns-clause-accepts

@@ -1,4 +1,5 @@
-use Rattle.ddcmp_laws.proofs.StationLaws.{ack_unanswered, nak_unanswered, ack_is_sent_once, nak_is_sent_once, data_answer}
+use Rattle.ddcmp_laws.proofs.StationLaws.{ack_unanswered, nak_unanswered, ack_is_sent_once}
+use Rattle.ddcmp_laws.proofs.StationLaws.{nak_is_sent_once, data_answer}
 use Rattle.ddcmp_laws.proofs.station.answers_no_answer.Goals as goal
 
 pub returns-clause-ack : goal.returns-clause-ack

@@ -1,4 +1,5 @@
-use Rattle.ddcmp_laws.proofs.StationLaws.{asks_for_unread, asks_for_unkept, asks_for_missing, acknowledges_all}
+use Rattle.ddcmp_laws.proofs.StationLaws.{asks_for_unread, asks_for_unkept, asks_for_missing}
+use Rattle.ddcmp_laws.proofs.StationLaws.{acknowledges_all}
 use Rattle.ddcmp_laws.proofs.station.asks_at_once.Goals as goal
 
 pub returns-clause-fault : goal.returns-clause-fault

@@ -1,4 +1,5 @@
-use Rattle.ddcmp_laws.proofs.StationLaws.{startup_takes_next, startup_takes_no_other, startup_goes_on}
+use Rattle.ddcmp_laws.proofs.StationLaws.{startup_takes_next, startup_takes_no_other}
+use Rattle.ddcmp_laws.proofs.StationLaws.{startup_goes_on}
 use Rattle.ddcmp_laws.proofs.station.data_end_a_startup.Goals as goal
 
 pub returns-clause-next : goal.returns-clause-next

@@ -1,4 +1,5 @@
-use Rattle.ddcmp_laws.proofs.StationLaws.{maintenance_elsewhere, nothing_else_in_maintenance, maintenance_handed_up, maintenance_lost, maintenance_sent}
+use Rattle.ddcmp_laws.proofs.StationLaws.{maintenance_elsewhere, nothing_else_in_maintenance}
+use Rattle.ddcmp_laws.proofs.StationLaws.{maintenance_handed_up, maintenance_lost, maintenance_sent}
 use Rattle.ddcmp_laws.proofs.station.maintenance_stands_apart.Goals as goal
 
 pub returns-clause-elsewhere : goal.returns-clause-elsewhere

@@ -1,4 +1,5 @@
-use Rattle.ddcmp_laws.proofs.StationLaws.{takes_next, takes_no_other, takes_none_without_room, takes_nothing_else}
+use Rattle.ddcmp_laws.proofs.StationLaws.{takes_next, takes_no_other, takes_none_without_room}
+use Rattle.ddcmp_laws.proofs.StationLaws.{takes_nothing_else}
 use Rattle.ddcmp_laws.proofs.station.receives_in_step.Goals as goal
 
 pub returns-clause-next : goal.returns-clause-next

@@ -1,4 +1,6 @@
-use Rattle.ddcmp_laws.proofs.NumberLaws.{kept_under_answer, kept_when_sent, kept_once, kept_after_next, kept_after_accept, kept_after_take, kept_after_expire, kept_after_arm, kept_after_on}
+use Rattle.ddcmp_laws.proofs.NumberLaws.{kept_under_answer, kept_when_sent, kept_once}
+use Rattle.ddcmp_laws.proofs.NumberLaws.{kept_after_next, kept_after_accept, kept_after_take}
+use Rattle.ddcmp_laws.proofs.NumberLaws.{kept_after_expire, kept_after_arm, kept_after_on}
 use Rattle.ddcmp_laws.proofs.station.sends_under_the_number_answered.Goals as goal
 
 pub returns-clause-answered : goal.returns-clause-answered

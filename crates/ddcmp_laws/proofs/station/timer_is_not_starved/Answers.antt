@@ -1,4 +1,5 @@
-use Rattle.ddcmp_laws.proofs.StationLaws.{data_leave_the_timer, data_start_the_timer, ended, asks_at_expiry}
+use Rattle.ddcmp_laws.proofs.StationLaws.{data_leave_the_timer, data_start_the_timer, ended}
+use Rattle.ddcmp_laws.proofs.StationLaws.{asks_at_expiry}
 use Rattle.ddcmp_laws.proofs.CallLaws.{timer_stays_on}
 use Rattle.ddcmp_laws.proofs.station.timer_is_not_starved.Goals as goal
 

@@ -16,13 +16,31 @@ use Rattle.ddcmp_laws.proofs.ClearRuns.{begins, is_clear, stays_clear, stays_by}
 use Rattle.ddcmp_laws.proofs.story.clear_run_is_answered.Goals as goal
 
 pub returns-clause-clear : goal.returns-clause-clear
-unfolding low_bits bits add divisor_rest remainder number check_of xor six_bytes wire is_check_right parsed read_for read_rows is_data_right row read items good_frames_in on notice_of next counters_on counters_after_next after_items notices_of_items first_index place_from after_event reply_to run replies_to bytes_of begins is_clear stays_clear
+unfolding low_bits bits add divisor_rest remainder number check_of xor six_bytes wire is_check_right
+    parsed read_for read_rows is_data_right row read items good_frames_in on notice_of next
+    counters_on counters_after_next after_items notices_of_items first_index place_from after_event
+    reply_to run replies_to bytes_of begins is_clear stays_clear
 returns-clause-clear c = stays_by (map event_in clear_run) (new_pair usual usual) refl
 
 pub returns-clause-replies : goal.returns-clause-replies
-unfolding low_bits bits add divisor_rest remainder number check_of xor six_bytes wire is_check_right parsed read_for read_rows is_data_right row read items good_frames_in on notice_of next counters_on counters_after_next after_items notices_of_items first_index place_from after_event reply_to run replies_to
+unfolding low_bits bits add divisor_rest remainder number check_of xor six_bytes wire is_check_right
+    parsed read_for read_rows is_data_right row read items good_frames_in on notice_of next
+    counters_on counters_after_next after_items notices_of_items first_index place_from after_event
+    reply_to run replies_to
 returns-clause-replies c = refl
 
 pub returns-clause-ends : goal.returns-clause-ends
-unfolding low_bits bits add divisor_rest remainder number check_of xor six_bytes wire is_check_right parsed read_for read_rows is_data_right row read items good_frames_in on notice_of next counters_on counters_after_next after_items notices_of_items first_index place_from after_event reply_to run replies_to
-returns-clause-ends c = record { honest = refl; clean = refl; done = refl; at_a = refl; at_b = refl; counted_at_a = refl; counted_at_b = refl }
+unfolding low_bits bits add divisor_rest remainder number check_of xor six_bytes wire is_check_right
+    parsed read_for read_rows is_data_right row read items good_frames_in on notice_of next
+    counters_on counters_after_next after_items notices_of_items first_index place_from after_event
+    reply_to run replies_to
+returns-clause-ends c =
+    record {
+      honest = refl;
+      clean = refl;
+      done = refl;
+      at_a = refl;
+      at_b = refl;
+      counted_at_a = refl;
+      counted_at_b = refl;
+    }

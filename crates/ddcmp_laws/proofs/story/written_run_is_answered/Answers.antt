@@ -14,9 +14,24 @@ use Rattle.ddcmp_laws.specs.Story.{replies_to}
 use Rattle.ddcmp_laws.proofs.story.written_run_is_answered.Goals as goal
 
 pub returns-clause-replies : goal.returns-clause-replies
-unfolding low_bits bits add divisor_rest remainder number check_of xor six_bytes wire is_check_right parsed read_for read_rows is_data_right row read items good_frames_in on notice_of next counters_on counters_after_next after_items notices_of_items first_index place_from after_event reply_to run replies_to
+unfolding low_bits bits add divisor_rest remainder number check_of xor six_bytes wire is_check_right
+    parsed read_for read_rows is_data_right row read items good_frames_in on notice_of next
+    counters_on counters_after_next after_items notices_of_items first_index place_from after_event
+    reply_to run replies_to
 returns-clause-replies c = refl
 
 pub returns-clause-ends : goal.returns-clause-ends
-unfolding low_bits bits add divisor_rest remainder number check_of xor six_bytes wire is_check_right parsed read_for read_rows is_data_right row read items good_frames_in on notice_of next counters_on counters_after_next after_items notices_of_items first_index place_from after_event reply_to run replies_to
-returns-clause-ends c = record { honest = refl; clean = refl; done = refl; at_a = refl; at_b = refl; counted_at_a = refl; counted_at_b = refl }
+unfolding low_bits bits add divisor_rest remainder number check_of xor six_bytes wire is_check_right
+    parsed read_for read_rows is_data_right row read items good_frames_in on notice_of next
+    counters_on counters_after_next after_items notices_of_items first_index place_from after_event
+    reply_to run replies_to
+returns-clause-ends c =
+    record {
+      honest = refl;
+      clean = refl;
+      done = refl;
+      at_a = refl;
+      at_b = refl;
+      counted_at_a = refl;
+      counted_at_b = refl;
+    }

@@ -24,9 +24,20 @@ pair_of other _ = other
 pub returns-in-Err-clause-memory : goal.returns-in-Err-clause-memory
 unfolding done_of pair_of
 returns-in-Err-clause-memory c done pair e =
-    subst (λ p. (done < length c.args.events.now) × (p ≡ run (take done c.args.events.now) (new_pair c.args.first c.args.second)) × IsInOrder p) (ap (pair_of c.play-played.new.pair) e)
-    (subst (λ n. (n < length c.args.events.now) × (c.play-played.new.pair ≡ run (take n c.args.events.now) (new_pair c.args.first c.args.second)) × IsInOrder c.play-played.new.pair) (ap done_of e)
-    ((c.in-Err.ensures.memory _ refl).0, ((c.in-Err.ensures.memory _ refl).1 ∙ ap (run (take c.in-Err.done c.args.events.now)) c.in-Ok.ensures.made), c.is_run.ensures.order))
+    subst
+    (λ p. (done < length c.args.events.now)
+    × (p ≡ run (take done c.args.events.now) (new_pair c.args.first c.args.second))
+    × IsInOrder p) (ap (pair_of c.play-played.new.pair) e)
+    (subst
+    (λ n. (n < length c.args.events.now)
+    × (c.play-played.new.pair
+    ≡ run (take n c.args.events.now) (new_pair c.args.first c.args.second))
+    × IsInOrder c.play-played.new.pair) (ap done_of e) (
+      (c.in-Err.ensures.memory _ refl).0,
+      ((c.in-Err.ensures.memory _ refl).1
+          ∙ ap (run (take c.in-Err.done c.args.events.now)) c.in-Ok.ensures.made),
+      c.is_run.ensures.order,
+    ))
 
 -- what no answer but that of its kind is
 ok_or_err : {T E : Type 0} (x : T) (y : E) → ◌≡◌ {A = Result T E} (Ok x) (Err y) → ⊥
@@ -87,20 +98,22 @@ returns-in-Ok-played-clause-first_size c = λ refusal e. absurd
     (ok_or_err _ _ (c.in-Ok.ensures.first refusal e))
 
 pub returns-in-Ok-played-clause-second_size : goal.returns-in-Ok-played-clause-second_size
-returns-in-Ok-played-clause-second_size c = λ refusal none e. elim (c.in-Ok.ensures.second refusal none e) [
-  | inl second ↦ absurd (ok_or_err _ _ second)
-  | inr memory ↦ absurd (ok_or_err _ _ memory)
-]
+returns-in-Ok-played-clause-second_size c =
+    λ refusal none e. elim (c.in-Ok.ensures.second refusal none e) [
+      | inl second ↦ absurd (ok_or_err _ _ second)
+      | inr memory ↦ absurd (ok_or_err _ _ memory)
+    ]
 
 pub returns-in-Err-clause-first_size : goal.returns-in-Err-clause-first_size
 returns-in-Err-clause-first_size c = λ refusal e. absurd
     (ok_or_err _ _ (c.in-Ok.ensures.first refusal e))
 
 pub returns-in-Err-clause-second_size : goal.returns-in-Err-clause-second_size
-returns-in-Err-clause-second_size c = λ refusal none e. elim (c.in-Ok.ensures.second refusal none e) [
-  | inl second ↦ absurd (ok_or_err _ _ second)
-  | inr memory ↦ absurd (ok_or_err _ _ memory)
-]
+returns-in-Err-clause-second_size c =
+    λ refusal none e. elim (c.in-Ok.ensures.second refusal none e) [
+      | inl second ↦ absurd (ok_or_err _ _ second)
+      | inr memory ↦ absurd (ok_or_err _ _ memory)
+    ]
 
 pub returns-in-Err-First-clause-first_size : goal.returns-in-Err-First-clause-first_size
 returns-in-Err-First-clause-first_size c =

@@ -1,4 +1,5 @@
-use Rattle.ddcmp_proto.proofs.FeedLaws.{after_piece-limits, after_piece-none, notices_of_piece-none, after_piece-append, notices_of_piece-append}
+use Rattle.ddcmp_proto.proofs.FeedLaws.{after_piece-limits, after_piece-none, notices_of_piece-none}
+use Rattle.ddcmp_proto.proofs.FeedLaws.{after_piece-append, notices_of_piece-append}
 use Rattle.ddcmp_proto.proofs.laws.pieces.Goals as goal
 
 pub returns : goal.returns

@@ -9,8 +9,13 @@ returns-clause-written c =
     let out = c.args.out.now in
     let frame = wire c.args.header.now c.args.message.now in
     let n = c.write_frame.result in
-    let f : c.copy_from_slice.new.self ≡ replicate syn 150 = c.copy_from_slice.ensures.after ∙ take-replicate syn 16 150 c.requires.syn in
+    let f : c.copy_from_slice.new.self ≡ replicate syn 150 =
+    c.copy_from_slice.ensures.after ∙ take-replicate syn 16 150 c.requires.syn in
     let l = ap length f ∙ length-replicate syn 150 in
     let w = c.write_frame.ensures.written in
-    let rest = ap (drop n) c.split_at_mut-fill.ensures.back ∙ drop-drop n syn out ∙ ap (λ k. drop (k + n) out) (sym l) in
-    ap (λ x. x ++ c.write_frame.new.out) f ∙ ap (λ x. replicate syn 150 ++ x) (w ∙ ap (λ x. frame ++ x) rest) ∙ sym (append_assoc (replicate syn 150) frame _)
+    let rest =
+    ap (drop n) c.split_at_mut-fill.ensures.back ∙ drop-drop n syn out
+    ∙ ap (λ k. drop (k + n) out) (sym l) in
+    ap (λ x. x ++ c.write_frame.new.out) f
+    ∙ ap (λ x. replicate syn 150 ++ x) (w ∙ ap (λ x. frame ++ x) rest)
+    ∙ sym (append_assoc (replicate syn 150) frame _)

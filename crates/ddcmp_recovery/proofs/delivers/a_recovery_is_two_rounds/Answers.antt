@@ -3,4 +3,12 @@ use Rattle.ddcmp_recovery.proofs.delivers.a_recovery_is_two_rounds.Goals as goal
 
 pub returns : goal.returns
 returns c = λ first second events p f g e a b r.
-    two-rounds p (record { first = first; second = second; first_made = f; second_made = g; events = events; leads = e }) a b r
+    two-rounds p
+    (record {
+      first = first;
+      second = second;
+      first_made = f;
+      second_made = g;
+      events = events;
+      leads = e;
+    }) a b r

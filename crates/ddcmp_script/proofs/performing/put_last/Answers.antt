@@ -5,7 +5,8 @@ use Rattle.ddcmp_script.specs.Script.{frames_after}
 use Rattle.ddcmp_script.proofs.performing.put_last.Goals as goal
 
 -- an answer that no frame was written leaves the frames
-frames-stay : (r : Reply) → ((bytes : List ℕ) → r ≡ reply.Wrote bytes → ⊥) → (frames : List (List ℕ)) → frames_after r frames ≡ frames
+frames-stay : (r : Reply) → ((bytes : List ℕ) → r ≡ reply.Wrote bytes → ⊥)
+    → (frames : List (List ℕ)) → frames_after r frames ≡ frames
 frames-stay (reply.Wrote bytes) n frames = absurd (n bytes refl)
 frames-stay (reply.Started dropped) n frames = refl
 frames-stay (reply.StartRefused refusal) n frames = refl

@@ -16,7 +16,8 @@ read-only : (g : _) (c : After-drop-player-3 g) → c.take_all-done.result ≡ E
     ⊎ GaveMost (g.R.Source.left c.args.reader.now) (g.R.Source.left c.take_all-done.new.reader)
 read-only g c e = elim (c.take_all-done.ensures.read_only e) [
   | inl worse ↦ inl worse
-  | inr most ↦ inr (gave-most c.take_all-done.new.self.seen _ _ c.take_all-done.ensures.consumed most)
+  | inr most ↦ inr
+      (gave-most c.take_all-done.new.self.seen _ _ c.take_all-done.ensures.consumed most)
 ]
 
 begun : (g : _) (c : After-drop-player-3 g) (input : List ℕ) → HasDone input input

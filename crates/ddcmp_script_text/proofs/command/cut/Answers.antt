@@ -4,7 +4,10 @@ use Rattle.ddcmp_script_text.proofs.command.cut.Goals as goal
 
 pub returns-then-line-at-eq32 : goal.returns-then-line-at-eq32
 returns-then-line-at-eq32 c =
-    cut-found 32 c.loop-at.at c.args.line.now c.loop-at-test.true c.if-line-at-eq32.true c.loop-at.invariant
+    cut-found 32 c.loop-at.at c.args.line.now c.loop-at-test.true c.if-line-at-eq32.true
+    c.loop-at.invariant
 
 pub returns : goal.returns
-returns c = cut-none 32 c.loop-at.at c.args.line.now (omega (arith, c.loop-at-test.false, c.loop-at.auto.at-end)) c.loop-at.invariant
+returns c =
+    cut-none 32 c.loop-at.at c.args.line.now
+    (omega (arith, c.loop-at-test.false, c.loop-at.auto.at-end)) c.loop-at.invariant

@@ -6,4 +6,6 @@ use Rattle.ddcmp_script_text.proofs.reply_text.write_counts.Given as goal
 
 abbrev pub invariant-loop-exchanges : goal.invariant-loop-exchanges
 invariant-loop-exchanges g l =
-    HandsOver (output_of g.W.Sink.broken g.W.Sink.contents l.initial.writer l.initial.page) (output_of g.W.Sink.broken g.W.Sink.contents l.writer l.page) (flat_map count_text (take l.exchanges-index l.counts))
+    HandsOver (output_of g.W.Sink.broken g.W.Sink.contents l.initial.writer l.initial.page)
+    (output_of g.W.Sink.broken g.W.Sink.contents l.writer l.page)
+    (flat_map count_text (take l.exchanges-index l.counts))

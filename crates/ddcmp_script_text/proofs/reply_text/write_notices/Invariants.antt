@@ -6,4 +6,6 @@ use Rattle.ddcmp_script_text.proofs.reply_text.write_notices.Given as goal
 
 abbrev pub invariant-loop-notice : goal.invariant-loop-notice
 invariant-loop-notice g l =
-    HandsOver (output_of g.W.Sink.broken g.W.Sink.contents l.initial.writer l.initial.page) (output_of g.W.Sink.broken g.W.Sink.contents l.writer l.page) (flat_map (notice_line l.who) (take l.notice-index l.notices))
+    HandsOver (output_of g.W.Sink.broken g.W.Sink.contents l.initial.writer l.initial.page)
+    (output_of g.W.Sink.broken g.W.Sink.contents l.writer l.page)
+    (flat_map (notice_line l.who) (take l.notice-index l.notices))

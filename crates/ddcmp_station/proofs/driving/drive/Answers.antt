@@ -31,14 +31,20 @@ loop-done-preserved g c =
       offset = omega (arith, t.offset, t.read, i.offset);
       read = omega (arith, c.in-Ok-turn.ensures.few.0, i.read);
       written = omega (arith, c.in-Ok-turn.ensures.few.1, i.written);
-      taken = one-more g.U.User.becomes c.args.user.now c.loop-done.user c.turn.new.user c.args.timer_ms c.loop-done._done c.args.station.now c.loop-done.station c.turn.new.station c.loop-done.tally c.turn.new.tally _ _ _ _ _ _ _ _ _ _ _ _ _ _ i.taken t;
+      taken =
+          one-more g.U.User.becomes c.args.user.now c.loop-done.user c.turn.new.user c.args.timer_ms
+          c.loop-done._done c.args.station.now c.loop-done.station c.turn.new.station
+          c.loop-done.tally c.turn.new.tally _ _ _ _ _ _ _ _ _ _ _ _ _ _ i.taken t;
     }
 
 pub returns-in-Err-clause-drives : goal.returns-in-Err-clause-drives
 returns-in-Err-clause-drives g c =
     let i = c.loop-done.invariant in
     ends-so c.args.timer_ms c.args.turns _ c.halt.new.self _ _ c.in-Err.fault
-    (broke g.U.User.becomes c.args.user.now c.loop-done.user c.turn.new.user c.args.timer_ms c.loop-done._done c.args.turns c.args.station.now c.loop-done.station c.turn.new.station c.halt.new.self c.loop-done.tally _ _ _ _ _ _ _ _ _ _ _ _ _ _ c.in-Err.fault i.taken c.loop-done-test.true c.in-Err.ensures.takes c.halt.ensures)
+    (broke g.U.User.becomes c.args.user.now c.loop-done.user c.turn.new.user c.args.timer_ms
+    c.loop-done._done c.args.turns c.args.station.now c.loop-done.station c.turn.new.station
+    c.halt.new.self c.loop-done.tally _ _ _ _ _ _ _ _ _ _ _ _ _ _ c.in-Err.fault i.taken
+    c.loop-done-test.true c.in-Err.ensures.takes c.halt.ensures)
 
 pub returns-in_default-clause-drives : goal.returns-in_default-clause-drives
 returns-in_default-clause-drives g c = search rules

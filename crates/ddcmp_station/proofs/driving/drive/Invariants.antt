@@ -16,5 +16,6 @@ invariant-loop-done g l = record {
   written : l.tally.written ≤ 16409 * l._done;
   taken : TurnsSoFar l.timer_ms l._done l.initial.station l.station l.tally (devices_of
       g.R.Source.left g.R.Source.state g.R.Source.answers g.W.Sink.contents g.C.Clock.told
-      l.initial.reader l.reader l.initial.writer l.writer l.initial.clock l.clock) (Calls g.U.User.becomes l.initial.user l.user);
+      l.initial.reader l.reader l.initial.writer l.writer l.initial.clock l.clock)
+      (Calls g.U.User.becomes l.initial.user l.user);
 }

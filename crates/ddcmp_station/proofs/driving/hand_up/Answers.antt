@@ -17,5 +17,8 @@ loop-length-preserved g c =
     record {
       room = rw t.state (omega (arith, i.room, c.take.auto.out));
       rest = rw t.state i.rest;
-      seen = rw t.state (hands-one g.U.User.becomes _ _ _ c.loop-length.station.core.station.inbox _ c.in-Some.length _ _ i.seen (sym t.length ∙ c.in-Some.is) t.out c.mail.ensures);
+      seen =
+          rw t.state
+          (hands-one g.U.User.becomes _ _ _ c.loop-length.station.core.station.inbox _
+          c.in-Some.length _ _ i.seen (sym t.length ∙ c.in-Some.is) t.out c.mail.ensures);
     }

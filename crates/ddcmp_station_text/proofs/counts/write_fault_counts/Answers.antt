@@ -3,4 +3,7 @@ use Rattle.ddcmp_station_text.proofs.counts.write_fault_counts.Goals as goal
 
 pub returns : goal.returns
 returns g c =
-    sends-then (sends-then (sends-then (sends-then c.write_counter.ensures c.write_counter-2.ensures) c.write_counter-3.ensures) c.write_counter-4.ensures) c.write_counter-5.ensures
+    sends-then
+    (sends-then
+    (sends-then (sends-then c.write_counter.ensures c.write_counter-2.ensures)
+    c.write_counter-3.ensures) c.write_counter-4.ensures) c.write_counter-5.ensures

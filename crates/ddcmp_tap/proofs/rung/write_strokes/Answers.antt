@@ -5,5 +5,10 @@ use Rattle.ddcmp_tap.proofs.rung.write_strokes.Goals as goal
 
 pub returns : goal.returns
 returns g c =
-    let cut : take c.args.count (replicate 71 c.args.stroke) ≡ replicate c.args.count c.args.stroke = take-replicate _ _ _ c.requires in
-    subst (λ t. HandsOver (output_of g.W.Sink.broken g.W.Sink.contents c.args.writer.now c.args.page.now) (output_of g.W.Sink.broken g.W.Sink.contents c.write.new.writer c.write.new.self) t) cut c.write.ensures.sends
+    let cut : take c.args.count (replicate 71 c.args.stroke)
+    ≡ replicate c.args.count c.args.stroke = take-replicate _ _ _ c.requires in
+    subst
+    (λ t. HandsOver
+    (output_of g.W.Sink.broken g.W.Sink.contents c.args.writer.now c.args.page.now)
+    (output_of g.W.Sink.broken g.W.Sink.contents c.write.new.writer c.write.new.self) t)
+    cut c.write.ensures.sends

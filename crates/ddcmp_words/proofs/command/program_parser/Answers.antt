@@ -3,7 +3,8 @@ use Rattle.ddcmp_words.proofs.command.program_parser.Goals as goal
 
 pub returns : goal.returns
 returns c =
-    let start = begun _ _ _ c.new.ensures c.program_command.ensures.app c.program_command.ensures.local in
+    let start =
+    begun _ _ _ c.new.ensures c.program_command.ensures.app c.program_command.ensures.local in
     let one = c.subcommand.ensures _ _ start c.explain_parser.ensures in
     let two = c.subcommand-2.ensures _ _ one c.script_parser.ensures in
     let three = c.subcommand-3.ensures _ _ two c.script_parser-2.ensures in

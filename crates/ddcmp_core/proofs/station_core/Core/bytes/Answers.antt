@@ -12,5 +12,9 @@ overflow_add-result g c =
 
 pub returns-clause-within : goal.returns-clause-within
 returns-clause-within g c =
-    let two = two_within _ _ c.self.inside.sender.longest c.self.inside.inbox.longest _ _ (omega arith) c.self.invariant.1.stored c.self.invariant.2.stored in
-    subst (λ v. c.bytes.result + c.bytes-2.result ≤ (v.limits.window + v.limits.room) * v.limits.longest) c.self.view_is (omega (arith, two))
+    let two =
+    two_within _ _ c.self.inside.sender.longest c.self.inside.inbox.longest _ _ (omega arith)
+    c.self.invariant.1.stored c.self.invariant.2.stored in
+    subst
+    (λ v. c.bytes.result + c.bytes-2.result
+    ≤ (v.limits.window + v.limits.room) * v.limits.longest) c.self.view_is (omega (arith, two))

@@ -1,4 +1,4 @@
-use Rattle.std.proofs.Common.{[], ◌∷◌, ◌++◌, ap, refl, subst, sym, ◌∙◌, arith, List, ℕ}
+use Rattle.std.proofs.Common.{[], ◌∷◌, ◌++◌, ap, refl, subst, sym, ◌∙◌}
 use Rattle.ddcmp_frame.specs.Reader.{StandsFor, items_given}
 use Rattle.ddcmp_frame.specs.Reading.{items, open_at_end}
 use Rattle.ddcmp_explain.specs.Heads.{Heads}

@@ -13,8 +13,17 @@ returns-then-used-left-clause-takes c =
     let lu = length-take-le used c.args.piece.now within in
     let past : skipped_in s.phase ≡ c.args.skipped = ap skipped_in c.requires.phase in
     let to_come : left_in s.phase ≡ c.args.left = ap left_in c.requires.phase in
-    takes-nothing (view_of s) _ c.args.piece.now used within (omega arith) refl refl (ap (λ n. take n (drop 8 s.buffer.items)) c.requires.ready.lent) (λ text.
-    passes (view_of s) _ text (take used c.args.piece.now) (omega arith) (record { max = refl; counted = omega arith; lost = refl; bytes = refl; skipped = omega arith; left = omega arith }))
+    takes-nothing (view_of s) _ c.args.piece.now used within (omega arith) refl refl
+    (ap (λ n. take n (drop 8 s.buffer.items)) c.requires.ready.lent) (λ text.
+    passes (view_of s) _ text (take used c.args.piece.now) (omega arith)
+    (record {
+      max = refl;
+      counted = omega arith;
+      lost = refl;
+      bytes = refl;
+      skipped = omega arith;
+      left = omega arith;
+    }))
 
 pub returns-clause-takes : goal.returns-clause-takes
 returns-clause-takes c =
@@ -23,7 +32,18 @@ returns-clause-takes c =
     let within : used ≤ length c.args.piece.now = omega arith in
     let lu = length-take-le used c.args.piece.now within in
     let to_come : left_in s.phase ≡ c.args.left = ap left_in c.requires.phase in
-    let fits : FitsPhase s.max (TooLong c.args.skipped c.args.left) s.buffer.items = subst (λ p. FitsPhase s.max p s.buffer.items) c.requires.phase c.requires.ready.sound.fits in
+    let fits : FitsPhase s.max (TooLong c.args.skipped c.args.left) s.buffer.items =
+    subst (λ p. FitsPhase s.max p s.buffer.items)
+    c.requires.phase c.requires.ready.sound.fits in
     let some = fits.0 in
-    takes-nothing (view_of s) _ c.args.piece.now used within (omega arith) refl refl (ap (λ n. take n (drop 8 s.buffer.items)) c.requires.ready.lent) (λ text.
-    passes-all (view_of s) _ text (take used c.args.piece.now) (omega arith) (omega arith) (record { max = refl; counted = omega arith; lost = refl; bytes = refl; skipped = refl; left = refl }))
+    takes-nothing (view_of s) _ c.args.piece.now used within (omega arith) refl refl
+    (ap (λ n. take n (drop 8 s.buffer.items)) c.requires.ready.lent) (λ text.
+    passes-all (view_of s) _ text (take used c.args.piece.now) (omega arith) (omega arith)
+    (record {
+      max = refl;
+      counted = omega arith;
+      lost = refl;
+      bytes = refl;
+      skipped = refl;
+      left = refl;
+    }))

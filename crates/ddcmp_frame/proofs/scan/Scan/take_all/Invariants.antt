@@ -1,6 +1,6 @@
 use Rattle.std.proofs.Common.{◌≡◌, ◌-◌, length}
 use Rattle.ddcmp_frame.specs.Scan.{IsSoundScan, view_of}
-use Rattle.ddcmp_frame.proofs.ScanLaws.{TakesPart}
+use Rattle.ddcmp_frame.proofs.PartLaws.{TakesPart}
 use Rattle.ddcmp_frame.proofs.scan.Scan.take_all.Given as goal
 
 abbrev pub invariant-loop-used : goal.invariant-loop-used

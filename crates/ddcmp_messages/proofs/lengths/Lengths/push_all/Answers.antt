@@ -1,4 +1,4 @@
-use Rattle.std.proofs.Common.{◌≡◌, ◌+◌, ◌-◌, ◌≤◌, ◌∙◌, arith, sym, drop, length, length-drop}
+use Rattle.std.proofs.Common.{◌-◌, ◌∙◌, arith, sym, drop, length, length-drop}
 use Rattle.std.proofs.lemmas.List.{length-take}
 use Rattle.ddcmp_messages.proofs.LengthsLaws.{nothing_yet, no_entry, part_state, part_entries}
 use Rattle.ddcmp_messages.proofs.LengthsLaws.{none_before}

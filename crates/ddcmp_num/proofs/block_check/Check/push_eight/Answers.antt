@@ -17,4 +17,5 @@ returns c = λ text h.
       c.to_le_bytes.ensures,
       high,
     )
-    (push_by_tables text c.args.bytes.now c.self.inside.register (omega arith) (omega arith) (search rules) (c.self.view_is ∙ h))
+    (push_by_tables text c.args.bytes.now c.self.inside.register (omega arith) (omega arith)
+    (search rules) (c.self.view_is ∙ h))

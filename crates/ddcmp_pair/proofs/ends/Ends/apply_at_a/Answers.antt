@@ -6,5 +6,6 @@ use Rattle.ddcmp_pair.proofs.ends.Ends.apply_at_a.Goals as goal
 pub invariant_of-self : goal.invariant_of-self
 invariant_of-self c = (
   subst (λ t. IsPlaced c.apply.new.self t) c.sent.ensures c.apply.ensures.placed,
-  placed-after c.apply.result c.args.event.now c.self.inside.b c.self.inside.a c.apply.new.self c.apply.ensures.state c.apply.ensures.memory c.self.invariant.1,
+  placed-after c.apply.result c.args.event.now c.self.inside.b c.self.inside.a c.apply.new.self
+      c.apply.ensures.state c.apply.ensures.memory c.self.invariant.1,
 )

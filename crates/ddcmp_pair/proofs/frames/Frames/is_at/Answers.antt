@@ -19,6 +19,8 @@ pub returns : goal.returns
 returns c = λ d.
     let view = ap (λ v. length v.all) c.self.view_is in
     let count = zip-length c.self.inside.headers.items c.self.inside.data.all c.self.invariant in
-    let pair = zip-at c.self.inside.headers.items c.self.inside.data.all c.args.i d c.index.result.now [] c.self.invariant (omega (arith, view, count)) in
+    let pair =
+    zip-at c.self.inside.headers.items c.self.inside.data.all c.args.i d c.index.result.now []
+    c.self.invariant (omega (arith, view, count)) in
     let sent = sym (ap (λ v. get_or v.all c.args.i d) c.self.view_is) ∙ pair in
     rw (sent, ← c.at.ensures, ← c.index.ensures) c.is_same.ensures

@@ -22,8 +22,11 @@ slice_bounds-result-count c =
     let inside = c.self.inside in
     let view = ap (λ v. length v.all) c.self.view_is in
     let count = cut-length 0 inside.ends.items inside.bytes.items in
-    let begins = c.begin_of-from.ensures ∙ ap (λ ends. get_or (0 ∷ ends) c.args.i 0) c.deref.ensures.value in
-    let order = in-order 0 inside.ends.items (length inside.bytes.items) c.args.i c.index.result.now c.self.invariant (omega (arith, view, count)) in
+    let begins =
+    c.begin_of-from.ensures ∙ ap (λ ends. get_or (0 ∷ ends) c.args.i 0) c.deref.ensures.value in
+    let order =
+    in-order 0 inside.ends.items (length inside.bytes.items)
+    c.args.i c.index.result.now c.self.invariant (omega (arith, view, count)) in
     omega (arith, begins, order.0, c.index.ensures)
 
 pub slice_bounds-result-start : goal.slice_bounds-result-start
@@ -31,8 +34,11 @@ slice_bounds-result-start c =
     let inside = c.self.inside in
     let view = ap (λ v. length v.all) c.self.view_is in
     let count = cut-length 0 inside.ends.items inside.bytes.items in
-    let begins = c.begin_of-from.ensures ∙ ap (λ ends. get_or (0 ∷ ends) c.args.i 0) c.deref.ensures.value in
-    let order = in-order 0 inside.ends.items (length inside.bytes.items) c.args.i c.index.result.now c.self.invariant (omega (arith, view, count)) in
+    let begins =
+    c.begin_of-from.ensures ∙ ap (λ ends. get_or (0 ∷ ends) c.args.i 0) c.deref.ensures.value in
+    let order =
+    in-order 0 inside.ends.items (length inside.bytes.items)
+    c.args.i c.index.result.now c.self.invariant (omega (arith, view, count)) in
     let bytes = ap length c.deref-2.ensures.value in
     omega (arith, begins, order.0, order.1, c.index.ensures, bytes)
 
@@ -41,8 +47,11 @@ slice_bounds-result-end c =
     let inside = c.self.inside in
     let view = ap (λ v. length v.all) c.self.view_is in
     let count = cut-length 0 inside.ends.items inside.bytes.items in
-    let begins = c.begin_of-from.ensures ∙ ap (λ ends. get_or (0 ∷ ends) c.args.i 0) c.deref.ensures.value in
-    let order = in-order 0 inside.ends.items (length inside.bytes.items) c.args.i c.index.result.now c.self.invariant (omega (arith, view, count)) in
+    let begins =
+    c.begin_of-from.ensures ∙ ap (λ ends. get_or (0 ∷ ends) c.args.i 0) c.deref.ensures.value in
+    let order =
+    in-order 0 inside.ends.items (length inside.bytes.items)
+    c.args.i c.index.result.now c.self.invariant (omega (arith, view, count)) in
     let bytes = ap length c.deref-2.ensures.value in
     omega (arith, begins, order.0, order.1, c.index.ensures, bytes)
 
@@ -51,8 +60,13 @@ returns c =
     let inside = c.self.inside in
     let view = ap (λ v. length v.all) c.self.view_is in
     let count = cut-length 0 inside.ends.items inside.bytes.items in
-    let begins = c.begin_of-from.ensures ∙ ap (λ ends. get_or (0 ∷ ends) c.args.i 0) c.deref.ensures.value in
-    let piece = cut-at 0 inside.ends.items inside.bytes.items c.args.i c.index.result.now [] (omega (arith, view, count)) in
+    let begins =
+    c.begin_of-from.ensures ∙ ap (λ ends. get_or (0 ∷ ends) c.args.i 0) c.deref.ensures.value in
+    let piece =
+    cut-at 0 inside.ends.items inside.bytes.items c.args.i c.index.result.now []
+    (omega (arith, view, count)) in
     rw (c.deref-2.ensures.value, begins)
-    (ap (λ n. take (n - get_or (0 ∷ inside.ends.items) c.args.i 0) (drop (get_or (0 ∷ inside.ends.items) c.args.i 0) inside.bytes.items)) c.index.ensures
+    (ap
+    (λ n. take (n - get_or (0 ∷ inside.ends.items) c.args.i 0)
+    (drop (get_or (0 ∷ inside.ends.items) c.args.i 0) inside.bytes.items)) c.index.ensures
     ∙ sym piece ∙ ap (λ v. get_or v.all c.args.i []) c.self.view_is)

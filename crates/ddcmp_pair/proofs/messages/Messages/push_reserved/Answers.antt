@@ -7,19 +7,23 @@ invariant_of-self c =
     let bytes = c.self.inside.bytes.items in
     let ends = c.self.inside.ends.items in
     let longer = ap length c.append.ensures.items ∙ length-append bytes c.args.message.now in
-    let counted : c.len.result ≡ length bytes + length c.args.message.now = (let count = c.len.ensures in omega (arith, count, longer)) in
+    let counted : c.len.result ≡ length bytes + length c.args.message.now =
+    (let count = c.len.ensures in omega (arith, count, longer)) in
     let pushed = c.push_reserved.ensures.items ∙ ap (λ n. ends ++ n ∷ []) counted in
-    rw (pushed, longer) (ends-more 0 ends (length bytes) (length c.args.message.now) c.self.invariant)
+    rw (pushed, longer)
+    (ends-more 0 ends (length bytes) (length c.args.message.now) c.self.invariant)
 
 pub returns-clause-all : goal.returns-clause-all
 returns-clause-all c =
     let bytes = c.self.inside.bytes.items in
     let ends = c.self.inside.ends.items in
     let longer = ap length c.append.ensures.items ∙ length-append bytes c.args.message.now in
-    let counted : c.len.result ≡ length bytes + length c.args.message.now = (let count = c.len.ensures in omega (arith, count, longer)) in
+    let counted : c.len.result ≡ length bytes + length c.args.message.now =
+    (let count = c.len.ensures in omega (arith, count, longer)) in
     let pushed = c.push_reserved.ensures.items ∙ ap (λ n. ends ++ n ∷ []) counted in
     rw (pushed, c.append.ensures.items)
-    (cut-more 0 ends bytes c.args.message.now c.self.invariant ∙ ap (λ v. v.all ++ c.args.message.now ∷ []) c.self.view_is)
+    (cut-more 0 ends bytes c.args.message.now c.self.invariant
+    ∙ ap (λ v. v.all ++ c.args.message.now ∷ []) c.self.view_is)
 
 pub returns-clause-few : goal.returns-clause-few
 returns-clause-few c =

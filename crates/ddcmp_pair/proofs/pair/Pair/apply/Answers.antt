@@ -6,8 +6,11 @@ use Rattle.ddcmp_pair.proofs.pair.Pair.apply.Goals as goal
 
 pub returns-clause-limits : goal.returns-clause-limits
 returns-clause-limits c = λ end.
-    step-limits c.apply.result c.args.event.now c.self.inside.ends c.apply.new.self end c.apply.ensures.state c.apply.ensures.memory
+    step-limits c.apply.result c.args.event.now c.self.inside.ends c.apply.new.self end
+    c.apply.ensures.state c.apply.ensures.memory
     ∙ ap (λ t. (at end t).core.limits) c.self.view_is
 
 pub invariant_of-self : goal.invariant_of-self
-invariant_of-self c = stepped c.apply.result c.args.event.now c.self.inside.ends c.apply.new.self c.apply.ensures.state c.apply.ensures.memory c.self.invariant
+invariant_of-self c =
+    stepped c.apply.result c.args.event.now c.self.inside.ends c.apply.new.self
+    c.apply.ensures.state c.apply.ensures.memory c.self.invariant

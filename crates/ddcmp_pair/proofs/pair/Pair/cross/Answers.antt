@@ -4,19 +4,28 @@ use Rattle.ddcmp_run.specs.declared.event.End.{End}
 use Rattle.ddcmp_run.specs.declared.event.Event.TheVariants as event
 use Rattle.ddcmp_run.specs.Run.{after_event, asks_memory, run}
 use Rattle.ddcmp_run.specs.Settle.{carried, crossing, mail_events, other, WantsMemory}
-use Rattle.ddcmp_run.proofs.Runs.{on-err, polled-some, polled-none, crossing-writes, crossing-idles, run-append, run-one, run-carried, crossing-polls, wanted-next, wanted-second, wanted-later}
+use Rattle.ddcmp_run.proofs.Runs.{on-err, polled-some, polled-none, crossing-writes, crossing-idles}
+use Rattle.ddcmp_run.proofs.Runs.{run-append, run-one, run-carried, crossing-polls, wanted-next}
+use Rattle.ddcmp_run.proofs.Runs.{wanted-second, wanted-later}
 use Rattle.ddcmp_pair.proofs.pair.Pair.cross.Goals as goal
 
 pub returns-in_err-bytes-clause-memory : goal.returns-in_err-bytes-clause-memory
 returns-in_err-bytes-clause-memory c =
     let polls = crossing-polls c.args.from c.args.self.now in
-    on-err _ (wanted-next (event.Poll c.args.from) polls.0 _ c.args.self.now c.step.new.self polls.1 c.in_err-bytes.ensures.memory c.in_err-bytes.ensures.asks)
+    on-err _
+    (wanted-next (event.Poll c.args.from)
+    polls.0 _ c.args.self.now c.step.new.self polls.1 c.in_err-bytes.ensures.memory
+    c.in_err-bytes.ensures.asks)
 
 pub returns-in_default : goal.returns-in_default
 returns-in_default c =
-    let none = polled-none c.args.from c.args.self.now (λ bytes e. c.in_default.not-Wrote bytes (c.in_ok-bytes.ensures.reply ∙ e)) in
+    let none =
+    polled-none c.args.from c.args.self.now
+    (λ bytes e. c.in_default.not-Wrote bytes (c.in_ok-bytes.ensures.reply ∙ e)) in
     record {
-      state = λ ok. c.in_ok-bytes.ensures.state refl ∙ sym (run-one (event.Poll c.args.from) c.args.self.now)
+      state =
+          λ ok. c.in_ok-bytes.ensures.state refl
+          ∙ sym (run-one (event.Poll c.args.from) c.args.self.now)
           ∙ ap (λ t. run t c.args.self.now) (sym (crossing-idles c.args.from c.args.self.now none));
       wrote = sym (ap is_some none);
       memory = tt;
@@ -28,9 +37,15 @@ returns-in_err-_notices-clause-memory c =
     let from = c.args.from in
     let bytes = c.in-Wrote.bytes in
     let some = polled-some from p bytes (sym c.in_ok-bytes.ensures.reply ∙ c.in-Wrote.is) in
-    let asks = subst (λ (e : End). asks_memory (event.Arrive e bytes) c.step.new.self ≡ false → false ≡ true) c.other-to.ensures c.in_err-_notices.ensures.asks in
-    on-err _ (wanted-second (event.Poll from) (event.Arrive (other from) bytes) _ (crossing from p) p c.step.new.self c.step-2.new.self
-    (sym (crossing-writes from p bytes some)) (c.in_ok-bytes.ensures.state refl) c.in_err-_notices.ensures.memory asks)
+    let asks =
+    subst
+    (λ (e : End). asks_memory (event.Arrive e bytes) c.step.new.self ≡ false → false ≡ true)
+    c.other-to.ensures c.in_err-_notices.ensures.asks in
+    on-err _
+    (wanted-second (event.Poll from) (event.Arrive (other from) bytes) _ (crossing from p)
+    p c.step.new.self c.step-2.new.self
+    (sym (crossing-writes from p bytes some)) (c.in_ok-bytes.ensures.state refl)
+    c.in_err-_notices.ensures.memory asks)
 
 pub returns-in_err-take_mail-clause-memory : goal.returns-in_err-take_mail-clause-memory
 returns-in_err-take_mail-clause-memory c =
@@ -38,11 +53,22 @@ returns-in_err-take_mail-clause-memory c =
     let from = c.args.from in
     let bytes = c.in-Wrote.bytes in
     let some = polled-some from p bytes (sym c.in_ok-bytes.ensures.reply ∙ c.in-Wrote.is) in
-    let arrived = c.in_ok-_notices.ensures.state refl ∙ ap (λ (e : End). after_event (event.Arrive e bytes) c.step.new.self) c.other-to.ensures in
-    let carried = run-carried from bytes p c.step.new.self c.step-2.new.self (c.in_ok-bytes.ensures.state refl) arrived in
-    let mail = subst (λ (e : End). WantsMemory (mail_events e c.step-2.new.self) c.step-2.new.self c.take_mail.new.self) c.other-to.ensures c.in_err-take_mail.ensures.memory in
-    on-err _ (subst (λ t. WantsMemory t p c.take_mail.new.self) (sym (crossing-writes from p bytes some))
-    (wanted-later _ _ p c.take_mail.new.self (subst (λ q. WantsMemory (mail_events (other from) q) q c.take_mail.new.self) carried mail)))
+    let arrived =
+    c.in_ok-_notices.ensures.state refl
+    ∙ ap (λ (e : End). after_event (event.Arrive e bytes) c.step.new.self) c.other-to.ensures in
+    let carried =
+    run-carried from bytes p c.step.new.self c.step-2.new.self
+    (c.in_ok-bytes.ensures.state refl) arrived in
+    let mail =
+    subst
+    (λ (e : End). WantsMemory (mail_events e c.step-2.new.self)
+    c.step-2.new.self c.take_mail.new.self)
+    c.other-to.ensures c.in_err-take_mail.ensures.memory in
+    on-err _
+    (subst (λ t. WantsMemory t p c.take_mail.new.self) (sym (crossing-writes from p bytes some))
+    (wanted-later _ _ p c.take_mail.new.self
+    (subst (λ q. WantsMemory (mail_events (other from) q) q c.take_mail.new.self)
+    carried mail)))
 
 pub returns-clause-state : goal.returns-clause-state
 returns-clause-state c = λ ok.
@@ -50,11 +76,22 @@ returns-clause-state c = λ ok.
     let from = c.args.from in
     let bytes = c.in-Wrote.bytes in
     let some = polled-some from p bytes (sym c.in_ok-bytes.ensures.reply ∙ c.in-Wrote.is) in
-    let arrived = c.in_ok-_notices.ensures.state refl ∙ ap (λ (e : End). after_event (event.Arrive e bytes) c.step.new.self) c.other-to.ensures in
-    let through = run-carried from bytes p c.step.new.self c.step-2.new.self (c.in_ok-bytes.ensures.state refl) arrived in
-    c.in_ok-take_mail.ensures.state refl ∙ ap (λ (e : End). run (mail_events e c.step-2.new.self) c.step-2.new.self) c.other-to.ensures
-    ∙ ap (λ q. run (mail_events (other from) q) q) through ∙ sym (run-append (carried from bytes) _ p)
+    let arrived =
+    c.in_ok-_notices.ensures.state refl
+    ∙ ap (λ (e : End). after_event (event.Arrive e bytes) c.step.new.self) c.other-to.ensures in
+    let through =
+    run-carried from bytes p c.step.new.self c.step-2.new.self
+    (c.in_ok-bytes.ensures.state refl) arrived in
+    c.in_ok-take_mail.ensures.state refl
+    ∙ ap (λ (e : End). run (mail_events e c.step-2.new.self) c.step-2.new.self)
+    c.other-to.ensures
+    ∙ ap (λ q. run (mail_events (other from) q) q) through
+    ∙ sym (run-append (carried from bytes) _ p)
     ∙ ap (λ t. run t p) (sym (crossing-writes from p bytes some))
 
 pub returns-clause-wrote : goal.returns-clause-wrote
-returns-clause-wrote c = sym (ap is_some (polled-some c.args.from c.args.self.now c.in-Wrote.bytes (sym c.in_ok-bytes.ensures.reply ∙ c.in-Wrote.is)))
+returns-clause-wrote c =
+    sym
+    (ap is_some
+    (polled-some c.args.from c.args.self.now c.in-Wrote.bytes
+    (sym c.in_ok-bytes.ensures.reply ∙ c.in-Wrote.is)))

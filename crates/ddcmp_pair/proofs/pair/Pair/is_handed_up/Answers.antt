@@ -1,4 +1,5 @@
-use Rattle.std.proofs.Common.{◌≡◌, ℕ, rules, List, [], ◌∷◌, ◌++◌, length, true, refl, sym, ap, ◌∙◌, arith, length-append}
+use Rattle.std.proofs.Common.{◌≡◌, ℕ, rules, List, [], ◌∷◌, ◌++◌, length, true, refl, sym, ap, ◌∙◌}
+use Rattle.std.proofs.Common.{arith, length-append}
 use Rattle.std.proofs.lemmas.List.{append-nil}
 use Rattle.ddcmp_run.specs.declared.event.End.{End}
 use Rattle.ddcmp_run.specs.declared.event.End.TheVariants.{A, B}
@@ -12,13 +13,15 @@ none-of : (rest : List (List ℕ)) → length rest ≡ 0 → rest ≡ []
 none-of [] e = refl
 none-of (x ∷ rest) e = absurd (omega (arith, e))
 
-whole-prefix : (front whole : List (List ℕ)) → IsPrefixOf front whole → length front ≡ length whole → whole ≡ front
+whole-prefix : (front whole : List (List ℕ)) → IsPrefixOf front whole → length front ≡ length whole
+    → whole ≡ front
 whole-prefix front whole p same =
     let none = none-of p.0 (omega (arith, length-append front p.0, ap length p.1, same)) in
     sym p.1 ∙ ap (λ r. front ++ r) none ∙ append-nil front
 
 -- in an honest and clean run as many messages as were accepted are those that were accepted
-all-handed : (from : End) (p : PairState) → IsInOrder p → p.honest ≡ true → is_clean p ≡ true → length (handed_up (at (other from) p)) ≡ length (at from p).given
+all-handed : (from : End) (p : PairState) → IsInOrder p → p.honest ≡ true → is_clean p ≡ true
+    → length (handed_up (at (other from) p)) ≡ length (at from p).given
     → (at from p).given ≡ handed_up (at (other from) p)
 all-handed A p o h c same = whole-prefix _ _ (o.where_clean h c).a_to_b.order same
 all-handed B p o h c same = whole-prefix _ _ (o.where_clean h c).b_to_a.order same

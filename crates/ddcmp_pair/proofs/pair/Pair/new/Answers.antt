@@ -10,13 +10,22 @@ invariant_of-result c =
     let a = c.in-Ok.ensures in
     let b = c.in-Ok-new.ensures in (
       placed-nothing c.in-Ok.side _ a.place (ap (λ x. x.arrived) a.made) (ap (λ x. x.sent) b.made),
-      placed-nothing c.in-Ok-new.side _ b.place (ap (λ x. x.arrived) b.made) (ap (λ x. x.sent) a.made),
+      placed-nothing c.in-Ok-new.side _ b.place (ap (λ x. x.arrived) b.made)
+          (ap (λ x. x.sent) a.made),
     )
 
 pub invariant_of-result-2 : goal.invariant_of-result-2
 invariant_of-result-2 c =
     let a = c.in-Ok.ensures in
     let b = c.in-Ok-new.ensures in
-    run-new c.args.first c.args.second (made (first_refusal c.args.first) c.new.result c.in-Ok.side c.new.ensures.refused c.in-Ok.is)
-    (made (first_refusal c.args.second) c.new-2.result c.in-Ok-new.side c.new-2.ensures.refused c.in-Ok-new.is) _
-    (λ i. record { a = a.made i; b = b.made i; honest = is_some (a.place i) && is_some (b.place i) })
+    run-new c.args.first c.args.second
+    (made (first_refusal c.args.first)
+    c.new.result c.in-Ok.side c.new.ensures.refused c.in-Ok.is)
+    (made (first_refusal c.args.second)
+    c.new-2.result c.in-Ok-new.side c.new-2.ensures.refused c.in-Ok-new.is) _
+    (λ
+    i. record {
+      a = a.made i;
+      b = b.made i;
+      honest = is_some (a.place i) && is_some (b.place i);
+    })

@@ -4,44 +4,61 @@ use Rattle.ddcmp_run.specs.Settle.{most_exchanges}
 use Rattle.ddcmp_run.specs.Recovery.{larger_window, IsDone}
 use Rattle.std.proofs.Common.{subst, sym, ◌∙◌, refl}
 use Rattle.ddcmp_run.proofs.Runs.{on-err}
-use Rattle.ddcmp_run.proofs.Recoveries.{wanted-in-first, wanted-in-second, wanted-in-third, recovered-is, recovering-exchanges, recovering-quiet}
+use Rattle.ddcmp_run.proofs.Recoveries.{wanted-in-first, wanted-in-second, wanted-in-third}
+use Rattle.ddcmp_run.proofs.Recoveries.{recovered-is, recovering-exchanges, recovering-quiet}
 use Rattle.ddcmp_pair.proofs.pair.Pair.recover.Goals as goal
 
 pub returns-in_err-first-clause-memory : goal.returns-in_err-first-clause-memory
-returns-in_err-first-clause-memory c = on-err _ (wanted-in-first c.args.self.now c.settle.new.self c.in_err-first.ensures.memory)
+returns-in_err-first-clause-memory c =
+    on-err _ (wanted-in-first c.args.self.now c.settle.new.self c.in_err-first.ensures.memory)
 
 pub returns-in_err-second-clause-memory : goal.returns-in_err-second-clause-memory
 returns-in_err-second-clause-memory c =
-    on-err _ (wanted-in-second c.args.self.now c.settle.new.self c.round.new.self (c.in_ok-first.ensures.state refl) c.in_err-second.ensures.memory)
+    on-err _
+    (wanted-in-second c.args.self.now c.settle.new.self c.round.new.self
+    (c.in_ok-first.ensures.state refl) c.in_err-second.ensures.memory)
 
 pub returns-in_err-third-clause-memory : goal.returns-in_err-third-clause-memory
 returns-in_err-third-clause-memory c =
-    on-err _ (wanted-in-third c.args.self.now c.settle.new.self c.round.new.self c.round-2.new.self (c.in_ok-first.ensures.state refl) (c.in_ok-second.ensures.state refl) c.in_err-third.ensures.memory)
+    on-err _
+    (wanted-in-third c.args.self.now c.settle.new.self c.round.new.self c.round-2.new.self
+    (c.in_ok-first.ensures.state refl) (c.in_ok-second.ensures.state refl)
+    c.in_err-third.ensures.memory)
 
 pub returns-clause-state : goal.returns-clause-state
 returns-clause-state c = λ ok.
-    recovered-is c.args.self.now c.settle.new.self c.round.new.self c.round-2.new.self (c.in_ok-first.ensures.state refl) (c.in_ok-second.ensures.state refl) (c.in_ok-third.ensures.state refl)
+    recovered-is c.args.self.now c.settle.new.self c.round.new.self c.round-2.new.self
+    (c.in_ok-first.ensures.state refl) (c.in_ok-second.ensures.state refl)
+    (c.in_ok-third.ensures.state refl)
 
 pub returns-clause-exchanges : goal.returns-clause-exchanges
 returns-clause-exchanges c =
     c.of.ensures.exchanges
-    ∙ recovering-exchanges c.args.self.now c.settle.new.self c.round.new.self _ _ _ (c.in_ok-first.ensures.state refl) (c.in_ok-second.ensures.state refl) c.in_ok-first.ensures.exchanges c.in_ok-second.ensures.exchanges c.in_ok-third.ensures.exchanges
+    ∙ recovering-exchanges c.args.self.now c.settle.new.self c.round.new.self _ _ _
+    (c.in_ok-first.ensures.state refl) (c.in_ok-second.ensures.state refl)
+    c.in_ok-first.ensures.exchanges c.in_ok-second.ensures.exchanges
+    c.in_ok-third.ensures.exchanges
 
 pub returns-clause-quiet : goal.returns-clause-quiet
 returns-clause-quiet c =
     c.of.ensures.quiet
-    ∙ recovering-quiet c.args.self.now c.settle.new.self c.round.new.self _ _ _ (c.in_ok-first.ensures.state refl) (c.in_ok-second.ensures.state refl) c.in_ok-first.ensures.quiet c.in_ok-second.ensures.quiet c.in_ok-third.ensures.quiet
+    ∙ recovering-quiet c.args.self.now c.settle.new.self c.round.new.self _ _ _
+    (c.in_ok-first.ensures.state refl) (c.in_ok-second.ensures.state refl)
+    c.in_ok-first.ensures.quiet c.in_ok-second.ensures.quiet c.in_ok-third.ensures.quiet
 
 pub returns-clause-repaired : goal.returns-clause-repaired
 returns-clause-repaired c = λ ready. returns-clause-quiet c ∙ (c.is_repaired.ensures ready).quiet
 
 pub returns-clause-within : goal.returns-clause-within
 returns-clause-within c = λ ready.
-    subst (λ (t : List ℕ). All (λ n. n ≤ most_exchanges c.args.self.now) t) (sym (returns-clause-exchanges c)) (c.is_repaired.ensures ready).within
+    subst (λ (t : List ℕ). All (λ n. n ≤ most_exchanges c.args.self.now) t)
+    (sym (returns-clause-exchanges c)) (c.is_repaired.ensures ready).within
 
 pub returns-clause-fewer : goal.returns-clause-fewer
 returns-clause-fewer c = λ ready.
-    subst (λ (t : List ℕ). All (λ n. n ≤ 12 * larger_window c.args.self.now + 12) t) (sym (returns-clause-exchanges c)) (c.is_repaired.ensures ready).fewer
+    subst (λ (t : List ℕ). All (λ n. n ≤ 12 * larger_window c.args.self.now + 12) t)
+    (sym (returns-clause-exchanges c)) (c.is_repaired.ensures ready).fewer
 
 pub returns-clause-done : goal.returns-clause-done
-returns-clause-done c = λ ready ok. subst IsDone (sym (returns-clause-state c ok)) (c.is_repaired.ensures ready).done
+returns-clause-done c =
+    λ ready ok. subst IsDone (sym (returns-clause-state c ok)) (c.is_repaired.ensures ready).done

@@ -4,4 +4,6 @@ use Rattle.ddcmp_pair.proofs.pair.Pair.settle.Goals as goal
 
 pub returns-clause-limits : goal.returns-clause-limits
 returns-clause-limits c = λ end.
-    part-limits c.settle_all-settled.result (settling c.args.self.now).events c.args.self.now c.settle_all-settled.new.self end c.settle_all-settled.ensures.state c.settle_all-settled.ensures.memory
+    part-limits c.settle_all-settled.result
+    (settling c.args.self.now).events c.args.self.now c.settle_all-settled.new.self end
+    c.settle_all-settled.ensures.state c.settle_all-settled.ensures.memory

@@ -2,20 +2,28 @@ use Rattle.std.proofs.Common.{◌≡◌, ◌∙◌, ◌+◌, ◌*◌, ap, sym, s
 use Rattle.ddcmp_run.specs.Run.{run}
 use Rattle.ddcmp_run.specs.Settle.{all_mail, most_exchanges}
 use Rattle.ddcmp_run.proofs.Runs.{on-err, wanted-first}
-use Rattle.ddcmp_run.proofs.Settles.{LeftToSettle, left-more, left-quiet, left-busy, left-wanted, settle-begun, settled-is, settling-exchanges, settling-quiet, wanted-in-mail, wanted-in-second-mail, wanted-after-mail}
+use Rattle.ddcmp_run.proofs.Settles.{LeftToSettle, left-more, left-quiet, left-busy, left-wanted}
+use Rattle.ddcmp_run.proofs.Settles.{settle-begun, settled-is, settling-exchanges, settling-quiet}
+use Rattle.ddcmp_run.proofs.Settles.{wanted-in-mail, wanted-in-second-mail, wanted-after-mail}
 use Rattle.ddcmp_pair.proofs.pair.Pair.settle_all.Goals as goal
 
 pub returns-in_err-take_mail-clause-memory : goal.returns-in_err-take_mail-clause-memory
 returns-in_err-take_mail-clause-memory c =
-    on-err _ (wanted-in-mail c.args.self.now c.take_mail.new.self (wanted-first _ _ c.args.self.now c.take_mail.new.self c.in_err-take_mail.ensures.memory))
+    on-err _
+    (wanted-in-mail c.args.self.now c.take_mail.new.self
+    (wanted-first _ _ c.args.self.now c.take_mail.new.self c.in_err-take_mail.ensures.memory))
 
 pub returns-in_err-take_mail-2-clause-memory : goal.returns-in_err-take_mail-2-clause-memory
 returns-in_err-take_mail-2-clause-memory c =
-    on-err _ (wanted-in-second-mail c.args.self.now c.take_mail.new.self c.take_mail-2.new.self (c.in_ok-take_mail.ensures.state refl) c.in_err-take_mail-2.ensures.memory)
+    on-err _
+    (wanted-in-second-mail c.args.self.now c.take_mail.new.self c.take_mail-2.new.self
+    (c.in_ok-take_mail.ensures.state refl) c.in_err-take_mail-2.ensures.memory)
 
 pub loop-exchanges-init : goal.loop-exchanges-init
 loop-exchanges-init c = record {
-  left = settle-begun c.args.self.now c.take_mail.new.self c.take_mail-2.new.self (c.in_ok-take_mail.ensures.state refl) (c.in_ok-take_mail-2.ensures.state refl);
+  left =
+      settle-begun c.args.self.now c.take_mail.new.self c.take_mail-2.new.self
+      (c.in_ok-take_mail.ensures.state refl) (c.in_ok-take_mail-2.ensures.state refl);
   most = ap (λ n. 16 * (n + 4)) c.window.ensures;
 }
 
@@ -24,7 +32,8 @@ returns-in_err-exchange-clause-memory c =
     let i = c.loop-exchanges.invariant in
     let most = i.most in
     on-err _ (wanted-after-mail c.args.self.now c.exchange.new.self
-    (left-wanted _ _ c.loop-exchanges.exchanges c.loop-exchanges.self c.exchange.new.self i.left (omega (arith, most)) c.in_err-exchange.ensures.memory))
+    (left-wanted _ _ c.loop-exchanges.exchanges c.loop-exchanges.self c.exchange.new.self i.left
+    (omega (arith, most)) c.in_err-exchange.ensures.memory))
 
 pub returns-then-not-branch-clause-state : goal.returns-then-not-branch-clause-state
 returns-then-not-branch-clause-state c = λ ok.
@@ -32,14 +41,16 @@ returns-then-not-branch-clause-state c = λ ok.
     let most = i.most in
     let none = sym c.in_ok-exchange.ensures.wrote ∙ c.if-not-branch.true in
     settled-is c.args.self.now c.exchange.new.self
-    (left-quiet _ _ c.loop-exchanges.exchanges c.loop-exchanges.self c.exchange.new.self i.left (omega (arith, most)) none (c.in_ok-exchange.ensures.state refl)).state
+    (left-quiet _ _ c.loop-exchanges.exchanges c.loop-exchanges.self c.exchange.new.self i.left
+    (omega (arith, most)) none (c.in_ok-exchange.ensures.state refl)).state
 
 pub returns-then-not-branch-clause-exchanges : goal.returns-then-not-branch-clause-exchanges
 returns-then-not-branch-clause-exchanges c =
     let i = c.loop-exchanges.invariant in
     let most = i.most in
     let none = sym c.in_ok-exchange.ensures.wrote ∙ c.if-not-branch.true in
-    (left-quiet _ _ c.loop-exchanges.exchanges c.loop-exchanges.self c.exchange.new.self i.left (omega (arith, most)) none (c.in_ok-exchange.ensures.state refl)).exchanges_are
+    (left-quiet _ _ c.loop-exchanges.exchanges c.loop-exchanges.self c.exchange.new.self i.left
+    (omega (arith, most)) none (c.in_ok-exchange.ensures.state refl)).exchanges_are
     ∙ sym (settling-exchanges c.args.self.now)
 
 pub returns-then-not-branch-clause-quiet : goal.returns-then-not-branch-clause-quiet
@@ -47,7 +58,8 @@ returns-then-not-branch-clause-quiet c =
     let i = c.loop-exchanges.invariant in
     let most = i.most in
     let none = sym c.in_ok-exchange.ensures.wrote ∙ c.if-not-branch.true in
-    (left-quiet _ _ c.loop-exchanges.exchanges c.loop-exchanges.self c.exchange.new.self i.left (omega (arith, most)) none (c.in_ok-exchange.ensures.state refl)).quiet_is
+    (left-quiet _ _ c.loop-exchanges.exchanges c.loop-exchanges.self c.exchange.new.self i.left
+    (omega (arith, most)) none (c.in_ok-exchange.ensures.state refl)).quiet_is
     ∙ sym (settling-quiet c.args.self.now)
 
 pub loop-exchanges-preserved : goal.loop-exchanges-preserved
@@ -55,8 +67,11 @@ loop-exchanges-preserved c =
     let i = c.loop-exchanges.invariant in
     let most = i.most in
     record {
-      left = left-more _ _ c.loop-exchanges.exchanges c.loop-exchanges.self c.exchange.new.self i.left (omega (arith, most))
-          (sym c.in_ok-exchange.ensures.wrote ∙ c.if-not-branch.false) (c.in_ok-exchange.ensures.state refl);
+      left =
+          left-more _ _ c.loop-exchanges.exchanges c.loop-exchanges.self c.exchange.new.self i.left
+          (omega (arith, most))
+          (sym c.in_ok-exchange.ensures.wrote ∙ c.if-not-branch.false)
+          (c.in_ok-exchange.ensures.state refl);
       most = i.most;
     }
 
@@ -66,14 +81,22 @@ returns-clause-state c = λ ok.
     let most = i.most in
     let end : c.loop-exchanges.exchanges ≡ most_exchanges c.args.self.now = omega (arith, most) in
     settled-is c.args.self.now c.loop-exchanges.self
-    (left-busy _ _ c.loop-exchanges.self (subst (λ n. LeftToSettle (most_exchanges c.args.self.now) (run (all_mail c.args.self.now) c.args.self.now) n c.loop-exchanges.self) end i.left)).state
+    (left-busy _ _ c.loop-exchanges.self
+    (subst
+    (λ n. LeftToSettle (most_exchanges c.args.self.now)
+    (run (all_mail c.args.self.now) c.args.self.now) n c.loop-exchanges.self) end i.left)).state
 
 pub returns-clause-exchanges : goal.returns-clause-exchanges
 returns-clause-exchanges c =
     let i = c.loop-exchanges.invariant in
     let most = i.most in
     let end : c.loop-exchanges.exchanges ≡ most_exchanges c.args.self.now = omega (arith, most) in
-    most ∙ (left-busy _ _ c.loop-exchanges.self (subst (λ n. LeftToSettle (most_exchanges c.args.self.now) (run (all_mail c.args.self.now) c.args.self.now) n c.loop-exchanges.self) end i.left)).exchanges_are
+    most
+    ∙ (left-busy _ _ c.loop-exchanges.self
+    (subst
+    (λ n. LeftToSettle (most_exchanges c.args.self.now)
+    (run (all_mail c.args.self.now) c.args.self.now) n c.loop-exchanges.self)
+    end i.left)).exchanges_are
     ∙ sym (settling-exchanges c.args.self.now)
 
 pub returns-clause-quiet : goal.returns-clause-quiet
@@ -81,5 +104,9 @@ returns-clause-quiet c =
     let i = c.loop-exchanges.invariant in
     let most = i.most in
     let end : c.loop-exchanges.exchanges ≡ most_exchanges c.args.self.now = omega (arith, most) in
-    (left-busy _ _ c.loop-exchanges.self (subst (λ n. LeftToSettle (most_exchanges c.args.self.now) (run (all_mail c.args.self.now) c.args.self.now) n c.loop-exchanges.self) end i.left)).quiet_is
+    (left-busy _ _ c.loop-exchanges.self
+    (subst
+    (λ n. LeftToSettle (most_exchanges c.args.self.now)
+    (run (all_mail c.args.self.now) c.args.self.now) n c.loop-exchanges.self)
+    end i.left)).quiet_is
     ∙ sym (settling-quiet c.args.self.now)

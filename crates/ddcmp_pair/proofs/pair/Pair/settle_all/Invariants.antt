@@ -6,6 +6,7 @@ use Rattle.ddcmp_pair.proofs.pair.Pair.settle_all.Given as goal
 
 abbrev pub invariant-loop-exchanges : goal.invariant-loop-exchanges
 invariant-loop-exchanges l = record {
-  left : LeftToSettle (most_exchanges l.fn.self) (run (all_mail l.fn.self) l.fn.self) l.exchanges l.self;
+  left : LeftToSettle (most_exchanges l.fn.self) (run (all_mail l.fn.self) l.fn.self)
+      l.exchanges l.self;
   most : l.most ≡ most_exchanges l.fn.self;
 }

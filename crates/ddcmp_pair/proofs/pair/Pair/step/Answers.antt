@@ -6,18 +6,23 @@ use Rattle.ddcmp_pair.proofs.pair.Pair.step.Goals as goal
 
 pub returns-clause-limits : goal.returns-clause-limits
 returns-clause-limits c = λ end.
-    step-limits c.apply.result c.args.event c.self.inside.ends c.apply.new.self end c.apply.ensures.state c.apply.ensures.memory
+    step-limits c.apply.result c.args.event c.self.inside.ends c.apply.new.self end
+    c.apply.ensures.state c.apply.ensures.memory
     ∙ ap (λ t. (at end t).core.limits) c.self.view_is
 
 pub invariant_of-self : goal.invariant_of-self
-invariant_of-self c = stepped c.apply.result c.args.event c.self.inside.ends c.apply.new.self c.apply.ensures.state c.apply.ensures.memory c.self.invariant
+invariant_of-self c =
+    stepped c.apply.result c.args.event c.self.inside.ends c.apply.new.self c.apply.ensures.state
+    c.apply.ensures.memory c.self.invariant
 
 pub returns-clause-order : goal.returns-clause-order
 returns-clause-order c =
     run-in-order c.apply.new.self
-    (stepped c.apply.result c.args.event c.self.inside.ends c.apply.new.self c.apply.ensures.state c.apply.ensures.memory c.self.invariant)
+    (stepped c.apply.result c.args.event c.self.inside.ends c.apply.new.self c.apply.ensures.state
+    c.apply.ensures.memory c.self.invariant)
 
 pub returns-clause-no_restart : goal.returns-clause-no_restart
 returns-clause-no_restart c = λ clean honest.
-    stepped-quiet c.apply.result c.args.event c.self.inside.ends c.apply.new.self c.apply.ensures.state c.apply.ensures.reply c.self.invariant
+    stepped-quiet c.apply.result c.args.event c.self.inside.ends c.apply.new.self
+    c.apply.ensures.state c.apply.ensures.reply c.self.invariant
     (ap is_clean c.self.view_is ∙ clean) honest

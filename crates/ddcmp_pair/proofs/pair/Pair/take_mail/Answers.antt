@@ -14,7 +14,9 @@ pub returns-in_err-_message-clause-memory : goal.returns-in_err-_message-clause-
 returns-in_err-_message-clause-memory c =
     let i = c.loop-taken.invariant in
     let count = i.count in
-    on-err _ (wanted-again (length (at c.args.end c.args.self.now).core.station.inbox) c.loop-taken._taken (Take c.args.end) c.args.self.now c.loop-taken.self c.step.new.self
+    on-err _
+    (wanted-again (length (at c.args.end c.args.self.now).core.station.inbox)
+    c.loop-taken._taken (Take c.args.end) c.args.self.now c.loop-taken.self c.step.new.self
     (omega (arith, count)) i.state c.in_err-_message.ensures.memory c.in_err-_message.ensures.asks)
 
 pub loop-taken-preserved : goal.loop-taken-preserved
@@ -22,6 +24,8 @@ loop-taken-preserved c =
     let i = c.loop-taken.invariant in
     let e = Take c.args.end in
     record {
-      state = c.in_ok-_message.ensures.state refl ∙ ap (after_event e) i.state ∙ sym (run-again c.loop-taken._taken e c.args.self.now);
+      state =
+          c.in_ok-_message.ensures.state refl ∙ ap (after_event e) i.state
+          ∙ sym (run-again c.loop-taken._taken e c.args.self.now);
       count = i.count;
     }

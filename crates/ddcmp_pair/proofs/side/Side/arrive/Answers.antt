@@ -1,6 +1,5 @@
 use Rattle.std.proofs.Common.{◌≡◌, ◌∙◌, ℕ, ◌+◌, List, [], ◌∷◌, ◌++◌, length, take, drop, refl, ap}
-use Rattle.std.proofs.Common.{sym}
-use Rattle.std.proofs.Common.{subst, arith, Option, ◌&&◌}
+use Rattle.std.proofs.Common.{sym, subst, arith, Option, ◌&&◌}
 use Rattle.std.specs.Prelude.{is_some}
 use Rattle.std.proofs.Math.Seq.{take-append_seam}
 use Rattle.ddcmp_core.specs.Counting.{count_plus}
@@ -35,13 +34,19 @@ invariant_of-self-2 c =
     let more = c.feed_all.new.heard.acknowledged in
     let buffer = i.2 in (
       record {
-        by_station = subst (λ t. StandsFor c.feed_all.new.station.line t) c.deref-2.ensures.value f.stands;
-        by_reader = subst (λ t. StandsFor c.follow-self-inside.new.reader t) c.deref.ensures.value r.stands;
+        by_station =
+            subst (λ t. StandsFor c.feed_all.new.station.line t) c.deref-2.ensures.value f.stands;
+        by_reader =
+            subst (λ t. StandsFor c.follow-self-inside.new.reader t) c.deref.ensures.value r.stands;
         max_is = r.max ∙ i.0.max_is ∙ sym longest;
       },
       record {
-        told = told-after halted ack out given more left i.1.told i.1.kept f.leaves (λ z. (f.halted z).1);
-        kept = kept-after halted (is_halted c.feed_all.new.station.core.station.state) ack out given more left i.1.kept f.leaves (λ z. (f.halted z).0);
+        told =
+            told-after halted ack out given more left i.1.told i.1.kept f.leaves
+            (λ z. (f.halted z).1);
+        kept =
+            kept-after halted (is_halted c.feed_all.new.station.core.station.state)
+            ack out given more left i.1.kept f.leaves (λ z. (f.halted z).0);
         short = λ k below. (let before = i.1.short k below in omega (arith, before, longest));
       },
       (let syn = f.syn in omega (arith, buffer, syn, longest)),
@@ -54,8 +59,10 @@ returns-clause-placed c = λ n e.
     let p = c.follow-self-inside.ensures.placed n e in
     let limits = ap (λ k. k.limits) f.state ∙ after_piece-limits _ _ c.self.inside.station.core in
     let max = c.self.invariant.0.max_is ∙ sym (ap (λ l. l.longest) limits) in (
-      ap (λ m. place_of (good_frames m c.extend_from_slice.new.self.items) c.args.sent.now.all) (sym max)
-          ∙ ap (λ t. place_of (good_frames c.self.inside.reader.max t) c.args.sent.now.all) (sym c.deref.ensures.value) ∙ p.0,
+      ap (λ m. place_of (good_frames m c.extend_from_slice.new.self.items) c.args.sent.now.all)
+          (sym max)
+          ∙ ap (λ t. place_of (good_frames c.self.inside.reader.max t) c.args.sent.now.all)
+          (sym c.deref.ensures.value) ∙ p.0,
       p.1,
     )
 

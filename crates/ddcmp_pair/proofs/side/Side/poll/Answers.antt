@@ -19,7 +19,9 @@ use Rattle.ddcmp_pair.proofs.side.Side.poll.Goals as goal
 pub returns-in_default-clause-state : goal.returns-in_default-clause-state
 returns-in_default-clause-state c = λ ok.
     let s = c.self.inside in
-    let x = end_with s.station s.given.all s.taken.all s.sent.all s.arrived.items s.acknowledged s.starts in
+    let x =
+    end_with s.station s.given.all s.taken.all s.sent.all s.arrived.items s.acknowledged
+    s.starts in
     let p = nothing-polled x c.in_default.ensures.header in
     rw (← c.self.view_is) (λ i. record { state = sym p i; place = s.place })
 
@@ -37,7 +39,9 @@ invariant_of-self-2 c =
     let longest = ap (λ l. l.longest) limits in
     let buffer = i.2 in (
       record {
-        by_station = subst (λ v. StandsFor v c.self.inside.arrived.items) (sym (ap (λ v. v.line) e)) i.0.by_station;
+        by_station =
+            subst (λ v. StandsFor v c.self.inside.arrived.items) (sym (ap (λ v. v.line) e))
+            i.0.by_station;
         by_reader = i.0.by_reader;
         max_is = i.0.max_is ∙ sym longest;
       },

@@ -11,9 +11,13 @@ invariant-loop-at l = record {
   within : l.at ≤ length l.arrived;
   stands : StandsFor l.station.line (take l.at l.arrived);
   syn : l.station.syn ≡ l.initial.station.syn;
-  left : LeftToFeed l.arrived l.initial.from l.initial.station.core l.initial.heard l.at l.station.core l.heard;
-  leaves : l.heard.acknowledged + length l.station.core.station.out ≤ l.initial.heard.acknowledged + length l.initial.station.core.station.out;
-  halted : is_halted l.initial.station.core.station.state ≡ true → (is_halted l.station.core.station.state ≡ true) × (l.heard.acknowledged ≡ l.initial.heard.acknowledged);
+  left : LeftToFeed l.arrived l.initial.from l.initial.station.core l.initial.heard l.at
+      l.station.core l.heard;
+  leaves : l.heard.acknowledged + length l.station.core.station.out
+      ≤ l.initial.heard.acknowledged + length l.initial.station.core.station.out;
+  halted : is_halted l.initial.station.core.station.state ≡ true
+      → (is_halted l.station.core.station.state ≡ true)
+      × (l.heard.acknowledged ≡ l.initial.heard.acknowledged);
   small : l.heard.starts ≤ 4294967295;
   room : vec_len l.heard.notices + (length l.arrived - l.at) ≤ vec_capacity l.heard.notices;
 }

@@ -1,4 +1,5 @@
-use Rattle.std.proofs.Common.{◌+◌, ◌-◌, sym, ◌∙◌, ap, subst, arith, take, drop, length, length-drop, length-take}
+use Rattle.std.proofs.Common.{◌+◌, ◌-◌, sym, ◌∙◌, ap, subst, arith, take, drop, length, length-drop}
+use Rattle.std.proofs.Common.{length-take}
 use Rattle.std.proofs.Math.Seq.{take-add}
 use Rattle.std.proofs.lemmas.List.{take_rest}
 use Rattle.ddcmp_frame.specs.Reader.{StandsFor}
@@ -31,7 +32,10 @@ loop-at-preserved c =
       max = e.max ∙ i.max;
       placed = within-option c.next_place-place.result _ c.next_place-place.ensures.within;
       followed = followed-next _ _ _ _ _ p.result.item p.new.self.lent _
-          (ap (λ m. items m (take (at + p.result.used) arrived)) e.max ∙ ap (items c.loop-at.reader.max) longer ∙ e.item (take at arrived) i.stands)
-          (c.next_place-place.ensures.value ∙ ap (λ lent. place_next p.result.item lent c.args.sent.now.all c.loop-at.place) c.data.ensures)
+          (ap (λ m. items m (take (at + p.result.used) arrived)) e.max
+          ∙ ap (items c.loop-at.reader.max) longer ∙ e.item (take at arrived) i.stands)
+          (c.next_place-place.ensures.value
+          ∙ ap (λ lent. place_next p.result.item lent c.args.sent.now.all c.loop-at.place)
+          c.data.ensures)
           i.followed;
     }

@@ -11,7 +11,8 @@ invariant-loop-at l = record {
   stands : StandsFor l.reader (take l.at l.arrived);
   max : l.reader.max ≡ l.initial.reader.max;
   placed : (n : ℕ) → l.place ≡ Some n → n ≤ length l.sent.all;
-  followed : IsFollowed l.initial.place l.place (good_frames l.reader.max (take l.at l.arrived)) l.sent.all;
+  followed : IsFollowed l.initial.place l.place (good_frames l.reader.max (take l.at l.arrived))
+      l.sent.all;
 }
 
 abbrev pub decreases-loop-at : goal.decreases-loop-at

@@ -22,6 +22,8 @@ slice_bounds-result-end c =
 
 pub returns : goal.returns
 returns c = λ m is line.
-    let count : c.args.syn + 8 + c.data_length.result - (c.args.syn + 8) ≡ length m = (let k = c.data_length.ensures m is in omega (arith, k)) in
+    let count : c.args.syn + 8 + c.data_length.result - (c.args.syn + 8) ≡ length m =
+    (let k = c.data_length.ensures m is in omega (arith, k)) in
     ap (λ n. take n (drop (c.args.syn + 8) c.args.line.now)) count
-    ∙ ap (λ t. take (length m) (drop (c.args.syn + 8) t)) line ∙ data-behind c.args.syn c.args.header.now m is
+    ∙ ap (λ t. take (length m) (drop (c.args.syn + 8) t)) line
+    ∙ data-behind c.args.syn c.args.header.now m is

@@ -25,7 +25,9 @@ loop-seen-preserved g c = record {
   room = c.read_within.auto.buf ∙ c.loop-seen.invariant.room;
   below = stays_below _ _ _ _ c.in-Bytes.ensures.within c.loop-seen.invariant.below c.if-seen.false
       refl;
-  consumed = read-more c.loop-seen.seen c.in-Bytes.n _ _ _ _ _ c.loop-seen.invariant.consumed c.in-Bytes.ensures.bytes.0 c.in-Bytes.ensures.bytes.1 refl;
+  consumed =
+      read-more c.loop-seen.seen c.in-Bytes.n _ _ _ _ _ c.loop-seen.invariant.consumed
+      c.in-Bytes.ensures.bytes.0 c.in-Bytes.ensures.bytes.1 refl;
 }
 
 pub returns-then-not-show-clause-read : goal.returns-then-not-show-clause-read

@@ -9,7 +9,8 @@ invariant-loop-seen g l = record {
   whole : g.C.Carrier.broken l.carrier ≡ false;
   room : length l.piece ≡ 4096;
   below : l.seen < 2 ^ 64 - 1;
-  consumed : (seen : List ℕ) × (length seen ≡ l.seen) × Consumes (g.R.Source.left l.initial.reader) (g.R.Source.left l.reader) seen;
+  consumed : (seen : List ℕ) × (length seen ≡ l.seen)
+      × Consumes (g.R.Source.left l.initial.reader) (g.R.Source.left l.reader) seen;
 }
 
 abbrev pub decreases-loop-seen : goal.decreases-loop-seen

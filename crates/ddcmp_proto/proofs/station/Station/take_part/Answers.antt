@@ -10,9 +10,15 @@ returns-in-None-clause-takes c =
     let p = c.push_all-used in
     let e = p.ensures in
     let bytes = take p.result.used c.args.piece.now in
-    let pushed = pushed-part i.reader p.new.self c.args.piece.now p.result.used p.result.item e.used e.stands e.item e.first e.counted in
-    subst (λ v. TakesPart v bytes (record { core = i.core; syn = i.config.syn; line = p.new.self }) None) c.self.view_is
-    (part-none i.core i.config.syn i.reader p.new.self bytes c.self.invariant.0 (subst (λ g. Pushed i.reader p.new.self bytes (items_given g p.new.self.lent)) c.in-None.is pushed))
+    let pushed =
+    pushed-part i.reader p.new.self c.args.piece.now p.result.used p.result.item e.used e.stands
+    e.item e.first e.counted in
+    subst
+    (λ v. TakesPart v bytes (record { core = i.core; syn = i.config.syn; line = p.new.self })
+    None) c.self.view_is
+    (part-none i.core i.config.syn i.reader p.new.self bytes c.self.invariant.0
+    (subst (λ g. Pushed i.reader p.new.self bytes (items_given g p.new.self.lent))
+    c.in-None.is pushed))
 
 pub returns-in-Some-clause-takes : goal.returns-in-Some-clause-takes
 returns-in-Some-clause-takes c =
@@ -20,6 +26,12 @@ returns-in-Some-clause-takes c =
     let p = c.push_all-used in
     let e = p.ensures in
     let bytes = take p.result.used c.args.piece.now in
-    let pushed = pushed-part i.reader p.new.self c.args.piece.now p.result.used p.result.item e.used e.stands e.item e.first e.counted in
+    let pushed =
+    pushed-part i.reader p.new.self c.args.piece.now p.result.used p.result.item e.used e.stands
+    e.item e.first e.counted in
     subst (λ v. TakesPart v bytes c.take_item.new.self c.take_item.result) c.self.view_is
-    (part-some i.core i.config.syn i.reader p.new.self bytes c.in-Some.item c.take_item.new.self c.take_item.result c.self.invariant.0 (subst (λ g. Pushed i.reader p.new.self bytes (items_given g p.new.self.lent)) c.in-Some.is pushed) c.take_item.ensures.state c.take_item.ensures.told c.take_item.ensures.leaves)
+    (part-some i.core i.config.syn i.reader p.new.self bytes c.in-Some.item c.take_item.new.self
+    c.take_item.result c.self.invariant.0
+    (subst (λ g. Pushed i.reader p.new.self bytes (items_given g p.new.self.lent))
+    c.in-Some.is pushed)
+    c.take_item.ensures.state c.take_item.ensures.told c.take_item.ensures.leaves)

@@ -1,8 +1,5 @@
-use Rattle.std.proofs.Common.{◌≡◌, ℕ, List, [], sym, ap, subst, take}
-use Rattle.std.specs.Io.KnownBytes.{Appends, Consumes}
 use Rattle.std.proofs.KnownBytes.{Keeps-refl}
-use Rattle.ddcmp_tap.specs.Passing.{Passes}
-use Rattle.ddcmp_pump.proofs.MoveLaws.{still, unmoved, end-came, came-in, went-out, then}
+use Rattle.ddcmp_pump.proofs.MoveLaws.{unmoved}
 use Rattle.ddcmp_pump.proofs.flow.Flow.hand_end_on.Goals as goal
 
 pub returns-then-is_empty-clause-moves : goal.returns-then-is_empty-clause-moves

@@ -1,8 +1,7 @@
-use Rattle.std.proofs.Common.{arith, ◌≡◌, ℕ, List, [], sym, ap, subst, take}
-use Rattle.std.specs.Io.KnownBytes.{Appends, Consumes}
+use Rattle.std.proofs.Common.{arith, ◌≡◌, subst, take}
+use Rattle.std.specs.Io.KnownBytes.{Appends}
 use Rattle.std.proofs.KnownBytes.{Consumes-nil, Keeps-refl}
-use Rattle.ddcmp_tap.specs.Passing.{Passes}
-use Rattle.ddcmp_pump.proofs.MoveLaws.{still, unmoved, end-came, came-in, went-out, then}
+use Rattle.ddcmp_pump.proofs.MoveLaws.{still, unmoved, went-out}
 use Rattle.ddcmp_pump.proofs.flow.Flow.hand_on.Goals as goal
 
 pub returns-then-is_empty-clause-moves : goal.returns-then-is_empty-clause-moves

@@ -1,8 +1,7 @@
-use Rattle.std.proofs.Common.{arith, ◌≡◌, ℕ, List, [], sym, ap, subst, take}
-use Rattle.std.specs.Io.KnownBytes.{Appends, Consumes}
+use Rattle.std.proofs.Common.{arith, ◌≡◌, subst, take}
+use Rattle.std.specs.Io.KnownBytes.{Consumes}
 use Rattle.std.proofs.KnownBytes.{Keeps-refl}
-use Rattle.ddcmp_tap.specs.Passing.{Passes}
-use Rattle.ddcmp_pump.proofs.MoveLaws.{still, unmoved, end-came, came-in, went-out, then}
+use Rattle.ddcmp_pump.proofs.MoveLaws.{unmoved, end-came, came-in}
 use Rattle.ddcmp_pump.proofs.flow.Flow.take_in.Goals as goal
 
 pub returns-then-has_ended-clause-moves : goal.returns-then-has_ended-clause-moves

@@ -12,10 +12,15 @@ returns-in-Ok-Skipped-clause-ends g c =
     let log = g.C.Carrier.told c.args.carrier.now in
     let is = rw c.in-Ok-Skipped.field-0-is at c.in-Ok-Skipped.ensures in
     let out = output_of g.W.Sink.broken g.W.Sink.contents c.args.writer.now c.args.self.now.page in
-    subst (λ r. LineEnds d log log r s s out out (Ok tt)) is ([], λ e. cc, λ e. cc, refl, sends-nothing out, carries-nothing d log)
+    subst (λ r. LineEnds d log log r s s out out (Ok tt)) is
+    ([], λ e. cc, λ e. cc, refl, sends-nothing out, carries-nothing d log)
 
 pub returns-in-Err-clause-ends : goal.returns-in-Err-clause-ends
 returns-in-Err-clause-ends g c = (
   sends-nothing _,
-  inl (refl, carries-nothing (g.C.Carrier.direct c.args.carrier.now) (g.C.Carrier.told c.args.carrier.now)),
+  inl (
+    refl,
+    carries-nothing (g.C.Carrier.direct c.args.carrier.now)
+        (g.C.Carrier.told c.args.carrier.now),
+  ),
 )

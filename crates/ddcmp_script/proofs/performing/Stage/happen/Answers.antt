@@ -9,6 +9,9 @@ returns-in_default g c = record {
       let ev = c.args.event in
       let p = c.args.pair.now in
       let lines = c.args.self.now.lines in
-      comes-event ev p c.tell.new.pair lines c.tell.new.self.lines _ _ (c.tell.ensures.pair ok) (c.tell.ensures.lines ∙ sym (lines-stay ev c.in_default.not-Poll c.in_default.not-Clear (reply_to ev p) lines)) (c.tell.ensures.text ok);
+      comes-event ev p c.tell.new.pair lines c.tell.new.self.lines _ _ (c.tell.ensures.pair ok)
+      (c.tell.ensures.lines
+      ∙ sym (lines-stay ev c.in_default.not-Poll c.in_default.not-Clear (reply_to ev p) lines))
+      (c.tell.ensures.text ok);
   memory = c.tell.ensures.memory;
 }

@@ -11,6 +11,9 @@ returns-clause-comes g c = λ ok.
     let state = c.in_ok-recovered.ensures.state refl in
     let done = c.done.ensures.answer ∙ ap is_done state in
     record {
-      scene = λ i. record { pair = (state ∙ sym (recovering-state p)) i; lines = c.clear.ensures i };
-      text = sends-as (λ i. recovered_text (c.in_ok-recovered.ensures.exchanges i) (done i)) c.write_recovered.ensures;
+      scene =
+          λ i. record { pair = (state ∙ sym (recovering-state p)) i; lines = c.clear.ensures i };
+      text =
+          sends-as (λ i. recovered_text (c.in_ok-recovered.ensures.exchanges i) (done i))
+          c.write_recovered.ensures;
     }

@@ -1,4 +1,5 @@
-use Rattle.std.proofs.Common.{◌≡◌, ◌+◌, ◌∷◌, [], ◌++◌, drop, get_or, add-one, ap, sym, subst, ◌∙◌, rules, arith}
+use Rattle.std.proofs.Common.{◌≡◌, ◌+◌, ◌∷◌, [], ◌++◌, drop, get_or, add-one, ap, sym, subst, ◌∙◌}
+use Rattle.std.proofs.Common.{rules, arith}
 use Rattle.std.proofs.Math.Seq.{drop-cons}
 use Rattle.std.proofs.lemmas.List.{drop_all}
 use Rattle.ddcmp_io.specs.Written.{output_of}
@@ -28,9 +29,16 @@ loop-i-preserved g c = record {
       let out = output_of g.W.Sink.broken g.W.Sink.contents c.loop-i.writer player.stage.page in
       let x = around p c.loop-i.pair d log (g.C.Carrier.told c.loop-i.carrier) in
       let far = c.loop-i.invariant.so_far input rest p d log start de h in
-      let cut : drop i piece ++ rest ≡ get_or piece i 0 ∷ (drop (i + 1) piece ++ rest) = ap (λ t. t ++ rest) (drop-cons piece i 0 c.loop-i-test.true ∙ ap (λ n. get_or piece i 0 ∷ drop n piece) (sym (add-one i))) in
-      let before = subst (λ t. HasDone input t (played player.line.items player.number player.stage.lines) (course start out x)) cut far in
-      c.in-Ok.ensures.takes input (drop (i + 1) piece ++ rest) p d log start (c.loop-i.invariant.direct ∙ de) before;
+      let cut : drop i piece ++ rest ≡ get_or piece i 0 ∷ (drop (i + 1) piece ++ rest) =
+      ap (λ t. t ++ rest)
+      (drop-cons piece i 0 c.loop-i-test.true
+      ∙ ap (λ n. get_or piece i 0 ∷ drop n piece) (sym (add-one i))) in
+      let before =
+      subst
+      (λ t. HasDone input t (played player.line.items player.number player.stage.lines)
+      (course start out x)) cut far in
+      c.in-Ok.ensures.takes input (drop (i + 1) piece ++ rest) p d log start
+      (c.loop-i.invariant.direct ∙ de) before;
 }
 
 pub returns-in-Err-clause-takes : goal.returns-in-Err-clause-takes
@@ -41,9 +49,16 @@ returns-in-Err-clause-takes g c = λ input rest p d log start de h.
     let out = output_of g.W.Sink.broken g.W.Sink.contents c.loop-i.writer player.stage.page in
     let x = around p c.loop-i.pair d log (g.C.Carrier.told c.loop-i.carrier) in
     let far = c.loop-i.invariant.so_far input rest p d log start de h in
-    let cut : drop i piece ++ rest ≡ get_or piece i 0 ∷ (drop (i + 1) piece ++ rest) = ap (λ t. t ++ rest) (drop-cons piece i 0 c.loop-i-test.true ∙ ap (λ n. get_or piece i 0 ∷ drop n piece) (sym (add-one i))) in
-    let before = subst (λ t. HasDone input t (played player.line.items player.number player.stage.lines) (course start out x)) cut far in
-    c.in-Err.ensures.takes input (drop (i + 1) piece ++ rest) p d log start (c.loop-i.invariant.direct ∙ de) before
+    let cut : drop i piece ++ rest ≡ get_or piece i 0 ∷ (drop (i + 1) piece ++ rest) =
+    ap (λ t. t ++ rest)
+    (drop-cons piece i 0 c.loop-i-test.true
+    ∙ ap (λ n. get_or piece i 0 ∷ drop n piece) (sym (add-one i))) in
+    let before =
+    subst
+    (λ t. HasDone input t (played player.line.items player.number player.stage.lines)
+    (course start out x)) cut far in
+    c.in-Err.ensures.takes input (drop (i + 1) piece ++ rest) p d log start
+    (c.loop-i.invariant.direct ∙ de) before
 
 pub returns-clause-takes : goal.returns-clause-takes
 returns-clause-takes g c = λ input rest p d log start de h.
@@ -52,4 +67,6 @@ returns-clause-takes g c = λ input rest p d log start de h.
     let out = output_of g.W.Sink.broken g.W.Sink.contents c.loop-i.writer player.stage.page in
     let x = around p c.loop-i.pair d log (g.C.Carrier.told c.loop-i.carrier) in
     let none : drop c.loop-i.i piece ≡ [] = drop_all c.loop-i.i piece (omega arith) in
-    subst (λ t. HasDone input (t ++ rest) (played player.line.items player.number player.stage.lines) (course start out x)) none (c.loop-i.invariant.so_far input rest p d log start de h)
+    subst
+    (λ t. HasDone input (t ++ rest) (played player.line.items player.number player.stage.lines)
+    (course start out x)) none (c.loop-i.invariant.so_far input rest p d log start de h)

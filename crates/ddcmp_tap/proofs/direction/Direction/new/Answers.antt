@@ -6,5 +6,9 @@ pub returns-clause-passes : goal.returns-clause-passes
 returns-clause-passes c = record {
   handed_on = sym (ap (λ q. q.waiting) c.in-Ok.ensures);
   explained = sym (ap (λ q. q.untold) c.in-Ok.ensures);
-  has_told = record { stands = c.in-Ok-new.ensures.stands; counted = sym (ap length (items-nothing c.in-Ok-new.frames.max)) };
+  has_told =
+      record {
+        stands = c.in-Ok-new.ensures.stands;
+        counted = sym (ap length (items-nothing c.in-Ok-new.frames.max));
+      };
 }

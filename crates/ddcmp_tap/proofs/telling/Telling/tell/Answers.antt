@@ -1,4 +1,5 @@
-use Rattle.std.proofs.Common.{[], ◌++◌, ◌-◌, refl, sym, subst, arith, ◌∙◌, length, take, take_all, drop, length-drop}
+use Rattle.std.proofs.Common.{[], ◌++◌, ◌-◌, refl, sym, subst, arith, ◌∙◌, length, take, take_all}
+use Rattle.std.proofs.Common.{drop, length-drop}
 use Rattle.std.proofs.lemmas.List.{append-nil, length-take}
 use Rattle.ddcmp_explain.proofs.LinesLaws.{taken-more}
 use Rattle.ddcmp_tap.specs.Passing.{HasTold, Tells}
@@ -18,7 +19,8 @@ loop-used-init c =
       side = refl;
       told = λ told h. (
         subst (λ t. HasTold was.frames was.items t) (sym (append-nil told)) h,
-        tells-nothing was.notation was.side was.frames.max c.args.stamp told c.args.text.now.bytes.items,
+        tells-nothing was.notation was.side was.frames.max c.args.stamp told
+            c.args.text.now.bytes.items,
       );
     }
 
@@ -32,7 +34,14 @@ loop-used-preserved c =
     let e = c.in_ok-used.ensures in
     let at = c.push.new.self in
     record {
-      within = omega (arith, now.within, e.used.1, length-take (length bytes - n) (drop n bytes), length-drop n bytes);
+      within =
+          omega (
+            arith,
+            now.within,
+            e.used.1,
+            length-take (length bytes - n) (drop n bytes),
+            length-drop n bytes,
+          );
       page = e.empty;
       whole = e.whole;
       offset = omega (arith, now.offset, e.used.2);
@@ -43,8 +52,11 @@ loop-used-preserved c =
           let a = now.told told h in
           let b = e.told (told ++ take n bytes) a.0 in (
             subst (λ t. HasTold at.frames at.items t) (taken-more told bytes n k) b.0,
-            subst (λ t. Tells was.notation was.side was.frames.max c.args.stamp told t c.args.text.now.bytes.items c.push.new.text.bytes.items) (taken-more [] bytes n k)
-                (tells-then was.notation was.side was.frames.max c.args.stamp told (take n bytes) _ _ _ _ a.1
+            subst
+                (λ t. Tells was.notation was.side was.frames.max c.args.stamp told t
+                c.args.text.now.bytes.items c.push.new.text.bytes.items) (taken-more [] bytes n k)
+                (tells-then was.notation was.side was.frames.max c.args.stamp told (take n bytes)
+                _ _ _ _ a.1
                 (tells-of _ _ _ _ _ _ c.args.stamp _ _ _ _ now.notation now.side now.max b.1)),
           );
     }
@@ -57,5 +69,7 @@ returns-clause-told c = λ ok told h.
     let a = now.told told h in
     let all = take_all c.loop-used.used bytes (omega (arith, c.loop-used-test.false)) in (
       subst (λ t. HasTold c.loop-used.self.frames c.loop-used.self.items (told ++ t)) all a.0,
-      subst (λ t. Tells was.notation was.side was.frames.max c.args.stamp told t c.args.text.now.bytes.items c.loop-used.text.bytes.items) all a.1,
+      subst
+          (λ t. Tells was.notation was.side was.frames.max c.args.stamp told t
+          c.args.text.now.bytes.items c.loop-used.text.bytes.items) all a.1,
     )

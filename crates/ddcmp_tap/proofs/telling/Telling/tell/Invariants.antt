@@ -13,7 +13,8 @@ invariant-loop-used l = record {
   side : l.self.side ≡ l.initial.self.side;
   told : (told : List ℕ) → HasTold l.initial.self.frames l.initial.self.items told
       → HasTold l.self.frames l.self.items (told ++ take l.used l.bytes)
-      × Tells l.initial.self.notation l.initial.self.side l.initial.self.frames.max l.stamp told (take l.used l.bytes) l.initial.text.bytes.items l.text.bytes.items;
+      × Tells l.initial.self.notation l.initial.self.side l.initial.self.frames.max l.stamp told
+      (take l.used l.bytes) l.initial.text.bytes.items l.text.bytes.items;
 }
 
 abbrev pub decreases-loop-used : goal.decreases-loop-used

@@ -10,7 +10,8 @@ pub bytes_before-bytes-requires : goal.bytes_before-bytes-requires
 bytes_before-bytes-requires c = omega (arith, length-cut)
 
 pub drop_first-requires : goal.drop_first-requires
-drop_first-requires c = omega (arith, sum_by-take-drop (λ (k : ℕ). k) c.args.self.now.lengths.items c.args.n)
+drop_first-requires c =
+    omega (arith, sum_by-take-drop (λ (k : ℕ). k) c.args.self.now.lengths.items c.args.n)
 
 pub drop_first-requires-2 : goal.drop_first-requires-2
 drop_first-requires-2 c = omega (arith, length-cut)
@@ -25,7 +26,9 @@ invariant_of-self c =
       limit_in_range = store.limit_in_range;
       longest_in_range = store.longest_in_range;
       within_limit = rw c.drop_first-2.ensures (omega (arith, length-drop n lengths));
-      lengths_in_range = rw c.drop_first-2.ensures (All-drop (λ k. (1 ≤ k) × (k ≤ store.longest)) n lengths store.lengths_in_range);
+      lengths_in_range =
+          rw c.drop_first-2.ensures
+          (All-drop (λ k. (1 ≤ k) × (k ≤ store.longest)) n lengths store.lengths_in_range);
       no_other_bytes = rw (c.drop_first-2.ensures, c.drop_first.ensures)
           (omega (arith, length-drop c.bytes_before-bytes.result store.ring.items));
       room_for_lengths = rw c.drop_first-2.ensures store.room_for_lengths;
@@ -35,4 +38,9 @@ invariant_of-self c =
 pub returns-clause-messages : goal.returns-clause-messages
 returns-clause-messages c =
     let store = c.args.self.now in
-    rw (c.drop_first-2.ensures, c.drop_first.ensures, c.bytes_before-bytes.ensures, drop-cut c.args.n store.lengths.items store.ring.items) refl
+    rw (
+      c.drop_first-2.ensures,
+      c.drop_first.ensures,
+      c.bytes_before-bytes.ensures,
+      drop-cut c.args.n store.lengths.items store.ring.items,
+    ) refl

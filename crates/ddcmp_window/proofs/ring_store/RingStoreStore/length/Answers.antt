@@ -9,4 +9,8 @@ pub returns : goal.returns
 returns c =
     let store = c.args.self.now in
     let count = length-cut store.lengths.items store.ring.items in
-    omega (arith, length-get_or-cut store.lengths.items store.ring.items c.args.i [] (omega arith) (omega arith))
+    omega (
+      arith,
+      length-get_or-cut store.lengths.items store.ring.items c.args.i [] (omega arith)
+          (omega arith),
+    )

@@ -6,5 +6,6 @@ abbrev pub invariant-loop-made : goal.invariant-loop-made
 invariant-loop-made l = record {
   made : length l.slots.items ≡ l._made;
   room : l.limit ≤ deque_capacity l.slots;
-  reserved : (i : ℕ) (slot : _) → i < l._made → l.longest ≤ vec_capacity (slice_index_or l.slots.items i slot);
+  reserved : (i : ℕ) (slot : _) → i < l._made
+      → l.longest ≤ vec_capacity (slice_index_or l.slots.items i slot);
 }

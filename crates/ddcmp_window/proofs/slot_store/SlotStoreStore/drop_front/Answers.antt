@@ -9,4 +9,5 @@ returns-clause-messages c =
     let len = c.args.self.now.len in
     let kept = length-front (λ slot. slot.items) len slots (omega arith) in
     let total : c.args.n + (len - c.args.n) ≡ len = omega arith in
-    rw c.rotate_left.ensures.items (front-rotated (λ slot. slot.items) c.args.n (len - c.args.n) len slots total (omega arith))
+    rw c.rotate_left.ensures.items
+    (front-rotated (λ slot. slot.items) c.args.n (len - c.args.n) len slots total (omega arith))
