@@ -53,7 +53,9 @@ use Rattle.ddcmp_explain.specs.Dumps.{ExplainsDump}
 use Rattle.ddcmp_explain.specs.Explains.{Explains}
 use Rattle.ddcmp_serve.specs.Serving.{Serves}
 use Rattle.ddcmp_station.specs.Driving.{Devices}
-use Rattle.ddcmp_cli.specs.TapEndings.{Taps}
+use Rattle.ddcmp_cli.specs.TapEndings.{tap_fault, told_as}
+use Rattle.ddcmp_pump.specs.Pumping.{Says, head_of}
+use Rattle.ddcmp_pump.specs.declared.tap_fault.TapFault.{TapFault}
 use Rattle.ddcmp_cli.specs.LinkEndings.{IsLinkEnding}
 use Rattle.hex.specs.Hex.{decode_of}
 use Rattle.hex.specs.declared.error.FromHexError.{FromHexError}
@@ -347,11 +349,18 @@ abbrev pub is_json : Notation → Bool
 is_json Plain = false
 is_json Json = true
 
+-- some pieces of what both sides said were told, below the head of a ladder, and the ending tells
+-- the answer
+abbrev pub Taps : Tapped → Known → Known → Ending → Type 0
+Taps tapped old new ending =
+    (result : Result (Unit {0}) TapFault) × (ending ≡ ending_of tap_fault result)
+    × Says (head_of (told_as tapped)) (told_as tapped) tapped.time tapped.max old new result
+
 -- what became of a tap that was asked for: JSON and a ladder at once are usage
 abbrev pub TapsAsked : Tapped → Known → Known → Ending → Type 0
 TapsAsked tapped old new ending =
     UnlessMisused (tapped.ladder && is_json tapped.notation) (λ e. Keeps old new)
-    (λ e. Taps old new e) ending
+    (Taps tapped old new) ending
 
 -- the tap was that of the words, or there was no memory for them
 abbrev pub TapsOrNoMemory : List Text → Known → Known → Ending → Type 0

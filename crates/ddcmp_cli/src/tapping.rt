@@ -1,8 +1,8 @@
 //! A tap between two addresses.
 ghost use Rattle.std.specs.Prelude.{◌≡◌, ◌≤◌, IsTrue, false};
 ghost use Rattle.ddcmp_core.specs.Limits.{MAX_COUNT};
-ghost use Rattle.ddcmp_cli.specs.Endings.{TapsAsked, is_json as is_json_notation};
-ghost use Rattle.ddcmp_cli.specs.TapEndings.{Taps, tap_fault};
+ghost use Rattle.ddcmp_cli.specs.Endings.{Taps, TapsAsked, is_json as is_json_notation};
+ghost use Rattle.ddcmp_cli.specs.TapEndings.{tap_fault, told_as as notation_of};
 
 use crate::ending::Ending;
 use crate::fault::Fault;
@@ -46,7 +46,9 @@ fn is_json(notation: Notation) -> bool
 }
 
 /// How the tap tells what passes.
-fn told_as(tapped: &Tapped<'_>) -> TapNotation {
+fn told_as(tapped: &Tapped<'_>) -> TapNotation
+    ensures { result ≡ notation_of tapped.now }
+{
     match (tapped.notation, tapped.ladder) {
         (_, true) => TapNotation::Ladder,
         (Notation::Plain, false) => TapNotation::Plain,
@@ -64,7 +66,7 @@ fn tap_between<S: Net<Stream = TcpStream> + time::Clock, W: Sink>(
     requires whole { W.broken writer.old ≡ false }
     requires low { 1 ≤ tapped.now.max }
     requires high { tapped.now.max ≤ MAX_COUNT }
-    ensures taps { Taps (W.contents writer.old) (W.contents writer.new) result }
+    ensures taps { Taps tapped.now (W.contents writer.old) (W.contents writer.new) result }
     ensures written { IsTrue (W.broken writer.new) → result ≡ Ending.Fault Fault.Write }
 {
     match ddcmp_pump::tap(

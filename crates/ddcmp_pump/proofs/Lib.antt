@@ -2,3 +2,4 @@ pub mod MoveLaws
 pub mod PieceLaws
 pub mod SaidLaws
 pub mod FreshLaws
+pub mod HeadLaws

@@ -1,10 +1,11 @@
 -- What a tap hands on in both directions, and what it writes.
 use Rattle.std.specs.Prelude.{◌≡◌, ◌⊎◌, ℕ, Bool, true, false, List, [], ◌∷◌, ◌++◌, All, drop}
-use Rattle.std.specs.Prelude.{is_some, length, ⊤, Option, Result, Ok, Err}
+use Rattle.std.specs.Prelude.{is_some, length, codes, ⊤, Option, Result, Ok, Err}
 use Rattle.std.specs.Io.KnownBytes.{Appends, Consumes, IsAtEnd, Keeps}
 use Rattle.ddcmp_io.specs.Written.{AppendsPart, Known}
 use Rattle.ddcmp_frame.specs.Reading.{ReadItem, items}
 use Rattle.ddcmp_tap.specs.declared.notation.Notation.{Notation}
+use Rattle.ddcmp_tap.specs.declared.notation.Notation.TheVariants.{Plain, Json, Ladder}
 use Rattle.ddcmp_tap.specs.Passing.{DirectionView, Passes}
 use Rattle.ddcmp_tap.specs.Tapped.{tapped_last, tapped_lines}
 use Rattle.ddcmp_tap.specs.declared.side.Side.{Side}
@@ -79,13 +80,21 @@ WritesText old new (Err Carrier) text = Keeps old new
 WritesText old new (Err Report) text = AppendsPart old new text
 WritesText old new (Err Memory) text = AppendsPart old new text
 
--- what a tap wrote of pieces of what both sides said
-pub record Says (notation : Notation) (timed : Bool) (max : ℕ) (old new : Known)
+-- what stands above a ladder: who is on which side
+abbrev pub head_of : Notation → List ℕ
+head_of Plain = []
+head_of Json = []
+head_of Ladder =
+    codes
+    "> who connected to the tap                         whom the tap connected to <\n"
+
+-- what a tap wrote below a head, of pieces of what both sides said
+pub record Says (head : List ℕ) (notation : Notation) (timed : Bool) (max : ℕ) (old new : Known)
     (result : Result (Unit {0}) TapFault) : Type 0 where
   pub pieces : List Piece
   pub stamp : Option ℕ
   pub stamped : AreStamped timed pieces × (is_some stamp ≡ timed)
-  pub wrote : WritesText old new result (tap_text notation max stamp pieces)
+  pub wrote : WritesText old new result (head ++ tap_text notation max stamp pieces)
 
 -- One direction with its devices: its bytes, what its reader has left and what its outlet took,
 -- where these are known, and whether the end was handed on.
@@ -219,7 +228,7 @@ Stops notation timed max up0 up down0 down old new (Err Memory) =
 -- was, and the end too.
 pub record Pumps (notation : Notation) (timed : Bool) (max : ℕ) (up0 up down0 down : FlowView)
     (old new : Known) (result : Result (Unit {0}) TapFault) : Type 0 where
-  pub says : Says notation timed max old new result
+  pub says : Says [] notation timed max old new result
   pub rising : HasMoved up0 up
   pub falling : HasMoved down0 down
   pub said_all : HasSaid result → (said Caller says.pieces ≡ rising.came)

@@ -1,12 +1,14 @@
 //! A tap between two addresses.
-ghost use Rattle.std.specs.Prelude.{◌≡◌, ◌≢◌, ◌<◌, ◌≤◌, ◌↔◌, Err, IsTrue, false, not};
+ghost use Rattle.std.specs.Prelude.{◌≡◌, ◌≢◌, ◌<◌, ◌≤◌, ◌↔◌, Err, IsTrue, false, is_err};
+ghost use Rattle.ddcmp_io.specs.Written.{Writes};
 ghost use Rattle.ddcmp_frame.specs.Limits.{MAX_COUNT};
+ghost use Rattle.ddcmp_pump.specs.Pumping.{Says, head_of};
 
 use crate::flow::Flow;
 use crate::pumping::pump;
 use crate::sockets::{Sockets, ToSocket};
 use crate::tap_fault::TapFault;
-use ddcmp_io::{FromRead, Sink, write_all};
+use ddcmp_io::{FromRead, Sink, WriteFailed, write_all};
 use ddcmp_net::Elapsed;
 use ddcmp_tap::{Direction, Notation, ROOM, Side};
 use mio::net::TcpStream;
@@ -18,15 +20,16 @@ use std::{io, time};
 const LADDER_HEAD: &[u8] =
     b"> who connected to the tap                         whom the tap connected to <\n";
 
-/// Writes what stands above all that passes: whether it went out.
-fn write_head<W: Sink>(writer: &mut W, notation: Notation) -> bool
+/// Writes what stands above all that passes.
+fn write_head<W: Sink>(writer: &mut W, notation: Notation) -> Result<(), WriteFailed>
     requires whole { W.broken writer.old ≡ false }
-    ensures broken { W.broken writer.new ≡ not result }
+    ensures written { Writes (W.contents writer.old) (W.contents writer.new) result
+        (head_of notation) }
+    ensures broken { W.broken writer.new ≡ is_err result }
 {
     match notation {
-        Notation::Plain => true,
-        Notation::Json => true,
-        Notation::Ladder => write_all(writer, LADDER_HEAD).is_ok(),
+        Notation::Plain | Notation::Json => Ok(()),
+        Notation::Ladder => write_all(writer, LADDER_HEAD),
     }
 }
 
@@ -63,6 +66,8 @@ pub fn tap<S: Net<Stream = net::TcpStream> + time::Clock, W: Sink>(
     requires whole { W.broken writer.old ≡ false }
     requires low { 0 < max }
     requires high { max ≤ MAX_COUNT }
+    ensures says { Says (head_of notation) notation timed max
+        (W.contents writer.old) (W.contents writer.new) result }
     ensures carrier { result ≡ Err TapFault.Carrier → writer.new ≡ writer.old }
     ensures broken { (result ≡ Err TapFault.Report) ↔ IsTrue (W.broken writer.new) }
 {
@@ -100,6 +105,8 @@ fn between<C: time::Clock, W: Sink>(
     requires whole { W.broken writer.old ≡ false }
     requires low { 0 < max }
     requires high { max ≤ MAX_COUNT }
+    ensures says { Says (head_of notation) notation timed max
+        (W.contents writer.old) (W.contents writer.new) result }
     ensures met { result ≢ Err TapFault.Carrier }
     ensures broken { (result ≡ Err TapFault.Report) ↔ IsTrue (W.broken writer.new) }
 {
@@ -112,7 +119,7 @@ fn between<C: time::Clock, W: Sink>(
     let Ok(mut buffer) = Vec::from_elem(alloc, 0u8, ROOM) else {
         return Err(TapFault::Memory);
     };
-    if !write_head(writer, notation) {
+    if write_head(writer, notation).is_err() {
         return Err(TapFault::Report);
     }
     pump(
