@@ -141,6 +141,18 @@ is_held_back (Some f) l s = is_nak_for_buffer (header_of f) && not (has_room l s
 abbrev pub holds_back : LinkView → Bool
 holds_back d = is_held_back (frame_of_link d) d.station.core.limits d.station.core.station
 
+-- whether the next frame carries a message
+abbrev pub is_data : Header → Bool
+is_data (header.Data h) = true
+is_data _ = false
+
+abbrev pub is_message : Option Frame → Bool
+is_message None = false
+is_message (Some f) = is_data (header_of f)
+
+abbrev pub carries_message : LinkView → Bool
+carries_message d = is_message (frame_of_link d)
+
 -- whether a frame of any length has room
 abbrev pub fits : LinkView → Bool
 fits d = nat_le (d.station.syn + d.station.core.limits.longest + 10) d.outbox.room

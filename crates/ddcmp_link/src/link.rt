@@ -78,7 +78,7 @@ impl Link {
     ghost use Rattle.ddcmp_link.specs.Linking.{answer_to_offered, puts_frame, after_frame};
     ghost use Rattle.ddcmp_link.specs.Linking.{after_frames, after_sent, countable};
     ghost use Rattle.ddcmp_link.specs.Linking.{totals_after_feed, after_taking, delivered};
-    ghost use Rattle.ddcmp_link.specs.Linking.{holds_back};
+    ghost use Rattle.ddcmp_link.specs.Linking.{holds_back, carries_message};
 
     /// A halted link, whose timer runs out `timer_ms` milliseconds after it was started.
     pub fn new(alloc: Global, config: Config, timer_ms: u32) -> Result<Link, ConfigRefusal>
@@ -225,6 +225,13 @@ impl Link {
             Some(header) => asks_for_buffer(&header) && !self.wants_line(),
             None => false,
         }
+    }
+
+    /// Whether the next frame carries a message: one that is new, or one to be retransmitted.
+    pub fn sends_message(&self) -> bool
+        ensures { result ≡ carries_message self.now }
+    {
+        matches!(self.station.next_header(), Some(Header::Data(_)))
     }
 
     /// What waits for the line.

@@ -6,7 +6,7 @@ use Rattle.std.specs.Prelude.{◌==◌}
 use Rattle.std.specs.List.{All}
 use Rattle.std.proofs.lemmas.List.Elements.{All-head, All-tail}
 use Rattle.ddcmp_messages.specs.declared.entry.Entry.{Entry}
-use Rattle.ddcmp_messages.specs.declared.entry.Entry.TheVariants.{Message, TooLong}
+use Rattle.ddcmp_messages.specs.declared.entry.Entry.TheVariants.{Message, TooLong, Empty}
 use Rattle.ddcmp_messages.specs.declared.lengths.Place.{Place}
 use Rattle.ddcmp_messages.specs.declared.lengths.Place.TheVariants.{Start, Half, Inside, Passing}
 use Rattle.ddcmp_messages.specs.Lengths.{LengthsView, is_refused, place_before, is_last}
@@ -135,6 +135,17 @@ before_outside : (b : Bool) (n : ℕ) → IsOutside (cond b Start (Passing n))
 before_outside true n = tt
 before_outside false n = tt
 
+-- why a message of a length is refused, and that said
+abbrev why : ℕ → Entry
+why n = cond (n == 0) Empty TooLong
+
+abbrev refusal : Bool → Told
+refusal none = cond none (Refused Empty) (Refused TooLong)
+
+told_why : (none : Bool) (held : List ℕ) → told_of (cond none Empty TooLong) held ≡ refusal none
+told_why true held = refl
+told_why false held = refl
+
 abbrev judged : Bool → ℕ → ℕ → List ℕ → LengthsView
 judged refused max n ys = cond refused (at max (place_before n) ys) (at max (Inside n) [])
 
@@ -152,12 +163,17 @@ told_same (b ∷ rest) max (Half high) held other o =
         → told_in rest (at max (place_before (high * 256 + b)) held)
         ≡ told_in rest (at max (place_before (high * 256 + b)) other)
         → map (λ x. told_of x (judged refused max (high * 256 + b) held).message)
-        (option_to_list (cond refused (Some TooLong) None))
+        (option_to_list (cond refused (Some (why (high * 256 + b))) None))
         ++ told_in rest (judged refused max (high * 256 + b) held)
         ≡ map (λ x. told_of x (judged refused max (high * 256 + b) other).message)
-        (option_to_list (cond refused (Some TooLong) None))
+        (option_to_list (cond refused (Some (why (high * 256 + b))) None))
         ++ told_in rest (judged refused max (high * 256 + b) other)
-    by true more = ap (λ ts. Refused TooLong ∷ ts) more
+    by true more =
+        let both = told_why (high * 256 + b == 0) in
+        ap (λ t. t ∷ told_in rest (at max (place_before (high * 256 + b)) held)) (both held)
+        ∙ ap (λ ts. refusal (high * 256 + b == 0) ∷ ts) more
+        ∙ ap (λ t. t ∷ told_in rest (at max (place_before (high * 256 + b)) other))
+        (sym (both other))
     by false more = refl
 told_same (b ∷ rest) max (Inside left) held other o = absurd o
 told_same (b ∷ rest) max (Passing left) held other o =
@@ -187,7 +203,7 @@ begins n max held h k = by (is_refused max n) (fits_not max n h k)
     by : (refused : Bool) → refused ≡ false
         → (cond refused (at max (place_before n) held) (at max (Inside n) [])
         ≡ at max (Inside n) [])
-        × (cond refused (Some TooLong) None ≡ None)
+        × (cond refused (Some (why n)) None ≡ None)
     by true e = cc
     by false e = (refl, refl)
 
@@ -261,11 +277,11 @@ all_messages (message ∷ rest) v e f =
 -- ---- what is no message
 
 pub empty_then : (rest : List ℕ) (v : LengthsView) → v.place ≡ Start
-    → told_in (behind_length [] ++ rest) v ≡ Refused TooLong ∷ told_in rest v
+    → told_in (behind_length [] ++ rest) v ≡ Refused Empty ∷ told_in rest v
 unfolding told_in
 empty_then rest v e =
     ap (told_in (0 ∷ 0 ∷ rest)) (at_place v Start e)
-    ∙ ap (λ u. Refused TooLong ∷ told_in rest u) (sym (at_place v Start e))
+    ∙ ap (λ u. Refused Empty ∷ told_in rest u) (sym (at_place v Start e))
 
 -- a length that is too long
 passes : (n max : ℕ) (held : List ℕ) → max < n
@@ -277,7 +293,7 @@ passes n max held h =
     by : (refused : Bool) → refused ≡ true → (none : Bool) → none ≡ false
         → (cond refused (at max (cond none Start (Passing n)) held) (at max (Inside n) [])
         ≡ at max (Passing n) held)
-        × (cond refused (Some TooLong) None ≡ Some TooLong)
+        × (cond refused (Some (cond none Empty TooLong)) None ≡ Some TooLong)
     by true e true g = cc
     by true e false g = (refl, refl)
     by false e none g = cc

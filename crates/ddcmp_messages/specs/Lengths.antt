@@ -3,7 +3,7 @@ use Rattle.std.specs.Prelude.{ℕ, ◌+◌, ◌-◌, ◌*◌, ◌<◌, ◌≤◌
 use Rattle.std.specs.Prelude.{nat_lt, if◌then◌else◌, List, [], ◌∷◌, ◌++◌, Option, Some, None}
 use Rattle.std.specs.Prelude.{option_to_list}
 use Rattle.ddcmp_messages.specs.declared.entry.Entry.{Entry}
-use Rattle.ddcmp_messages.specs.declared.entry.Entry.TheVariants.{Message, TooLong}
+use Rattle.ddcmp_messages.specs.declared.entry.Entry.TheVariants.{Message, TooLong, Empty}
 use Rattle.ddcmp_messages.specs.declared.lengths.Place.{Place}
 use Rattle.ddcmp_messages.specs.declared.lengths.Place.TheVariants.{Start, Half, Inside, Passing}
 
@@ -16,16 +16,18 @@ pub record LengthsView : Type 0 where
 abbrev pub begun : ℕ → LengthsView
 begun max = record { max = max; place = Start; message = [] }
 
-abbrev pub is_start : Place → Bool
-is_start Start = true
-is_start _ = false
+-- a length or a message has begun, and its end is to come
+abbrev pub is_unfinished : Place → Bool
+is_unfinished (Half high) = true
+is_unfinished (Inside left) = true
+is_unfinished _ = false
 
 -- what is to come of a message has room
 abbrev pub HasRoom : Place → ℕ → ℕ → Type 0
 HasRoom (Inside left) held capacity = (0 < left) × (held + left ≤ capacity)
 HasRoom _ held capacity = Unit {0}
 
--- a message of no bytes, or longer than the longest, is refused and its bytes are passed over
+-- a message of no bytes, or longer than the longest, is refused and its bytes are skipped
 abbrev pub is_refused : ℕ → ℕ → Bool
 is_refused max length = (length == 0) || nat_lt max length
 
@@ -56,7 +58,8 @@ abbrev pub after_byte : ℕ → LengthsView → LengthsView
 after_byte byte v = after_byte_at v.place byte v
 
 abbrev pub entry_of_length : ℕ → ℕ → Option Entry
-entry_of_length length max = if is_refused max length then Some TooLong else None
+entry_of_length length max =
+    if is_refused max length then Some (if length == 0 then Empty else TooLong) else None
 
 -- what a byte completes
 abbrev pub entry_of_byte_at : Place → ℕ → ℕ → Option Entry

@@ -7,8 +7,10 @@ pub enum Entry {
     Message,
     /// A line that isn't hexadecimal: another character, or an odd number of digits.
     NotHexadecimal,
-    /// A message that is longer than the longest, or in binary one of no bytes.
+    /// A message that is longer than the longest.
     TooLong,
+    /// In binary, a message of no bytes.
+    Empty,
 }
 
 /// What came of a piece of the input.

@@ -3,7 +3,7 @@ ghost use Rattle.std.specs.Prelude.{◌≡◌, ◌≢◌, ℕ, ◌<◌, Bool, Li
 ghost use Rattle.std.specs.List.{All};
 ghost use Rattle.hex.specs.Hex.{encode_lower, encode_upper, IsBytes};
 ghost use Rattle.ddcmp_messages.specs.declared.entry.Entry.{Entry as EntryValue};
-ghost use Rattle.ddcmp_messages.specs.declared.entry.Entry.TheVariants.{Message, TooLong};
+ghost use Rattle.ddcmp_messages.specs.declared.entry.Entry.TheVariants.{Message, TooLong, Empty};
 ghost use Rattle.ddcmp_messages.specs.declared.lengths.Place.TheVariants.{Start};
 ghost use Rattle.ddcmp_messages.specs.Lengths.{LengthsView, after_bytes, entries_of_bytes};
 ghost use Rattle.ddcmp_messages.specs.HexLines.{HexView, in_line, after_bytes as after_digits};
@@ -56,7 +56,7 @@ pub fn binary_messages()
         → (told_in (in_binary messages) v ≡ map Got messages)
         × ((after_bytes (in_binary messages) v).place ≡ Start) }
     ensures empty { (rest : List ℕ) (v : LengthsView) → v.place ≡ Start
-        → told_in (behind_length [] ++ rest) v ≡ Refused TooLong ∷ told_in rest v }
+        → told_in (behind_length [] ++ rest) v ≡ Refused Empty ∷ told_in rest v }
     ensures long { (message rest : List ℕ) (v : LengthsView)
         → v.place ≡ Start → v.max < length message
         → told_in (behind_length message ++ rest) v ≡ Refused TooLong ∷ told_in rest v }

@@ -14,7 +14,7 @@ pub enum Place {
     Half(u8),
     /// In a message of which so many bytes are to come.
     Inside(u16),
-    /// In one that is passed over.
+    /// In one that is skipped.
     Passing(u16),
 }
 
@@ -43,7 +43,7 @@ impl Lengths {
     ghost use Rattle.std.specs.Prelude.{option_to_list};
     ghost use Rattle.ddcmp_messages.specs.Lengths.{begun, after_length, entry_of_length};
     ghost use Rattle.ddcmp_messages.specs.Lengths.{after_byte, entry_of_byte, after_bytes};
-    ghost use Rattle.ddcmp_messages.specs.Lengths.{entries_of_bytes, is_start};
+    ghost use Rattle.ddcmp_messages.specs.Lengths.{entries_of_bytes, is_unfinished};
 
     /// Nothing has come. It takes all the memory that it will need.
     pub fn new(alloc: Global, max: u16) -> Result<Lengths, AllocError>
@@ -98,7 +98,7 @@ impl Lengths {
     {
         if length == 0 {
             self.place = Place::Start;
-            return Some(Entry::TooLong);
+            return Some(Entry::Empty);
         }
         if length > self.max {
             self.place = Place::Passing(length);
@@ -190,11 +190,12 @@ impl Lengths {
         &self.message
     }
 
-    /// Whether the next byte begins a length: no message is cut at the end of the input.
-    pub fn is_whole(&self) -> bool
-        ensures { result ≡ is_start self.now.place }
+    /// Whether a length or a message has begun whose end is to come: if the input ends here, it is
+    /// cut off. The rest of a refused message is skipped, and isn't unfinished.
+    pub fn is_unfinished(&self) -> bool
+        ensures { result ≡ is_unfinished self.now.place }
     {
-        matches!(self.place, Place::Start)
+        matches!(self.place, Place::Half(_) | Place::Inside(_))
     }
 }
 

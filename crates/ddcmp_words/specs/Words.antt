@@ -126,7 +126,7 @@ abbrev pub link_app : App
 link_app =
     with_rule (with_rule (with_rule (with_rule (with_rule (with_rule (with_rule
     (with_sizes line_app)
-    (number_rule (codes "timer-ms") 0 MOST))
+    (number_rule (codes "timer-ms") 1 MOST))
     (number_rule (codes "seconds") 1 MOST))
     (flag_rule (codes "binary")))
     (flag_rule (codes "stay")))
@@ -274,7 +274,7 @@ usual_syn_of line = if starts_with eqb line (codes "device:") then 4 else 0
 pub record HasLink (option text : Text → Option Text) (linked : Linked) : Type 0 where
   pub line : linked.line.now ≡ unwrap_or (text (codes "line")) []
   pub sizes : HasSizes (usual_syn_of linked.line.now) option linked.config
-  pub timer_ms : HasNumber 0 MOST 3000 (option (codes "timer-ms")) linked.timer_ms
+  pub timer_ms : HasNumber 1 MOST 3000 (option (codes "timer-ms")) linked.timer_ms
   pub seconds : HasNumber 1 MOST MOST (option (codes "seconds")) linked.seconds
   pub binary : HasFlag (option (codes "binary")) linked.binary
   pub stay : HasFlag (option (codes "stay")) linked.stay

@@ -63,7 +63,7 @@ static LINK_OPTIONS: [CommandOption; 7] = [
     CommandOption {
         name: "timer-ms",
         takes: Takes::Number {
-            low: 0,
+            low: 1,
             high: u32::MAX,
         },
         is_required: false,
@@ -135,7 +135,7 @@ pub(crate) fn link_given<'a>(options: &ArgMatches<'a>) -> Linked<'a>
     Linked {
         line,
         config: sizes_given(options, usual_syn(line)),
-        timer_ms: number_given(options, "timer-ms", 0, u32::MAX, 3000),
+        timer_ms: number_given(options, "timer-ms", 1, u32::MAX, 3000),
         seconds: number_given(options, "seconds", 1, u32::MAX, u32::MAX),
         binary: flag_given(options, "binary"),
         stay: flag_given(options, "stay"),
