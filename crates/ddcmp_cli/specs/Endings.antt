@@ -14,6 +14,7 @@ use Rattle.ddcmp_cli.specs.declared.fault.Fault.{Fault}
 use Rattle.ddcmp_cli.specs.declared.fault.Fault.TheVariants.{Odd, NotHex, Dump, Line}
 use Rattle.ddcmp_cli.specs.declared.fault.Fault.TheVariants.{Hex as NotHexIn, Message, Read, Write}
 use Rattle.ddcmp_cli.specs.declared.fault.Fault.TheVariants.{Memory as NoMemory, Carrier, Ended}
+use Rattle.ddcmp_cli.specs.declared.fault.Fault.TheVariants.{Lost}
 use Rattle.ddcmp_run.specs.Run.{PairState, new_pair}
 use Rattle.ddcmp_script.specs.ScriptEnds.{around, Plays}
 use Rattle.ddcmp_proto.specs.declared.config.Config.{Config}
@@ -106,6 +107,7 @@ fault_status Write = 3
 fault_status NoMemory = 3
 fault_status Carrier = 3
 fault_status Ended = 3
+fault_status (Lost count) = 3
 
 abbrev pub status_of : Ending → ℕ
 status_of Done = 0
@@ -138,6 +140,7 @@ is_refusal (Faulted (NotHexIn line)) = false
 is_refusal (Faulted Message) = false
 is_refusal (Faulted Carrier) = false
 is_refusal (Faulted Ended) = false
+is_refusal (Faulted (Lost count)) = false
 is_refusal (Faulted NoMemory) = true
 
 -- What was read and written: the input, what is left of it, and what the sink held before and holds

@@ -28,7 +28,7 @@ pub enum Ending {
 
 impl Ending {
     /// The exit status: 0 done, 1 input refused, 2 usage, 3 a file, read, write,
-    /// carrier, ended or memory.
+    /// carrier, ended, lost or memory.
     pub fn status(&self) -> u8
         ensures { result ≡ status_of self.now }
     {
@@ -44,7 +44,12 @@ impl Ending {
                 | Fault::Line(_)
                 | Fault::Hex(_)
                 | Fault::Message => 1,
-                Fault::Read | Fault::Write | Fault::Memory | Fault::Carrier | Fault::Ended => 3,
+                Fault::Read
+                | Fault::Write
+                | Fault::Memory
+                | Fault::Carrier
+                | Fault::Ended
+                | Fault::Lost(_) => 3,
             },
         }
     }

@@ -30,6 +30,8 @@ pub enum Fault {
     Carrier,
     /// The peer of a station ended the connection.
     Ended,
+    /// So many messages of a link were read and not acknowledged.
+    Lost(u64),
 }
 
 impl From<ExplainFault> for Fault {
@@ -102,6 +104,8 @@ impl fmt::Display for Fault {
             Fault::Memory => ScriptFault::Memory.fmt(f),
             Fault::Carrier => ScriptFault::Carrier.fmt(f),
             Fault::Ended => ServeFault::Line(LineFault::Ended).fmt(f),
+            Fault::Lost(1) => f.write_str("1 message lost"),
+            Fault::Lost(count) => write!(f, "{count} messages lost"),
         }
     }
 }

@@ -10,6 +10,7 @@ pub mod inputs;
 mod linking;
 pub mod program;
 mod simulating;
+mod standard;
 mod stationing;
 mod tapping;
 
@@ -33,3 +34,4 @@ pub use program::{
     explain_is_asked, link_is_asked, pair_is_asked, run, run_args, simulate_is_asked,
     station_is_asked, tap_is_asked,
 };
+pub use standard::{StandIns, report};

@@ -96,6 +96,7 @@ pub(crate) fn link<S: Lines, R: Source, W: Sink>(
         Ok(Served::SomeRefused) => Ending::SomeRefused,
         Err(ServiceFault::Open(fault)) => no_line(alloc, &fault),
         Err(ServiceFault::Ended) => Ending::Fault(Fault::Ended),
+        Err(ServiceFault::Lost(count)) => Ending::Fault(Fault::Lost(count)),
         Err(ServiceFault::Read) => Ending::Fault(Fault::Read),
         Err(ServiceFault::Write) => Ending::Fault(Fault::Write),
         Err(ServiceFault::Memory) => Ending::Fault(Fault::Memory),

@@ -10,19 +10,48 @@ pub enum Attempt {
     Open,
 }
 
-/// A line that couldn't be opened: what was tried, with which name, and what the system said.
+/// Why a line can't be opened.
+#[derive(Clone, Copy, Debug, PartialEq, Eq)]
+pub enum Cause {
+    /// The system refused it.
+    System(ErrorKind),
+    /// No host has this name.
+    UnknownHost,
+    /// Of the two addresses of a line of datagrams one is of IPv4 and one of IPv6.
+    OtherFamily,
+    /// The file isn't a character device.
+    NotDevice,
+    /// Another program has locked the device.
+    InUse,
+}
+
+impl Cause {
+    /// The cause in words.
+    fn words(self) -> &'static str {
+        match self {
+            Cause::System(kind) => words_of(kind),
+            Cause::UnknownHost => "no such host",
+            Cause::OtherFamily => "not of the other address's family",
+            Cause::NotDevice => "not a character device",
+            Cause::InUse => "in use by another program",
+        }
+    }
+}
+
+/// A line that couldn't be opened: what was tried, with which name, and why it failed.
 #[derive(Clone, Copy, Debug, PartialEq, Eq)]
 pub struct NotOpened<'a> {
     pub attempt: Attempt,
     pub name: &'a str,
-    pub kind: ErrorKind,
+    pub cause: Cause,
 }
 
-/// The system's answer in words.
+/// The system's error in words.
 fn words_of(kind: ErrorKind) -> &'static str {
     match kind {
         ErrorKind::NotFound => "no such file",
         ErrorKind::PermissionDenied => "permission denied",
+        ErrorKind::IsADirectory => "is a directory",
         ErrorKind::ConnectionRefused => "connection refused",
         ErrorKind::ConnectionReset => "connection reset",
         ErrorKind::HostUnreachable => "host unreachable",
@@ -45,7 +74,7 @@ impl fmt::Display for NotOpened<'_> {
         })?;
         f.write_str(self.name)?;
         f.write_str(": ")?;
-        f.write_str(words_of(self.kind))
+        f.write_str(self.cause.words())
     }
 }
 
@@ -54,24 +83,14 @@ impl fmt::Display for NotOpened<'_> {
 pub enum ServiceFault<'a> {
     /// The line couldn't be opened.
     Open(NotOpened<'a>),
-    /// The line ended, or the station was halted since its peer began anew.
+    /// The line ended, or its time was over, before the station ran or all of the input was read.
     Ended,
+    /// So many messages were read and never acknowledged.
+    Lost(u64),
     /// Standard input, or waiting for it, failed.
     Read,
     /// Standard output failed.
     Write,
-    /// Memory was refused, before anything was done.
+    /// An allocation failed, before anything was done.
     Memory,
-}
-
-impl fmt::Display for ServiceFault<'_> {
-    fn fmt<W: fmt::Write>(&self, f: &mut fmt::Formatter<W>) -> fmt::Result {
-        match self {
-            ServiceFault::Open(fault) => fault.fmt(f),
-            ServiceFault::Ended => f.write_str("ended"),
-            ServiceFault::Read => f.write_str("read"),
-            ServiceFault::Write => f.write_str("write"),
-            ServiceFault::Memory => f.write_str("out of memory"),
-        }
-    }
 }

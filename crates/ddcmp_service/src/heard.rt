@@ -11,12 +11,20 @@ pub(crate) struct Discarded {
     pub(crate) count: u64,
 }
 
+/// The byte that some stations pad their frames with.
+const DEL: u8 = 0xff;
+
+/// Whether a byte between frames is fill, as stations send it before a frame or after it.
+fn is_fill(byte: u8) -> bool {
+    byte == SYN || byte == DEL
+}
+
 /// What was heard of one way.
 pub(crate) struct Heard {
     frames: Reader,
     /// The offset of the first byte that no frame and no line has taken.
     reached: u64,
-    /// The offset of the first of those that is no SYN. SYN alone is fill and isn't told.
+    /// The offset of the first of those that is no fill. Fill alone isn't reported.
     junk: Option<u64>,
 }
 
@@ -51,7 +59,7 @@ impl Heard {
         if offset >= u64::MAX - 1 {
             return None;
         }
-        if byte != SYN && self.junk.is_none() && self.reached <= offset {
+        if !is_fill(byte) && self.junk.is_none() && self.reached <= offset {
             self.junk = Some(offset);
         }
         self.frames.push(byte)
@@ -87,7 +95,12 @@ impl Heard {
             return None;
         }
         self.reached = end;
-        self.junk = None;
+        // The frame that isn't finished may turn out to be none.
+        self.junk = if self.frames.open() > 0 {
+            Some(end)
+        } else {
+            None
+        };
         Some(discarded)
     }
 

@@ -3,6 +3,7 @@ ghost use Rattle.std.specs.Prelude.{◌≤◌, length};
 
 use ddcmp_io::Sink;
 use std::alloc::{AllocError, Global};
+use std::fmt;
 
 /// A piece of memory of one size with bytes in it, which come at its end and leave at its front.
 pub(crate) struct Held {
@@ -107,6 +108,14 @@ impl Held {
         space[..n].copy_from_slice(&bytes[..n]);
         self.came(n);
         n
+    }
+}
+
+/// Formatted text goes to its end, as far as there is room.
+impl fmt::Write for Held {
+    fn write_str(&mut self, text: &str) -> fmt::Result {
+        self.push(text.as_bytes());
+        Ok(())
     }
 }
 

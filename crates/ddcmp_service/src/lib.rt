@@ -3,6 +3,7 @@
 //! calls: opening a line, reading and writing without waiting, and waiting for what comes first.
 #![tactic(auto)]
 
+mod errors;
 mod fault;
 mod heard;
 mod held;
@@ -11,6 +12,7 @@ mod line_name;
 mod messages;
 mod opening;
 mod outlet;
+mod pacing;
 mod report;
 mod running;
 mod service;
@@ -18,7 +20,8 @@ mod system;
 mod trace;
 mod waiting;
 
-pub use fault::{Attempt, NotOpened, ServiceFault};
+pub use fault::{Attempt, Cause, NotOpened, ServiceFault};
 pub use line_name::LineName;
 pub use messages::Form;
 pub use service::{Options, Served, serve_link};
+pub use waiting::errors_take;

@@ -34,30 +34,54 @@ pub(crate) enum Moved {
     Bytes(usize),
     /// Nothing came, or there was no room.
     Nothing,
+    /// The call was interrupted, and is to be made again.
+    Interrupted,
     /// The line has ended or failed.
     Ended,
 }
 
-/// What a call of the system gave.
+/// What a call of the system returned.
 pub(crate) fn moved_by(answer: io::Result<usize>) -> Moved {
     match answer {
         Ok(n) => Moved::Bytes(n),
         Err(error) => match error.kind() {
-            ErrorKind::WouldBlock | ErrorKind::Interrupted => Moved::Nothing,
+            ErrorKind::WouldBlock => Moved::Nothing,
+            ErrorKind::Interrupted => Moved::Interrupted,
             _ => Moved::Ended,
         },
     }
 }
 
-/// What a datagram's call gave; a peer that isn't there yet is no end.
-fn datagram_moved(answer: io::Result<usize>) -> Moved {
+/// What the receiving of a datagram returned. No error ends a line of datagrams.
+fn received_by(answer: io::Result<(usize, SocketAddr)>, remote: SocketAddr) -> Moved {
     match answer {
-        Ok(n) => Moved::Bytes(n),
+        Ok((n, sender)) => Moved::Bytes(if sender == remote { n } else { 0 }),
         Err(error) => match error.kind() {
-            ErrorKind::WouldBlock | ErrorKind::Interrupted => Moved::Nothing,
+            // The peer isn't there yet, as an earlier datagram has found.
             ErrorKind::ConnectionRefused => Moved::Bytes(0),
-            _ => Moved::Ended,
+            ErrorKind::Interrupted => Moved::Interrupted,
+            _ => Moved::Nothing,
         },
+    }
+}
+
+/// What became of a datagram that was to be sent: what an error takes is lost, as on a line.
+fn sent_by(answer: io::Result<usize>, length: usize) -> Moved {
+    match answer {
+        Ok(_) => Moved::Bytes(length),
+        Err(error) => match error.kind() {
+            ErrorKind::WouldBlock => Moved::Nothing,
+            ErrorKind::Interrupted => Moved::Interrupted,
+            _ => Moved::Bytes(length),
+        },
+    }
+}
+
+/// Reads a stream, of which no bytes are the end.
+fn read_by(answer: io::Result<usize>) -> Moved {
+    match moved_by(answer) {
+        Moved::Bytes(0) => Moved::Ended,
+        got => got,
     }
 }
 
@@ -70,18 +94,11 @@ impl Line {
     /// Reads what has come into the room at the end of what waits.
     pub(crate) fn read(&mut self, waiting: &mut Waiting, came: &mut Held) -> Moved {
         let got = match self {
-            Line::Stream(stream) => match moved_by(stream.read(came.space())) {
-                Moved::Bytes(0) => Moved::Ended,
-                got => got,
-            },
-            Line::Datagrams(socket, remote) => match socket.recv_from(came.space()) {
-                Ok((n, sender)) => Moved::Bytes(if sender == *remote { n } else { 0 }),
-                Err(error) => datagram_moved(Err(error)),
-            },
-            Line::Device(file) => match moved_by(file.read(came.space())) {
-                Moved::Bytes(0) => Moved::Ended,
-                got => got,
-            },
+            Line::Stream(stream) => read_by(stream.read(came.space())),
+            Line::Datagrams(socket, remote) => {
+                received_by(socket.recv_from(came.space()), *remote)
+            }
+            Line::Device(file) => read_by(file.read(came.space())),
         };
         waiting.line_was_read(got == Moved::Nothing);
         if let Moved::Bytes(n) = got {
@@ -94,13 +111,9 @@ impl Line {
     pub(crate) fn write(&mut self, waiting: &mut Waiting, bytes: &[u8]) -> Moved {
         let took = match self {
             Line::Stream(stream) => moved_by(stream.write(bytes)),
-            Line::Datagrams(socket, remote) => match datagram_moved(socket.send_to(
-                bytes, *remote,
-            )) {
-                // What a datagram has no room for is lost, as on a line.
-                Moved::Bytes(_) => Moved::Bytes(bytes.len()),
-                took => took,
-            },
+            Line::Datagrams(socket, remote) => {
+                sent_by(socket.send_to(bytes, *remote), bytes.len())
+            }
             Line::Device(file) => {
                 let n = bytes.len().min(DEVICE_PIECE);
                 moved_by(file.write(&bytes[..n]))

@@ -3,7 +3,7 @@ ghost use Rattle.std.specs.Prelude.{◌≡◌, ◌≢◌, MatchOption};
 ghost use Rattle.ddcmp_service.specs.LineNames.{word_of, IsPlain};
 
 use crate::fault::{Attempt, NotOpened};
-use std::io::ErrorKind;
+use crate::opening::OpenRefusal;
 
 /// A line, as a word names it.
 #[derive(Clone, Copy, Debug, PartialEq, Eq)]
@@ -14,7 +14,7 @@ pub enum LineName<'a> {
     Listen(&'a str),
     /// `udp:LOCAL,REMOTE`: each frame is a datagram from the one address to the other.
     Udp { local: &'a str, remote: &'a str },
-    /// `device:PATH`: a serial device that is set up already.
+    /// `device:PATH`: a serial device that is set up already, as by stty.
     Device(&'a str),
 }
 
@@ -37,18 +37,22 @@ impl<'a> LineName<'a> {
         }
     }
 
-    /// What is said of a line that couldn't be opened, as the system said this.
-    pub(crate) fn not_opened(self, kind: ErrorKind) -> NotOpened<'a> {
+    /// What is reported of a line that couldn't be opened. Of the two addresses of a line of
+    /// datagrams it names the one that is to blame.
+    pub(crate) fn not_opened(self, refused: OpenRefusal) -> NotOpened<'a> {
         let (attempt, name) = match self {
             LineName::Connect(name) => (Attempt::Connect, name),
             LineName::Listen(name) => (Attempt::Listen, name),
-            LineName::Udp { local, .. } => (Attempt::Open, local),
+            LineName::Udp { local, remote } => {
+                let name = if refused.is_remote { remote } else { local };
+                (Attempt::Open, name)
+            }
             LineName::Device(name) => (Attempt::Open, name),
         };
         NotOpened {
             attempt,
             name,
-            kind,
+            cause: refused.cause,
         }
     }
 }

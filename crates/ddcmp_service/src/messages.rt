@@ -15,8 +15,10 @@ pub enum Form {
 #[derive(Clone, Copy)]
 pub(crate) enum Refusal {
     NotHexadecimal,
-    /// It is longer than the longest, or in binary has no bytes.
+    /// It is longer than the longest.
     TooLong,
+    /// It has no bytes, in binary.
+    Empty,
     /// The input ended in the middle of it.
     Unfinished,
 }
@@ -27,6 +29,7 @@ impl Refusal {
         match self {
             Refusal::NotHexadecimal => b"not hexadecimal",
             Refusal::TooLong => b"too long",
+            Refusal::Empty => b"empty",
             Refusal::Unfinished => b"unfinished",
         }
     }
@@ -69,6 +72,10 @@ fn part_of(entry: Entry, at: u64) -> Part {
         Entry::TooLong => Part::Refused {
             at,
             why: Refusal::TooLong,
+        },
+        Entry::Empty => Part::Refused {
+            at,
+            why: Refusal::Empty,
         },
     }
 }
@@ -123,14 +130,29 @@ impl Messages {
                 let entry = lines.push(b'\n');
                 part_at(entry, lines.number())
             }
-            Messages::Binary(lengths, count) => {
-                if lengths.is_whole() {
-                    return None;
-                }
+            Messages::Binary(..) => {
+                let at = self.unfinished()?;
                 Some(Part::Refused {
-                    at: count.saturating_add(1),
+                    at,
                     why: Refusal::Unfinished,
                 })
+            }
+        }
+    }
+
+    /// The number of the line or message whose end hasn't come, if there is one. Nothing is to be
+    /// pushed after it.
+    pub(crate) fn unfinished(&mut self) -> Option<u64> {
+        match self {
+            Messages::Digits(lines) => {
+                let _part = lines.push(b'\n')?;
+                Some(lines.number())
+            }
+            Messages::Binary(lengths, count) => {
+                if !lengths.is_unfinished() {
+                    return None;
+                }
+                Some(count.saturating_add(1))
             }
         }
     }

@@ -1,18 +1,26 @@
 //! Opening the line that a name names.
+use crate::fault::Cause;
 use crate::line::Line;
 use crate::line_name::LineName;
 use crate::waiting::Waiting;
 use mio::net::{TcpListener, TcpStream, UdpSocket};
-use std::fs::{File, Files, OpenOptions};
+use std::fs::{self, File, Files, OpenOptions, TryLockError};
 use std::io::{self, ErrorKind};
 use std::net::{self, Net, OpenListener, SocketAddr, ToSocketAddrs};
 use std::os::fd::AsRawFd;
+use std::os::unix::fs::FileTypeExt;
 
 /// Opens a line, once or again and again.
 pub(crate) struct Opener<'a> {
     name: LineName<'a>,
     /// Who comes is taken here, once it listens.
     listener: Option<TcpListener>,
+    /// A connection that isn't there yet.
+    connecting: Option<TcpStream>,
+    /// Which of the addresses of its name it is to.
+    which: usize,
+    /// Why that before it failed.
+    failed: Option<ErrorKind>,
 }
 
 // By hand, so that it is let go by a call: a derived one is written out at each such place.
@@ -21,6 +29,9 @@ impl Drop for Opener<'_> {
         let Opener {
             name: _,
             listener: _listener,
+            connecting: _connecting,
+            which: _,
+            failed: _,
         } = self;
     }
 }
@@ -31,8 +42,27 @@ pub(crate) enum Opened {
     Line(Line),
     /// A line to whom has come.
     Came(Line, SocketAddr),
-    /// Nobody has come yet.
+    /// Nobody has come yet, or whom it connects to hasn't answered.
     NotYet,
+}
+
+/// Why a line can't be opened, and whether that is the remote one of two addresses.
+#[derive(Clone, Copy, PartialEq, Eq)]
+pub(crate) struct OpenRefusal {
+    pub(crate) cause: Cause,
+    pub(crate) is_remote: bool,
+}
+
+/// The system refused it.
+fn refused_by(error: &io::Error) -> OpenRefusal {
+    refused(Cause::System(error.kind()))
+}
+
+fn refused(cause: Cause) -> OpenRefusal {
+    OpenRefusal {
+        cause,
+        is_remote: false,
+    }
 }
 
 impl<'a> Opener<'a> {
@@ -40,6 +70,9 @@ impl<'a> Opener<'a> {
         Opener {
             name,
             listener: None,
+            connecting: None,
+            which: 0,
+            failed: None,
         }
     }
 
@@ -48,12 +81,12 @@ impl<'a> Opener<'a> {
         self.listener.is_some()
     }
 
-    /// Listens, where the line is one of whoever comes: the address, or what the system said.
+    /// Listens if the line is one of whoever comes: returns the address.
     pub(crate) fn listen<N: Net<Stream = net::TcpStream, Listener = net::TcpListener>>(
         &mut self,
         net: &N,
         waiting: &mut Waiting,
-    ) -> Result<Option<SocketAddr>, ErrorKind> {
+    ) -> Result<Option<SocketAddr>, OpenRefusal> {
         let LineName::Listen(name) = self.name else {
             return Ok(None);
         };
@@ -62,26 +95,110 @@ impl<'a> Opener<'a> {
                 self.listener = Some(listener);
                 Ok(Some(addr))
             }
-            Err(error) => Err(error.kind()),
+            Err(error) => Err(refused_by(&error)),
         }
     }
 
-    /// Opens the line, or takes who has come; else what the system said.
-    pub(crate) fn open<S>(&mut self, system: &S, waiting: &mut Waiting) -> Result<Opened, ErrorKind>
+    /// Opens the line, takes who has come, or sees whether a connection is there.
+    pub(crate) fn open<S>(
+        &mut self,
+        system: &S,
+        waiting: &mut Waiting,
+    ) -> Result<Opened, OpenRefusal>
     where
         S: Net<Stream = net::TcpStream, Listener = net::TcpListener> + Files<File = File>,
     {
-        let opened = match self.name {
-            LineName::Connect(name) => connected(system, waiting, name),
-            LineName::Listen(_) => accepted(&self.listener, waiting),
+        match self.name {
+            LineName::Connect(name) => self.connect(system, waiting, name),
+            LineName::Listen(_) => match accepted(&self.listener, waiting) {
+                Ok(opened) => Ok(opened),
+                Err(error) => Err(refused_by(&error)),
+            },
             LineName::Udp { local, remote } => bound(system, waiting, local, remote),
             LineName::Device(path) => device(system, waiting, path),
-        };
-        match opened {
-            Ok(opened) => Ok(opened),
-            Err(error) => Err(error.kind()),
         }
     }
+
+    /// Connects to the addresses of a name, one after the other, without waiting for an answer.
+    fn connect<N: Net>(
+        &mut self,
+        net: &N,
+        waiting: &mut Waiting,
+        name: &str,
+    ) -> Result<Opened, OpenRefusal> {
+        if let Some(stream) = self.connecting.take() {
+            match is_connected(&stream) {
+                Ok(true) => {
+                    self.begin_anew();
+                    return Ok(Opened::Line(Line::Stream(stream)));
+                }
+                Ok(false) => {
+                    self.connecting = Some(stream);
+                    return Ok(Opened::NotYet);
+                }
+                Err(kind) => self.fails(kind),
+            }
+        }
+        for _address in 0..u64::MAX {
+            let addr = match address(net, name, self.which) {
+                Ok(Some(addr)) => addr,
+                Ok(None) => break,
+                Err(cause) => {
+                    self.begin_anew();
+                    return Err(refused(cause));
+                }
+            };
+            match begin_connecting(net, waiting, addr) {
+                Ok(stream) => {
+                    self.connecting = Some(stream);
+                    return Ok(Opened::NotYet);
+                }
+                Err(error) => self.fails(error.kind()),
+            }
+        }
+        let kind = self.failed.unwrap_or(ErrorKind::InvalidInput);
+        self.begin_anew();
+        Err(refused(Cause::System(kind)))
+    }
+
+    /// An address failed so: the next one is tried.
+    fn fails(&mut self, kind: ErrorKind) {
+        self.failed = Some(kind);
+        self.which = self.which.saturating_add(1);
+    }
+
+    /// The next connection is to the first address of its name.
+    fn begin_anew(&mut self) {
+        self.failed = None;
+        self.which = 0;
+    }
+}
+
+/// Whether a connection is there; else it isn't yet, or it failed so.
+fn is_connected(stream: &TcpStream) -> Result<bool, ErrorKind> {
+    match stream.take_error() {
+        Ok(Some(error)) | Err(error) => return Err(error.kind()),
+        Ok(None) => {}
+    }
+    match stream.peer_addr() {
+        Ok(_) => Ok(true),
+        Err(error) => match error.kind() {
+            ErrorKind::NotConnected => Ok(false),
+            kind => Err(kind),
+        },
+    }
+}
+
+/// Begins to connect to an address. A connection holds no bytes back to fill a packet.
+fn begin_connecting<N: Net>(
+    net: &N,
+    waiting: &mut Waiting,
+    addr: SocketAddr,
+) -> io::Result<TcpStream> {
+    let mut stream = TcpStream::connect(net, addr)?;
+    stream.set_nodelay(true)?;
+    waiting.add_socket(&mut stream)?;
+    Ok(stream)
 }
 
 /// A listener at an address, and which address it has.
@@ -98,22 +215,11 @@ fn listening<N: Net<Stream = net::TcpStream, Listener = net::TcpListener>>(
     Ok((listener, addr))
 }
 
-/// A connection as the line: it holds no bytes back to fill a packet.
-fn stream_line(waiting: &mut Waiting, mut stream: TcpStream) -> io::Result<Line> {
+/// A connection of a caller as the line.
+fn caller_line(waiting: &mut Waiting, mut stream: TcpStream) -> io::Result<Line> {
     stream.set_nodelay(true)?;
     waiting.add_socket(&mut stream)?;
     Ok(Line::Stream(stream))
-}
-
-fn connected<N: Net<Stream = net::TcpStream>>(
-    net: &N,
-    waiting: &mut Waiting,
-    name: &str,
-) -> io::Result<Opened> {
-    let stream = net::TcpStream::connect(net, name)?;
-    stream.set_nonblocking(true)?;
-    let line = stream_line(waiting, TcpStream::from_std(stream))?;
-    Ok(Opened::Line(line))
 }
 
 fn accepted(listener: &Option<TcpListener>, waiting: &mut Waiting) -> io::Result<Opened> {
@@ -121,7 +227,7 @@ fn accepted(listener: &Option<TcpListener>, waiting: &mut Waiting) -> io::Result
         return Ok(Opened::NotYet);
     };
     match listener.accept() {
-        Ok((stream, peer)) => Ok(Opened::Came(stream_line(waiting, stream)?, peer)),
+        Ok((stream, peer)) => Ok(Opened::Came(caller_line(waiting, stream)?, peer)),
         Err(error) => match error.kind() {
             ErrorKind::WouldBlock | ErrorKind::Interrupted | ErrorKind::ConnectionAborted => {
                 Ok(Opened::NotYet)
@@ -131,27 +237,78 @@ fn accepted(listener: &Option<TcpListener>, waiting: &mut Waiting) -> io::Result
     }
 }
 
-/// The first address that a text names.
-fn address<N: Net>(net: &N, name: &str) -> io::Result<SocketAddr> {
-    match name.to_socket_addrs(net)?.next() {
-        Some(addr) => Ok(addr),
-        None => Err(io::Error::from(ErrorKind::InvalidInput)),
+/// The address of this index among those that a text names.
+fn address<N: Net>(net: &N, name: &str, index: usize) -> Result<Option<SocketAddr>, Cause> {
+    match name.to_socket_addrs(net) {
+        Ok(mut found) => Ok(found.nth(index)),
+        Err(error) => Err(match error.kind() {
+            ErrorKind::InvalidInput => Cause::System(ErrorKind::InvalidInput),
+            _ => Cause::UnknownHost,
+        }),
     }
 }
 
-fn bound<N: Net>(net: &N, waiting: &mut Waiting, local: &str, remote: &str) -> io::Result<Opened> {
-    let remote = address(net, remote)?;
-    let mut socket = UdpSocket::bind(net, address(net, local)?)?;
-    waiting.add_socket(&mut socket)?;
-    Ok(Opened::Line(Line::Datagrams(socket, remote)))
+/// The first address that a text names, for one end of a line of datagrams.
+fn first_address<N: Net>(net: &N, name: &str, is_remote: bool) -> Result<SocketAddr, OpenRefusal> {
+    match address(net, name, 0) {
+        Ok(Some(addr)) => Ok(addr),
+        Ok(None) => Err(OpenRefusal {
+            cause: Cause::UnknownHost,
+            is_remote,
+        }),
+        Err(cause) => Err(OpenRefusal { cause, is_remote }),
+    }
 }
 
+fn bound<N: Net>(
+    net: &N,
+    waiting: &mut Waiting,
+    local: &str,
+    remote: &str,
+) -> Result<Opened, OpenRefusal> {
+    let local = first_address(net, local, false)?;
+    let remote = first_address(net, remote, true)?;
+    if local.is_ipv4() != remote.is_ipv4() {
+        return Err(OpenRefusal {
+            cause: Cause::OtherFamily,
+            is_remote: true,
+        });
+    }
+    match bind(net, waiting, local) {
+        Ok(socket) => Ok(Opened::Line(Line::Datagrams(socket, remote))),
+        Err(error) => Err(refused_by(&error)),
+    }
+}
+
+fn bind<N: Net>(net: &N, waiting: &mut Waiting, local: SocketAddr) -> io::Result<UdpSocket> {
+    let mut socket = UdpSocket::bind(net, local)?;
+    waiting.add_socket(&mut socket)?;
+    Ok(socket)
+}
+
+/// Opens a character device and locks it; nothing else is opened for writing.
 fn device<S: Files<File = File>>(
     files: &S,
     waiting: &mut Waiting,
     path: &str,
-) -> io::Result<Opened> {
-    let file = OpenOptions::new().read(true).write(true).open(files, path)?;
+) -> Result<Opened, OpenRefusal> {
+    let kind = match fs::metadata(files, path) {
+        Ok(metadata) => metadata.file_type(),
+        Err(error) => return Err(refused_by(&error)),
+    };
+    if kind.is_dir() {
+        return Err(refused(Cause::System(ErrorKind::IsADirectory)));
+    }
+    if !kind.is_char_device() {
+        return Err(refused(Cause::NotDevice));
+    }
+    let file = match OpenOptions::new().read(true).write(true).open(files, path) {
+        Ok(file) => file,
+        Err(error) => return Err(refused_by(&error)),
+    };
+    if let Err(TryLockError::WouldBlock) = file.try_lock() {
+        return Err(refused(Cause::InUse));
+    }
     waiting.add_device(file.as_raw_fd());
     Ok(Opened::Line(Line::Device(file)))
 }

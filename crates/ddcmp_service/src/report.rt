@@ -1,19 +1,23 @@
-//! What a service tells of its line on standard error, at once.
+//! What a service reports of its line on standard error as it happens.
+use crate::fault::NotOpened;
 use std::fmt;
 use std::net::SocketAddr;
 
-/// What is told on standard error as it happens.
+/// An event of the line.
 #[derive(Drop)]
-pub(crate) enum Told {
+pub(crate) enum Event<'a> {
     Listening(SocketAddr),
     Connected(SocketAddr),
+    /// The line couldn't be opened, and is tried again after so many seconds.
+    Retry(NotOpened<'a>, u64),
 }
 
-impl fmt::Display for Told {
+impl fmt::Display for Event<'_> {
     fn fmt<W: fmt::Write>(&self, f: &mut fmt::Formatter<W>) -> fmt::Result {
         match self {
-            Told::Listening(addr) => write!(f, "listening {addr}"),
-            Told::Connected(addr) => write!(f, "connected {addr}"),
+            Event::Listening(addr) => write!(f, "listening {addr}\n"),
+            Event::Connected(addr) => write!(f, "connected {addr}\n"),
+            Event::Retry(fault, seconds) => write!(f, "ddcmp: {fault}; retry in {seconds} s\n"),
         }
     }
 }

@@ -2,17 +2,22 @@
 //! says whether it moved anything.
 ghost use Rattle.std.specs.Prelude.{false};
 
+use crate::errors::Errors;
 use crate::held::Held;
 use crate::line::{Line, Moved};
 use crate::messages::{Form, Messages, Part, Refusal};
 use crate::outlet::Outlet;
+use crate::pacing::Pacing;
+use crate::report::Event;
 use crate::trace::{Trace, Way};
 use crate::waiting::{Descriptor, Waiting, Wanted};
+use ddcmp_frame::{Reader, ReaderRefusal};
 use ddcmp_io::text::{write_hex, write_number};
 use ddcmp_io::{Got, Page, Sink, Source, Worst, write_all};
-use ddcmp_link::{Link, Notice};
+use ddcmp_link::{Link, Notice, State};
 use ddcmp_station_text::{state_name, write_counters, write_notice};
 use std::alloc::{AllocError, Global};
+use std::fmt::Write;
 use std::io::Eprint;
 
 /// The bytes of standard input and of the line that are read at once.
@@ -21,11 +26,26 @@ const PIECE: usize = 65536;
 /// The most bytes of text that one message or notice can make.
 pub(crate) const MOST_TEXT: usize = 2 * 16383 + 64;
 
+/// The room for a line of standard error that is no line of a trace and no line of counters.
+const LINE_ROOM: usize = 512;
+
+/// The room for the last lines, with all counters.
+const END_ROOM: usize = 4096;
+
+/// How often standard error may take nothing before what is queued for it is given up. Something else
+/// may end a wait.
+const MOST_IDLE: u8 = 3;
+
+/// The bytes of lines for standard error that are queued at most.
+const ERRORS_ROOM: usize = 65536;
+
 /// Why a service stops.
 #[derive(Clone, Copy, PartialEq, Eq)]
 pub(crate) enum Stop {
     /// The line has ended or failed, or the station was halted by what came.
     Line,
+    /// The time of the whole run is over.
+    Time,
     Read,
     Write,
 }
@@ -53,20 +73,32 @@ pub(crate) struct Kept {
     typed: Held,
     came: Held,
     said: Held,
-    noted: Held,
+    noted: Errors,
     mail: Vec<u8>,
+    /// Where frames end in a datagram, if the line is one of these.
+    framing: Option<Reader>,
 }
 
 impl Kept {
-    /// Takes all the memory that it will need, for messages of at most so many bytes.
-    pub(crate) fn new(alloc: Global, max: u16, is_traced: bool) -> Result<Kept, AllocError> {
-        let most_noted = if is_traced { 8 * PIECE } else { PIECE };
+    /// Takes all the memory that it will need, for messages of at most `max` bytes.
+    pub(crate) fn new(
+        alloc: Global,
+        max: u16,
+        is_traced: bool,
+        framing: Option<Reader>,
+    ) -> Result<Kept, AllocError> {
+        let most_noted = if is_traced {
+            8 * ERRORS_ROOM
+        } else {
+            ERRORS_ROOM
+        };
         Ok(Kept {
             typed: Held::new(alloc, PIECE)?,
             came: Held::new(alloc, PIECE)?,
             said: Held::new(alloc, PIECE + 2 * MOST_TEXT)?,
-            noted: Held::new(alloc, most_noted)?,
+            noted: Errors::new(alloc, most_noted)?,
             mail: Vec::from_elem(alloc, 0u8, max as usize)?,
+            framing,
         })
     }
 }
@@ -85,15 +117,27 @@ pub(crate) struct Desk {
     /// What standard output is to be given.
     said: Held,
     /// What standard error is to be given.
-    noted: Held,
+    noted: Errors,
     mail: Vec<u8>,
-    pub(crate) input_is_over: bool,
+    /// Where frames end in a datagram, if the line is one of these.
+    framing: Option<Reader>,
+    pacing: Pacing,
+    /// The moment of the last wake, in milliseconds.
+    now: u64,
+    input_is_over: bool,
     /// Whether the input's last message was looked at.
     input_is_read: bool,
     /// Whether a part of the input was no message.
     pub(crate) was_refused: bool,
-    /// Whether the line that is open has given a byte.
-    pub(crate) line_has_spoken: bool,
+    /// How many messages were read and will never be acknowledged.
+    pub(crate) lost: u64,
+    /// Whether the peer has begun to start, over the line that is open.
+    pub(crate) peer_has_started: bool,
+    /// Whether the station has run over the line that is open, and over any line.
+    pub(crate) has_run_here: bool,
+    pub(crate) has_run: bool,
+    /// Whether the line takes nothing any more. What it has given is still read.
+    line_is_closed: bool,
 }
 
 // By hand, so that a desk is let go by a call: a derived one is written out at
@@ -111,10 +155,17 @@ impl Drop for Desk {
             said: _said,
             noted: _noted,
             mail: _mail,
+            framing: _framing,
+            pacing: _,
+            now: _,
             input_is_over: _,
             input_is_read: _,
             was_refused: _,
-            line_has_spoken: _,
+            lost: _,
+            peer_has_started: _,
+            has_run_here: _,
+            has_run: _,
+            line_is_closed: _,
         } = self;
     }
 }
@@ -128,6 +179,7 @@ impl Desk {
         form: Form,
         messages: Messages,
         kept: Kept,
+        timer_ms: u32,
     ) -> Desk {
         Desk {
             link,
@@ -140,16 +192,18 @@ impl Desk {
             said: kept.said,
             noted: kept.noted,
             mail: kept.mail,
+            framing: kept.framing,
+            pacing: Pacing::new(timer_ms),
+            now: 0,
             input_is_over: false,
             input_is_read: false,
             was_refused: false,
-            line_has_spoken: false,
+            lost: 0,
+            peer_has_started: false,
+            has_run_here: false,
+            has_run: false,
+            line_is_closed: false,
         }
-    }
-
-    /// The input counts as ended.
-    pub(crate) fn end_input(&mut self) {
-        self.input_is_over = true;
     }
 
     /// What is to be waited for.
@@ -159,7 +213,16 @@ impl Desk {
             output: !self.said.is_empty(),
             errors: !self.noted.is_empty(),
             from_line: self.wants_line(),
-            to_line: !self.link.unsent().is_empty(),
+            to_line: !self.line_is_closed && !self.link.unsent().is_empty(),
+        }
+    }
+
+    /// What is to be waited for while there is no line.
+    pub(crate) fn wanted_between_lines(&self) -> Wanted {
+        if self.noted.is_empty() {
+            Wanted::NOTHING
+        } else {
+            Wanted::ERRORS
         }
     }
 
@@ -176,8 +239,23 @@ impl Desk {
         self.input_is_read && self.typed.is_empty() && self.link.is_delivered()
     }
 
+    /// Whether the input had no message and no part that was refused.
+    pub(crate) fn had_no_input(&self) -> bool {
+        self.link.totals().sent == 0 && !self.was_refused
+    }
+
+    /// When `wake` is to be called at the latest.
+    pub(crate) fn deadline(&self) -> Option<u64> {
+        match (self.link.deadline(), self.pacing.until()) {
+            (Some(timer), Some(pause)) => Some(timer.min(pause)),
+            (timer, pause) => timer.or(pause),
+        }
+    }
+
     /// Looks after the station's timer.
     pub(crate) fn wake(&mut self, now: u64) {
+        self.now = now;
+        self.pacing.wake(now);
         let has_expired = wake(&mut self.link, now);
         if let Some(trace) = &mut self.trace {
             trace.wake(now, has_expired, &mut self.noted);
@@ -190,7 +268,15 @@ impl Desk {
         reader: &mut R,
         waiting: &mut Waiting,
     ) -> Result<bool, Stop> {
-        if !self.wants_input() || !waiting.input.ready.to_read {
+        if !self.wants_input() {
+            return Ok(false);
+        }
+        self.read_now(reader, waiting)
+    }
+
+    /// Reads standard input, if it has something.
+    fn read_now<R: Source>(&mut self, reader: &mut R, waiting: &mut Waiting) -> Result<bool, Stop> {
+        if !waiting.input.ready.to_read {
             return Ok(false);
         }
         if reader.worst() == Worst::Failed {
@@ -224,7 +310,7 @@ impl Desk {
     pub(crate) fn offer(&mut self) -> bool {
         let mut moved = false;
         for _message in 0..u64::MAX {
-            if !self.link.has_room() || !self.has_room_to_note() {
+            if !self.link.has_room() {
                 break;
             }
             match self.next_part() {
@@ -232,10 +318,7 @@ impl Desk {
                 Some(Part::Message) => {
                     let _cant_be_refused = self.link.offer(self.messages.message());
                 }
-                Some(Part::Refused { at, why }) => {
-                    self.was_refused = true;
-                    self.tell_refused(at, why);
-                }
+                Some(Part::Refused { at, why }) => self.refuse(at, why),
             }
             moved = true;
         }
@@ -248,30 +331,76 @@ impl Desk {
             Form::Digits => b"ddcmp: line ",
             Form::Binary => b"ddcmp: message ",
         };
-        write_refused(&mut self.noted, what, at, why);
+        if self.noted.has_room(LINE_ROOM) {
+            write_refused(self.noted.lines(), what, at, why);
+        }
+    }
+
+    /// The run is over: what was read and can't be sent any more is lost, and a message whose end
+    /// hasn't come is refused.
+    pub(crate) fn close_input(&mut self) {
+        for _part in 0..u64::MAX {
+            match self.next_part() {
+                None => break,
+                Some(Part::Message) => self.lost = self.lost.saturating_add(1),
+                Some(Part::Refused { at, why }) => self.refuse(at, why),
+            }
+        }
+        if !self.input_is_read {
+            if let Some(at) = self.messages.unfinished() {
+                self.refuse(at, Refusal::Unfinished);
+            }
+        }
+    }
+
+    fn refuse(&mut self, at: u64, why: Refusal) {
+        self.was_refused = true;
+        self.tell_refused(at, why);
+    }
+
+    /// Reads what standard input has at this moment, for a line that has ended: it is the beginning
+    /// of what wasn't delivered.
+    pub(crate) fn read_the_rest<R: Source>(
+        &mut self,
+        reader: &mut R,
+        waiting: &mut Waiting,
+    ) -> Result<(), Stop> {
+        if self.input_is_over || !self.typed.is_empty() {
+            return Ok(());
+        }
+        if !waiting.wait(Wanted::INPUT, 0) {
+            return Err(Stop::Read);
+        }
+        let _moved = self.read_now(reader, waiting)?;
+        Ok(())
     }
 
     /// Writes frames to the line, as far as it has room.
-    pub(crate) fn write_line(
-        &mut self,
-        line: &mut Line,
-        waiting: &mut Waiting,
-    ) -> Result<bool, Stop> {
-        if !line.is_of_datagrams() {
-            self.link.fill();
-        } else if self.link.unsent().is_empty() {
-            let _is_there = self.link.fill_one();
-        }
-        if self.link.unsent().is_empty() || !waiting.may_write_line() {
-            return Ok(false);
+    pub(crate) fn write_line(&mut self, line: &mut Line, waiting: &mut Waiting) -> bool {
+        self.fill(line.is_of_datagrams());
+        if self.line_is_closed || self.link.unsent().is_empty() || !waiting.may_write_line() {
+            return false;
         }
         match line.write(waiting, self.link.unsent()) {
-            Moved::Bytes(n) => {
-                self.has_sent(n);
-                Ok(true)
+            Moved::Bytes(n) => self.has_sent(n),
+            Moved::Nothing => return false,
+            Moved::Interrupted => {}
+            Moved::Ended => self.line_is_closed = true,
+        }
+        true
+    }
+
+    /// Queues frames for the line: one at a time for datagrams, and while messages wait for the
+    /// peer no message.
+    fn fill(&mut self, is_of_datagrams: bool) {
+        if is_of_datagrams && !self.link.unsent().is_empty() {
+            return;
+        }
+        for _frame in 0..u64::MAX {
+            let waits = self.pacing.until().is_some() && self.link.sends_message();
+            if waits || !self.link.fill_one() || is_of_datagrams {
+                break;
             }
-            Moved::Nothing => Ok(false),
-            Moved::Ended => Err(Stop::Line),
         }
     }
 
@@ -296,14 +425,24 @@ impl Desk {
         }
         match line.read(waiting, &mut self.came) {
             Moved::Bytes(_) => {
-                self.line_has_spoken = true;
+                self.cut_datagram();
                 if let Some(trace) = &mut self.trace {
                     trace.tell(Way::FromLine, self.came.rest(), &mut self.noted);
                 }
                 Ok(true)
             }
+            Moved::Nothing if self.line_is_closed => Err(Stop::Line),
             Moved::Nothing => Ok(false),
+            Moved::Interrupted => Ok(true),
             Moved::Ended => Err(Stop::Line),
+        }
+    }
+
+    /// Drops the frame that a datagram has only the beginning of: no frame goes on in the next one.
+    fn cut_datagram(&mut self) {
+        if let Some(framing) = &mut self.framing {
+            let unfinished = unfinished_in(framing, self.came.rest());
+            self.came.take_back(unfinished);
         }
     }
 
@@ -318,6 +457,7 @@ impl Desk {
             let fed = self.link.feed(self.came.rest());
             self.came.used(fed.used);
             moved = true;
+            self.note_fed();
             if let Some(notice) = fed.notice {
                 self.tell_notice(notice);
                 if notice == Notice::PeerRestarted {
@@ -328,33 +468,57 @@ impl Desk {
         Ok(moved)
     }
 
-    /// Whether what is said of a piece of the line has room.
-    fn has_room_for_text(&mut self) -> bool {
-        self.said.room() >= MOST_TEXT && self.has_room_to_note()
+    /// Looks at what the bytes that were fed have done.
+    fn note_fed(&mut self) {
+        self.pacing.note(self.now, &self.link);
+        match self.link.state() {
+            State::Running => {
+                self.peer_has_started = true;
+                self.has_run_here = true;
+                self.has_run = true;
+            }
+            State::AStart => self.peer_has_started = true,
+            _ => {}
+        }
     }
 
-    /// Whether what standard error is to be told of a message has room.
-    fn has_room_to_note(&mut self) -> bool {
-        self.noted.settle();
-        self.noted.room() >= MOST_TEXT
+    /// Whether what is said of a piece of the line has room.
+    fn has_room_for_text(&self) -> bool {
+        self.said.room() >= MOST_TEXT
     }
 
     /// Writes a line for a notice: with messages in binary to standard error.
     fn tell_notice(&mut self, notice: Notice) {
-        let mut page = Page::new();
-        let lines = self.lines();
-        write_notice(&mut page, lines, b"", notice);
-        let _has_room = page.flush(lines);
+        if let Some(lines) = self.lines() {
+            let mut page = Page::new();
+            write_notice(&mut page, lines, b"", notice);
+            let _has_room = page.flush(lines);
+        }
         if let Notice::Restarted(lost) = notice {
             self.write_lost(lost);
         }
     }
 
-    /// Where notices go: with messages in binary to standard error.
-    fn lines(&mut self) -> &mut Held {
+    /// Where notices go: with messages in binary to standard error, if there is room.
+    fn lines(&mut self) -> Option<&mut Held> {
         match self.form {
-            Form::Digits => &mut self.said,
-            Form::Binary => &mut self.noted,
+            Form::Digits => Some(&mut self.said),
+            Form::Binary => self.error_lines(),
+        }
+    }
+
+    /// Standard error, if there is room for a line.
+    fn error_lines(&mut self) -> Option<&mut Held> {
+        if !self.noted.has_room(LINE_ROOM) {
+            return None;
+        }
+        Some(self.noted.lines())
+    }
+
+    /// Reports an event of the line on standard error.
+    pub(crate) fn tell_event(&mut self, event: &Event<'_>) {
+        if let Some(lines) = self.error_lines() {
+            let _has_room = write!(lines, "{event}");
         }
     }
 
@@ -408,30 +572,57 @@ impl Desk {
             return false;
         }
         let outlet = &mut self.streams.errors;
-        match write_held(outlet, &mut self.noted, &mut waiting.errors) {
+        match write_held(outlet, self.noted.lines(), &mut waiting.errors) {
             Some(moved) => moved,
             None => {
-                print_held(errors, &mut self.noted, outlet.most());
+                print_held(errors, self.noted.lines(), outlet.most());
                 true
             }
         }
     }
 
-    /// Prints what waits for standard error, however long that takes.
-    pub(crate) fn print_errors<E: Eprint>(&mut self, errors: &E) {
-        print_held(errors, &mut self.noted, usize::MAX);
+    /// Prints what is queued for standard error, and gives up once that has taken nothing for some
+    /// times `most_ms` milliseconds.
+    pub(crate) fn drain_errors<E: Eprint>(
+        &mut self,
+        errors: &E,
+        waiting: &mut Waiting,
+        most_ms: u64,
+    ) {
+        let mut idle = 0;
+        for _write in 0..u64::MAX {
+            self.noted.say_left_out();
+            if self.noted.is_empty() || idle > MOST_IDLE {
+                break;
+            }
+            if self.write_errors(errors, waiting) {
+                idle = 0;
+            } else if waiting.wait(Wanted::ERRORS, most_ms) {
+                idle += 1;
+            } else {
+                break;
+            }
+        }
     }
 
-    /// The line is no more: what came and wasn't fed is lost with it.
+    /// A line is open: nothing has come over it.
+    pub(crate) fn begin_line(&mut self) {
+        self.came.clear();
+        self.peer_has_started = false;
+        self.has_run_here = false;
+        self.line_is_closed = false;
+        self.pacing.begin_anew();
+    }
+
+    /// The line is no more.
     pub(crate) fn forget_line(&mut self) {
         self.came.clear();
-        self.line_has_spoken = false;
         if let Some(trace) = &mut self.trace {
             trace.begin_anew(&mut self.noted);
         }
     }
 
-    /// Tells how many messages may not have arrived, where there are any.
+    /// Reports how many messages may not have arrived, if any.
     pub(crate) fn tell_lost(&mut self) {
         let lost = self.link.lost();
         self.write_lost(lost);
@@ -441,12 +632,28 @@ impl Desk {
         if lost == 0 {
             return;
         }
-        let mut page = Page::new();
-        let lines = self.lines();
-        page.write(lines, b"lost ");
-        write_number(&mut page, lines, lost);
-        page.write(lines, b"\n");
-        let _has_room = page.flush(lines);
+        self.lost = self.lost.saturating_add(lost as u64);
+        if let Some(lines) = self.lines() {
+            let mut page = Page::new();
+            page.write(lines, b"lost ");
+            write_number(&mut page, lines, lost);
+            page.write(lines, b"\n");
+            let _has_room = page.flush(lines);
+        }
+    }
+
+    /// Feeds all that the line gave before it ended, however long standard output takes.
+    pub(crate) fn feed_all<W: Sink>(&mut self, writer: &mut W) -> Result<(), Stop> {
+        for _page in 0..u64::MAX {
+            let fed = self.feed();
+            self.hand_all(writer)?;
+            match fed {
+                Ok(true) => {}
+                Ok(false) | Err(Stop::Line) => break,
+                Err(stop) => return Err(stop),
+            }
+        }
+        Ok(())
     }
 
     /// Hands all mail out, and writes it, however long standard output takes.
@@ -463,21 +670,13 @@ impl Desk {
     }
 
     /// Hands all mail out, and writes the last lines, however long standard output takes.
-    pub(crate) fn finish<W: Sink, E: Eprint>(
-        &mut self,
-        writer: &mut W,
-        errors: &E,
-        counters: bool,
-    ) -> Result<(), Stop> {
+    pub(crate) fn finish<W: Sink>(&mut self, writer: &mut W, counters: bool) -> Result<(), Stop> {
         let handed = self.hand_all(writer);
         if let Some(trace) = &mut self.trace {
             trace.end(&mut self.noted);
         }
-        if handed.is_ok() {
-            self.tell_end(counters);
-        }
-        self.print_errors(errors);
         handed?;
+        self.tell_end(counters);
         write_whole(writer, self.said.rest())
     }
 
@@ -485,9 +684,29 @@ impl Desk {
     fn tell_end(&mut self, counters: bool) {
         match self.form {
             Form::Digits => write_end(&mut self.said, &self.link, counters),
-            Form::Binary => write_end(&mut self.noted, &self.link, counters),
+            Form::Binary if self.noted.has_room(END_ROOM) => {
+                write_end(self.noted.lines(), &self.link, counters)
+            }
+            Form::Binary => {}
         }
     }
+}
+
+/// How many bytes at the end of a datagram are the beginning of a frame whose end isn't there.
+fn unfinished_in(framing: &mut Reader, datagram: &[u8]) -> usize {
+    let mut at = 0;
+    for _item in 0..u64::MAX {
+        let rest = datagram.get(at..).unwrap_or(&[]);
+        // It counts from the datagram's beginning, so there is always a number for its next byte.
+        let countable = u64::MAX - framing.offset();
+        if rest.is_empty() || countable <= rest.len() as u64 {
+            break;
+        }
+        at = at.saturating_add(framing.push_all(rest).used);
+    }
+    let unfinished = framing.open();
+    framing.reset();
+    unfinished
 }
 
 /// Looks after the timer of a link: whether it ran out. It stops then, and only then in a call.

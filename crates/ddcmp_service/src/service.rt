@@ -1,18 +1,18 @@
 //! A link over a line, from its opening to its end.
 ghost use Rattle.std.specs.Prelude.{◌≡◌, ◌≢◌, ◌↔◌, Err, IsTrue};
 
-use crate::fault::{Attempt, NotOpened, ServiceFault};
+use crate::fault::{Attempt, Cause, NotOpened, ServiceFault};
 use crate::line::Line;
 use crate::line_name::LineName;
 use crate::messages::{Form, Messages};
-use crate::opening::{Opened, Opener};
+use crate::opening::{OpenRefusal, Opened, Opener};
 use crate::outlet::Outlet;
-use crate::report::Told;
+use crate::report::Event;
 use crate::running::{Desk, Kept, MOST_TEXT, Stop, Streams};
 use crate::system::System;
 use crate::trace::Trace;
 use crate::waiting::{Waiting, Wanted};
-use ddcmp_frame::ReaderRefusal;
+use ddcmp_frame::{Reader, ReaderRefusal};
 use ddcmp_io::{Sink, Source};
 use ddcmp_link::{Config, Link};
 use ddcmp_net::Elapsed;
@@ -23,8 +23,16 @@ use std::io::{Eprint, ErrorKind};
 use std::net::{self, Net};
 use std::time;
 
-/// How long an opening that failed waits before it is tried again, in milliseconds.
-const AGAIN_MS: u64 = 1000;
+/// The shortest and the longest pause before a line is opened again, in seconds.
+const LEAST_PAUSE: u64 = 1;
+
+const MOST_PAUSE: u64 = 30;
+
+/// How long standard error may take nothing at the end of a line, and of a run, in milliseconds, each
+/// of some times.
+const LINE_END_MS: u64 = 20;
+
+const END_MS: u64 = 250;
 
 /// How a service runs.
 #[derive(Clone, Copy, Debug, PartialEq, Eq)]
@@ -36,9 +44,9 @@ pub struct Options<'a> {
     pub form: Form,
     /// Whether it goes on once all of the input was delivered.
     pub stay: bool,
-    /// Whether it opens the line anew where that ends.
+    /// Whether it opens the line again if that ends or can't be opened.
     pub again: bool,
-    /// After how many seconds it ends as if the input did.
+    /// After how many seconds it ends.
     pub seconds: u32,
     /// Whether counters are written before the last line.
     pub counters: bool,
@@ -58,11 +66,13 @@ pub enum Served {
 /// Why a service stopped before all was delivered. The name of the line is told with it at last.
 #[derive(Clone, Copy)]
 enum Ended {
-    /// The line couldn't be opened, as the system said this.
-    NotOpened(ErrorKind),
+    /// The line couldn't be opened.
+    NotOpened(OpenRefusal),
     /// The system can't wait for several devices, and said this.
     CannotWait(ErrorKind),
     Stopped(Stop),
+    /// So many messages were read and not acknowledged.
+    Lost(u64),
     Memory,
 }
 
@@ -70,7 +80,7 @@ enum Ended {
 #[derive(Clone, Copy)]
 struct Moments {
     now: u64,
-    /// When it ends as if the input did.
+    /// When it ends.
     end: u64,
 }
 
@@ -87,62 +97,96 @@ impl Moments {
         self.end <= self.now
     }
 
-    /// How long may be waited, where the station's timer runs out at this moment, if at any.
-    fn most(&self, deadline: Option<u64>) -> u64 {
-        let end = if self.is_over() { u64::MAX } else { self.end };
-        deadline.unwrap_or(end).min(end).saturating_sub(self.now)
+    /// How long may be waited, if something is to be done at this moment.
+    fn most(&self, moment: Option<u64>) -> u64 {
+        moment
+            .unwrap_or(self.end)
+            .min(self.end)
+            .saturating_sub(self.now)
     }
 }
 
-/// Opens the line, or takes who has come and tells who that is; none where nobody has come yet.
+/// The pause before a line is opened again.
+#[derive(Clone, Copy)]
+struct Pause {
+    seconds: u64,
+    /// The moment in milliseconds before which it isn't opened.
+    until: u64,
+}
+
+impl Pause {
+    /// A line that is opened at once.
+    const NONE: Pause = Pause {
+        seconds: 0,
+        until: 0,
+    };
+
+    /// The line couldn't be opened, or ended before its station ran: each pause is twice as long.
+    fn grow(&mut self, now: u64) {
+        self.seconds = (2 * self.seconds.min(MOST_PAUSE)).clamp(LEAST_PAUSE, MOST_PAUSE);
+        self.until = now.saturating_add(1000 * self.seconds);
+    }
+}
+
+/// Opens the line, or takes who has come and reports who that is; none if nobody has come yet.
 fn try_line<S>(
     system: &S,
     opener: &mut Opener<'_>,
+    desk: &mut Desk,
     waiting: &mut Waiting,
-) -> Result<Option<Line>, ErrorKind>
+) -> Result<Option<Line>, OpenRefusal>
 where
-    S: Net<Stream = net::TcpStream, Listener = net::TcpListener> + Files<File = File> + Eprint,
+    S: Net<Stream = net::TcpStream, Listener = net::TcpListener> + Files<File = File>,
 {
     match opener.open(system, waiting) {
         Ok(Opened::Line(line)) => Ok(Some(line)),
         Ok(Opened::Came(line, peer)) => {
-            let _ = system.eprintln(Told::Connected(peer));
+            desk.tell_event(&Event::Connected(peer));
             Ok(Some(line))
         }
         Ok(Opened::NotYet) => Ok(None),
-        Err(kind) => Err(kind),
+        Err(refused) => Err(refused),
     }
 }
 
-/// Opens the line: none where the time was over first. A line that can't be opened is told, and
-/// tried again where that is asked for.
+/// Opens the line: none if the time was over first. A line that can't be opened is reported, and
+/// tried again if that is asked for.
 fn open_line<S: System, C: Clock>(
     system: &S,
     options: &Options<'_>,
     opener: &mut Opener<'_>,
+    desk: &mut Desk,
     waiting: &mut Waiting,
     clock: &mut C,
-    is_first: bool,
-) -> Result<Option<Line>, ErrorKind> {
+    pause: &mut Pause,
+) -> Result<Option<Line>, OpenRefusal> {
     for _try in 0..u64::MAX {
         let moments = Moments::at(clock.now(), options);
         if moments.is_over() {
             break;
         }
-        let again = match try_line(system, opener, waiting) {
-            Ok(Some(line)) => return Ok(Some(line)),
-            Ok(None) => None,
-            Err(kind) if is_first || !options.again => return Err(kind),
-            Err(_kind) => Some(moments.now.saturating_add(AGAIN_MS)),
-        };
-        if !waiting.wait(Wanted::NOTHING, moments.most(again)) {
+        if pause.until <= moments.now {
+            match try_line(system, opener, desk, waiting) {
+                Ok(Some(line)) => return Ok(Some(line)),
+                Ok(None) => {}
+                Err(refused) if !options.again => return Err(refused),
+                Err(refused) => {
+                    pause.grow(moments.now);
+                    let fault = options.line.not_opened(refused);
+                    desk.tell_event(&Event::Retry(fault, pause.seconds));
+                }
+            }
+        }
+        let _moved = desk.write_errors(system, waiting);
+        let again = Some(pause.until).filter(|until| *until > moments.now);
+        if !waiting.wait(desk.wanted_between_lines(), moments.most(again)) {
             break;
         }
     }
     Ok(None)
 }
 
-/// Runs the link over a line, until all is delivered.
+/// Runs the link over a line, until all is delivered. If it stays, all being delivered is no end.
 fn run_line<S: Eprint, C: Clock, R: Source, W: Sink>(
     system: &S,
     options: &Options<'_>,
@@ -152,18 +196,21 @@ fn run_line<S: Eprint, C: Clock, R: Source, W: Sink>(
     clock: &mut C,
     reader: &mut R,
     writer: &mut W,
+    is_listening: bool,
 ) -> Result<(), Stop> {
     for _pass in 0..u64::MAX {
+        // Whoever listens and has no input receives, until the line ends.
+        let stays = options.stay || is_listening && desk.had_no_input();
         let moments = Moments::at(clock.now(), options);
         desk.wake(moments.now);
         if moments.is_over() {
-            desk.end_input();
+            return Err(Stop::Time);
         }
         let moved = pass(system, desk, line, waiting, reader, writer)?;
-        if desk.is_done() && !options.stay {
+        if desk.is_done() && !stays {
             return Ok(());
         }
-        if !moved && !waiting.wait(desk.wanted(), moments.most(desk.link.deadline())) {
+        if !moved && !waiting.wait(desk.wanted(), moments.most(desk.deadline())) {
             return Err(Stop::Read);
         }
     }
@@ -181,7 +228,7 @@ fn pass<S: Eprint, R: Source, W: Sink>(
 ) -> Result<bool, Stop> {
     let read = desk.read_input(reader, waiting)?;
     let offered = desk.offer();
-    let sent = desk.write_line(line, waiting)?;
+    let sent = desk.write_line(line, waiting);
     let came = desk.read_line(line, waiting)?;
     let fed = desk.feed()?;
     let written = desk.write_output(writer, waiting)?;
@@ -189,26 +236,27 @@ fn pass<S: Eprint, R: Source, W: Sink>(
     Ok(read || offered || sent || came || fed || written || noted)
 }
 
-/// Listens, where the line is one of whoever comes, and tells at which address.
+/// Listens if the line is one of whoever comes, and reports at which address.
 fn begin_listening<S>(
     system: &S,
     opener: &mut Opener<'_>,
+    desk: &mut Desk,
     waiting: &mut Waiting,
-) -> Result<(), ErrorKind>
+) -> Result<(), OpenRefusal>
 where
     S: Net<Stream = net::TcpStream, Listener = net::TcpListener> + Eprint,
 {
     match opener.listen(system, waiting) {
         Ok(None) => Ok(()),
         Ok(Some(addr)) => {
-            let _ = system.eprintln(Told::Listening(addr));
+            desk.tell_event(&Event::Listening(addr));
             Ok(())
         }
-        Err(kind) => Err(kind),
+        Err(refused) => Err(refused),
     }
 }
 
-/// Leaves a line that has ended: what came over it is written, and what was lost is told.
+/// Leaves a line that has ended: what came over it is written, and what was lost is reported.
 fn leave_line<E: Eprint, W: Sink>(
     errors: &E,
     desk: &mut Desk,
@@ -219,7 +267,7 @@ fn leave_line<E: Eprint, W: Sink>(
     desk.forget_line();
     waiting.forget_line();
     desk.hand_all(writer)?;
-    desk.print_errors(errors);
+    desk.drain_errors(errors, waiting, LINE_END_MS);
     Ok(())
 }
 
@@ -233,58 +281,87 @@ fn run_lines<S: System, R: Source, W: Sink>(
     writer: &mut W,
 ) -> Result<(), Ended> {
     let mut opener = Opener::new(options.line);
-    if let Err(kind) = begin_listening(system, &mut opener, waiting) {
-        return Err(Ended::NotOpened(kind));
+    if let Err(refused) = begin_listening(system, &mut opener, desk, waiting) {
+        return Err(Ended::NotOpened(refused));
     }
     let mut clock = Elapsed::new(system);
-    for opened in 0..u64::MAX {
-        let is_first = opened == 0;
-        let mut line = match open_line(
+    let mut pause = Pause::NONE;
+    for _line in 0..u64::MAX {
+        let opened = open_line(
             system,
             options,
             &mut opener,
+            desk,
             waiting,
             &mut clock,
-            is_first,
-        ) {
+            &mut pause,
+        );
+        let mut line = match opened {
             Ok(Some(line)) => line,
-            Ok(None) => break,
-            Err(kind) => return Err(Ended::NotOpened(kind)),
+            Ok(None) => return Err(Ended::Stopped(Stop::Time)),
+            Err(refused) => return Err(Ended::NotOpened(refused)),
         };
+        desk.begin_line();
         if desk.link.begin_anew().is_err() {
             break;
         }
+        let is_listening = opener.is_listening();
         let ran = run_line(
-            system, options, desk, &mut line, waiting, &mut clock, reader, writer,
+            system,
+            options,
+            desk,
+            &mut line,
+            waiting,
+            &mut clock,
+            reader,
+            writer,
+            is_listening,
         );
         let stop = match ran {
             Ok(()) => return Ok(()),
             Err(stop) => stop,
         };
-        let goes_on = options.again || opener.is_listening() && !desk.line_has_spoken;
-        if !goes_on || !matches!(stop, Stop::Line) {
+        if !matches!(stop, Stop::Line) {
             return Err(Ended::Stopped(stop));
+        }
+        if let Err(stop) = desk.feed_all(writer) {
+            return Err(Ended::Stopped(stop));
+        }
+        if !options.again && !(is_listening && !desk.peer_has_started) {
+            return Err(Ended::Stopped(Stop::Line));
         }
         if let Err(stop) = leave_line(system, desk, waiting, writer) {
             return Err(Ended::Stopped(stop));
+        }
+        if desk.has_run_here {
+            pause = Pause::NONE;
+        } else if !is_listening {
+            pause.grow(clock.now());
         }
     }
     Err(Ended::Stopped(Stop::Line))
 }
 
-/// Ends a service: the station is halted, and what is left to say is said.
-fn end<S: Eprint, W: Sink>(
-    system: &S,
-    options: &Options<'_>,
+/// Judges how the lines ended: what was read and isn't acknowledged is lost; if nothing is, and
+/// nothing more is to be read, all is delivered although the line has ended or the time is over.
+fn judge<R: Source>(
     desk: &mut Desk,
-    writer: &mut W,
-    is_delivered: bool,
-) {
-    if !is_delivered {
-        desk.tell_lost();
+    waiting: &mut Waiting,
+    reader: &mut R,
+    ran: Result<(), Ended>,
+) -> Result<(), Ended> {
+    let is_over = matches!(ran, Err(Ended::Stopped(Stop::Line | Stop::Time)));
+    if is_over && desk.has_run {
+        if let Err(stop) = desk.read_the_rest(reader, waiting) {
+            return Err(Ended::Stopped(stop));
+        }
     }
-    desk.link.halt();
-    let _told_by_the_writer = desk.finish(writer, system, options.counters);
+    desk.close_input();
+    desk.tell_lost();
+    if desk.lost > 0 && (is_over || ran.is_ok()) {
+        return Err(Ended::Lost(desk.lost));
+    }
+    if is_over && desk.has_run { Ok(()) } else { ran }
 }
 
 /// Runs a link between a line and standard input and output, which `reader` and `writer` read and
@@ -335,8 +412,12 @@ fn serve<S: System, R: Source, W: Sink>(
     writer: &mut W,
 ) -> Result<Served, Ended> {
     let ran = run_lines(system, options, desk, waiting, reader, writer);
-    end(system, options, desk, writer, ran.is_ok());
-    match ran {
+    let ended = judge(desk, waiting, reader, ran);
+    desk.link.halt();
+    // A fault of the output is seen at the writer.
+    let _written = desk.finish(writer, options.counters);
+    desk.drain_errors(system, waiting, END_MS);
+    match ended {
         Ok(()) if desk.was_refused => Ok(Served::SomeRefused),
         Ok(()) => Ok(Served::Delivered),
         Err(ended) => Err(ended),
@@ -368,6 +449,14 @@ fn make_trace(alloc: Global, options: &Options<'_>) -> Result<Option<Trace>, Rea
     Ok(Some(Trace::new(alloc, options.config.max, MOST_TEXT)?))
 }
 
+/// The reader that finds where frames end in datagrams, if the line is one of these.
+fn make_framing(alloc: Global, options: &Options<'_>) -> Result<Option<Reader>, ReaderRefusal> {
+    match options.line {
+        LineName::Udp { .. } => Ok(Some(Reader::new(alloc, options.config.max)?)),
+        _ => Ok(None),
+    }
+}
+
 /// The link with what stands between it and the devices; none where memory is refused.
 fn make_desk<S: Files<File = File>>(
     files: &S,
@@ -375,7 +464,8 @@ fn make_desk<S: Files<File = File>>(
     options: &Options<'_>,
 ) -> Option<Desk> {
     let max = options.config.max;
-    let kept = Kept::new(alloc, max, options.trace).ok()?;
+    let framing = make_framing(alloc, options).ok()?;
+    let kept = Kept::new(alloc, max, options.trace, framing).ok()?;
     let messages = Messages::new(alloc, options.form, max).ok()?;
     let trace = make_trace(alloc, options).ok()?;
     let link = Link::new(alloc, options.config, options.timer_ms).ok()?;
@@ -383,7 +473,15 @@ fn make_desk<S: Files<File = File>>(
         output: Outlet::new(files, "/dev/stdout"),
         errors: Outlet::new(files, "/dev/stderr"),
     };
-    Some(Desk::new(link, streams, trace, options.form, messages, kept))
+    Some(Desk::new(
+        link,
+        streams,
+        trace,
+        options.form,
+        messages,
+        kept,
+        options.timer_ms,
+    ))
 }
 
 /// Why a service ended over a line of this name, the output being whole.
@@ -391,14 +489,15 @@ fn fault_of<'a>(ended: Ended, line: LineName<'a>) -> ServiceFault<'a>
     ensures { result ≢ ServiceFault.Write }
 {
     match ended {
-        Ended::NotOpened(kind) => ServiceFault::Open(line.not_opened(kind)),
+        Ended::NotOpened(refused) => ServiceFault::Open(line.not_opened(refused)),
         Ended::CannotWait(kind) => ServiceFault::Open(NotOpened {
             attempt: Attempt::Open,
             name: "epoll",
-            kind,
+            cause: Cause::System(kind),
         }),
         Ended::Stopped(Stop::Read) => ServiceFault::Read,
-        Ended::Stopped(Stop::Line | Stop::Write) => ServiceFault::Ended,
+        Ended::Stopped(Stop::Line | Stop::Time | Stop::Write) => ServiceFault::Ended,
+        Ended::Lost(count) => ServiceFault::Lost(count),
         Ended::Memory => ServiceFault::Memory,
     }
 }

@@ -1,5 +1,6 @@
 //! What a trace tells: the frames that went to the line and those that came from it, what was
 //! discarded, and expiries.
+use crate::errors::Errors;
 use crate::heard::Heard;
 use crate::held::Held;
 use ddcmp_explain::{Notation, reason_name, write_discarded, write_item};
@@ -28,7 +29,8 @@ impl Way {
     }
 }
 
-/// A trace of a line. What a text has no room for is left out, so that no trace holds a link up.
+/// A trace of a line. What standard error has no room for is left out, so that no trace holds a link
+/// up.
 pub(crate) struct Trace {
     alloc: Global,
     max: u16,
@@ -38,8 +40,6 @@ pub(crate) struct Trace {
     came: Heard,
     /// The milliseconds since the service began.
     now: u64,
-    /// Whether the last lines were left out.
-    is_cut: bool,
 }
 
 // By hand, so that a trace is let go by a call: a derived one is written out at each such place.
@@ -52,7 +52,6 @@ impl Drop for Trace {
             sent: _sent,
             came: _came,
             now: _,
-            is_cut: _,
         } = self;
     }
 }
@@ -68,13 +67,12 @@ impl Trace {
             sent: Heard::new(alloc, max)?,
             came: Heard::new(alloc, max)?,
             now: 0,
-            is_cut: false,
         })
     }
 
     /// The line is another from now on.
-    pub(crate) fn begin_anew(&mut self, text: &mut Held) {
-        self.end(text);
+    pub(crate) fn begin_anew(&mut self, errors: &mut Errors) {
+        self.end(errors);
         let sent = Heard::new(self.alloc, self.max);
         let came = Heard::new(self.alloc, self.max);
         if let (Ok(sent), Ok(came)) = (sent, came) {
@@ -84,20 +82,20 @@ impl Trace {
     }
 
     /// The line has ended: what was discarded behind the last frames is told.
-    pub(crate) fn end(&mut self, text: &mut Held) {
-        self.tell_discarded(Way::ToLine, 1, text);
-        self.tell_discarded(Way::FromLine, 1, text);
+    pub(crate) fn end(&mut self, errors: &mut Errors) {
+        self.tell_discarded(Way::ToLine, 1, errors);
+        self.tell_discarded(Way::FromLine, 1, errors);
     }
 
     /// Puts the lines of the frames that bytes complete, which went this way, behind a text, and of
     /// what was discarded before them.
-    pub(crate) fn tell(&mut self, way: Way, bytes: &[u8], text: &mut Held) {
+    pub(crate) fn tell(&mut self, way: Way, bytes: &[u8], errors: &mut Errors) {
         for byte in bytes {
             if let Some(item) = self.heard(way).push(*byte) {
-                self.tell_item(way, &item, text);
+                self.tell_item(way, &item, errors);
             }
         }
-        self.tell_discarded(way, Heard::MOST_DISCARDED, text);
+        self.tell_discarded(way, Heard::MOST_DISCARDED, errors);
     }
 
     fn heard(&mut self, way: Way) -> &mut Heard {
@@ -108,28 +106,29 @@ impl Trace {
     }
 
     /// Puts the line of an item, and before it that of what was discarded.
-    fn tell_item(&mut self, way: Way, item: &Item, text: &mut Held) {
+    fn tell_item(&mut self, way: Way, item: &Item, errors: &mut Errors) {
         if let Some(discarded) = self.heard(way).reach(item) {
-            self.put_discarded(way, discarded.from, discarded.count, text);
+            self.put_discarded(way, discarded.from, discarded.count, errors);
         }
         let needed = (2 * self.heard(way).data().len()).saturating_add(NOTE);
-        if self.has_room(needed, text) {
+        if self.has_room(needed, errors) {
             let now = self.now;
-            put_item(now, way, item, self.heard(way).data(), text);
+            put_item(now, way, item, self.heard(way).data(), errors.lines());
         }
     }
 
     /// Puts the line of what was discarded behind the last frame, where so many bytes were.
-    fn tell_discarded(&mut self, way: Way, least: u64, text: &mut Held) {
+    fn tell_discarded(&mut self, way: Way, least: u64, errors: &mut Errors) {
         if let Some(discarded) = self.heard(way).discard(least) {
-            self.put_discarded(way, discarded.from, discarded.count, text);
+            self.put_discarded(way, discarded.from, discarded.count, errors);
         }
     }
 
-    fn put_discarded(&mut self, way: Way, from: u64, count: u64, text: &mut Held) {
-        if !self.has_room(NOTE, text) {
+    fn put_discarded(&mut self, way: Way, from: u64, count: u64, errors: &mut Errors) {
+        if !self.has_room(NOTE, errors) {
             return;
         }
+        let text = errors.lines();
         let mut page = Page::new();
         write_number(&mut page, text, self.now);
         page.write(text, way.mark());
@@ -137,34 +136,21 @@ impl Trace {
         let _has_room = page.flush(text);
     }
 
-    /// Whether a text has room for so many bytes. It tells once that lines are left out.
-    fn has_room(&mut self, needed: usize, text: &mut Held) -> bool {
-        text.settle();
-        let has_room = self.spared.saturating_add(needed) <= text.room();
-        if !has_room && !self.is_cut {
-            self.note(text, b" left out\n");
-        }
-        self.is_cut = !has_room;
-        has_room
+    /// Whether a line of so many bytes has room, and what else is reported still has some.
+    fn has_room(&self, needed: usize, errors: &mut Errors) -> bool {
+        errors.has_room(self.spared.saturating_add(needed))
     }
 
-    /// It is this moment, and the station's timer has run out or not.
-    pub(crate) fn wake(&mut self, now: u64, has_expired: bool, text: &mut Held) {
+    /// It is this moment, and the station's timer has expired or not.
+    pub(crate) fn wake(&mut self, now: u64, has_expired: bool, errors: &mut Errors) {
         self.now = now;
-        if has_expired {
-            self.note(text, b" timer\n");
+        if has_expired && self.has_room(NOTE, errors) {
+            let text = errors.lines();
+            let mut page = Page::new();
+            write_number(&mut page, text, now);
+            page.write(text, b" timer\n");
+            let _has_room = page.flush(text);
         }
-    }
-
-    /// Puts a line of the moment and a word, where there is room for it.
-    fn note(&self, text: &mut Held, word: &[u8]) {
-        if text.room() < self.spared {
-            return;
-        }
-        let mut page = Page::new();
-        write_number(&mut page, text, self.now);
-        page.write(text, word);
-        let _has_room = page.flush(text);
     }
 }
 

@@ -121,6 +121,22 @@ impl Wanted {
         from_line: false,
         to_line: false,
     };
+
+    pub(crate) const INPUT: Wanted = Wanted {
+        input: true,
+        output: false,
+        errors: false,
+        from_line: false,
+        to_line: false,
+    };
+
+    pub(crate) const ERRORS: Wanted = Wanted {
+        input: false,
+        output: false,
+        errors: true,
+        from_line: false,
+        to_line: false,
+    };
 }
 
 /// What a service waits for.
@@ -275,6 +291,20 @@ impl Waiting {
             }
         }
     }
+}
+
+/// Whether standard error takes something, now or within a second.
+pub fn errors_take<N: Net>(net: &N, alloc: Global) -> bool {
+    let Ok(mut waiting) = Waiting::new(net, alloc) else {
+        return true;
+    };
+    // What comes of standard input may end a wait.
+    for _try in 0..4u8 {
+        if waiting.errors.ready.to_write || !waiting.wait(Wanted::ERRORS, 250) {
+            return true;
+        }
+    }
+    waiting.errors.ready.to_write
 }
 
 /// Takes over what the wait told of the line.

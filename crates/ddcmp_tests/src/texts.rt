@@ -1,10 +1,8 @@
 //! Each fault has its text, also those that the program tells by another's.
 use crate::same::is;
-use ddcmp_cli::{
-    DumpFault, ExplainFault, NotDumped, OpenFault, ServeFault, ServiceFault, TapFault,
-};
+use ddcmp_cli::{DumpFault, ExplainFault, Fault, NotDumped, OpenFault, ServeFault, TapFault};
 use ddcmp_script::ScriptFault;
-use ddcmp_service::{Attempt, NotOpened};
+use ddcmp_service::{Attempt, Cause, NotOpened};
 use ddcmp_station::LineFault;
 use std::fmt::Display;
 use std::io::ErrorKind;
@@ -83,84 +81,114 @@ fn files(rt: HostRuntime) -> Result<(), Fail> {
     reads(&rt, &OpenFault::Other, "it can't be opened")
 }
 
-/// What is told where the system answers so to an attempt at a line of the name `it`.
+/// What is reported of an attempt at a line of the name `it` that failed so.
 fn tells(
     rt: &(impl Abort + AllocGlobal),
     attempt: Attempt,
-    kind: ErrorKind,
+    cause: Cause,
     text: &str,
 ) -> Result<(), Fail> {
     let name = "it";
     let fault = NotOpened {
         attempt,
         name,
-        kind,
+        cause,
     };
-    reads(rt, &fault, text)?;
-    reads(rt, &ServiceFault::Open(fault), text)
+    reads(rt, &fault, text)
 }
 
 #[test]
 fn lines(rt: HostRuntime) -> Result<(), Fail> {
     let (to, at, of) = (Attempt::Connect, Attempt::Listen, Attempt::Open);
-    tells(&rt, of, ErrorKind::NotFound, "open it: no such file")?;
     tells(
         &rt,
         of,
-        ErrorKind::PermissionDenied,
+        Cause::System(ErrorKind::NotFound),
+        "open it: no such file",
+    )?;
+    tells(
+        &rt,
+        of,
+        Cause::System(ErrorKind::PermissionDenied),
         "open it: permission denied",
     )?;
     tells(
         &rt,
         to,
-        ErrorKind::ConnectionRefused,
+        Cause::System(ErrorKind::ConnectionRefused),
         "connect it: connection refused",
     )?;
     tells(
         &rt,
         to,
-        ErrorKind::ConnectionReset,
+        Cause::System(ErrorKind::ConnectionReset),
         "connect it: connection reset",
     )?;
     tells(
         &rt,
         to,
-        ErrorKind::HostUnreachable,
+        Cause::System(ErrorKind::HostUnreachable),
         "connect it: host unreachable",
     )?;
     tells(
         &rt,
         to,
-        ErrorKind::NetworkUnreachable,
+        Cause::System(ErrorKind::NetworkUnreachable),
         "connect it: network unreachable",
     )?;
-    tells(&rt, at, ErrorKind::AddrInUse, "listen it: address in use")?;
     tells(
         &rt,
         at,
-        ErrorKind::AddrNotAvailable,
+        Cause::System(ErrorKind::AddrInUse),
+        "listen it: address in use",
+    )?;
+    tells(
+        &rt,
+        at,
+        Cause::System(ErrorKind::AddrNotAvailable),
         "listen it: address not available",
     )?;
-    tells(&rt, to, ErrorKind::TimedOut, "connect it: timed out")?;
+    tells(
+        &rt,
+        to,
+        Cause::System(ErrorKind::TimedOut),
+        "connect it: timed out",
+    )?;
     tells(
         &rt,
         at,
-        ErrorKind::InvalidInput,
+        Cause::System(ErrorKind::InvalidInput),
         "listen it: not an address",
     )?;
-    tells(&rt, of, ErrorKind::OutOfMemory, "open it: out of memory")?;
     tells(
         &rt,
         of,
-        ErrorKind::BrokenPipe,
+        Cause::System(ErrorKind::OutOfMemory),
+        "open it: out of memory",
+    )?;
+    tells(
+        &rt,
+        of,
+        Cause::System(ErrorKind::BrokenPipe),
         "open it: it can't be opened",
-    )
+    )?;
+    let directory = Cause::System(ErrorKind::IsADirectory);
+    tells(&rt, of, directory, "open it: is a directory")?;
+    tells(&rt, to, Cause::UnknownHost, "connect it: no such host")?;
+    tells(
+        &rt,
+        of,
+        Cause::OtherFamily,
+        "open it: not of the other address's family",
+    )?;
+    tells(&rt, of, Cause::NotDevice, "open it: not a character device")?;
+    tells(&rt, of, Cause::InUse, "open it: in use by another program")
 }
 
 #[test]
 fn links(rt: HostRuntime) -> Result<(), Fail> {
-    reads(&rt, &ServiceFault::Ended, "ended")?;
-    reads(&rt, &ServiceFault::Read, "read")?;
-    reads(&rt, &ServiceFault::Write, "write")?;
-    reads(&rt, &ServiceFault::Memory, "out of memory")
+    reads(&rt, &Fault::Lost(1), "1 message lost")?;
+    reads(&rt, &Fault::Lost(2), "2 messages lost")?;
+    let most = Fault::Lost(u64::MAX);
+    reads(&rt, &most, "18446744073709551615 messages lost")
 }
