@@ -11,3 +11,4 @@ pub mod Serving
 pub mod Acknowledged
 pub mod LinkCalls
 pub mod TwoLinks
+pub mod Sleeping

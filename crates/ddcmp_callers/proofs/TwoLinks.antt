@@ -1,4 +1,4 @@
--- Two links over streams.
+-- Two links, over honest lines and over streams.
 use Rattle.std.proofs.Common.{◌≡◌, ℕ, ◌+◌, Bool, true, false, cond, List, [], ◌∷◌, ◌++◌, length}
 use Rattle.std.proofs.Common.{refl, sym, ◌∙◌, ap, subst, arith, None}
 use Rattle.std.specs.Prelude.{◌&&◌}
@@ -23,7 +23,8 @@ use Rattle.ddcmp_callers.specs.Links.{IsSent, Feeds, Takes, station_calls, HasDo
 use Rattle.ddcmp_callers.specs.Links.{LinkStep, after_step, IsSameEnd, Links, link_at}
 use Rattle.ddcmp_callers.specs.Links.{after_step_at, AreStreams, LinkOverStreams, after_steps}
 use Rattle.ddcmp_callers.specs.Links.{starts_in_call, count_if, link_starts, AreStartedOnce}
-use Rattle.ddcmp_callers.specs.Links.{new_links, received, LinkReaches}
+use Rattle.ddcmp_callers.specs.Links.{new_links, received, LinkReaches, IsKeptOverStreams}
+use Rattle.ddcmp_callers.specs.LinkLines.{AreLinkCalls, calls_of_steps, IsKeptOverHonestLines}
 use Rattle.ddcmp_callers.proofs.Runs.{calls_in_order, calls_clean}
 use Rattle.ddcmp_callers.proofs.Acknowledged.{IsAcknowledged, calls_acknowledged, all_up}
 use Rattle.ddcmp_callers.proofs.Acknowledged.{first_of_three}
@@ -32,16 +33,9 @@ use Rattle.ddcmp_callers.proofs.InTurn.{at_one, own_a, own_b, other_a, other_b, 
 use Rattle.ddcmp_callers.proofs.InTurn.{over_b}
 use Rattle.ddcmp_callers.proofs.LinkCalls.{step_same, new_same}
 
--- the calls of both stations
-in_steps : List (End × LinkStep) → Links → List (End × Call)
-in_steps [] q = []
-in_steps (step ∷ rest) q =
-    at_one step.0 (station_calls step.1.call (link_at step.0 q).link)
-    ++ in_steps rest (after_step_at step.0 step.1 q)
-
-record AreSame (p : PairState) (q : Links) : Type 0 where
-  a : IsSameEnd p.a q.a
-  b : IsSameEnd p.b q.b
+pub record AreSame (p : PairState) (q : Links) : Type 0 where
+  pub a : IsSameEnd p.a q.a
+  pub b : IsSameEnd p.b q.b
 
 -- what a link's line took, its station had written
 gone_written : (x : EndState) (h : LinkHistory) → IsSameEnd x h → Begins h.gone (written x)
@@ -56,8 +50,8 @@ reads x y h k s t b =
 -- ---- over streams
 
 over_steps : (steps : List (End × LinkStep)) (q : Links) (p : PairState) → AreSame p q
-    → IsFaithful p → LinkOverStreams steps q → OverStreams (in_steps steps q) p
-unfolding in_steps
+    → IsFaithful p → LinkOverStreams steps q → OverStreams (calls_of_steps steps q) p
+unfolding calls_of_steps
 over_steps [] q p s f o = tt
 over_steps (step ∷ rest) q p s f o =
     by step.0 step.1 o.0 o.1 (over_steps rest (after_step_at step.0 step.1 q)) o.2
@@ -67,16 +61,16 @@ over_steps (step ∷ rest) q p s f o =
         → AreStreams (after_step_at end one q)
         → ((r : PairState) → AreSame r (after_step_at end one q) → IsFaithful r
         → LinkOverStreams rest (after_step_at end one q)
-        → OverStreams (in_steps rest (after_step_at end one q)) r)
+        → OverStreams (calls_of_steps rest (after_step_at end one q)) r)
         → LinkOverStreams rest (after_step_at end one q)
         → OverStreams
         (at_one end (station_calls one.call (link_at end q).link)
-        ++ in_steps rest (after_step_at end one q)) p
+        ++ calls_of_steps rest (after_step_at end one q)) p
     by A one e streams more later =
         let calls = station_calls one.call q.a.link in
         let x = after_calls_here calls p.a in
         let u : IsSameEnd x (after_step one q.a) = step_same one q.a p.a e s.a in
-        over_a calls (in_steps rest (after_step_at A one q)) p
+        over_a calls (calls_of_steps rest (after_step_at A one q)) p
         (reads x p.b (after_step one q.a) q.b u s.b streams.to_a) f.to_b
         (λ r g k ff. more r
         (record {
@@ -87,7 +81,7 @@ over_steps (step ∷ rest) q p s f o =
         let calls = station_calls one.call q.b.link in
         let x = after_calls_here calls p.b in
         let u : IsSameEnd x (after_step one q.b) = step_same one q.b p.b e s.b in
-        over_b calls (in_steps rest (after_step_at B one q)) p
+        over_b calls (calls_of_steps rest (after_step_at B one q)) p
         (reads x p.a (after_step one q.b) q.a u s.a streams.to_b) f.to_a
         (λ r g k ff. more r
         (record {
@@ -112,28 +106,28 @@ runs_b P [] rest p more = more p refl refl
 runs_b P (c ∷ calls) rest p more = runs_b P calls rest (after_call B c p) more
 
 steps_same : (steps : List (End × LinkStep)) (q : Links) (p : PairState) → AreSame p q
-    → LinkOverStreams steps q → AreSame (run_calls (in_steps steps q) p) (after_steps steps q)
-unfolding in_steps run_calls after_steps
+    → AreLinkCalls steps q → AreSame (run_calls (calls_of_steps steps q) p) (after_steps steps q)
+unfolding calls_of_steps run_calls after_steps
 steps_same [] q p s o = s
 steps_same (step ∷ rest) q p s o =
-    by step.0 step.1 o.0 (steps_same rest (after_step_at step.0 step.1 q)) o.2
+    by step.0 step.1 o.0 (steps_same rest (after_step_at step.0 step.1 q)) o.1
   where
     by : (end : End) (one : LinkStep)
         → HasDone one.call (link_at end q).used (link_at end q).link one.link
         → ((r : PairState) → AreSame r (after_step_at end one q)
-        → LinkOverStreams rest (after_step_at end one q)
-        → AreSame (run_calls (in_steps rest (after_step_at end one q)) r)
+        → AreLinkCalls rest (after_step_at end one q)
+        → AreSame (run_calls (calls_of_steps rest (after_step_at end one q)) r)
         (after_steps rest (after_step_at end one q)))
-        → LinkOverStreams rest (after_step_at end one q)
+        → AreLinkCalls rest (after_step_at end one q)
         → AreSame
         (run_calls
         (at_one end (station_calls one.call (link_at end q).link)
-        ++ in_steps rest (after_step_at end one q)) p)
+        ++ calls_of_steps rest (after_step_at end one q)) p)
         (after_steps rest (after_step_at end one q))
     by A one e more later =
         let u = step_same one q.a p.a e s.a in
         runs_a (λ r. AreSame r (after_steps rest (after_step_at A one q)))
-        (station_calls one.call q.a.link) (in_steps rest (after_step_at A one q)) p
+        (station_calls one.call q.a.link) (calls_of_steps rest (after_step_at A one q)) p
         (λ r g k. more r
         (record {
           a = subst (λ y. IsSameEnd y (after_step one q.a)) (sym g) u;
@@ -142,7 +136,7 @@ steps_same (step ∷ rest) q p s o =
     by B one e more later =
         let u = step_same one q.b p.b e s.b in
         runs_b (λ r. AreSame r (after_steps rest (after_step_at B one q)))
-        (station_calls one.call q.b.link) (in_steps rest (after_step_at B one q)) p
+        (station_calls one.call q.b.link) (calls_of_steps rest (after_step_at B one q)) p
         (λ r g k. more r
         (record {
           b = subst (λ y. IsSameEnd y (after_step one q.b)) (sym g) u;
@@ -170,52 +164,52 @@ call_starts (Feeds used) d = refl
 call_starts Takes d = refl
 
 starts_a : (steps : List (End × LinkStep)) (q : Links)
-    → starts_in (calls_at A (in_steps steps q)) ≡ link_starts A steps
-unfolding in_steps calls_at link_starts
+    → starts_in (calls_at A (calls_of_steps steps q)) ≡ link_starts A steps
+unfolding calls_of_steps calls_at link_starts
 starts_a [] q = refl
 starts_a (step ∷ rest) q = by step.0 step.1 (starts_a rest (after_step_at step.0 step.1 q))
   where
     by : (end : End) (one : LinkStep)
-        → starts_in (calls_at A (in_steps rest (after_step_at end one q))) ≡ link_starts A rest
+        → starts_in (calls_at A (calls_of_steps rest (after_step_at end one q))) ≡ link_starts A rest
         → starts_in
         (calls_at A
         (at_one end (station_calls one.call (link_at end q).link)
-        ++ in_steps rest (after_step_at end one q)))
+        ++ calls_of_steps rest (after_step_at end one q)))
         ≡ count_if A end (starts_in_call one.call) + link_starts A rest
     by A one e =
         let calls = station_calls one.call q.a.link in
-        let more = calls_at A (in_steps rest (after_step_at A one q)) in
+        let more = calls_at A (calls_of_steps rest (after_step_at A one q)) in
         let f = call_starts one.call q.a.link in
         let g = sum_by-append starts_by calls more in
-        ap starts_in (own_a calls (in_steps rest (after_step_at A one q))) ∙ omega (arith, e, f, g)
+        ap starts_in (own_a calls (calls_of_steps rest (after_step_at A one q))) ∙ omega (arith, e, f, g)
     by B one e =
         ap starts_in
-        (other_a (station_calls one.call q.b.link) (in_steps rest (after_step_at B one q)))
+        (other_a (station_calls one.call q.b.link) (calls_of_steps rest (after_step_at B one q)))
         ∙ omega (arith, e)
 
 starts_b : (steps : List (End × LinkStep)) (q : Links)
-    → starts_in (calls_at B (in_steps steps q)) ≡ link_starts B steps
-unfolding in_steps calls_at link_starts
+    → starts_in (calls_at B (calls_of_steps steps q)) ≡ link_starts B steps
+unfolding calls_of_steps calls_at link_starts
 starts_b [] q = refl
 starts_b (step ∷ rest) q = by step.0 step.1 (starts_b rest (after_step_at step.0 step.1 q))
   where
     by : (end : End) (one : LinkStep)
-        → starts_in (calls_at B (in_steps rest (after_step_at end one q))) ≡ link_starts B rest
+        → starts_in (calls_at B (calls_of_steps rest (after_step_at end one q))) ≡ link_starts B rest
         → starts_in
         (calls_at B
         (at_one end (station_calls one.call (link_at end q).link)
-        ++ in_steps rest (after_step_at end one q)))
+        ++ calls_of_steps rest (after_step_at end one q)))
         ≡ count_if B end (starts_in_call one.call) + link_starts B rest
     by A one e =
         ap starts_in
-        (other_b (station_calls one.call q.a.link) (in_steps rest (after_step_at A one q)))
+        (other_b (station_calls one.call q.a.link) (calls_of_steps rest (after_step_at A one q)))
         ∙ omega (arith, e)
     by B one e =
         let calls = station_calls one.call q.b.link in
-        let more = calls_at B (in_steps rest (after_step_at B one q)) in
+        let more = calls_at B (calls_of_steps rest (after_step_at B one q)) in
         let f = call_starts one.call q.b.link in
         let g = sum_by-append starts_by calls more in
-        ap starts_in (own_b calls (in_steps rest (after_step_at B one q))) ∙ omega (arith, e, f, g)
+        ap starts_in (own_b calls (calls_of_steps rest (after_step_at B one q))) ∙ omega (arith, e, f, g)
 
 -- ---- from two new links
 
@@ -242,61 +236,77 @@ reaches x y h k s t d =
           omega (arith, e, f, g);
     }
 
+pub clean_of : (first second : Config) (steps : List (End × LinkStep)) (q : Links)
+    → first_refusal first ≡ None → first_refusal second ≡ None → AreStartedOnce steps
+    → (run_calls (calls_of_steps steps q) (new_pair first second)).honest ≡ true
+    → is_clean (run_calls (calls_of_steps steps q) (new_pair first second)) ≡ true
+clean_of first second steps q f g once honest =
+    calls_clean first second (calls_of_steps steps q) f g (record {
+      at_a = let e = starts_a steps q in let h = once.at_a in omega (arith, e, h);
+      at_b = let e = starts_b steps q in let h = once.at_b in omega (arith, e, h);
+    }) honest
+
 module _ (first second : Config) (ms other_ms : ℕ) (line other_line : ReaderView)
     (steps : List (End × LinkStep)) (f : first_refusal first ≡ None)
     (g : first_refusal second ≡ None)
-    (o : LinkOverStreams steps (new_links first ms line second other_ms other_line))
+    (o : AreLinkCalls steps (new_links first ms line second other_ms other_line))
+    (honest : (run_calls (calls_of_steps steps
+    (new_links first ms line second other_ms other_line)) (new_pair first second)).honest ≡ true)
     (once : AreStartedOnce steps) where
   abbrev links : Links
   links = new_links first ms line second other_ms other_line
 
   abbrev calls : List (End × Call)
-  calls = in_steps steps links
+  calls = calls_of_steps steps links
 
-  begun : AreSame (new_pair first second) links
-  begun = record { a = new_same first ms line; b = new_same second other_ms other_line }
+  pub clean : is_clean (run_calls calls (new_pair first second)) ≡ true
+  clean = clean_of first second steps links f g once honest
 
-  faithful : IsFaithful (new_pair first second)
-  faithful =
-      record {
-        to_a = (written (new_pair first second).b, refl);
-        to_b = (written (new_pair first second).a, refl);
-      }
+  pub ends : AreSame (run_calls calls (new_pair first second)) (after_steps steps links)
+  ends =
+      steps_same steps links (new_pair first second)
+      (record { a = new_same first ms line; b = new_same second other_ms other_line }) o
 
-  honest : (run_calls calls (new_pair first second)).honest ≡ true
-  honest =
-      streams_honest first second calls f g
-      (over_steps steps links (new_pair first second) begun faithful o)
-
-  clean : is_clean (run_calls calls (new_pair first second)) ≡ true
-  clean = calls_clean first second calls f g (record {
-    at_a = let e = starts_a steps links in let h = once.at_a in omega (arith, e, h);
-    at_b = let e = starts_b steps links in let h = once.at_b in omega (arith, e, h);
-  }) honest
-
-  ends : AreSame (run_calls calls (new_pair first second)) (after_steps steps links)
-  ends = steps_same steps links (new_pair first second) begun o
-
-  pub link_reaches_b : LinkReaches (after_steps steps links).a (after_steps steps links).b
-  link_reaches_b =
+  pub reaches_b : LinkReaches (after_steps steps links).a (after_steps steps links).b
+  reaches_b =
       reaches _ _ _ _ ends.a ends.b
       ((calls_in_order first second calls f g).where_clean honest clean).a_to_b
 
-  pub link_reaches_a : LinkReaches (after_steps steps links).b (after_steps steps links).a
-  link_reaches_a =
+  pub reaches_a : LinkReaches (after_steps steps links).b (after_steps steps links).a
+  reaches_a =
       reaches _ _ _ _ ends.b ends.a
       ((calls_in_order first second calls f g).where_clean honest clean).b_to_a
 
-  pub delivered_to_b : delivered (after_steps steps links).a.link ≡ true
+  pub all_to_b : delivered (after_steps steps links).a.link ≡ true
       → received (after_steps steps links).b ≡ (after_steps steps links).a.accepted
-  delivered_to_b =
+  all_to_b =
       delivered_all _ _ _ _ ends.a ends.b
       ((calls_in_order first second calls f g).where_clean honest clean).a_to_b
       (calls_acknowledged first second calls f g honest clean).0
 
-  pub delivered_to_a : delivered (after_steps steps links).b.link ≡ true
+  pub all_to_a : delivered (after_steps steps links).b.link ≡ true
       → received (after_steps steps links).a ≡ (after_steps steps links).b.accepted
-  delivered_to_a =
+  all_to_a =
       delivered_all _ _ _ _ ends.b ends.a
       ((calls_in_order first second calls f g).where_clean honest clean).b_to_a
       (calls_acknowledged first second calls f g honest clean).1
+
+-- ---- a stream is an honest line
+
+stream_calls : (steps : List (End × LinkStep)) (q : Links) → LinkOverStreams steps q
+    → AreLinkCalls steps q
+stream_calls [] q o = tt
+stream_calls (step ∷ rest) q o =
+    (o.0, stream_calls rest (after_step_at step.0 step.1 q) o.2)
+
+pub kept : (P : Links → Type 0) → IsKeptOverHonestLines P → IsKeptOverStreams P
+kept P promise first second ms other_ms line other_line steps f g o once =
+    let links = new_links first ms line second other_ms other_line in
+    promise first second ms other_ms line other_line steps f g (stream_calls steps links o)
+    (streams_honest first second (calls_of_steps steps links) f g
+    (over_steps steps links (new_pair first second)
+    (record { a = new_same first ms line; b = new_same second other_ms other_line })
+    (record {
+      to_a = (written (new_pair first second).b, refl);
+      to_b = (written (new_pair first second).a, refl);
+    }) o)) once

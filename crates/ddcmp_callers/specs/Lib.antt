@@ -3,3 +3,4 @@ pub mod Driven
 pub mod Served
 pub mod Streams
 pub mod Links
+pub mod LinkLines

@@ -1,5 +1,5 @@
 //! Links, and two of them over streams.
-ghost use Rattle.std.specs.Prelude.{◌≡◌, ℕ, List, true};
+ghost use Rattle.std.specs.Prelude.{◌≡◌, ◌⊎◌, ℕ, List, true};
 ghost use Rattle.ddcmp_frame.specs.Reader.{ReaderView};
 ghost use Rattle.ddcmp_link.specs.Linking.{delivered};
 ghost use Rattle.ddcmp_proto.specs.declared.config.Config.{Config as ConfigValue};
@@ -9,6 +9,8 @@ ghost use Rattle.ddcmp_callers.specs.Links.{LinkStep, LinkHistory, station_calls
 ghost use Rattle.ddcmp_callers.specs.Links.{new_history, after_step, IsHistory, after_history};
 ghost use Rattle.ddcmp_callers.specs.Links.{calls_in_history, offered_in, sent_in, IsSameEnd};
 ghost use Rattle.ddcmp_callers.specs.Links.{IsKeptOverStreams, LinkReaches, received};
+ghost use Rattle.ddcmp_callers.specs.LinkLines.{IsKeptOverHonestLines, LinksAreUp, LinkIsAsleep};
+ghost use Rattle.ddcmp_callers.specs.LinkLines.{InboxIsFull, LinkIsDelivered};
 
 /// Each call of a link is calls of its station, and so is a history of calls. They leave the
 /// station as the link leaves it; what the link's line took, and behind it what waits for the line,
@@ -25,6 +27,37 @@ pub fn link_calls_are_calls()
         → IsSameEnd (after_calls_here (calls_in_history steps h) x) (after_history steps h) }
     ensures offers { (steps : List LinkStep) (h : LinkHistory)
         → sent_in (calls_in_history steps h) ≡ offered_in steps }
+{}
+
+/// Two new links of any sizes in range, each started at most once, over an honest line: the good
+/// frames that each received are, in their order, among those that the other sent. Whatever else
+/// the line did, as lose, cut or damage what it carries, whatever the calls, the moments and the
+/// cuts: what each received are the first of the messages that the other accepted, in their order,
+/// each once and unchanged, and no more are reported acknowledged than were received.
+pub fn links_in_order()
+    ensures to_b { IsKeptOverHonestLines (λ p. LinkReaches p.a p.b) }
+    ensures to_a { IsKeptOverHonestLines (λ p. LinkReaches p.b p.a) }
+{}
+
+/// If one of two such links reports that all is delivered, the other has received all that it
+/// accepted: these messages, in their order, each once and unchanged, and no others.
+pub fn delivered_over_an_honest_line()
+    ensures to_b { IsKeptOverHonestLines
+        (λ p. delivered p.a.link ≡ true → received p.b ≡ p.a.accepted) }
+    ensures to_a { IsKeptOverHonestLines
+        (λ p. delivered p.b.link ≡ true → received p.a ≡ p.b.accepted) }
+{}
+
+/// Two such links of which neither is halted sleep only if there is nothing left to do: if one has
+/// no moment to wake at, and puts no frame though it has room for one, then it runs, and each
+/// message that it accepted is received by the other and acknowledged; or its inbox is full, and it
+/// is its user who must take. So a caller that waits for its line alone, without a moment, waits
+/// for nothing that is due.
+pub fn links_sleep_when_done()
+    ensures from_a { IsKeptOverHonestLines (λ p. LinksAreUp p → LinkIsAsleep p.a.link
+        → LinkIsDelivered p.a p.b ⊎ InboxIsFull p.a.link) }
+    ensures from_b { IsKeptOverHonestLines (λ p. LinksAreUp p → LinkIsAsleep p.b.link
+        → LinkIsDelivered p.b p.a ⊎ InboxIsFull p.b.link) }
 {}
 
 /// Two new links of any sizes in range, each started at most once, over streams: whatever the

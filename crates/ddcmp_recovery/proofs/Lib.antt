@@ -13,3 +13,4 @@ mod Staying
 mod Delivering
 mod Rounding
 mod InStep
+pub mod Waiting

@@ -43,7 +43,7 @@ use Rattle.ddcmp_recovery.proofs.Delivering.{flies-arrives, flies-expires, flies
 
 -- ---- an event, and a list of events
 
-run-alone : (p : PairState) → IsRun p → BothAlone p
+pub run-alone : (p : PairState) → IsRun p → BothAlone p
 run-alone p r =
     subst (λ (q : PairState). BothAlone q) r.leads
     (alone-run r.events (new_pair r.first r.second) (alone-begun r.first r.second))
@@ -197,14 +197,14 @@ idle-is x e = by (next x.core.station) refl
         absurd
         (let y = sym (ap (λ n. option_map (frame_on_line x.syn) (next_frame n)) q) ∙ e in cc y)
 
-idles : (x y : EndState) (fl gl : List Flight) → Both (face x) (face y) fl gl → line_bytes x ≡ None
+pub idles : (x y : EndState) (fl gl : List Flight) → Both (face x) (face y) fl gl → line_bytes x ≡ None
     → Idles (sight (face x))
 idles x y fl gl b e =
     subst (ActsAs (face x)) (idle-is x e)
     (acts-as (face x) b.base.awake b.base.no_maintenance b.counted (next x.core.station)
     (sending x.core.station))
 
-counted-of : (x y : EndState) → Shows x y → Counted (face x)
+pub counted-of : (x y : EndState) → Shows x y → Counted (face x)
 counted-of x y h =
     let n =
     sent_is x.core.station x.core.limits.window x.given x.acknowledged h.sent h.next
@@ -216,7 +216,7 @@ counted-of x y h =
     (λ (k : ℕ × ℕ). Counts x.core.station x.core.limits.window x.given x.acknowledged k.0 k.1
     (length (handed_up x))) (λ i. (sym n i, sym t i)) h.numbers
 
-base-of : (x y : EndState) → Shows x y → x.core.station.state ≢ Halted
+pub base-of : (x y : EndState) → Shows x y → x.core.station.state ≢ Halted
     → Base x.core.limits.window (sight (face x)) (sight (face y)) [] []
 unfolding Rises Near Each StrtsFirst
 base-of x y h w =
@@ -250,7 +250,7 @@ both-of l r u =
       counted_there = counted-of l.pair.b l.pair.a b;
     }
 
-back-to : (x y : EndState) → Both (face x) (face y) [] [] → Both (face y) (face x) [] []
+pub back-to : (x y : EndState) → Both (face x) (face y) [] [] → Both (face y) (face x) [] []
 back-to x y h =
     record {
       base = h.base_there;
@@ -372,7 +372,7 @@ prefix-whole xs ys (([]), e) n = sym e ∙ append-nil xs
 prefix-whole xs ys ((z ∷ zs), e) n =
     absurd (omega (arith, n, ap length e, length-append xs (z ∷ zs)))
 
-delivered-to : (x y : EndState) → Shows x y → x.core.station.state ≡ Running
+pub delivered-to : (x y : EndState) → Shows x y → x.core.station.state ≡ Running
     → x.acknowledged ≡ length (handed_up y) → length (handed_up y) ≡ length x.given
     → IsDelivered x y
 delivered-to x y s p a u =

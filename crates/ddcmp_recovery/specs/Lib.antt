@@ -2,3 +2,4 @@ pub mod LossFree
 pub mod Price
 pub mod Rests
 pub mod Delivers
+pub mod Sleep

@@ -5,3 +5,4 @@
 pub mod delivers;
 pub mod rests;
 pub mod settles;
+pub mod sleep;
