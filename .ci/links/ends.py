@@ -73,7 +73,7 @@ def lost_at_a_restart():
 
 def peer_restarts():
     """A STRT to a link that runs: without --restart it ends; with nothing lost, and with a message lost."""
-    for messages, last in ((b"", "ddcmp: ended"), (b"61\n", "ddcmp: 1 message lost")):
+    for messages, status, last in ((b"", 0, None), (b"61\n", 3, "ddcmp: 1 message lost")):
         with server() as it:
             link = Link(f"connect:127.0.0.1:{it.getsockname()[1]}")
             peer = Peer(it.accept()[0], no_ack)
@@ -83,9 +83,9 @@ def peer_restarts():
         link.waits(lambda it: b"Running" in it.said, 10)
         peer.answer = silent
         peer.send(STRT)
-        if link.ended(10) != 3 or "notice PeerRestarted" not in link.lines() or (
-                messages and link.errors()[-1:] != [last]):
-            wrong(f"{last}: {link.run.returncode} {link.lines()} {link.errors()}")
+        wants(f"{messages}", link, status, last, seconds=10)
+        if "notice PeerRestarted" not in link.lines():
+            wrong(f"{link.lines()}")
 
 
 def bytes_of_an_old_line():
