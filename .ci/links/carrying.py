@@ -8,9 +8,9 @@ import threading
 import time
 
 from links import kit
-from links.kit import (Link, binary, checked, connected, drawn, exchange, free_port, listening, messages_of, server,
+from links.kit import (Link, binary, connected, drawn, exchange, free_port, listening, messages_of, server,
                        tcp_pair, terminals, unpacked, wants, wrong)
-from links.peer import Peer, data
+from links.peer import Peer, ack, data, good
 
 
 def tcp_both_ways():
@@ -63,7 +63,6 @@ def counted(link, peer, lines):
 
 def three_of_four(peer, frame):
     """Acknowledges three messages, and no more."""
-    from links.peer import ack, good
     if frame.name == "DATA":
         peer.taken = min(max(peer.taken, frame.num), 3)
         return ack(peer.taken)
@@ -95,7 +94,6 @@ def refused_input():
     one, two = tcp_pair(("--max", "3"), ())
     one.give(b"61\r\n6\nxy\n61626364\n6162\n\r\n61\r62\n616263")
     status = one.ended()
-    told = [it for it in one.errors() if "line" in it][1:]
     wanted = ["ddcmp: line 2: not hexadecimal", "ddcmp: line 3: not hexadecimal", "ddcmp: line 4: too long",
               "ddcmp: line 7: not hexadecimal"]
     told = [it for it in one.errors() if it.startswith("ddcmp: line ")]
@@ -118,13 +116,13 @@ def refused_input():
 
 def cut_message():
     """A message that is too long and cut off by the end of the input is refused once."""
-    one, two = tcp_pair(("--max", "3", "--binary"), ())
-    one.give(b"\0\x09ab")
-    one.ended()
-    told = [it for it in one.errors() if "message" in it]
-    if one.run.returncode != 1 or told != ["ddcmp: message 1: too long"]:
-        wrong(f"{one.run.returncode} {told}")
-    two.kill()
+    with server() as it:
+        link = Link(f"connect:127.0.0.1:{it.getsockname()[1]}", "--max", "3", "--binary")
+        Peer(it.accept()[0])
+    link.give(b"\0\x09ab")
+    wants("cut", link, 1, "ddcmp: message 1: too long")
+    if sum("message" in it for it in link.errors()) != 1:
+        wrong(f"{link.errors()}")
 
 
 def pseudo_terminals():
@@ -216,7 +214,6 @@ def large():
     exchange("50 MB", one, two, sent, sent[::-1])
 
 
-assert checked(b"") == b"\0\0"
 TRIALS = [tcp_both_ways, long_messages, digits, receiver_ends, last_line, refused_input, cut_message, pseudo_terminals,
           bad_line, inputs]
 LONG_TRIALS = [large]

@@ -118,7 +118,7 @@ def longest_pause():
 
 def udp_pair():
     a, b = free_port(socket.SOCK_DGRAM), free_port(socket.SOCK_DGRAM)
-    options = ("--binary", "--timer-ms", "200", "--stay", "--seconds", "8")
+    options = ("--binary", "--timer-ms", "200", "--stay", "--seconds", "4")
     one = Link(f"udp:127.0.0.1:{a},127.0.0.1:{b}", *options)
     two = Link(f"udp:127.0.0.1:{b},127.0.0.1:{a}", *options)
     exchange("udp", one, two, messages_of(200), messages_of(200))

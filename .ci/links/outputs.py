@@ -1,5 +1,6 @@
 """Standard output and error that are slow, full or closed, and descriptors that are closed at the start."""
 import contextlib
+import fcntl
 import os
 import signal
 import socket
@@ -125,23 +126,28 @@ class Unread:
 
 
 def errors_unread():
-    """20,000 messages in binary while nobody reads the standard errors of both ends; then each end ends."""
-    for options in (("--binary",), ("--binary", "--trace")):
+    """20,000 messages in binary while nobody reads the standard errors of both ends; then each end ends. Where they
+    are read before the end, what was left out is counted."""
+    for options, is_read in ((("--binary",), False), (("--binary",), True), (("--binary", "--trace"), False)):
         one = Unread("listen:127.0.0.1:0", *options, "--stay", "--inbox", "127")
         two = Unread(f"connect:127.0.0.1:{one.port()}", *options, "--window", "127")
         sent = [b"%05d" % it for it in range(20000)]
-        two.link.give(binary(sent))
+        two.link.give(binary(sent), close=False)
         if not one.link.waits(lambda it: len(it.said) >= 7 * 20000, 30) or unpacked(one.link.said) != sent:
             wrong(f"{options}: {len(one.link.said) // 7} of 20000 messages")
+        if is_read:
+            one.read()
+            two.read()
+            time.sleep(0.5)
+        two.link.run.stdin.close()
         for name, it in (("sender", two), ("receiver", one)):
             if it.link.ended(4) != 0:
-                wrong(f"{options}: the {name} ends with {it.link.run.returncode}")
-            it.read()
-        lines = one.lines()
-        seen = sum(it.startswith("notice ") for it in lines)
-        count, _told = left_out(lines)
-        if options == ("--binary",) and not 20000 <= seen + count <= 20003:
-            wrong(f"{seen} notices and {count} left out")
+                wrong(f"{options} read {is_read}: the {name} ends with {it.link.run.returncode}")
+        if is_read:
+            count, gaps = left_out(one.lines())
+            seen = sum(it.startswith("notice ") for it in one.lines())
+            if not gaps or not 20000 <= seen + count <= 20003:
+                wrong(f"{seen} notices and {count} left out in {gaps} gaps")
 
 
 def errors_unread_and_timer():
@@ -150,19 +156,17 @@ def errors_unread_and_timer():
         one = Unread(f"connect:127.0.0.1:{it.getsockname()[1]}", "--trace", "--timer-ms", "5", "--window", "1")
         peer = Peer(it.accept()[0], no_ack)
     peer.runs()
-    one.link.give(b"61" * 1000 + b"\n", close=False)
-    peer.waits(lambda it: len(it.bytes) > 400_000, 8)
-    for number in range(1, 301):
-        peer.send(data(b"abc", number & 255))
-        time.sleep(0.002)
-    if not one.link.waits(lambda it: len(it.mails()) == 300, 5):
-        wrong(f"{len(one.link.mails())} of 300 messages")
-    peer.close()
-    if one.link.ended(4) != 3:
-        wrong("it doesn't end")
+    one.link.give(b"61\n", close=False)
+    for number in range(1, 4001):  # fills the room of a trace by frames, and then its last bytes by expiries
+        peer.send(data(b"x" * 100, number & 255))
+        time.sleep(0.001 if number < 3700 else 0.01)
+    if not one.link.waits(lambda it: it.said.count(b"mail ") == 4000, 5):
+        wrong(f"{len(one.link.mails())} of 4000 messages")
     one.read()
-    if not left_out(one.lines())[0]:
-        wrong("nothing was left out")
+    time.sleep(0.5)
+    peer.close()
+    if one.link.ended(4) != 3 or not left_out(one.lines())[0]:
+        wrong(f"status {one.link.run.returncode}; {left_out(one.lines())} left out")
 
 
 def errors_unread_again():
@@ -187,30 +191,31 @@ def errors_unread_again():
     one.link.kill()
 
 
+def stopped(out):
+    """A link whose output nobody reads still sends messages: it isn't stuck in a write."""
+    with server() as it:
+        link = Link(f"connect:127.0.0.1:{it.getsockname()[1]}", stdout=out)
+        peer = Peer(it.accept()[0], good)
+    peer.runs()
+    for number in range(1, 250):
+        peer.send(data(b"x" * 1000, number))
+        time.sleep(0.004)
+    time.sleep(0.3)
+    link.give(b"6162\n", close=False)
+    if not peer.waits(lambda it: it.mail == [b"ab"], 3):
+        wrong("no message is sent")
+    link.kill()
+
+
 def stopped_output():
-    """A standard output that nobody reads, a socket and a terminal: the link isn't stuck in a write."""
     near, far = socket.socketpair()
-    master, slave = os.openpty()
-    for name, out in (("socket", far.fileno()), ("terminal", slave)):
-        with server() as it:
-            link = Link(f"connect:127.0.0.1:{it.getsockname()[1]}", "--inbox", "7", stdout=out)
-            peer = Peer(it.accept()[0], good)
-        peer.runs()
-        until, number = time.monotonic() + 1.5, 0
-        while time.monotonic() < until:
-            number += 1
-            peer.send(data(b"x" * 1000, number & 255))
-            if number % 20 == 0:
-                time.sleep(0.02)
-            if number - (peer.frames[-1].resp if peer.frames else 0) & 255 > 200:
-                break
-        time.sleep(0.3)
-        before = len(peer.frames)
-        peer.send(rep(9))
-        if not peer.waits(lambda it, before=before: len(it.frames) > before, 3):
-            wrong(f"{name}: a REP isn't answered")
-        link.kill()
+    stopped(far.fileno())
     near.close()
+
+
+def stopped_terminal():
+    master, slave = os.openpty()
+    stopped(slave)
     os.close(master)
 
 
@@ -239,8 +244,7 @@ def full_output():
     """Four longest messages that were acknowledged, an output of a page, and the peer ends: all are written."""
     for options in ((), ("--again",)):
         reading, writing = os.pipe()
-        import fcntl
-        fcntl.fcntl(writing, 1031, 4096)
+        fcntl.fcntl(writing, fcntl.F_SETPIPE_SZ, 4096)
         it = server()
         link = Link(f"connect:127.0.0.1:{it.getsockname()[1]}", "--binary", "--max", "16383", *options, stdout=writing)
         os.close(writing)
@@ -278,6 +282,12 @@ def start_closed(words, closed):
                             preexec_fn=close)
 
 
+def caller_of(run, port):
+    """A connection to a program that listens, or that has ended and then a socket of no line."""
+    kit.holds_within(10, lambda: kit.is_listening(port) or run.poll() is not None)
+    return connected(port) if kit.is_listening(port) else socket.socketpair()[0]
+
+
 def closed_descriptors():
     """Descriptors 0 to 2 that are closed at the start never become a line."""
     for number in range(1, 8):
@@ -293,18 +303,23 @@ def closed_descriptors():
         for words in (["link", "--line", f"listen:127.0.0.1:{port}", "--stay"],
                       ["link", "--line", f"udp:127.0.0.1:0,127.0.0.1:{sock.getsockname()[1]}", "--stay"]):
             run = start_closed([*kit.PROGRAM, *words], closed)
-            runs.append((words, run, Peer(connected(port) if "listen" in words[2] else sock, good)))
+            runs.append((words, run, Peer(caller_of(run, port) if "listen" in words[2] else sock, good)))
         far, port = server(), free_port()
         tap = start_closed([*kit.PROGRAM, "tap", "--listen", f"127.0.0.1:{port}", "--connect",
                             f"127.0.0.1:{far.getsockname()[1]}"], closed)
-        caller = Peer(connected(port), lambda _peer, _frame: b"")
-        called = Peer(far.accept()[0], lambda _peer, _frame: b"")
-        caller.send(STRT)
-        called.send(rep(3))
-        for words, _run, peer in runs:
-            if peer.runs(2):
-                with contextlib.suppress(OSError):
-                    peer.send(data(b"abc", 1))
+        caller = Peer(caller_of(tap, port), lambda _peer, _frame: b"")
+        far.settimeout(1)
+        try:
+            called = Peer(far.accept()[0], lambda _peer, _frame: b"")
+        except TimeoutError:
+            called = Peer(socket.socketpair()[0])
+        for peer, piece in ((caller, STRT), (called, rep(3))):
+            with contextlib.suppress(OSError):
+                peer.send(piece)
+        time.sleep(0.5)
+        for _words, _run, peer in runs:
+            with contextlib.suppress(OSError, TypeError):  # it has ended, or no datagram came
+                peer.send(data(b"abc", 1))
         time.sleep(0.3)
         for words, run, peer in runs + [(["tap"], tap, None)]:
             run.kill()
@@ -334,5 +349,5 @@ def closed_descriptors():
 
 
 TRIALS = [slow_reader, closed_output, idle, junk, errors_unread, errors_unread_and_timer, errors_unread_again,
-          stopped_output, stopped_device, full_output, closed_descriptors]
+          stopped_output, stopped_terminal, stopped_device, full_output, closed_descriptors]
 LONG_TRIALS = []
