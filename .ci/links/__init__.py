@@ -1,0 +1,1 @@
+"""The trials of `ddcmp link`, by topic, with what they share."""

@@ -1,0 +1,271 @@
+"""Lines that are opened again, datagrams, devices, and the pace of retransmission."""
+import contextlib
+import os
+import socket
+import subprocess
+import tempfile
+import time
+
+from links.kit import (Link, checked, exchange, free_port, holds_within, listening, messages_of, server, terminals, wants,
+                       wrong)
+from links.peer import STACK, Peer, ack, data, good, header, nak, no_ack, rep, silent
+
+
+def again():
+    """A peer that is killed and started again, time after time, with --again at the other."""
+    one = Link("listen:127.0.0.1:0", "--again", "--timer-ms", "200")
+    port = listening(one)
+    for count in range(10):
+        two = Link(f"connect:127.0.0.1:{port}")
+        two.give(b"%02x\n" % count, close=False)
+        if not one.waits(lambda it, mail=b"mail %02x\n" % count: mail in it.said, 15):
+            wrong(f"start {count}: {one.said[-200:]} {one.told[-200:]}")
+        two.kill()
+    one.kill()
+
+
+def restarts():
+    """A hundred peers, one after the other."""
+    for _ in range(10):
+        again()
+
+
+def closed_at_once():
+    """A server that closes each connection at once isn't flooded."""
+    for piece in (b"", STACK[:5]):
+        it = server()
+        link = Link(f"connect:127.0.0.1:{it.getsockname()[1]}", "--again")
+        it.settimeout(0.1)
+        until, count = time.monotonic() + 2.5, 0
+        while time.monotonic() < until:
+            with contextlib.suppress(TimeoutError), it.accept()[0] as sock:
+                count += 1
+                sock.sendall(piece)
+        if not 2 <= count <= 3 or link.processor_time() > 0.5:
+            wrong(f"{count} connections, {link.processor_time()} s of processor time")
+        link.kill()
+        it.close()
+    link = Link("device:/dev/null", "--again", "--seconds", "2", stdin=subprocess.DEVNULL)
+    link.ended(10)
+    if link.used > 0.6:
+        wrong(f"/dev/null: {link.used} s of processor time")
+
+
+def late_server():
+    """With --again a server that is there later is found, with a pause that doubles."""
+    with socket.socket() as it:
+        it.bind(("127.0.0.1", 0))
+        name = f"127.0.0.1:{it.getsockname()[1]}"
+        link = Link(f"connect:{name}", "--again")
+        begun = time.monotonic()
+        if not link.waits(lambda it: len(it.errors()) == 2, 6):
+            wrong(f"{link.errors()}")
+            link.kill()
+            return
+        it.listen()
+        it.settimeout(5)
+        Peer(it.accept()[0], good)
+        took = time.monotonic() - begun
+        link.give(b"61\n")
+        if link.ended(5) != 0 or not 2.5 < took < 4:
+            wrong(f"after {took} s, status {link.run.returncode}")
+    wanted = [f"ddcmp: connect {name}: connection refused; retry in {it} s" for it in (1, 2)]
+    if link.errors() != wanted:
+        wrong(f"{link.errors()}")
+
+
+def server_away():
+    """A server that is away for 2.5 s and comes back; while it is there the first retry is at once."""
+    it = server()
+    name = it.getsockname()
+    link = Link(f"connect:127.0.0.1:{name[1]}", "--again")
+    peer = Peer(it.accept()[0], good)
+    peer.runs()
+    link.waits(lambda it: b"Running" in it.said, 5)
+    peer.close()
+    begun = time.monotonic()
+    it.settimeout(5)
+    peer = Peer(it.accept()[0], good)
+    if time.monotonic() - begun > 0.7:
+        wrong(f"{time.monotonic() - begun} s to the first retry")
+    peer.runs()
+    time.sleep(0.2)
+    it.close()
+    peer.close()
+    time.sleep(2.5)
+    with socket.socket() as it:
+        it.setsockopt(socket.SOL_SOCKET, socket.SO_REUSEADDR, 1)
+        it.bind(name)
+        it.listen()
+        it.settimeout(5)
+        try:
+            peer = Peer(it.accept()[0], good)
+        except TimeoutError:
+            wrong(f"it doesn't come back: {link.errors()}")
+    link.give(b"61\n")
+    if link.ended(5) != 0 or [it.rsplit("retry", 1)[-1] for it in link.errors()] != [" in 1 s", " in 2 s"]:
+        wrong(f"status {link.run.returncode}: {link.errors()}")
+
+
+def longest_pause():
+    """The pause doubles up to 30 s."""
+    link = Link(f"connect:127.0.0.1:{free_port()}", "--again")
+    link.waits(lambda it: len(it.errors()) == 6, 60)
+    if [it.split()[-2] for it in link.errors()] != ["1", "2", "4", "8", "16", "30"]:
+        wrong(f"{link.errors()}")
+    link.kill()
+
+
+def udp_pair():
+    a, b = free_port(socket.SOCK_DGRAM), free_port(socket.SOCK_DGRAM)
+    options = ("--binary", "--timer-ms", "200", "--stay", "--seconds", "4")
+    one = Link(f"udp:127.0.0.1:{a},127.0.0.1:{b}", *options)
+    two = Link(f"udp:127.0.0.1:{b},127.0.0.1:{a}", *options)
+    exchange("udp", one, two, messages_of(200), messages_of(200))
+
+
+def datagram_peer(*options, answer=good):
+    """A link over datagrams, and its peer in Python, once it was heard at LOCAL."""
+    sock, local = socket.socket(socket.AF_INET, socket.SOCK_DGRAM), free_port(socket.SOCK_DGRAM)
+    sock.bind(("127.0.0.1", 0))
+    link = Link(f"udp:127.0.0.1:{local},127.0.0.1:{sock.getsockname()[1]}", "--timer-ms", "200", *options)
+    peer = Peer(sock, answer)
+    if not peer.waits(lambda it: it.remote, 5) or peer.remote != ("127.0.0.1", local):
+        wrong(f"REMOTE hears {peer.remote}, LOCAL is {local}")
+    return link, peer, local
+
+
+def datagrams():
+    """A frame in each datagram that is sent, many frames in one that comes, and a stranger's isn't heard."""
+    link, peer, local = datagram_peer()
+    if not peer.runs():
+        wrong("it doesn't start")
+    with socket.socket(socket.AF_INET, socket.SOCK_DGRAM) as stranger:
+        stranger.sendto(data(b"stranger", 1), ("127.0.0.1", local))
+        time.sleep(0.2)
+    peer.send(data(b"a", 1) + data(b"bc", 2) + data(b"def", 3))
+    link.waits(lambda it: len(it.mails()) >= 3, 3)
+    if link.mails() != [b"a", b"bc", b"def"]:
+        wrong(f"{link.mails()}")
+    link.give(b"61\n62\n63\n64\n")
+    if link.ended(10) != 0 or peer.mail != [b"a", b"b", b"c", b"d"]:
+        wrong(f"{link.run.returncode} {peer.mail}")
+    if {len(it) for it in peer.pieces} != {8, 11}:
+        wrong(f"datagrams of {sorted({len(it) for it in peer.pieces})} bytes")
+
+
+def cut_datagrams():
+    """A datagram that is cut, or a header that claims more than came, takes nothing of the next."""
+    for piece in (header(16383, 1), header(16383, 1)[:5], header(3000, 1) + b"xy"):
+        for options in ((), ("--max", "16383")):
+            link, peer, _local = datagram_peer(*options, answer=silent)
+            peer.send(piece)
+            peer.answer = good
+            if not peer.runs(2):
+                wrong(f"{options} not heard after {len(piece)} bytes")
+                link.kill()
+                continue
+            peer.send(header(16383, 1)[:4])
+            peer.send(data(b"abc", 1)[:12])
+            peer.send(data(b"abc", 1))
+            if not link.waits(lambda it: it.mails() == [b"abc"], 2):
+                wrong(f"{options} {link.lines()}")
+            link.kill()
+
+
+def datagram_names():
+    """A taken port names LOCAL, an unknown host REMOTE; a send that fails is a lost frame."""
+    with socket.socket(socket.AF_INET, socket.SOCK_DGRAM) as it:
+        it.bind(("127.0.0.1", 0))
+        name = f"127.0.0.1:{it.getsockname()[1]}"
+        wants("taken", Link(f"udp:{name},127.0.0.1:9"), 3, f"ddcmp: open {name}: address in use")
+    link = Link("udp:127.0.0.1:0,nosuchhost.invalid:1")
+    if link.ended(20) != 3 or not link.told.startswith(b"ddcmp: open nosuchhost.invalid:1: "):
+        wrong(f"unknown: {link.told}")
+    for options in ((), ("--again",)):
+        link = Link("udp:127.0.0.1:0,255.255.255.255:9", "--seconds", "1", "--timer-ms", "100", *options)
+        wants(f"unreachable {options}", link, 3, "ddcmp: ended")
+        if link.took < 0.9 or link.used > 0.6:
+            wrong(f"unreachable {options}: {link.took} s, {link.used} s of processor time")
+
+
+def no_device():
+    """device: takes a character device that nobody else has."""
+    with tempfile.TemporaryDirectory() as folder:
+        path = f"{folder}/file"
+        with open(path, "wb") as it:
+            it.write(b"bytes" * 100)
+        for name, why in ((path, "not a character device"), (folder, "is a directory"), (f"{folder}/none", "no such file")):
+            wants(name, Link(f"device:{name}", "--seconds", "2", stdin=subprocess.DEVNULL), 3, f"ddcmp: open {name}: {why}")
+        with open(path, "rb") as it:
+            if it.read() != b"bytes" * 100:
+                wrong("the file's bytes are others")
+    with terminals() as ends:
+        if ends:
+            one = Link(f"device:{ends[0]}", "--seconds", "20")
+            time.sleep(0.5)
+            wants("taken", Link(f"device:{ends[0]}", "--seconds", "2"), 3, f"ddcmp: open {ends[0]}: in use by another program")
+            end = os.open(ends[1], os.O_RDWR | os.O_NOCTTY)
+            os.write(end, STACK)
+            if not one.waits(lambda it: b"Running" in it.said, 5):
+                wrong(f"the first doesn't go on: {one.lines()} {one.errors()}")
+            one.kill()
+            os.close(end)
+
+
+class Refusing:
+    """Answers each data frame, and each REP, by a NAK, until it takes messages."""
+
+    def __init__(self, reason):
+        self.reason, self.takes = reason, False
+
+    def __call__(self, peer, frame):
+        if self.takes or frame.name in ("STRT", "STACK"):
+            return good(peer, frame)
+        if frame.name == "DATA":
+            return nak(self.reason, 0) if self.reason != 3 else b""
+        return nak(3, 0) if frame.name == "REP" else b""
+
+
+def pace():
+    """A peer that refuses each message: one window a timer at most; the first is retransmitted at once."""
+    links = []
+    for reason in (16, 8, 3):
+        with server() as it:
+            link = Link(f"connect:127.0.0.1:{it.getsockname()[1]}", "--timer-ms", "200", "--window", "7")
+            peer = Peer(it.accept()[0], Refusing(reason))
+        peer.runs()
+        link.give(b"61\n" * 7)
+        links.append((reason, link, peer))
+    time.sleep(3)
+    for reason, link, peer in links:
+        count = len(peer.named("DATA"))
+        if not 14 <= count <= 7 * 18:
+            wrong(f"NAK {reason}: {count} data frames in 3 s")
+        if link.processor_time() > 0.6:
+            wrong(f"NAK {reason}: {link.processor_time()} s of processor time")
+        peer.answer.takes = True
+        wants(f"NAK {reason}", link, 0, seconds=5)
+        if peer.mail != [b"a"] * 7:
+            wrong(f"NAK {reason}: {peer.mail}")
+
+
+def first_nak():
+    """A single NAK is answered at once."""
+    for reason in (2, 16, 8):
+        with server() as it:
+            link = Link(f"connect:127.0.0.1:{it.getsockname()[1]}", "--timer-ms", "5000")
+            peer = Peer(it.accept()[0], no_ack)
+        peer.runs()
+        link.give(b"61\n")
+        peer.waits(lambda it: it.named("DATA"), 5)
+        peer.answer = good
+        peer.send(nak(reason, 0))
+        if not peer.waits(lambda it: len(it.named("DATA")) > 1, 2):
+            wrong(f"NAK {reason} isn't answered")
+        link.kill()
+
+
+TRIALS = [again, closed_at_once, late_server, server_away, udp_pair, datagrams, cut_datagrams, datagram_names,
+          no_device, pace, first_nak]
+LONG_TRIALS = [restarts, longest_pause]
