@@ -1,12 +1,12 @@
 /*
  * A second DDCMP station, to try others with: one end of a full-duplex point-to-point line.
  *
- * It was written by another hand than the station of this repository and shares no line, no table
- * and no constant with it. What it was written from: the state table of the startup handshake (HALT,
- * ISTRT, ASTRT, RUN) and the data transfer table (variables R, N, A, T, X, flags SACK, SNAK, SREP) of
- * DDCMP 4.1. Both were remembered: no text of DEC was at hand. Only remembered as well, and not
- * compared with anything: what other programs do (COUNT believed before the header check, SYN
- * required after an error), how the timer depends on X, and the order NAK, REP, data, ACK.
+ * Another author wrote it than that of the crates, and it shares no line and no table with them. It
+ * was written from the startup and the data transfer tables of DDCMP 4.1 (HALT, ISTRT, ASTRT, RUN;
+ * R, N, A, T, X; SACK, SNAK, SREP), which were remembered: no text of DEC was at hand. Its author had
+ * read docs/PROTOCOL.md, for the formats. Only remembered, too: how the timer depends on X, the order
+ * NAK, REP, data, ACK, and what other programs do (COUNT believed before the header check, SYN
+ * required after an error).
  *
  *     peer LINE [key=value ..]
  *
