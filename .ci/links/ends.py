@@ -291,8 +291,8 @@ def seconds_in_each_state():
     for name, link, _peer, _server in links:
         last = "ddcmp: 3 messages lost" if "nothing" in name else (
             "ddcmp: 2 messages lost" if "one" in name else "ddcmp: ended")
-        wants(name, link, 3, last, seconds=8)
-        if link.took is not None and link.took > 3:
+        wants(name, link, 3, last, seconds=12)
+        if link.took is not None and link.took > 6:
             wrong(f"{name}: {link.took:.2f} s")
         if link.used > 0.6:
             wrong(f"{name}: {link.used:.2f} s of processor time")

@@ -236,12 +236,12 @@ def pace():
             peer = Peer(it.accept()[0], Refusing(reason))
         peer.runs()
         link.give(b"61\n" * 7)
-        links.append((reason, link, peer))
+        links.append((reason, link, peer, time.monotonic()))
     time.sleep(3)
-    for reason, link, peer in links:
-        count = len(peer.named("DATA"))
-        if not 14 <= count <= 7 * 18:
-            wrong(f"NAK {reason}: {count} data frames in 3 s")
+    for reason, link, peer, begun in links:
+        count, span = len(peer.named("DATA")), time.monotonic() - begun
+        if not 14 <= count <= 7 * (span / 0.2 + 3):
+            wrong(f"NAK {reason}: {count} data frames in {span:.1f} s")
         if link.processor_time() > 0.6:
             wrong(f"NAK {reason}: {link.processor_time()} s of processor time")
         peer.answer.takes = True
