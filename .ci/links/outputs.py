@@ -288,9 +288,9 @@ def caller_of(run, port):
     return connected(port) if kit.is_listening(port) else socket.socketpair()[0]
 
 
-def closed_descriptors():
-    """Descriptors 0 to 2 that are closed at the start never become a line."""
-    for number in range(1, 8):
+def without(numbers):
+    """Descriptors 0 to 2 that are closed at the start, those of these numbers' bits, never become a line."""
+    for number in numbers:
         closed = [it for it in range(3) if number >> it & 1]
         it, port, sock = server(), free_port(), socket.socket(socket.AF_INET, socket.SOCK_DGRAM)
         sock.bind(("127.0.0.1", 0))
@@ -330,6 +330,18 @@ def closed_descriptors():
             wrong(f"tap without {closed}: {called.bytes} {caller.bytes}")
         for sock in (it, far):
             sock.close()
+
+
+def closed_one_or_two():
+    without(range(1, 4))
+
+
+def closed_errors():
+    without(range(4, 8))
+
+
+def closed_ends():
+    """A closed input can't be read, and a closed output can't be written."""
     for closed, given, last in ((0, b"", "ddcmp: read"), (1, data(b"a", 1), "ddcmp: write")):
         with server() as it:
             words = [*kit.PROGRAM, "link", "--stay", "--line", f"connect:127.0.0.1:{it.getsockname()[1]}"]
@@ -349,5 +361,6 @@ def closed_descriptors():
 
 
 TRIALS = [slow_reader, closed_output, idle, junk, errors_unread, errors_unread_and_timer, errors_unread_again,
-          stopped_output, stopped_terminal, stopped_device, full_output, closed_descriptors]
+          stopped_output, stopped_terminal, stopped_device, full_output, closed_one_or_two, closed_errors,
+          closed_ends]
 LONG_TRIALS = []
