@@ -8,7 +8,7 @@ import time
 from links import kit
 from links.kit import (Link, binary, connected, example, free_port, holds_within, is_listening, listening, server,
                        tcp_pair, wants, wrong)
-from links.peer import STACK, STRT, Peer, ack, good, no_ack, silent
+from links.peer import STACK, STRT, Peer, ack, good, header, no_ack, silent
 
 
 def lines_of(link, options):
@@ -96,7 +96,7 @@ def bytes_of_an_old_line():
     peer.runs()
     link.waits(lambda it: b"Running" in it.said, 10)
     peer.answer = silent
-    peer.send(STRT + b"\x81\xff\x3f\0\0\1")
+    peer.send(STRT + header(1400, 1))
     peer = Peer(it.accept()[0], good)
     if not peer.runs(5):
         wrong(f"the next line doesn't start: {link.lines()}")
@@ -335,7 +335,12 @@ def callers():
     """A caller without a good STRT or STACK doesn't end a listener."""
     link = Link("listen:127.0.0.1:0")
     port = listening(link)
+    if not link.errors()[0].startswith("listening 127.0.0.1:"):
+        wrong(f"{link.errors()}")
     for piece in (b"", b"G", b"GET / HTTP/1.0\r\n\r\n", STACK[:7], ack(0), STRT[:7] + b"\0", os.urandom(300)):
+        if not is_listening(port):
+            wrong(f"it has ended before {piece}: {link.errors()}")
+            return
         with connected(port) as caller:
             caller.sendall(piece)
             time.sleep(0.05)

@@ -246,7 +246,7 @@ def full_output():
         reading, writing = os.pipe()
         fcntl.fcntl(writing, fcntl.F_SETPIPE_SZ, 4096)
         it = server()
-        link = Link(f"connect:127.0.0.1:{it.getsockname()[1]}", "--binary", "--max", "16383", *options, stdout=writing)
+        link = Link(f"connect:127.0.0.1:{it.getsockname()[1]}", "--max", "16383", *options, stdout=writing)
         os.close(writing)
         peer = Peer(it.accept()[0], good)
         peer.runs()
@@ -262,10 +262,13 @@ def full_output():
             threading.Thread(target=lambda: got.append(it.accept()), daemon=True).start()
         time.sleep(0.3)
         out = b""
-        while len(out) < len(binary(sent)) and (piece := os.read(reading, 1 << 16)):
+        while out.count(b"mail ") < 4 or not out.endswith(b"\n"):
+            if not (piece := os.read(reading, 1 << 16)):
+                break
             out += piece
-        if out != binary(sent):
-            wrong(f"{options}: {len(out)} of {len(binary(sent))} bytes")
+        mails = [bytes.fromhex(it[5:].decode()) for it in out.split(b"\n")[:-1] if it.startswith(b"mail ")]
+        if mails != sent:
+            wrong(f"{options}: {len(mails)} of 4 messages")
         if options and not kit.holds_within(5, lambda: got):
             wrong("no second line")
         link.kill()
@@ -288,9 +291,9 @@ def caller_of(run, port):
     return connected(port) if kit.is_listening(port) else socket.socketpair()[0]
 
 
-def closed_descriptors():
-    """Descriptors 0 to 2 that are closed at the start never become a line."""
-    for number in range(1, 8):
+def without(numbers):
+    """Descriptors 0 to 2 that are closed at the start, those of these numbers' bits, never become a line."""
+    for number in numbers:
         closed = [it for it in range(3) if number >> it & 1]
         it, port, sock = server(), free_port(), socket.socket(socket.AF_INET, socket.SOCK_DGRAM)
         sock.bind(("127.0.0.1", 0))
@@ -330,6 +333,18 @@ def closed_descriptors():
             wrong(f"tap without {closed}: {called.bytes} {caller.bytes}")
         for sock in (it, far):
             sock.close()
+
+
+def closed_one_or_two():
+    without(range(1, 4))
+
+
+def closed_errors():
+    without(range(4, 8))
+
+
+def closed_ends():
+    """A closed input can't be read, and a closed output can't be written."""
     for closed, given, last in ((0, b"", "ddcmp: read"), (1, data(b"a", 1), "ddcmp: write")):
         with server() as it:
             words = [*kit.PROGRAM, "link", "--stay", "--line", f"connect:127.0.0.1:{it.getsockname()[1]}"]
@@ -349,5 +364,6 @@ def closed_descriptors():
 
 
 TRIALS = [slow_reader, closed_output, idle, junk, errors_unread, errors_unread_and_timer, errors_unread_again,
-          stopped_output, stopped_terminal, stopped_device, full_output, closed_descriptors]
+          stopped_output, stopped_terminal, stopped_device, full_output, closed_one_or_two, closed_errors,
+          closed_ends]
 LONG_TRIALS = []

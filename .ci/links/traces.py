@@ -116,7 +116,7 @@ def trace_whole():
             n = drawn.randint(1, 600)
             peer.send(line[at:at + n])
             at += n
-            time.sleep(0.0005)
+            time.sleep(0.001)
         peer.sock.shutdown(socket.SHUT_WR)
         link.ended(10)
         told = merged(of_way(link.errors(), "<"))
