@@ -1,22 +1,23 @@
 //! Standard output and standard error, written without waiting.
 use crate::line::{Moved, moved_by};
 use std::fs::{self, File, Files, OpenOptions};
-use std::io::Write;
+use std::io::{IsTerminal, Write};
 use std::os::fd::AsRawFd;
 use std::os::unix::fs::FileTypeExt;
 
-/// The most bytes that a write is given where it might wait for room for more: a pipe or a terminal
-/// that is told of has room for them.
+/// The most bytes of a write that might wait for room for more: a pipe or a socket that is ready has
+/// room for them.
 const SMALL: usize = 4096;
 
 /// Where a text goes.
 #[derive(Drop)]
 pub(crate) enum Outlet {
-    /// A pipe, opened anew so that no write to it waits. Who shares the old one sees no change.
-    Pipe(File),
+    /// A pipe or a terminal, opened again so that no write to it waits. Who shares the old one sees
+    /// no change.
+    Again(File),
     /// A file, which is always ready.
     File,
-    /// A terminal, a socket or what can't be opened anew.
+    /// A socket or what can't be opened again.
     Other,
 }
 
@@ -30,18 +31,19 @@ impl Outlet {
         if kind.is_file() {
             return Outlet::File;
         }
-        if kind.is_fifo() {
-            if let Some(pipe) = pipe_anew(files, name) {
-                return Outlet::Pipe(pipe);
+        if kind.is_fifo() || kind.is_char_device() {
+            match open_again(files, name) {
+                Some(file) if kind.is_fifo() || file.is_terminal() => return Outlet::Again(file),
+                _ => {}
             }
         }
         Outlet::Other
     }
 
-    /// Writes bytes where the outlet was opened anew; else none, and whoever owns it writes.
+    /// Writes bytes if the outlet was opened again; else none, and whoever owns it writes.
     pub(crate) fn write(&mut self, bytes: &[u8]) -> Option<Moved> {
         match self {
-            Outlet::Pipe(pipe) => Some(moved_by(pipe.write(bytes))),
+            Outlet::Again(file) => Some(moved_by(file.write(bytes))),
             Outlet::File | Outlet::Other => None,
         }
     }
@@ -50,19 +52,19 @@ impl Outlet {
     pub(crate) fn most(&self) -> usize {
         match self {
             Outlet::File => usize::MAX,
-            Outlet::Pipe(_) | Outlet::Other => SMALL,
+            Outlet::Again(_) | Outlet::Other => SMALL,
         }
     }
 }
 
-/// Opens a pipe for writing, as one whose writes don't wait. The opening would wait where nobody
-/// reads any more, but for a reader of our own, which is closed then.
-fn pipe_anew<F: Files<File = File>>(files: &F, name: &str) -> Option<File> {
+/// Opens a pipe or a terminal for writing, as one whose writes don't wait. The opening of a pipe would
+/// wait if nobody reads any more, but for a reader of our own, which is closed then.
+fn open_again<F: Files<File = File>>(files: &F, name: &str) -> Option<File> {
     let mut opening = OpenOptions::new();
     let _reader = opening.read(true).write(true).open(files, name).ok()?;
-    let pipe = opening.read(false).open(files, name).ok()?;
-    if os::set_nonblocking(pipe.as_raw_fd(), true) < 0 {
+    let file = opening.read(false).open(files, name).ok()?;
+    if os::set_nonblocking(file.as_raw_fd(), true) < 0 {
         return None;
     }
-    Some(pipe)
+    Some(file)
 }

@@ -743,15 +743,18 @@ fn put_mail(said: &mut Held, message: &[u8]) {
     let _has_room = said.push(message);
 }
 
-/// Writes what an outlet has room for, where it was opened anew: whether it took anything. None
-/// where its owner is to write.
+/// Writes what an outlet has room for, if it was opened again: whether it took anything. None if its
+/// owner is to write.
 fn write_held(outlet: &mut Outlet, held: &mut Held, there: &mut Descriptor) -> Option<bool> {
     let took = outlet.write(held.rest());
-    if let Some(Moved::Bytes(n)) = took {
-        held.used(n);
-        return Some(true);
+    match took {
+        Some(Moved::Bytes(n)) => {
+            held.used(n);
+            return Some(true);
+        }
+        Some(Moved::Interrupted) => return Some(true),
+        _ => there.has_written(),
     }
-    there.has_written();
     match took {
         Some(Moved::Nothing) => Some(false),
         _ => None,
