@@ -4,3 +4,4 @@ pub mod Served
 pub mod Streams
 pub mod Links
 pub mod LinkLines
+pub mod LinkStory

@@ -3,14 +3,16 @@ ghost use Rattle.std.specs.Prelude.{◌≡◌, ◌⊎◌, ℕ, List, true};
 ghost use Rattle.ddcmp_frame.specs.Reader.{ReaderView};
 ghost use Rattle.ddcmp_link.specs.Linking.{delivered};
 ghost use Rattle.ddcmp_proto.specs.declared.config.Config.{Config as ConfigValue};
-ghost use Rattle.ddcmp_run.specs.Run.{EndState, new_end};
-ghost use Rattle.ddcmp_callers.specs.Calls.{after_calls_here};
+ghost use Rattle.ddcmp_run.specs.Run.{EndState, new_end, new_pair};
+ghost use Rattle.ddcmp_callers.specs.Calls.{after_calls_here, run_calls};
 ghost use Rattle.ddcmp_callers.specs.Links.{LinkStep, LinkHistory, station_calls, HasDone};
 ghost use Rattle.ddcmp_callers.specs.Links.{new_history, after_step, IsHistory, after_history};
 ghost use Rattle.ddcmp_callers.specs.Links.{calls_in_history, offered_in, sent_in, IsSameEnd};
 ghost use Rattle.ddcmp_callers.specs.Links.{IsKeptOverStreams, LinkReaches, received};
 ghost use Rattle.ddcmp_callers.specs.LinkLines.{IsKeptOverHonestLines, LinksAreUp, LinkIsAsleep};
-ghost use Rattle.ddcmp_callers.specs.LinkLines.{InboxIsFull, LinkIsDelivered};
+ghost use Rattle.ddcmp_callers.specs.Links.{LinkOverStreams, AreStartedOnce, after_steps};
+ghost use Rattle.ddcmp_callers.specs.LinkLines.{InboxIsFull, LinkIsDelivered, calls_of_steps};
+ghost use Rattle.ddcmp_callers.specs.LinkStory.{small, small_links, story_steps, HasGotAcross};
 
 /// Each call of a link is calls of its station, and so is a history of calls. They leave the
 /// station as the link leaves it; what the link's line took, and behind it what waits for the line,
@@ -75,4 +77,18 @@ pub fn delivered_is_received()
         (λ p. delivered p.a.link ≡ true → received p.b ≡ p.a.accepted) }
     ensures to_a { IsKeptOverStreams
         (λ p. delivered p.b.link ≡ true → received p.a ≡ p.b.accepted) }
+{}
+
+/// Two links that get a message across, so that no law above holds because nothing can happen: a
+/// list of calls over streams, each end started once, after which the message that one accepted was
+/// taken from the other and is acknowledged, `is_delivered` returns true, and both links sleep.
+pub fn a_message_gets_across()
+    ensures streams { (line other_line : ReaderView)
+        → LinkOverStreams (story_steps line other_line) (small_links line other_line) }
+    ensures once { (line other_line : ReaderView) → AreStartedOnce (story_steps line other_line) }
+    ensures honest { (line other_line : ReaderView)
+        → (run_calls (calls_of_steps (story_steps line other_line) (small_links line other_line))
+        (new_pair small small)).honest ≡ true }
+    ensures ends { (line other_line : ReaderView)
+        → HasGotAcross (after_steps (story_steps line other_line) (small_links line other_line)) }
 {}

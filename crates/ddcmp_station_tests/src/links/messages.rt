@@ -90,8 +90,8 @@ fn messages_after_lengths(rt: HostRuntime) {
             }
     );
     assert!(&rt; lengths.message() == &b"abc"[..]);
-    assert!(&rt; lengths.push_all(b"\x00\x00").entry == Some(Entry::TooLong));
-    assert!(&rt; lengths.is_whole());
+    assert!(&rt; lengths.push_all(b"\x00\x00").entry == Some(Entry::Empty));
+    assert!(&rt; !lengths.is_unfinished());
     let long = lengths.push_all(b"\x00\x04abcd\x00\x01z");
     assert!(&rt;
         long == Pushed {
@@ -99,7 +99,7 @@ fn messages_after_lengths(rt: HostRuntime) {
             entry: Some(Entry::TooLong)
         }
     );
-    assert!(&rt; !lengths.is_whole());
+    assert!(&rt; !lengths.is_unfinished());
     let passed = lengths.push_all(b"abcd\x00\x01z");
     assert!(&rt;
         passed
@@ -109,4 +109,8 @@ fn messages_after_lengths(rt: HostRuntime) {
             }
     );
     assert!(&rt; lengths.message() == &b"z"[..]);
+    for part in [&b"\x00"[..], b"\x03", b"ab"] {
+        assert!(&rt; lengths.push_all(part).entry == None);
+        assert!(&rt; lengths.is_unfinished());
+    }
 }
