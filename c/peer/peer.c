@@ -43,52 +43,34 @@ enum { FRAMING_SPEC, FRAMING_SIMH, FRAMING_SYN };
 
 /* The keys: name, default, meaning. Those in percent are drawn for each frame. */
 #define KEYS(K) \
-    K(seed, 1, "of all that is drawn") \
-    K(expect, 0, "how many messages must come") \
-    K(echo, 1, "give each message back") \
-    K(source, 0, "how many messages of its own it sends") \
-    K(longest, 500, "most bytes of its own messages") \
-    K(seconds, 60, "limit of time, after which it fails") \
-    K(linger, 2000, "ms of silence after which it ends once done; 0: when the line ends, or SIGTERM") \
-    K(syn, 0, "SYN bytes before each frame") \
-    K(del, 0, "up to so many DEL bytes after each frame") \
-    K(nul, 0, "up to so many NUL bytes after each frame") \
-    K(banner, 0, "before all else: 1 text, 2 telnet IACs, 3 both") \
-    K(chunk, 0, "write pieces of 1 to so many bytes") \
-    K(merge, 1, "up to so many frames in a write or datagram") \
-    K(flags, 0, "draw Q and S of every message") \
-    K(fill, 0, "draw the bytes and SUBTYPEs that have no meaning") \
-    K(addr, 1, "ADDR; -1: drawn") \
-    K(start, ACTIVE, "0 STRT at once, 1 STRT after a STRT came, 2 straight to ASTRT after it") \
-    K(late, 0, "ms before it starts") \
-    K(strts, 1, "how many STRTs it sends each time") \
-    K(losestack, 0, "how many STACKs it loses at first") \
-    K(restart, 0, "start again itself once so many messages came") \
-    K(again, 0, "start again when the other end does") \
-    K(stack, 0, "%: a stray STACK in RUN") \
-    K(ack, ACK_NOW, "0 at once, 1 after ackdelay, 2 only after a REP, 3 by data or after a REP") \
-    K(ackdelay, 50, "ms") \
-    K(nak, 0, "%: refuse a good data message by a NAK") \
-    K(reason, 0, "of these; 0: any, and an unknown one") \
-    K(deaf, 0, "%: ignore a received frame") \
-    K(loss, 0, "%: don't send a frame") \
-    K(damage, 0, "%: flip a bit of a frame") \
-    K(cut, 0, "%: cut a frame off") \
-    K(noise, 0, "%: flip a bit of what was read") \
+    K(seed, 1, "of all that is drawn") K(seconds, 60, "limit of time, after which it fails") \
+    K(expect, 0, "how many messages must come") K(echo, 1, "give each message back") \
+    K(source, 0, "messages of its own") K(longest, 500, "most bytes of these") \
+    K(linger, 2000, "ms of silence after which it ends once done; 0: with the line, or at SIGTERM") \
+    K(syn, 0, "SYN bytes before each frame") K(del, 0, "up to so many DEL bytes after each") \
+    K(nul, 0, "NUL bytes, the same") K(banner, 0, "first of all: 1 text, 2 telnet IACs, 3 both") \
+    K(chunk, 0, "pieces of 1 to so many bytes") K(merge, 1, "up to so many frames a write") \
+    K(flags, 0, "draw Q and S") K(fill, 0, "draw bytes and SUBTYPEs without meaning") \
+    K(addr, 1, "ADDR; -1: drawn") K(late, 0, "ms before it starts") \
+    K(start, ACTIVE, "0 STRT at once, 1 STRT once a STRT came, 2 straight to ASTRT by it") \
+    K(strts, 1, "STRTs that it sends each time") K(losestack, 0, "STACKs that it loses at first") \
+    K(restart, 0, "start again itself after so many messages") \
+    K(again, 0, "start again when the other end does") K(stack, 0, "%: a stray STACK in RUN") \
+    K(ack, ACK_NOW, "0 at once, 1 after ackdelay, 2 after a REP, 3 by data or after a REP") \
+    K(ackdelay, 50, "ms") K(nak, 0, "%: refuse a good data message by a NAK") \
+    K(reason, 0, "of these; 0: any, and an unknown one") K(deaf, 0, "%: ignore a received frame") \
+    K(loss, 0, "%: don't send a frame") K(damage, 0, "%: flip a bit of one") \
+    K(cut, 0, "%: cut one off") K(noise, 0, "%: flip a bit of what was read") \
     K(dup, 0, "%: a frame twice, in RUN") \
     K(reorder, 0, "%: hold a datagram back until another went, in RUN") \
-    K(oddresp, 0, "%: an ACK or NAK with a RESP that was never sent, for windows up to 99") \
-    K(oldresp, 0, "%: an ACK or NAK with a RESP long past") \
-    K(rep, 0, "%: a needless REP") \
-    K(notstopped, 0, "the timer isn't stopped by an ACK") \
-    K(timer, 200, "reply timer, ms") \
-    K(junk, 0, "%: an unknown TYPE, or COUNT 0") \
+    K(oddresp, 0, "%: an ACK or NAK with a RESP never sent, for windows up to 99") \
+    K(oldresp, 0, "%: an ACK or NAK with a RESP long past") K(rep, 0, "%: a needless REP") \
+    K(notstopped, 0, "an ACK doesn't stop the timer") K(timer, 200, "reply timer, ms") \
+    K(junk, 0, "%: an unknown TYPE, or COUNT 0") K(maint, 0, "%: a maintenance message in RUN") \
     K(toolong, 0, "a message of so many bytes, in 2 % of the frames") \
-    K(maint, 0, "%: a maintenance message in RUN") \
     K(buffers, 0, "receive buffers, one freed each 2 ms; 0: enough") \
-    K(max, LONGEST, "longest message that it takes") \
-    K(window, 7, "most messages sent and not acknowledged") \
-    K(framing, FRAMING_SPEC, "0 as specified, 1 COUNT believed before the check, 2 SYN after an error") \
+    K(max, LONGEST, "longest message that it takes") K(window, 7, "most not acknowledged") \
+    K(framing, FRAMING_SPEC, "0 as specified, 1 COUNT before the check, 2 SYN after an error") \
     K(idle, 0, "ms of silence after which an unfinished frame is dropped; 0: never")
 #define DECLARE(name, value, what) static long o_##name = value;
 KEYS(DECLARE)
@@ -128,27 +110,30 @@ static unsigned below(unsigned n)            /* drawn from 0 to n - 1 */
 
 static bool chance(long percent) { return percent > 0 && below(100) < (unsigned)percent; }
 
-/* Ends, with what stands at the end on standard output and the reason of a failure on standard error. */
+static void unqueue(void)
+{
+    struct message *it = first;
+    first = it->next;
+    if (!first) last = &first;
+    free(it);
+    queued--;
+}
+
+/* Ends: the variables go to standard output, and why it failed to standard error. */
 static void end(const char *why, ...)
 {
     static const char *const names[] = {"HALT", "ISTRT", "ASTRT", "RUN"};
-    if (why) {
-        va_list arguments;
-        va_start(arguments, why);
-        fputs("peer: ", stderr);
-        vfprintf(stderr, why, arguments);
-        fputc('\n', stderr);
-        va_end(arguments);
-    }
-    printf("state=%s R=%u N=%u A=%u T=%u got=%zu sent=%zu acknowledged=%zu lost=%zu naks=%zu reps=%zu"
-           " restarts=%zu\n", names[state], R, N, A, T, got, given, acknowledged, lost, naks, reps, restarts);
+    va_list arguments;
+    va_start(arguments, why);
+    if (why) vfprintf(stderr, why, arguments);
+    if (why) fputc('\n', stderr);
+    va_end(arguments);
+    printf("state=%s R=%u N=%u A=%u T=%u got=%zu sent=%zu acknowledged=%zu lost=%zu", names[state],
+           R, N, A, T, got, given, acknowledged, lost);
+    printf(" naks=%zu reps=%zu restarts=%zu\n", naks, reps, restarts);
     if (got_file) fclose(got_file);
     if (sent_file) fclose(sent_file);
-    while (first) {
-        struct message *it = first;
-        first = it->next;
-        free(it);
-    }
+    while (first) unqueue();
     exit(why ? 1 : 0);
 }
 
@@ -157,19 +142,18 @@ static bool is_done(void) { return got >= (size_t)o_expect && !first && state ==
 static void end_of_line(const char *how)
 {
     if (is_done()) end(NULL);
-    end("%s: %zu of %ld messages came, %zu of its own were not acknowledged", how, got, o_expect, queued);
+    end("peer: %s: %zu of %ld messages came, %zu of its own aren't acknowledged", how, got, o_expect,
+        queued);
 }
 
 /* CRC-16, x^16 + x^15 + x^2 + 1, low bit first: 0 over bytes with their own check behind them. */
 static unsigned crc(const uint8_t *p, size_t n)
 {
     unsigned r = 0;
-    for (size_t i = 0; i < n; i++)
-        for (unsigned bit = 0; bit < 8; bit++) {
-            unsigned carry = (r ^ p[i] >> bit) & 1;
-            r >>= 1;
-            if (carry) r ^= 0xA001;
-        }
+    for (size_t i = 0; i < 8 * n; i++) {
+        unsigned carry = (r ^ p[i / 8] >> i % 8) & 1;
+        r = r >> 1 ^ (carry ? 0xA001 : 0);
+    }
     return r;
 }
 
@@ -193,14 +177,14 @@ static void write_message(FILE *file, const uint8_t *data, size_t n)
 static void datagram(const uint8_t *p, size_t n) /* one that finds no room is a lost one */
 {
     if (send(fd, p, n, 0) < 0 && errno != EAGAIN && errno != ECONNREFUSED && errno != ENOBUFS)
-        end("send: %s", strerror(errno));
+        end("peer: send: %s", strerror(errno));
 }
 
 static void flush_batch(void)
 {
     if (!batch_count) return;
     if (!is_udp) {
-        if (out_count + batch_count > ROOM) end("the other end reads nothing");
+        if (out_count + batch_count > ROOM) end("peer: the other end reads nothing");
         memcpy(out + out_count, batch, batch_count);
         out_count += batch_count;
     } else if (!held_count && heard && state == RUN && chance(o_reorder)) {
@@ -214,20 +198,19 @@ static void flush_batch(void)
     batch_limit = 1 + below((unsigned)o_merge);
 }
 
-static void add(const uint8_t *p, size_t n)
+static void add(const void *p, size_t n)
 {
     memcpy(batch + batch_count, p, n);
     batch_count += n;
 }
 
-static void fill_with(uint8_t byte, size_t n)
+static void pad(uint8_t byte, long n)
 {
-    memset(batch + batch_count, byte, n);
-    batch_count += n;
+    while (n-- > 0) batch[batch_count++] = byte;
 }
 
-/* Sends a frame, unless what was drawn says otherwise. The data of one that is cut must not have the
-   check 0 at the cut: whole frames after it would then pass as its data. */
+/* Sends a frame, unless what was drawn says otherwise. One isn't cut where the check of its data is
+   0: whole frames after it would pass as the rest of them. */
 static void put(const uint8_t *frame, size_t n)
 {
     uint8_t copy[LONGEST + 10];
@@ -240,20 +223,17 @@ static void put(const uint8_t *frame, size_t n)
     }
     for (int twice = heard && state == RUN && chance(o_dup); twice >= 0; twice--) {
         if (batch_count + n > 30000) flush_batch();
-        fill_with(SYN, (size_t)o_syn);
+        pad(SYN, o_syn);
         add(copy, n);
-        if (o_del) fill_with(DEL, below((unsigned)o_del + 1));
-        if (o_nul) fill_with(0, below((unsigned)o_nul + 1));
+        pad(DEL, below((unsigned)o_del + 1));
+        pad(0, below((unsigned)o_nul + 1));
         if (++in_batch >= batch_limit) flush_batch();
     }
 }
 
-static uint8_t flag_bits(uint8_t usual)
-{
-    return o_flags ? (uint8_t)(below(4) << 6) : usual;
-}
-
+static uint8_t flags(uint8_t usual) { return o_flags ? (uint8_t)(below(4) << 6) : usual; }
 static uint8_t fill_byte(void) { return o_fill ? (uint8_t)below(256) : 0; }
+static uint8_t address(void) { return (uint8_t)(o_addr < 0 ? (long)below(256) : o_addr); }
 
 static void control(int type, uint8_t sub, uint8_t resp, uint8_t num)
 {
@@ -261,21 +241,19 @@ static void control(int type, uint8_t sub, uint8_t resp, uint8_t num)
     if (type != NAK && o_fill) sub = (uint8_t)below(64);
     if (type == ACK || type == NAK || is_start) num = fill_byte();
     if (type == REP || is_start) resp = fill_byte();
-    uint8_t f[8] = {ENQ, (uint8_t)type, (uint8_t)(sub | flag_bits(is_start ? 0xC0 : 0)), resp, num,
-                    (uint8_t)(o_addr < 0 ? (long)below(256) : o_addr)};
+    sub |= flags(is_start ? 0xC0 : 0);
+    uint8_t f[8] = {ENQ, (uint8_t)type, sub, resp, num, address()};
     seal(f, 6);
     put(f, 8);
 }
 
 static void numbered(uint8_t start, const uint8_t *data, size_t n, uint8_t resp, uint8_t num)
 {
-    uint8_t f[LONGEST + 10] = {start, (uint8_t)n, (uint8_t)(n >> 8 | flag_bits(0)), resp, num,
-                               (uint8_t)(o_addr < 0 ? (long)below(256) : o_addr)};
+    uint8_t high = (uint8_t)(n >> 8 | flags(0));
+    uint8_t f[LONGEST + 10] = {start, (uint8_t)n, high, resp, num, address()};
     seal(f, 6);
-    if (n) {
-        memcpy(f + 8, data, n);
-        seal(f + 8, n);
-    }
+    if (n) memcpy(f + 8, data, n);
+    if (n) seal(f + 8, n);
     put(f, n ? n + 10 : 8);
 }
 
@@ -295,7 +273,7 @@ static void set_ack(int64_t delay)
 static void queue(const uint8_t *data, size_t n)
 {
     struct message *it = malloc(sizeof *it + n);
-    if (!it) end("out of memory");
+    if (!it) end("peer: out of memory");
     it->next = NULL;
     it->count = n;
     memcpy(it->data, data, n);
@@ -304,15 +282,6 @@ static void queue(const uint8_t *data, size_t n)
     queued++;
     given++;
     write_message(sent_file, data, n);
-}
-
-static void unqueue(void)
-{
-    struct message *it = first;
-    first = it->next;
-    if (!first) last = &first;
-    free(it);
-    queued--;
 }
 
 static void send_start(void)
@@ -396,8 +365,7 @@ static void on_frame(const uint8_t *h, const uint8_t *data, size_t n)
     case ASTRT:
         if (type == STRT) send_start();
         else if (type == STACK) run(true);
-        else if (type == ACK && h[3] == 0) run(false);
-        else if (h[0] == SOH && h[3] == 0) run(false);
+        else if ((type == ACK || h[0] == SOH) && h[3] == 0) run(false);
         if (state != RUN || h[0] != SOH) return;
         break;                               /* such data are taken as in RUN */
     case ISTRT:
@@ -407,29 +375,18 @@ static void on_frame(const uint8_t *h, const uint8_t *data, size_t n)
         send_start();
         return;
     }
-    if (type == STACK) {
-        set_ack(0);
-        return;
-    }
-    heard = true;
-    if (h[0] == SOH) {
-        take_resp(h[3]);
-        on_data(h, data, n);
-    } else if (type == ACK) {
-        take_resp(h[3]);
-    } else if (type == NAK) {
-        naks++;
-        if ((uint8_t)(h[3] - A) > (uint8_t)(N - A)) return;
-        take_resp(h[3]);
-        T = (uint8_t)(A + 1);
-        SREP = false;
-        stop_timer();
-    } else if (type == REP) {
-        if (h[4] == R) set_ack(0);
-        else set_nak(3);
-    } else if (h[0] == ENQ) {
-        set_nak(17);
-    }
+    if (type != STACK) heard = true;
+    if (type == STACK || (type == REP && h[4] == R)) set_ack(0);
+    else if (type == REP) set_nak(3);
+    else if (h[0] == ENQ && type != ACK && type != NAK) set_nak(17);
+    else if (h[0] != DLE) take_resp(h[3]);
+    if (h[0] == SOH) on_data(h, data, n);
+    if (type != NAK) return;
+    naks++;
+    if (h[3] != A) return;                   /* outside of A to N */
+    T = (uint8_t)(A + 1);
+    SREP = false;
+    stop_timer();
 }
 
 /* Frames that nobody needs, each by its own chance. */
@@ -441,16 +398,11 @@ static void send_extra(void)
     if (chance(o_rep)) control(REP, 0, 0, N);
     if (chance(o_oddresp)) control(below(2) ? ACK : NAK, 2, (uint8_t)(R + 100 + below(50)), 0);
     if (chance(o_oldresp)) control(below(2) ? ACK : NAK, 2, (uint8_t)(R - 20 - below(50)), 0);
-    if (chance(o_junk) && below(2)) control(below(2) ? 4 + (int)below(2) : 8 + (int)below(240), 0, R, 0);
-    else if (chance(o_junk)) numbered(SOH, NULL, 0, R, T);
-    if (chance(o_maint)) {
-        memset(some, 0x4D, 40);
-        numbered(DLE, some, 40, 0, 0);
-    }
-    if (o_toolong && chance(2)) {
-        memset(some, 0x4C, (size_t)o_toolong);
-        numbered(SOH, some, (size_t)o_toolong, R, (uint8_t)(N + 1));
-    }
+    if (chance(o_junk)) control(below(2) ? 4 + (int)below(2) : 8 + (int)below(240), 0, R, 0);
+    if (chance(o_junk)) numbered(SOH, NULL, 0, R, T);
+    memset(some, 0x4D, sizeof some);
+    if (chance(o_maint)) numbered(DLE, some, 40, 0, 0);
+    if (o_toolong && chance(2)) numbered(SOH, some, (size_t)o_toolong, R, (uint8_t)(N + 1));
 }
 
 /* Sends what is to be sent, in the order NAK, REP, data, ACK, while the line has room for it. */
@@ -540,7 +492,7 @@ static void receive(void)
     ssize_t n = read(fd, in + in_count, sizeof in / 2);
     if (n < 0 && (errno == EAGAIN || errno == EINTR || (is_udp && errno == ECONNREFUSED))) return;
     if (n <= 0 && !is_udp) end_of_line(n ? strerror(errno) : "the line ended");
-    if (n < 0) end("read: %s", strerror(errno));
+    if (n < 0) end("peer: read: %s", strerror(errno));
     if (n > 0 && chance(o_noise)) in[in_count + below((unsigned)n)] ^= (uint8_t)(1 << below(8));
     in_count += (size_t)n;
     quiet_since = now_ms();
@@ -573,11 +525,11 @@ static void open_line(const char *line)
     if (!strncmp(line, "listen:", 7)) {
         int server = socket(AF_INET, SOCK_STREAM, 0);
         setsockopt(server, SOL_SOCKET, SO_REUSEADDR, &one, sizeof one);
-        if (bind(server, (struct sockaddr *)&a, sizeof a) || listen(server, 1)) end("listen: %s", strerror(errno));
+        if (bind(server, (struct sockaddr *)&a, sizeof a) || listen(server, 1)) end("peer: listen: %s", strerror(errno));
         getsockname(server, (struct sockaddr *)&a, &length);
         printf("listening %u\n", ntohs(a.sin_port));
         struct pollfd wait = {.fd = server, .events = POLLIN};
-        if (poll(&wait, 1, (int)o_seconds * 1000) != 1) end("nobody connected");
+        if (poll(&wait, 1, (int)o_seconds * 1000) != 1) end("peer: nobody connected");
         ok = fd = accept(server, NULL, NULL);
         close(server);
     } else if (!strncmp(line, "connect:", 8)) {
@@ -600,9 +552,9 @@ static void open_line(const char *line)
             tcsetattr(fd, TCSANOW, &t);
         }
     } else {
-        end("a line is listen:PORT, connect:PORT, udp:LOCAL,REMOTE or tty:PATH");
+        end("peer: a line is listen:PORT, connect:PORT, udp:LOCAL,REMOTE or tty:PATH");
     }
-    if (ok < 0) end("%s: %s", line, strerror(errno));
+    if (ok < 0) end("peer: %s: %s", line, strerror(errno));
     if (!is_udp) setsockopt(fd, IPPROTO_TCP, TCP_NODELAY, &one, sizeof one);
     fcntl(fd, F_SETFL, O_NONBLOCK);
 }
@@ -618,7 +570,7 @@ static void read_key(const char *word)
             *keys[i].value = strtol(value + 1, NULL, 10);
             return;
         }
-    end("no key %s; see peer help", word);
+    end("peer: no key %s; see peer help", word);
 }
 
 int main(int count, char **words)
@@ -634,9 +586,9 @@ int main(int count, char **words)
         return count < 2;
     }
     for (int i = 2; i < count; i++) read_key(words[i]);
-    if (o_syn > 1000 || o_del > 1000 || o_nul > 1000) end("at most 1000 bytes of fill");
-    if (o_longest > LONGEST || o_toolong > LONGEST) end("at most %d bytes a message", LONGEST);
-    if (o_window > 255 || o_window < 1 || o_merge < 1 || o_longest < 1) end("window, merge or longest");
+    if (o_syn > 1000 || o_del > 1000 || o_nul > 1000) end("peer: at most 1000 bytes of fill");
+    if (o_longest > LONGEST || o_toolong > LONGEST) end("peer: at most %d bytes a message", LONGEST);
+    if (o_window > 255 || o_window < 1 || o_merge < 1 || o_longest < 1) end("peer: window, merge or longest");
     drawn = (uint64_t)o_seed * 0x9E3779B97F4A7C15ULL + 1;
     signal(SIGPIPE, SIG_IGN);
     signal(SIGTERM, on_term);
