@@ -1,12 +1,12 @@
 /*
  * A second DDCMP station, to try others with: one end of a full-duplex point-to-point line.
  *
- * Another author wrote it than that of the crates, and it shares no line and no table with them. It
- * was written from the startup and the data transfer tables of DDCMP 4.1 (HALT, ISTRT, ASTRT, RUN;
- * R, N, A, T, X; SACK, SNAK, SREP), which were remembered: no text of DEC was at hand. Its author had
- * read docs/PROTOCOL.md, for the formats. Only remembered, too: how the timer depends on X, the order
- * NAK, REP, data, ACK, and what other programs do (COUNT believed before the header check, SYN
- * required after an error).
+ * Another author wrote it than that of the crates, and it shares no line and no table with them.
+ * It was written from the startup and the data transfer tables of DDCMP 4.1 (HALT, ISTRT, ASTRT,
+ * RUN; R, N, A, T, X; SACK, SNAK, SREP), which were remembered: no text of DEC was at hand. Its
+ * author had read docs/PROTOCOL.md, for the formats. Only remembered, too: how the timer depends on
+ * X, the order NAK, REP, data, ACK, and what other programs do (COUNT believed before the header
+ * check, SYN required after an error).
  *
  *     peer LINE [key=value ..]
  *
@@ -46,7 +46,7 @@ enum { FRAMING_SPEC, FRAMING_SIMH, FRAMING_SYN };
     K(seed, 1, "of all that is drawn") K(seconds, 60, "limit of time, after which it fails") \
     K(expect, 0, "how many messages must come") K(echo, 1, "give each message back") \
     K(source, 0, "messages of its own") K(longest, 500, "most bytes of these") \
-    K(linger, 2000, "ms of silence after which it ends once done; 0: with the line, or at SIGTERM") \
+    K(linger, 2000, "ms of silence that end it once it is done; 0: never") \
     K(syn, 0, "SYN bytes before each frame") K(del, 0, "up to so many DEL bytes after each") \
     K(nul, 0, "NUL bytes, the same") K(banner, 0, "first of all: 1 text, 2 telnet IACs, 3 both") \
     K(chunk, 0, "pieces of 1 to so many bytes") K(merge, 1, "up to so many frames a write") \
@@ -93,15 +93,13 @@ static volatile sig_atomic_t is_terminated;
 
 static void on_term(int signal_number) { (void)signal_number; is_terminated = 1; }
 
-static int64_t now_ms(void)
-{
+static int64_t now_ms(void) {
     struct timespec t;
     clock_gettime(CLOCK_MONOTONIC, &t);
     return (int64_t)t.tv_sec * 1000 + t.tv_nsec / 1000000;
 }
 
-static unsigned below(unsigned n)            /* drawn from 0 to n - 1 */
-{
+static unsigned below(unsigned n)            /* drawn from 0 to n - 1 */ {
     drawn ^= drawn >> 12;
     drawn ^= drawn << 25;
     drawn ^= drawn >> 27;
@@ -110,8 +108,7 @@ static unsigned below(unsigned n)            /* drawn from 0 to n - 1 */
 
 static bool chance(long percent) { return percent > 0 && below(100) < (unsigned)percent; }
 
-static void unqueue(void)
-{
+static void unqueue(void) {
     struct message *it = first;
     first = it->next;
     if (!first) last = &first;
@@ -120,8 +117,7 @@ static void unqueue(void)
 }
 
 /* Ends: the variables go to standard output, and why it failed to standard error. */
-static void end(const char *why, ...)
-{
+static void end(const char *why, ...) {
     static const char *const names[] = {"HALT", "ISTRT", "ASTRT", "RUN"};
     va_list arguments;
     va_start(arguments, why);
@@ -139,16 +135,13 @@ static void end(const char *why, ...)
 
 static bool is_done(void) { return got >= (size_t)o_expect && !first && state == RUN; }
 
-static void end_of_line(const char *how)
-{
+static void end_of_line(const char *how) {
     if (is_done()) end(NULL);
-    end("peer: %s: %zu of %ld messages came, %zu of its own aren't acknowledged", how, got, o_expect,
-        queued);
+    end("peer: %s: %zu of %ld came, %zu not acknowledged", how, got, o_expect, queued);
 }
 
 /* CRC-16, x^16 + x^15 + x^2 + 1, low bit first: 0 over bytes with their own check behind them. */
-static unsigned crc(const uint8_t *p, size_t n)
-{
+static unsigned crc(const uint8_t *p, size_t n) {
     unsigned r = 0;
     for (size_t i = 0; i < 8 * n; i++) {
         unsigned carry = (r ^ p[i / 8] >> i % 8) & 1;
@@ -157,15 +150,13 @@ static unsigned crc(const uint8_t *p, size_t n)
     return r;
 }
 
-static void seal(uint8_t *p, size_t n)
-{
+static void seal(uint8_t *p, size_t n) {
     unsigned r = crc(p, n);
     p[n] = r & 0xFF;
     p[n + 1] = r >> 8;
 }
 
-static void write_message(FILE *file, const uint8_t *data, size_t n)
-{
+static void write_message(FILE *file, const uint8_t *data, size_t n) {
     if (!file) return;
     fputc((int)(n >> 8), file);
     fputc((int)(n & 0xFF), file);
@@ -174,14 +165,12 @@ static void write_message(FILE *file, const uint8_t *data, size_t n)
 
 /* ---- The line, outwards ---- */
 
-static void datagram(const uint8_t *p, size_t n) /* one that finds no room is a lost one */
-{
+static void datagram(const uint8_t *p, size_t n) /* one that finds no room is a lost one */ {
     if (send(fd, p, n, 0) < 0 && errno != EAGAIN && errno != ECONNREFUSED && errno != ENOBUFS)
         end("peer: send: %s", strerror(errno));
 }
 
-static void flush_batch(void)
-{
+static void flush_batch(void) {
     if (!batch_count) return;
     if (!is_udp) {
         if (out_count + batch_count > ROOM) end("peer: the other end reads nothing");
@@ -198,21 +187,18 @@ static void flush_batch(void)
     batch_limit = 1 + below((unsigned)o_merge);
 }
 
-static void add(const void *p, size_t n)
-{
+static void add(const void *p, size_t n) {
     memcpy(batch + batch_count, p, n);
     batch_count += n;
 }
 
-static void pad(uint8_t byte, long n)
-{
+static void pad(uint8_t byte, long n) {
     while (n-- > 0) batch[batch_count++] = byte;
 }
 
 /* Sends a frame, unless what was drawn says otherwise. One isn't cut where the check of its data is
    0: whole frames after it would pass as the rest of them. */
-static void put(const uint8_t *frame, size_t n)
-{
+static void put(const uint8_t *frame, size_t n) {
     uint8_t copy[LONGEST + 10];
     memcpy(copy, frame, n);
     if (chance(o_loss)) return;
@@ -235,8 +221,7 @@ static uint8_t flags(uint8_t usual) { return o_flags ? (uint8_t)(below(4) << 6) 
 static uint8_t fill_byte(void) { return o_fill ? (uint8_t)below(256) : 0; }
 static uint8_t address(void) { return (uint8_t)(o_addr < 0 ? (long)below(256) : o_addr); }
 
-static void control(int type, uint8_t sub, uint8_t resp, uint8_t num)
-{
+static void control(int type, uint8_t sub, uint8_t resp, uint8_t num) {
     bool is_start = type == STRT || type == STACK;
     if (type != NAK && o_fill) sub = (uint8_t)below(64);
     if (type == ACK || type == NAK || is_start) num = fill_byte();
@@ -247,8 +232,7 @@ static void control(int type, uint8_t sub, uint8_t resp, uint8_t num)
     put(f, 8);
 }
 
-static void numbered(uint8_t start, const uint8_t *data, size_t n, uint8_t resp, uint8_t num)
-{
+static void numbered(uint8_t start, const uint8_t *data, size_t n, uint8_t resp, uint8_t num) {
     uint8_t high = (uint8_t)(n >> 8 | flags(0));
     uint8_t f[LONGEST + 10] = {start, (uint8_t)n, high, resp, num, address()};
     seal(f, 6);
@@ -263,15 +247,13 @@ static void start_timer(void) { timer_at = now_ms() + o_timer; }
 static void stop_timer(void) { timer_at = 0; }
 static void set_nak(int reason) { SNAK = reason; SACK = false; }
 
-static void set_ack(int64_t delay)
-{
+static void set_ack(int64_t delay) {
     if (!SACK || ack_at > now_ms() + delay) ack_at = now_ms() + delay;
     SACK = true;
     SNAK = 0;
 }
 
-static void queue(const uint8_t *data, size_t n)
-{
+static void queue(const uint8_t *data, size_t n) {
     struct message *it = malloc(sizeof *it + n);
     if (!it) end("peer: out of memory");
     it->next = NULL;
@@ -284,8 +266,7 @@ static void queue(const uint8_t *data, size_t n)
     write_message(sent_file, data, n);
 }
 
-static void send_start(void)
-{
+static void send_start(void) {
     if (state == ISTRT)
         for (long i = 0; i < o_strts; i++) control(STRT, 0, 0, 0);
     else if (o_losestack > 0) o_losestack--;
@@ -294,8 +275,7 @@ static void send_start(void)
 }
 
 /* HALT to ISTRT or ASTRT: what the last run left unacknowledged is lost, as its user is told. */
-static void begin(int next)
-{
+static void begin(int next) {
     for (uint8_t sent = (uint8_t)(N - A); sent; sent--, lost++) unqueue();
     R = N = A = X = told = 0;
     T = 1;
@@ -305,16 +285,14 @@ static void begin(int next)
     send_start();
 }
 
-static void run(bool owes_ack)
-{
+static void run(bool owes_ack) {
     state = RUN;
     stop_timer();
     if (owes_ack) set_ack(0);
 }
 
 /* A < RESP <= N: all up to RESP is complete. The timer goes on for what was sent after it. */
-static void take_resp(uint8_t resp)
-{
+static void take_resp(uint8_t resp) {
     uint8_t done = (uint8_t)(resp - A), ahead = (uint8_t)(N - A), next = (uint8_t)(T - 1 - A);
     if (!done || done > ahead) return;
     for (uint8_t i = 0; i < done; i++, acknowledged++) unqueue();
@@ -325,8 +303,7 @@ static void take_resp(uint8_t resp)
     else stop_timer();
 }
 
-static void on_data(const uint8_t *h, const uint8_t *data, size_t n)
-{
+static void on_data(const uint8_t *h, const uint8_t *data, size_t n) {
     static const uint8_t reasons[] = {1, 2, 3, 8, 9, 16, 17, 21};
     if (h[4] != (uint8_t)(R + 1)) return;    /* not the next one: no answer */
     if (n > (size_t)o_max) {
@@ -347,21 +324,21 @@ static void on_data(const uint8_t *h, const uint8_t *data, size_t n)
 }
 
 /* A frame whose header is right. `data` is NULL for a control message. */
-static void on_frame(const uint8_t *h, const uint8_t *data, size_t n)
-{
+static void on_frame(const uint8_t *h, const uint8_t *data, size_t n) {
     int type = h[0] == ENQ ? h[1] : 0;
     quiet_since = now_ms();
     if (chance(o_deaf)) return;
     if (state == RUN && type == STRT) {
         if (!o_again) end_of_line("the other end started again");
         restarts++;
-        state = HALT;
+        state = HALT;                        /* its user is told, and starts it again */
         begin(ISTRT);
-    } else if (state == HALT) {
-        if (type == STRT && now_ms() >= start_at) begin(o_start == DIRECT ? ASTRT : ISTRT);
         return;
     }
     switch (state) {
+    case HALT:
+        if (type == STRT && now_ms() >= start_at) begin(o_start == DIRECT ? ASTRT : ISTRT);
+        return;
     case ASTRT:
         if (type == STRT) send_start();
         else if (type == STACK) run(true);
@@ -390,8 +367,7 @@ static void on_frame(const uint8_t *h, const uint8_t *data, size_t n)
 }
 
 /* Frames that nobody needs, each by its own chance. */
-static void send_extra(void)
-{
+static void send_extra(void) {
     uint8_t some[LONGEST];
     if (chance(o_stack)) control(STACK, 0, 0, 0);
     if (!heard) return;
@@ -406,8 +382,7 @@ static void send_extra(void)
 }
 
 /* Sends what is to be sent, in the order NAK, REP, data, ACK, while the line has room for it. */
-static void send_frames(void)
-{
+static void send_frames(void) {
     for (int i = 0; i < 8 && state == RUN && out_count + batch_count < ROOM / 4; i++) {
         uint8_t at = (uint8_t)(T - 1 - A);
         if (SNAK) {
@@ -437,8 +412,7 @@ static void send_frames(void)
     flush_batch();
 }
 
-static void on_timer(void)
-{
+static void on_timer(void) {
     stop_timer();
     if (state != RUN) send_start();
     else if (A != N || o_notstopped) SREP = true;
@@ -446,15 +420,13 @@ static void on_timer(void)
 
 /* ---- The line, inwards ---- */
 
-static void bad_header(void)
-{
+static void bad_header(void) {
     if (!out_of_step && state == RUN) set_nak(1);
     out_of_step = true;
     wants_syn = o_framing == FRAMING_SYN;
 }
 
-static void read_frames(void)
-{
+static void read_frames(void) {
     size_t at = 0;
     while (at < in_count) {
         const uint8_t *h = in + at;
@@ -487,8 +459,7 @@ static void read_frames(void)
     memmove(in, in + at, in_count);
 }
 
-static void receive(void)
-{
+static void receive(void) {
     ssize_t n = read(fd, in + in_count, sizeof in / 2);
     if (n < 0 && (errno == EAGAIN || errno == EINTR || (is_udp && errno == ECONNREFUSED))) return;
     if (n <= 0 && !is_udp) end_of_line(n ? strerror(errno) : "the line ended");
@@ -499,8 +470,7 @@ static void receive(void)
     read_frames();
 }
 
-static void write_out(void)
-{
+static void write_out(void) {
     size_t n = o_chunk ? 1 + below((unsigned)o_chunk) : out_count;
     ssize_t written = write(fd, out, n < out_count ? n : out_count);
     if (written < 0 && errno != EAGAIN && errno != EINTR) end_of_line(strerror(errno));
@@ -509,15 +479,13 @@ static void write_out(void)
     memmove(out, out + written, out_count);
 }
 
-static struct sockaddr_in here(const char *port)
-{
+static struct sockaddr_in here(const char *port) {
     struct sockaddr_in it = {.sin_family = AF_INET, .sin_port = htons((uint16_t)atoi(port))};
     it.sin_addr.s_addr = htonl(INADDR_LOOPBACK);
     return it;
 }
 
-static void open_line(const char *line)
-{
+static void open_line(const char *line) {
     const char *rest = strchr(line, ':');
     struct sockaddr_in a = here(rest ? rest + 1 : "0"), b;
     socklen_t length = sizeof a;
@@ -525,7 +493,8 @@ static void open_line(const char *line)
     if (!strncmp(line, "listen:", 7)) {
         int server = socket(AF_INET, SOCK_STREAM, 0);
         setsockopt(server, SOL_SOCKET, SO_REUSEADDR, &one, sizeof one);
-        if (bind(server, (struct sockaddr *)&a, sizeof a) || listen(server, 1)) end("peer: listen: %s", strerror(errno));
+        if (bind(server, (struct sockaddr *)&a, sizeof a) || listen(server, 1))
+            end("peer: listen: %s", strerror(errno));
         getsockname(server, (struct sockaddr *)&a, &length);
         printf("listening %u\n", ntohs(a.sin_port));
         struct pollfd wait = {.fd = server, .events = POLLIN};
@@ -559,12 +528,11 @@ static void open_line(const char *line)
     fcntl(fd, F_SETFL, O_NONBLOCK);
 }
 
-static void read_key(const char *word)
-{
+static void read_key(const char *word) {
     const char *value = strchr(word, '=');
     size_t n = value ? (size_t)(value - word) : 0;
-    if (value && n == 3 && !strncmp(word, "got", n) && (got_file = fopen(value + 1, "wb"))) return;
-    if (value && n == 4 && !strncmp(word, "sent", n) && (sent_file = fopen(value + 1, "wb"))) return;
+    if (!strncmp(word, "got=", 4) && (got_file = fopen(value + 1, "wb"))) return;
+    if (!strncmp(word, "sent=", 5) && (sent_file = fopen(value + 1, "wb"))) return;
     for (size_t i = 0; value && i < sizeof keys / sizeof *keys; i++)
         if (strlen(keys[i].name) == n && !strncmp(word, keys[i].name, n)) {
             *keys[i].value = strtol(value + 1, NULL, 10);
@@ -573,22 +541,21 @@ static void read_key(const char *word)
     end("peer: no key %s; see peer help", word);
 }
 
-int main(int count, char **words)
-{
+int main(int count, char **words) {
     static const char text[] = "\r\nWelcome to the terminal server\r\nlogin: ";
     static const uint8_t iacs[] = {0xFF, 0xFB, 3, 0xFF, 0xFD, 3, 0xFF, 0xFB, 1, 0xFF, 0xFD, 0};
     setvbuf(stdout, NULL, _IOLBF, 0);
     if (count < 2 || !strcmp(words[1], "help")) {
         puts("peer LINE [key=value ..]; LINE: listen:PORT connect:PORT udp:LOCAL,REMOTE tty:PATH\n"
-             "got=FILE, sent=FILE: what came and what it sent, each message after its length (2 bytes)");
+             "got=FILE, sent=FILE: what came and what it sent, each message after its length");
         for (size_t i = 0; i < sizeof keys / sizeof *keys; i++)
             printf("%-11s %s [%ld]\n", keys[i].name, keys[i].what, *keys[i].value);
         return count < 2;
     }
     for (int i = 2; i < count; i++) read_key(words[i]);
-    if (o_syn > 1000 || o_del > 1000 || o_nul > 1000) end("peer: at most 1000 bytes of fill");
-    if (o_longest > LONGEST || o_toolong > LONGEST) end("peer: at most %d bytes a message", LONGEST);
-    if (o_window > 255 || o_window < 1 || o_merge < 1 || o_longest < 1) end("peer: window, merge or longest");
+    bool fits = o_syn <= 999 && o_del <= 999 && o_nul <= 999 && o_merge > 0 && o_longest > 0;
+    if (!fits || o_longest > LONGEST || o_toolong > LONGEST || o_window > 255 || o_window < 1)
+        end("peer: a value is out of its range");
     drawn = (uint64_t)o_seed * 0x9E3779B97F4A7C15ULL + 1;
     signal(SIGPIPE, SIG_IGN);
     signal(SIGTERM, on_term);
@@ -620,9 +587,8 @@ int main(int count, char **words)
         send_frames();
         if (!was_done && is_done()) {
             was_done = true;
+            fflush(NULL);                    /* the files too, before it says so */
             puts("done");
-            if (got_file) fflush(got_file);
-            if (sent_file) fflush(sent_file);
         }
         if (is_terminated) end_of_line("SIGTERM");
         if (o_linger && is_done() && now >= quiet_since + o_linger) end(NULL);
