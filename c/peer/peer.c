@@ -479,6 +479,7 @@ static void write_out(void) {
     memmove(out, out + written, out_count);
 }
 
+/* An address of this machine. */
 static struct sockaddr_in here(const char *port) {
     struct sockaddr_in it = {.sin_family = AF_INET, .sin_port = htons((uint16_t)atoi(port))};
     it.sin_addr.s_addr = htonl(INADDR_LOOPBACK);
@@ -554,6 +555,8 @@ int main(int count, char **words) {
     }
     for (int i = 2; i < count; i++) read_key(words[i]);
     bool fits = o_syn <= 999 && o_del <= 999 && o_nul <= 999 && o_merge > 0 && o_longest > 0;
+    for (size_t i = 0; i < sizeof keys / sizeof *keys; i++)
+        fits = fits && (*keys[i].value >= 0 || keys[i].value == &o_addr);
     if (!fits || o_longest > LONGEST || o_toolong > LONGEST || o_window > 255 || o_window < 1)
         end("peer: a value is out of its range");
     drawn = (uint64_t)o_seed * 0x9E3779B97F4A7C15ULL + 1;
