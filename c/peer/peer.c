@@ -99,7 +99,8 @@ static int64_t now_ms(void) {
     return (int64_t)t.tv_sec * 1000 + t.tv_nsec / 1000000;
 }
 
-static unsigned below(unsigned n)            /* drawn from 0 to n - 1 */ {
+/* Drawn from 0 to n - 1. */
+static unsigned below(unsigned n) {
     drawn ^= drawn >> 12;
     drawn ^= drawn << 25;
     drawn ^= drawn >> 27;
@@ -140,7 +141,7 @@ static void end_of_line(const char *how) {
     end("peer: %s: %zu of %ld came, %zu not acknowledged", how, got, o_expect, queued);
 }
 
-/* CRC-16, x^16 + x^15 + x^2 + 1, low bit first: 0 over bytes with their own check behind them. */
+/* CRC-16, x^16 + x^15 + x^2 + 1, low bit first: 0 over bytes and their own check after them. */
 static unsigned crc(const uint8_t *p, size_t n) {
     unsigned r = 0;
     for (size_t i = 0; i < 8 * n; i++) {
@@ -150,6 +151,7 @@ static unsigned crc(const uint8_t *p, size_t n) {
     return r;
 }
 
+/* Appends the check of these bytes. */
 static void seal(uint8_t *p, size_t n) {
     unsigned r = crc(p, n);
     p[n] = r & 0xFF;
@@ -157,15 +159,14 @@ static void seal(uint8_t *p, size_t n) {
 }
 
 static void write_message(FILE *file, const uint8_t *data, size_t n) {
-    if (!file) return;
-    fputc((int)(n >> 8), file);
-    fputc((int)(n & 0xFF), file);
-    fwrite(data, 1, n, file);
+    if (file) fprintf(file, "%c%c", (int)(n >> 8), (int)(n & 0xFF));
+    if (file) fwrite(data, 1, n, file);
 }
 
 /* ---- The line, outwards ---- */
 
-static void datagram(const uint8_t *p, size_t n) /* one that finds no room is a lost one */ {
+/* One that finds no room is a lost one. */
+static void datagram(const uint8_t *p, size_t n) {
     if (send(fd, p, n, 0) < 0 && errno != EAGAIN && errno != ECONNREFUSED && errno != ENOBUFS)
         end("peer: send: %s", strerror(errno));
 }
