@@ -1,12 +1,12 @@
 /*
  * A second DDCMP station, to try others with: one end of a full-duplex point-to-point line.
  *
- * Another author wrote it than that of the crates, and it shares no line and no table with them. It
- * was written from the startup and the data transfer tables of DDCMP 4.1 (HALT, ISTRT, ASTRT, RUN;
- * R, N, A, T, X; SACK, SNAK, SREP), which were remembered: no text of DEC was at hand. Its author had
- * read docs/PROTOCOL.md, for the formats. Only remembered, too: how the timer depends on X, the order
- * NAK, REP, data, ACK, and what other programs do (COUNT believed before the header check, SYN
- * required after an error).
+ * Another author wrote it than that of the crates, and it shares no line and no table with them.
+ * It was written from the startup and the data transfer tables of DDCMP 4.1 (HALT, ISTRT, ASTRT,
+ * RUN; R, N, A, T, X; SACK, SNAK, SREP), which were remembered: no text of DEC was at hand. Its
+ * author had read docs/PROTOCOL.md, for the formats. Only remembered, too: how the timer depends on
+ * X, the order NAK, REP, data, ACK, and what other programs do (COUNT believed before the header
+ * check, SYN required after an error).
  *
  *     peer LINE [key=value ..]
  *
@@ -43,52 +43,34 @@ enum { FRAMING_SPEC, FRAMING_SIMH, FRAMING_SYN };
 
 /* The keys: name, default, meaning. Those in percent are drawn for each frame. */
 #define KEYS(K) \
-    K(seed, 1, "of all that is drawn") \
-    K(expect, 0, "how many messages must come") \
-    K(echo, 1, "give each message back") \
-    K(source, 0, "how many messages of its own it sends") \
-    K(longest, 500, "most bytes of its own messages") \
-    K(seconds, 60, "limit of time, after which it fails") \
-    K(linger, 2000, "ms of silence after which it ends once done; 0: when the line ends, or SIGTERM") \
-    K(syn, 0, "SYN bytes before each frame") \
-    K(del, 0, "up to so many DEL bytes after each frame") \
-    K(nul, 0, "up to so many NUL bytes after each frame") \
-    K(banner, 0, "before all else: 1 text, 2 telnet IACs, 3 both") \
-    K(chunk, 0, "write pieces of 1 to so many bytes") \
-    K(merge, 1, "up to so many frames in a write or datagram") \
-    K(flags, 0, "draw Q and S of every message") \
-    K(fill, 0, "draw the bytes and SUBTYPEs that have no meaning") \
-    K(addr, 1, "ADDR; -1: drawn") \
-    K(start, ACTIVE, "0 STRT at once, 1 STRT after a STRT came, 2 straight to ASTRT after it") \
-    K(late, 0, "ms before it starts") \
-    K(strts, 1, "how many STRTs it sends each time") \
-    K(losestack, 0, "how many STACKs it loses at first") \
-    K(restart, 0, "start again itself once so many messages came") \
-    K(again, 0, "start again when the other end does") \
-    K(stack, 0, "%: a stray STACK in RUN") \
-    K(ack, ACK_NOW, "0 at once, 1 after ackdelay, 2 only after a REP, 3 by data or after a REP") \
-    K(ackdelay, 50, "ms") \
-    K(nak, 0, "%: refuse a good data message by a NAK") \
-    K(reason, 0, "of these; 0: any, and an unknown one") \
-    K(deaf, 0, "%: ignore a received frame") \
-    K(loss, 0, "%: don't send a frame") \
-    K(damage, 0, "%: flip a bit of a frame") \
-    K(cut, 0, "%: cut a frame off") \
-    K(noise, 0, "%: flip a bit of what was read") \
+    K(seed, 1, "of all that is drawn") K(seconds, 60, "limit of time, after which it fails") \
+    K(expect, 0, "how many messages must come") K(echo, 1, "give each message back") \
+    K(source, 0, "messages of its own") K(longest, 500, "most bytes of these") \
+    K(linger, 2000, "ms of silence that end it once it is done; 0: never") \
+    K(syn, 0, "SYN bytes before each frame") K(del, 0, "up to so many DEL bytes after each") \
+    K(nul, 0, "NUL bytes, the same") K(banner, 0, "first of all: 1 text, 2 telnet IACs, 3 both") \
+    K(chunk, 0, "pieces of 1 to so many bytes") K(merge, 1, "up to so many frames a write") \
+    K(flags, 0, "draw Q and S") K(fill, 0, "draw bytes and SUBTYPEs without meaning") \
+    K(addr, 1, "ADDR; -1: drawn") K(late, 0, "ms before it starts") \
+    K(start, ACTIVE, "0 STRT at once, 1 STRT once a STRT came, 2 straight to ASTRT by it") \
+    K(strts, 1, "STRTs that it sends each time") K(losestack, 0, "STACKs that it loses at first") \
+    K(restart, 0, "start again itself after so many messages") \
+    K(again, 0, "start again when the other end does") K(stack, 0, "%: a stray STACK in RUN") \
+    K(ack, ACK_NOW, "0 at once, 1 after ackdelay, 2 after a REP, 3 by data or after a REP") \
+    K(ackdelay, 50, "ms") K(nak, 0, "%: refuse a good data message by a NAK") \
+    K(reason, 0, "of these; 0: any, and an unknown one") K(deaf, 0, "%: ignore a received frame") \
+    K(loss, 0, "%: don't send a frame") K(damage, 0, "%: flip a bit of one") \
+    K(cut, 0, "%: cut one off") K(noise, 0, "%: flip a bit of what was read") \
     K(dup, 0, "%: a frame twice, in RUN") \
     K(reorder, 0, "%: hold a datagram back until another went, in RUN") \
-    K(oddresp, 0, "%: an ACK or NAK with a RESP that was never sent, for windows up to 99") \
-    K(oldresp, 0, "%: an ACK or NAK with a RESP long past") \
-    K(rep, 0, "%: a needless REP") \
-    K(notstopped, 0, "the timer isn't stopped by an ACK") \
-    K(timer, 200, "reply timer, ms") \
-    K(junk, 0, "%: an unknown TYPE, or COUNT 0") \
+    K(oddresp, 0, "%: an ACK or NAK with a RESP never sent, for windows up to 99") \
+    K(oldresp, 0, "%: an ACK or NAK with a RESP long past") K(rep, 0, "%: a needless REP") \
+    K(notstopped, 0, "an ACK doesn't stop the timer") K(timer, 200, "reply timer, ms") \
+    K(junk, 0, "%: an unknown TYPE, or COUNT 0") K(maint, 0, "%: a maintenance message in RUN") \
     K(toolong, 0, "a message of so many bytes, in 2 % of the frames") \
-    K(maint, 0, "%: a maintenance message in RUN") \
     K(buffers, 0, "receive buffers, one freed each 2 ms; 0: enough") \
-    K(max, LONGEST, "longest message that it takes") \
-    K(window, 7, "most messages sent and not acknowledged") \
-    K(framing, FRAMING_SPEC, "0 as specified, 1 COUNT believed before the check, 2 SYN after an error") \
+    K(max, LONGEST, "longest message that it takes") K(window, 7, "most not acknowledged") \
+    K(framing, FRAMING_SPEC, "0 as specified, 1 COUNT before the check, 2 SYN after an error") \
     K(idle, 0, "ms of silence after which an unfinished frame is dropped; 0: never")
 #define DECLARE(name, value, what) static long o_##name = value;
 KEYS(DECLARE)
@@ -111,15 +93,14 @@ static volatile sig_atomic_t is_terminated;
 
 static void on_term(int signal_number) { (void)signal_number; is_terminated = 1; }
 
-static int64_t now_ms(void)
-{
+static int64_t now_ms(void) {
     struct timespec t;
     clock_gettime(CLOCK_MONOTONIC, &t);
     return (int64_t)t.tv_sec * 1000 + t.tv_nsec / 1000000;
 }
 
-static unsigned below(unsigned n)            /* drawn from 0 to n - 1 */
-{
+/* Drawn from 0 to n - 1. */
+static unsigned below(unsigned n) {
     drawn ^= drawn >> 12;
     drawn ^= drawn << 25;
     drawn ^= drawn >> 27;
@@ -128,79 +109,72 @@ static unsigned below(unsigned n)            /* drawn from 0 to n - 1 */
 
 static bool chance(long percent) { return percent > 0 && below(100) < (unsigned)percent; }
 
-/* Ends, with what stands at the end on standard output and the reason of a failure on standard error. */
-static void end(const char *why, ...)
-{
+static void unqueue(void) {
+    struct message *it = first;
+    first = it->next;
+    if (!first) last = &first;
+    free(it);
+    queued--;
+}
+
+/* Ends: the variables go to standard output, and why it failed to standard error. */
+static void end(const char *why, ...) {
     static const char *const names[] = {"HALT", "ISTRT", "ASTRT", "RUN"};
-    if (why) {
-        va_list arguments;
-        va_start(arguments, why);
-        fputs("peer: ", stderr);
-        vfprintf(stderr, why, arguments);
-        fputc('\n', stderr);
-        va_end(arguments);
-    }
-    printf("state=%s R=%u N=%u A=%u T=%u got=%zu sent=%zu acknowledged=%zu lost=%zu naks=%zu reps=%zu"
-           " restarts=%zu\n", names[state], R, N, A, T, got, given, acknowledged, lost, naks, reps, restarts);
+    va_list arguments;
+    va_start(arguments, why);
+    if (why) vfprintf(stderr, why, arguments);
+    if (why) fputc('\n', stderr);
+    va_end(arguments);
+    printf("state=%s R=%u N=%u A=%u T=%u got=%zu sent=%zu acknowledged=%zu lost=%zu", names[state],
+           R, N, A, T, got, given, acknowledged, lost);
+    printf(" naks=%zu reps=%zu restarts=%zu\n", naks, reps, restarts);
     if (got_file) fclose(got_file);
     if (sent_file) fclose(sent_file);
-    while (first) {
-        struct message *it = first;
-        first = it->next;
-        free(it);
-    }
+    while (first) unqueue();
     exit(why ? 1 : 0);
 }
 
 static bool is_done(void) { return got >= (size_t)o_expect && !first && state == RUN; }
 
-static void end_of_line(const char *how)
-{
+static void end_of_line(const char *how) {
     if (is_done()) end(NULL);
-    end("%s: %zu of %ld messages came, %zu of its own were not acknowledged", how, got, o_expect, queued);
+    end("peer: %s: %zu of %ld came, %zu not acknowledged", how, got, o_expect, queued);
 }
 
-/* CRC-16, x^16 + x^15 + x^2 + 1, low bit first: 0 over bytes with their own check behind them. */
-static unsigned crc(const uint8_t *p, size_t n)
-{
+/* CRC-16, x^16 + x^15 + x^2 + 1, low bit first: 0 over bytes and their own check after them. */
+static unsigned crc(const uint8_t *p, size_t n) {
     unsigned r = 0;
-    for (size_t i = 0; i < n; i++)
-        for (unsigned bit = 0; bit < 8; bit++) {
-            unsigned carry = (r ^ p[i] >> bit) & 1;
-            r >>= 1;
-            if (carry) r ^= 0xA001;
-        }
+    for (size_t i = 0; i < 8 * n; i++) {
+        unsigned carry = (r ^ p[i / 8] >> i % 8) & 1;
+        r = r >> 1 ^ (carry ? 0xA001 : 0);
+    }
     return r;
 }
 
-static void seal(uint8_t *p, size_t n)
-{
+/* Appends the check of these bytes. */
+static void seal(uint8_t *p, size_t n) {
     unsigned r = crc(p, n);
     p[n] = r & 0xFF;
     p[n + 1] = r >> 8;
 }
 
-static void write_message(FILE *file, const uint8_t *data, size_t n)
-{
-    if (!file) return;
-    fputc((int)(n >> 8), file);
-    fputc((int)(n & 0xFF), file);
-    fwrite(data, 1, n, file);
+static void write_message(FILE *file, const uint8_t *data, size_t n) {
+    if (file) fprintf(file, "%c%c", (int)(n >> 8), (int)(n & 0xFF));
+    if (file) fwrite(data, 1, n, file);
 }
 
 /* ---- The line, outwards ---- */
 
-static void datagram(const uint8_t *p, size_t n) /* one that finds no room is a lost one */
-{
+/* One that finds no room is a lost one. */
+static void datagram(const uint8_t *p, size_t n) {
     if (send(fd, p, n, 0) < 0 && errno != EAGAIN && errno != ECONNREFUSED && errno != ENOBUFS)
-        end("send: %s", strerror(errno));
+        end("peer: send: %s", strerror(errno));
 }
 
-static void flush_batch(void)
-{
+static void flush_batch(void) {
     if (!batch_count) return;
     if (!is_udp) {
-        if (out_count + batch_count > ROOM) end("the other end reads nothing");
+        if (out_count + batch_count > ROOM) end("peer: the other end reads nothing");
         memcpy(out + out_count, batch, batch_count);
         out_count += batch_count;
     } else if (!held_count && heard && state == RUN && chance(o_reorder)) {
@@ -214,22 +188,18 @@ static void flush_batch(void)
     batch_limit = 1 + below((unsigned)o_merge);
 }
 
-static void add(const uint8_t *p, size_t n)
-{
+static void add(const void *p, size_t n) {
     memcpy(batch + batch_count, p, n);
     batch_count += n;
 }
 
-static void fill_with(uint8_t byte, size_t n)
-{
-    memset(batch + batch_count, byte, n);
-    batch_count += n;
+static void pad(uint8_t byte, long n) {
+    while (n-- > 0) batch[batch_count++] = byte;
 }
 
-/* Sends a frame, unless what was drawn says otherwise. The data of one that is cut must not have the
-   check 0 at the cut: whole frames after it would then pass as its data. */
-static void put(const uint8_t *frame, size_t n)
-{
+/* Sends a frame, unless what was drawn says otherwise. One isn't cut where the check of its data is
+   0: whole frames after it would pass as the rest of them. */
+static void put(const uint8_t *frame, size_t n) {
     uint8_t copy[LONGEST + 10];
     memcpy(copy, frame, n);
     if (chance(o_loss)) return;
@@ -240,42 +210,35 @@ static void put(const uint8_t *frame, size_t n)
     }
     for (int twice = heard && state == RUN && chance(o_dup); twice >= 0; twice--) {
         if (batch_count + n > 30000) flush_batch();
-        fill_with(SYN, (size_t)o_syn);
+        pad(SYN, o_syn);
         add(copy, n);
-        if (o_del) fill_with(DEL, below((unsigned)o_del + 1));
-        if (o_nul) fill_with(0, below((unsigned)o_nul + 1));
+        pad(DEL, below((unsigned)o_del + 1));
+        pad(0, below((unsigned)o_nul + 1));
         if (++in_batch >= batch_limit) flush_batch();
     }
 }
 
-static uint8_t flag_bits(uint8_t usual)
-{
-    return o_flags ? (uint8_t)(below(4) << 6) : usual;
-}
-
+static uint8_t flags(uint8_t usual) { return o_flags ? (uint8_t)(below(4) << 6) : usual; }
 static uint8_t fill_byte(void) { return o_fill ? (uint8_t)below(256) : 0; }
+static uint8_t address(void) { return (uint8_t)(o_addr < 0 ? (long)below(256) : o_addr); }
 
-static void control(int type, uint8_t sub, uint8_t resp, uint8_t num)
-{
+static void control(int type, uint8_t sub, uint8_t resp, uint8_t num) {
     bool is_start = type == STRT || type == STACK;
     if (type != NAK && o_fill) sub = (uint8_t)below(64);
     if (type == ACK || type == NAK || is_start) num = fill_byte();
     if (type == REP || is_start) resp = fill_byte();
-    uint8_t f[8] = {ENQ, (uint8_t)type, (uint8_t)(sub | flag_bits(is_start ? 0xC0 : 0)), resp, num,
-                    (uint8_t)(o_addr < 0 ? (long)below(256) : o_addr)};
+    sub |= flags(is_start ? 0xC0 : 0);
+    uint8_t f[8] = {ENQ, (uint8_t)type, sub, resp, num, address()};
     seal(f, 6);
     put(f, 8);
 }
 
-static void numbered(uint8_t start, const uint8_t *data, size_t n, uint8_t resp, uint8_t num)
-{
-    uint8_t f[LONGEST + 10] = {start, (uint8_t)n, (uint8_t)(n >> 8 | flag_bits(0)), resp, num,
-                               (uint8_t)(o_addr < 0 ? (long)below(256) : o_addr)};
+static void numbered(uint8_t start, const uint8_t *data, size_t n, uint8_t resp, uint8_t num) {
+    uint8_t high = (uint8_t)(n >> 8 | flags(0));
+    uint8_t f[LONGEST + 10] = {start, (uint8_t)n, high, resp, num, address()};
     seal(f, 6);
-    if (n) {
-        memcpy(f + 8, data, n);
-        seal(f + 8, n);
-    }
+    if (n) memcpy(f + 8, data, n);
+    if (n) seal(f + 8, n);
     put(f, n ? n + 10 : 8);
 }
 
@@ -285,17 +248,15 @@ static void start_timer(void) { timer_at = now_ms() + o_timer; }
 static void stop_timer(void) { timer_at = 0; }
 static void set_nak(int reason) { SNAK = reason; SACK = false; }
 
-static void set_ack(int64_t delay)
-{
+static void set_ack(int64_t delay) {
     if (!SACK || ack_at > now_ms() + delay) ack_at = now_ms() + delay;
     SACK = true;
     SNAK = 0;
 }
 
-static void queue(const uint8_t *data, size_t n)
-{
+static void queue(const uint8_t *data, size_t n) {
     struct message *it = malloc(sizeof *it + n);
-    if (!it) end("out of memory");
+    if (!it) end("peer: out of memory");
     it->next = NULL;
     it->count = n;
     memcpy(it->data, data, n);
@@ -306,17 +267,7 @@ static void queue(const uint8_t *data, size_t n)
     write_message(sent_file, data, n);
 }
 
-static void unqueue(void)
-{
-    struct message *it = first;
-    first = it->next;
-    if (!first) last = &first;
-    free(it);
-    queued--;
-}
-
-static void send_start(void)
-{
+static void send_start(void) {
     if (state == ISTRT)
         for (long i = 0; i < o_strts; i++) control(STRT, 0, 0, 0);
     else if (o_losestack > 0) o_losestack--;
@@ -325,8 +276,7 @@ static void send_start(void)
 }
 
 /* HALT to ISTRT or ASTRT: what the last run left unacknowledged is lost, as its user is told. */
-static void begin(int next)
-{
+static void begin(int next) {
     for (uint8_t sent = (uint8_t)(N - A); sent; sent--, lost++) unqueue();
     R = N = A = X = told = 0;
     T = 1;
@@ -336,16 +286,14 @@ static void begin(int next)
     send_start();
 }
 
-static void run(bool owes_ack)
-{
+static void run(bool owes_ack) {
     state = RUN;
     stop_timer();
     if (owes_ack) set_ack(0);
 }
 
 /* A < RESP <= N: all up to RESP is complete. The timer goes on for what was sent after it. */
-static void take_resp(uint8_t resp)
-{
+static void take_resp(uint8_t resp) {
     uint8_t done = (uint8_t)(resp - A), ahead = (uint8_t)(N - A), next = (uint8_t)(T - 1 - A);
     if (!done || done > ahead) return;
     for (uint8_t i = 0; i < done; i++, acknowledged++) unqueue();
@@ -356,8 +304,7 @@ static void take_resp(uint8_t resp)
     else stop_timer();
 }
 
-static void on_data(const uint8_t *h, const uint8_t *data, size_t n)
-{
+static void on_data(const uint8_t *h, const uint8_t *data, size_t n) {
     static const uint8_t reasons[] = {1, 2, 3, 8, 9, 16, 17, 21};
     if (h[4] != (uint8_t)(R + 1)) return;    /* not the next one: no answer */
     if (n > (size_t)o_max) {
@@ -378,26 +325,25 @@ static void on_data(const uint8_t *h, const uint8_t *data, size_t n)
 }
 
 /* A frame whose header is right. `data` is NULL for a control message. */
-static void on_frame(const uint8_t *h, const uint8_t *data, size_t n)
-{
+static void on_frame(const uint8_t *h, const uint8_t *data, size_t n) {
     int type = h[0] == ENQ ? h[1] : 0;
     quiet_since = now_ms();
     if (chance(o_deaf)) return;
     if (state == RUN && type == STRT) {
         if (!o_again) end_of_line("the other end started again");
         restarts++;
-        state = HALT;
+        state = HALT;                        /* its user is told, and starts it again */
         begin(ISTRT);
-    } else if (state == HALT) {
-        if (type == STRT && now_ms() >= start_at) begin(o_start == DIRECT ? ASTRT : ISTRT);
         return;
     }
     switch (state) {
+    case HALT:
+        if (type == STRT && now_ms() >= start_at) begin(o_start == DIRECT ? ASTRT : ISTRT);
+        return;
     case ASTRT:
         if (type == STRT) send_start();
         else if (type == STACK) run(true);
-        else if (type == ACK && h[3] == 0) run(false);
-        else if (h[0] == SOH && h[3] == 0) run(false);
+        else if ((type == ACK || h[0] == SOH) && h[3] == 0) run(false);
         if (state != RUN || h[0] != SOH) return;
         break;                               /* such data are taken as in RUN */
     case ISTRT:
@@ -407,55 +353,37 @@ static void on_frame(const uint8_t *h, const uint8_t *data, size_t n)
         send_start();
         return;
     }
-    if (type == STACK) {
-        set_ack(0);
-        return;
-    }
-    heard = true;
-    if (h[0] == SOH) {
-        take_resp(h[3]);
-        on_data(h, data, n);
-    } else if (type == ACK) {
-        take_resp(h[3]);
-    } else if (type == NAK) {
-        naks++;
-        if ((uint8_t)(h[3] - A) > (uint8_t)(N - A)) return;
-        take_resp(h[3]);
-        T = (uint8_t)(A + 1);
-        SREP = false;
-        stop_timer();
-    } else if (type == REP) {
-        if (h[4] == R) set_ack(0);
-        else set_nak(3);
-    } else if (h[0] == ENQ) {
-        set_nak(17);
-    }
+    if (type != STACK) heard = true;
+    if (type == STACK || (type == REP && h[4] == R)) set_ack(0);
+    else if (type == REP) set_nak(3);
+    else if (h[0] == ENQ && type != ACK && type != NAK) set_nak(17);
+    else if (h[0] != DLE) take_resp(h[3]);
+    if (h[0] == SOH) on_data(h, data, n);
+    if (type != NAK) return;
+    naks++;
+    if (h[3] != A) return;                   /* outside of A to N */
+    T = (uint8_t)(A + 1);
+    SREP = false;
+    stop_timer();
 }
 
 /* Frames that nobody needs, each by its own chance. */
-static void send_extra(void)
-{
+static void send_extra(void) {
     uint8_t some[LONGEST];
     if (chance(o_stack)) control(STACK, 0, 0, 0);
     if (!heard) return;
     if (chance(o_rep)) control(REP, 0, 0, N);
     if (chance(o_oddresp)) control(below(2) ? ACK : NAK, 2, (uint8_t)(R + 100 + below(50)), 0);
     if (chance(o_oldresp)) control(below(2) ? ACK : NAK, 2, (uint8_t)(R - 20 - below(50)), 0);
-    if (chance(o_junk) && below(2)) control(below(2) ? 4 + (int)below(2) : 8 + (int)below(240), 0, R, 0);
-    else if (chance(o_junk)) numbered(SOH, NULL, 0, R, T);
-    if (chance(o_maint)) {
-        memset(some, 0x4D, 40);
-        numbered(DLE, some, 40, 0, 0);
-    }
-    if (o_toolong && chance(2)) {
-        memset(some, 0x4C, (size_t)o_toolong);
-        numbered(SOH, some, (size_t)o_toolong, R, (uint8_t)(N + 1));
-    }
+    if (chance(o_junk)) control(below(2) ? 4 + (int)below(2) : 8 + (int)below(240), 0, R, 0);
+    if (chance(o_junk)) numbered(SOH, NULL, 0, R, T);
+    memset(some, 0x4D, sizeof some);
+    if (chance(o_maint)) numbered(DLE, some, 40, 0, 0);
+    if (o_toolong && chance(2)) numbered(SOH, some, (size_t)o_toolong, R, (uint8_t)(N + 1));
 }
 
 /* Sends what is to be sent, in the order NAK, REP, data, ACK, while the line has room for it. */
-static void send_frames(void)
-{
+static void send_frames(void) {
     for (int i = 0; i < 8 && state == RUN && out_count + batch_count < ROOM / 4; i++) {
         uint8_t at = (uint8_t)(T - 1 - A);
         if (SNAK) {
@@ -485,8 +413,7 @@ static void send_frames(void)
     flush_batch();
 }
 
-static void on_timer(void)
-{
+static void on_timer(void) {
     stop_timer();
     if (state != RUN) send_start();
     else if (A != N || o_notstopped) SREP = true;
@@ -494,15 +421,13 @@ static void on_timer(void)
 
 /* ---- The line, inwards ---- */
 
-static void bad_header(void)
-{
+static void bad_header(void) {
     if (!out_of_step && state == RUN) set_nak(1);
     out_of_step = true;
     wants_syn = o_framing == FRAMING_SYN;
 }
 
-static void read_frames(void)
-{
+static void read_frames(void) {
     size_t at = 0;
     while (at < in_count) {
         const uint8_t *h = in + at;
@@ -535,20 +460,18 @@ static void read_frames(void)
     memmove(in, in + at, in_count);
 }
 
-static void receive(void)
-{
+static void receive(void) {
     ssize_t n = read(fd, in + in_count, sizeof in / 2);
     if (n < 0 && (errno == EAGAIN || errno == EINTR || (is_udp && errno == ECONNREFUSED))) return;
     if (n <= 0 && !is_udp) end_of_line(n ? strerror(errno) : "the line ended");
-    if (n < 0) end("read: %s", strerror(errno));
+    if (n < 0) end("peer: read: %s", strerror(errno));
     if (n > 0 && chance(o_noise)) in[in_count + below((unsigned)n)] ^= (uint8_t)(1 << below(8));
     in_count += (size_t)n;
     quiet_since = now_ms();
     read_frames();
 }
 
-static void write_out(void)
-{
+static void write_out(void) {
     size_t n = o_chunk ? 1 + below((unsigned)o_chunk) : out_count;
     ssize_t written = write(fd, out, n < out_count ? n : out_count);
     if (written < 0 && errno != EAGAIN && errno != EINTR) end_of_line(strerror(errno));
@@ -557,15 +480,14 @@ static void write_out(void)
     memmove(out, out + written, out_count);
 }
 
-static struct sockaddr_in here(const char *port)
-{
+/* An address of this machine. */
+static struct sockaddr_in here(const char *port) {
     struct sockaddr_in it = {.sin_family = AF_INET, .sin_port = htons((uint16_t)atoi(port))};
     it.sin_addr.s_addr = htonl(INADDR_LOOPBACK);
     return it;
 }
 
-static void open_line(const char *line)
-{
+static void open_line(const char *line) {
     const char *rest = strchr(line, ':');
     struct sockaddr_in a = here(rest ? rest + 1 : "0"), b;
     socklen_t length = sizeof a;
@@ -573,11 +495,12 @@ static void open_line(const char *line)
     if (!strncmp(line, "listen:", 7)) {
         int server = socket(AF_INET, SOCK_STREAM, 0);
         setsockopt(server, SOL_SOCKET, SO_REUSEADDR, &one, sizeof one);
-        if (bind(server, (struct sockaddr *)&a, sizeof a) || listen(server, 1)) end("listen: %s", strerror(errno));
+        if (bind(server, (struct sockaddr *)&a, sizeof a) || listen(server, 1))
+            end("peer: listen: %s", strerror(errno));
         getsockname(server, (struct sockaddr *)&a, &length);
         printf("listening %u\n", ntohs(a.sin_port));
         struct pollfd wait = {.fd = server, .events = POLLIN};
-        if (poll(&wait, 1, (int)o_seconds * 1000) != 1) end("nobody connected");
+        if (poll(&wait, 1, (int)o_seconds * 1000) != 1) end("peer: nobody connected");
         ok = fd = accept(server, NULL, NULL);
         close(server);
     } else if (!strncmp(line, "connect:", 8)) {
@@ -600,43 +523,43 @@ static void open_line(const char *line)
             tcsetattr(fd, TCSANOW, &t);
         }
     } else {
-        end("a line is listen:PORT, connect:PORT, udp:LOCAL,REMOTE or tty:PATH");
+        end("peer: a line is listen:PORT, connect:PORT, udp:LOCAL,REMOTE or tty:PATH");
     }
-    if (ok < 0) end("%s: %s", line, strerror(errno));
+    if (ok < 0) end("peer: %s: %s", line, strerror(errno));
     if (!is_udp) setsockopt(fd, IPPROTO_TCP, TCP_NODELAY, &one, sizeof one);
     fcntl(fd, F_SETFL, O_NONBLOCK);
 }
 
-static void read_key(const char *word)
-{
+static void read_key(const char *word) {
     const char *value = strchr(word, '=');
     size_t n = value ? (size_t)(value - word) : 0;
-    if (value && n == 3 && !strncmp(word, "got", n) && (got_file = fopen(value + 1, "wb"))) return;
-    if (value && n == 4 && !strncmp(word, "sent", n) && (sent_file = fopen(value + 1, "wb"))) return;
+    if (!strncmp(word, "got=", 4) && (got_file = fopen(value + 1, "wb"))) return;
+    if (!strncmp(word, "sent=", 5) && (sent_file = fopen(value + 1, "wb"))) return;
     for (size_t i = 0; value && i < sizeof keys / sizeof *keys; i++)
         if (strlen(keys[i].name) == n && !strncmp(word, keys[i].name, n)) {
             *keys[i].value = strtol(value + 1, NULL, 10);
             return;
         }
-    end("no key %s; see peer help", word);
+    end("peer: no key %s; see peer help", word);
 }
 
-int main(int count, char **words)
-{
+int main(int count, char **words) {
     static const char text[] = "\r\nWelcome to the terminal server\r\nlogin: ";
     static const uint8_t iacs[] = {0xFF, 0xFB, 3, 0xFF, 0xFD, 3, 0xFF, 0xFB, 1, 0xFF, 0xFD, 0};
     setvbuf(stdout, NULL, _IOLBF, 0);
     if (count < 2 || !strcmp(words[1], "help")) {
         puts("peer LINE [key=value ..]; LINE: listen:PORT connect:PORT udp:LOCAL,REMOTE tty:PATH\n"
-             "got=FILE, sent=FILE: what came and what it sent, each message after its length (2 bytes)");
+             "got=FILE, sent=FILE: what came and what it sent, each message after its length");
         for (size_t i = 0; i < sizeof keys / sizeof *keys; i++)
             printf("%-11s %s [%ld]\n", keys[i].name, keys[i].what, *keys[i].value);
         return count < 2;
     }
     for (int i = 2; i < count; i++) read_key(words[i]);
-    if (o_syn > 1000 || o_del > 1000 || o_nul > 1000) end("at most 1000 bytes of fill");
-    if (o_longest > LONGEST || o_toolong > LONGEST) end("at most %d bytes a message", LONGEST);
-    if (o_window > 255 || o_window < 1 || o_merge < 1 || o_longest < 1) end("window, merge or longest");
+    bool fits = o_syn <= 999 && o_del <= 999 && o_nul <= 999 && o_merge > 0 && o_longest > 0;
+    for (size_t i = 0; i < sizeof keys / sizeof *keys; i++)
+        fits = fits && (*keys[i].value >= 0 || keys[i].value == &o_addr);
+    if (!fits || o_longest > LONGEST || o_toolong > LONGEST || o_window > 255 || o_window < 1)
+        end("peer: a value is out of its range");
     drawn = (uint64_t)o_seed * 0x9E3779B97F4A7C15ULL + 1;
     signal(SIGPIPE, SIG_IGN);
     signal(SIGTERM, on_term);
@@ -668,9 +591,8 @@ int main(int count, char **words)
         send_frames();
         if (!was_done && is_done()) {
             was_done = true;
+            fflush(NULL);                    /* the files too, before it says so */
             puts("done");
-            if (got_file) fflush(got_file);
-            if (sent_file) fflush(sent_file);
         }
         if (is_terminated) end_of_line("SIGTERM");
         if (o_linger && is_done() && now >= quiet_since + o_linger) end(NULL);
