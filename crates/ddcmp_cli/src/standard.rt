@@ -7,9 +7,9 @@ use std::io::Eprint;
 use std::net::Net;
 use std::os::fd::AsRawFd;
 
-/// Files that stand in for the standard streams that are closed, for as long as they are kept: so no
-/// file or connection that is opened later gets the number of one of these. Reading the stand-in for
-/// standard input fails, and so does writing those for the outputs.
+/// Files that stand in for the standard streams that are closed, for as long as they are kept: so
+/// no file or connection that is opened later gets the number of one of these. Reading the stand-in
+/// for standard input fails, and so does writing those for the outputs.
 #[derive(Drop)]
 pub struct StandIns {
     files: [Option<File>; 3],

@@ -7,9 +7,9 @@ use std::alloc::{AllocError, Global};
 /// The room that is kept for the line that says how many others were left out.
 const NOTE: usize = 64;
 
-/// Lines that are queued for standard error. Whoever writes a line asks `has_room` first: a line that
-/// finds no room is left out, so that a standard error that isn't read holds nothing up. How many
-/// were left out is said before the next line that finds room.
+/// Lines that are queued for standard error. Whoever writes a line asks `has_room` first: a line
+/// that finds no room is left out, so that a standard error that isn't read holds nothing up. How
+/// many were left out is said before the next line that finds room.
 #[derive(Drop)]
 pub(crate) struct Errors {
     held: Held,

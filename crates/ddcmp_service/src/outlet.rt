@@ -5,8 +5,8 @@ use std::io::{IsTerminal, Write};
 use std::os::fd::AsRawFd;
 use std::os::unix::fs::FileTypeExt;
 
-/// The most bytes of a write that might wait for room for more: a pipe or a socket that is ready has
-/// room for them.
+/// The most bytes of a write that might wait for room for more: a pipe or a socket that is ready
+/// has room for them.
 const SMALL: usize = 4096;
 
 /// Where a text goes.
@@ -57,8 +57,8 @@ impl Outlet {
     }
 }
 
-/// Opens a pipe or a terminal for writing, as one whose writes don't wait. The opening of a pipe would
-/// wait if nobody reads any more, but for a reader of our own, which is closed then.
+/// Opens a pipe or a terminal for writing, as one whose writes don't wait. The opening of a pipe
+/// would wait if nobody reads any more, but for a reader of our own, which is closed then.
 fn open_again<F: Files<File = File>>(files: &F, name: &str) -> Option<File> {
     let mut opening = OpenOptions::new();
     let _reader = opening.read(true).write(true).open(files, name).ok()?;

@@ -1,11 +1,11 @@
 //! When messages that the peer refuses are retransmitted.
 use ddcmp_link::{Counters, Link};
 
-/// The pace of retransmissions. After a NAK the station sends its messages again at once, which mends
-/// what a line has damaged. If a second NAK comes before the peer has acknowledged a message, they
-/// wait for as long as the reply timer would: a peer that refuses a message, as one that is too long
-/// for it, gets at most a window of messages in that time. NAKs in reply to REP don't count, since
-/// REPs come at that pace by themselves.
+/// The pace of retransmissions. After a NAK the station sends its messages again at once, which
+/// mends what a line has damaged. If a second NAK comes before the peer has acknowledged a message,
+/// they wait for as long as the reply timer would: a peer that refuses a message, as one that is
+/// too long for it, gets at most a window of messages in that time. NAKs in reply to REP don't
+/// count, since REPs come at that pace by themselves.
 #[derive(Clone, Copy)]
 pub(crate) struct Pacing {
     timer_ms: u32,

@@ -32,8 +32,8 @@ const LINE_ROOM: usize = 512;
 /// The room for the last lines, with all counters.
 const END_ROOM: usize = 4096;
 
-/// How often standard error may take nothing before what is queued for it is given up. Something else
-/// may end a wait.
+/// How often standard error may take nothing before what is queued for it is given up. Something
+/// else may end a wait.
 const MOST_IDLE: u8 = 3;
 
 /// The bytes of lines for standard error that are queued at most.
@@ -743,8 +743,8 @@ fn put_mail(said: &mut Held, message: &[u8]) {
     let _has_room = said.push(message);
 }
 
-/// Writes what an outlet has room for, if it was opened again: whether it took anything. None if its
-/// owner is to write.
+/// Writes what an outlet has room for, if it was opened again: whether it took anything. None if
+/// its owner is to write.
 fn write_held(outlet: &mut Outlet, held: &mut Held, there: &mut Descriptor) -> Option<bool> {
     let took = outlet.write(held.rest());
     match took {

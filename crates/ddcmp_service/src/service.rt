@@ -28,8 +28,8 @@ const LEAST_PAUSE: u64 = 1;
 
 const MOST_PAUSE: u64 = 30;
 
-/// How long standard error may take nothing at the end of a line, and of a run, in milliseconds, each
-/// of some times.
+/// How long standard error may take nothing at the end of a line, and of a run, in milliseconds,
+/// each of some times.
 const LINE_END_MS: u64 = 20;
 
 const END_MS: u64 = 250;

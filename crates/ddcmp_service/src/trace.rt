@@ -29,8 +29,8 @@ impl Way {
     }
 }
 
-/// A trace of a line. What standard error has no room for is left out, so that no trace holds a link
-/// up.
+/// A trace of a line. What standard error has no room for is left out, so that no trace holds a
+/// link up.
 pub(crate) struct Trace {
     alloc: Global,
     max: u16,
