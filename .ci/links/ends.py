@@ -147,16 +147,18 @@ def peer_closes():
 
 
 def pending_input():
-    """The line ends while two of three messages have no room: all three are lost."""
-    with server() as it:
-        link = Link(f"connect:127.0.0.1:{it.getsockname()[1]}", "--window", "1")
-        peer = Peer(it.accept()[0], no_ack)
-    peer.runs()
-    link.give(b"61\n62\n63\n", close=False)
-    peer.waits(lambda it: it.named("DATA"), 10)
-    time.sleep(0.2)
-    peer.close()
-    wants("window 1", link, 3, "ddcmp: 3 messages lost")
+    """The line ends while two of three messages have no room, read already or not read yet: all three are lost."""
+    for first, rest in ((b"61\n62\n63\n", b""), (b"61\n", b"62\n63\n")):
+        with server() as it:
+            link = Link(f"connect:127.0.0.1:{it.getsockname()[1]}", "--window", "1")
+            peer = Peer(it.accept()[0], no_ack)
+        peer.runs()
+        link.give(first, close=False)
+        peer.waits(lambda it: it.named("DATA"), 10)
+        link.give(rest, close=False)
+        time.sleep(0.2)
+        peer.close()
+        wants(f"window 1, {first} and {rest}", link, 3, "ddcmp: 3 messages lost")
 
 
 def stay():
