@@ -266,6 +266,27 @@ def first_nak():
         link.kill()
 
 
+def pace_of_lines():
+    """With --again, what a peer refused over one line doesn't keep a message from the next."""
+    it = server()
+    link = Link(f"connect:127.0.0.1:{it.getsockname()[1]}", "--again", "--timer-ms", "5000")
+    peer = Peer(it.accept()[0], no_ack)
+    peer.runs()
+    link.give(b"61\n", close=False)
+    for count in (1, 2):
+        peer.waits(lambda it, count=count: len(it.named("DATA")) >= count, 5)
+        peer.send(nak(16, 0))
+    time.sleep(0.3)
+    peer.close()
+    peer = Peer(it.accept()[0], good)
+    peer.runs()
+    link.give(b"62\n", close=False)
+    if not peer.waits(lambda it: it.mail == [b"b"], 2):
+        wrong(f"{peer.mail}")
+    link.kill()
+    it.close()
+
+
 TRIALS = [again, closed_at_once, late_server, server_away, udp_pair, datagrams, cut_datagrams, datagram_names,
-          no_device, pace, first_nak]
+          no_device, pace, first_nak, pace_of_lines]
 LONG_TRIALS = [restarts, longest_pause]

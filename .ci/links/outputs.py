@@ -193,7 +193,7 @@ def errors_unread_again():
 
 
 def stopped(out, read=lambda: None):
-    """A link whose output nobody reads, or of which some is read once, still sends messages: it isn't stuck in a write."""
+    """A link whose output nobody reads, or reads some of once, still sends messages: it isn't stuck in a write."""
     with server() as it:
         link = Link(f"connect:127.0.0.1:{it.getsockname()[1]}", stdout=out)
         peer = Peer(it.accept()[0], good)
