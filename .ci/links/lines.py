@@ -107,6 +107,14 @@ def server_away():
         wrong(f"status {link.run.returncode}: {link.errors()}")
 
 
+def seconds_in_pause():
+    """--seconds ends a link in a pause before its next try."""
+    link = Link(f"connect:127.0.0.1:{free_port()}", "--again", "--seconds", "4")
+    wants("paused", link, 3, "ddcmp: ended", seconds=10)
+    if len(link.errors()) != 4 or link.took > 6:
+        wrong(f"{link.took} s: {link.errors()}")
+
+
 def longest_pause():
     """The pause doubles up to 30 s."""
     link = Link(f"connect:127.0.0.1:{free_port()}", "--again")
@@ -182,6 +190,7 @@ def datagram_names():
     link = Link("udp:127.0.0.1:0,nosuchhost.invalid:1")
     if link.ended(20) != 3 or not link.told.startswith(b"ddcmp: open nosuchhost.invalid:1: "):
         wrong(f"unknown: {link.told}")
+    wants("two families", Link("udp:127.0.0.1:0,[::1]:9"), 3, "ddcmp: open [::1]:9: not of the other address's family")
     for options in ((), ("--again",)):
         link = Link("udp:127.0.0.1:0,255.255.255.255:9", "--seconds", "1", "--timer-ms", "100", *options)
         wants(f"unreachable {options}", link, 3, "ddcmp: ended")
@@ -288,5 +297,5 @@ def pace_of_lines():
 
 
 TRIALS = [again, closed_at_once, late_server, server_away, udp_pair, datagrams, cut_datagrams, datagram_names,
-          no_device, pace, first_nak, pace_of_lines]
+          no_device, pace, first_nak, pace_of_lines, seconds_in_pause]
 LONG_TRIALS = [restarts, longest_pause]
