@@ -1,6 +1,8 @@
 """How a link ends: its status says whether all was delivered."""
 import os
+import signal
 import socket
+import struct
 import subprocess
 import sys
 import time
@@ -8,7 +10,7 @@ import time
 from links import kit
 from links.kit import (Link, binary, connected, example, free_port, holds_within, is_listening, listening, server,
                        tcp_pair, wants, wrong)
-from links.peer import STACK, STRT, Peer, ack, good, header, no_ack, silent
+from links.peer import STACK, STRT, Peer, ack, data, good, header, no_ack, silent
 
 
 def lines_of(link, options):
@@ -147,16 +149,18 @@ def peer_closes():
 
 
 def pending_input():
-    """The line ends while two of three messages have no room: all three are lost."""
-    with server() as it:
-        link = Link(f"connect:127.0.0.1:{it.getsockname()[1]}", "--window", "1")
-        peer = Peer(it.accept()[0], no_ack)
-    peer.runs()
-    link.give(b"61\n62\n63\n", close=False)
-    peer.waits(lambda it: it.named("DATA"), 10)
-    time.sleep(0.2)
-    peer.close()
-    wants("window 1", link, 3, "ddcmp: 3 messages lost")
+    """The line ends while two of three messages have no room, read already or not read yet: all three are lost."""
+    for first, rest in ((b"61\n62\n63\n", b""), (b"61\n", b"62\n63\n")):
+        with server() as it:
+            link = Link(f"connect:127.0.0.1:{it.getsockname()[1]}", "--window", "1")
+            peer = Peer(it.accept()[0], no_ack)
+        peer.runs()
+        link.give(first, close=False)
+        peer.waits(lambda it: it.named("DATA"), 10)
+        link.give(rest, close=False)
+        time.sleep(0.2)
+        peer.close()
+        wants(f"window 1, {first} and {rest}", link, 3, "ddcmp: 3 messages lost")
 
 
 def stay():
@@ -370,7 +374,34 @@ def listener_without_input():
         wrong(f"{link.lines()}")
 
 
+def listener_refuses():
+    """A listener whose whole input is refused ends once it was read."""
+    link = Link("listen:127.0.0.1:0")
+    link.give(b"xy\n")
+    Peer(connected(listening(link)), good)
+    wants("refused", link, 1, "ddcmp: line 1: not hexadecimal", seconds=5)
+
+
+def line_is_reset():
+    """The mail of a line that takes nothing any more is handed out."""
+    with server() as it:
+        link = Link(f"connect:127.0.0.1:{it.getsockname()[1]}")
+        peer = Peer(it.accept()[0], no_ack)
+    peer.runs()
+    link.waits(lambda it: b"Running" in it.said, 10)
+    link.run.send_signal(signal.SIGSTOP)
+    link.give(b"62\n", close=False).join()
+    peer.send(data(b"a", 1))
+    peer.sock.setsockopt(socket.SOL_SOCKET, socket.SO_LINGER, struct.pack("ii", 1, 0))
+    peer.close()
+    time.sleep(0.2)
+    link.run.send_signal(signal.SIGCONT)
+    wants("reset", link, 3, "ddcmp: 1 message lost")
+    if link.mails() != [b"a"]:
+        wrong(f"{link.lines()}")
+
+
 TRIALS = [lost, lost_on_each_line, lost_at_a_restart, peer_restarts, bytes_of_an_old_line, failed_input, peer_closes,
           pending_input, stay, again_ends, examples, one_example, seconds, seconds_unfinished, seconds_in_each_state, no_line,
-          timer_of_nothing, callers, listener_without_input]
+          timer_of_nothing, callers, listener_without_input, listener_refuses, line_is_reset]
 LONG_TRIALS = [many_examples]

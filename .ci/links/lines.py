@@ -107,6 +107,14 @@ def server_away():
         wrong(f"status {link.run.returncode}: {link.errors()}")
 
 
+def seconds_in_pause():
+    """--seconds ends a link in a pause before its next try."""
+    link = Link(f"connect:127.0.0.1:{free_port()}", "--again", "--seconds", "4")
+    wants("paused", link, 3, "ddcmp: ended", seconds=10)
+    if len(link.errors()) != 4 or link.took > 6:
+        wrong(f"{link.took} s: {link.errors()}")
+
+
 def longest_pause():
     """The pause doubles up to 30 s."""
     link = Link(f"connect:127.0.0.1:{free_port()}", "--again")
@@ -182,6 +190,7 @@ def datagram_names():
     link = Link("udp:127.0.0.1:0,nosuchhost.invalid:1")
     if link.ended(20) != 3 or not link.told.startswith(b"ddcmp: open nosuchhost.invalid:1: "):
         wrong(f"unknown: {link.told}")
+    wants("two families", Link("udp:127.0.0.1:0,[::1]:9"), 3, "ddcmp: open [::1]:9: not of the other address's family")
     for options in ((), ("--again",)):
         link = Link("udp:127.0.0.1:0,255.255.255.255:9", "--seconds", "1", "--timer-ms", "100", *options)
         wants(f"unreachable {options}", link, 3, "ddcmp: ended")
@@ -266,6 +275,27 @@ def first_nak():
         link.kill()
 
 
+def pace_of_lines():
+    """With --again, what a peer refused over one line doesn't keep a message from the next."""
+    it = server()
+    link = Link(f"connect:127.0.0.1:{it.getsockname()[1]}", "--again", "--timer-ms", "5000")
+    peer = Peer(it.accept()[0], no_ack)
+    peer.runs()
+    link.give(b"61\n", close=False)
+    for count in (1, 2):
+        peer.waits(lambda it, count=count: len(it.named("DATA")) >= count, 5)
+        peer.send(nak(16, 0))
+    time.sleep(0.3)
+    peer.close()
+    peer = Peer(it.accept()[0], good)
+    peer.runs()
+    link.give(b"62\n", close=False)
+    if not peer.waits(lambda it: it.mail == [b"b"], 2):
+        wrong(f"{peer.mail}")
+    link.kill()
+    it.close()
+
+
 TRIALS = [again, closed_at_once, late_server, server_away, udp_pair, datagrams, cut_datagrams, datagram_names,
-          no_device, pace, first_nak]
+          no_device, pace, first_nak, pace_of_lines, seconds_in_pause]
 LONG_TRIALS = [restarts, longest_pause]

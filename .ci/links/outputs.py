@@ -62,16 +62,17 @@ def closed_output():
 
 
 def idle():
-    """An idle link uses no processor time that can be measured."""
-    one, two = tcp_pair((), ())
-    one.waits(lambda it: b"Running" in it.said, 10)
-    time.sleep(0.2)
-    before = one.processor_time()
-    time.sleep(1.5)
-    if one.processor_time() - before > 0.02:
-        wrong(f"{one.processor_time() - before} s")
-    for it in (one, two):
-        it.kill()
+    """An idle link uses no processor time that can be measured, with a limit of time too."""
+    for options in ((), ("--seconds", "60")):
+        one, two = tcp_pair(options, ())
+        one.waits(lambda it: b"Running" in it.said, 10)
+        time.sleep(0.2)
+        before = one.processor_time()
+        time.sleep(1.5)
+        if one.processor_time() - before > 0.02:
+            wrong(f"{options}: {one.processor_time() - before} s")
+        for it in (one, two):
+            it.kill()
 
 
 def junk():
@@ -191,8 +192,8 @@ def errors_unread_again():
     one.link.kill()
 
 
-def stopped(out):
-    """A link whose output nobody reads still sends messages: it isn't stuck in a write."""
+def stopped(out, read=lambda: None):
+    """A link whose output nobody reads, or reads some of once, still sends messages: it isn't stuck in a write."""
     with server() as it:
         link = Link(f"connect:127.0.0.1:{it.getsockname()[1]}", stdout=out)
         peer = Peer(it.accept()[0], good)
@@ -200,6 +201,8 @@ def stopped(out):
     for number in range(1, 250):
         peer.send(data(b"x" * 1000, number))
         time.sleep(0.004)
+    time.sleep(0.3)
+    read()
     time.sleep(0.3)
     link.give(b"6162\n", close=False)
     if not peer.waits(lambda it: it.mail == [b"ab"], 3):
@@ -209,7 +212,8 @@ def stopped(out):
 
 def stopped_output():
     near, far = socket.socketpair()
-    stopped(far.fileno())
+    far.setsockopt(socket.SOL_SOCKET, socket.SO_SNDBUF, 8192)
+    stopped(far.fileno(), lambda: near.recv(1 << 16))
     near.close()
 
 

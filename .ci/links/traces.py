@@ -143,24 +143,25 @@ def trace_fill():
 
 
 def trace_of_lines():
-    """With --again offsets restart with each line, and the junk at the end of a line is reported."""
-    it = server()
-    link = Link(f"connect:127.0.0.1:{it.getsockname()[1]}", "--trace", "--again")
-    for _ in range(2):
-        peer = Peer(it.accept()[0], good)
-        peer.runs()
-        peer.send(b"junk!")
-        time.sleep(0.3)
-        peer.close()
-    link.waits(lambda it: it.told.count(b"discarded 5") == 2, 5)
-    told = link.errors()
-    for mark, first in ((">", "0 STRT "), ("<", "0 STACK ")):
-        if sum(it.startswith(first) for it in of_way(told, mark)) < 2:
-            wrong(f"offsets of {mark}: {told}")
-    if sum(it == "8 discarded 5" for it in of_way(told, "<")) != 2:
-        wrong(f"junk: {told}")
-    link.kill()
-    it.close()
+    """With --again offsets restart with each line, and the junk at the end of a line is reported; with --binary too."""
+    for options in ((), ("--binary",)):
+        it = server()
+        link = Link(f"connect:127.0.0.1:{it.getsockname()[1]}", "--trace", "--again", *options)
+        for _ in range(2):
+            peer = Peer(it.accept()[0], good)
+            peer.runs()
+            peer.send(b"junk!")
+            time.sleep(0.3)
+            peer.close()
+        link.waits(lambda it: it.told.count(b"discarded 5") == 2, 5)
+        told = link.errors()
+        for mark, first in ((">", "0 STRT "), ("<", "0 STACK ")):
+            if sum(it.startswith(first) for it in of_way(told, mark)) < 2:
+                wrong(f"{options}: offsets of {mark}: {told}")
+        if sum(it == "8 discarded 5" for it in of_way(told, "<")) != 2:
+            wrong(f"{options}: junk: {told}")
+        link.kill()
+        it.close()
 
 
 def trace_of_long_frames():
