@@ -333,7 +333,8 @@ def without(numbers):
             run.wait()
             if peer and peer.reader.junk:
                 wrong(f"{words} without {closed}: {peer.reader.junk[:60]}")
-        if (called.bytes, caller.bytes) not in ((STRT, rep(3)), (b"", b"")):
+        # A tap that can't log what it forwards ends, maybe between the two.
+        if called.bytes not in (STRT, b"") or caller.bytes not in (rep(3), b""):
             wrong(f"tap without {closed}: {called.bytes} {caller.bytes}")
         for sock in (it, far):
             sock.close()
@@ -368,6 +369,5 @@ def closed_ends():
 
 
 TRIALS = [slow_reader, closed_output, idle, junk, errors_unread, errors_unread_and_timer, errors_unread_again,
-          stopped_output, stopped_terminal, stopped_device, full_output, closed_one_or_two, closed_errors,
-          closed_ends]
-LONG_TRIALS = []
+          stopped_output, stopped_terminal, full_output, closed_one_or_two, closed_errors, closed_ends]
+LONG_TRIALS = [stopped_device]  # its system may have room for less than the piece that a device is given at once
