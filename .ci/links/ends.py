@@ -9,7 +9,7 @@ import time
 
 from links import kit
 from links.kit import (Link, binary, connected, example, free_port, holds_within, is_listening, listening, server,
-                       tcp_pair, wants, wrong)
+                       tcp_pair, terminals, wants, wrong)
 from links.peer import STACK, STRT, Peer, ack, data, good, header, no_ack, silent
 
 
@@ -226,6 +226,22 @@ def one_example():
     peer.kill()
 
 
+def serial_example():
+    """The same program at a serial device."""
+    with terminals() as ends:
+        if not ends:
+            return
+        peer = Link(f"device:{ends[1]}", "--binary", "--stay")
+        code = example().replace("connect:127.0.0.1:7000", f"device:{ends[0]}")
+        run = subprocess.Popen([sys.executable, "-c", code], stdout=subprocess.PIPE, text=True)
+        peer.waits(lambda it: len(it.said) == 7, 20)
+        peer.give(peer.said, close=False)
+        said = run.communicate(timeout=20)[0]
+        if said != "b'hello'\ndelivered\n":
+            wrong(said)
+        peer.kill()
+
+
 def seconds():
     """--seconds with all acknowledged, without and with --stay; no busy loop."""
     links = []
@@ -402,6 +418,7 @@ def line_is_reset():
 
 
 TRIALS = [lost, lost_on_each_line, lost_at_a_restart, peer_restarts, bytes_of_an_old_line, failed_input, peer_closes,
-          pending_input, stay, again_ends, examples, one_example, seconds, seconds_unfinished, seconds_in_each_state, no_line,
-          timer_of_nothing, callers, listener_without_input, listener_refuses, line_is_reset]
+          pending_input, stay, again_ends, examples, one_example, serial_example, seconds, seconds_unfinished,
+          seconds_in_each_state, no_line, timer_of_nothing, callers, listener_without_input, listener_refuses,
+          line_is_reset]
 LONG_TRIALS = [many_examples]

@@ -44,6 +44,8 @@ def closed_at_once():
         if not 2 <= count <= 3 or link.processor_time() > 0.5:
             wrong(f"{count} connections, {link.processor_time()} s of processor time")
         link.kill()
+        if link.errors()[:2] != [f"ddcmp: line ended; retry in {it} s" for it in (1, 2)][:count]:
+            wrong(f"{link.errors()}")
         it.close()
     link = Link("device:/dev/null", "--again", "--seconds", "2", stdin=subprocess.DEVNULL)
     link.ended(10)

@@ -127,15 +127,15 @@ class Unread:
 
 
 def errors_unread():
-    """20,000 messages in binary while nobody reads the standard errors of both ends; then each end ends. Where they
+    """8,000 messages in binary while nobody reads the standard errors of both ends; then each end ends. Where they
     are read before the end, what was left out is counted."""
     for options, is_read in ((("--binary",), False), (("--binary",), True), (("--binary", "--trace"), False)):
         one = Unread("listen:127.0.0.1:0", *options, "--stay", "--inbox", "127")
         two = Unread(f"connect:127.0.0.1:{one.port()}", *options, "--window", "127")
-        sent = [b"%05d" % it for it in range(20000)]
+        sent = [b"%05d" % it for it in range(8000)]
         two.link.give(binary(sent), close=False)
-        if not one.link.waits(lambda it: len(it.said) >= 7 * 20000, 30) or unpacked(one.link.said) != sent:
-            wrong(f"{options}: {len(one.link.said) // 7} of 20000 messages")
+        if not one.link.waits(lambda it: len(it.said) >= 7 * 8000, 30) or unpacked(one.link.said) != sent:
+            wrong(f"{options}: {len(one.link.said) // 7} of 8000 messages")
         if is_read:
             one.read()
             two.read()
@@ -147,7 +147,7 @@ def errors_unread():
         if is_read:
             count, gaps = left_out(one.lines())
             seen = sum(it.startswith("notice ") for it in one.lines())
-            if not gaps or not 20000 <= seen + count <= 20003:
+            if not gaps or not 8000 <= seen + count <= 8003:
                 wrong(f"{seen} notices and {count} left out in {gaps} gaps")
 
 
@@ -280,6 +280,51 @@ def full_output():
         it.close()
 
 
+def seconds_unread():
+    """--seconds ends a link whose output nobody reads, says so, and isn't a success."""
+    for options in ((), ("--again",)):
+        reading, writing = os.pipe()
+        with server() as it:
+            link = Link(f"connect:127.0.0.1:{it.getsockname()[1]}", "--stay", "--seconds", "2", *options, stdout=writing)
+            os.close(writing)
+            peer = Peer(it.accept()[0], good)
+        peer.runs()
+        for number in range(1, 60):
+            peer.send(data(b"x" * 1500, number))
+            time.sleep(0.004)
+        if options:
+            time.sleep(0.3)
+            peer.close()
+        if link.ended(8) != 3 or link.took > 6:
+            wrong(f"{options}: status {link.run.returncode} after {link.took} s")
+        if "ddcmp: standard output isn't read: received messages are lost" not in link.errors():
+            wrong(f"{options}: {link.errors()}")
+        os.close(reading)
+
+
+def seconds_slow():
+    """--seconds drops nothing of an output that is read slowly."""
+    reading, writing = os.pipe()
+    with server() as it:
+        link = Link(f"connect:127.0.0.1:{it.getsockname()[1]}", "--stay", "--seconds", "2", stdout=writing)
+        os.close(writing)
+        peer = Peer(it.accept()[0], good)
+    peer.runs()
+    sent = [drawn.randbytes(1500) for _ in range(60)]
+    for number, message in enumerate(sent, 1):
+        peer.send(data(message, number))
+        time.sleep(0.004)
+    out = b""
+    while piece := os.read(reading, 4096):
+        out += piece
+        time.sleep(0.05)
+    mails = [bytes.fromhex(it[5:].decode()) for it in out.split(b"\n")[:-1] if it.startswith(b"mail ")]
+    if mails != sent[:len(mails)] or len(mails) < 40 or not out.split(b"\n")[-2].startswith(b"state="):
+        wrong(f"{len(mails)} messages, {out[-100:]}")
+    if link.ended(5) != 0:
+        wrong(f"status {link.run.returncode}: {link.errors()}")
+
+
 def start_closed(words, closed):
     """A program that is started with these descriptors closed, and the others to nothing."""
     def close():
@@ -369,5 +414,6 @@ def closed_ends():
 
 
 TRIALS = [slow_reader, closed_output, idle, junk, errors_unread, errors_unread_and_timer, errors_unread_again,
-          stopped_output, stopped_terminal, full_output, closed_one_or_two, closed_errors, closed_ends]
-LONG_TRIALS = [stopped_device]  # its system may have room for less than the piece that a device is given at once
+          stopped_output, stopped_terminal, stopped_device, full_output, seconds_unread, seconds_slow,
+          closed_one_or_two, closed_errors, closed_ends]
+LONG_TRIALS = []

@@ -6,9 +6,6 @@ use std::fs::File;
 use std::io::{self, ErrorKind, Read, Write};
 use std::net::SocketAddr;
 
-/// The most bytes that a serial device is given at once: so few that the write doesn't wait long.
-const DEVICE_PIECE: usize = 64;
-
 /// A line that is open.
 pub(crate) enum Line {
     Stream(TcpStream),
@@ -114,10 +111,7 @@ impl Line {
             Line::Datagrams(socket, remote) => {
                 sent_by(socket.send_to(bytes, *remote), bytes.len())
             }
-            Line::Device(file) => {
-                let n = bytes.len().min(DEVICE_PIECE);
-                moved_by(file.write(&bytes[..n]))
-            }
+            Line::Device(file) => moved_by(file.write(bytes)),
         };
         waiting.line_was_written(took == Moved::Nothing);
         took

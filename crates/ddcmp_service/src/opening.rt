@@ -286,7 +286,8 @@ fn bind<N: Net>(net: &N, waiting: &mut Waiting, local: SocketAddr) -> io::Result
     Ok(socket)
 }
 
-/// Opens a character device and locks it; nothing else is opened for writing.
+/// Opens a character device, whose reads and writes don't wait, and locks it; nothing else is
+/// opened for writing.
 fn device<S: Files<File = File>>(
     files: &S,
     waiting: &mut Waiting,
@@ -308,6 +309,9 @@ fn device<S: Files<File = File>>(
     };
     if let Err(TryLockError::WouldBlock) = file.try_lock() {
         return Err(refused(Cause::InUse));
+    }
+    if os::set_nonblocking(file.as_raw_fd(), true) < 0 {
+        return Err(refused(Cause::System(ErrorKind::Other)));
     }
     waiting.add_device(file.as_raw_fd());
     Ok(Opened::Line(Line::Device(file)))

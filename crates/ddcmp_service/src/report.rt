@@ -10,6 +10,10 @@ pub(crate) enum Event<'a> {
     Connected(SocketAddr),
     /// The line couldn't be opened, and is tried again after so many seconds.
     Retry(NotOpened<'a>, u64),
+    /// The line ended before its station ran, and is opened again after so many seconds.
+    Ended(u64),
+    /// Standard output took nothing after the time of the run was over.
+    Unread,
 }
 
 impl fmt::Display for Event<'_> {
@@ -18,6 +22,10 @@ impl fmt::Display for Event<'_> {
             Event::Listening(addr) => write!(f, "listening {addr}\n"),
             Event::Connected(addr) => write!(f, "connected {addr}\n"),
             Event::Retry(fault, seconds) => write!(f, "ddcmp: {fault}; retry in {seconds} s\n"),
+            Event::Ended(seconds) => write!(f, "ddcmp: line ended; retry in {seconds} s\n"),
+            Event::Unread => {
+                f.write_str("ddcmp: standard output isn't read: received messages are lost\n")
+            }
         }
     }
 }

@@ -13,8 +13,9 @@ use crate::trace::{Trace, Way};
 use crate::waiting::{Descriptor, Waiting, Wanted};
 use ddcmp_frame::{Reader, ReaderRefusal};
 use ddcmp_io::text::{write_hex, write_number};
-use ddcmp_io::{Got, Page, Sink, Source, Worst, write_all};
+use ddcmp_io::{Got, Page, Sink, Source, Worst};
 use ddcmp_link::{Link, Notice, State};
+use ddcmp_station::Clock;
 use ddcmp_station_text::{state_name, write_counters, write_notice};
 use std::alloc::{AllocError, Global};
 use std::fmt::Write;
@@ -32,9 +33,12 @@ const LINE_ROOM: usize = 512;
 /// The room for the last lines, with all counters.
 const END_ROOM: usize = 4096;
 
-/// How often standard error may take nothing before what is queued for it is given up. Something
-/// else may end a wait.
+/// How often an output may take nothing before what is queued for it is given up. Something else
+/// may end a wait.
 const MOST_IDLE: u8 = 3;
+
+/// How long an output may take nothing at the end of a run, in milliseconds, each of these times.
+pub(crate) const END_MS: u64 = 250;
 
 /// The bytes of lines for standard error that are queued at most.
 const ERRORS_ROOM: usize = 65536;
@@ -642,42 +646,57 @@ impl Desk {
         }
     }
 
-    /// Feeds all that the line gave before it ended, however long standard output takes.
-    pub(crate) fn feed_all<W: Sink>(&mut self, writer: &mut W) -> Result<(), Stop> {
-        for _page in 0..u64::MAX {
-            let fed = self.feed();
-            self.hand_all(writer)?;
-            match fed {
-                Ok(true) => {}
-                Ok(false) | Err(Stop::Line) => break,
-                Err(stop) => return Err(stop),
-            }
-        }
-        Ok(())
-    }
-
-    /// Hands all mail out, and writes it, however long standard output takes.
-    pub(crate) fn hand_all<W: Sink>(&mut self, writer: &mut W) -> Result<(), Stop> {
-        for _page in 0..u64::MAX {
+    /// Writes all received messages and what else is queued for standard output. Once the run's
+    /// `end` has come, it gives up if nothing is taken for some times `END_MS` milliseconds.
+    pub(crate) fn drain_output<W: Sink, C: Clock>(
+        &mut self,
+        writer: &mut W,
+        waiting: &mut Waiting,
+        clock: &mut C,
+        end: u64,
+    ) -> Result<(), Stop> {
+        let mut idle = 0;
+        for _write in 0..u64::MAX {
             self.hand_mail();
             if self.said.is_empty() {
                 break;
             }
-            write_whole(writer, self.said.rest())?;
-            self.said.clear();
+            if self.write_output(writer, waiting)? {
+                idle = 0;
+                continue;
+            }
+            let left = end.saturating_sub(clock.now());
+            if left == 0 {
+                idle += 1;
+            }
+            if idle > MOST_IDLE || !waiting.wait(Wanted::OUTPUT, left.max(END_MS)) {
+                return Err(Stop::Time);
+            }
         }
         Ok(())
     }
 
-    /// Hands all mail out, and writes the last lines, however long standard output takes.
-    pub(crate) fn finish<W: Sink>(&mut self, writer: &mut W, counters: bool) -> Result<(), Stop> {
-        let handed = self.hand_all(writer);
+    /// Writes all received messages and the last lines, as `drain_output` does.
+    pub(crate) fn finish<W: Sink, C: Clock>(
+        &mut self,
+        writer: &mut W,
+        waiting: &mut Waiting,
+        clock: &mut C,
+        end: u64,
+        counters: bool,
+    ) -> Result<(), Stop> {
+        let drained = self.drain_output(writer, waiting, clock, end);
         if let Some(trace) = &mut self.trace {
             trace.end(&mut self.noted);
         }
-        handed?;
+        if let Err(stop) = drained {
+            if matches!(stop, Stop::Time) {
+                self.tell_event(&Event::Unread);
+            }
+            return Err(stop);
+        }
         self.tell_end(counters);
-        write_whole(writer, self.said.rest())
+        self.drain_output(writer, waiting, clock, end)
     }
 
     /// The last lines.
@@ -812,15 +831,4 @@ fn write_end(lines: &mut Held, link: &Link, counters: bool) {
     }
     page.write(lines, b"\n");
     let _has_room = page.flush(lines);
-}
-
-/// Writes bytes, however long that takes.
-fn write_whole<W: Sink>(writer: &mut W, bytes: &[u8]) -> Result<(), Stop> {
-    if writer.failed() {
-        return Err(Stop::Write);
-    }
-    match write_all(writer, bytes) {
-        Ok(()) => Ok(()),
-        Err(_failed) => Err(Stop::Write),
-    }
 }

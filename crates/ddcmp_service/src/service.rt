@@ -8,7 +8,7 @@ use crate::messages::{Form, Messages};
 use crate::opening::{OpenRefusal, Opened, Opener};
 use crate::outlet::Outlet;
 use crate::report::Event;
-use crate::running::{Desk, Kept, MOST_TEXT, Stop, Streams};
+use crate::running::{Desk, END_MS, Kept, MOST_TEXT, Stop, Streams};
 use crate::system::System;
 use crate::trace::Trace;
 use crate::waiting::{Waiting, Wanted};
@@ -28,11 +28,9 @@ const LEAST_PAUSE: u64 = 1;
 
 const MOST_PAUSE: u64 = 30;
 
-/// How long standard error may take nothing at the end of a line, and of a run, in milliseconds,
-/// each of some times.
+/// How long standard error may take nothing at the end of a line, in milliseconds, each of some
+/// times.
 const LINE_END_MS: u64 = 20;
-
-const END_MS: u64 = 250;
 
 /// How a service runs.
 #[derive(Clone, Copy, Debug, PartialEq, Eq)]
@@ -89,7 +87,7 @@ impl Moments {
     fn at(now: u64, options: &Options<'_>) -> Moments {
         Moments {
             now,
-            end: options.seconds as u64 * 1000,
+            end: end_of(options),
         }
     }
 
@@ -104,6 +102,11 @@ impl Moments {
             .min(self.end)
             .saturating_sub(self.now)
     }
+}
+
+/// When a service that runs so ends, in milliseconds since it began.
+fn end_of(options: &Options<'_>) -> u64 {
+    options.seconds as u64 * 1000
 }
 
 /// The pause before a line is opened again.
@@ -257,26 +260,29 @@ where
 }
 
 /// Leaves a line that has ended: what came over it is written, and what was lost is reported.
-fn leave_line<E: Eprint, W: Sink>(
+fn leave_line<E: Eprint, W: Sink, C: Clock>(
     errors: &E,
+    options: &Options<'_>,
     desk: &mut Desk,
     waiting: &mut Waiting,
+    clock: &mut C,
     writer: &mut W,
 ) -> Result<(), Stop> {
     desk.tell_lost();
     desk.forget_line();
     waiting.forget_line();
-    desk.hand_all(writer)?;
+    desk.drain_output(writer, waiting, clock, end_of(options))?;
     desk.drain_errors(errors, waiting, LINE_END_MS);
     Ok(())
 }
 
 /// Runs the link over one line after the other, until all is delivered or a line ends for good.
-fn run_lines<S: System, R: Source, W: Sink>(
+fn run_lines<S: System, C: Clock, R: Source, W: Sink>(
     system: &S,
     options: &Options<'_>,
     desk: &mut Desk,
     waiting: &mut Waiting,
+    clock: &mut C,
     reader: &mut R,
     writer: &mut W,
 ) -> Result<(), Ended> {
@@ -284,7 +290,6 @@ fn run_lines<S: System, R: Source, W: Sink>(
     if let Err(refused) = begin_listening(system, &mut opener, desk, waiting) {
         return Err(Ended::NotOpened(refused));
     }
-    let mut clock = Elapsed::new(system);
     let mut pause = Pause::NONE;
     for _line in 0..u64::MAX {
         let opened = open_line(
@@ -293,7 +298,7 @@ fn run_lines<S: System, R: Source, W: Sink>(
             &mut opener,
             desk,
             waiting,
-            &mut clock,
+            clock,
             &mut pause,
         );
         let mut line = match opened {
@@ -312,7 +317,7 @@ fn run_lines<S: System, R: Source, W: Sink>(
             desk,
             &mut line,
             waiting,
-            &mut clock,
+            clock,
             reader,
             writer,
             is_listening,
@@ -324,19 +329,17 @@ fn run_lines<S: System, R: Source, W: Sink>(
         if !matches!(stop, Stop::Line) {
             return Err(Ended::Stopped(stop));
         }
-        if let Err(stop) = desk.feed_all(writer) {
-            return Err(Ended::Stopped(stop));
-        }
         if !options.again && !(is_listening && !desk.peer_has_started) {
             return Err(Ended::Stopped(Stop::Line));
         }
-        if let Err(stop) = leave_line(system, desk, waiting, writer) {
+        if let Err(stop) = leave_line(system, options, desk, waiting, clock, writer) {
             return Err(Ended::Stopped(stop));
         }
         if desk.has_run_here {
             pause = Pause::NONE;
         } else if !is_listening {
             pause.grow(clock.now());
+            desk.tell_event(&Event::Ended(pause.seconds));
         }
     }
     Err(Ended::Stopped(Stop::Line))
@@ -411,16 +414,18 @@ fn serve<S: System, R: Source, W: Sink>(
     reader: &mut R,
     writer: &mut W,
 ) -> Result<Served, Ended> {
-    let ran = run_lines(system, options, desk, waiting, reader, writer);
+    let mut clock = Elapsed::new(system);
+    let ran = run_lines(system, options, desk, waiting, &mut clock, reader, writer);
     let ended = judge(desk, waiting, reader, ran);
     desk.link.halt();
-    // A fault of the output is seen at the writer.
-    let _written = desk.finish(writer, options.counters);
+    let counters = options.counters;
+    let finished = desk.finish(writer, waiting, &mut clock, end_of(options), counters);
     desk.drain_errors(system, waiting, END_MS);
-    match ended {
-        Ok(()) if desk.was_refused => Ok(Served::SomeRefused),
-        Ok(()) => Ok(Served::Delivered),
-        Err(ended) => Err(ended),
+    match (ended, finished) {
+        (Err(ended), _) => Err(ended),
+        (Ok(()), Err(stop)) => Err(Ended::Stopped(stop)),
+        (Ok(()), Ok(())) if desk.was_refused => Ok(Served::SomeRefused),
+        (Ok(()), Ok(())) => Ok(Served::Delivered),
     }
 }
 

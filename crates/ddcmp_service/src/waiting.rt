@@ -130,6 +130,14 @@ impl Wanted {
         to_line: false,
     };
 
+    pub(crate) const OUTPUT: Wanted = Wanted {
+        input: false,
+        output: true,
+        errors: false,
+        from_line: false,
+        to_line: false,
+    };
+
     pub(crate) const ERRORS: Wanted = Wanted {
         input: false,
         output: false,
