@@ -52,9 +52,7 @@ fn explain_command<'a>(alloc: Global) -> clap::Command<'a>
     ensures app { app_of result ≡ new_app (codes "explain") }
     ensures local { (fields_of result).has_globals ≡ false }
 {
-    clap::Command::new(alloc, "explain").about(
-        "Says what the bytes of a line are, read from a file or from standard input",
-    )
+    clap::Command::new(alloc, "explain").about("Decode captured bytes of a line")
 }
 
 /// The options of `explain`.
@@ -63,31 +61,31 @@ static EXPLAIN_OPTIONS: [CommandOption; 6] = [
         name: "file",
         takes: Takes::Place("FILE"),
         is_required: false,
-        help: "The file to read; standard input where it is left out or -",
+        help: "File to read; standard input if left out or -",
     },
     CommandOption {
         name: "raw",
         takes: Takes::Nothing,
         is_required: false,
-        help: "Read bytes as they are, not hexadecimal digits",
+        help: "Read raw bytes, not hexadecimal digits",
     },
     CommandOption {
         name: "from",
-        takes: Takes::Text("hexdump"),
+        takes: Takes::Text("FORMAT"),
         is_required: false,
-        help: "Read a dump of hexdump -C, xxd or od -A x -t x1",
+        help: "Read hexdump: the output of hexdump -C, xxd or od -A x -t x1",
     },
     CommandOption {
         name: "json",
         takes: Takes::Nothing,
         is_required: false,
-        help: "Write an object of JSON in each line",
+        help: "Print one JSON object per line",
     },
     CommandOption {
         name: "discarded",
         takes: Takes::Nothing,
         is_required: false,
-        help: "Tell bytes that were passed over too, and the frame that is unfinished",
+        help: "Also report skipped bytes and an unfinished frame",
     },
     CommandOption {
         name: "max",
@@ -96,7 +94,7 @@ static EXPLAIN_OPTIONS: [CommandOption; 6] = [
             high: MAX_COUNT as u32,
         },
         is_required: false,
-        help: "The most bytes of data that a frame may have, 1 to 16383; 16383 by default",
+        help: "Longest data of a frame in bytes, 1 to 16383 [default: 16383]",
     },
 ];
 
@@ -116,7 +114,7 @@ static SIZE_OPTIONS: [CommandOption; 5] = [
             high: MAX_WINDOW as u32,
         },
         is_required: false,
-        help: "The most messages sent and not yet acknowledged, 1 to 255; 7 by default",
+        help: "Most messages sent and not acknowledged, 1 to 255 [default: 7]",
     },
     CommandOption {
         name: "inbox",
@@ -125,7 +123,7 @@ static SIZE_OPTIONS: [CommandOption; 5] = [
             high: MAX_INBOX as u32,
         },
         is_required: false,
-        help: "The most messages that came and were not yet taken, 1 to 255; 8 by default",
+        help: "Most messages received and not taken, 1 to 255 [default: 8]",
     },
     CommandOption {
         name: "max",
@@ -134,7 +132,7 @@ static SIZE_OPTIONS: [CommandOption; 5] = [
             high: MAX_COUNT as u32,
         },
         is_required: false,
-        help: "The most bytes of a message, 1 to 16383; 1500 by default",
+        help: "Longest message in bytes, 1 to 16383 [default: 1500]",
     },
     CommandOption {
         name: "syn",
@@ -143,13 +141,13 @@ static SIZE_OPTIONS: [CommandOption; 5] = [
             high: MAX_SYN as u32,
         },
         is_required: false,
-        help: "How many SYN bytes go before each frame, 0 to 16; 0 by default",
+        help: "SYN bytes before each frame, 0 to 16 [default: 0]",
     },
     CommandOption {
         name: "restart",
         takes: Takes::Nothing,
         is_required: false,
-        help: "An end that runs begins anew where its peer does, if no message waits to be taken",
+        help: "Restart when the peer restarts, if no received message is waiting",
     },
 ];
 
@@ -166,19 +164,19 @@ static VIEW_OPTIONS: [CommandOption; 3] = [
         name: "svg",
         takes: Takes::Nothing,
         is_required: false,
-        help: "Draw the run as a document in SVG, in place of the text",
+        help: "Draw the run as an SVG document",
     },
     CommandOption {
         name: "ladder",
         takes: Takes::Nothing,
         is_required: false,
-        help: "Draw the run as a ladder of text, in place of the text",
+        help: "Draw the run as a ladder of text",
     },
     CommandOption {
         name: "counters",
         takes: Takes::Nothing,
         is_required: false,
-        help: "Write what both stations have counted, before the last line",
+        help: "Print the counters of both stations before the last line",
     },
 ];
 
@@ -192,23 +190,23 @@ fn with_view<'a>(parser: Parser<'a>) -> Parser<'a>
 /// The lines of a script, for a newcomer.
 fn script_help() -> &'static str {
     "\
-Lines of a script, where E is A or B:
-  start E        the station at E starts
-  halt E         it is halted
-  send E HEX     it is given a message to send, in hexadecimal digits
-  poll E         it is asked for its next frame, which goes on its line
-  pass E         the first frame on its line arrives at the other end
-  cut E N        only the first N bytes of that frame arrive; the rest stays
-  lose E         that frame is lost
-  damage E N XX  byte N of that frame, from 0, is changed by exclusive or with XX
-  raw E HEX      these bytes arrive at E
-  expire E       its timer runs out
-  take E         a message that came is taken
-  clear          the line is cleared, where both ends are halted
-  settle         frames go to and fro until neither end has one
-  recover        the same, and twice: both timers run out, and the same again
-  state E        its state and numbers are written
-  # TEXT         nothing"
+Lines of a script (E is A or B):
+  start E        start station E
+  halt E         halt it
+  send E HEX     give it a message to send, in hexadecimal digits
+  poll E         put its next frame on its line
+  pass E         deliver the first frame of its line to the other end
+  cut E N        deliver the first N bytes of that frame, keep the rest
+  lose E         drop that frame
+  damage E N XX  XOR byte N (from 0) of that frame with XX
+  raw E HEX      deliver these bytes to E
+  expire E       let its reply timer expire
+  take E         take a received message
+  clear          clear the line, if both ends are halted
+  settle         exchange frames until neither end has one
+  recover        settle, then twice: both timers expire, and settle
+  state E        print its state and numbers
+  # TEXT         a comment"
 }
 
 /// A command that runs a script, without its options.
@@ -235,7 +233,7 @@ fn station_command<'a>(alloc: Global) -> clap::Command<'a>
     ensures local { (fields_of result).has_globals ≡ false }
 {
     clap::Command::new(alloc, "station")
-        .about("Runs a station over a TCP connection")
+        .about("Run one station over TCP for a number of turns")
         .after_help(report_help())
 }
 
@@ -251,7 +249,7 @@ static STATION_OPTIONS: [CommandOption; 7] = [
         name: "addr",
         takes: Takes::Text("ADDR"),
         is_required: true,
-        help: "Where to connect or to listen, such as 127.0.0.1:7000",
+        help: "Address and port, as 127.0.0.1:7000",
     },
     CommandOption {
         name: "turns",
@@ -260,7 +258,7 @@ static STATION_OPTIONS: [CommandOption; 7] = [
             high: u32::MAX,
         },
         is_required: true,
-        help: "How many turns the station has; a turn waits at most 10 ms for bytes",
+        help: "Number of turns; a turn waits up to 10 ms for bytes",
     },
     CommandOption {
         name: "timer-ms",
@@ -269,25 +267,25 @@ static STATION_OPTIONS: [CommandOption; 7] = [
             high: u32::MAX,
         },
         is_required: true,
-        help: "How long it waits for an answer before it asks again",
+        help: "Reply timer in milliseconds",
     },
     CommandOption {
         name: "send",
         takes: Takes::Text("HEX"),
         is_required: false,
-        help: "A message that is sent once the station runs, at most 1500 bytes",
+        help: "Message to send once the station runs, up to 1500 bytes",
     },
     CommandOption {
         name: "restart",
         takes: Takes::Nothing,
         is_required: false,
-        help: "Begin anew where the peer does, if no message waits to be taken",
+        help: "Restart when the peer restarts, if no received message is waiting",
     },
     CommandOption {
         name: "counters",
         takes: Takes::Nothing,
         is_required: false,
-        help: "Write what the station has counted, before the last line",
+        help: "Print the station's counters before the last line",
     },
 ];
 
@@ -301,10 +299,10 @@ fn station_parser<'a>(alloc: Global) -> Parser<'a>
 /// What a station writes, for a newcomer.
 fn report_help() -> &'static str {
     "\
-What is written, as it happens:
+Output, as it happens:
   notice N                           a notice of the station, as Running or Acknowledged 1
-  mail HEX                           a message that came
-  turns=T state=S read=R written=W   at the end: the turns made and the bytes both ways"
+  mail HEX                           a received message
+  turns=T state=S read=R written=W   at the end: turns made, bytes read and written"
 }
 
 /// `ddcmp` without its commands.
@@ -326,12 +324,12 @@ fn program_parser<'a>(alloc: Global) -> Parser<'a>
         .subcommand(script_parser(
             alloc,
             "simulate",
-            "Runs a script between two stations A and B, read from standard input",
+            "Run a script between two simulated stations A and B, read from standard input",
         ))
         .subcommand(script_parser(
             alloc,
             "pair",
-            "Runs a script as simulate does, and what passes goes over a TCP connection",
+            "Run a script as simulate does, over a TCP connection with itself",
         ))
         .subcommand(station_parser(alloc))
         .subcommand(tap_parser(alloc))

@@ -17,20 +17,20 @@ use std::alloc::Global;
 fn link_help() -> &'static str {
     "\
 LINE is one of:
-  connect:HOST:PORT      a TCP connection to there
-  listen:HOST:PORT       a TCP connection from whoever comes first
-  udp:LOCAL,REMOTE       each frame a datagram from the one address to the other
-  device:PATH            a serial device that is set up already; 4 SYN bytes before
-                         each frame, where --syn doesn't say how many
-What is read: a message in hexadecimal digits in each line of standard input.
-What is written, as it happens:
+  connect:HOST:PORT      a TCP connection to this address
+  listen:HOST:PORT       a TCP connection from whoever calls
+  udp:LOCAL,REMOTE       datagrams between two addresses, one frame each
+  device:PATH            a serial device that is set up already, as by stty;
+                         the default of --syn is 4
+Input: one message per line, in hexadecimal digits.
+Output, as it happens:
   notice N               a notice of the station, as Running or Acknowledged 1
-  mail HEX               a message that came
+  mail HEX               a received message
   lost N                 messages that were accepted and may not have arrived
   state=S read=R written=W sent=M acknowledged=K handed=H
-                         at the end: the state, bytes of the line, messages
-With --binary messages are bytes after their length in two, high byte first, and the
-rest goes to standard error."
+                         at the end: state, bytes of the line, messages
+With --binary each message is preceded by its length in two bytes, high byte first,
+and all else goes to standard error."
 }
 
 /// The line of a link, which can't be left out.
@@ -38,7 +38,7 @@ static LINE_OPTIONS: [CommandOption; 1] = [CommandOption {
     name: "line",
     takes: Takes::Text("LINE"),
     is_required: true,
-    help: "The line of the station, as connect:127.0.0.1:7000",
+    help: "Line to open, as connect:127.0.0.1:7000",
 }];
 
 /// `link` with the name of its line alone.
@@ -54,7 +54,7 @@ fn bare_command<'a>(alloc: Global) -> clap::Command<'a>
     ensures local { (fields_of result).has_globals ≡ false }
 {
     clap::Command::new(alloc, "link")
-        .about("Runs a station over a line: messages from standard input, mail to standard output")
+        .about("Exchange messages over a line, by standard input and output")
         .after_help(link_help())
 }
 
@@ -67,7 +67,7 @@ static LINK_OPTIONS: [CommandOption; 7] = [
             high: u32::MAX,
         },
         is_required: false,
-        help: "How long it waits for an answer before it asks again; 3000 by default",
+        help: "Reply timer in milliseconds, from 1 [default: 3000]",
     },
     CommandOption {
         name: "seconds",
@@ -76,37 +76,37 @@ static LINK_OPTIONS: [CommandOption; 7] = [
             high: u32::MAX,
         },
         is_required: false,
-        help: "End after so many seconds as if standard input had ended",
+        help: "End after N seconds, whatever the state",
     },
     CommandOption {
         name: "binary",
         takes: Takes::Nothing,
         is_required: false,
-        help: "Messages are bytes after their length, not digits",
+        help: "Read and write messages as bytes after their length",
     },
     CommandOption {
         name: "stay",
         takes: Takes::Nothing,
         is_required: false,
-        help: "Go on once all of standard input was delivered",
+        help: "Keep running once all input was delivered",
     },
     CommandOption {
         name: "again",
         takes: Takes::Nothing,
         is_required: false,
-        help: "Open the line anew where it ends, and start anew",
+        help: "Open the line again if it ends or can't be opened",
     },
     CommandOption {
         name: "counters",
         takes: Takes::Nothing,
         is_required: false,
-        help: "Write what the station has counted, before the last line",
+        help: "Print the station's counters before the last line",
     },
     CommandOption {
         name: "trace",
         takes: Takes::Nothing,
         is_required: false,
-        help: "Tell each frame of both ways on standard error, with the milliseconds",
+        help: "Log each frame both ways on standard error",
     },
 ];
 

@@ -16,10 +16,10 @@ use std::alloc::Global;
 /// What a tap writes, for a newcomer.
 fn tap_help() -> &'static str {
     "\
-What is written, as it comes:
-  > LINE                   what explain says of the bytes from the side that connected
-  < LINE                   the same of the other side
-  > items=I bytes=B open=O at the end, and the same of the other side"
+Output, as bytes arrive:
+  > LINE                     a line of explain for the side that connected to the tap
+  < LINE                     the same for the other side
+  > items=I bytes=B open=O   at the end, and the same for the other side"
 }
 
 /// `tap` without its options.
@@ -28,7 +28,7 @@ fn tap_command<'a>(alloc: Global) -> clap::Command<'a>
     ensures local { (fields_of result).has_globals ≡ false }
 {
     clap::Command::new(alloc, "tap")
-        .about("Stands between two ends of a line over TCP, and says what passes")
+        .about("Log the traffic between two ends of a TCP line")
         .after_help(tap_help())
 }
 
@@ -38,31 +38,31 @@ static TAP_OPTIONS: [CommandOption; 6] = [
         name: "listen",
         takes: Takes::Text("ADDR"),
         is_required: true,
-        help: "Where to listen for one connection, such as 127.0.0.1:7000",
+        help: "Address to listen at, for one connection, as 127.0.0.1:7001",
     },
     CommandOption {
         name: "connect",
         takes: Takes::Text("ADDR"),
         is_required: true,
-        help: "Where to connect to once someone has connected",
+        help: "Address to connect to once someone has connected",
     },
     CommandOption {
         name: "json",
         takes: Takes::Nothing,
         is_required: false,
-        help: "Write an object of JSON in each line",
+        help: "Print one JSON object per line",
     },
     CommandOption {
         name: "ladder",
         takes: Takes::Nothing,
         is_required: false,
-        help: "Draw what passes as a ladder of text, in place of words",
+        help: "Draw the traffic as a ladder of text",
     },
     CommandOption {
         name: "time",
         takes: Takes::Nothing,
         is_required: false,
-        help: "Write the milliseconds since both were connected in front of each line",
+        help: "Print the milliseconds since both were connected before each line",
     },
     CommandOption {
         name: "max",
@@ -71,7 +71,7 @@ static TAP_OPTIONS: [CommandOption; 6] = [
             high: MAX_COUNT as u32,
         },
         is_required: false,
-        help: "The most bytes of data that a frame may have, 1 to 16383; 16383 by default",
+        help: "Longest data of a frame in bytes, 1 to 16383 [default: 16383]",
     },
 ];
 
