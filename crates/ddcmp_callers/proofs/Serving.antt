@@ -5,8 +5,8 @@ use Rattle.ddcmp_io.specs.Written.{Known}
 use Rattle.ddcmp_core.specs.Core.{CoreView}
 use Rattle.ddcmp_station.specs.UserCalls.{UserCall}
 use Rattle.ddcmp_station.specs.declared.driving.Driven.{Driven}
-use Rattle.ddcmp_station.specs.declared.driving.LineFault.{LineFault}
-use Rattle.ddcmp_station.specs.declared.driving.LineFault.TheVariants.{Memory}
+use Rattle.ddcmp_io.specs.declared.device.LineFault.{LineFault}
+use Rattle.ddcmp_io.specs.declared.device.LineFault.TheVariants.{Memory}
 use Rattle.ddcmp_station.specs.Driving.{Driving, Devices}
 use Rattle.ddcmp_proto.specs.Station.{StationView}
 use Rattle.ddcmp_serve.specs.declared.serve_fault.ServeFault.{ServeFault}

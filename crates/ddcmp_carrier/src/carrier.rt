@@ -2,8 +2,8 @@
 ghost use Rattle.std.specs.Prelude.{◌≡◌, [], length, take, true, false, None, is_err, IfOk, IsOk};
 ghost use Rattle.std.specs.Prelude.{IsTrue, OnErr, Bool, List, Option};
 
+use ddcmp_io::LineFault;
 use ddcmp_run::End;
-use ddcmp_station::LineFault;
 
 /// What carries bytes from one end of a line to the other.
 pub trait Carrier {

@@ -5,5 +5,5 @@
 mod carrier;
 
 pub use carrier::{Carrier, Direct};
+pub use ddcmp_io::LineFault;
 pub use ddcmp_run::End;
-pub use ddcmp_station::LineFault;

@@ -39,7 +39,7 @@ use Rattle.ddcmp_words.specs.declared.served.Role.{Role}
 use Rattle.ddcmp_cli.specs.Connections.{Peers}
 use Rattle.ddcmp_serve.specs.declared.serve_fault.ServeFault.{ServeFault}
 use Rattle.ddcmp_serve.specs.declared.serve_fault.ServeFault.TheVariants as serving
-use Rattle.ddcmp_station.specs.declared.driving.LineFault.TheVariants as line
+use Rattle.ddcmp_io.specs.declared.device.LineFault.TheVariants as line
 use Rattle.ddcmp_words.specs.declared.tapped.Tapped.{Tapped}
 use Rattle.ddcmp_words.specs.declared.declined.Declined.{Declined}
 use Rattle.ddcmp_words.specs.declared.declined.Declined.TheVariants.{Help, Version, Usage, Memory}

@@ -8,5 +8,5 @@ pub mod input;
 pub mod page;
 pub mod text;
 
-pub use device::{FromRead, Got, Sink, Source, ToWrite, Worst, WriteFailed, write_all};
+pub use device::{FromRead, Got, LineFault, Sink, Source, ToWrite, Worst, WriteFailed, write_all};
 pub use page::Page;

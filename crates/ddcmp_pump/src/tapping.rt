@@ -9,7 +9,7 @@ use crate::pumping::pump;
 use crate::sockets::{Sockets, ToSocket};
 use crate::tap_fault::TapFault;
 use ddcmp_io::{FromRead, Sink, WriteFailed, write_all};
-use ddcmp_net::Elapsed;
+use ddcmp_station::Elapsed;
 use ddcmp_tap::{Direction, Notation, ROOM, Side};
 use mio::net::TcpStream;
 use std::alloc::Global;

@@ -1,8 +1,8 @@
 -- What a station's answer tells of the line and of the report, by how driving it ended.
 use Rattle.std.proofs.Common.{◌≡◌, ◌⊎◌, inl, inr, refl, Bool, true, false, Ok, Err, Result}
 use Rattle.std.specs.Prelude.{◌↔◌}
-use Rattle.ddcmp_station.specs.declared.driving.LineFault.{LineFault}
-use Rattle.ddcmp_station.specs.declared.driving.LineFault.TheVariants.{Memory}
+use Rattle.ddcmp_io.specs.declared.device.LineFault.{LineFault}
+use Rattle.ddcmp_io.specs.declared.device.LineFault.TheVariants.{Memory}
 use Rattle.ddcmp_serve.specs.declared.serve_fault.ServeFault.{ServeFault}
 use Rattle.ddcmp_serve.specs.declared.serve_fault.ServeFault.TheVariants.{Config as NoStation, Line}
 use Rattle.ddcmp_serve.specs.declared.serve_fault.ServeFault.TheVariants.{Report}

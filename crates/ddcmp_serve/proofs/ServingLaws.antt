@@ -16,8 +16,8 @@ use Rattle.ddcmp_proto.specs.declared.config.Config.{Config}
 use Rattle.ddcmp_proto.specs.Bytes.{after_piece, notices_of_piece}
 use Rattle.ddcmp_proto.proofs.FeedLaws.{after_piece-limits}
 use Rattle.ddcmp_station.specs.declared.driving.Driven.{Driven}
-use Rattle.ddcmp_station.specs.declared.driving.LineFault.{LineFault}
-use Rattle.ddcmp_station.specs.declared.driving.LineFault.TheVariants.{Read, Write, Ended, Memory}
+use Rattle.ddcmp_io.specs.declared.device.LineFault.{LineFault}
+use Rattle.ddcmp_io.specs.declared.device.LineFault.TheVariants.{Read, Write, Ended, Memory}
 use Rattle.ddcmp_station.specs.Config.{core_made}
 use Rattle.ddcmp_station.specs.Driving.{is_due, Devices, DriveTurn, Driving, Drives, EndsAtFault}
 use Rattle.ddcmp_station.specs.Driving.{driving_from, after_turns, after_turn, before_read}

@@ -4,7 +4,7 @@ ghost use Rattle.std.specs.Io.KnownBytes.{IsAtEnd};
 ghost use Rattle.ddcmp_serve.specs.Serving.{Serves};
 ghost use Rattle.ddcmp_station.specs.Driving.{devices_of};
 ghost use Rattle.ddcmp_serve.specs.Serving.{usual_config as config_of};
-ghost use Rattle.ddcmp_station.specs.declared.driving.LineFault.{LineFault as LineFaultValue};
+ghost use Rattle.ddcmp_io.specs.declared.device.LineFault.{LineFault as LineFaultValue};
 
 use crate::reporter::{Reporter, write_end};
 use crate::serve_fault::ServeFault;

@@ -16,6 +16,7 @@ ghost use Rattle.ddcmp_station.specs.UserCalls.{TellsPiece};
 
 use crate::user::{Clock, User};
 use ddcmp_frame::{Got, Sink, Source, Worst, write_all};
+use ddcmp_io::LineFault;
 use ddcmp_proto::{MAX_COUNT, MAX_SYN, Notice, State, Station};
 use std::alloc::Global;
 
@@ -30,19 +31,6 @@ pub struct Driven {
     pub read: u64,
     /// The number of bytes written.
     pub written: u64,
-}
-
-/// Why `drive` ended before its turns were over.
-#[derive(Clone, Copy, Debug, PartialEq, Eq)]
-pub enum LineFault {
-    /// A read failed.
-    Read,
-    /// A write failed. How much of the last frame went out isn't known.
-    Write,
-    /// A read gave no bytes: the line ended.
-    Ended,
-    /// Memory was refused, before anything was done.
-    Memory,
 }
 
 /// What the turns so far have left.

@@ -3,12 +3,15 @@
 #![tactic(auto)]
 
 mod driving;
+mod elapsed;
 mod user;
 
 pub use ddcmp_frame::{Got, Sink, Source, Worst};
+pub use ddcmp_io::LineFault;
 pub use ddcmp_proto::{
     Config, ConfigRefusal, Counters, Fed, Header, MAX_COUNT, MAX_INBOX, MAX_SYN, MAX_WINDOW,
     Memory, NakCounts, Notice, Numbers, SendRefusal, Seq, StartRefusal, State, Station, laws,
 };
-pub use driving::{Driven, LineFault, READ_ROOM, drive};
+pub use driving::{Driven, READ_ROOM, drive};
+pub use elapsed::Elapsed;
 pub use user::{Clock, User};
