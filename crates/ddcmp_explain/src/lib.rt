@@ -13,7 +13,6 @@ pub mod explaining;
 pub mod form;
 mod head;
 mod hex_digits;
-mod hex_text;
 mod hex_values;
 mod json;
 pub mod label;

@@ -4,11 +4,11 @@ ghost use Rattle.ddcmp_io.specs.Written.{HandsOver, output_of};
 ghost use Rattle.ddcmp_explain.specs.Output.{behind_in, front_in, line_in, totals_in};
 ghost use Rattle.ddcmp_explain.specs.Putting.{Puts};
 
-use crate::hex_text::write_hex;
 use crate::json::{put_json_front, put_json_totals};
 use crate::put::LINE;
 use crate::text::{lends, put_front, put_totals};
 use ddcmp_frame::Item;
+use ddcmp_io::text::write_hex;
 use ddcmp_io::{Page, Sink};
 
 /// How lines are written.

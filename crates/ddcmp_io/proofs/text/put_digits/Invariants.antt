@@ -1,6 +1,6 @@
 use Rattle.std.proofs.Common.{◌≡◌, ◌*◌, ◌-◌, ◌≤◌, length, take}
 use Rattle.hex.specs.Hex.{encode_lower}
-use Rattle.ddcmp_explain.proofs.hex_text.put_digits.Given as goal
+use Rattle.ddcmp_io.proofs.text.put_digits.Given as goal
 
 abbrev pub invariant-loop-at : goal.invariant-loop-at
 invariant-loop-at l = record {

@@ -1,6 +1,6 @@
 use Rattle.std.proofs.Common.{◌∙◌}
-use Rattle.ddcmp_explain.proofs.VectorLaws.{high-small, high-are}
-use Rattle.ddcmp_explain.proofs.hex_text.high_digits.Goals as goal
+use Rattle.ddcmp_io.proofs.VectorLaws.{high-small, high-are}
+use Rattle.ddcmp_io.proofs.text.high_digits.Goals as goal
 
 pub digits_of-requires : goal.digits_of-requires
 digits_of-requires c = high-small c.args.bytes c.fits-bytes.1

@@ -1,7 +1,7 @@
 use Rattle.std.proofs.lemmas.Simd.{length-chunk, length-put_chunk}
 use Rattle.std.specs.Simd.Lanes.{chunk}
-use Rattle.ddcmp_explain.proofs.VectorLaws.{sixteen-put}
-use Rattle.ddcmp_explain.proofs.hex_text.put_sixteen.Goals as goal
+use Rattle.ddcmp_io.proofs.VectorLaws.{sixteen-put}
+use Rattle.ddcmp_io.proofs.text.put_sixteen.Goals as goal
 
 pub returns : goal.returns
 returns c =

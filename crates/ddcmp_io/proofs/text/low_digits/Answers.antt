@@ -1,6 +1,6 @@
 use Rattle.std.proofs.Common.{◌∙◌}
-use Rattle.ddcmp_explain.proofs.VectorLaws.{low-small, low-are}
-use Rattle.ddcmp_explain.proofs.hex_text.low_digits.Goals as goal
+use Rattle.ddcmp_io.proofs.VectorLaws.{low-small, low-are}
+use Rattle.ddcmp_io.proofs.text.low_digits.Goals as goal
 
 pub digits_of-requires : goal.digits_of-requires
 digits_of-requires c = low-small c.args.bytes

@@ -3,7 +3,7 @@ use Rattle.std.proofs.Common.{drop}
 use Rattle.std.proofs.lemmas.Slice.{take-put_mid}
 use Rattle.hex.specs.Hex.{encode_lower}
 use Rattle.ddcmp_io.proofs.TextLaws.{hex-nothing, hex-more}
-use Rattle.ddcmp_explain.proofs.hex_text.put_digits.Goals as goal
+use Rattle.ddcmp_io.proofs.text.put_digits.Goals as goal
 
 pub loop-at-init : goal.loop-at-init
 loop-at-init c = record { within = omega arith; put = sym hex-nothing }
