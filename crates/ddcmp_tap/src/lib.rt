@@ -4,15 +4,15 @@
 
 pub mod direction;
 mod front;
+mod no_memory;
 pub mod notation;
 mod queue;
 mod rung;
 pub mod side;
 mod telling;
-mod text;
 
 pub use direction::Direction;
+pub use no_memory::NoMemory;
 pub use notation::Notation;
 pub use queue::ROOM;
 pub use side::Side;
-pub use text::NoMemory;
