@@ -37,8 +37,8 @@ use Rattle.ddcmp_words.specs.declared.explained.Explained.{Explained}
 use Rattle.ddcmp_words.specs.declared.served.Served.{Served}
 use Rattle.ddcmp_words.specs.declared.served.Role.{Role}
 use Rattle.ddcmp_cli.specs.Connections.{Peers}
-use Rattle.ddcmp_serve.specs.declared.serve_fault.ServeFault.{ServeFault}
-use Rattle.ddcmp_serve.specs.declared.serve_fault.ServeFault.TheVariants as serving
+use Rattle.ddcmp_net.specs.declared.serve_fault.ServeFault.{ServeFault}
+use Rattle.ddcmp_net.specs.declared.serve_fault.ServeFault.TheVariants as serving
 use Rattle.ddcmp_io.specs.declared.device.LineFault.TheVariants as line
 use Rattle.ddcmp_words.specs.declared.tapped.Tapped.{Tapped}
 use Rattle.ddcmp_words.specs.declared.declined.Declined.{Declined}
@@ -52,7 +52,7 @@ use Rattle.ddcmp_words.specs.Words.{HasExplain, HasStation, HasTap, Reads, optio
 use Rattle.ddcmp_core.specs.Limits.{MAX_COUNT}
 use Rattle.ddcmp_explain.specs.Dumps.{ExplainsDump}
 use Rattle.ddcmp_explain.specs.Explains.{Explains}
-use Rattle.ddcmp_serve.specs.Serving.{Serves}
+use Rattle.ddcmp_net.specs.Serving.{Serves}
 use Rattle.ddcmp_station.specs.Driving.{Devices}
 use Rattle.ddcmp_cli.specs.TapEndings.{tap_fault, told_as}
 use Rattle.ddcmp_pump.specs.Pumping.{Says, head_of}

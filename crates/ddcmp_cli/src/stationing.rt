@@ -9,7 +9,7 @@ use crate::connections::Connections;
 use crate::ending::Ending;
 use crate::fault::Fault;
 use ddcmp_io::Sink;
-use ddcmp_serve::{SERVED_MAX, serve};
+use ddcmp_net::{SERVED_MAX, serve};
 use ddcmp_station::Elapsed;
 use ddcmp_words::Served;
 use std::alloc::Global;

@@ -1,4 +1,4 @@
-//! Tests of `ddcmp_serve`: the reports of served stations, in memory and over a connection.
+//! Tests of `ddcmp_net`: the reports of served stations, in memory and over a connection.
 
 mod reports;
 mod sockets;

@@ -1,7 +1,7 @@
 //! What a served station reports, over a line in memory.
 use crate::same::is;
 use ddcmp_frame::failing::{Pieces, Taken};
-use ddcmp_serve::{ServeFault, serve};
+use ddcmp_net::{ServeFault, serve};
 use ddcmp_station::{Clock, LineFault};
 use std::process::Abort;
 

@@ -3,7 +3,7 @@ use crate::same::is;
 use crate::served::reports::{Standing, strt_and_ack};
 use ddcmp_frame::failing::Taken;
 use ddcmp_frame::{FromRead, ToWrite};
-use ddcmp_serve::{ServeFault, serve};
+use ddcmp_net::{ServeFault, serve};
 use std::alloc::Global;
 use std::io::{Read, Write};
 use std::net::{TcpListener, TcpStream};

@@ -3,9 +3,9 @@ use Rattle.std.proofs.Common.{◌≡◌, ◌⊎◌, inl, inr, refl, Bool, true, 
 use Rattle.std.specs.Prelude.{◌↔◌}
 use Rattle.ddcmp_io.specs.declared.device.LineFault.{LineFault}
 use Rattle.ddcmp_io.specs.declared.device.LineFault.TheVariants.{Memory}
-use Rattle.ddcmp_serve.specs.declared.serve_fault.ServeFault.{ServeFault}
-use Rattle.ddcmp_serve.specs.declared.serve_fault.ServeFault.TheVariants.{Config as NoStation, Line}
-use Rattle.ddcmp_serve.specs.declared.serve_fault.ServeFault.TheVariants.{Report}
+use Rattle.ddcmp_net.specs.declared.serve_fault.ServeFault.{ServeFault}
+use Rattle.ddcmp_net.specs.declared.serve_fault.ServeFault.TheVariants.{Config as NoStation, Line}
+use Rattle.ddcmp_net.specs.declared.serve_fault.ServeFault.TheVariants.{Report}
 
 abbrev pub Answer : Type 0
 Answer = Result (Unit {0}) ServeFault

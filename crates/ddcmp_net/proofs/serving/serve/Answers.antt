@@ -1,13 +1,13 @@
 use Rattle.std.proofs.Common.{rules, refl, ap, sym, Ok, Err}
 use Rattle.ddcmp_station.specs.UserCalls.{Calls}
-use Rattle.ddcmp_serve.specs.Serving.{closing_text, served_answer}
-use Rattle.ddcmp_serve.specs.Reporting.{Reports}
-use Rattle.ddcmp_serve.specs.declared.serve_fault.ServeFault.TheVariants.{Report}
-use Rattle.ddcmp_serve.proofs.AnswerLaws.{done_has_memory, done_is_no_line, ends_line, off_line}
-use Rattle.ddcmp_serve.proofs.AnswerLaws.{on_line, report_has_memory, report_is_no_line}
-use Rattle.ddcmp_serve.proofs.AnswerLaws.{told_broken, told_line, told_whole}
-use Rattle.ddcmp_serve.proofs.ServingLaws.{begun-of, drives-as, comes-to, comes-to-all, usual-room}
-use Rattle.ddcmp_serve.proofs.serving.serve.Goals as goal
+use Rattle.ddcmp_net.specs.Serving.{closing_text, served_answer}
+use Rattle.ddcmp_net.specs.Reporting.{Reports}
+use Rattle.ddcmp_net.specs.declared.serve_fault.ServeFault.TheVariants.{Report}
+use Rattle.ddcmp_net.proofs.AnswerLaws.{done_has_memory, done_is_no_line, ends_line, off_line}
+use Rattle.ddcmp_net.proofs.AnswerLaws.{on_line, report_has_memory, report_is_no_line}
+use Rattle.ddcmp_net.proofs.AnswerLaws.{told_broken, told_line, told_whole}
+use Rattle.ddcmp_net.proofs.ServingLaws.{begun-of, drives-as, comes-to, comes-to-all, usual-room}
+use Rattle.ddcmp_net.proofs.serving.serve.Goals as goal
 
 pub returns-in-Ok-write_end-clause-serves : goal.returns-in-Ok-write_end-clause-serves
 returns-in-Ok-write_end-clause-serves g c = λ _.

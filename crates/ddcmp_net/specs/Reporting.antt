@@ -2,8 +2,8 @@
 use Rattle.std.specs.Prelude.{◌≡◌, ℕ, Bool, List, [], take}
 use Rattle.ddcmp_io.specs.Written.{Known, HandsOver, output_of}
 use Rattle.ddcmp_station.specs.UserCalls.{UserCall, Asked, Told, Handed}
-use Rattle.ddcmp_serve.specs.declared.reporter.Reporter.{Reporter}
-use Rattle.ddcmp_serve.specs.Serving.{call_text}
+use Rattle.ddcmp_net.specs.declared.reporter.Reporter.{Reporter}
+use Rattle.ddcmp_net.specs.Serving.{call_text}
 
 -- What is left to send after a call. Where it is asked for, all of it is given that there is room
 -- for.

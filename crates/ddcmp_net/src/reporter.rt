@@ -1,7 +1,7 @@
 //! The user of a served station: sends one message, and reports what happens.
 ghost use Rattle.std.specs.Prelude.{◌≡◌, ◌++◌, [], is_err};
 ghost use Rattle.ddcmp_io.specs.Written.{HandsOver, output_of};
-ghost use Rattle.ddcmp_serve.specs.Serving.{closing_text, end_text};
+ghost use Rattle.ddcmp_net.specs.Serving.{closing_text, end_text};
 ghost use Rattle.ddcmp_station_text.specs.CountersText.{counters_line};
 
 use ddcmp_io::text::{write_hex, write_number};
@@ -29,7 +29,7 @@ impl<'a, P: Sink> Reporter<'a, P> {
 }
 
 impl<P: Sink> User for Reporter<'_, P> {
-    ghost use Rattle.ddcmp_serve.specs.Reporting.{Reports};
+    ghost use Rattle.ddcmp_net.specs.Reporting.{Reports};
 
     ghost becomes = { Reports P.broken P.contents };
 

@@ -1,6 +1,6 @@
 use Rattle.ddcmp_io.proofs.WrittenLaws.{sends-then}
 use Rattle.ddcmp_io.proofs.TextLaws.{sends-as}
-use Rattle.ddcmp_serve.proofs.reporter.write_totals.Goals as goal
+use Rattle.ddcmp_net.proofs.reporter.write_totals.Goals as goal
 
 pub returns : goal.returns
 returns g c =

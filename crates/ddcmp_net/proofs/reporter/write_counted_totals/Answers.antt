@@ -2,8 +2,8 @@ use Rattle.std.proofs.Common.{[], ap}
 use Rattle.ddcmp_io.proofs.WrittenLaws.{sends-then}
 use Rattle.ddcmp_io.proofs.TextLaws.{sends-as}
 use Rattle.ddcmp_station_text.specs.CountersText.{counters_line}
-use Rattle.ddcmp_serve.specs.Serving.{end_text}
-use Rattle.ddcmp_serve.proofs.reporter.write_counted_totals.Goals as goal
+use Rattle.ddcmp_net.specs.Serving.{end_text}
+use Rattle.ddcmp_net.proofs.reporter.write_counted_totals.Goals as goal
 
 pub returns : goal.returns
 returns g c =

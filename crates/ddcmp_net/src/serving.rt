@@ -1,9 +1,9 @@
 //! A station of the usual sizes, driven over a line.
 ghost use Rattle.std.specs.Prelude.{◌≡◌, ◌≢◌, ◌⊎◌, ◌≤◌, ◌↔◌, true, false, length};
 ghost use Rattle.std.specs.Io.KnownBytes.{IsAtEnd};
-ghost use Rattle.ddcmp_serve.specs.Serving.{Serves};
+ghost use Rattle.ddcmp_net.specs.Serving.{Serves};
 ghost use Rattle.ddcmp_station.specs.Driving.{devices_of};
-ghost use Rattle.ddcmp_serve.specs.Serving.{usual_config as config_of};
+ghost use Rattle.ddcmp_net.specs.Serving.{usual_config as config_of};
 ghost use Rattle.ddcmp_io.specs.declared.device.LineFault.{LineFault as LineFaultValue};
 
 use crate::reporter::{Reporter, write_end};

@@ -26,9 +26,9 @@ use Rattle.ddcmp_station.specs.Driving.{deadline_at, core_after_take_arm}
 use Rattle.ddcmp_station.specs.Station.{StationView}
 use Rattle.ddcmp_station.specs.UserCalls.{UserCall, Asked, Told, Handed, Calls, is_user_asked}
 use Rattle.ddcmp_station.specs.UserCalls.{calls_of_offer, calls_of_notices}
-use Rattle.ddcmp_serve.specs.Serving.{HasStarted, usual_config, calls_text, OffersOnce, WritesOut}
-use Rattle.ddcmp_serve.specs.Reporting.{Leaves, Reports}
-use Rattle.ddcmp_serve.specs.declared.reporter.Reporter.{Reporter}
+use Rattle.ddcmp_net.specs.Serving.{HasStarted, usual_config, calls_text, OffersOnce, WritesOut}
+use Rattle.ddcmp_net.specs.Reporting.{Leaves, Reports}
+use Rattle.ddcmp_net.specs.declared.reporter.Reporter.{Reporter}
 
 abbrev started : CoreView → CoreView
 started k = record k { station = if may_start k.station then after_start k.station else k.station }
