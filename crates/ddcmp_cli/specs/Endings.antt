@@ -55,8 +55,8 @@ use Rattle.ddcmp_explain.specs.Explains.{Explains}
 use Rattle.ddcmp_net.specs.Serving.{Serves}
 use Rattle.ddcmp_station.specs.Driving.{Devices}
 use Rattle.ddcmp_cli.specs.TapEndings.{tap_fault, told_as}
-use Rattle.ddcmp_pump.specs.Pumping.{Says, head_of}
-use Rattle.ddcmp_pump.specs.declared.tap_fault.TapFault.{TapFault}
+use Rattle.ddcmp_tap.specs.Pumping.{Says, head_of}
+use Rattle.ddcmp_tap.specs.declared.tap_fault.TapFault.{TapFault}
 use Rattle.ddcmp_cli.specs.LinkEndings.{IsLinkEnding}
 use Rattle.hex.specs.Hex.{decode_of}
 use Rattle.hex.specs.declared.error.FromHexError.{FromHexError}
