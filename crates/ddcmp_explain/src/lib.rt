@@ -25,7 +25,7 @@ pub mod single_lines;
 pub mod style;
 mod text;
 
-pub use ddcmp_dump::NotDumped;
+pub use ddcmp_input::NotDumped;
 pub use dump_fault::DumpFault;
 pub use dumped::explain_dump;
 pub use explain_fault::ExplainFault;

@@ -1,5 +1,5 @@
 //! Messages of an input, in lines and in binary, pushed in one piece and byte by byte.
-use ddcmp_messages::{Entry, HexLines, Lengths, Pushed};
+use ddcmp_input::{Entry, HexLines, Lengths, Pushed};
 use std::process::Abort;
 
 fn lines(rt: &(impl Abort + AllocGlobal)) -> HexLines {
