@@ -16,7 +16,7 @@ use Rattle.ddcmp_cli.specs.declared.fault.Fault.TheVariants.{Hex as NotHexIn, Me
 use Rattle.ddcmp_cli.specs.declared.fault.Fault.TheVariants.{Memory as NoMemory, Carrier, Ended}
 use Rattle.ddcmp_cli.specs.declared.fault.Fault.TheVariants.{Lost}
 use Rattle.ddcmp_run.specs.Run.{PairState, new_pair}
-use Rattle.ddcmp_script.specs.ScriptEnds.{around, Plays}
+use Rattle.ddcmp_line.specs.ScriptEnds.{around, Plays}
 use Rattle.ddcmp_proto.specs.declared.config.Config.{Config}
 use Rattle.ddcmp_station.specs.Config.{first_refusal}
 use Rattle.ddcmp_cli.specs.declared.ending.Ending.{Ending}

@@ -234,7 +234,7 @@ impl Player {
 }
 
 /// Does what the lines of a script say, and draws what comes of each. Below stands what
-/// `ddcmp_script::script` writes at its end. Where a line is no command or memory is refused, what
+/// `ddcmp_line::script` writes at its end. Where a line is no command or memory is refused, what
 /// was drawn stays, and a document is ended. A document is written at the end of the script, since
 /// its height stands at its front, and not at all where the script can't be read.
 pub fn draw<R: Source, W: Sink, C: Carrier>(

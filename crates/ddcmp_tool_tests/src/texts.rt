@@ -1,7 +1,7 @@
 //! Each fault has its text, also those that the program tells by another's.
 use crate::same::is;
 use ddcmp_cli::{DumpFault, ExplainFault, Fault, NotDumped, OpenFault, ServeFault, TapFault};
-use ddcmp_script::ScriptFault;
+use ddcmp_line::ScriptFault;
 use ddcmp_service::{Attempt, Cause, NotOpened};
 use ddcmp_station::LineFault;
 use std::fmt::Display;
