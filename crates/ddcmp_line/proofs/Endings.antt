@@ -25,7 +25,7 @@ use Rattle.ddcmp_script_text.specs.declared.script_fault.ScriptFault.TheVariants
 use Rattle.ddcmp_script_text.specs.declared.script_fault.ScriptFault.TheVariants.{Carrier}
 use Rattle.ddcmp_script_text.specs.ScriptWords.{lines_of}
 use Rattle.ddcmp_script_text.specs.ScriptText.{closing_text}
-use Rattle.ddcmp_carrier.specs.Carriages.{Carriage}
+use Rattle.ddcmp_run.specs.Carriages.{Carriage}
 use Rattle.ddcmp_line.specs.Script.{Between, AllFit, nothing_between, after_lines, text_of_lines}
 use Rattle.ddcmp_line.specs.Script.{carriages_of_lines, IsScriptLine, lines_done}
 use Rattle.ddcmp_line.specs.ScriptEnds.{text_then, Around, around, PausedBefore, StoppedAt}

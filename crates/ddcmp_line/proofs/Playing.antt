@@ -14,7 +14,7 @@ use Rattle.ddcmp_line.specs.declared.performing.Stop.TheVariants.{NoCommand, Not
 use Rattle.ddcmp_line.specs.declared.performing.Stop.TheVariants.{Memory, Carrier}
 use Rattle.ddcmp_script_text.specs.ScriptWords.{reading_of, without_cr, lines_between, between_lf}
 use Rattle.ddcmp_script_text.specs.ScriptWords.{lines_of}
-use Rattle.ddcmp_carrier.specs.Carriages.{Carriage}
+use Rattle.ddcmp_run.specs.Carriages.{Carriage}
 use Rattle.ddcmp_line.specs.Script.{Carries, Between, Scene, AreDirect, AreWithin, DoneLine}
 use Rattle.ddcmp_line.specs.Script.{after_line, text_of, carriages_by, after_lines, text_of_lines}
 use Rattle.ddcmp_line.specs.Script.{carriages_of_lines, IsScriptLine, AllFit, lines_done}

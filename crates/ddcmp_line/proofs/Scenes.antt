@@ -24,7 +24,7 @@ use Rattle.ddcmp_run.specs.Run.{PairState, at, end_of, reply_to, after_event, as
 use Rattle.ddcmp_run.specs.Settle.{other, WantsMemory}
 use Rattle.ddcmp_script_text.specs.ScriptText.{end_name, name_before, reply_text, counted_line}
 use Rattle.ddcmp_script_text.specs.ScriptText.{station_line}
-use Rattle.ddcmp_carrier.specs.Carriages.{Carriage, HasCarried}
+use Rattle.ddcmp_run.specs.Carriages.{Carriage, HasCarried}
 use Rattle.ddcmp_line.specs.Script.{Carries, Between, Scene, Effect, AreDirect, AreWithin}
 use Rattle.ddcmp_line.specs.Script.{frames_of, with_frames, taken_off, part_of, frames_after}
 use Rattle.ddcmp_line.specs.Script.{lines_after, outcome_of_event, outcome_of_carry}

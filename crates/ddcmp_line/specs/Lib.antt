@@ -2,7 +2,7 @@ pub mod Script
 pub mod ScriptSteps
 pub mod ScriptEnds
 pub mod ScriptProgress
-pub use Rattle.ddcmp_carrier.specs.Carriages
+pub use Rattle.ddcmp_run.specs.Carriages
 pub use Rattle.ddcmp_io.specs.Input
 pub use Rattle.ddcmp_net.specs.Connection
 pub use Rattle.ddcmp_script_text.specs.ScriptText

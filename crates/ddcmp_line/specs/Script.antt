@@ -2,7 +2,7 @@
 use Rattle.std.specs.Prelude.{◌≡◌, ◌≢◌, ◌≤◌, ℕ, Bool, true, false, if◌then◌else◌, nat_lt, ◌==◌}
 use Rattle.std.specs.Prelude.{List, [], ◌∷◌, ◌++◌, length, take, drop, map, slice_set}
 use Rattle.std.specs.Prelude.{slice_index_or, bit_xor, codes, Option, Some, None, ⊤}
-use Rattle.ddcmp_carrier.specs.Carriages.{Carriage}
+use Rattle.ddcmp_run.specs.Carriages.{Carriage}
 use Rattle.ddcmp_io.specs.Device.{Logs}
 use Rattle.ddcmp_run.specs.declared.event.End.{End}
 use Rattle.ddcmp_run.specs.declared.event.End.TheVariants.{A, B}

@@ -19,7 +19,7 @@ use Rattle.ddcmp_script_text.specs.declared.script_fault.ScriptFault.TheVariants
 use Rattle.ddcmp_script_text.specs.declared.script_fault.ScriptFault.TheVariants.{Carrier}
 use Rattle.ddcmp_script_text.specs.ScriptWords.{reading_of, lines_of}
 use Rattle.ddcmp_script_text.specs.ScriptText.{closing_text}
-use Rattle.ddcmp_carrier.specs.Carriages.{Carriage}
+use Rattle.ddcmp_run.specs.Carriages.{Carriage}
 use Rattle.ddcmp_line.specs.Script.{Carries, Scene, DoneLine, AllFit, nothing_between, lines_done}
 use Rattle.ddcmp_line.specs.Script.{after_lines, text_of_lines, carriages_of_lines, events_by}
 use Rattle.ddcmp_line.specs.Script.{carriages_by}

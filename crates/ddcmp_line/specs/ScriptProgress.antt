@@ -1,7 +1,7 @@
 -- How far a script has been played.
 use Rattle.std.specs.Prelude.{◌≡◌, ℕ, ◌+◌, Bool, false, List, [], ◌++◌, length, Option, Some}
 use Rattle.std.specs.Prelude.{Result, Ok, Err}
-use Rattle.ddcmp_carrier.specs.Carriages.{Carriage}
+use Rattle.ddcmp_run.specs.Carriages.{Carriage}
 use Rattle.ddcmp_run.specs.Run.{PairState}
 use Rattle.ddcmp_line.specs.declared.scripting.Player.{Player}
 use Rattle.ddcmp_io.specs.Written.{Known, Output, HandsOver}

@@ -12,7 +12,7 @@ use Rattle.ddcmp_line.specs.declared.performing.Stop.TheVariants.{NoCommand, Not
 use Rattle.ddcmp_line.specs.declared.performing.Stop.TheVariants.{Memory, Carrier}
 use Rattle.ddcmp_run.specs.Run.{PairState}
 use Rattle.ddcmp_run.specs.Settle.{WantsMemory}
-use Rattle.ddcmp_carrier.specs.Carriages.{Carriage}
+use Rattle.ddcmp_run.specs.Carriages.{Carriage}
 use Rattle.ddcmp_line.specs.Script.{events_by, Between, Scene, Effect, Carries, after_outcome}
 use Rattle.ddcmp_line.specs.Script.{scene_after, text_of, carriages_by}
 

@@ -6,7 +6,6 @@ mod frame_lines;
 mod performing;
 mod scripting;
 
-pub use ddcmp_carrier::{Carrier, Direct, LineFault};
 pub use ddcmp_io::{input, text};
 pub use ddcmp_net::Sockets;
 pub use ddcmp_pair::{
@@ -14,6 +13,7 @@ pub use ddcmp_pair::{
     Recovered, Reply, RunRefusal, SendRefusal, Seq, Settled, StartRefusal, State, Station, laws,
     run,
 };
+pub use ddcmp_run::{Carrier, Direct, LineFault};
 pub use ddcmp_script_text::ScriptFault;
 pub use ddcmp_station_text::{state_name, write_notice};
 pub use scripting::{script, script_with};

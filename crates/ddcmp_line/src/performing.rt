@@ -16,9 +16,9 @@ ghost use Rattle.ddcmp_line.specs.ScriptSteps.{TellsDevices};
 ghost use Rattle.ddcmp_run.specs.declared.event.Event.TheVariants as event_value;
 
 use crate::frame_lines::{FrameLeft, FrameLines};
-use ddcmp_carrier::Carrier;
 use ddcmp_io::{Page, Sink, WriteFailed};
 use ddcmp_pair::{Bytes, End, Event, Pair, Reply};
+use ddcmp_run::Carrier;
 use ddcmp_script_text::{
     ParsedLine, ScriptCommand, answerer_name, damage_name, end_name, read_line, write_counted,
     write_plain, write_recovered, write_reply, write_settled, write_station,

@@ -5,7 +5,7 @@ ghost use Rattle.std.specs.Io.KnownBytes.{Appends, Consumes};
 ghost use Rattle.ddcmp_io.specs.Written.{AppendsPart, Output, output_of};
 ghost use Rattle.ddcmp_run.specs.Run.{PairState};
 ghost use Rattle.ddcmp_io.specs.Change.{sink_change, source_change};
-ghost use Rattle.ddcmp_carrier.specs.Carriages.{Carriage};
+ghost use Rattle.ddcmp_run.specs.Carriages.{Carriage};
 ghost use Rattle.ddcmp_line.specs.Script.{nothing_between};
 ghost use Rattle.ddcmp_line.specs.ScriptEnds.{Around, around, IsPlayed, PausedBefore, Plays};
 ghost use Rattle.ddcmp_line.specs.ScriptProgress.{HasDone, IsPlaying, PlaysOut, Stops, Takes};
@@ -13,11 +13,11 @@ ghost use Rattle.ddcmp_line.specs.ScriptProgress.{moment, course, fresh, played}
 ghost use Rattle.ddcmp_line.specs.ScriptSteps.{TellsDevices};
 
 use crate::performing::{Stage, Stop};
-use ddcmp_carrier::Carrier;
 use ddcmp_closing::write_closing;
 use ddcmp_io::input::read_within;
 use ddcmp_io::{Got, Page, Sink, Source, Worst};
 use ddcmp_pair::Pair;
+use ddcmp_run::Carrier;
 use ddcmp_script_text::{ScriptFault, without_cr};
 use std::alloc::Global;
 

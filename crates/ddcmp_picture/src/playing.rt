@@ -7,10 +7,10 @@ use crate::canvas::{Canvas, Picture};
 use crate::flights::Flights;
 use crate::mark::Fate;
 use crate::performing::{Stage, Stop};
-use ddcmp_carrier::Carrier;
 use ddcmp_io::input::read_within;
 use ddcmp_io::{Got, Sink, Source, Worst};
 use ddcmp_pair::Pair;
+use ddcmp_run::Carrier;
 use ddcmp_script_text::{ScriptFault, without_cr};
 use std::alloc::Global;
 

@@ -3,7 +3,7 @@ use Rattle.std.specs.Io.KnownBytes.{Consumes}
 use Rattle.ddcmp_io.specs.Written.{output_of}
 use Rattle.ddcmp_io.specs.declared.device.Worst.TheVariants.{Fine}
 use Rattle.ddcmp_run.specs.Run.{PairState}
-use Rattle.ddcmp_carrier.specs.Carriages.{Carriage}
+use Rattle.ddcmp_run.specs.Carriages.{Carriage}
 use Rattle.ddcmp_line.specs.ScriptEnds.{around}
 use Rattle.ddcmp_line.specs.ScriptProgress.{IsPlaying, course, fresh, played}
 use Rattle.ddcmp_line.proofs.scripting.Player.take_all.Given as goal

@@ -2,14 +2,14 @@
 ghost use Rattle.std.specs.Prelude.{◌≡◌, [], length, take, true, false, None, is_err, IfOk, IsOk};
 ghost use Rattle.std.specs.Prelude.{IsTrue, OnErr, Bool, List, Option};
 
+use crate::event::End;
 use ddcmp_io::LineFault;
-use ddcmp_run::End;
 
 /// What carries bytes from one end of a line to the other.
 pub trait Carrier {
     ghost use Rattle.std.specs.Prelude.{◌≤◌};
     ghost use Rattle.ddcmp_io.specs.Device.{Logs};
-    ghost use Rattle.ddcmp_carrier.specs.Carriages.{Carriage, HasCarried};
+    ghost use Rattle.ddcmp_run.specs.Carriages.{Carriage, HasCarried};
 
     // What it was handed and what it gave, carry by carry, where this is known.
     ghost told: { Self → Option (List Carriage) } = { λ _. None };
