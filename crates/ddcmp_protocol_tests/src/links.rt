@@ -1,4 +1,4 @@
-//! Tests of `ddcmp_link` and `ddcmp_input`: links over queues in memory, messages of an input.
+//! Tests of `Link` and `ddcmp_input`: links over queues in memory, messages of an input.
 
 mod messages;
 mod streams;

@@ -14,7 +14,7 @@ use crate::waiting::{Descriptor, Waiting, Wanted};
 use ddcmp_frame::{Reader, ReaderRefusal};
 use ddcmp_io::text::{write_hex, write_number};
 use ddcmp_io::{Got, Page, Sink, Source, Worst, write_all};
-use ddcmp_link::{Link, Notice, State};
+use ddcmp_station::{Link, Notice, State};
 use ddcmp_station_text::{state_name, write_counters, write_notice};
 use std::alloc::{AllocError, Global};
 use std::fmt::Write;

@@ -1,9 +1,12 @@
-//! A station of DDCMP driven over a line: `drive` runs one over any reader and writer. The station
+//! A station driven over a line. `drive` runs one over any reader and writer, turn by turn; `Link` is one
+//! for an event loop, the part of `ddcmp link` that decides, without a device and a clock. The station
 //! itself, over bytes alone, is that of `ddcmp_proto`.
 #![tactic(auto)]
 
 mod driving;
 mod elapsed;
+mod link;
+mod outbox;
 mod user;
 
 pub use ddcmp_frame::{Got, Sink, Source, Worst};
@@ -14,4 +17,6 @@ pub use ddcmp_proto::{
 };
 pub use driving::{Driven, READ_ROOM, drive};
 pub use elapsed::Elapsed;
+pub use link::{Link, Totals};
+pub use outbox::ROOM;
 pub use user::{Clock, User};

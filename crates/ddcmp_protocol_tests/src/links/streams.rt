@@ -2,7 +2,7 @@
 //! of any cut and with readers that are slow.
 ghost use Rattle.std.specs.Prelude.{◌≤◌};
 
-use ddcmp_link::{Config, Link, State};
+use ddcmp_station::{Config, Link, State};
 use std::process::Abort;
 
 /// The longest message.

@@ -2,7 +2,7 @@ use Rattle.std.proofs.Common.{◌≡◌, [], ◌++◌, subst, sym, ap, arith}
 use Rattle.std.proofs.lemmas.List.{length-take, take-take}
 use Rattle.ddcmp_frame.specs.Reader.{StandsFor}
 use Rattle.ddcmp_proto.specs.Bytes.{notices_of_piece}
-use Rattle.ddcmp_link.proofs.link.Link.feed.Goals as goal
+use Rattle.ddcmp_station.proofs.link.Link.feed.Goals as goal
 
 pub feed-fed-requires : goal.feed-fed-requires
 feed-fed-requires c =

@@ -1,12 +1,12 @@
 //! A station with its way to the line and its deadline.
 ghost use Rattle.std.specs.Prelude.{◌≡◌};
 ghost use Rattle.ddcmp_core.specs.Table.{acknowledged_by};
-ghost use Rattle.ddcmp_link.specs.Linking.{is_nak_for_buffer};
+ghost use Rattle.ddcmp_station.specs.Linking.{is_nak_for_buffer};
 
 use crate::outbox::Outbox;
 use ddcmp_frame::ControlType;
 use ddcmp_frame::codes::NO_BUFFER_REASON;
-use ddcmp_station::{
+use ddcmp_proto::{
     Config, ConfigRefusal, Counters, Fed, Header, Notice, SendRefusal, StartRefusal, State, Station,
 };
 use std::alloc::Global;
@@ -51,7 +51,7 @@ impl Drop for Link {
 }
 
 impl Model for Link {
-    ghost use Rattle.ddcmp_link.specs.Linking.{LinkView};
+    ghost use Rattle.ddcmp_station.specs.Linking.{LinkView};
 
     ghost Value = { LinkView };
 
@@ -73,12 +73,12 @@ impl Link {
     ghost use Rattle.ddcmp_core.specs.Table.{after_halt, answer_to_start, has_room};
     ghost use Rattle.ddcmp_proto.specs.Bytes.{after_piece, notices_of_piece};
     ghost use Rattle.ddcmp_proto.specs.Config.{first_refusal, config_of};
-    ghost use Rattle.ddcmp_link.specs.Linking.{link_made, with_state, started, anew, after_wake};
-    ghost use Rattle.ddcmp_link.specs.Linking.{wakes_at, takes_message, after_offered};
-    ghost use Rattle.ddcmp_link.specs.Linking.{answer_to_offered, puts_frame, after_frame};
-    ghost use Rattle.ddcmp_link.specs.Linking.{after_frames, after_sent, countable};
-    ghost use Rattle.ddcmp_link.specs.Linking.{totals_after_feed, after_taking, delivered};
-    ghost use Rattle.ddcmp_link.specs.Linking.{holds_back, carries_message};
+    ghost use Rattle.ddcmp_station.specs.Linking.{link_made, with_state, started, anew, after_wake};
+    ghost use Rattle.ddcmp_station.specs.Linking.{wakes_at, takes_message, after_offered};
+    ghost use Rattle.ddcmp_station.specs.Linking.{answer_to_offered, puts_frame, after_frame};
+    ghost use Rattle.ddcmp_station.specs.Linking.{after_frames, after_sent, countable};
+    ghost use Rattle.ddcmp_station.specs.Linking.{totals_after_feed, after_taking, delivered};
+    ghost use Rattle.ddcmp_station.specs.Linking.{holds_back, carries_message};
 
     /// A halted link, whose timer runs out `timer_ms` milliseconds after it was started.
     pub fn new(alloc: Global, config: Config, timer_ms: u32) -> Result<Link, ConfigRefusal>

@@ -1,10 +1,10 @@
 use Rattle.std.proofs.Common.{◌≡◌, ◌+◌, ◌-◌, ◌≤◌, ◌++◌, ap, sym, ◌∙◌, drop, take, length, arith}
 use Rattle.std.proofs.lemmas.List.{with_items_is}
-use Rattle.ddcmp_link.specs.Linking.{bytes_of}
-use Rattle.ddcmp_link.specs.declared.outbox.TheConstants.{ROOM}
+use Rattle.ddcmp_station.specs.Linking.{bytes_of}
+use Rattle.ddcmp_station.specs.declared.outbox.TheConstants.{ROOM}
 use Rattle.ddcmp_core.specs.Table.{next, next_frame}
-use Rattle.ddcmp_link.proofs.OutboxLaws.{framed, framed_length}
-use Rattle.ddcmp_link.proofs.outbox.Outbox.put_frame.Goals as goal
+use Rattle.ddcmp_station.proofs.OutboxLaws.{framed, framed_length}
+use Rattle.ddcmp_station.proofs.outbox.Outbox.put_frame.Goals as goal
 
 pub returns-in-Some-clause-bytes : goal.returns-in-Some-clause-bytes
 returns-in-Some-clause-bytes c =

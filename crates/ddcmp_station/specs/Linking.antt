@@ -22,8 +22,8 @@ use Rattle.ddcmp_proto.specs.declared.config.Config.{Config}
 use Rattle.ddcmp_proto.specs.Station.{StationView}
 use Rattle.ddcmp_station.specs.Driving.{deadline_at, core_at_deadline, core_after_take_arm}
 use Rattle.ddcmp_station.specs.Driving.{core_after_halt}
-use Rattle.ddcmp_link.specs.declared.link.Totals.{Totals}
-use Rattle.ddcmp_link.specs.declared.outbox.TheConstants.{ROOM}
+use Rattle.ddcmp_station.specs.declared.link.Totals.{Totals}
+use Rattle.ddcmp_station.specs.declared.outbox.TheConstants.{ROOM}
 
 -- Bytes that wait for the line, and how many bytes more may.
 pub record OutboxView : Type 0 where

@@ -1,12 +1,12 @@
 //! The bytes on their way to the line.
 ghost use Rattle.std.specs.Prelude.{◌≡◌, ◌+◌, ◌≤◌, ◌++◌, IfOk, IfSome, drop, take, length, is_some};
 ghost use Rattle.std.specs.Prelude.{option_map, vec_len};
-ghost use Rattle.ddcmp_link.specs.Linking.{no_bytes, after_taken, after_put, bytes_of};
+ghost use Rattle.ddcmp_station.specs.Linking.{no_bytes, after_taken, after_put, bytes_of};
 ghost use Rattle.ddcmp_core.specs.Table.{next, next_frame};
 ghost use Rattle.ddcmp_proto.specs.Bytes.{after_poll, frame_on_line};
 ghost use Rattle.ddcmp_window.specs.Store.{with_front};
 
-use ddcmp_station::Station;
+use ddcmp_proto::Station;
 use std::alloc::{AllocError, Global};
 use std::marker::Model;
 
@@ -24,8 +24,8 @@ pub(crate) struct Outbox {
 
 impl Model for Outbox {
     ghost use Rattle.std.specs.Prelude.{◌≡◌, ◌-◌, ◌≤◌, drop, take, vec_len};
-    ghost use Rattle.ddcmp_link.specs.Linking.{OutboxView};
-    ghost use Rattle.ddcmp_link.specs.declared.outbox.TheConstants.{ROOM};
+    ghost use Rattle.ddcmp_station.specs.Linking.{OutboxView};
+    ghost use Rattle.ddcmp_station.specs.declared.outbox.TheConstants.{ROOM};
 
     ghost Value = { OutboxView };
 

@@ -1,6 +1,6 @@
 use Rattle.std.proofs.Common.{◌≡◌, ℕ, zero, suc, ap, ◌∙◌, refl}
-use Rattle.ddcmp_link.specs.Linking.{LinkView, after_frame, after_frames}
-use Rattle.ddcmp_link.proofs.link.Link.fill.Goals as goal
+use Rattle.ddcmp_station.specs.Linking.{LinkView, after_frame, after_frames}
+use Rattle.ddcmp_station.proofs.link.Link.fill.Goals as goal
 
 none : (d : LinkView) → d ≡ after_frames zero d
 unfolding after_frames

@@ -10,7 +10,7 @@ use Rattle.ddcmp_window.specs.Store.{with_front}
 use Rattle.ddcmp_core.specs.Table.{Frame, Data, Acked, Naked, Rep, Strt, Stack, Maint}
 use Rattle.ddcmp_core.specs.Frames.{header_of, message_of}
 use Rattle.ddcmp_proto.specs.Bytes.{frame_on_line}
-use Rattle.ddcmp_link.specs.Linking.{bytes_of}
+use Rattle.ddcmp_station.specs.Linking.{bytes_of}
 
 -- behind the first bytes others are put
 pub put_behind : (e k : ℕ) (xs fs rest : List ℕ) → e ≤ length xs → k ≡ length fs

@@ -1,7 +1,7 @@
 use Rattle.std.proofs.Common.{sym, ◌∙◌, arith}
 use Rattle.ddcmp_core.specs.Table.{next, next_frame}
-use Rattle.ddcmp_link.proofs.OutboxLaws.{less_room}
-use Rattle.ddcmp_link.proofs.link.Link.fill_one.Goals as goal
+use Rattle.ddcmp_station.proofs.OutboxLaws.{less_room}
+use Rattle.ddcmp_station.proofs.link.Link.fill_one.Goals as goal
 
 pub returns-clause-less : goal.returns-clause-less
 returns-clause-less c given =
