@@ -1,5 +1,5 @@
-//! Tests of the protocol from outside: of frames, windows and a core, and of a station by its calls,
-//! driven, served, and as a link.
+//! Tests of the protocol from outside: of frames, windows and a core, and of a station by its
+//! calls, driven, served, and as a link.
 #![tactic(auto)]
 
 #[cfg(test)]

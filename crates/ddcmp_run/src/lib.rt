@@ -1,5 +1,5 @@
-//! What two stations on a line do, event by event, and what is promised of it for every run; and the
-//! carriers that bring the bytes of frames from one end to the other.
+//! What two stations on a line do, event by event, and what is promised of it for every run; and
+//! the carriers that bring the bytes of frames from one end to the other.
 #![tactic(auto)]
 
 mod bytes;

@@ -1,6 +1,6 @@
-//! A tap between the two ends of a line over TCP. `Direction` takes in what comes from one side, hands
-//! it on as it is, and says of it what `explain` says of its bytes; `pump` does so both ways between two
-//! connections; `tap` listens at one address, connects to another, and pumps.
+//! A tap between the two ends of a line over TCP. `Direction` takes in what comes from one side,
+//! hands it on as it is, and says of it what `explain` says of its bytes; `pump` does so both ways
+//! between two connections; `tap` listens at one address, connects to another, and pumps.
 #![tactic(auto)]
 
 pub mod direction;
