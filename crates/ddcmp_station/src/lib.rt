@@ -1,12 +1,13 @@
-//! A station driven over a line. `drive` runs one over any reader and writer, turn by turn; `Link` is one
-//! for an event loop, the part of `ddcmp link` that decides, without a device and a clock. The station
-//! itself, over bytes alone, is that of `ddcmp_proto`.
+//! A station driven over a line. `drive` runs one over any reader and writer, turn by turn; `Link`
+//! is one for an event loop, the part of `ddcmp link` that decides, without a device and a clock.
+//! The station itself, over bytes alone, is that of `ddcmp_proto`.
 #![tactic(auto)]
 
 mod driving;
 mod elapsed;
 mod link;
 mod outbox;
+mod reply_timer;
 mod user;
 
 pub use ddcmp_frame::{Got, Sink, Source, Worst};

@@ -4,6 +4,7 @@ ghost use Rattle.ddcmp_core.specs.Table.{acknowledged_by};
 ghost use Rattle.ddcmp_station.specs.Linking.{is_nak_for_buffer};
 
 use crate::outbox::Outbox;
+use crate::reply_timer::keep_time;
 use ddcmp_frame::ControlType;
 use ddcmp_frame::codes::NO_BUFFER_REASON;
 use ddcmp_proto::{
@@ -147,18 +148,7 @@ impl Link {
     pub fn wake(&mut self, now: u64)
         ensures { self.new ≡ after_wake now self.old }
     {
-        let started = self.station.take_arm();
-        if !self.station.timer_on() {
-            return;
-        }
-        let due = match self.deadline {
-            Some(moment) if !started => moment,
-            _ => now.saturating_add(self.timer_ms as u64),
-        };
-        self.deadline = Some(due);
-        if due <= now {
-            self.station.expire();
-        }
+        keep_time(&mut self.station, now, self.timer_ms, &mut self.deadline);
     }
 
     /// The moment in milliseconds when `wake` is to be called at the latest; none while the timer
