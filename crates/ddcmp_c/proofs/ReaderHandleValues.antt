@@ -16,7 +16,7 @@ use Rattle.std.proofs.alloc.Calls.{handle_tells}
 use Rattle.std.proofs.cell.Inside.{Good}
 use Rattle.std.specs.Prelude.{Option}
 use Rattle.ddcmp_frame.specs.Reader.{ReaderView}
-use Rattle.ddcmp_c.specs.contracts.kept_reader.KeptReader as reader
+use Rattle.ddcmp_frame.specs.contracts.reader.Reader as reader
 use Rattle.ddcmp_c.specs.Owned.{reader_handle_owns}
 use Rattle.ddcmp_c.specs.contracts.reader_handle.ReaderHandle as handle
 use Rattle.ddcmp_c.proofs.LooseValues.{both}

@@ -6,7 +6,7 @@ use Rattle.std.specs.Box.Ownership.{box_owns}
 use Rattle.ddcmp_proto.specs.Station.{StationView}
 use Rattle.ddcmp_proto.specs.contracts.station.Station as station
 use Rattle.ddcmp_frame.specs.Reader.{ReaderView}
-use Rattle.ddcmp_c.specs.contracts.kept_reader.KeptReader as kept_reader
+use Rattle.ddcmp_frame.specs.contracts.reader.Reader as reader
 use base.Fml.{Fml, ftrue, ffalse}
 use denote.RattleType.{RattleType}
 use denote.RawPtr.{Ptr, block_ptr, null_ptr}
@@ -25,4 +25,4 @@ handle_owns alloc at s = null_or_box station.the_row alloc at s
 
 -- of a reader
 abbrev pub reader_handle_owns : Global → Ptr → Option ReaderView → Fml
-reader_handle_owns alloc at r = null_or_box kept_reader.the_row alloc at r
+reader_handle_owns alloc at r = null_or_box reader.the_row alloc at r

@@ -4,7 +4,6 @@
 mod asking;
 mod frame_values;
 mod handle;
-mod kept_reader;
 mod line;
 mod loose;
 mod making;

@@ -3,8 +3,8 @@ ghost use Rattle.std.specs.Prelude.{◌≡◌, Option, Some, None, option_map};
 ghost use Rattle.ddcmp_frame.specs.Reader.{ReaderView};
 ghost use Rattle.ddcmp_c.specs.Owned.{reader_handle_owns};
 
-use crate::kept_reader::KeptReader;
 use crate::loose::Loose;
+use ddcmp_frame::Reader;
 use std::alloc::Global;
 use std::marker::Model;
 use std::mem::replace;
@@ -34,7 +34,7 @@ impl ReaderHandle {
     }
 
     /// A handle with a reader.
-    pub(crate) fn seal(reader: Loose<KeptReader, Global>) -> ReaderHandle
+    pub(crate) fn seal(reader: Loose<Reader, Global>) -> ReaderHandle
         ensures { result.reader ≡ Some reader.value }
     {
         let Loose { at, alloc } = reader;
@@ -45,7 +45,7 @@ impl ReaderHandle {
     }
 
     /// The reader of a handle.
-    pub(crate) fn unseal(self) -> Option<Loose<KeptReader, Global>>
+    pub(crate) fn unseal(self) -> Option<Loose<Reader, Global>>
         ensures { option_map (λ l. l.value) result ≡ self.reader }
     {
         let ReaderHandle { at, alloc } = self;
@@ -53,7 +53,7 @@ impl ReaderHandle {
             None
         } else {
             Some(Loose {
-                at: at as *mut KeptReader,
+                at: at as *mut Reader,
                 alloc,
             })
         }
@@ -61,7 +61,7 @@ impl ReaderHandle {
 }
 
 /// Takes the reader out of a handle, which has none from then on.
-pub(crate) fn take_out(alloc: Global, handle: &mut ReaderHandle) -> Option<Box<KeptReader, Global>>
+pub(crate) fn take_out(alloc: Global, handle: &mut ReaderHandle) -> Option<Box<Reader, Global>>
     ensures taken { option_map (λ b. b.value) result ≡ handle.old.reader }
     ensures closed { handle.new.reader ≡ None }
 {
@@ -72,7 +72,7 @@ pub(crate) fn take_out(alloc: Global, handle: &mut ReaderHandle) -> Option<Box<K
 }
 
 /// Puts a reader into a handle that has none.
-pub(crate) fn put_back(handle: &mut ReaderHandle, reader: Box<KeptReader, Global>)
+pub(crate) fn put_back(handle: &mut ReaderHandle, reader: Box<Reader, Global>)
     requires { handle.old.reader ≡ None }
     ensures { handle.new.reader ≡ Some reader.value }
 {

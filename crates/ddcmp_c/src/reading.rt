@@ -9,11 +9,10 @@ ghost use Rattle.ddcmp_frame.specs.Reader.{EndsWith, open_of, frame_length};
 ghost use Rattle.ddcmp_c.specs.Frames.{given_item, taken_header, taken_item};
 
 use crate::frame_values::{CHeader, CItem, header_of_c, item_for_c};
-use crate::kept_reader::KeptReader;
 use crate::reader_handle::{ReaderHandle, put_back, take_out};
 use crate::values::{BAD_COUNT, BAD_HEADER, CLOSED, LONG_LINE, MAX, MEMORY, OK, OPEN, ROOM};
 use ddcmp_frame::laws::wire_length;
-use ddcmp_frame::{Header, MAX_COUNT, ReaderRefusal, write_frame};
+use ddcmp_frame::{Header, MAX_COUNT, Reader, ReaderRefusal, write_frame};
 use std::alloc::Global;
 
 /// Makes a reader of frames with at most `max` bytes of data in a handle that has none.
@@ -33,7 +32,7 @@ pub extern "C" fn ddcmp_reader_new(alloc: Global, max: u16, reader: &mut ReaderH
             put_back(reader, open);
             OPEN
         }
-        None => match KeptReader::new(alloc, max) {
+        None => match Reader::new(alloc, max) {
             Ok(made) => match Box::new(alloc, made) {
                 Ok(boxed) => {
                     put_back(reader, boxed);
@@ -54,6 +53,18 @@ pub extern "C" fn ddcmp_reader_free(alloc: Global, reader: &mut ReaderHandle)
     ensures { reader.new.reader ≡ None }
 {
     let _open = take_out(alloc, reader);
+}
+
+/// Copies the data that the last push lent to the front of `out`, and returns their length.
+fn copy_data(reader: &Reader, out: &mut [u8]) -> usize
+    requires { length reader.now.lent ≤ length out.old }
+    ensures length { result ≡ length reader.now.lent }
+    ensures out { out.new ≡ reader.now.lent ++ drop result out.old }
+{
+    let lent = reader.data();
+    let end = lent.len();
+    out[..end].copy_from_slice(lent);
+    end
 }
 
 /// Takes the bytes of a piece, up to and with the first that gives an item, and copies the data of
@@ -124,7 +135,7 @@ pub extern "C" fn ddcmp_reader_push(
     let taken = open.push_all(piece);
     *used = taken.used;
     *item = item_for_c(taken.item);
-    *written = open.copy(out);
+    *written = copy_data(&open, out);
     put_back(reader, open);
     OK
 }

@@ -5,8 +5,8 @@ use Rattle.std.specs.Prelude.{Result}
 use Rattle.std.proofs.lemmas.List.{take-append-drop}
 use Rattle.ddcmp_station.specs.UserCalls.{UserCall}
 use Rattle.ddcmp_station.specs.declared.driving.Driven.{Driven}
-use Rattle.ddcmp_station.specs.declared.driving.LineFault.{LineFault}
-use Rattle.ddcmp_station.specs.declared.driving.LineFault.TheVariants.{Read, Write, Ended, Memory}
+use Rattle.ddcmp_io.specs.declared.device.LineFault.{LineFault}
+use Rattle.ddcmp_io.specs.declared.device.LineFault.TheVariants.{Read, Write, Ended, Memory}
 use Rattle.ddcmp_station.specs.Driving.{DriveTurn, Driving, Devices, driving_from, after_turn}
 use Rattle.ddcmp_station.specs.Driving.{after_turns, bytes_read, IsSentPart, EndsAtFault, Drives}
 use Rattle.ddcmp_proto.specs.Station.{StationView}

@@ -9,9 +9,9 @@ use Rattle.ddcmp_core.specs.Store.{first_message}
 use Rattle.ddcmp_core.specs.Table.{Frame, is_on, may_send, after_accept, after_halt}
 use Rattle.ddcmp_proto.specs.declared.config.Config.{Config}
 use Rattle.ddcmp_station.specs.Driving.{deadline_at, is_due, core_after_take_arm, frame_bytes}
-use Rattle.ddcmp_link.specs.Linking.{LinkView, total_plus, with_state, started, anew, after_wake}
-use Rattle.ddcmp_link.specs.Linking.{after_offered, polls, frame_of_link, bytes_of as bytes_put}
-use Rattle.ddcmp_link.specs.Linking.{after_polled, after_frame, after_sent, after_taking}
+use Rattle.ddcmp_station.specs.Linking.{LinkView, total_plus, with_state, started, anew, after_wake}
+use Rattle.ddcmp_station.specs.Linking.{after_offered, polls, frame_of_link, bytes_of as bytes_put}
+use Rattle.ddcmp_station.specs.Linking.{after_polled, after_frame, after_sent, after_taking}
 use Rattle.ddcmp_run.specs.Place.{WholeFrame}
 use Rattle.ddcmp_run.specs.Run.{EndState, with_station, new_end, after_start_here, after_halt_here}
 use Rattle.ddcmp_run.specs.Run.{after_poll_here, after_arrival_here}

@@ -5,14 +5,14 @@ use Rattle.ddcmp_io.specs.Written.{Known}
 use Rattle.ddcmp_core.specs.Core.{CoreView}
 use Rattle.ddcmp_station.specs.UserCalls.{UserCall}
 use Rattle.ddcmp_station.specs.declared.driving.Driven.{Driven}
-use Rattle.ddcmp_station.specs.declared.driving.LineFault.{LineFault}
-use Rattle.ddcmp_station.specs.declared.driving.LineFault.TheVariants.{Memory}
+use Rattle.ddcmp_io.specs.declared.device.LineFault.{LineFault}
+use Rattle.ddcmp_io.specs.declared.device.LineFault.TheVariants.{Memory}
 use Rattle.ddcmp_station.specs.Driving.{Driving, Devices}
 use Rattle.ddcmp_proto.specs.Station.{StationView}
-use Rattle.ddcmp_serve.specs.declared.serve_fault.ServeFault.{ServeFault}
-use Rattle.ddcmp_serve.specs.declared.serve_fault.ServeFault.TheVariants.{Line}
-use Rattle.ddcmp_serve.specs.Serving.{usual_config, HasStarted, OffersOnce, WritesOut, report_text}
-use Rattle.ddcmp_serve.specs.Serving.{served_answer, Serves}
+use Rattle.ddcmp_net.specs.declared.serve_fault.ServeFault.{ServeFault}
+use Rattle.ddcmp_net.specs.declared.serve_fault.ServeFault.TheVariants.{Line}
+use Rattle.ddcmp_net.specs.Serving.{usual_config, HasStarted, OffersOnce, WritesOut, report_text}
+use Rattle.ddcmp_net.specs.Serving.{served_answer, Serves}
 use Rattle.ddcmp_laws.specs.Faithful.{Begins}
 use Rattle.ddcmp_callers.specs.Driven.{DriveCall, driven, IsDriven, after_drives, begun, seen_of}
 use Rattle.ddcmp_callers.specs.Served.{IsServed}

@@ -17,8 +17,8 @@ use Rattle.ddcmp_run.specs.declared.event.End.{End}
 use Rattle.ddcmp_run.specs.InOrder.{IsRun}
 use Rattle.ddcmp_run.specs.Recovery.{IsDelivered}
 use Rattle.ddcmp_run.specs.Run.{EndState, PairState, handed_up, line_bytes, is_clean, new_pair, run}
-use Rattle.ddcmp_link.specs.Linking.{frame_of_link, fits}
-use Rattle.ddcmp_link.specs.Linking.{is_held_back, is_nak_for_buffer}
+use Rattle.ddcmp_station.specs.Linking.{frame_of_link, fits}
+use Rattle.ddcmp_station.specs.Linking.{is_held_back, is_nak_for_buffer}
 use Rattle.ddcmp_recovery.proofs.Waiting.{sleeps-a, sleeps-b}
 use Rattle.ddcmp_callers.specs.Calls.{Call, noted, after_arm_here, events_in, run_calls}
 use Rattle.ddcmp_callers.specs.Links.{LinkStep, LinkHistory, Links, IsSameEnd, AreStartedOnce}

@@ -9,7 +9,7 @@ use Rattle.ddcmp_proto.specs.Config.{first_refusal}
 use Rattle.ddcmp_proto.specs.declared.config.Config.{Config}
 use Rattle.ddcmp_station.specs.Driving.{deadline_at, is_due, core_after_take_arm}
 use Rattle.ddcmp_core.specs.Core.{CoreView}
-use Rattle.ddcmp_link.specs.Linking.{LinkView, polls, delivered}
+use Rattle.ddcmp_station.specs.Linking.{LinkView, polls, delivered}
 use Rattle.ddcmp_run.specs.declared.event.End.{End}
 use Rattle.ddcmp_run.specs.declared.event.End.TheVariants.{A, B}
 use Rattle.ddcmp_run.specs.InOrder.{Delivers}

@@ -5,7 +5,7 @@ use Rattle.ddcmp_core.specs.declared.state.State.TheVariants.{Halted, Running}
 use Rattle.ddcmp_core.specs.Table.{has_room}
 use Rattle.ddcmp_proto.specs.Config.{first_refusal}
 use Rattle.ddcmp_proto.specs.declared.config.Config.{Config}
-use Rattle.ddcmp_link.specs.Linking.{LinkView, wakes_at, fits, puts_frame}
+use Rattle.ddcmp_station.specs.Linking.{LinkView, wakes_at, fits, puts_frame}
 use Rattle.ddcmp_run.specs.declared.event.End.{End}
 use Rattle.ddcmp_run.specs.Run.{new_pair}
 use Rattle.ddcmp_callers.specs.Calls.{Call, run_calls}

@@ -4,9 +4,9 @@ use Rattle.std.specs.Io.KnownBytes.{Appends, Consumes}
 use Rattle.ddcmp_io.specs.Written.{Known}
 use Rattle.ddcmp_core.specs.Core.{CoreView}
 use Rattle.ddcmp_station.specs.declared.driving.Driven.{Driven}
-use Rattle.ddcmp_station.specs.declared.driving.LineFault.{LineFault}
+use Rattle.ddcmp_io.specs.declared.device.LineFault.{LineFault}
 use Rattle.ddcmp_station.specs.Driving.{Devices, bytes_read}
-use Rattle.ddcmp_serve.specs.Serving.{usual_config, OffersOnce, WritesOut, report_text}
+use Rattle.ddcmp_net.specs.Serving.{usual_config, OffersOnce, WritesOut, report_text}
 use Rattle.ddcmp_laws.specs.Faithful.{Begins}
 use Rattle.ddcmp_callers.specs.Driven.{DriveCall, after_drives, begun, seen_of}
 

@@ -4,13 +4,13 @@ ghost use Rattle.std.specs.Prelude.{◌≡◌, ◌≤◌, ◌∷◌, ◌++◌, �
 ghost use Rattle.std.specs.Prelude.{min, length, take, option_map, option_to_list};
 ghost use Rattle.ddcmp_frame.specs.Reader.{StandsFor};
 ghost use Rattle.ddcmp_core.specs.Table.{acknowledged_by, after_halt, answer_to_start};
-ghost use Rattle.ddcmp_link.specs.Linking.{countable, answer_to_offered, puts_frame};
+ghost use Rattle.ddcmp_station.specs.Linking.{countable, answer_to_offered, puts_frame};
 ghost use Rattle.ddcmp_proto.specs.Bytes.{notices_of_piece};
 ghost use Rattle.ddcmp_run.specs.Run.{acknowledged_in};
 ghost use Rattle.ddcmp_callers.specs.Links.{Starts, BeginsAnew, Halts, Wakes, Offers, FillsOne};
 ghost use Rattle.ddcmp_callers.specs.Links.{IsSent, Feeds, Takes, HasDone, accepted_by, taken_by};
 
-use ddcmp_link::{Fed, Link, SendRefusal, StartRefusal};
+use ddcmp_station::{Fed, Link, SendRefusal, StartRefusal};
 
 /// A start of a station.
 pub fn starts(link: &mut Link) -> Result<u8, StartRefusal>

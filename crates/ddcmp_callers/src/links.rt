@@ -1,7 +1,7 @@
 //! Links, and two of them over streams.
 ghost use Rattle.std.specs.Prelude.{◌≡◌, ◌⊎◌, ℕ, List, true};
 ghost use Rattle.ddcmp_frame.specs.Reader.{ReaderView};
-ghost use Rattle.ddcmp_link.specs.Linking.{delivered};
+ghost use Rattle.ddcmp_station.specs.Linking.{delivered};
 ghost use Rattle.ddcmp_proto.specs.declared.config.Config.{Config as ConfigValue};
 ghost use Rattle.ddcmp_run.specs.Run.{EndState, new_end, new_pair};
 ghost use Rattle.ddcmp_callers.specs.Calls.{after_calls_here, run_calls};

@@ -1,11 +1,11 @@
 //! Served stations.
 ghost use Rattle.std.specs.Prelude.{◌≢◌, ℕ, Bool, List, Result, Err};
 ghost use Rattle.ddcmp_io.specs.Written.{Known};
-ghost use Rattle.ddcmp_station.specs.declared.driving.LineFault.TheVariants.{Memory};
+ghost use Rattle.ddcmp_io.specs.declared.device.LineFault.TheVariants.{Memory};
 ghost use Rattle.ddcmp_station.specs.Driving.{Devices};
-ghost use Rattle.ddcmp_serve.specs.declared.serve_fault.ServeFault.{ServeFault as ServeFaultValue};
-ghost use Rattle.ddcmp_serve.specs.declared.serve_fault.ServeFault.TheVariants.{Line};
-ghost use Rattle.ddcmp_serve.specs.Serving.{Serves};
+ghost use Rattle.ddcmp_net.specs.declared.serve_fault.ServeFault.{ServeFault as ServeFaultValue};
+ghost use Rattle.ddcmp_net.specs.declared.serve_fault.ServeFault.TheVariants.{Line};
+ghost use Rattle.ddcmp_net.specs.Serving.{Serves};
 ghost use Rattle.ddcmp_callers.specs.Driven.{DriveCall};
 ghost use Rattle.ddcmp_callers.specs.Served.{IsServed};
 

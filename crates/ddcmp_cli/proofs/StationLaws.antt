@@ -10,9 +10,9 @@ use Rattle.ddcmp_words.specs.declared.served.Role.{Role}
 use Rattle.ddcmp_cli.specs.Connections.{Peers}
 use Rattle.ddcmp_cli.specs.declared.ending.Ending.TheVariants.{Fault as Faulted}
 use Rattle.ddcmp_cli.specs.declared.fault.Fault.TheVariants.{Memory as NoMemory}
-use Rattle.ddcmp_serve.specs.declared.serve_fault.ServeFault.{ServeFault}
-use Rattle.ddcmp_serve.specs.declared.serve_fault.ServeFault.TheVariants as serving
-use Rattle.ddcmp_station.specs.declared.driving.LineFault.TheVariants as line
+use Rattle.ddcmp_net.specs.declared.serve_fault.ServeFault.{ServeFault}
+use Rattle.ddcmp_net.specs.declared.serve_fault.ServeFault.TheVariants as serving
+use Rattle.ddcmp_io.specs.declared.device.LineFault.TheVariants as line
 use Rattle.ddcmp_cli.specs.Endings.{Connects, SendsDecoded, Stations, ending_of, serve_fault}
 
 decoded : (peers : Peers) (role : Role) (served : Served) (d : Result (List ℕ) FromHexError)

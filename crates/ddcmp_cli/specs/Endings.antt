@@ -16,7 +16,7 @@ use Rattle.ddcmp_cli.specs.declared.fault.Fault.TheVariants.{Hex as NotHexIn, Me
 use Rattle.ddcmp_cli.specs.declared.fault.Fault.TheVariants.{Memory as NoMemory, Carrier, Ended}
 use Rattle.ddcmp_cli.specs.declared.fault.Fault.TheVariants.{Lost}
 use Rattle.ddcmp_run.specs.Run.{PairState, new_pair}
-use Rattle.ddcmp_script.specs.ScriptEnds.{around, Plays}
+use Rattle.ddcmp_line.specs.ScriptEnds.{around, Plays}
 use Rattle.ddcmp_proto.specs.declared.config.Config.{Config}
 use Rattle.ddcmp_station.specs.Config.{first_refusal}
 use Rattle.ddcmp_cli.specs.declared.ending.Ending.{Ending}
@@ -37,9 +37,9 @@ use Rattle.ddcmp_words.specs.declared.explained.Explained.{Explained}
 use Rattle.ddcmp_words.specs.declared.served.Served.{Served}
 use Rattle.ddcmp_words.specs.declared.served.Role.{Role}
 use Rattle.ddcmp_cli.specs.Connections.{Peers}
-use Rattle.ddcmp_serve.specs.declared.serve_fault.ServeFault.{ServeFault}
-use Rattle.ddcmp_serve.specs.declared.serve_fault.ServeFault.TheVariants as serving
-use Rattle.ddcmp_station.specs.declared.driving.LineFault.TheVariants as line
+use Rattle.ddcmp_net.specs.declared.serve_fault.ServeFault.{ServeFault}
+use Rattle.ddcmp_net.specs.declared.serve_fault.ServeFault.TheVariants as serving
+use Rattle.ddcmp_io.specs.declared.device.LineFault.TheVariants as line
 use Rattle.ddcmp_words.specs.declared.tapped.Tapped.{Tapped}
 use Rattle.ddcmp_words.specs.declared.declined.Declined.{Declined}
 use Rattle.ddcmp_words.specs.declared.declined.Declined.TheVariants.{Help, Version, Usage, Memory}
@@ -52,11 +52,11 @@ use Rattle.ddcmp_words.specs.Words.{HasExplain, HasStation, HasTap, Reads, optio
 use Rattle.ddcmp_core.specs.Limits.{MAX_COUNT}
 use Rattle.ddcmp_explain.specs.Dumps.{ExplainsDump}
 use Rattle.ddcmp_explain.specs.Explains.{Explains}
-use Rattle.ddcmp_serve.specs.Serving.{Serves}
+use Rattle.ddcmp_net.specs.Serving.{Serves}
 use Rattle.ddcmp_station.specs.Driving.{Devices}
 use Rattle.ddcmp_cli.specs.TapEndings.{tap_fault, told_as}
-use Rattle.ddcmp_pump.specs.Pumping.{Says, head_of}
-use Rattle.ddcmp_pump.specs.declared.tap_fault.TapFault.{TapFault}
+use Rattle.ddcmp_tap.specs.Pumping.{Says, head_of}
+use Rattle.ddcmp_tap.specs.declared.tap_fault.TapFault.{TapFault}
 use Rattle.ddcmp_cli.specs.LinkEndings.{IsLinkEnding}
 use Rattle.hex.specs.Hex.{decode_of}
 use Rattle.hex.specs.declared.error.FromHexError.{FromHexError}

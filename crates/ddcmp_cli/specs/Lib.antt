@@ -9,5 +9,5 @@ pub use Rattle.ddcmp_explain.specs.Json
 pub use Rattle.ddcmp_explain.specs.Output
 pub use Rattle.ddcmp_explain.specs.Explains
 pub use Rattle.ddcmp_explain.specs.Dumps
-pub use Rattle.ddcmp_serve.specs.Serving
+pub use Rattle.ddcmp_net.specs.Serving
 pub use Rattle.ddcmp_words.specs.Words

@@ -5,8 +5,8 @@ use Rattle.ddcmp_explain.specs.declared.notation.Notation.TheVariants.{Plain, Js
 use Rattle.ddcmp_tap.specs.declared.notation.Notation.{Notation as TapNotation}
 use Rattle.ddcmp_tap.specs.declared.notation.Notation.TheVariants as told
 use Rattle.ddcmp_words.specs.declared.tapped.Tapped.{Tapped}
-use Rattle.ddcmp_pump.specs.declared.tap_fault.TapFault.{TapFault}
-use Rattle.ddcmp_pump.specs.declared.tap_fault.TapFault.TheVariants as tapping
+use Rattle.ddcmp_tap.specs.declared.tap_fault.TapFault.{TapFault}
+use Rattle.ddcmp_tap.specs.declared.tap_fault.TapFault.TheVariants as tapping
 use Rattle.ddcmp_cli.specs.declared.fault.Fault.{Fault}
 use Rattle.ddcmp_cli.specs.declared.fault.Fault.TheVariants.{Read, Write, Memory as NoMemory}
 use Rattle.ddcmp_cli.specs.declared.fault.Fault.TheVariants.{Carrier}

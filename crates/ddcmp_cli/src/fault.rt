@@ -3,8 +3,8 @@ ghost use Rattle.std.specs.Prelude.{◌≡◌};
 ghost use Rattle.ddcmp_cli.specs.Endings.{dump_fault, explain_fault, script_fault, serve_fault};
 
 use ddcmp_explain::{DumpFault, ExplainFault, NotDumped};
-use ddcmp_script::ScriptFault;
-use ddcmp_serve::ServeFault;
+use ddcmp_line::ScriptFault;
+use ddcmp_net::ServeFault;
 use ddcmp_station::LineFault;
 use std::fmt;
 

@@ -19,9 +19,9 @@ pub use ddcmp_explain::{
     DumpFault, ExplainFault, Form, NotDumped, Notation, Style, dump_fault, dumped, explain,
     explain_as, explain_dump, explain_fault, explain_with, explaining, form, notation, style,
 };
-pub use ddcmp_pump::{TapFault, tap_fault};
-pub use ddcmp_serve::{SERVED_MAX, ServeFault, serve, serve_fault, serving};
+pub use ddcmp_net::{SERVED_MAX, ServeFault, serve, serve_fault, serving};
 pub use ddcmp_service::{Options, Served as LinkServed, ServiceFault};
+pub use ddcmp_tap::{TapFault, tap_fault};
 pub use ddcmp_words::{
     Command, Declined, Linked, Role, Served, Tapped, View, command, declined, linked, read_words,
     served, tapped, view,

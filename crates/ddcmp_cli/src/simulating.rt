@@ -7,7 +7,7 @@ ghost use Rattle.ddcmp_cli.specs.Endings.{PlaysBetween, TellsDevices, streams};
 use crate::ending::Ending;
 use crate::fault::Fault;
 use ddcmp_io::{Sink, Source, Worst};
-use ddcmp_script::{Carrier, script_with};
+use ddcmp_line::{Carrier, script_with};
 use ddcmp_station::Config;
 use std::alloc::Global;
 

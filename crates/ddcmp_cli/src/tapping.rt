@@ -9,8 +9,7 @@ use crate::fault::Fault;
 use crate::stationing::usage;
 use ddcmp_explain::Notation;
 use ddcmp_io::Sink;
-use ddcmp_pump::TapFault;
-use ddcmp_tap::Notation as TapNotation;
+use ddcmp_tap::{Notation as TapNotation, TapFault};
 use ddcmp_words::Tapped;
 use std::alloc::Global;
 use std::net::{Net, TcpStream};
@@ -69,7 +68,7 @@ fn tap_between<S: Net<Stream = TcpStream> + time::Clock, W: Sink>(
     ensures taps { Taps tapped.now (W.contents writer.old) (W.contents writer.new) result }
     ensures written { IsTrue (W.broken writer.new) → result ≡ Ending.Fault Fault.Write }
 {
-    match ddcmp_pump::tap(
+    match ddcmp_tap::tap(
         system,
         alloc,
         tapped.listen,

@@ -16,7 +16,7 @@ use Rattle.ddcmp_explain.proofs.DigitLaws.{digits-more, digits-found, digits-bla
 use Rattle.ddcmp_explain.proofs.DigitLaws.{digits-unexpected, digits-digit, pairs-held, pairs-whole}
 use Rattle.ddcmp_explain.proofs.DigitLaws.{readable-digit, readable-blank, readable-neither}
 use Rattle.ddcmp_explain.proofs.DigitLaws.{unexpected-none, digits-none}
-use Rattle.ddcmp_explain.proofs.VectorLaws.{sixteen}
+use Rattle.ddcmp_io.proofs.VectorLaws.{sixteen}
 
 module _ (seen piece bytes : List ℕ) (i n : ℕ) (high : Option ℕ) (inside : i < length piece)
     (so_far : Decodes Hex seen (take i piece) (record { count = n; unexpected = None }) bytes high)

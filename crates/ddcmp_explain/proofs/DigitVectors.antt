@@ -9,7 +9,7 @@ use lib.Lanes.{zip2, sel_l, mask_l, top, pick_l, Each1}
 use Rattle.ddcmp_explain.specs.declared.hex_digits.TheConstants.{HEX_VALUES}
 use Rattle.ddcmp_explain.specs.Digits.{hex_value, pairs}
 use Rattle.ddcmp_explain.proofs.HexValues.{value-of-digit}
-use Rattle.ddcmp_explain.proofs.VectorLaws.{add, sixteen}
+use Rattle.ddcmp_io.proofs.VectorLaws.{add, sixteen}
 
 -- ---- the value of a digit
 

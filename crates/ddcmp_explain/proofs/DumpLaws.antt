@@ -5,11 +5,11 @@ use Rattle.std.proofs.Common.{None, Result, Ok, Err, length-append, inl, inr}
 use Rattle.std.specs.Prelude.{◌⊎◌, ◌↔◌, IsOk, IsTrue}
 use Rattle.std.specs.Io.KnownBytes.{Consumes}
 use Rattle.std.proofs.KnownBytes.{Appends-nil, Consumes-trans}
-use Rattle.ddcmp_dump.specs.declared.place.Place.{Place}
-use Rattle.ddcmp_dump.specs.declared.place.Place.TheVariants.{Start}
-use Rattle.ddcmp_dump.specs.Dump.{DumpView, dump_after, dump_begun, line_from, not_dumped}
-use Rattle.ddcmp_dump.specs.Dump.{place_after, place_from, shown, shown_from}
-use Rattle.ddcmp_dump.proofs.DumpLaws.{shown-more, place-more, line-more}
+use Rattle.ddcmp_input.specs.declared.place.Place.{Place}
+use Rattle.ddcmp_input.specs.declared.place.Place.TheVariants.{Start}
+use Rattle.ddcmp_input.specs.Dump.{DumpView, dump_after, dump_begun, line_from, not_dumped}
+use Rattle.ddcmp_input.specs.Dump.{place_after, place_from, shown, shown_from}
+use Rattle.ddcmp_input.proofs.DumpLaws.{shown-more, place-more, line-more}
 use Rattle.std.proofs.lemmas.List.{append-nil}
 use Rattle.ddcmp_io.specs.declared.device.Worst.{Worst}
 use Rattle.ddcmp_io.specs.declared.device.Worst.TheVariants.{Fine}

@@ -11,6 +11,5 @@ pub mod HeadLaws
 pub mod RestLaws
 pub mod PartLaws
 pub mod LineLaws
-pub mod VectorLaws
 pub mod DigitVectors
 pub mod AdjoinLaws

@@ -1,7 +1,7 @@
 -- What explain writes and answers of a dump: what it does of the dump's text as digits, with all
 -- blank but those of its data.
 use Rattle.std.specs.Prelude.{◌≡◌, ℕ, List, ◌++◌, Some, Result, Ok, Err}
-use Rattle.ddcmp_dump.specs.Dump.{DumpView, dump_after, dump_begun, not_dumped, shown}
+use Rattle.ddcmp_input.specs.Dump.{DumpView, dump_after, dump_begun, not_dumped, shown}
 use Rattle.ddcmp_io.specs.Written.{Known}
 use Rattle.ddcmp_explain.specs.declared.dump_fault.DumpFault.{DumpFault}
 use Rattle.ddcmp_explain.specs.declared.dump_fault.DumpFault.TheVariants.{Line, Read, Write, Memory}

@@ -33,8 +33,8 @@ fn put_passed(line: &mut [u8; LINE], notation: Notation, from: u64, count: u64) 
     }
 }
 
-/// The line of bytes that were passed over: the offset of the first, and how many.
-pub(crate) fn write_passed<W: Sink>(
+/// Writes the line of bytes that were passed over: the offset of the first, and how many.
+pub fn write_discarded<W: Sink>(
     page: &mut Page,
     writer: &mut W,
     notation: Notation,

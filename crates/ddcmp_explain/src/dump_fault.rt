@@ -1,5 +1,5 @@
 //! Why a dump wasn't explained to its end.
-use ddcmp_dump::NotDumped;
+use ddcmp_input::NotDumped;
 use thiserror::Error;
 
 /// Why a dump wasn't explained to its end.

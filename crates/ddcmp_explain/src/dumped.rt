@@ -2,7 +2,7 @@
 ghost use Rattle.std.specs.Prelude.{◌≡◌, ◌≢◌, ◌⊎◌, ◌↔◌, ◌+◌, ◌-◌, ◌<◌, ◌≤◌, ◌^◌, ◌++◌, [], false};
 ghost use Rattle.std.specs.Prelude.{IsOk, IsTrue, List, ℕ, None, Option, Some, length};
 ghost use Rattle.std.specs.Io.KnownBytes.{Consumes};
-ghost use Rattle.ddcmp_dump.specs.Dump.{dump_after, shown, shown_from};
+ghost use Rattle.ddcmp_input.specs.Dump.{dump_after, shown, shown_from};
 ghost use Rattle.ddcmp_frame.specs.Limits.{MAX_COUNT};
 ghost use Rattle.ddcmp_explain.specs.Dumps.{ExplainsDump, dump_answer};
 ghost use Rattle.ddcmp_explain.specs.Explains.{Tells, refusal};
@@ -14,8 +14,8 @@ use crate::explain_fault::ExplainFault;
 use crate::explainer::{Explainer, PIECE};
 use crate::form::Form;
 use crate::style::Style;
-use ddcmp_dump::Dump;
 use ddcmp_frame::Reader;
+use ddcmp_input::Dump;
 use ddcmp_io::input::read_within;
 use ddcmp_io::{Got, Sink, Source, Worst};
 use std::alloc::Global;

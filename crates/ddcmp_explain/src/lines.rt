@@ -10,8 +10,9 @@ ghost use Rattle.ddcmp_explain.specs.Discarded.{rest_by};
 ghost use Rattle.ddcmp_explain.specs.Discarded.{passed, taken_by};
 ghost use Rattle.ddcmp_explain.specs.Heads.{Heads};
 
-use crate::discarded::{frame_length, write_open, write_passed};
+use crate::discarded::{frame_length, write_discarded, write_open};
 use crate::head::Head;
+use crate::notation::{write_item, write_last};
 use crate::style::Style;
 use ddcmp_frame::{Item, Pushed, Reader};
 use ddcmp_io::{Page, Sink, WriteFailed};
@@ -102,9 +103,7 @@ impl Lines {
             Some(item) => {
                 self.items += 1;
                 let data = self.frames.data();
-                self.style
-                    .notation
-                    .write_item(&mut self.page, writer, &item, data);
+                write_item(&mut self.page, writer, self.style.notation, &item, data);
             }
             None => {}
         }
@@ -132,9 +131,7 @@ impl Lines {
                 self.items += 1;
                 self.reach(writer, &item);
                 let data = self.frames.data();
-                self.style
-                    .notation
-                    .write_item(&mut self.page, writer, &item, data);
+                write_item(&mut self.page, writer, self.style.notation, &item, data);
             }
             None => {}
         }
@@ -172,7 +169,7 @@ impl Lines {
         let Reached { offset, taken } = self.reached;
         if offset < to && taken < to - offset {
             let from = offset + taken;
-            write_passed(&mut self.page, writer, self.style.notation, from, to - from);
+            write_discarded(&mut self.page, writer, self.style.notation, from, to - from);
         }
     }
 
@@ -262,9 +259,15 @@ impl Lines {
         let bytes = self.frames.offset();
         let left_open = self.frames.open() as u64;
         self.tell_end(writer, bytes, left_open);
-        self.style
-            .notation
-            .write_last(&mut self.page, writer, self.items, bytes, left_open);
+        let notation = self.style.notation;
+        write_last(
+            &mut self.page,
+            writer,
+            notation,
+            self.items,
+            bytes,
+            left_open,
+        );
         self.page.flush(writer)
     }
 }

@@ -4,11 +4,11 @@ ghost use Rattle.ddcmp_io.specs.Written.{HandsOver, output_of};
 ghost use Rattle.ddcmp_explain.specs.Output.{behind_in, front_in, line_in, totals_in};
 ghost use Rattle.ddcmp_explain.specs.Putting.{Puts};
 
-use crate::hex_text::write_hex;
 use crate::json::{put_json_front, put_json_totals};
 use crate::put::LINE;
 use crate::text::{lends, put_front, put_totals};
 use ddcmp_frame::Item;
+use ddcmp_io::text::write_hex;
 use ddcmp_io::{Page, Sink};
 
 /// How lines are written.
@@ -45,28 +45,6 @@ impl Notation {
         }
     }
 
-    /// The line of an item, with the data that it lends.
-    #[inline(always)]
-    pub(crate) fn write_item<W: Sink>(
-        self,
-        page: &mut Page,
-        writer: &mut W,
-        item: &Item,
-        data: &[u8],
-    )
-        ensures { HandsOver (output_of W.broken W.contents writer.old page.old)
-            (output_of W.broken W.contents writer.new page.new)
-            (line_in self (item.now, «data».now)) }
-    {
-        let mut line = [0; LINE];
-        let end = self.put_front(&mut line, item);
-        page.write(writer, &line[..end]);
-        if lends(item) {
-            write_hex(page, writer, data);
-            self.write_behind(page, writer);
-        }
-    }
-
     /// The text of the last line.
     fn put_totals(self, line: &mut [u8; LINE], items: u64, bytes: u64, left_open: u64) -> usize
         ensures puts { Puts line.old 0 line.new result (totals_in self items bytes left_open) }
@@ -77,22 +55,45 @@ impl Notation {
             Notation::Json => put_json_totals(line, items, bytes, left_open),
         }
     }
+}
 
-    /// The last line: how many items, how many bytes, and how many of these of an unfinished frame.
-    pub(crate) fn write_last<W: Sink>(
-        self,
-        page: &mut Page,
-        writer: &mut W,
-        items: u64,
-        bytes: u64,
-        left_open: u64,
-    )
-        ensures { HandsOver (output_of W.broken W.contents writer.old page.old)
-            (output_of W.broken W.contents writer.new page.new)
-            (totals_in self items bytes left_open) }
-    {
-        let mut line = [0; LINE];
-        let end = self.put_totals(&mut line, items, bytes, left_open);
-        page.write(writer, &line[..end]);
+/// Writes the line of an item, with the data that it lends.
+#[inline(always)]
+pub fn write_item<W: Sink>(
+    page: &mut Page,
+    writer: &mut W,
+    notation: Notation,
+    item: &Item,
+    data: &[u8],
+)
+    ensures { HandsOver (output_of W.broken W.contents writer.old page.old)
+        (output_of W.broken W.contents writer.new page.new)
+        (line_in notation (item.now, «data».now)) }
+{
+    let mut line = [0; LINE];
+    let end = notation.put_front(&mut line, item);
+    page.write(writer, &line[..end]);
+    if lends(item) {
+        write_hex(page, writer, data);
+        notation.write_behind(page, writer);
     }
+}
+
+/// Writes the last line: how many items, how many bytes, and how many of these of an unfinished
+/// frame.
+pub fn write_last<W: Sink>(
+    page: &mut Page,
+    writer: &mut W,
+    notation: Notation,
+    items: u64,
+    bytes: u64,
+    left_open: u64,
+)
+    ensures { HandsOver (output_of W.broken W.contents writer.old page.old)
+        (output_of W.broken W.contents writer.new page.new)
+        (totals_in notation items bytes left_open) }
+{
+    let mut line = [0; LINE];
+    let end = notation.put_totals(&mut line, items, bytes, left_open);
+    page.write(writer, &line[..end]);
 }

@@ -89,6 +89,13 @@ impl Reader {
         &self.scan.buffer[8..8 + self.scan.lent]
     }
 
+    /// The most data that a frame may have.
+    pub fn max(&self) -> u16
+        ensures { result ≡ self.now.max }
+    {
+        self.scan.max
+    }
+
     /// The number of bytes so far.
     pub fn offset(&self) -> u64
         ensures value { result ≡ self.now.offset }

@@ -1,3 +1,4 @@
 pub mod WrittenLaws
 pub mod Inputs
 pub mod TextLaws
+pub mod VectorLaws

@@ -97,6 +97,19 @@ pub fn write_all<W: Sink>(writer: &mut W, bytes: &[u8]) -> Result<(), WriteFaile
     Ok(())
 }
 
+/// Why a line could not be used any further.
+#[derive(Clone, Copy, Debug, PartialEq, Eq)]
+pub enum LineFault {
+    /// A read failed.
+    Read,
+    /// A write failed. How much of the last frame went out isn't known.
+    Write,
+    /// A read gave no bytes: the line ended.
+    Ended,
+    /// Memory was refused, before anything was done.
+    Memory,
+}
+
 /// Any `Read` as a source. A read that would block, times out or is interrupted is idle; every
 /// other error is a failure.
 #[derive(Drop)]

@@ -5,8 +5,10 @@
 pub mod device;
 pub mod failing;
 pub mod input;
+pub mod memory;
 pub mod page;
 pub mod text;
 
-pub use device::{FromRead, Got, Sink, Source, ToWrite, Worst, WriteFailed, write_all};
+pub use device::{FromRead, Got, LineFault, Sink, Source, ToWrite, Worst, WriteFailed, write_all};
+pub use memory::MemorySink;
 pub use page::Page;

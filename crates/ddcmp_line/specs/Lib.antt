@@ -1,10 +1,11 @@
-pub use Rattle.ddcmp_carrier.specs.Carriages
+pub mod Script
+pub mod ScriptSteps
+pub mod ScriptEnds
+pub mod ScriptProgress
+pub use Rattle.ddcmp_run.specs.Carriages
 pub use Rattle.ddcmp_io.specs.Input
 pub use Rattle.ddcmp_net.specs.Connection
-pub use Rattle.ddcmp_script.specs.Script
-pub use Rattle.ddcmp_script.specs.ScriptSteps
-pub use Rattle.ddcmp_script.specs.ScriptEnds
-pub use Rattle.ddcmp_script.specs.ScriptProgress
 pub use Rattle.ddcmp_script_text.specs.ScriptText
 pub use Rattle.ddcmp_script_text.specs.ScriptWords
 pub use Rattle.ddcmp_station_text.specs.StationText
+pub use Rattle.ddcmp_station_text.specs.CountersText

@@ -1,6 +1,11 @@
-//! Two stations on a line, joined by a carrier: a script says what happens between them. This is
-//! one name for what the crates below hold.
+//! Two stations on a line, joined by a carrier: `script` does what the lines of a text say happens
+//! between them, and writes what comes of it. What else such a program needs is passed on from the
+//! crates below.
 #![tactic(auto)]
+
+mod frame_lines;
+mod performing;
+mod scripting;
 
 pub use ddcmp_io::{input, text};
 pub use ddcmp_net::Sockets;
@@ -9,5 +14,7 @@ pub use ddcmp_pair::{
     Recovered, Reply, RunRefusal, SendRefusal, Seq, Settled, StartRefusal, State, Station, laws,
     run,
 };
-pub use ddcmp_script::{Carrier, Direct, LineFault, ScriptFault, script};
+pub use ddcmp_run::{Carrier, Direct, LineFault};
+pub use ddcmp_script_text::ScriptFault;
 pub use ddcmp_station_text::{state_name, write_notice};
+pub use scripting::{script, script_with};

@@ -1,1 +1,3 @@
 pub mod Connection
+pub mod Serving
+pub mod Reporting

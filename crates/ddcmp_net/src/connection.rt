@@ -1,8 +1,7 @@
-//! The connection of a station, and the time.
-use ddcmp_station::Clock;
+//! The connection of a station.
 use std::io;
 use std::net::{Net, OpenListener, TcpListener, TcpStream};
-use std::time::{self, Duration, Instant};
+use std::time::Duration;
 
 /// How long a read waits for bytes, in milliseconds.
 const READ_WAIT_MS: u64 = 10;
@@ -27,33 +26,4 @@ pub fn connect<N: Net<Stream = TcpStream>>(net: &N, addr: &str) -> io::Result<Tc
 pub fn accept<N: Net<Stream = TcpStream>>(net: &N, addr: &str) -> io::Result<TcpStream> {
     let (stream, _peer) = TcpListener::bind(net, addr)?.accept()?;
     patient(stream)
-}
-
-/// The time since the making, as the system's clock tells it. Where that fails, the time stands.
-#[derive(Drop)]
-pub struct Elapsed<'a, C> {
-    clock: &'a C,
-    start: io::Result<Instant>,
-    told: u64,
-}
-
-impl<'a, C: time::Clock> Elapsed<'a, C> {
-    pub fn new(clock: &'a C) -> Self {
-        Elapsed {
-            clock,
-            start: Instant::now(clock),
-            told: 0,
-        }
-    }
-}
-
-impl<C: time::Clock> Clock for Elapsed<'_, C> {
-    fn now(&mut self) -> u64 {
-        if let Ok(start) = &self.start {
-            if let Ok(passed) = start.elapsed(self.clock) {
-                self.told = u64::try_from(passed.as_millis()).unwrap_or(u64::MAX);
-            }
-        }
-        self.told
-    }
 }

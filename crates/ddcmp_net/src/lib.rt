@@ -1,9 +1,15 @@
-//! All that goes over a network: a carrier over a connection of the program with itself, and the
-//! connection of a station, with the time that it goes by.
+//! Stations over a network: `serve` drives one of the usual sizes over a line and reports what
+//! happens to it, `connect` and `accept` open its connection, and `Sockets` is a carrier over a
+//! connection of the program with itself.
 #![tactic(auto)]
 
 mod connection;
+mod reporter;
+pub mod serve_fault;
+pub mod serving;
 mod sockets;
 
-pub use connection::{Elapsed, accept, connect};
+pub use connection::{accept, connect};
+pub use serve_fault::ServeFault;
+pub use serving::{SERVED_MAX, serve};
 pub use sockets::Sockets;

@@ -1,7 +1,6 @@
 // The time that a station, a tap and a link are told, over a clock of the test's own.
 use crate::same::is;
-use ddcmp_net::Elapsed;
-use ddcmp_station::Clock;
+use ddcmp_station::{Clock, Elapsed};
 use std::cell::Cell;
 use std::io::{self, ErrorKind};
 use std::process::Abort;

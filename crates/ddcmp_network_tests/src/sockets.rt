@@ -2,8 +2,8 @@
 // alone, that hand over the stream of another, or that keep a handle of each stream.
 
 use crate::same::is;
-use ddcmp_carrier::{Carrier, End, LineFault};
 use ddcmp_net::Sockets;
+use ddcmp_run::{Carrier, End, LineFault};
 use std::cell::Cell;
 use std::io::{self, ErrorKind, Write};
 use std::net::{Net, OpenListener, SocketAddr, TcpListener, TcpStream};

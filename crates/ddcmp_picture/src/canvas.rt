@@ -3,10 +3,9 @@ ghost use Rattle.std.specs.Prelude.{◌≡◌, not};
 
 use crate::ladder::{write_ladder, write_ladder_head};
 use crate::mark::Mark;
-use crate::sheet::Sheet;
 use crate::svg::{write_document, write_element};
 use ddcmp_closing::write_closing;
-use ddcmp_io::{Page, Sink};
+use ddcmp_io::{MemorySink, Page, Sink};
 use ddcmp_pair::Pair;
 use std::alloc::Global;
 
@@ -26,7 +25,7 @@ pub(crate) struct Canvas {
     page: Page,
     /// What goes to the sheet, where a document is drawn.
     draft: Page,
-    sheet: Sheet,
+    sheet: MemorySink,
     /// How many rows there are so far.
     rows: u64,
 }
@@ -59,7 +58,7 @@ impl Canvas {
             picture,
             page: Page::new(),
             draft: Page::new(),
-            sheet: Sheet::new(alloc),
+            sheet: MemorySink::new(alloc),
             rows: 0,
         }
     }
@@ -112,7 +111,7 @@ impl Canvas {
         counted: bool,
     ) -> bool {
         let is_drawn = self.draft.flush(&mut self.sheet).is_ok();
-        let mut caption = Sheet::new(alloc);
+        let mut caption = MemorySink::new(alloc);
         if let Some(pair) = closing {
             write_closing(&mut self.draft, &mut caption, pair, counted);
         }
@@ -120,9 +119,9 @@ impl Canvas {
         write_document(
             &mut self.page,
             writer,
-            self.sheet.as_slice(),
+            self.sheet.bytes.as_slice(),
             self.rows,
-            caption.as_slice(),
+            caption.bytes.as_slice(),
         );
         is_drawn && is_said
     }

@@ -14,7 +14,6 @@ mod ladder;
 mod mark;
 mod performing;
 mod playing;
-mod sheet;
 mod short_text;
 mod svg;
 

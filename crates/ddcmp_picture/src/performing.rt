@@ -6,9 +6,9 @@ use crate::flights::{Flight, Flights};
 use crate::labels::{holding_text, label_of, notice_text, numbers_text, without_lf};
 use crate::mark::{Fate, Mark, Trip};
 use crate::short_text::ShortText;
-use ddcmp_carrier::Carrier;
 use ddcmp_io::Sink;
 use ddcmp_pair::{Bytes, End, Event, Memory, Notice, Pair, Reply, State};
+use ddcmp_run::Carrier;
 use ddcmp_script_text::{
     ParsedLine, ScriptCommand, clear_refusal_name, damage_name, expired_name, read_line,
     send_refusal_name, start_refusal_name,

@@ -7,10 +7,10 @@ use crate::canvas::{Canvas, Picture};
 use crate::flights::Flights;
 use crate::mark::Fate;
 use crate::performing::{Stage, Stop};
-use ddcmp_carrier::Carrier;
 use ddcmp_io::input::read_within;
 use ddcmp_io::{Got, Sink, Source, Worst};
 use ddcmp_pair::Pair;
+use ddcmp_run::Carrier;
 use ddcmp_script_text::{ScriptFault, without_cr};
 use std::alloc::Global;
 
@@ -234,7 +234,7 @@ impl Player {
 }
 
 /// Does what the lines of a script say, and draws what comes of each. Below stands what
-/// `ddcmp_script::script` writes at its end. Where a line is no command or memory is refused, what
+/// `ddcmp_line::script` writes at its end. Where a line is no command or memory is refused, what
 /// was drawn stays, and a document is ended. A document is written at the end of the script, since
 /// its height stands at its front, and not at all where the script can't be read.
 pub fn draw<R: Source, W: Sink, C: Carrier>(

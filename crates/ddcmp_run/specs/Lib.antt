@@ -5,3 +5,4 @@ pub mod Prefix
 pub mod Recovery
 pub mod Run
 pub mod Settle
+pub mod Carriages

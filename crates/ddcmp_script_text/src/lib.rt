@@ -1,5 +1,5 @@
 //! The text of scripts: what a line asks for, what is written of an answer, and why a script wasn't
-//! run to its end. Nothing happens here: `ddcmp_script` does what a line asks for.
+//! run to its end. Nothing happens here: `ddcmp_line` does what a line asks for.
 //!
 //! ```text
 //! send A 616263     asks that the station at A is given the message `abc`

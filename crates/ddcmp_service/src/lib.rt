@@ -1,6 +1,7 @@
 //! A link as a service: the line of a station on one side, messages on standard input and output on
-//! the other, until it is told to stop. What it decides is `ddcmp_link`'s; here are the system's
-//! calls: opening a line, reading and writing without waiting, and waiting for what comes first.
+//! the other, until it is told to stop. What it decides is the `Link`'s of `ddcmp_station`; here
+//! are the system's calls: opening a line, reading and writing without waiting, and waiting for
+//! what comes first.
 #![tactic(auto)]
 
 mod errors;

@@ -1,5 +1,5 @@
 //! Messages on standard input: a line of hexadecimal digits each, or bytes after their length.
-use ddcmp_messages::{Entry, HexLines, Lengths};
+use ddcmp_input::{Entry, HexLines, Lengths};
 use std::alloc::{AllocError, Global};
 
 /// How messages are written on standard input and output.

@@ -1,5 +1,5 @@
 //! When messages that the peer refuses are retransmitted.
-use ddcmp_link::{Counters, Link};
+use ddcmp_station::{Counters, Link};
 
 /// The pace of retransmissions. After a NAK the station sends its messages again at once, which
 /// mends what a line has damaged. If a second NAK comes before the peer has acknowledged a message,

@@ -1,3 +1,4 @@
 pub mod DriveLaws
 pub mod RunLaws
 pub mod SeenLaws
+pub mod OutboxLaws

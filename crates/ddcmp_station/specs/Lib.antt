@@ -1,6 +1,7 @@
 pub mod UserCalls
 pub mod Driving
 pub mod Turns
+pub mod Linking
 pub use Rattle.ddcmp_proto.specs.Config
 pub use Rattle.ddcmp_proto.specs.Bytes
 pub use Rattle.ddcmp_proto.specs.Station

@@ -6,16 +6,17 @@ ghost use Rattle.std.specs.Io.KnownBytes.{Consumes, Keeps, IsAtEnd};
 ghost use Rattle.ddcmp_frame.specs.Reader.{StandsFor};
 ghost use Rattle.ddcmp_core.specs.Table.{next_frame, next};
 ghost use Rattle.ddcmp_proto.specs.Bytes.{after_poll, after_piece};
-ghost use Rattle.ddcmp_station.specs.Driving.{Drives, devices_of, deadline_at, core_after_take_arm};
-ghost use Rattle.ddcmp_station.specs.Driving.{core_at_deadline, core_after_message, frame_bytes};
+ghost use Rattle.ddcmp_station.specs.Driving.{Drives, devices_of, core_after_message, frame_bytes};
 ghost use Rattle.ddcmp_station.specs.Driving.{core_after_mail};
 ghost use Rattle.ddcmp_station.specs.Turns.{TurnEnds, WritesFrame, read_answers_of};
 ghost use Rattle.ddcmp_frame.specs.Device.{Logs};
 ghost use Rattle.ddcmp_station.specs.UserCalls.{Calls, calls_of_offer, calls_of_mail, TellsNotices};
 ghost use Rattle.ddcmp_station.specs.UserCalls.{TellsPiece};
 
+use crate::reply_timer::keep_time;
 use crate::user::{Clock, User};
 use ddcmp_frame::{Got, Sink, Source, Worst, write_all};
+use ddcmp_io::LineFault;
 use ddcmp_proto::{MAX_COUNT, MAX_SYN, Notice, State, Station};
 use std::alloc::Global;
 
@@ -30,19 +31,6 @@ pub struct Driven {
     pub read: u64,
     /// The number of bytes written.
     pub written: u64,
-}
-
-/// Why `drive` ended before its turns were over.
-#[derive(Clone, Copy, Debug, PartialEq, Eq)]
-pub enum LineFault {
-    /// A read failed.
-    Read,
-    /// A write failed. How much of the last frame went out isn't known.
-    Write,
-    /// A read gave no bytes: the line ended.
-    Ended,
-    /// Memory was refused, before anything was done.
-    Memory,
 }
 
 /// What the turns so far have left.
@@ -147,31 +135,6 @@ fn turn<R: Source, W: Sink, U: User, C: Clock>(
     tally.written += written as u64;
     tally.read += read as u64;
     Ok(())
-}
-
-/// Sets the deadline of a timer that was started, or that was on before this call, and tells the
-/// station where it has come.
-fn keep_time(station: &mut Station, now: u64, timer_ms: u32, deadline: &mut Option<u64>)
-    ensures deadline { deadline.new
-        ≡ deadline_at timer_ms now station.old.core.station.timer deadline.old }
-    ensures station { station.new ≡ record station.old {
-      core = core_at_deadline now
-          (deadline_at timer_ms now station.old.core.station.timer deadline.old)
-          (core_after_take_arm station.old.core);
-    } }
-{
-    let started = station.take_arm();
-    if !station.timer_on() {
-        return;
-    }
-    let due = match *deadline {
-        Some(moment) if !started => moment,
-        _ => now.saturating_add(timer_ms as u64),
-    };
-    *deadline = Some(due);
-    if due <= now {
-        station.expire();
-    }
 }
 
 /// Asks the user for a message where the station takes one, and sends it: its length. It stands at

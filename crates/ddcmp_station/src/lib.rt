@@ -1,14 +1,23 @@
-//! A station of DDCMP driven over a line: `drive` runs one over any reader and writer. The station
-//! itself, over bytes alone, is that of `ddcmp_proto`.
+//! A station driven over a line. `drive` runs one over any reader and writer, turn by turn; `Link`
+//! is one for an event loop, the part of `ddcmp link` that decides, without a device and a clock.
+//! The station itself, over bytes alone, is that of `ddcmp_proto`.
 #![tactic(auto)]
 
 mod driving;
+mod elapsed;
+mod link;
+mod outbox;
+mod reply_timer;
 mod user;
 
 pub use ddcmp_frame::{Got, Sink, Source, Worst};
+pub use ddcmp_io::LineFault;
 pub use ddcmp_proto::{
     Config, ConfigRefusal, Counters, Fed, Header, MAX_COUNT, MAX_INBOX, MAX_SYN, MAX_WINDOW,
     Memory, NakCounts, Notice, Numbers, SendRefusal, Seq, StartRefusal, State, Station, laws,
 };
-pub use driving::{Driven, LineFault, READ_ROOM, drive};
+pub use driving::{Driven, READ_ROOM, drive};
+pub use elapsed::Elapsed;
+pub use link::{Link, Totals};
+pub use outbox::ROOM;
 pub use user::{Clock, User};

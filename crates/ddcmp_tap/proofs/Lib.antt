@@ -1,3 +1,8 @@
 pub mod QueueLaws
 pub mod TextLaws
 pub mod TellLaws
+pub mod MoveLaws
+pub mod PieceLaws
+pub mod SaidLaws
+pub mod FreshLaws
+pub mod HeadLaws

@@ -3,7 +3,7 @@ use Rattle.std.proofs.Common.{◌≡◌, ℕ, ◌<◌, Bool, true, false, List, 
 use Rattle.std.proofs.Common.{length, set, take, take_all, length-set, refl, sym, ◌∙◌, ap, subst}
 use Rattle.std.proofs.Common.{arith, append_assoc, length-append, Some, Result, Ok, Err}
 use Rattle.std.specs.Prelude.{IsOk, is_err}
-use Rattle.ddcmp_tap.specs.declared.text.NoMemory.{NoMemory}
+use Rattle.ddcmp_tap.specs.declared.no_memory.NoMemory.{NoMemory}
 use Rattle.std.proofs.KnownBytes.{Appends-nil}
 use Rattle.std.proofs.lemmas.List.{append-nil, set-append_right}
 use Rattle.ddcmp_frame.specs.declared.item.Item.{Item}

@@ -5,12 +5,13 @@ ghost use Rattle.ddcmp_frame.specs.Limits.{MAX_COUNT};
 ghost use Rattle.ddcmp_tap.specs.Passing.{HasTold, Passes, Tells, room_of};
 ghost use Rattle.ddcmp_tap.specs.Tapped.{tapped_last};
 
+use crate::no_memory::NoMemory;
 use crate::notation::Notation;
 use crate::queue::Queue;
 use crate::side::Side;
 use crate::telling::Telling;
-use crate::text::{NoMemory, Text};
 use ddcmp_frame::Reader;
+use ddcmp_io::MemorySink;
 use std::alloc::Global;
 use std::marker::Model;
 
@@ -19,7 +20,7 @@ use std::marker::Model;
 pub struct Direction {
     queue: Queue,
     telling: Telling,
-    text: Text,
+    text: MemorySink,
     ended: bool,
 }
 
@@ -84,7 +85,7 @@ impl Direction {
                 frames,
                 items: 0,
             },
-            text: Text::new(alloc),
+            text: MemorySink::new(alloc),
             ended: false,
         })
     }

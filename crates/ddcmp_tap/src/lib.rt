@@ -1,18 +1,30 @@
-//! A tap between the two ends of a line: it hands on what comes from each side as it is, and says
-//! of each direction what `explain` says of its bytes.
+//! A tap between the two ends of a line over TCP. `Direction` takes in what comes from one side,
+//! hands it on as it is, and says of it what `explain` says of its bytes; `pump` does so both ways
+//! between two connections; `tap` listens at one address, connects to another, and pumps.
 #![tactic(auto)]
 
 pub mod direction;
+mod flow;
 mod front;
+mod no_memory;
 pub mod notation;
+pub mod outlet;
+mod pumping;
 mod queue;
 mod rung;
 pub mod side;
+mod sockets;
+pub mod tap_fault;
+mod tapping;
 mod telling;
-mod text;
 
 pub use direction::Direction;
+pub use flow::Flow;
+pub use no_memory::NoMemory;
 pub use notation::Notation;
+pub use outlet::Outlet;
+pub use pumping::{Readiness, pump};
 pub use queue::ROOM;
 pub use side::Side;
-pub use text::NoMemory;
+pub use tap_fault::TapFault;
+pub use tapping::tap;

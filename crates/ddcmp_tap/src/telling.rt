@@ -7,13 +7,13 @@ ghost use Rattle.ddcmp_tap.specs.InMemory.{output_in};
 ghost use Rattle.ddcmp_tap.specs.Tapped.{fronted, tapped_last, tapped_line, wording_of};
 
 use crate::front::{write_json_front, write_plain_front};
+use crate::no_memory::NoMemory;
 use crate::notation::Notation;
 use crate::rung::write_rung;
 use crate::side::Side;
-use crate::text::{NoMemory, Text};
 use ddcmp_explain::{self as explain, write_item, write_last};
 use ddcmp_frame::{Item, Pushed, Reader};
-use ddcmp_io::Page;
+use ddcmp_io::{MemorySink, Page};
 
 /// What was read of the bytes of one direction, and how it is told.
 #[derive(Drop)]
@@ -26,7 +26,7 @@ pub(crate) struct Telling {
 }
 
 /// Puts what waits in a page behind a text.
-fn put_page(page: &mut Page, text: &mut Text) -> Result<(), NoMemory>
+fn put_page(page: &mut Page, text: &mut MemorySink) -> Result<(), NoMemory>
     ensures puts { HandsOver (output_in text.old page.old) (output_in text.new page.new) [] }
     ensures empty { page.new ≡ [] }
     ensures whole { text.new.refused ≡ is_err result }
@@ -40,7 +40,7 @@ fn put_page(page: &mut Page, text: &mut Text) -> Result<(), NoMemory>
 /// Puts the line of an item behind a text.
 fn put_item(
     page: &mut Page,
-    text: &mut Text,
+    text: &mut MemorySink,
     notation: Notation,
     stamp: Option<u64>,
     side: Side,
@@ -79,7 +79,7 @@ fn put_item(
 /// Puts the last line behind a text.
 fn put_last(
     page: &mut Page,
-    text: &mut Text,
+    text: &mut MemorySink,
     notation: Notation,
     stamp: Option<u64>,
     side: Side,
@@ -139,7 +139,7 @@ impl Telling {
     fn push(
         &mut self,
         page: &mut Page,
-        text: &mut Text,
+        text: &mut MemorySink,
         stamp: Option<u64>,
         bytes: &[u8],
     ) -> Result<usize, NoMemory>
@@ -176,7 +176,7 @@ impl Telling {
     /// Takes bytes, and puts the lines of the items that they complete behind a text.
     pub(crate) fn tell(
         &mut self,
-        text: &mut Text,
+        text: &mut MemorySink,
         stamp: Option<u64>,
         bytes: &[u8],
     ) -> Result<(), NoMemory>
@@ -201,7 +201,7 @@ impl Telling {
     }
 
     /// Puts the last line behind a text.
-    pub(crate) fn finish(&self, text: &mut Text, stamp: Option<u64>) -> Result<(), NoMemory>
+    pub(crate) fn finish(&self, text: &mut MemorySink, stamp: Option<u64>) -> Result<(), NoMemory>
         requires whole { text.old.refused ≡ false }
         ensures puts { IsOk result → (told : List ℕ)
             → HasTold self.now.frames self.now.items told

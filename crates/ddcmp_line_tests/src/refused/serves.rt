@@ -1,7 +1,7 @@
 //! A served station with refused memory.
 use crate::same::is;
 use ddcmp_frame::failing::{Pieces, Taken};
-use ddcmp_serve::{ServeFault, serve};
+use ddcmp_net::{ServeFault, serve};
 use ddcmp_station::{Clock, LineFault};
 use std::alloc::Global;
 use std::process::Abort;

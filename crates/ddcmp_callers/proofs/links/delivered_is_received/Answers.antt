@@ -1,5 +1,5 @@
 use Rattle.std.proofs.Common.{◌≡◌, true}
-use Rattle.ddcmp_link.specs.Linking.{delivered}
+use Rattle.ddcmp_station.specs.Linking.{delivered}
 use Rattle.ddcmp_callers.specs.Links.{received}
 use Rattle.ddcmp_callers.proofs.TwoLinks.{kept, all_to_a, all_to_b}
 use Rattle.ddcmp_callers.proofs.links.delivered_is_received.Goals as goal

@@ -1,5 +1,5 @@
 use Rattle.std.proofs.Common.{◌≢◌, [], subst, sym}
-use Rattle.ddcmp_dump.specs.Dump.{DumpView}
+use Rattle.ddcmp_input.specs.Dump.{DumpView}
 use Rattle.ddcmp_io.specs.declared.device.Worst.TheVariants.{Fine}
 use Rattle.ddcmp_explain.specs.declared.form.Form.TheVariants.{Hex}
 use Rattle.ddcmp_explain.specs.Progress.{Progress}

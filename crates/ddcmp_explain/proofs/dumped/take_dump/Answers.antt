@@ -5,7 +5,7 @@ use Rattle.std.proofs.lemmas.Result.{err_from_is_err_and}
 use Rattle.std.proofs.KnownBytes.{Consumes-trans}
 use Rattle.ddcmp_io.specs.Device.{worse}
 use Rattle.ddcmp_io.specs.declared.device.Got.TheVariants.{Bytes}
-use Rattle.ddcmp_dump.specs.Dump.{shown_from}
+use Rattle.ddcmp_input.specs.Dump.{shown_from}
 use Rattle.ddcmp_explain.specs.Explains.{Tells}
 use Rattle.ddcmp_explain.proofs.DumpLaws.{consumes-end, dump-more, length-shown, shown-after}
 use Rattle.ddcmp_explain.proofs.DumpLaws.{so-far-more, so-far-none}

@@ -6,7 +6,8 @@ use Rattle.ddcmp_io.proofs.text.write_hex.Given as goal
 abbrev pub invariant-loop-at : goal.invariant-loop-at
 invariant-loop-at g l = record {
   within : l.at ≤ length l.bytes;
-  sent : HandsOver (output_of g.W.Sink.broken g.W.Sink.contents l.initial.writer l.initial.page)
+  sent
+      : HandsOver (output_of g.W.Sink.broken g.W.Sink.contents l.initial.writer l.initial.page)
       (output_of g.W.Sink.broken g.W.Sink.contents l.writer l.page)
       (encode_lower (take l.at l.bytes));
 }

@@ -11,7 +11,7 @@ returns-then-taken-to-clause-passed g c =
     sends-as (sym
     (passed-some was.style.notation (was.reached.offset + was.reached.taken) c.args.to
     (omega (arith, c.if-taken-to.true))))
-    c.write_passed.ensures
+    c.write_discarded.ensures
 
 below : (g : _) (c : goal.Joined-else-offset-to g)
     → c.args.to ≤ c.args.self.now.reached.offset + c.args.self.now.reached.taken

@@ -1,2 +1,0 @@
-pub mod DumpLaws
-pub mod GrammarLaws

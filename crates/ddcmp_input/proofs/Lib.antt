@@ -1,0 +1,7 @@
+pub mod LengthsLaws
+pub mod HexLinesLaws
+pub mod BinaryLaws
+pub mod LineLaws
+pub mod SpellingLaws
+pub mod DumpLaws
+pub mod GrammarLaws

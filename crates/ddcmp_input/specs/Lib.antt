@@ -1,0 +1,7 @@
+pub mod Lengths
+pub mod HexLines
+pub mod Told
+pub mod InBinary
+pub mod InLines
+pub mod Dump
+pub mod Grammar

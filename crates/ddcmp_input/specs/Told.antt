@@ -1,0 +1,16 @@
+-- What the bytes of an input tell: its messages, and its parts that are none.
+use Rattle.std.specs.Prelude.{ℕ, List}
+use Rattle.ddcmp_input.specs.declared.entry.Entry.{Entry}
+use Rattle.ddcmp_input.specs.declared.entry.Entry.TheVariants.{Message, NotHexadecimal, TooLong, Empty}
+
+-- a message, or why a part of the input is none
+pub data Told : Type 0 where
+  Got : List ℕ → Told
+  Refused : Entry → Told
+
+-- an entry, with the bytes that are held beside it
+abbrev pub told_of : Entry → List ℕ → Told
+told_of Message message = Got message
+told_of NotHexadecimal message = Refused NotHexadecimal
+told_of TooLong message = Refused TooLong
+told_of Empty message = Refused Empty

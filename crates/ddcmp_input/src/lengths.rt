@@ -1,0 +1,212 @@
+//! Messages in binary.
+ghost use Rattle.std.specs.Prelude.{◌≡◌, ◌+◌, ◌≤◌, ◌++◌, length, vec_len, vec_capacity};
+
+use crate::entry::{Entry, Pushed};
+use std::alloc::{AllocError, Global};
+use std::marker::Model;
+
+/// Where in the input the next byte stands.
+#[derive(Clone, Copy)]
+pub enum Place {
+    /// Before a length.
+    Start,
+    /// Behind its high byte.
+    Half(u8),
+    /// In a message of which so many bytes are to come.
+    Inside(u16),
+    /// In one that is skipped.
+    Passing(u16),
+}
+
+/// Takes messages of an input that has each after its length as two bytes, the high one first.
+#[derive(Drop)]
+pub struct Lengths {
+    max: u16,
+    place: Place,
+    message: Vec<u8>,
+}
+
+impl Model for Lengths {
+    ghost use Rattle.std.specs.Prelude.{◌≤◌, vec_len, vec_capacity};
+    ghost use Rattle.ddcmp_input.specs.Lengths.{LengthsView, HasRoom};
+
+    ghost Value = { LengthsView };
+
+    ghost view = { λ l. record { max = l.max; place = l.place; message = l.message.items } };
+
+    ghost invariant = { λ l. (l.max ≤ vec_capacity l.message)
+        × HasRoom l.place (vec_len l.message) (vec_capacity l.message) };
+}
+
+impl Lengths {
+    ghost use Rattle.std.specs.Prelude.{◌≡◌, ◌+◌, ◌<◌, ◌≤◌, ℕ, [], Some, IfOk, None, length, take};
+    ghost use Rattle.std.specs.Prelude.{option_to_list};
+    ghost use Rattle.ddcmp_input.specs.Lengths.{begun, after_length, entry_of_length};
+    ghost use Rattle.ddcmp_input.specs.Lengths.{after_byte, entry_of_byte, after_bytes};
+    ghost use Rattle.ddcmp_input.specs.Lengths.{entries_of_bytes, is_unfinished};
+
+    /// Nothing has come. It takes all the memory that it will need.
+    pub fn new(alloc: Global, max: u16) -> Result<Lengths, AllocError>
+        ensures { IfOk result (λ made. made ≡ begun max) }
+    {
+        Ok(Lengths {
+            max,
+            place: Place::Start,
+            message: Vec::with_capacity(alloc, max as usize)?,
+        })
+    }
+
+    /// Takes a byte: what it completes.
+    pub fn push(&mut self, byte: u8) -> Option<Entry>
+        ensures state { self.new ≡ after_byte byte self.old }
+        ensures entry { result ≡ entry_of_byte byte self.old }
+    {
+        match self.place {
+            Place::Start => {
+                self.place = Place::Half(byte);
+                None
+            }
+            Place::Half(high) => self.begin(high as u16 * 256 + byte as u16),
+            Place::Inside(left) => {
+                match self.message.push(byte) {
+                    Ok(()) => {}
+                    Err(_) => unreachable!(),
+                }
+                if left <= 1 {
+                    self.place = Place::Start;
+                    Some(Entry::Message)
+                } else {
+                    self.place = Place::Inside(left - 1);
+                    None
+                }
+            }
+            Place::Passing(left) => {
+                self.place = if left <= 1 {
+                    Place::Start
+                } else {
+                    Place::Passing(left - 1)
+                };
+                None
+            }
+        }
+    }
+
+    /// A message of this length begins.
+    fn begin(&mut self, length: u16) -> Option<Entry>
+        ensures state { self.new ≡ after_length length self.old }
+        ensures entry { result ≡ entry_of_length length self.old.max }
+    {
+        if length == 0 {
+            self.place = Place::Start;
+            return Some(Entry::Empty);
+        }
+        if length > self.max {
+            self.place = Place::Passing(length);
+            return Some(Entry::TooLong);
+        }
+        self.message.clear();
+        self.place = Place::Inside(length);
+        None
+    }
+
+    /// Takes bytes of a piece, up to the first that completes something.
+    pub fn push_all(&mut self, piece: &[u8]) -> Pushed
+        ensures used { result.used ≤ length piece.now }
+        // The last byte used completed it, and no byte before it completed anything.
+        ensures first { (n : ℕ) (entry : Entry) → result.entry ≡ Some entry → result.used ≡ n + 1
+            → entries_of_bytes (take n piece.now) self.old ≡ [] }
+        ensures whole { result.entry ≡ None → result.used ≡ length piece.now }
+        ensures state { self.new ≡ after_bytes (take result.used piece.now) self.old }
+        ensures entries { entries_of_bytes (take result.used piece.now) self.old
+            ≡ option_to_list result.entry }
+    {
+        let mut used = 0;
+        while used < piece.len() {
+            let more = self.push_part(&piece[used..]);
+            used += more.used;
+            if more.entry.is_some() {
+                return Pushed {
+                    used,
+                    entry: more.entry,
+                };
+            }
+        }
+        Pushed { used, entry: None }
+    }
+
+    /// Takes the bytes of a piece that stand at one place: a byte of a length, or what there is of
+    /// a message.
+    fn push_part(&mut self, piece: &[u8]) -> Pushed
+        requires { 0 < length piece.now }
+        ensures some { 0 < result.used }
+        ensures used { result.used ≤ length piece.now }
+        ensures first { (n : ℕ) → n < result.used
+            → entries_of_bytes (take n piece.now) self.old ≡ [] }
+        ensures state { self.new ≡ after_bytes (take result.used piece.now) self.old }
+        ensures entries { entries_of_bytes (take result.used piece.now) self.old
+            ≡ option_to_list result.entry }
+    {
+        match self.place {
+            Place::Inside(left) => self.push_within(piece, left),
+            _ => Pushed {
+                used: 1,
+                entry: self.push(piece[0]),
+            },
+        }
+    }
+
+    /// Takes what there is of a message, of which so many bytes are to come.
+    fn push_within(&mut self, piece: &[u8], left: u16) -> Pushed
+        requires place { self.old.place ≡ Place.Inside left }
+        requires some { 0 < length piece.now }
+        ensures some { 0 < result.used }
+        ensures used { result.used ≤ length piece.now }
+        ensures first { (n : ℕ) → n < result.used
+            → entries_of_bytes (take n piece.now) self.old ≡ [] }
+        ensures state { self.new ≡ after_bytes (take result.used piece.now) self.old }
+        ensures entries { entries_of_bytes (take result.used piece.now) self.old
+            ≡ option_to_list result.entry }
+    {
+        if piece.len() < left as usize {
+            append(&mut self.message, piece);
+            self.place = Place::Inside(left - piece.len() as u16);
+            return Pushed {
+                used: piece.len(),
+                entry: None,
+            };
+        }
+        append(&mut self.message, &piece[..left as usize]);
+        self.place = Place::Start;
+        Pushed {
+            used: left as usize,
+            entry: Some(Entry::Message),
+        }
+    }
+
+    /// The message that came last, where the last byte completed it.
+    pub fn message(&self) -> &[u8]
+        ensures { result.now ≡ self.now.message }
+    {
+        &self.message
+    }
+
+    /// Whether a length or a message has begun whose end is to come: if the input ends here, it is
+    /// cut off. The rest of a refused message is skipped, and isn't unfinished.
+    pub fn is_unfinished(&self) -> bool
+        ensures { result ≡ is_unfinished self.now.place }
+    {
+        matches!(self.place, Place::Half(_) | Place::Inside(_))
+    }
+}
+
+/// Puts bytes behind a message that has room for them.
+fn append(message: &mut Vec<u8>, bytes: &[u8])
+    requires { vec_len message.old + length bytes.now ≤ vec_capacity message.old }
+    ensures items { message.new.items ≡ message.old.items ++ bytes.now }
+    ensures room { vec_capacity message.old ≤ vec_capacity message.new }
+{
+    match message.extend_from_slice(bytes) {
+        Ok(()) => {}
+        Err(_) => unreachable!(),
+    }
+}

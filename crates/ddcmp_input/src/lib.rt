@@ -1,0 +1,22 @@
+//! What a user hands a program, read without a device, cut in any way. `HexLines` and `Lengths`
+//! read messages: a line of hexadecimal digits each, or each after its length as two bytes. `Dump`
+//! reads dumps of bytes, as `hexdump -C`, `xxd` and `od -A x -t x1` write them: it makes all blank
+//! but the digits of the data, piece by piece, and reports lines in another form by their numbers.
+//!
+//!     let mut dump = Dump::new();
+//!     dump.blank(&mut piece);   // "00000000  61 62  |ab|\n" is "          61 62       \n" now
+#![tactic(auto)]
+
+mod dump;
+pub mod dump_laws;
+mod entry;
+mod hex_lines;
+mod lengths;
+pub mod message_laws;
+mod place;
+
+pub use dump::{Dump, NotDumped};
+pub use entry::{Entry, Pushed};
+pub use hex_lines::HexLines;
+pub use lengths::Lengths;
+pub use place::Place;

@@ -1,0 +1,238 @@
+//! Where in a line of a dump a byte stands.
+ghost use Rattle.std.specs.Prelude.{◌≡◌};
+ghost use Rattle.ddcmp_input.specs.Dump.{address_then, blanks_then, half_then, return_then};
+ghost use Rattle.ddcmp_input.specs.Dump.{start_then, text_then, whole_then, place_after};
+ghost use Rattle.ddcmp_input.specs.Dump.{place_of_kind};
+ghost use Rattle.ddcmp_input.specs.Dump.{is_data_at, kind_of_byte, line_at, shown_at};
+
+/// Where in a line of a dump the byte stands that was taken last.
+#[derive(Clone, Copy, Debug, PartialEq, Eq)]
+pub enum Place {
+    /// Nothing of the line was taken.
+    Start,
+    /// In the address.
+    Address,
+    /// In the blanks in front of a byte.
+    Blanks,
+    /// At the first digit of a byte.
+    High,
+    /// At the second.
+    Low,
+    /// At the colon behind an address of `xxd`.
+    Colon,
+    /// At the one blank in front of a group of `xxd`.
+    Gap,
+    /// At the first digit of a group, which has one byte or two.
+    First,
+    Second,
+    Third,
+    Fourth,
+    /// In the column of text.
+    Text,
+    /// At a CR, which stands before an LF alone.
+    Return,
+    /// The line is none of a dump.
+    Refused,
+    /// The line begins with a `*`, which stands for lines that were left out.
+    LeftOut,
+}
+
+/// What a byte is to a dump.
+#[derive(Clone, Copy, Debug, PartialEq, Eq)]
+pub(crate) enum Kind {
+    Digit,
+    Blank,
+    Colon,
+    /// `|` or `>`, before the column of text.
+    Bar,
+    Star,
+    Return,
+    LineFeed,
+    Other,
+}
+
+#[inline(always)]
+fn kind_of(byte: u8) -> Kind
+    ensures { result ≡ kind_of_byte byte }
+{
+    if byte.is_ascii_hexdigit() {
+        Kind::Digit
+    } else if byte == b' ' {
+        Kind::Blank
+    } else if byte == b'\n' {
+        Kind::LineFeed
+    } else if byte == b':' {
+        Kind::Colon
+    } else if byte == b'|' || byte == b'>' {
+        Kind::Bar
+    } else if byte == b'*' {
+        Kind::Star
+    } else if byte == b'\r' {
+        Kind::Return
+    } else {
+        Kind::Other
+    }
+}
+
+impl Place {
+    /// The place of a byte more.
+    #[inline(always)]
+    #[tactic(auto, unfolding(crate::specs::Dump::place_after))]
+    pub(crate) fn after(self, byte: u8) -> Place
+        ensures { result ≡ place_after self byte }
+    {
+        self.after_kind(kind_of(byte))
+    }
+
+    #[inline(always)]
+    fn after_kind(self, kind: Kind) -> Place
+        ensures { result ≡ place_of_kind self kind }
+    {
+        match self {
+            Place::Start => at_start(kind),
+            Place::Address => in_address(kind),
+            Place::Blanks => in_blanks(kind),
+            Place::High => at_half(kind, Place::Low),
+            Place::Low => at_whole(kind, Place::Blanks, Place::Refused),
+            Place::Colon => at_whole(kind, Place::Gap, Place::Refused),
+            Place::Gap => at_whole(kind, Place::Text, Place::First),
+            Place::First => at_half(kind, Place::Second),
+            Place::Second => at_whole(kind, Place::Gap, Place::Third),
+            Place::Third => at_half(kind, Place::Fourth),
+            Place::Fourth => at_whole(kind, Place::Gap, Place::Refused),
+            Place::Text => in_text(kind),
+            Place::Return => at_return(kind),
+            Place::Refused => Place::Refused,
+            Place::LeftOut => Place::LeftOut,
+        }
+    }
+
+    /// The number of the line, once a byte came here: a line that is over is counted.
+    #[inline(always)]
+    pub(crate) fn count(self, line: u64) -> u64
+        ensures { result ≡ line_at self line }
+    {
+        match self {
+            Place::Start => line.saturating_add(1),
+            _ => line,
+        }
+    }
+
+    /// Whether a digit of data stands here.
+    #[inline(always)]
+    fn is_data(self) -> bool
+        ensures { result ≡ is_data_at self }
+    {
+        match self {
+            Place::High
+            | Place::Low
+            | Place::First
+            | Place::Second
+            | Place::Third
+            | Place::Fourth => true,
+            _ => false,
+        }
+    }
+
+    /// What a byte here is made: a digit of data stays, a line that is none of a dump is question
+    /// marks, and all else is blank.
+    #[inline(always)]
+    #[tactic(auto, unfolding(crate::specs::Dump::shown_at))]
+    pub(crate) fn shown(self, byte: u8) -> u8
+        ensures { result ≡ shown_at self byte }
+    {
+        if self.is_data() {
+            return byte;
+        }
+        match self {
+            Place::Refused | Place::LeftOut => b'?',
+            _ => b' ',
+        }
+    }
+}
+
+#[inline(always)]
+fn at_start(kind: Kind) -> Place
+    ensures { result ≡ start_then kind }
+{
+    match kind {
+        Kind::Digit => Place::Address,
+        Kind::LineFeed => Place::Start,
+        Kind::Return => Place::Return,
+        Kind::Star => Place::LeftOut,
+        _ => Place::Refused,
+    }
+}
+
+#[inline(always)]
+fn in_address(kind: Kind) -> Place
+    ensures { result ≡ address_then kind }
+{
+    match kind {
+        Kind::Digit => Place::Address,
+        Kind::Colon => Place::Colon,
+        Kind::Blank => Place::Blanks,
+        Kind::LineFeed => Place::Start,
+        Kind::Return => Place::Return,
+        _ => Place::Refused,
+    }
+}
+
+#[inline(always)]
+fn in_blanks(kind: Kind) -> Place
+    ensures { result ≡ blanks_then kind }
+{
+    match kind {
+        Kind::Digit => Place::High,
+        Kind::Blank => Place::Blanks,
+        Kind::Bar => Place::Text,
+        Kind::LineFeed => Place::Start,
+        Kind::Return => Place::Return,
+        _ => Place::Refused,
+    }
+}
+
+/// Where the second digit of a byte is to come.
+#[inline(always)]
+fn at_half(kind: Kind, second: Place) -> Place
+    ensures { result ≡ half_then kind second }
+{
+    match kind {
+        Kind::Digit => second,
+        _ => Place::Refused,
+    }
+}
+
+/// Where the bytes are whole: a blank, a digit or the end of the line may come.
+#[inline(always)]
+fn at_whole(kind: Kind, blank: Place, digit: Place) -> Place
+    ensures { result ≡ whole_then kind blank digit }
+{
+    match kind {
+        Kind::Digit => digit,
+        Kind::Blank => blank,
+        Kind::LineFeed => Place::Start,
+        Kind::Return => Place::Return,
+        _ => Place::Refused,
+    }
+}
+
+#[inline(always)]
+fn in_text(kind: Kind) -> Place
+    ensures { result ≡ text_then kind }
+{
+    match kind {
+        Kind::LineFeed => Place::Start,
+        _ => Place::Text,
+    }
+}
+
+#[inline(always)]
+fn at_return(kind: Kind) -> Place
+    ensures { result ≡ return_then kind }
+{
+    match kind {
+        Kind::LineFeed => Place::Start,
+        _ => Place::Refused,
+    }
+}

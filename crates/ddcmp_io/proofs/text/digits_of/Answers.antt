@@ -1,0 +1,5 @@
+use Rattle.ddcmp_io.proofs.VectorLaws.{digits-are}
+use Rattle.ddcmp_io.proofs.text.digits_of.Goals as goal
+
+pub returns : goal.returns
+returns c = digits-are c.args.values c.fits-values.0 c.requires

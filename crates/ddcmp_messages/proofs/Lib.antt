@@ -1,5 +1,0 @@
-pub mod LengthsLaws
-pub mod HexLinesLaws
-pub mod BinaryLaws
-pub mod LineLaws
-pub mod SpellingLaws

@@ -1,8 +1,0 @@
-use Rattle.std.proofs.Common.{◌≡◌, [], take}
-use Rattle.ddcmp_messages.specs.HexLines.{after_bytes, entries_of_bytes}
-use Rattle.ddcmp_messages.proofs.hex_lines.HexLines.push_all.Given as goal
-
-abbrev pub invariant-loop-used : goal.invariant-loop-used
-invariant-loop-used l =
-    (l.self ≡ after_bytes (take l.used l.piece) l.initial.self)
-    × (entries_of_bytes (take l.used l.piece) l.initial.self ≡ [])

@@ -1,5 +1,0 @@
-pub mod Lengths
-pub mod HexLines
-pub mod Told
-pub mod InBinary
-pub mod InLines

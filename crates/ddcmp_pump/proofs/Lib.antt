@@ -1,5 +1,0 @@
-pub mod MoveLaws
-pub mod PieceLaws
-pub mod SaidLaws
-pub mod FreshLaws
-pub mod HeadLaws

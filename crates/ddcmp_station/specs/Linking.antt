@@ -1,0 +1,244 @@
+-- A link as its callers see it: a station as a service, and what each call does.
+use Rattle.std.specs.Prelude.{ℕ, zero, suc, ◌+◌, ◌-◌, Bool, true, false, ◌&&◌, not, nat_le, nat_lt}
+use Rattle.std.specs.Prelude.{◌==◌, if◌then◌else◌, min, List, [], ◌∷◌, ◌++◌, length, drop, Option}
+use Rattle.std.specs.Prelude.{Some, None, is_none, is_some, Result}
+use Rattle.ddcmp_frame.specs.declared.codes.TheConstants.{NO_BUFFER_REASON}
+use Rattle.ddcmp_frame.specs.declared.header.ControlType.{ControlType}
+use Rattle.ddcmp_frame.specs.declared.header.ControlType.TheVariants as control
+use Rattle.ddcmp_frame.specs.declared.header.Header.{Header}
+use Rattle.ddcmp_frame.specs.declared.header.Header.TheVariants as header
+use Rattle.ddcmp_frame.specs.Reader.{ReaderView}
+use Rattle.ddcmp_window.specs.declared.sender.SendRefusal.{SendRefusal}
+use Rattle.ddcmp_window.specs.Sender.{answer_unless}
+use Rattle.ddcmp_core.specs.declared.notice.Notice.{Notice}
+use Rattle.ddcmp_core.specs.Table.{Frame, Limits, StationState, is_running, is_on, has_room}
+use Rattle.ddcmp_core.specs.Table.{may_start, after_start, send_refusal, may_send, after_accept}
+use Rattle.ddcmp_core.specs.Table.{after_take, next, next_frame, acknowledged_by}
+use Rattle.ddcmp_core.specs.Core.{CoreView}
+use Rattle.ddcmp_core.specs.Frames.{header_of}
+use Rattle.ddcmp_proto.specs.Bytes.{after_poll, frame_on_line}
+use Rattle.ddcmp_proto.specs.Config.{core_made}
+use Rattle.ddcmp_proto.specs.declared.config.Config.{Config}
+use Rattle.ddcmp_proto.specs.Station.{StationView}
+use Rattle.ddcmp_station.specs.Driving.{deadline_at, core_at_deadline, core_after_take_arm}
+use Rattle.ddcmp_station.specs.Driving.{core_after_halt}
+use Rattle.ddcmp_station.specs.declared.link.Totals.{Totals}
+use Rattle.ddcmp_station.specs.declared.outbox.TheConstants.{ROOM}
+
+-- Bytes that wait for the line, and how many bytes more may.
+pub record OutboxView : Type 0 where
+  pub waiting : List ℕ
+  pub room : ℕ
+
+abbrev pub no_bytes : OutboxView
+no_bytes = record { waiting = []; room = ROOM }
+
+-- where nothing waits any more there is all the room again
+abbrev pub after_taken : ℕ → OutboxView → OutboxView
+after_taken n o =
+    record {
+      waiting = drop n o.waiting;
+      room = if n == length o.waiting then ROOM else o.room;
+    }
+
+abbrev pub after_put : List ℕ → OutboxView → OutboxView
+after_put bytes o = record { waiting = o.waiting ++ bytes; room = o.room - length bytes }
+
+-- A link: its station, the bytes on their way to the line, when the timer runs out, where that is
+-- set, how many milliseconds after its start that is, and what was counted.
+pub record LinkView : Type 0 where
+  pub station : StationView
+  pub outbox : OutboxView
+  pub deadline : Option ℕ
+  pub milliseconds : ℕ
+  pub totals : Totals
+
+-- ---- what is counted
+
+-- a total after n more: it stays at its largest value
+abbrev pub total_plus : ℕ → ℕ → ℕ
+total_plus total n = min (total + n) 18446744073709551615
+
+abbrev pub no_totals : Totals
+no_totals = record { read = 0; written = 0; sent = 0; acknowledged = 0; handed = 0 }
+
+-- ---- calls of the station
+
+abbrev pub with_core : CoreView → LinkView → LinkView
+with_core k d = record d { station = record d.station { core = k } }
+
+abbrev pub with_state : StationState → LinkView → LinkView
+with_state s d = with_core (record d.station.core { station = s }) d
+
+abbrev pub state_of : LinkView → StationState
+state_of d = d.station.core.station
+
+abbrev pub limits_in : LinkView → Limits
+limits_in d = d.station.core.limits
+
+-- start
+abbrev pub started : StationState → StationState
+started s = if may_start s then after_start s else s
+
+-- the deadline is looked after as `drive` does at the beginning of a turn
+abbrev pub after_wake : ℕ → LinkView → LinkView
+after_wake now d = record d {
+  station = record d.station {
+    core = core_at_deadline now
+        (deadline_at d.milliseconds now d.station.core.station.timer d.deadline)
+        (core_after_take_arm d.station.core);
+  };
+  deadline = deadline_at d.milliseconds now d.station.core.station.timer d.deadline;
+}
+
+-- when that is to be done at the latest
+abbrev pub moment_or_now : Option ℕ → ℕ
+moment_or_now None = 0
+moment_or_now (Some moment) = moment
+
+abbrev pub wakes_at : LinkView → Option ℕ
+wakes_at d =
+    if is_on d.station.core.station.timer then Some (moment_or_now d.deadline) else None
+
+-- whether a message of fitting length is accepted
+abbrev pub takes_message : LinkView → Bool
+takes_message d =
+    is_running d.station.core.station.state
+    && nat_lt (length d.station.core.station.out) d.station.core.limits.window
+
+abbrev pub after_offered : List ℕ → LinkView → LinkView
+after_offered message d =
+    if may_send d.station.core.limits d.station.core.station message
+    then record (with_state (after_accept d.station.core.station message) d) {
+      totals = record d.totals { sent = total_plus d.totals.sent 1 };
+    }
+    else d
+
+abbrev pub answer_to_offered : List ℕ → LinkView → Result (Unit {0}) SendRefusal
+answer_to_offered message d =
+    answer_unless (send_refusal d.station.core.limits d.station.core.station message) tt
+
+-- ---- frames on their way to the line
+
+-- the frame that the station would send
+abbrev pub frame_of_link : LinkView → Option Frame
+frame_of_link d = next_frame (next d.station.core.station)
+
+abbrev pub is_nak : ControlType → Bool
+is_nak control.Nak = true
+is_nak _ = false
+
+abbrev pub is_nak_for_buffer : Header → Bool
+is_nak_for_buffer (header.Control h) = is_nak h.kind && (h.sub == NO_BUFFER_REASON)
+is_nak_for_buffer _ = false
+
+-- A NAK for want of a buffer isn't sent before there is one: while the inbox is full it is held
+-- back, and with it what would be sent after it.
+abbrev pub is_held_back : Option Frame → Limits → StationState → Bool
+is_held_back None l s = false
+is_held_back (Some f) l s = is_nak_for_buffer (header_of f) && not (has_room l s)
+
+abbrev pub holds_back : LinkView → Bool
+holds_back d = is_held_back (frame_of_link d) d.station.core.limits d.station.core.station
+
+-- whether the next frame carries a message
+abbrev pub is_data : Header → Bool
+is_data (header.Data h) = true
+is_data _ = false
+
+abbrev pub is_message : Option Frame → Bool
+is_message None = false
+is_message (Some f) = is_data (header_of f)
+
+abbrev pub carries_message : LinkView → Bool
+carries_message d = is_message (frame_of_link d)
+
+-- whether a frame of any length has room
+abbrev pub fits : LinkView → Bool
+fits d = nat_le (d.station.syn + d.station.core.limits.longest + 10) d.outbox.room
+
+-- whether the station is polled, and whether it gives a frame then
+abbrev pub polls : LinkView → Bool
+polls d = fits d && not (holds_back d)
+
+abbrev pub puts_frame : LinkView → Bool
+puts_frame d = polls d && is_some (frame_of_link d)
+
+abbrev pub bytes_of : ℕ → Option Frame → List ℕ
+bytes_of syn None = []
+bytes_of syn (Some f) = frame_on_line syn f
+
+abbrev pub after_polled : LinkView → LinkView
+after_polled d = record (with_core (after_poll d.station.core) d) {
+  outbox = after_put (bytes_of d.station.syn (frame_of_link d)) d.outbox;
+}
+
+abbrev pub after_frame : LinkView → LinkView
+after_frame d = if polls d then after_polled d else d
+
+-- so many times one after another
+unfoldable pub after_frames : ℕ → LinkView → LinkView
+after_frames zero d = d
+after_frames (suc n) d = after_frame (after_frames n d)
+
+-- the line took so many bytes
+abbrev pub after_sent : ℕ → LinkView → LinkView
+after_sent n d = record d {
+  outbox = after_taken n d.outbox;
+  totals = record d.totals { written = total_plus d.totals.written n };
+}
+
+-- ---- what comes
+
+-- how many bytes of the line can be counted before it is cleared
+abbrev pub countable : StationView → ℕ
+countable v = 18446744073709551615 - v.line.offset
+
+-- so many bytes were used, with this notice
+abbrev pub totals_after_feed : ℕ → Option Notice → Totals → Totals
+totals_after_feed used notice t =
+    record t {
+      read = total_plus t.read used;
+      acknowledged = total_plus t.acknowledged (acknowledged_by notice);
+    }
+
+-- the first mail is taken
+abbrev pub totals_after_take : List (List ℕ) → Totals → Totals
+totals_after_take [] t = t
+totals_after_take (message ∷ rest) t = record t { handed = total_plus t.handed 1 }
+
+abbrev pub after_taking : LinkView → LinkView
+after_taking d = record (with_state (after_take d.station.core.station) d) {
+  totals = totals_after_take d.station.core.station.inbox d.totals;
+}
+
+-- ---- its ends
+
+-- all that was accepted is acknowledged, and nothing is to be sent
+abbrev pub delivered : LinkView → Bool
+delivered d =
+    length d.station.core.station.out == 0 && length d.outbox.waiting == 0
+    && is_none (frame_of_link d)
+
+-- halted, with nothing on the way to the line, and started, where all mail was taken
+abbrev pub anew : ReaderView → LinkView → LinkView
+anew line d = record d {
+  station = record {
+    core = record d.station.core {
+      station = started (core_after_halt d.station.core).station;
+    };
+    syn = d.station.syn;
+    line = line;
+  };
+  outbox = no_bytes;
+}
+
+-- a new link, whose line has had no bytes
+abbrev pub link_made : Config → ℕ → ReaderView → LinkView
+link_made config milliseconds line = record {
+  station = record { core = core_made config; syn = config.syn; line = line };
+  outbox = no_bytes;
+  deadline = None;
+  milliseconds = milliseconds;
+  totals = no_totals;
+}

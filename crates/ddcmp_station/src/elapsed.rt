@@ -1,0 +1,33 @@
+//! The time of the system.
+use crate::user::Clock;
+use std::io;
+use std::time::{self, Instant};
+
+/// The time since the making, as the system's clock tells it. Where that fails, the time stands.
+#[derive(Drop)]
+pub struct Elapsed<'a, C> {
+    clock: &'a C,
+    start: io::Result<Instant>,
+    told: u64,
+}
+
+impl<'a, C: time::Clock> Elapsed<'a, C> {
+    pub fn new(clock: &'a C) -> Self {
+        Elapsed {
+            clock,
+            start: Instant::now(clock),
+            told: 0,
+        }
+    }
+}
+
+impl<C: time::Clock> Clock for Elapsed<'_, C> {
+    fn now(&mut self) -> u64 {
+        if let Ok(start) = &self.start {
+            if let Ok(passed) = start.elapsed(self.clock) {
+                self.told = u64::try_from(passed.as_millis()).unwrap_or(u64::MAX);
+            }
+        }
+        self.told
+    }
+}

@@ -1,0 +1,384 @@
+//! A station with its way to the line and its deadline.
+ghost use Rattle.std.specs.Prelude.{◌≡◌};
+ghost use Rattle.ddcmp_core.specs.Table.{acknowledged_by};
+ghost use Rattle.ddcmp_station.specs.Linking.{is_nak_for_buffer};
+
+use crate::outbox::Outbox;
+use crate::reply_timer::keep_time;
+use ddcmp_frame::ControlType;
+use ddcmp_frame::codes::NO_BUFFER_REASON;
+use ddcmp_proto::{
+    Config, ConfigRefusal, Counters, Fed, Header, Notice, SendRefusal, StartRefusal, State, Station,
+};
+use std::alloc::Global;
+use std::marker::Model;
+
+/// What a link has counted since it was made. Each stays at 2^64 - 1 once it is there.
+#[derive(Clone, Copy, Debug, PartialEq, Eq)]
+pub struct Totals {
+    /// The bytes of the line that were used.
+    pub read: u64,
+    /// The bytes that the line took.
+    pub written: u64,
+    /// The messages that were accepted.
+    pub sent: u64,
+    /// The messages that the peer acknowledged.
+    pub acknowledged: u64,
+    /// The messages that were taken.
+    pub handed: u64,
+}
+
+/// A station, the bytes on their way to its line, and the deadline of its timer. After it is made
+/// no call takes memory.
+pub struct Link {
+    station: Station,
+    outbox: Outbox,
+    deadline: Option<u64>,
+    timer_ms: u32,
+    totals: Totals,
+}
+
+// By hand, so that a link is let go by a call: a derived one is written out at each such place.
+impl Drop for Link {
+    fn drop(self) {
+        let Link {
+            station: _station,
+            outbox: _outbox,
+            deadline: _,
+            timer_ms: _,
+            totals: _,
+        } = self;
+    }
+}
+
+impl Model for Link {
+    ghost use Rattle.ddcmp_station.specs.Linking.{LinkView};
+
+    ghost Value = { LinkView };
+
+    ghost view = { λ l. record {
+      station = l.station;
+      outbox = l.outbox;
+      deadline = l.deadline;
+      milliseconds = l.timer_ms;
+      totals = l.totals;
+    } };
+}
+
+impl Link {
+    ghost use Rattle.std.specs.Prelude.{◌≡◌, ◌⊎◌, ℕ, ◌+◌, ◌<◌, ◌≤◌, ◌^◌, true, false, List, []};
+    ghost use Rattle.std.specs.Prelude.{◌++◌, length, take, min, IsOk, IfOk, Some, None, Err};
+    ghost use Rattle.std.specs.Prelude.{option_map, option_to_list};
+    ghost use Rattle.ddcmp_frame.specs.Reader.{StandsFor};
+    ghost use Rattle.ddcmp_window.specs.Store.{first_message, with_front};
+    ghost use Rattle.ddcmp_core.specs.Table.{after_halt, answer_to_start, has_room};
+    ghost use Rattle.ddcmp_proto.specs.Bytes.{after_piece, notices_of_piece};
+    ghost use Rattle.ddcmp_proto.specs.Config.{first_refusal, config_of};
+    ghost use Rattle.ddcmp_station.specs.Linking.{link_made, with_state, started, anew, after_wake};
+    ghost use Rattle.ddcmp_station.specs.Linking.{wakes_at, takes_message, after_offered};
+    ghost use Rattle.ddcmp_station.specs.Linking.{answer_to_offered, puts_frame, after_frame};
+    ghost use Rattle.ddcmp_station.specs.Linking.{after_frames, after_sent, countable};
+    ghost use Rattle.ddcmp_station.specs.Linking.{totals_after_feed, after_taking, delivered};
+    ghost use Rattle.ddcmp_station.specs.Linking.{holds_back, carries_message};
+
+    /// A halted link, whose timer runs out `timer_ms` milliseconds after it was started.
+    pub fn new(alloc: Global, config: Config, timer_ms: u32) -> Result<Link, ConfigRefusal>
+        ensures made { IfOk result (λ l. l ≡ link_made config timer_ms l.station.line) }
+        ensures stands { IfOk result (λ l. StandsFor l.station.line []) }
+
+        // The first size that is out of range is refused; where none is, want of memory alone.
+        ensures refused { (refusal : ConfigRefusal) → first_refusal config ≡ Some refusal → result
+            ≡ Err refusal }
+        ensures only { first_refusal config ≡ None → IsOk result
+            ⊎ (result ≡ Err ConfigRefusal.Memory) }
+    {
+        let station = match Station::new(alloc, config) {
+            Ok(station) => station,
+            Err(refusal) => return Err(refusal),
+        };
+        let Ok(outbox) = Outbox::new(alloc) else {
+            return Err(ConfigRefusal::Memory);
+        };
+        Ok(Link {
+            station,
+            outbox,
+            deadline: None,
+            timer_ms,
+            totals: Totals {
+                read: 0,
+                written: 0,
+                sent: 0,
+                acknowledged: 0,
+                handed: 0,
+            },
+        })
+    }
+
+    /// Asks the peer to start: how many messages that weren't acknowledged were dropped. Refused
+    /// where the station isn't halted, or its mail isn't taken.
+    pub fn start(&mut self) -> Result<u8, StartRefusal>
+        ensures state { self.new ≡ with_state (started self.old.station.core.station) self.old }
+        ensures answer { result ≡ answer_to_start self.old.station.core.station }
+    {
+        self.station.start()
+    }
+
+    /// Sends and takes nothing more. What waits for the line stays.
+    pub fn halt(&mut self)
+        ensures { self.new ≡ with_state (after_halt self.old.station.core.station) self.old }
+    {
+        self.station.halt();
+    }
+
+    /// Halts the station, forgets what waits for the line and the bytes that came from it, and
+    /// starts: how many messages that weren't acknowledged were dropped. Where mail isn't taken it
+    /// is refused, halted and cleared all the same: take the mail, then start.
+    pub fn begin_anew(&mut self) -> Result<u8, StartRefusal>
+        ensures state { self.new ≡ anew self.new.station.line self.old }
+        ensures cleared { StandsFor self.new.station.line [] }
+        ensures answer { result ≡ answer_to_start (after_halt self.old.station.core.station) }
+    {
+        self.halt();
+        self.station.clear_line();
+        self.outbox.clear();
+        self.start()
+    }
+
+    /// Looks after the timer. Call it last before a wait, and first after it.
+    pub fn wake(&mut self, now: u64)
+        ensures { self.new ≡ after_wake now self.old }
+    {
+        keep_time(&mut self.station, now, self.timer_ms, &mut self.deadline);
+    }
+
+    /// The moment in milliseconds when `wake` is to be called at the latest; none while the timer
+    /// is off.
+    pub fn deadline(&self) -> Option<u64>
+        ensures { result ≡ wakes_at self.now }
+    {
+        if !self.station.timer_on() {
+            return None;
+        }
+        match self.deadline {
+            Some(moment) => Some(moment),
+            None => Some(0),
+        }
+    }
+
+    /// Whether `offer` would accept a message of 1 to `max` bytes.
+    pub fn has_room(&self) -> bool
+        ensures { result ≡ takes_message self.now }
+    {
+        self.state() == State::Running && self.station.room()
+    }
+
+    /// Accepts a message to be sent.
+    pub fn offer(&mut self, message: &[u8]) -> Result<(), SendRefusal>
+        ensures state { self.new ≡ after_offered message.now self.old }
+        ensures answer { result ≡ answer_to_offered message.now self.old }
+    {
+        match self.station.send(message) {
+            Ok(_number) => {
+                self.totals.sent = self.totals.sent.saturating_add(1);
+                Ok(())
+            }
+            Err(refusal) => Err(refusal),
+        }
+    }
+
+    /// Puts the next frame behind what waits for the line: whether there was one and room for it. A
+    /// NAK for want of a buffer isn't put there while the inbox is full.
+    pub fn fill_one(&mut self) -> bool
+        ensures state { self.new ≡ after_frame self.old }
+        ensures answer { result ≡ puts_frame self.old }
+        ensures less { result ≡ true → self.new.outbox.room < self.old.outbox.room }
+    {
+        if self.outbox.room() < self.station.frame_room() || self.holds_back() {
+            return false;
+        }
+        self.outbox.put_frame(&mut self.station)
+    }
+
+    /// Puts frames behind what waits for the line, as long as `fill_one` puts one.
+    pub fn fill(&mut self)
+        ensures frames { (n : ℕ) × (self.new ≡ after_frames n self.old) }
+        ensures all { puts_frame self.new ≡ false }
+    {
+        while self.fill_one() {}
+    }
+
+    /// Whether the next frame is a NAK for want of a buffer, and there is none yet.
+    fn holds_back(&self) -> bool
+        ensures { result ≡ holds_back self.now }
+    {
+        match self.station.next_header() {
+            Some(header) => asks_for_buffer(&header) && !self.wants_line(),
+            None => false,
+        }
+    }
+
+    /// Whether the next frame carries a message: one that is new, or one to be retransmitted.
+    pub fn sends_message(&self) -> bool
+        ensures { result ≡ carries_message self.now }
+    {
+        matches!(self.station.next_header(), Some(Header::Data(_)))
+    }
+
+    /// What waits for the line.
+    pub fn unsent(&self) -> &[u8]
+        ensures { result.now ≡ self.now.outbox.waiting }
+    {
+        self.outbox.waiting()
+    }
+
+    /// The line took the first `n` bytes of what waits.
+    pub fn sent(&mut self, n: usize)
+        requires { n ≤ length self.old.outbox.waiting }
+        ensures { self.new ≡ after_sent n self.old }
+    {
+        self.outbox.took(n);
+        self.totals.written = self.totals.written.saturating_add(n as u64);
+    }
+
+    /// Whether the line is to be read: the inbox isn't full.
+    pub fn wants_line(&self) -> bool
+        ensures { result ≡ has_room self.now.station.core.limits self.now.station.core.station }
+    {
+        (self.station.waiting() as u16) < self.station.config().inbox
+    }
+
+    /// Takes bytes of the line, up to the first that gives a notice. With that notice the inbox may
+    /// be full: ask `wants_line` before the rest.
+    pub fn feed(&mut self, piece: &[u8]) -> Fed
+        ensures stands { (text : List ℕ) → StandsFor self.old.station.line text
+            → StandsFor self.new.station.line (text ++ take result.used piece.now) }
+        ensures state { (text : List ℕ) → StandsFor self.old.station.line text
+            → self.new.station.core
+            ≡ after_piece text (take result.used piece.now) self.old.station.core }
+        // The last byte used gave the notice, and no byte before it gave one.
+        ensures told { (text : List ℕ) → StandsFor self.old.station.line text
+            → notices_of_piece text (take result.used piece.now) self.old.station.core
+            ≡ option_to_list result.notice }
+        ensures first { (text : List ℕ) (n : ℕ) → StandsFor self.old.station.line text
+            → n < result.used
+            → notices_of_piece text (take n piece.now) self.old.station.core ≡ [] }
+        ensures used { result.used ≤ length piece.now }
+        ensures whole { result.notice ≡ None
+            → result.used ≡ min (length piece.now) (countable self.old.station) }
+        ensures some { 0 < length piece.now → 0 < countable self.old.station → 0 < result.used }
+        ensures stays { self.new ≡ record self.old {
+          station = self.new.station;
+          totals = totals_after_feed result.used result.notice self.old.totals;
+        } }
+        // Without a text.
+        ensures offset { self.new.station.line.offset
+            ≡ self.old.station.line.offset + result.used }
+        ensures limits { self.new.station.core.limits ≡ self.old.station.core.limits }
+        ensures syn { self.new.station.syn ≡ self.old.station.syn }
+    {
+        let most = self.countable(piece.len());
+        let fed = self.station.feed(&piece[..most]);
+        self.totals.read = self.totals.read.saturating_add(fed.used as u64);
+        let count = acknowledged(fed.notice);
+        self.totals.acknowledged = self.totals.acknowledged.saturating_add(count as u64);
+        fed
+    }
+
+    /// How many of so many bytes can be counted.
+    fn countable(&self, length: usize) -> usize
+        ensures value { result ≡ min length (countable self.now.station) }
+        ensures fits { self.now.station.line.offset + result < 2 ^ 64 }
+    {
+        let countable = u64::MAX - self.station.offset();
+        if countable < length as u64 {
+            countable as usize
+        } else {
+            length
+        }
+    }
+
+    /// Moves the first mail to the front of `out`, which has room for a message of `max` bytes, and
+    /// answers its length.
+    pub fn take(&mut self, out: &mut [u8]) -> Option<usize>
+        requires { self.old.station.core.limits.longest ≤ length out.old }
+        ensures state { self.new ≡ after_taking self.old }
+        ensures length { result
+            ≡ option_map length (first_message self.old.station.core.station.inbox) }
+        ensures out { out.new
+            ≡ with_front (first_message self.old.station.core.station.inbox) out.old }
+    {
+        match self.station.take(out) {
+            None => None,
+            Some(length) => {
+                self.totals.handed = self.totals.handed.saturating_add(1);
+                Some(length)
+            }
+        }
+    }
+
+    /// How many messages were accepted and aren't acknowledged.
+    pub fn lost(&self) -> u8
+        ensures { result ≡ length self.now.station.core.station.out }
+    {
+        self.station.outgoing()
+    }
+
+    /// Whether all that was accepted is acknowledged, nothing waits for the line and no frame is to
+    /// be sent.
+    pub fn is_delivered(&self) -> bool
+        ensures { result ≡ delivered self.now }
+    {
+        self.lost() == 0 && self.unsent().is_empty() && self.station.next_header().is_none()
+    }
+
+    /// The state of the station.
+    pub fn state(&self) -> State
+        ensures { result ≡ self.now.station.core.station.state }
+    {
+        self.station.state()
+    }
+
+    /// What the station counted.
+    pub fn counters(&self) -> &Counters
+        ensures { result.now ≡ self.now.station.core.counters }
+    {
+        self.station.counters()
+    }
+
+    /// What the link counted.
+    pub fn totals(&self) -> Totals
+        ensures { result ≡ self.now.totals }
+    {
+        self.totals
+    }
+
+    /// The sizes that it was made with.
+    pub fn config(&self) -> Config
+        ensures { result ≡ config_of self.now.station.core.limits self.now.station.syn }
+    {
+        self.station.config()
+    }
+}
+
+/// Whether a header is that of a NAK for want of a buffer.
+fn asks_for_buffer(header: &Header) -> bool
+    ensures { result ≡ is_nak_for_buffer header.now }
+{
+    match header {
+        Header::Control(fields) => {
+            fields.kind == ControlType::Nak && fields.sub == NO_BUFFER_REASON
+        }
+        _ => false,
+    }
+}
+
+/// How many messages a notice tells acknowledged.
+fn acknowledged(notice: Option<Notice>) -> u8
+    ensures { result ≡ acknowledged_by notice }
+{
+    match notice {
+        Some(Notice::Acknowledged(count)) => count,
+        Some(Notice::HandedUpAndAcknowledged(count)) => count,
+        _ => 0,
+    }
+}

@@ -1,4 +1,0 @@
-//! Tests of `ddcmp_link` and `ddcmp_messages`: links over queues in memory, messages of an input.
-
-mod messages;
-mod streams;

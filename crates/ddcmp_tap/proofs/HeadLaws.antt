@@ -1,0 +1,77 @@
+-- What a tap says below a head.
+use Rattle.std.proofs.Common.{◌≡◌, ◌≢◌, ℕ, List, [], ◌++◌, refl, Bool, true, false, Option, Some, None}
+use Rattle.std.proofs.Common.{Result, Ok, Err, is_err, is_some}
+use Rattle.std.specs.Io.KnownBytes.{Appends}
+use Rattle.std.proofs.KnownBytes.{Appends-nil, Appends-trans, Keeps-refl}
+use Rattle.std.proofs.lemmas.List.Elements.{All-nil}
+use Rattle.ddcmp_io.specs.declared.device.WriteFailed.{WriteFailed}
+use Rattle.ddcmp_io.specs.Written.{Known, Writes}
+use Rattle.ddcmp_io.proofs.WrittenLaws.{part-append}
+use Rattle.ddcmp_tap.specs.declared.notation.Notation.{Notation}
+use Rattle.ddcmp_tap.specs.declared.tap_fault.TapFault.{TapFault}
+use Rattle.ddcmp_tap.specs.declared.tap_fault.TapFault.TheVariants.{Carrier, Read, Write, Report}
+use Rattle.ddcmp_tap.specs.declared.tap_fault.TapFault.TheVariants.{Memory}
+use Rattle.ddcmp_tap.specs.Pumping.{Says, WritesText, tap_text}
+use Rattle.ddcmp_tap.proofs.PieceLaws.{part-behind}
+
+-- some moment, where one is asked for
+abbrev moment : Bool → Option ℕ
+moment true = Some 0
+moment false = None
+
+asked : (timed : Bool) → is_some (moment timed) ≡ timed
+asked true = refl
+asked false = refl
+
+-- nothing was said of either side
+unsaid
+    : (head : List ℕ) (notation : Notation) (timed : Bool) (max : ℕ) (old new : Known)
+    (fault : TapFault)
+    → WritesText old new (Err fault) (head ++ tap_text notation max (moment timed) [])
+    → Says head notation timed max old new (Err fault)
+unsaid head notation timed max old new fault wrote =
+    record { pieces = []; stamp = moment timed; stamped = (All-nil (λ p. is_some p.stamp ≡ timed), asked timed); wrote = wrote }
+
+pub no-memory : (head : List ℕ) (notation : Notation) (timed : Bool) (max : ℕ) (old : Known)
+    → Says head notation timed max old old (Err Memory)
+no-memory head notation timed max old =
+    unsaid head notation timed max old old Memory (0, Appends-nil old)
+
+pub no-carrier : (head : List ℕ) (notation : Notation) (timed : Bool) (max : ℕ) (old : Known)
+    → Says head notation timed max old old (Err Carrier)
+no-carrier head notation timed max old =
+    unsaid head notation timed max old old Carrier (Keeps-refl old)
+
+-- the head wasn't written whole
+pub no-head
+    : (head : List ℕ) (notation : Notation) (timed : Bool) (max : ℕ) (old new : Known)
+    (result : Result (Unit {0}) WriteFailed) → is_err result ≡ true → Writes old new result head
+    → Says head notation timed max old new (Err Report)
+no-head head notation timed max old new (Ok u) e w = cc
+no-head head notation timed max old new (Err f) e w =
+    unsaid head notation timed max old new Report
+    (part-append old new head (tap_text notation max (moment timed) []) w)
+
+behind : (old mid new : Known) (head text : List ℕ) (result : Result (Unit {0}) TapFault)
+    → result ≢ Err Carrier → Appends old mid head → WritesText mid new result text
+    → WritesText old new result (head ++ text)
+behind old mid new head text (Ok u) met a w = Appends-trans old mid new head text a w
+behind old mid new head text (Err Read) met a w = Appends-trans old mid new head text a w
+behind old mid new head text (Err Write) met a w = Appends-trans old mid new head text a w
+behind old mid new head text (Err Carrier) met a w = absurd (met refl)
+behind old mid new head text (Err Report) met a w = part-behind old mid new head text a w
+behind old mid new head text (Err Memory) met a w = part-behind old mid new head text a w
+
+-- the head was written, and below it what was said
+pub said-below
+    : (head : List ℕ) (notation : Notation) (timed : Bool) (max : ℕ) (old mid new : Known)
+    (wrote : Result (Unit {0}) WriteFailed) (result : Result (Unit {0}) TapFault)
+    → result ≢ Err Carrier → is_err wrote ≡ false → Writes old mid wrote head
+    → Says [] notation timed max mid new result → Says head notation timed max old new result
+said-below head notation timed max old mid new (Ok u) result met e w s = record {
+  pieces = s.pieces;
+  stamp = s.stamp;
+  stamped = s.stamped;
+  wrote = behind old mid new head (tap_text notation max s.stamp s.pieces) result met w s.wrote;
+}
+said-below head notation timed max old mid new (Err f) result met e w s = cc

@@ -1,0 +1,137 @@
+//! A tap between two addresses.
+ghost use Rattle.std.specs.Prelude.{◌≡◌, ◌≢◌, ◌<◌, ◌≤◌, ◌↔◌, Err, IsTrue, false, is_err};
+ghost use Rattle.ddcmp_io.specs.Written.{Writes};
+ghost use Rattle.ddcmp_frame.specs.Limits.{MAX_COUNT};
+ghost use Rattle.ddcmp_tap.specs.Pumping.{Says, head_of};
+
+use crate::direction::Direction;
+use crate::flow::Flow;
+use crate::notation::Notation;
+use crate::pumping::pump;
+use crate::queue::ROOM;
+use crate::side::Side;
+use crate::sockets::{Sockets, ToSocket};
+use crate::tap_fault::TapFault;
+use ddcmp_io::{FromRead, Sink, WriteFailed, write_all};
+use ddcmp_station::Elapsed;
+use mio::net::TcpStream;
+use std::alloc::Global;
+use std::net::{self, Net, OpenListener, TcpListener};
+use std::{io, time};
+
+/// The head of a ladder, which says who stands on which side.
+const LADDER_HEAD: &[u8] =
+    b"> who connected to the tap                         whom the tap connected to <\n";
+
+/// Writes what stands above all that passes.
+fn write_head<W: Sink>(writer: &mut W, notation: Notation) -> Result<(), WriteFailed>
+    requires whole { W.broken writer.old ≡ false }
+    ensures written { Writes (W.contents writer.old) (W.contents writer.new) result
+        (head_of notation) }
+    ensures broken { W.broken writer.new ≡ is_err result }
+{
+    match notation {
+        Notation::Plain | Notation::Json => Ok(()),
+        Notation::Ladder => write_all(writer, LADDER_HEAD),
+    }
+}
+
+/// A connection that neither waits nor holds bytes back to fill a packet.
+fn prompt(stream: net::TcpStream) -> io::Result<TcpStream> {
+    stream.set_nodelay(true)?;
+    stream.set_nonblocking(true)?;
+    Ok(TcpStream::from_std(stream))
+}
+
+/// The first connection to one address, and then one to the other.
+fn open<N: Net<Stream = net::TcpStream>>(
+    net: &N,
+    listen: &str,
+    connect: &str,
+) -> io::Result<(TcpStream, TcpStream)> {
+    let (caller, _peer) = TcpListener::bind(net, listen)?.accept()?;
+    let called = net::TcpStream::connect(net, connect)?;
+    Ok((prompt(caller)?, prompt(called)?))
+}
+
+/// Waits at one address until someone connects, connects to the other, and stands between the two
+/// until both have ended. What each side says goes to the writer, line by line, as it comes.
+pub fn tap<S: Net<Stream = net::TcpStream> + time::Clock, W: Sink>(
+    system: &S,
+    alloc: Global,
+    listen: &str,
+    connect: &str,
+    notation: Notation,
+    timed: bool,
+    max: u16,
+    writer: &mut W,
+) -> Result<(), TapFault>
+    requires whole { W.broken writer.old ≡ false }
+    requires low { 0 < max }
+    requires high { max ≤ MAX_COUNT }
+    ensures says { Says (head_of notation) notation timed max
+        (W.contents writer.old) (W.contents writer.new) result }
+    ensures carrier { result ≡ Err TapFault.Carrier → writer.new ≡ writer.old }
+    ensures broken { (result ≡ Err TapFault.Report) ↔ IsTrue (W.broken writer.new) }
+{
+    let Ok((mut caller, mut called)) = open(system, listen, connect) else {
+        return Err(TapFault::Carrier);
+    };
+    let Ok(mut sockets) = Sockets::new(system, alloc, &mut caller, &mut called) else {
+        return Err(TapFault::Carrier);
+    };
+    between(
+        system,
+        alloc,
+        &caller,
+        &called,
+        &mut sockets,
+        notation,
+        timed,
+        max,
+        writer,
+    )
+}
+
+/// Stands between two sockets.
+fn between<C: time::Clock, W: Sink>(
+    clock: &C,
+    alloc: Global,
+    caller: &TcpStream,
+    called: &TcpStream,
+    sockets: &mut Sockets,
+    notation: Notation,
+    timed: bool,
+    max: u16,
+    writer: &mut W,
+) -> Result<(), TapFault>
+    requires whole { W.broken writer.old ≡ false }
+    requires low { 0 < max }
+    requires high { max ≤ MAX_COUNT }
+    ensures says { Says (head_of notation) notation timed max
+        (W.contents writer.old) (W.contents writer.new) result }
+    ensures met { result ≢ Err TapFault.Carrier }
+    ensures broken { (result ≡ Err TapFault.Report) ↔ IsTrue (W.broken writer.new) }
+{
+    let Ok(up) = Direction::new(alloc, Side::Caller, notation, max) else {
+        return Err(TapFault::Memory);
+    };
+    let Ok(down) = Direction::new(alloc, Side::Called, notation, max) else {
+        return Err(TapFault::Memory);
+    };
+    let Ok(mut buffer) = Vec::from_elem(alloc, 0u8, ROOM) else {
+        return Err(TapFault::Memory);
+    };
+    if write_head(writer, notation).is_err() {
+        return Err(TapFault::Report);
+    }
+    pump(
+        &mut Flow::new(up, FromRead::new(caller), ToSocket::new(called)),
+        &mut Flow::new(down, FromRead::new(called), ToSocket::new(caller)),
+        sockets,
+        &mut Elapsed::new(clock),
+        timed,
+        buffer.as_mut_slice(),
+        writer,
+    )
+}

@@ -1,0 +1,21 @@
+//! Tests of the tools from outside. Of `ddcmp_explain`: its text at every cut, size and fault, over
+//! streams and of dumps. Of `ddcmp_tap`, which explains a direction of a line: what that hands on,
+//! its room and its text. Of the program: its words, its texts and its ends.
+#![tactic(auto)]
+
+#[cfg(test)]
+mod directions;
+#[cfg(test)]
+mod dumps;
+#[cfg(test)]
+mod explains;
+#[cfg(test)]
+mod programs;
+#[cfg(test)]
+mod same;
+#[cfg(test)]
+mod sizes;
+#[cfg(test)]
+mod streams;
+#[cfg(test)]
+mod texts;
