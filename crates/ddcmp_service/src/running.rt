@@ -259,7 +259,7 @@ impl Desk {
     pub(crate) fn wake(&mut self, now: u64) {
         self.now = now;
         self.pacing.wake(now);
-        let has_expired = wake(&mut self.link, now);
+        let has_expired = self.link.wake(now);
         if let Some(trace) = &mut self.trace {
             trace.wake(now, has_expired, &mut self.noted);
         }
@@ -725,13 +725,6 @@ fn unfinished_in(framing: &mut Reader, datagram: &[u8]) -> usize {
     let unfinished = framing.open();
     framing.reset();
     unfinished
-}
-
-/// Looks after the timer of a link: whether it ran out. It stops then, and only then in a call.
-fn wake(link: &mut Link, now: u64) -> bool {
-    let was_on = link.deadline().is_some();
-    link.wake(now);
-    was_on && link.deadline().is_none()
 }
 
 /// Writes the line of a part of the input that is no message, which `what` names.

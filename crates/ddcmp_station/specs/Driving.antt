@@ -71,6 +71,11 @@ core_after_expire k =
 abbrev pub core_after_take_arm : CoreView → CoreView
 core_after_take_arm k = record k { station = after_take_arm k.station }
 
+-- whether a timer that is looked after at this moment expires
+abbrev pub expires_at : ℕ → ℕ → Timer → Option ℕ → Bool
+expires_at milliseconds now timer deadline =
+    is_on timer && is_due now (deadline_at milliseconds now timer deadline)
+
 -- where the timer is on and its deadline has come, it runs out
 abbrev pub core_at_deadline : ℕ → Option ℕ → CoreView → CoreView
 core_at_deadline now deadline k =

@@ -80,6 +80,7 @@ impl Link {
     ghost use Rattle.ddcmp_station.specs.Linking.{after_frames, after_sent, countable};
     ghost use Rattle.ddcmp_station.specs.Linking.{totals_after_feed, after_taking, delivered};
     ghost use Rattle.ddcmp_station.specs.Linking.{holds_back, carries_message};
+    ghost use Rattle.ddcmp_station.specs.Driving.{expires_at};
 
     /// A halted link, whose timer runs out `timer_ms` milliseconds after it was started.
     pub fn new(alloc: Global, config: Config, timer_ms: u32) -> Result<Link, ConfigRefusal>
@@ -144,11 +145,14 @@ impl Link {
         self.start()
     }
 
-    /// Looks after the timer. Call it last before a wait, and first after it.
-    pub fn wake(&mut self, now: u64)
-        ensures { self.new ≡ after_wake now self.old }
+    /// Handles the reply timer: returns whether it expired. Call it last before a wait, and first
+    /// after it.
+    pub fn wake(&mut self, now: u64) -> bool
+        ensures state { self.new ≡ after_wake now self.old }
+        ensures expires { result ≡ expires_at self.old.milliseconds now
+            self.old.station.core.station.timer self.old.deadline }
     {
-        keep_time(&mut self.station, now, self.timer_ms, &mut self.deadline);
+        keep_time(&mut self.station, now, self.timer_ms, &mut self.deadline)
     }
 
     /// The moment in milliseconds when `wake` is to be called at the latest; none while the timer
