@@ -1,6 +1,5 @@
 pub mod Connections
 pub mod Endings
-pub mod Inputs
 pub mod LinkEndings
 pub mod TapEndings
 pub use Rattle.ddcmp_explain.specs.Digits

@@ -8,6 +8,7 @@ ghost use Rattle.ddcmp_cli.specs.Endings.{TellsDevices, streams};
 use crate::ending::Ending;
 use crate::fault::Fault;
 use crate::simulating::play;
+use crate::usage::usage;
 use ddcmp_io::{Sink, Source, Worst};
 use ddcmp_line::{Carrier, Direct};
 use ddcmp_net::Sockets;
@@ -18,21 +19,7 @@ use std::alloc::Global;
 use std::net::{Net, TcpStream};
 
 /// What is told where both pictures are asked for.
-const TWO_PICTURES: &str = "\
-error: '--svg' and '--ladder' can't be used together
-
-For more information, try '--help'.
-";
-
-/// Words that ask for both pictures.
-fn two_pictures(alloc: Global) -> Ending
-    ensures { is_refusal result ≡ true }
-{
-    match String::from_str(alloc, TWO_PICTURES) {
-        Ok(text) => Ending::Usage(text),
-        Err(_refused) => Ending::Fault(Fault::Memory),
-    }
-}
+const TWO_PICTURES: &str = "'--svg' and '--ladder' can't be used together";
 
 /// Draws a script between two ends of the same sizes.
 fn draw_over<R: Source, W: Sink, C: Carrier>(
@@ -85,7 +72,7 @@ fn show_over<R: Source, W: Sink, C: Carrier>(
 {
     let counted = view.counters;
     let picture = match (view.svg, view.ladder) {
-        (true, true) => return two_pictures(alloc),
+        (true, true) => return usage(alloc, TWO_PICTURES),
         (true, false) => Picture::Svg,
         (false, true) => Picture::Ladder,
         (false, false) => return play(alloc, config, counted, carrier, reader, writer),
@@ -132,7 +119,7 @@ pub(crate) fn show_pair<N: Net<Stream = TcpStream>, R: Source, W: Sink>(
         (R.state reader.new)) (W.broken writer.new) result }
 {
     if view.svg && view.ladder {
-        return two_pictures(alloc);
+        return usage(alloc, TWO_PICTURES);
     }
     let Ok(mut sockets) = Sockets::new(net) else {
         return Ending::Fault(Fault::Carrier);

@@ -3,9 +3,10 @@ ghost use Rattle.std.specs.Prelude.{◌≡◌};
 ghost use Rattle.ddcmp_cli.specs.Endings.{shown_of, status_of};
 
 use crate::fault::Fault;
-use crate::inputs::OpenFault;
+use ddcmp_io::cause::words_of;
 use std::fmt;
 use std::fmt::Display;
+use std::io::ErrorKind;
 
 /// How the program ended.
 #[derive(Debug, Drop)]
@@ -20,8 +21,8 @@ pub enum Ending {
     Usage(String),
     /// A word isn't text.
     NotText,
-    /// The file of this name can't be opened.
-    Unopened(String, OpenFault),
+    /// The file of this name can't be opened, for this reason.
+    Unopened(String, ErrorKind),
     /// A command met a fault.
     Fault(Fault),
 }
@@ -66,12 +67,12 @@ fn tell<W: fmt::Write, T: Display>(f: &mut fmt::Formatter<W>, told: &T) -> fmt::
 fn tell_unopened<W: fmt::Write>(
     f: &mut fmt::Formatter<W>,
     name: &String,
-    why: &OpenFault,
+    why: ErrorKind,
 ) -> fmt::Result {
     f.write_str("ddcmp: open ")?;
     f.write_str(name.as_str())?;
     f.write_str(": ")?;
-    why.fmt(f)?;
+    f.write_str(words_of(why))?;
     f.write_str("\n")
 }
 
@@ -85,7 +86,7 @@ impl Display for Ending {
             Ending::NoLine(why) => tell(f, why),
             Ending::Usage(text) => f.write_str(text.as_str()),
             Ending::NotText => f.write_str("ddcmp: a word is not text\n"),
-            Ending::Unopened(name, why) => tell_unopened(f, name, why),
+            Ending::Unopened(name, why) => tell_unopened(f, name, *why),
             Ending::Fault(fault) => tell(f, fault),
         }
     }

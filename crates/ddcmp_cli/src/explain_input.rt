@@ -12,25 +12,17 @@ ghost use Rattle.ddcmp_cli.specs.Endings.{is_misused as is_misused_by};
 use crate::ending::Ending;
 use crate::fault::Fault;
 use crate::inputs::Inputs;
-use crate::stationing::usage;
+use crate::usage::usage;
 use ddcmp_explain::{Form, explain_dump, explain_with};
 use ddcmp_io::{Sink, Source, Worst};
 use ddcmp_words::Explained;
 use std::alloc::Global;
 
 /// What is told where `--raw` stands beside `--from`.
-const TWO_FORMS: &str = "\
-error: '--raw' and '--from' can't be used together
-
-For more information, try '--help'.
-";
+const TWO_FORMS: &str = "'--raw' and '--from' can't be used together";
 
 /// What is told where the word for what the input comes from is another.
-const NO_DUMP: &str = "\
-error: '--from' is hexdump
-
-For more information, try '--help'.
-";
+const NO_DUMP: &str = "'--from' is hexdump";
 
 /// What is typed at a terminal.
 fn typed(explained: &Explained<'_>) -> &'static str {

@@ -13,6 +13,7 @@ mod simulating;
 mod standard;
 mod stationing;
 mod tapping;
+mod usage;
 
 pub use connections::{Connection, Connections};
 pub use ddcmp_explain::{
@@ -28,7 +29,7 @@ pub use ddcmp_words::{
 };
 pub use ending::Ending;
 pub use fault::Fault;
-pub use inputs::{Inputs, OpenFault};
+pub use inputs::Inputs;
 pub use linking::Lines;
 pub use program::{
     explain_is_asked, link_is_asked, pair_is_asked, run, run_args, simulate_is_asked,

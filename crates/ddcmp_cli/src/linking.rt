@@ -4,18 +4,15 @@ ghost use Rattle.ddcmp_cli.specs.LinkEndings.{IsLinkEnding};
 
 use crate::ending::Ending;
 use crate::fault::Fault;
-use crate::stationing::usage;
+use crate::usage::usage;
 use ddcmp_io::{Sink, Source};
 use ddcmp_service::{Form, LineName, NotOpened, Options, Served, ServiceFault, serve_link};
 use ddcmp_words::Linked;
 use std::alloc::Global;
 
 /// What is told where the word for the line is another.
-const NO_LINE: &str = "\
-error: '--line' is connect:HOST:PORT, listen:HOST:PORT, udp:LOCAL,REMOTE or device:PATH
-
-For more information, try '--help'.
-";
+const NO_LINE: &str =
+    "'--line' is connect:HOST:PORT, listen:HOST:PORT, udp:LOCAL,REMOTE or device:PATH";
 
 /// How a service is to run, on this line.
 fn options_of<'a>(linked: &Linked<'a>, line: LineName<'a>) -> Options<'a> {

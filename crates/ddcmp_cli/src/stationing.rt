@@ -8,6 +8,7 @@ ghost use Rattle.ddcmp_cli.specs.LinkEndings.{IsLinkEnding};
 use crate::connections::Connections;
 use crate::ending::Ending;
 use crate::fault::Fault;
+use crate::usage::usage;
 use ddcmp_io::Sink;
 use ddcmp_net::{SERVED_MAX, serve};
 use ddcmp_station::Elapsed;
@@ -16,29 +17,10 @@ use std::alloc::Global;
 use std::time;
 
 /// What is told where the word for the role is another.
-const NO_ROLE: &str = "\
-error: '--role' is connect or listen
-
-For more information, try '--help'.
-";
+const NO_ROLE: &str = "'--role' is connect or listen";
 
 /// What is told where the message to send is too long.
-const TOO_LONG: &str = "\
-error: the message of '--send <HEX>' has more than 1500 bytes
-
-For more information, try '--help'.
-";
-
-/// Words that are out of order, as this text says.
-pub(crate) fn usage(alloc: Global, text: &str) -> Ending
-    ensures refusal { is_refusal result ≡ true }
-    ensures kept { IsLinkEnding result × (result ≢ Ending.Fault Fault.Write) }
-{
-    match String::from_str(alloc, text) {
-        Ok(text) => Ending::Usage(text),
-        Err(_refused) => Ending::Fault(Fault::Memory),
-    }
-}
+const TOO_LONG: &str = "the message of '--send <HEX>' has more than 1500 bytes";
 
 /// The bytes that digits spell, at the front of a buffer; none where they spell none.
 fn message_in<'a>(digits: &str, buffer: &'a mut [u8]) -> Option<&'a [u8]>

@@ -6,7 +6,7 @@ ghost use Rattle.ddcmp_cli.specs.TapEndings.{tap_fault, told_as as notation_of};
 
 use crate::ending::Ending;
 use crate::fault::Fault;
-use crate::stationing::usage;
+use crate::usage::usage;
 use ddcmp_explain::Notation;
 use ddcmp_io::Sink;
 use ddcmp_tap::{Notation as TapNotation, TapFault};
@@ -29,11 +29,7 @@ impl From<TapFault> for Fault {
 }
 
 /// What is told where both JSON and a ladder are asked for.
-const TWO_NOTATIONS: &str = "\
-error: '--json' and '--ladder' can't be used together
-
-For more information, try '--help'.
-";
+const TWO_NOTATIONS: &str = "'--json' and '--ladder' can't be used together";
 
 fn is_json(notation: Notation) -> bool
     ensures { result ≡ is_json_notation notation }

@@ -2,6 +2,7 @@
 //! sink, and devices over memory for tests. It knows nothing of the protocol.
 #![tactic(auto)]
 
+pub mod cause;
 pub mod device;
 pub mod failing;
 pub mod input;

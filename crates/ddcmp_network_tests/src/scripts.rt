@@ -2,8 +2,8 @@
 // fails. What they write else is the matter of `worked_commands`.
 use crate::same::is;
 use ddcmp_cli::{
-    Connection, Connections, Ending, Fault, Inputs, Lines, LinkServed, OpenFault, Options, Role,
-    ServiceFault, run,
+    Connection, Connections, Ending, Fault, Inputs, Lines, LinkServed, Options, Role, ServiceFault,
+    run,
 };
 use ddcmp_frame::failing::{Pieces, Taken};
 use ddcmp_frame::{Sink, Source};
@@ -90,7 +90,7 @@ impl<S: Inputs> Inputs for Poor<'_, S> {
 
     ghost held = { λ s. S.held s.system.now };
 
-    fn open(&self, name: &str) -> Result<S::Opened, OpenFault> {
+    fn open(&self, name: &str) -> Result<S::Opened, ErrorKind> {
         self.system.open(name)
     }
 

@@ -1,4 +1,5 @@
 //! What goes wrong with a line, and why a service ended.
+use ddcmp_io::cause::words_of;
 use std::fmt;
 use std::io::ErrorKind;
 
@@ -44,25 +45,6 @@ pub struct NotOpened<'a> {
     pub attempt: Attempt,
     pub name: &'a str,
     pub cause: Cause,
-}
-
-/// The system's error in words.
-fn words_of(kind: ErrorKind) -> &'static str {
-    match kind {
-        ErrorKind::NotFound => "no such file",
-        ErrorKind::PermissionDenied => "permission denied",
-        ErrorKind::IsADirectory => "is a directory",
-        ErrorKind::ConnectionRefused => "connection refused",
-        ErrorKind::ConnectionReset => "connection reset",
-        ErrorKind::HostUnreachable => "host unreachable",
-        ErrorKind::NetworkUnreachable => "network unreachable",
-        ErrorKind::AddrInUse => "address in use",
-        ErrorKind::AddrNotAvailable => "address not available",
-        ErrorKind::TimedOut => "timed out",
-        ErrorKind::InvalidInput => "not an address",
-        ErrorKind::OutOfMemory => "out of memory",
-        _ => "it can't be opened",
-    }
 }
 
 impl fmt::Display for NotOpened<'_> {

@@ -2,7 +2,7 @@
 // written then is the matter of `worked_commands`.
 use crate::same::{System, is};
 use ddcmp_cli::command::read_words;
-use ddcmp_cli::{Command, Declined, Ending, Fault, OpenFault, run, run_args};
+use ddcmp_cli::{Command, Declined, Ending, Fault, run, run_args};
 use ddcmp_frame::failing::{Pieces, Taken};
 use std::alloc::Global;
 use std::io::{self, ErrorKind};
@@ -38,7 +38,7 @@ fn endings_have_a_status_and_a_line(rt: HostRuntime) -> Result<(), Fail> {
     let line = "ddcmp: open a b: permission denied\n";
     is_told(
         &rt,
-        Ending::Unopened(name, OpenFault::PermissionDenied),
+        Ending::Unopened(name, ErrorKind::PermissionDenied),
         3,
         line,
     )

@@ -1,6 +1,7 @@
 //! Each fault has its text, also those that the program tells by another's.
 use crate::same::is;
-use ddcmp_cli::{DumpFault, ExplainFault, Fault, NotDumped, OpenFault, ServeFault, TapFault};
+use ddcmp_cli::{DumpFault, ExplainFault, Fault, NotDumped, ServeFault, TapFault};
+use ddcmp_io::cause::words_of;
 use ddcmp_line::ScriptFault;
 use ddcmp_service::{Attempt, Cause, NotOpened};
 use ddcmp_station::LineFault;
@@ -73,12 +74,18 @@ fn taps(rt: HostRuntime) -> Result<(), Fail> {
 
 #[test]
 fn files(rt: HostRuntime) -> Result<(), Fail> {
-    reads(&rt, &OpenFault::NotFound, "no such file")?;
-    reads(&rt, &OpenFault::PermissionDenied, "permission denied")?;
-    reads(&rt, &OpenFault::NotADirectory, "not a directory")?;
-    reads(&rt, &OpenFault::LinkLoop, "links in a circle")?;
-    reads(&rt, &OpenFault::NameTooLong, "name too long")?;
-    reads(&rt, &OpenFault::Other, "it can't be opened")
+    let rows = [
+        (ErrorKind::NotFound, "no such file"),
+        (ErrorKind::PermissionDenied, "permission denied"),
+        (ErrorKind::NotADirectory, "not a directory"),
+        (ErrorKind::FilesystemLoop, "links in a circle"),
+        (ErrorKind::InvalidFilename, "name too long"),
+        (ErrorKind::Other, "it can't be opened"),
+    ];
+    for (kind, text) in rows {
+        is(&rt, words_of(kind), text);
+    }
+    Ok(())
 }
 
 /// What is reported of an attempt at a line of the name `it` that failed so.

@@ -1,0 +1,24 @@
+//! Why the system couldn't open something.
+use std::io::ErrorKind;
+
+/// The system's reason not to open a file, a device or a connection, in words.
+pub fn words_of(kind: ErrorKind) -> &'static str {
+    match kind {
+        ErrorKind::NotFound => "no such file",
+        ErrorKind::PermissionDenied => "permission denied",
+        ErrorKind::IsADirectory => "is a directory",
+        ErrorKind::NotADirectory => "not a directory",
+        ErrorKind::FilesystemLoop => "links in a circle",
+        ErrorKind::InvalidFilename => "name too long",
+        ErrorKind::ConnectionRefused => "connection refused",
+        ErrorKind::ConnectionReset => "connection reset",
+        ErrorKind::HostUnreachable => "host unreachable",
+        ErrorKind::NetworkUnreachable => "network unreachable",
+        ErrorKind::AddrInUse => "address in use",
+        ErrorKind::AddrNotAvailable => "address not available",
+        ErrorKind::TimedOut => "timed out",
+        ErrorKind::InvalidInput => "not an address",
+        ErrorKind::OutOfMemory => "out of memory",
+        _ => "it can't be opened",
+    }
+}
