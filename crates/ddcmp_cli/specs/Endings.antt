@@ -44,11 +44,12 @@ use Rattle.ddcmp_words.specs.declared.tapped.Tapped.{Tapped}
 use Rattle.ddcmp_words.specs.declared.declined.Declined.{Declined}
 use Rattle.ddcmp_words.specs.declared.declined.Declined.TheVariants.{Help, Version, Usage, Memory}
 use Rattle.ddcmp_io.specs.declared.device.Worst.TheVariants.{Fine}
-use Rattle.ddcmp_io.specs.Change.{SourceChange}
+use Rattle.ddcmp_io.specs.Change.{SourceChange, SinkChange}
 use Rattle.ddcmp_io.specs.Input.{GaveMost}
 use Rattle.ddcmp_io.specs.Written.{AppendsPart, Known}
 use Rattle.ddcmp_words.specs.declared.view.View.{View}
 use Rattle.ddcmp_words.specs.Words.{HasExplain, HasStation, HasTap, Reads, option_in, text_in}
+use Rattle.ddcmp_words.specs.Words.{Asks, IsAsked, IsOutOfOrder, file_of}
 use Rattle.ddcmp_core.specs.Limits.{MAX_COUNT}
 use Rattle.ddcmp_explain.specs.Dumps.{ExplainsDump}
 use Rattle.ddcmp_explain.specs.Explains.{Explains}
@@ -413,3 +414,29 @@ abbrev pub Ends : (List ℕ → Known) → Peers → List Text → Known → Kno
 Ends held peers words before left old new ending =
     (read : Result Command Declined) × Reads words read
     × Answers held peers read before left old new ending
+
+-- What a run of the program did, as these words ask. `Unread` and `Unwritten` say that its input and
+-- its output are as they were.
+pub record RunsAs (held : List ℕ → Known) (peers : Peers) (words : List Text)
+    (source : SourceChange) (sink : SinkChange) (Unread Unwritten : Type 0) (ending : Ending)
+    : Type 0 where
+  pub explains : (input : List ℕ) → source.before ≡ Some input → IsAsked words (codes "explain")
+      → ExplainsOrNoMemory held words (streams input source.after sink.before sink.after) ending
+  pub ends : Ends held peers words source.before source.after sink.before sink.after ending
+  pub refused : IsOutOfOrder words → IsTrue (is_refusal ending) × Unread × Unwritten
+  pub read : (Asks words (codes "link") → ⊥) → source.state ≢ Fine → ending ≡ Faulted Read
+  pub read_only : (Asks words (codes "station") → ⊥) → (Asks words (codes "tap") → ⊥)
+      → (Asks words (codes "link") → ⊥) → file_of (text_in words (codes "file")) ≡ None
+      → ending ≡ Faulted Read
+      → (source.state ≢ Fine) ⊎ GaveMost source.before source.after
+  pub write : (Asks words (codes "station") → ⊥) → (Asks words (codes "tap") → ⊥)
+      → (ending ≡ Faulted Write) ↔ IsTrue sink.broken
+  pub whole : ending ≡ Done → sink.broken ≡ false
+  pub untouched : IsAsked words (codes "explain")
+      → file_of (text_in words (codes "file")) ≢ None → Unread
+  pub stations : IsAsked words (codes "station")
+      → Unread × StationsOrNoMemory peers words sink.before sink.after ending
+  pub taps : IsAsked words (codes "tap")
+      → Unread × TapsOrNoMemory words sink.before sink.after ending
+      × (IsTrue sink.broken → ending ≡ Faulted Write)
+  pub links : IsAsked words (codes "link") → IsLinkEnding ending

@@ -11,15 +11,15 @@ use std::io::ErrorKind;
 /// How the program ended.
 #[derive(Debug, Drop)]
 pub enum Ending {
-    /// All was done, help and the version included.
+    /// Completed, help and the version included.
     Done,
-    /// All was done but what was refused of the input, which was told.
+    /// Completed, but parts of the input were refused, which was reported.
     SomeRefused,
-    /// The line of a link can't be opened; this says why.
+    /// The line of a link can't be opened, for this reason.
     NoLine(String),
-    /// The words are out of order; this says how.
+    /// A usage error, with its text.
     Usage(String),
-    /// A word isn't text.
+    /// An argument isn't text.
     NotText,
     /// The file of this name can't be opened, for this reason.
     Unopened(String, ErrorKind),
@@ -56,14 +56,14 @@ impl Ending {
     }
 }
 
-/// A line that tells this of the program.
+/// Writes a line of the program for this.
 fn tell<W: fmt::Write, T: Display>(f: &mut fmt::Formatter<W>, told: &T) -> fmt::Result {
     f.write_str("ddcmp: ")?;
     told.fmt(f)?;
     f.write_str("\n")
 }
 
-/// A line that tells why a file isn't opened.
+/// Writes the line for a file that can't be opened.
 fn tell_unopened<W: fmt::Write>(
     f: &mut fmt::Formatter<W>,
     name: &String,
@@ -76,7 +76,7 @@ fn tell_unopened<W: fmt::Write>(
     f.write_str("\n")
 }
 
-/// What goes to standard error.
+/// The text for standard error.
 impl Display for Ending {
     ghost output = { shown_of };
 

@@ -1,4 +1,4 @@
-//! Why a command wasn't done to its end.
+//! Why a command didn't complete.
 ghost use Rattle.std.specs.Prelude.{◌≡◌};
 ghost use Rattle.ddcmp_cli.specs.Endings.{dump_fault, explain_fault, script_fault, serve_fault};
 
@@ -8,14 +8,14 @@ use ddcmp_net::ServeFault;
 use ddcmp_station::LineFault;
 use std::fmt;
 
-/// Why a command wasn't done to its end.
+/// Why a command didn't complete.
 #[derive(Clone, Copy, Debug, PartialEq, Eq)]
 pub enum Fault {
-    /// The digits to be explained are odd in number.
+    /// The number of digits to explain is odd.
     Odd,
     /// The index of the first byte that is neither a digit nor blank, counted from 0.
     NotHex(u64),
-    /// A line is none of a dump.
+    /// A line isn't one of a dump.
     Dump(NotDumped),
     /// This line of a script is no command.
     Line(u64),
@@ -30,7 +30,7 @@ pub enum Fault {
     Carrier,
     /// The peer of a station ended the connection.
     Ended,
-    /// So many messages of a link were read and not acknowledged.
+    /// This number of messages of a link was read and not acknowledged.
     Lost(u64),
 }
 
@@ -89,7 +89,7 @@ impl From<ServeFault> for Fault {
     }
 }
 
-/// The text that the command itself has for it.
+/// The same text as that of the command's own fault.
 impl fmt::Display for Fault {
     fn fmt<W: fmt::Write>(&self, f: &mut fmt::Formatter<W>) -> fmt::Result {
         match self {

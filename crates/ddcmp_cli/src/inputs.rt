@@ -1,9 +1,9 @@
-//! Where the program reads from beside its standard input.
+//! What the program reads besides its standard input.
 use ddcmp_io::{FromRead, Source, Worst};
 use std::fs::{self, File};
 use std::io::{ErrorKind, IsTerminal};
 
-/// What the program reads beside its standard input, and whether that is typed.
+/// The files that the program reads besides its standard input.
 pub trait Inputs {
     ghost use Rattle.std.specs.Prelude.{◌≡◌, ℕ, List, Option, Some, IfOk};
     ghost use Rattle.ddcmp_io.specs.declared.device.Worst.TheVariants.{Fine};
@@ -19,7 +19,7 @@ pub trait Inputs {
         ensures held { IfOk result (λ opened. (bytes : List ℕ)
             → held self.now name.now ≡ Some bytes → Self.Opened.left opened ≡ Some bytes) };
 
-    /// Tells on standard error what is read, where standard input is a terminal.
+    /// Says on standard error what is read, if standard input is a terminal.
     fn await_typing(&self, what: &str);
 }
 

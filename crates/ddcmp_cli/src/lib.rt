@@ -1,18 +1,17 @@
-//! The command `ddcmp`: runs what its words ask for, and turns faults into statuses.
+//! The command `ddcmp`: runs the command that its arguments name, and turns faults into statuses.
 #![tactic(auto)]
 
 pub mod connections;
-mod drawing;
 pub mod ending;
-mod explain_input;
+mod explain_command;
 pub mod fault;
 pub mod inputs;
-mod linking;
+mod link_command;
 pub mod program;
-mod simulating;
+mod script_command;
 mod standard;
-mod stationing;
-mod tapping;
+mod station_command;
+mod tap_command;
 mod usage;
 
 pub use connections::{Connection, Connections};
@@ -30,7 +29,7 @@ pub use ddcmp_words::{
 pub use ending::Ending;
 pub use fault::Fault;
 pub use inputs::Inputs;
-pub use linking::Lines;
+pub use link_command::Lines;
 pub use program::{
     explain_is_asked, link_is_asked, pair_is_asked, run, run_args, simulate_is_asked,
     station_is_asked, tap_is_asked,

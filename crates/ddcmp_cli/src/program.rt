@@ -1,27 +1,29 @@
-//! The program: words in, a command run, and how it ended.
-ghost use Rattle.std.specs.Prelude.{IfErr, OnErr, IsOk, ◌≡◌, ◌≢◌, ◌⊎◌, ◌↔◌, false, IsTrue, IfOk};
+//! The program: from its arguments to its ending.
+ghost use Rattle.std.specs.Prelude.{IfErr, OnErr, ◌≡◌, ◌≢◌, ◌⊎◌, ◌↔◌, false, IsTrue, IfOk};
 ghost use Rattle.std.specs.Prelude.{List, ℕ, None, Some, codes, map, string_bytes};
 ghost use Rattle.std.specs.IoError.{error_kind};
 ghost use Rattle.ddcmp_io.specs.Input.{GaveMost};
-ghost use Rattle.ddcmp_words.specs.Words.{IsOutOfOrder, IsAsked, Asks, file_of, name_of, text_in};
+ghost use Rattle.ddcmp_words.specs.Words.{name_of};
 ghost use Rattle.ddcmp_words.specs.declared.served.Served.{Served as ServedValue};
-ghost use Rattle.ddcmp_cli.specs.Endings.{CanRun, Ends, ExplainsOrNoMemory, Performs, Shows};
+ghost use Rattle.ddcmp_cli.specs.Endings.{CanRun, Performs, Shows};
 ghost use Rattle.ddcmp_cli.specs.Endings.{streams};
 ghost use Rattle.ddcmp_words.specs.declared.tapped.Tapped.{Tapped as TappedValue};
-ghost use Rattle.ddcmp_cli.specs.Endings.{file_named, is_refusal, Stations, StationsOrNoMemory};
-ghost use Rattle.ddcmp_cli.specs.Endings.{TapsAsked, TapsOrNoMemory};
+ghost use Rattle.ddcmp_cli.specs.Endings.{file_named, Stations};
+ghost use Rattle.ddcmp_cli.specs.Endings.{TapsAsked};
 ghost use Rattle.ddcmp_words.specs.declared.linked.Linked.{Linked as LinkedValue};
 ghost use Rattle.ddcmp_cli.specs.LinkEndings.{IsLinkEnding};
+ghost use Rattle.ddcmp_cli.specs.Endings.{RunsAs};
+ghost use Rattle.ddcmp_io.specs.Change.{sink_change, source_change};
 
 use crate::connections::Connections;
-use crate::drawing::{show_pair, show_simulation};
 use crate::ending::Ending;
-use crate::explain_input::explain_asked;
+use crate::explain_command::explain_asked;
 use crate::fault::Fault;
 use crate::inputs::Inputs;
-use crate::linking::{Lines, link};
-use crate::stationing::station;
-use crate::tapping::tap;
+use crate::link_command::{Lines, link};
+use crate::script_command::{show_pair, show_simulation};
+use crate::station_command::station;
+use crate::tap_command::tap;
 use ddcmp_io::{Sink, Source, Worst, write_all};
 use ddcmp_words::{Command, Declined, read_words};
 pub use ddcmp_words::{
@@ -90,8 +92,8 @@ fn show<W: Sink>(writer: &mut W, text: &str) -> Ending
     }
 }
 
-/// Runs the command that the words ask for, from the input to the output. The first word is the
-/// program's name; `system` opens files and a station's connection, and tells the time.
+/// Runs the command that the arguments name, from `reader` to `writer`. The first argument is the
+/// program's name; `system` opens files, connections and lines, and has the time.
 pub fn run<
     S: Net<Stream = TcpStream> + time::Clock + Inputs + Connections + Lines,
     R: Source,
@@ -99,41 +101,10 @@ pub fn run<
 >(system: &S, alloc: Global, words: &[&str], reader: &mut R, writer: &mut W) -> Ending
     requires fine { R.state reader.old ≡ Worst.Fine }
     requires whole { W.broken writer.old ≡ false }
-    ensures explains { (input : List ℕ) → R.left reader.old ≡ Some input
-        → IsAsked (map (λ word. word.now) words.now) (codes "explain")
-        → ExplainsOrNoMemory (S.held system.now) (map (λ word. word.now) words.now) (streams input
-        (R.left reader.new) (W.contents writer.old) (W.contents writer.new)) result }
-    ensures ends { Ends (S.held system.now) (S.peers system.now) (map (λ word. word.now) words.now)
-        (R.left reader.old) (R.left reader.new) (W.contents writer.old) (W.contents writer.new)
-        result }
-    ensures refused { IsOutOfOrder (map (λ word. word.now) words.now)
-        → IsTrue (is_refusal result) × (reader.new ≡ reader.old) × (writer.new ≡ writer.old) }
-    ensures read { (Asks (map (λ word. word.now) words.now) (codes "link") → ⊥)
-        → R.state reader.new ≢ Worst.Fine → result ≡ Ending.Fault Fault.Read }
-    ensures read_only { (Asks (map (λ word. word.now) words.now) (codes "station") → ⊥)
-        → (Asks (map (λ word. word.now) words.now) (codes "tap") → ⊥)
-        → (Asks (map (λ word. word.now) words.now) (codes "link") → ⊥)
-        → file_of (text_in (map (λ word. word.now) words.now) (codes "file")) ≡ None
-        → result ≡ Ending.Fault Fault.Read → (R.state reader.new ≢ Worst.Fine)
-        ⊎ GaveMost (R.left reader.old) (R.left reader.new) }
-    ensures write { (Asks (map (λ word. word.now) words.now) (codes "station") → ⊥)
-        → (Asks (map (λ word. word.now) words.now) (codes "tap") → ⊥)
-        → (result ≡ Ending.Fault Fault.Write) ↔ IsTrue (W.broken writer.new) }
-    ensures whole { result ≡ Ending.Done → W.broken writer.new ≡ false }
-    ensures untouched { IsAsked (map (λ word. word.now) words.now) (codes "explain")
-        → file_of (text_in (map (λ word. word.now) words.now) (codes "file")) ≢ None
-        → reader.new ≡ reader.old }
-    ensures stations { IsAsked (map (λ word. word.now) words.now) (codes "station")
-        → (reader.new ≡ reader.old)
-        × StationsOrNoMemory (S.peers system.now) (map (λ word. word.now) words.now)
-        (W.contents writer.old) (W.contents writer.new) result }
-    ensures taps { IsAsked (map (λ word. word.now) words.now) (codes "tap")
-        → (reader.new ≡ reader.old)
-        × TapsOrNoMemory (map (λ word. word.now) words.now) (W.contents writer.old)
-        (W.contents writer.new) result
-        × (IsTrue (W.broken writer.new) → result ≡ Ending.Fault Fault.Write) }
-    ensures links { IsAsked (map (λ word. word.now) words.now) (codes "link")
-        → IsLinkEnding result }
+    ensures { RunsAs (S.held system.now) (S.peers system.now) (map (λ word. word.now) words.now)
+        (source_change (R.left reader.old) (R.left reader.new) (R.state reader.new))
+        (sink_change (W.contents writer.old) (W.contents writer.new) (W.broken writer.new))
+        (reader.new ≡ reader.old) (writer.new ≡ writer.old) result }
 {
     match read_words(alloc, words) {
         Ok(command) => perform(system, alloc, command, reader, writer),
@@ -154,8 +125,8 @@ fn texts(alloc: Global, args: &[String]) -> Result<Vec<&str>, AllocError>
     Ok(all)
 }
 
-/// Runs the command that the words ask for, as the system gives them: they may be no text, or
-/// have found no memory.
+/// Runs the command that the arguments name, as the system passes them: they may not be text, or
+/// their allocation may have failed.
 pub fn run_args<
     S: Net<Stream = TcpStream> + time::Clock + Inputs + Connections + Lines,
     R: Source,
@@ -169,51 +140,16 @@ pub fn run_args<
 ) -> Ending
     requires fine { R.state reader.old ≡ Worst.Fine }
     requires whole { W.broken writer.old ≡ false }
-    ensures explains { (input : List ℕ) → R.left reader.old ≡ Some input
-        → IfOk args (λ words. IsAsked (map string_bytes words.items) (codes "explain")
-        → ExplainsOrNoMemory (S.held system.now) (map string_bytes words.items) (streams input
-        (R.left reader.new) (W.contents writer.old) (W.contents writer.new)) result) }
-    ensures ends { IfOk args (λ words. Ends (S.held system.now) (S.peers system.now)
-        (map string_bytes words.items) (R.left reader.old) (R.left reader.new)
-        (W.contents writer.old) (W.contents writer.new) result) }
-    ensures refused { IfOk args (λ words. IsOutOfOrder (map string_bytes words.items)
-        → IsTrue (is_refusal result) × (reader.new ≡ reader.old) × (writer.new ≡ writer.old)) }
+    ensures runs { IfOk args (λ words. RunsAs (S.held system.now) (S.peers system.now)
+        (map string_bytes words.items)
+        (source_change (R.left reader.old) (R.left reader.new) (R.state reader.new))
+        (sink_change (W.contents writer.old) (W.contents writer.new) (W.broken writer.new))
+        (reader.new ≡ reader.old) (writer.new ≡ writer.old) result) }
     ensures no_memory { IfErr args (λ error. error_kind error ≡ ErrorKind.OutOfMemory
         → result ≡ Ending.Fault Fault.Memory) }
     ensures not_text { IfErr args (λ error. error_kind error ≢ ErrorKind.OutOfMemory
         → result ≡ Ending.NotText) }
     ensures untouched { OnErr args ((reader.new ≡ reader.old) × (writer.new ≡ writer.old)) }
-    ensures read { (IfOk args (λ words. Asks (map string_bytes words.items) (codes "link"))
-        × IsOk args → ⊥) → R.state reader.new ≢ Worst.Fine → result ≡ Ending.Fault Fault.Read }
-    ensures read_only { (IfOk args (λ words. Asks (map string_bytes words.items) (codes "station"))
-        × IsOk args → ⊥)
-        → (IfOk args (λ words. Asks (map string_bytes words.items) (codes "tap"))
-        × IsOk args → ⊥)
-        → (IfOk args (λ words. Asks (map string_bytes words.items) (codes "link"))
-        × IsOk args → ⊥)
-        → IfOk args (λ words. file_of (text_in (map string_bytes words.items) (codes "file"))
-        ≡ None)
-        → result ≡ Ending.Fault Fault.Read → (R.state reader.new ≢ Worst.Fine)
-        ⊎ GaveMost (R.left reader.old) (R.left reader.new) }
-    ensures write { (IfOk args (λ words. Asks (map string_bytes words.items) (codes "station"))
-        × IsOk args → ⊥)
-        → (IfOk args (λ words. Asks (map string_bytes words.items) (codes "tap"))
-        × IsOk args → ⊥) → (result ≡ Ending.Fault Fault.Write) ↔ IsTrue (W.broken writer.new) }
-    ensures whole { result ≡ Ending.Done → W.broken writer.new ≡ false }
-    ensures named { IfOk args (λ words. IsAsked (map string_bytes words.items) (codes "explain")
-        → file_of (text_in (map string_bytes words.items) (codes "file")) ≢ None
-        → reader.new ≡ reader.old) }
-    ensures stations { IfOk args (λ words. IsAsked (map string_bytes words.items) (codes "station")
-        → (reader.new ≡ reader.old)
-        × StationsOrNoMemory (S.peers system.now) (map string_bytes words.items)
-        (W.contents writer.old) (W.contents writer.new) result) }
-    ensures taps { IfOk args (λ words. IsAsked (map string_bytes words.items) (codes "tap")
-        → (reader.new ≡ reader.old)
-        × TapsOrNoMemory (map string_bytes words.items) (W.contents writer.old)
-        (W.contents writer.new) result
-        × (IsTrue (W.broken writer.new) → result ≡ Ending.Fault Fault.Write)) }
-    ensures links { IfOk args (λ words. IsAsked (map string_bytes words.items) (codes "link")
-        → IsLinkEnding result) }
 {
     let args = match args {
         Ok(args) => args,

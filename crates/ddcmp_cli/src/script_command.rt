@@ -1,4 +1,4 @@
-//! Showing a run between two ends: as text, or as a picture.
+//! `simulate` and `pair`: a script between two ends, as text or as a picture.
 ghost use Rattle.std.specs.Prelude.{◌≡◌, false, true, None, Some, IsTrue, List, ℕ};
 ghost use Rattle.ddcmp_io.specs.Change.{source_change};
 ghost use Rattle.ddcmp_station.specs.Config.{first_refusal};
@@ -7,10 +7,9 @@ ghost use Rattle.ddcmp_cli.specs.Endings.{TellsDevices, streams};
 
 use crate::ending::Ending;
 use crate::fault::Fault;
-use crate::simulating::play;
 use crate::usage::usage;
 use ddcmp_io::{Sink, Source, Worst};
-use ddcmp_line::{Carrier, Direct};
+use ddcmp_line::{Carrier, Direct, script_with};
 use ddcmp_net::Sockets;
 use ddcmp_picture::{Picture, draw};
 use ddcmp_station::Config;
@@ -18,7 +17,7 @@ use ddcmp_words::View;
 use std::alloc::Global;
 use std::net::{Net, TcpStream};
 
-/// What is told where both pictures are asked for.
+/// The usage error for `--svg` with `--ladder`.
 const TWO_PICTURES: &str = "'--svg' and '--ladder' can't be used together";
 
 /// Draws a script between two ends of the same sizes.
@@ -125,4 +124,34 @@ pub(crate) fn show_pair<N: Net<Stream = TcpStream>, R: Source, W: Sink>(
         return Ending::Fault(Fault::Carrier);
     };
     show_over(alloc, config, view, &mut sockets, reader, writer)
+}
+
+/// Runs a script between two ends of the same sizes.
+fn play<R: Source, W: Sink, C: Carrier>(
+    alloc: Global,
+    config: Config,
+    counted: bool,
+    carrier: &mut C,
+    reader: &mut R,
+    writer: &mut W,
+) -> Ending
+    requires fine { R.state reader.old ≡ Worst.Fine }
+    requires whole { W.broken writer.old ≡ false }
+    requires carrier { C.broken carrier.old ≡ false }
+    requires silent { (c : C) → C.told c ≡ None }
+    requires sizes { first_refusal config ≡ None }
+    ensures plays { (input : List ℕ) → R.left reader.old ≡ Some input
+        → PlaysBetween (C.direct carrier.old) config counted (streams input (R.left reader.new)
+        (W.contents writer.old) (W.contents writer.new)) result }
+    ensures devices { TellsDevices (source_change (R.left reader.old) (R.left reader.new)
+        (R.state reader.new)) (W.broken writer.new) result }
+    ensures carried { result ≡ Ending.Fault Fault.Carrier → C.broken carrier.new ≡ true }
+{
+    let Ok(mut pair) = ddcmp_pair::Pair::new(alloc, config, config) else {
+        return Ending::Fault(Fault::Memory);
+    };
+    match script_with(alloc, &mut pair, reader, writer, carrier, counted) {
+        Ok(()) => Ending::Done,
+        Err(fault) => Ending::Fault(Fault::from(fault)),
+    }
 }

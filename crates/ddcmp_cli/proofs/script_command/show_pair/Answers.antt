@@ -2,7 +2,7 @@ use Rattle.std.proofs.Common.{◌≡◌, false, true, inr}
 use Rattle.ddcmp_cli.specs.Endings.{Pairs, PlaysBetween, is_refusal, Untouched, streams}
 use Rattle.ddcmp_cli.proofs.ScriptLaws.{shows-as}
 use borrow.Author.Rules.{rules}
-use Rattle.ddcmp_cli.proofs.drawing.show_pair.Goals as goal
+use Rattle.ddcmp_cli.proofs.script_command.show_pair.Goals as goal
 
 pub returns-clause-shows : goal.returns-clause-shows
 returns-clause-shows g c = λ input e.

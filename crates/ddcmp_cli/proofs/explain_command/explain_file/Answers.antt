@@ -1,5 +1,5 @@
 use Rattle.std.proofs.Common.{inr}
-use Rattle.ddcmp_cli.proofs.explain_input.explain_file.Goals as goal
+use Rattle.ddcmp_cli.proofs.explain_command.explain_file.Goals as goal
 
 pub returns-in-Ok-clause-explains : goal.returns-in-Ok-clause-explains
 returns-in-Ok-clause-explains g c =

@@ -1,4 +1,4 @@
-//! A link between a line and the program's streams.
+//! `link`: messages between a line and the program's streams.
 ghost use Rattle.std.specs.Prelude.{◌≡◌, ◌≢◌, ◌↔◌, IsTrue, false};
 ghost use Rattle.ddcmp_cli.specs.LinkEndings.{IsLinkEnding};
 
@@ -10,11 +10,11 @@ use ddcmp_service::{Form, LineName, NotOpened, Options, Served, ServiceFault, se
 use ddcmp_words::Linked;
 use std::alloc::Global;
 
-/// What is told where the word for the line is another.
+/// The usage error for another value of `--line`.
 const NO_LINE: &str =
     "'--line' is connect:HOST:PORT, listen:HOST:PORT, udp:LOCAL,REMOTE or device:PATH";
 
-/// How a service is to run, on this line.
+/// The options of a link over this line.
 fn options_of<'a>(linked: &Linked<'a>, line: LineName<'a>) -> Options<'a> {
     Options {
         line,
@@ -33,7 +33,7 @@ fn options_of<'a>(linked: &Linked<'a>, line: LineName<'a>) -> Options<'a> {
     }
 }
 
-/// How the program ends where the line can't be opened.
+/// The ending if the line can't be opened.
 fn no_line(alloc: Global, fault: &NotOpened<'_>) -> Ending
     ensures ending { IsLinkEnding result }
     ensures told { result ≢ Ending.Fault Fault.Write }

@@ -6,7 +6,7 @@ use Rattle.ddcmp_cli.specs.declared.ending.Ending.TheVariants.{Fault as Faulted}
 use Rattle.ddcmp_cli.specs.Endings.{ending_of, script_fault}
 use Rattle.ddcmp_script_text.specs.declared.script_fault.ScriptFault.TheVariants.{Carrier}
 use Rattle.ddcmp_cli.proofs.ScriptLaws.{tells, told-back, untold}
-use Rattle.ddcmp_cli.proofs.simulating.play.Goals as goal
+use Rattle.ddcmp_cli.proofs.script_command.play.Goals as goal
 
 pub returns-clause-devices : goal.returns-clause-devices
 returns-clause-devices g c =

@@ -1,6 +1,6 @@
 use borrow.Author.Rules.{rules}
 use Rattle.std.proofs.Common.{refl}
-use Rattle.ddcmp_cli.proofs.explain_input.explain_asked.Goals as goal
+use Rattle.ddcmp_cli.proofs.explain_command.explain_asked.Goals as goal
 
 pub returns-then-is_misused-clause-explains : goal.returns-then-is_misused-clause-explains
 returns-then-is_misused-clause-explains g c = search rules

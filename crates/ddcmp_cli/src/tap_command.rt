@@ -1,4 +1,4 @@
-//! A tap between two addresses.
+//! `tap`: a proxy between two addresses that logs the traffic.
 ghost use Rattle.std.specs.Prelude.{◌≡◌, ◌≤◌, IsTrue, false};
 ghost use Rattle.ddcmp_core.specs.Limits.{MAX_COUNT};
 ghost use Rattle.ddcmp_cli.specs.Endings.{Taps, TapsAsked, is_json as is_json_notation};
@@ -28,7 +28,7 @@ impl From<TapFault> for Fault {
     }
 }
 
-/// What is told where both JSON and a ladder are asked for.
+/// The usage error for `--json` with `--ladder`.
 const TWO_NOTATIONS: &str = "'--json' and '--ladder' can't be used together";
 
 fn is_json(notation: Notation) -> bool

@@ -1,7 +1,7 @@
 use Rattle.std.proofs.Common.{◌≡◌, rules, true}
 use Rattle.ddcmp_cli.specs.Endings.{PlaysBetween, Simulates, is_refusal, Untouched, streams}
 use Rattle.ddcmp_cli.proofs.ScriptLaws.{shows-as}
-use Rattle.ddcmp_cli.proofs.drawing.show_simulation.Goals as goal
+use Rattle.ddcmp_cli.proofs.script_command.show_simulation.Goals as goal
 
 pub returns-clause-shows : goal.returns-clause-shows
 returns-clause-shows g c = λ input e.

@@ -1,4 +1,4 @@
-//! Explaining standard input, or a file.
+//! `explain`: standard input, or a file.
 ghost use Rattle.std.specs.Prelude.{◌≡◌, ◌≢◌, ◌⊎◌, ◌↔◌, ◌≤◌, false, true, IsTrue, List, ℕ, None};
 ghost use Rattle.std.specs.Prelude.{Some};
 ghost use Rattle.ddcmp_core.specs.Limits.{MAX_COUNT};
@@ -18,10 +18,10 @@ use ddcmp_io::{Sink, Source, Worst};
 use ddcmp_words::Explained;
 use std::alloc::Global;
 
-/// What is told where `--raw` stands beside `--from`.
+/// The usage error for `--raw` with `--from`.
 const TWO_FORMS: &str = "'--raw' and '--from' can't be used together";
 
-/// What is told where the word for what the input comes from is another.
+/// The usage error for another value of `--from`.
 const NO_DUMP: &str = "'--from' is hexdump";
 
 /// What is typed at a terminal.
@@ -105,7 +105,7 @@ fn is_misused(form: Form, from: Option<&str>) -> bool
     }
 }
 
-/// What is told of such a word.
+/// The usage error for such a value.
 fn misuse(form: Form) -> &'static str {
     match form {
         Form::Raw => TWO_FORMS,

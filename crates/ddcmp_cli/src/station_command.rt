@@ -1,4 +1,4 @@
-//! A station over a connection.
+//! `station`: one station over a connection.
 ghost use Rattle.std.specs.Prelude.{◌≡◌, ◌≢◌, ◌≤◌, ◌*◌, length, false, true, option_map, IfSome};
 ghost use Rattle.std.specs.Result.{result_ok};
 ghost use Rattle.hex.specs.Hex.{decode_of};
@@ -16,10 +16,10 @@ use ddcmp_words::Served;
 use std::alloc::Global;
 use std::time;
 
-/// What is told where the word for the role is another.
+/// The usage error for another value of `--role`.
 const NO_ROLE: &str = "'--role' is connect or listen";
 
-/// What is told where the message to send is too long.
+/// The usage error for a message that is too long.
 const TOO_LONG: &str = "the message of '--send <HEX>' has more than 1500 bytes";
 
 /// The bytes that digits spell, at the front of a buffer; none where they spell none.

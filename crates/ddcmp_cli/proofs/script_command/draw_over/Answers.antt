@@ -1,7 +1,7 @@
 use Rattle.ddcmp_io.specs.Change.{source_change}
 use Rattle.ddcmp_script_text.specs.declared.script_fault.ScriptFault.TheVariants.{Carrier}
 use Rattle.ddcmp_cli.proofs.ScriptLaws.{tells, told-back}
-use Rattle.ddcmp_cli.proofs.drawing.draw_over.Goals as goal
+use Rattle.ddcmp_cli.proofs.script_command.draw_over.Goals as goal
 
 pub returns-clause-devices : goal.returns-clause-devices
 returns-clause-devices g c =

@@ -4,7 +4,7 @@ use Rattle.std.proofs.KnownBytes.{Keeps-refl}
 use Rattle.ddcmp_cli.specs.declared.ending.Ending.TheVariants.{Fault as Faulted}
 use Rattle.ddcmp_cli.specs.Endings.{ending_of, serve_fault}
 use Rattle.ddcmp_cli.proofs.StationLaws.{connects, want-of}
-use Rattle.ddcmp_cli.proofs.stationing.station.Goals as goal
+use Rattle.ddcmp_cli.proofs.station_command.station.Goals as goal
 
 pub returns-clause-stations : goal.returns-clause-stations
 returns-clause-stations g c =
