@@ -1,5 +1,5 @@
-//! Parts of text, handed to a page piece by piece: numbers, and bytes in hexadecimal digits, sixteen at
-//! a time.
+//! Parts of text, handed to a page piece by piece: numbers, and bytes in hexadecimal digits,
+//! sixteen at a time.
 ghost use Rattle.std.specs.Prelude.{◌≡◌, ◌+◌, ◌*◌, ◌/◌, ◌%◌, ◌<◌, ◌≤◌, ◌++◌, length, map};
 ghost use Rattle.std.specs.Prelude.{slice_index, take};
 ghost use Rattle.std.specs.Simd.Lanes.{Each1, chunk};
