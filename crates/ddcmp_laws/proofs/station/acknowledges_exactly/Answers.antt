@@ -1,4 +1,4 @@
-use Rattle.ddcmp_laws.proofs.StationLaws.{acknowledges, passes_over}
+use Rattle.ddcmp_laws.proofs.StationLaws.{acknowledges, passes_over, ignores, receives_as_a}
 use Rattle.ddcmp_laws.proofs.station.acknowledges_exactly.Goals as goal
 
 pub returns-clause-within : goal.returns-clause-within
@@ -6,3 +6,9 @@ returns-clause-within c = acknowledges
 
 pub returns-clause-beyond : goal.returns-clause-beyond
 returns-clause-beyond c = passes_over
+
+pub returns-clause-ignored : goal.returns-clause-ignored
+returns-clause-ignored c = ignores
+
+pub returns-clause-received : goal.returns-clause-received
+returns-clause-received c = receives_as_a
