@@ -20,7 +20,7 @@ use Rattle.ddcmp_core.specs.declared.notice.Notice.TheVariants as notice
 use Rattle.ddcmp_core.specs.Table.{StationState, Limits, Data, Acked, Naked, Rep, Strt, Stack}
 use Rattle.ddcmp_core.specs.Table.{Maint, Received, Good, BadHeader, BadData, TooLong, BadFormat}
 use Rattle.ddcmp_core.specs.Table.{newly_acknowledged, after_ack, acknowledged_notice}
-use Rattle.ddcmp_core.specs.Table.{before_next, after_offer}
+use Rattle.ddcmp_core.specs.Table.{Frame, before_next, after_offer}
 use Rattle.ddcmp_core.specs.Table.{acknowledged_by, reply_to_offer, on_data, data_notice, on_nak}
 use Rattle.ddcmp_core.specs.Table.{may_restart, after_restart, after_halt, on_maintenance}
 use Rattle.ddcmp_core.specs.Table.{maintenance_notice, on_running, running_notice, takes_data}
@@ -36,7 +36,7 @@ use Rattle.ddcmp_core.proofs.ToldLaws.{number_told, number_told_data}
 use Rattle.ddcmp_laws.specs.Station.{Responds, Acknowledges, OnlyResponds, AcknowledgesUpTo}
 use Rattle.ddcmp_laws.specs.Station.{AcknowledgesNothing, tells_mail, HandsUp, HandsUpNothing}
 use Rattle.ddcmp_laws.specs.Station.{IsNoMessage, IsMaintenance, IsNoMaintenance, CallsFor}
-use Rattle.ddcmp_laws.specs.Station.{SendsNak, BeginsAnew, HaltsAtRestart}
+use Rattle.ddcmp_laws.specs.Station.{SendsNak, BeginsAnew, HaltsAtRestart, WantsAnswer}
 
 -- ---- a state that is known
 
@@ -654,6 +654,48 @@ ended l s h e ha hn waits responds = while_running (λ u told. u.timer ≡ Off) 
     by (BadData b) r = absurd r
     by (TooLong b) r = absurd r
     by BadFormat r = absurd r
+
+abbrev IsAnew : Next → Type 0
+IsAnew (Sends (Rep num) u) = u.timer ≡ Fresh
+IsAnew (Sends Strt u) = u.timer ≡ Fresh
+IsAnew (Sends Stack u) = u.timer ≡ Fresh
+IsAnew (Sends (Acked r) u) = Unit {0}
+IsAnew (Sends (Naked why r) u) = Unit {0}
+IsAnew (Sends (Data r num message) u) = Unit {0}
+IsAnew (Sends (Maint message) u) = Unit {0}
+IsAnew Idle = Unit {0}
+
+asked_anew : (s : StationState) (t : Next) → SentFor s t → IsAnew t
+asked_anew s _ (sends_strt p d) = refl
+asked_anew s _ (sends_stack p d) = refl
+asked_anew s _ (sends_nak why p r) = tt
+asked_anew s _ (sends_rep p r f) = refl
+asked_anew s _ (sends_data p r f place) = tt
+asked_anew s _ (sends_ack p r f place) = tt
+asked_anew s _ (sends_maint m ms p o) = tt
+asked_anew s _ (halted_idles p) = tt
+asked_anew s _ (starting_idles p d) = tt
+asked_anew s _ (running_idles p r f place) = tt
+asked_anew s _ (maintenance_idles p o) = tt
+
+pub starts_anew : (s u : StationState) (f : Frame) → next s ≡ Sends f u → WantsAnswer f
+    → u.timer ≡ Fresh
+starts_anew s u f e = by f (subst IsAnew e (asked_anew s (next s) (sending s)))
+  where
+    by : (f : Frame) → IsAnew (Sends f u) → WantsAnswer f → u.timer ≡ Fresh
+    by Strt i w = i
+    by Stack i w = i
+    by (Rep num) i w = i
+    by (Data r num message) i w = absurd w
+    by (Acked r) i w = absurd w
+    by (Naked why r) i w = absurd w
+    by (Maint message) i w = absurd w
+
+pub ended_by_nak : (l : Limits) (s : StationState) (why : Reason) (q : ℕ) → s.state ≡ Running
+    → Within s.a q s.n → (on l s (Good (Naked why q))).timer ≡ Off
+ended_by_nak l s why q e w =
+    while_running (λ u told. u.timer ≡ Off) l s (Good (Naked why q)) e
+    (subst (λ b. (nak_by s q b).timer ≡ Off) (sym (is_within_true s.a q s.n w)) refl)
 
 -- an acknowledgement of a part
 after_ack_of_some : (s : StationState) (q m : ℕ) → m ≢ 0 → q ≢ s.n → (b c : Bool) → (m == 0) ≡ b

@@ -16,7 +16,7 @@ use Rattle.ddcmp_core.specs.declared.state.Owed.TheVariants.{Quiet, Ack}
 use Rattle.ddcmp_core.specs.declared.state.Timer.TheVariants.{Off}
 use Rattle.ddcmp_core.specs.Table.{Limits, StationState, Data, Acked, Naked, Strt, Stack, Received}
 use Rattle.ddcmp_core.specs.Table.{BadHeader, BadData, TooLong, BadFormat, next, next_frame}
-use Rattle.ddcmp_core.specs.Table.{Good, acknowledged_by, Maint}
+use Rattle.ddcmp_core.specs.Table.{Frame, Rep, Good, acknowledged_by, Maint}
 
 -- ---- what a halt leaves
 
@@ -71,6 +71,15 @@ pub record AcknowledgesNothing (before after : StationState)
   pub n : after.n ≡ before.n
   pub out : after.out ≡ before.out
   pub told : acknowledged_by notice_told ≡ 0
+
+-- ---- the timer
+
+-- a frame that is sent again until it is answered: a STRT, a STACK or a REP
+abbrev pub WantsAnswer : Frame → Type 0
+WantsAnswer Strt = Unit {0}
+WantsAnswer Stack = Unit {0}
+WantsAnswer (Rep num) = Unit {0}
+WantsAnswer _ = ⊥
 
 -- ---- messages that come
 

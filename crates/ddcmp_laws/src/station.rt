@@ -14,7 +14,7 @@ ghost use Rattle.ddcmp_core.specs.declared.notice.Notice.TheVariants.{Running as
 ghost use Rattle.ddcmp_core.specs.declared.station_core.StartRefusal.{StartRefusal as StartRefusalValue};
 ghost use Rattle.ddcmp_window.specs.declared.sender.SendRefusal.{SendRefusal as SendRefusalValue};
 ghost use Rattle.ddcmp_core.specs.Laws.{BeginsRunning};
-ghost use Rattle.ddcmp_core.specs.Table.{Stack, is_starting, answer_to_start, after_start};
+ghost use Rattle.ddcmp_core.specs.Table.{Frame, Stack, is_starting, answer_to_start, after_start};
 ghost use Rattle.ddcmp_core.specs.Table.{answer_to_send_maintenance};
 ghost use Rattle.ddcmp_core.specs.Table.{Limits, StationState, Data, Acked, Naked, Rep, Strt};
 ghost use Rattle.ddcmp_core.specs.Table.{Maint, Received, Good, Idle, Sends, on, notice_of};
@@ -31,7 +31,7 @@ ghost use Rattle.ddcmp_laws.specs.Station.{HasHalted, Responds, Acknowledges, On
 ghost use Rattle.ddcmp_laws.specs.Station.{AcknowledgesUpTo, AcknowledgesNothing, HandsUp};
 ghost use Rattle.ddcmp_laws.specs.Station.{HandsUpNothing, tells_mail, IsNoMessage, IsMaintenance};
 ghost use Rattle.ddcmp_laws.specs.Station.{IsNoMaintenance, IsGoodMaintenance, CallsFor};
-ghost use Rattle.ddcmp_laws.specs.Station.{IsStartRefused, IsRefused};
+ghost use Rattle.ddcmp_laws.specs.Station.{IsStartRefused, IsRefused, WantsAnswer};
 ghost use Rattle.ddcmp_laws.specs.Station.{SendsNak, BeginsAnew, HaltsAtRestart, KeepsUnder};
 
 /// A halted station is deaf and dumb: nothing that comes changes it, it sends nothing, and it takes
@@ -209,9 +209,9 @@ pub fn answers_no_answer()
         → next s ≡ Sends (Data r num message) u → u.reply ≡ Quiet }
 {}
 
-/// The timer isn't starved: data start a timer that is off, and leave one that is running as it is.
-/// What acknowledges all that was sent ends it, and an ACK or data that acknowledge a part start it
-/// anew. And where it runs out while a message waits to be
+/// The timer isn't starved: data start a timer that is off, and leave one that is running as it is;
+/// a STRT, a STACK and a REP start it anew. What acknowledges all that was sent ends it, and so does
+/// a NAK; an ACK or data that acknowledge a part start it anew. And where it runs out while a message waits to be
 /// acknowledged, and no NAK is owed, the station asks by a REP. Over any number of calls a timer
 /// that is on stays on, and so runs out in the end, whatever is sent and whatever comes, until
 /// something is acknowledged or asked for, or the peer begins anew.
@@ -220,8 +220,12 @@ pub fn timer_is_not_starved()
         → next s ≡ Sends (Data r num message) u → s.timer ≢ Off → u.timer ≡ s.timer }
     ensures starts { (s u : StationState) (r num : ℕ) (message : List ℕ)
         → next s ≡ Sends (Data r num message) u → s.timer ≡ Off → u.timer ≡ Fresh }
+    ensures anew { (s u : StationState) (f : Frame) → next s ≡ Sends f u → WantsAnswer f
+        → u.timer ≡ Fresh }
     ensures ends { (l : Limits) (s : StationState) (h : Received) → s.state ≡ Running
         → s.a < 256 → s.n < 256 → s.a ≢ s.n → Responds h s.n → (on l s h).timer ≡ Off }
+    ensures ends_by_nak { (l : Limits) (s : StationState) (why : Reason) (q : ℕ)
+        → s.state ≡ Running → Within s.a q s.n → (on l s (Good (Naked why q))).timer ≡ Off }
     ensures renewed { (l : Limits) (s : StationState) (h : Received) (q : ℕ) → s.state ≡ Running
         → s.a < 256 → q < 256 → q ≢ s.a → q ≢ s.n → Within s.a q s.n → Acknowledges h q
         → (on l s h).timer ≡ Fresh }

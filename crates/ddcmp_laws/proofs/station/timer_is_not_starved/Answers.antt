@@ -1,5 +1,5 @@
 use Rattle.ddcmp_laws.proofs.StationLaws.{data_leave_the_timer, data_start_the_timer, ended}
-use Rattle.ddcmp_laws.proofs.StationLaws.{renewed, asks_at_expiry}
+use Rattle.ddcmp_laws.proofs.StationLaws.{renewed, asks_at_expiry, starts_anew, ended_by_nak}
 use Rattle.ddcmp_laws.proofs.CallLaws.{timer_stays_on}
 use Rattle.ddcmp_laws.proofs.station.timer_is_not_starved.Goals as goal
 
@@ -11,6 +11,12 @@ returns-clause-starts c = data_start_the_timer
 
 pub returns-clause-ends : goal.returns-clause-ends
 returns-clause-ends c = ended
+
+pub returns-clause-anew : goal.returns-clause-anew
+returns-clause-anew c = starts_anew
+
+pub returns-clause-ends_by_nak : goal.returns-clause-ends_by_nak
+returns-clause-ends_by_nak c = ended_by_nak
 
 pub returns-clause-renewed : goal.returns-clause-renewed
 returns-clause-renewed c = renewed
