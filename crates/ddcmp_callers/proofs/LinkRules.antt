@@ -1,5 +1,6 @@
 -- What a link and a driven station do by themselves.
-use Rattle.std.proofs.Common.{◌≡◌, ◌≢◌, ℕ, ◌+◌, ◌<◌, ◌≤◌, ◌⊎◌, inl, inr, Bool, true, false, cond, List}
+use Rattle.std.proofs.Common.{◌≡◌, ◌≢◌, ℕ, ◌+◌, ◌<◌, ◌≤◌, ◌⊎◌, inl, inr, Bool, true, false, cond}
+use Rattle.std.proofs.Common.{List}
 use Rattle.std.proofs.Common.{[], ◌∷◌, ◌++◌, length, refl, sym, ◌∙◌, ap, subst, arith, Option, None}
 use Rattle.std.proofs.Common.{Some, append-nil}
 use Rattle.std.specs.Prelude.{◌↔◌, ◌&&◌, ◌^◌, ◌==◌, not, nat_le, nat_lt, min, is_some, is_none, Ok}
@@ -85,7 +86,7 @@ pub puts : (d : LinkView) (f : Frame) → next_frame (next d.station.core.statio
     → PutsFrame f d (after_frame d)
 puts d f e few either =
     record {
-      told = ap (λ b. b && is_some (frame_of_link d)) polled ∙ ap is_some e;
+      puts = ap (λ b. b && is_some (frame_of_link d)) polled ∙ ap is_some e;
       waiting =
           ap (λ b. (frame_by d b).outbox.waiting) polled
           ∙ ap (λ o. d.outbox.waiting ++ bytes_of d.station.syn o) e;
@@ -433,5 +434,7 @@ turn_expires ms moment turn d e f late =
 pub turn_leaves : (ms : ℕ) (turn : DriveTurn) (d : Driving) → d.core.station.timer ≡ Off
     → before_offer ms turn d ≡ d.core
 turn_leaves ms turn d e =
-    ap (λ t. looked_after turn.now t (deadline_at ms turn.now d.core.station.timer d.deadline) d.core) e
+    ap
+    (λ t. looked_after turn.now t (deadline_at ms turn.now d.core.station.timer d.deadline) d.core)
+    e
     ∙ (λ i. record d.core { station = record d.core.station { timer = sym e i } })

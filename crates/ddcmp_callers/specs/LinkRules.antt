@@ -11,9 +11,9 @@ abbrev pub AsksForABuffer : Frame → Type 0
 AsksForABuffer (Naked why resp) = subtype_of why ≡ 8
 AsksForABuffer _ = ⊥
 
--- The frame is put behind what waits for the line, whole, and the station has sent it.
+-- The frame is put after what waits for the line, whole, and the station has sent it.
 pub record PutsFrame (f : Frame) (before after : LinkView) : Type 0 where
-  pub told : puts_frame before ≡ true
+  pub puts : puts_frame before ≡ true
   pub waiting : after.outbox.waiting
       ≡ before.outbox.waiting ++ frame_on_line before.station.syn f
   pub sent : after.station.core.station

@@ -28,8 +28,8 @@ pub fn puts_what_it_has()
         → (puts_frame d ≡ false) × (after_frame d ≡ d) }
 {}
 
-/// A link takes messages exactly while it runs and its window has room. One of 1 to `longest` bytes
-/// is accepted then, and kept behind the others.
+/// A link takes messages exactly while it runs and its window has room. Then one of 1 to `longest`
+/// bytes is accepted, and queued after the others.
 pub fn accepts_while_it_has_room()
     ensures exactly { (d : LinkView) → (takes_message d ≡ true)
         ↔ ((d.station.core.station.state ≡ Running)
@@ -48,9 +48,9 @@ pub fn delivered_leaves_nothing()
         × (d.outbox.waiting ≡ []) × (next_frame (next d.station.core.station) ≡ None)) }
 {}
 
-/// A link has a moment to wake at exactly while its timer is on. Where it is woken after a start of
-/// the timer, that moment is `milliseconds` later. To wake it before that changes nothing, and from
-/// then on expires the timer. No other call moves the moment.
+/// A link has a moment to wake at exactly while its timer is on. The first `wake` after a start of
+/// the timer sets it, `milliseconds` later. Until then `wake` changes nothing, and from then on it
+/// expires the timer. No other call moves the moment.
 pub fn wakes_at_its_moment()
     ensures asleep { (d : LinkView) → (wakes_at d ≡ None)
         ↔ (d.station.core.station.timer ≡ Off) }
@@ -70,9 +70,9 @@ pub fn wakes_at_its_moment()
         → (new.deadline ≡ old.deadline) × (new.milliseconds ≡ old.milliseconds) }
 {}
 
-/// The same of a driven station: in the first turn that sees its timer on, or started again, the
-/// moment is set, `milliseconds` later. In turns before it the timer isn't touched, and in the
-/// first one from then on it expires.
+/// The same for a driven station: the first turn after a start of its timer, or with a timer that
+/// is on without a moment, sets the moment, `milliseconds` later. Turns before it leave the timer as
+/// it is, and the first one from then on expires it.
 pub fn turns_expire_at_their_moment()
     ensures begins { (milliseconds syn : ℕ) (turn : DriveTurn) (d : Driving)
         → (d.core.station.timer ≡ Fresh) ⊎ ((d.core.station.timer ≡ On) × (d.deadline ≡ None))

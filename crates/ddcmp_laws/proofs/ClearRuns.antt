@@ -111,8 +111,8 @@ stays_more : (e : Event) (rest : List Event) (p : PairState)
     → (stays_clear rest (after_event e p) ≡ true → StaysClear rest (after_event e p))
     → FindsRoom e p × IsFaithful (after_event e p) × StaysClear rest (after_event e p)
 stays_more e rest p t more =
-    let k = both (finds_room e p) (is_faithful (after_event e p) && stays_clear rest (after_event e p))
-    t in
+    let k =
+    both (finds_room e p) (is_faithful (after_event e p) && stays_clear rest (after_event e p)) t in
     let j = both (is_faithful (after_event e p)) (stays_clear rest (after_event e p)) k.1 in
     (finds_room_by e p k.0, faithful_by (after_event e p) j.0, more j.1)
 
@@ -124,11 +124,13 @@ stays_by (event.Halt end ∷ rest) p e = absurd (cc e)
 stays_by (event.Start end ∷ rest) p e =
     stays_more (event.Start end) rest p e (stays_by rest (after_event (event.Start end) p))
 stays_by (event.Send end message ∷ rest) p e =
-    stays_more (event.Send end message) rest p e (stays_by rest (after_event (event.Send end message) p))
+    stays_more (event.Send end message) rest p e
+    (stays_by rest (after_event (event.Send end message) p))
 stays_by (event.Poll end ∷ rest) p e =
     stays_more (event.Poll end) rest p e (stays_by rest (after_event (event.Poll end) p))
 stays_by (event.Arrive end bytes ∷ rest) p e =
-    stays_more (event.Arrive end bytes) rest p e (stays_by rest (after_event (event.Arrive end bytes) p))
+    stays_more (event.Arrive end bytes) rest p e
+    (stays_by rest (after_event (event.Arrive end bytes) p))
 stays_by (event.Expire end ∷ rest) p e =
     stays_more (event.Expire end) rest p e (stays_by rest (after_event (event.Expire end) p))
 stays_by (event.Take end ∷ rest) p e =

@@ -1,5 +1,6 @@
 -- What a station that starts hears, what is reported, and why calls are refused.
-use Rattle.std.proofs.Common.{◌≡◌, ◌≢◌, ℕ, ◌≤◌, ◌<◌, ◌⊎◌, inl, inr, Bool, true, false, cond, List, []}
+use Rattle.std.proofs.Common.{◌≡◌, ◌≢◌, ℕ, ◌≤◌, ◌<◌, ◌⊎◌, inl, inr, Bool, true, false, cond, List}
+use Rattle.std.proofs.Common.{[]}
 use Rattle.std.proofs.Common.{length, refl, sym, ap, ◌∙◌, subst, arith, Option, Some, None}
 use Rattle.std.specs.Prelude.{◌==◌, ◌↔◌, Result, Ok, Err}
 use Rattle.ddcmp_num.specs.declared.seq.Seq.{Seq}
@@ -18,7 +19,8 @@ use Rattle.ddcmp_core.specs.declared.station_core.StartRefusal.TheVariants.{NotH
 use Rattle.ddcmp_core.specs.Table.{StationState, Limits, Data, Acked, Naked, Strt, Stack}
 use Rattle.ddcmp_core.specs.Table.{Maint, Received, Good}
 use Rattle.ddcmp_core.specs.Table.{newly_acknowledged, acknowledged_notice, takes_data, has_room}
-use Rattle.ddcmp_core.specs.Table.{may_restart, on_data, after_startup, on_by, on, notice_by, notice_of}
+use Rattle.ddcmp_core.specs.Table.{may_restart, on_data, after_startup, on_by, on, notice_by}
+use Rattle.ddcmp_core.specs.Table.{notice_of}
 use Rattle.ddcmp_core.specs.Table.{next_frame, next, is_starting, is_halted, is_running}
 use Rattle.ddcmp_core.specs.Table.{is_maintenance, outgoing, answer_to_start, after_start}
 use Rattle.ddcmp_core.specs.Table.{answer_to_send, answer_to_send_maintenance}
@@ -241,7 +243,8 @@ start_refused s Untaken (e, some) =
     (λ p. answer_unless
     (cond (is_halted p) (cond (length s.inbox == 0) None (Some Untaken)) (Some NotHalted))
     (length s.out)) e
-    ∙ ap (λ b. answer_unless (cond b None (Some Untaken)) (length s.out)) (waits (length s.inbox) some)
+    ∙ ap (λ b. answer_unless (cond b None (Some Untaken)) (length s.out))
+    (waits (length s.inbox) some)
   where
     waits : (n : ℕ) → 0 < n → (n == 0) ≡ false
     waits n some = grind (arith)

@@ -250,7 +250,8 @@ ignores l s h q e responds w =
     by BadFormat r = absurd r
 
 within_itself : (a n : ℕ) → is_within a a n ≡ true
-within_itself a n = is_within_true a a n (let z : distance a a ≡ 0 = omega arith in omega (arith, z))
+within_itself a n =
+    is_within_true a a n (let z : distance a a ≡ 0 = omega arith in omega (arith, z))
 
 -- nothing is acknowledged: that is RESP A
 pub receives_as_a : (l : Limits) (s : StationState) (q num : ℕ) (message : List ℕ)

@@ -1,5 +1,6 @@
 -- What the laws of one station say, in words of their own.
-use Rattle.std.specs.Prelude.{◌≡◌, ◌≢◌, ℕ, ◌+◌, ◌%◌, ◌<◌, ◌≤◌, Bool, true, false, List, [], ◌∷◌, ◌++◌, length}
+use Rattle.std.specs.Prelude.{◌≡◌, ◌≢◌, ℕ, ◌+◌, ◌%◌, ◌<◌, ◌≤◌, Bool, true, false, List, [], ◌∷◌}
+use Rattle.std.specs.Prelude.{◌++◌, length}
 use Rattle.std.specs.Prelude.{drop, slice_index_or, Option, Some}
 use Rattle.ddcmp_num.specs.Sequence.{distance}
 use Rattle.ddcmp_frame.specs.declared.nak.Nak.{Nak as Reason}

@@ -3,7 +3,8 @@ ghost use Rattle.std.specs.Prelude.{◌≡◌, ◌+◌, ◌%◌, ◌<◌, ◌≤
 ghost use Rattle.std.specs.Prelude.{take, drop, replicate, true, false, Some, Ok, Err};
 ghost use Rattle.ddcmp_frame.specs.declared.codes.TheConstants.{SYN};
 ghost use Rattle.ddcmp_frame.specs.declared.header.Header.{Header as HeaderValue};
-ghost use Rattle.ddcmp_frame.specs.declared.header.HeaderFault.TheVariants.{Check, NotAStart, CountZero};
+ghost use Rattle.ddcmp_frame.specs.declared.header.HeaderFault.TheVariants.{Check, NotAStart};
+ghost use Rattle.ddcmp_frame.specs.declared.header.HeaderFault.TheVariants.{CountZero};
 ghost use Rattle.ddcmp_frame.specs.declared.item.Item.TheVariants.{TooLong, DataCheck, Format};
 ghost use Rattle.ddcmp_frame.specs.Spelling.{IsInRange, parsed};
 ghost use Rattle.ddcmp_frame.specs.Wire.{wire, IsFrame};
@@ -45,10 +46,10 @@ pub fn too_long_is_passed_over()
         → open_at_end max (text ++ (replicate fill SYN ++ wire h message)) ≡ 0 }
 {}
 
-/// A frame whose data are damaged is reported once and passed over whole: reading goes on behind
-/// it and not at its second byte, so that nothing inside its data is taken for a frame.
-pub fn damaged_frames_are_passed_over()
-    ensures told { (max fill n : ℕ) (text bytes : List ℕ) (h : HeaderValue)
+/// A frame whose data are damaged is reported once and skipped whole: reading goes on after it and
+/// not at its second byte, so that nothing inside its data is taken for a frame.
+pub fn damaged_frames_are_skipped()
+    ensures reported { (max fill n : ℕ) (text bytes : List ℕ) (h : HeaderValue)
         → open_at_end max text ≡ 0 → length bytes ≡ n + 10 → parsed (take 8 bytes) ≡ Ok h
         → count_of h ≡ Some n → n ≤ max → is_data_right n bytes ≡ false
         → items max (text ++ (replicate fill SYN ++ bytes))
@@ -59,10 +60,10 @@ pub fn damaged_frames_are_passed_over()
         → open_at_end max (text ++ (replicate fill SYN ++ bytes)) ≡ 0 }
 {}
 
-/// A header of a data or maintenance message with COUNT 0 is reported as a format error, and nothing
-/// is open behind it.
-pub fn headers_without_data_are_told()
-    ensures told { (max fill first flags resp num addr : ℕ) (text : List ℕ)
+/// A header of a data or maintenance message with COUNT 0 is reported as a format error, and
+/// nothing is open after it.
+pub fn headers_without_data_are_reported()
+    ensures reported { (max fill first flags resp num addr : ℕ) (text : List ℕ)
         → open_at_end max text ≡ 0 → (first ≡ 0x81) ⊎ (first ≡ 0x90) → flags % 64 ≡ 0
         → items max (text ++ (replicate fill SYN
         ++ with_check (first ∷ 0 ∷ flags ∷ resp ∷ num ∷ addr ∷ [])))

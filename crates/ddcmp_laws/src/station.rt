@@ -11,8 +11,8 @@ ghost use Rattle.ddcmp_core.specs.declared.state.Timer.TheVariants.{Off, Fresh, 
 ghost use Rattle.ddcmp_core.specs.declared.notice.Notice.TheVariants.{PeerStarts, MaintenanceSeen};
 ghost use Rattle.ddcmp_core.specs.declared.notice.Notice.TheVariants.{MaintenanceDropped};
 ghost use Rattle.ddcmp_core.specs.declared.notice.Notice.TheVariants.{Running as RunningNotice};
-ghost use Rattle.ddcmp_core.specs.declared.station_core.StartRefusal.{StartRefusal as StartRefusalValue};
-ghost use Rattle.ddcmp_window.specs.declared.sender.SendRefusal.{SendRefusal as SendRefusalValue};
+ghost use Rattle.ddcmp_core.specs.declared.station_core.StartRefusal.{StartRefusal as StartWhy};
+ghost use Rattle.ddcmp_window.specs.declared.sender.SendRefusal.{SendRefusal as SendWhy};
 ghost use Rattle.ddcmp_core.specs.Laws.{BeginsRunning};
 ghost use Rattle.ddcmp_core.specs.Table.{Frame, Stack, is_starting, answer_to_start, after_start};
 ghost use Rattle.ddcmp_core.specs.Table.{answer_to_send_maintenance};
@@ -148,7 +148,7 @@ pub fn tells_of_each_strt()
 {}
 
 /// A STRT that comes to a station that is halted or in Maintenance is reported. So is a maintenance
-/// message: elsewhere that it came, and in Maintenance that it was dropped because the inbox is full.
+/// message: elsewhere that it came, and in Maintenance that it was dropped since the inbox is full.
 /// Each of these three notices means that and nothing else.
 pub fn reports_what_it_leaves_alone()
     ensures peer_starts { (l : Limits) (s : StationState) (h : Received)
@@ -168,12 +168,12 @@ pub fn reports_what_it_leaves_alone()
 pub fn refuses_for_the_first_reason()
     ensures started { (s : StationState) → s.state ≡ Halted → s.inbox ≡ []
         → (answer_to_start s ≡ Ok (length s.out)) × ((after_start s).out ≡ []) }
-    ensures start { (s : StationState) (why : StartRefusalValue) → IsStartRefused s why
+    ensures start { (s : StationState) (why : StartWhy) → IsStartRefused s why
         → answer_to_start s ≡ Err why }
-    ensures send { (l : Limits) (s : StationState) (message : List ℕ) (why : SendRefusalValue)
+    ensures send { (l : Limits) (s : StationState) (message : List ℕ) (why : SendWhy)
         → IsRefused Running l s message why → answer_to_send l s message ≡ Err why }
     ensures maintenance { (l : Limits) (s : StationState) (message : List ℕ)
-        (why : SendRefusalValue) → IsRefused Maintenance l s message why
+        (why : SendWhy) → IsRefused Maintenance l s message why
         → answer_to_send_maintenance l s message ≡ Err why }
 {}
 
@@ -210,11 +210,11 @@ pub fn answers_no_answer()
 {}
 
 /// The timer isn't starved: data start a timer that is off, and leave one that is running as it is;
-/// a STRT, a STACK and a REP start it anew. What acknowledges all that was sent ends it, and so does
-/// a NAK; an ACK or data that acknowledge a part start it anew. And where it runs out while a message waits to be
-/// acknowledged, and no NAK is owed, the station asks by a REP. Over any number of calls a timer
-/// that is on stays on, and so runs out in the end, whatever is sent and whatever comes, until
-/// something is acknowledged or asked for, or the peer begins anew.
+/// a STRT, a STACK and a REP start it anew. What acknowledges all that was sent ends it, and so
+/// does a NAK; an ACK or data that acknowledge a part start it anew. And where it runs out while a
+/// message waits to be acknowledged, and no NAK is owed, the station asks by a REP. Over any number
+/// of calls a timer that is on stays on, and so runs out in the end, whatever is sent and whatever
+/// comes, until something is acknowledged or asked for, or the peer begins anew.
 pub fn timer_is_not_starved()
     ensures running { (s u : StationState) (r num : ℕ) (message : List ℕ)
         → next s ≡ Sends (Data r num message) u → s.timer ≢ Off → u.timer ≡ s.timer }
@@ -268,9 +268,9 @@ pub fn sends_under_the_number_answered()
         ⊎ KeepsUnder (on l s h) number message }
 {}
 
-/// Maintenance stands apart: elsewhere a maintenance message changes nothing, be it good, damaged or
-/// too long, and in Maintenance nothing else does. There each message goes to the inbox, behind the others, or is lost where
-/// there is no room; and those to be sent are sent in their order.
+/// Maintenance stands apart: elsewhere a maintenance message changes nothing, be it good, damaged
+/// or too long, and in Maintenance nothing else does. There each message goes to the inbox, behind
+/// the others, or is lost where there is no room; and those to be sent are sent in their order.
 pub fn maintenance_stands_apart()
     ensures elsewhere { (l : Limits) (s : StationState) (h : Received)
         → s.state ≢ Maintenance → IsMaintenance h → on l s h ≡ s }

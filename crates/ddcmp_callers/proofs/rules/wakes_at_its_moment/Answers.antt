@@ -1,4 +1,5 @@
-use Rattle.ddcmp_callers.proofs.LinkRules.{sleeps_while_off, sets_its_moment, has_its_moment, waits_for_it}
+use Rattle.ddcmp_callers.proofs.LinkRules.{sleeps_while_off, sets_its_moment, has_its_moment}
+use Rattle.ddcmp_callers.proofs.LinkRules.{waits_for_it}
 use Rattle.ddcmp_callers.proofs.LinkRules.{expires_from_it, stays_put}
 use Rattle.ddcmp_callers.proofs.rules.wakes_at_its_moment.Goals as goal
 

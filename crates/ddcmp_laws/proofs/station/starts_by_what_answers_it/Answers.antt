@@ -1,4 +1,5 @@
-use Rattle.ddcmp_laws.proofs.StartingLaws.{strt_answered, stack_begins, ack_begins, hears_nothing_else}
+use Rattle.ddcmp_laws.proofs.StartingLaws.{strt_answered, stack_begins, ack_begins}
+use Rattle.ddcmp_laws.proofs.StartingLaws.{hears_nothing_else}
 use Rattle.ddcmp_laws.proofs.station.starts_by_what_answers_it.Goals as goal
 
 pub returns-clause-strt : goal.returns-clause-strt
