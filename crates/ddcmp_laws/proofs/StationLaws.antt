@@ -693,10 +693,63 @@ starts_anew s u f e = by f (subst IsAnew e (asked_anew s (next s) (sending s)))
     by (Maint message) i w = absurd w
 
 pub ended_by_nak : (l : Limits) (s : StationState) (why : Reason) (q : ℕ) → s.state ≡ Running
-    → Within s.a q s.n → (on l s (Good (Naked why q))).timer ≡ Off
+    → Within s.a q s.n
+    → ((on l s (Good (Naked why q))).timer ≡ Off) × ((on l s (Good (Naked why q))).rep ≡ false)
 ended_by_nak l s why q e w =
-    while_running (λ u told. u.timer ≡ Off) l s (Good (Naked why q)) e
-    (subst (λ b. (nak_by s q b).timer ≡ Off) (sym (is_within_true s.a q s.n w)) refl)
+    while_running (λ u told. (u.timer ≡ Off) × (u.rep ≡ false)) l s (Good (Naked why q)) e
+    (subst (λ b. ((nak_by s q b).timer ≡ Off) × ((nak_by s q b).rep ≡ false))
+    (sym (is_within_true s.a q s.n w)) (refl, refl))
+
+no_rep_by : (s : StationState) (m : ℕ) → m ≢ 0 → (b : Bool) → (m == 0) ≡ b
+    → cond b s.rep false ≡ false
+no_rep_by s m some true e = absurd (some (grind (arith)))
+no_rep_by s m some false e = refl
+
+pub takes_back_the_rep : (l : Limits) (s : StationState) (h : Received) (q : ℕ)
+    → s.state ≡ Running → s.a < 256 → q < 256 → q ≢ s.a → Within s.a q s.n → Responds h q
+    → (on l s h).rep ≡ false
+takes_back_the_rep l s h q e ha hq new w responds =
+    while_running (λ u told. u.rep ≡ false) l s h e (by h responds)
+  where
+    ack : (after_ack s q).rep ≡ false
+    ack =
+        let c = count_by_test s q true (is_within_true s.a q s.n w) in
+        let some : newly_acknowledged s q ≢ 0 = λ z. new (omega (arith, c, z, ha, hq)) in
+        no_rep_by s (newly_acknowledged s q) some (newly_acknowledged s q == 0) refl
+
+    by : (h : Received) → Responds h q → (on_running l s h).rep ≡ false
+    by (Good (Acked resp)) r = subst (λ x. (after_ack s x).rep ≡ false) (sym r) ack
+    by (Good (Naked why resp)) r =
+        subst (λ x. (on_nak s x).rep ≡ false) (sym r)
+        (subst (λ b. (nak_by s q b).rep ≡ false) (sym (is_within_true s.a q s.n w)) refl)
+    by (Good (Data resp num message)) r =
+        subst (λ x. (on_data l s x num message).rep ≡ false) (sym r) ack
+    by (Good (Rep num)) r = absurd r
+    by (Good Strt) r = absurd r
+    by (Good Stack) r = absurd r
+    by (Good (Maint message)) r = absurd r
+    by BadHeader r = absurd r
+    by (BadData b) r = absurd r
+    by (TooLong b) r = absurd r
+    by BadFormat r = absurd r
+
+pub asks_nothing : (s : StationState) → s.a ≡ s.n → (after_expire s).rep ≡ s.rep
+asks_nothing s all = at s.timer
+  where
+    same : (s.a == s.n) ≡ true
+    same = grind (arith)
+
+    by : (p : State) → (after_expire_in p s).rep ≡ s.rep
+    by Halted = refl
+    by IStart = refl
+    by AStart = refl
+    by Running = ap (λ b. cond b s.rep true) same
+    by Maintenance = refl
+
+    at : (t : Timer) → (after_expire_with t s).rep ≡ s.rep
+    at Off = refl
+    at Fresh = by s.state
+    at On = by s.state
 
 -- an acknowledgement of a part
 after_ack_of_some : (s : StationState) (q m : ℕ) → m ≢ 0 → q ≢ s.n → (b c : Bool) → (m == 0) ≡ b

@@ -60,12 +60,16 @@ pub fn takes_what_it_may()
 {}
 
 /// What comes with a RESP within what was sent acknowledges exactly the messages up to it, be it an
-/// ACK, a NAK or data; and reports how many. Beyond what was sent it acknowledges none: such an ACK
-/// or NAK changes nothing, and such data are received as if their RESP were A.
+/// ACK, a NAK or data; and reports how many. If it acknowledges some, no REP is due any more. Beyond
+/// what was sent it acknowledges none: such an ACK or NAK changes nothing, and such data are
+/// received as if their RESP were A.
 pub fn acknowledges_exactly()
     ensures within { (l : Limits) (s : StationState) (h : Received) (q : ℕ)
         → s.state ≡ Running → s.a < 256 → q < 256 → Responds h q → Within s.a q s.n
         → AcknowledgesUpTo q s (on l s h) (notice_of l s h) }
+    ensures no_rep { (l : Limits) (s : StationState) (h : Received) (q : ℕ)
+        → s.state ≡ Running → s.a < 256 → q < 256 → q ≢ s.a → Within s.a q s.n → Responds h q
+        → (on l s h).rep ≡ false }
     ensures beyond { (l : Limits) (s : StationState) (h : Received) (q : ℕ)
         → s.state ≡ Running → Responds h q → ¬ Within s.a q s.n
         → AcknowledgesNothing s (on l s h) (notice_of l s h) }
@@ -211,10 +215,11 @@ pub fn answers_no_answer()
 
 /// The timer isn't starved: data start a timer that is off, and leave one that is running as it is;
 /// a STRT, a STACK and a REP start it anew. What acknowledges all that was sent ends it, and so
-/// does a NAK; an ACK or data that acknowledge a part start it anew. And where it runs out while a
-/// message waits to be acknowledged, and no NAK is owed, the station asks by a REP. Over any number
-/// of calls a timer that is on stays on, and so runs out in the end, whatever is sent and whatever
-/// comes, until something is acknowledged or asked for, or the peer begins anew.
+/// does a NAK, which takes back a REP too; an ACK or data that acknowledge a part start it anew. And
+/// where it runs out while a message waits to be acknowledged, and no NAK is owed, the station asks
+/// by a REP; where none waits it asks for nothing. Over any number of calls a timer that is on stays
+/// on, and so runs out in the end, whatever is sent and whatever comes, until something is
+/// acknowledged or asked for, or the peer begins anew.
 pub fn timer_is_not_starved()
     ensures running { (s u : StationState) (r num : ℕ) (message : List ℕ)
         → next s ≡ Sends (Data r num message) u → s.timer ≢ Off → u.timer ≡ s.timer }
@@ -225,13 +230,16 @@ pub fn timer_is_not_starved()
     ensures ends { (l : Limits) (s : StationState) (h : Received) → s.state ≡ Running
         → s.a < 256 → s.n < 256 → s.a ≢ s.n → Responds h s.n → (on l s h).timer ≡ Off }
     ensures ends_by_nak { (l : Limits) (s : StationState) (why : Reason) (q : ℕ)
-        → s.state ≡ Running → Within s.a q s.n → (on l s (Good (Naked why q))).timer ≡ Off }
+        → s.state ≡ Running → Within s.a q s.n
+        → ((on l s (Good (Naked why q))).timer ≡ Off)
+        × ((on l s (Good (Naked why q))).rep ≡ false) }
     ensures renewed { (l : Limits) (s : StationState) (h : Received) (q : ℕ) → s.state ≡ Running
         → s.a < 256 → q < 256 → q ≢ s.a → q ≢ s.n → Within s.a q s.n → Acknowledges h q
         → (on l s h).timer ≡ Fresh }
     ensures asks { (s : StationState) → s.state ≡ Running → s.timer ≢ Off → s.a ≢ s.n
         → (s.reply ≡ Quiet) ⊎ (s.reply ≡ Ack)
         → next_frame (next (after_expire s)) ≡ Some (Rep s.n) }
+    ensures asks_nothing { (s : StationState) → s.a ≡ s.n → (after_expire s).rep ≡ s.rep }
     ensures stays { (l : Limits) (s : StationState) (calls : List Call) → s.state ≡ Running
         → s.rep ≡ false → s.timer ≡ On → LeavesUnanswered s.a calls
         → (after_calls l calls s).timer ≡ On }

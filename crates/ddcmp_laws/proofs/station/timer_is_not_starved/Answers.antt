@@ -1,5 +1,5 @@
 use Rattle.ddcmp_laws.proofs.StationLaws.{data_leave_the_timer, data_start_the_timer, ended}
-use Rattle.ddcmp_laws.proofs.StationLaws.{renewed, asks_at_expiry, starts_anew, ended_by_nak}
+use Rattle.ddcmp_laws.proofs.StationLaws.{renewed, asks_at_expiry, starts_anew, ended_by_nak, asks_nothing}
 use Rattle.ddcmp_laws.proofs.CallLaws.{timer_stays_on}
 use Rattle.ddcmp_laws.proofs.station.timer_is_not_starved.Goals as goal
 
@@ -17,6 +17,9 @@ returns-clause-anew c = starts_anew
 
 pub returns-clause-ends_by_nak : goal.returns-clause-ends_by_nak
 returns-clause-ends_by_nak c = ended_by_nak
+
+pub returns-clause-asks_nothing : goal.returns-clause-asks_nothing
+returns-clause-asks_nothing c = asks_nothing
 
 pub returns-clause-renewed : goal.returns-clause-renewed
 returns-clause-renewed c = renewed
