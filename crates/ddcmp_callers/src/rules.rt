@@ -71,8 +71,8 @@ pub fn wakes_at_its_moment()
 {}
 
 /// The same for a driven station: the first turn after a start of its timer, or with a timer that
-/// is on without a moment, sets the moment, `milliseconds` later. Turns before it leave the timer as
-/// it is, and the first one from then on expires it.
+/// is on without a moment, sets the moment, `milliseconds` later. Turns before it leave the timer
+/// as it is, and the first one from then on expires it.
 pub fn turns_expire_at_their_moment()
     ensures begins { (milliseconds syn : ℕ) (turn : DriveTurn) (d : Driving)
         → (d.core.station.timer ≡ Fresh) ⊎ ((d.core.station.timer ≡ On) × (d.deadline ≡ None))

@@ -60,8 +60,8 @@ pub fn takes_what_it_may()
 {}
 
 /// What comes with a RESP within what was sent acknowledges exactly the messages up to it, be it an
-/// ACK, a NAK or data; and reports how many. If it acknowledges some, no REP is due any more. Beyond
-/// what was sent it acknowledges none: such an ACK or NAK changes nothing, and such data are
+/// ACK, a NAK or data; and reports how many. If it acknowledges some, no REP is due any more.
+/// Beyond what was sent it acknowledges none: such an ACK or NAK changes nothing, and such data are
 /// received as if their RESP were A.
 pub fn acknowledges_exactly()
     ensures within { (l : Limits) (s : StationState) (h : Received) (q : ℕ)
@@ -215,10 +215,10 @@ pub fn answers_no_answer()
 
 /// The timer isn't starved: data start a timer that is off, and leave one that is running as it is;
 /// a STRT, a STACK and a REP start it anew. What acknowledges all that was sent ends it, and so
-/// does a NAK, which takes back a REP too; an ACK or data that acknowledge a part start it anew. And
-/// where it runs out while a message waits to be acknowledged, and no NAK is owed, the station asks
-/// by a REP; where none waits it asks for nothing. Over any number of calls a timer that is on stays
-/// on, and so runs out in the end, whatever is sent and whatever comes, until something is
+/// does a NAK, which takes back a REP too; an ACK or data that acknowledge a part start it anew.
+/// And where it runs out while a message waits to be acknowledged, and no NAK is owed, the station
+/// asks by a REP; where none waits it asks for nothing. Over any number of calls a timer that is on
+/// stays on, and so runs out in the end, whatever is sent and whatever comes, until something is
 /// acknowledged or asked for, or the peer begins anew.
 pub fn timer_is_not_starved()
     ensures running { (s u : StationState) (r num : ℕ) (message : List ℕ)

@@ -1,5 +1,6 @@
 use Rattle.ddcmp_laws.proofs.StationLaws.{data_leave_the_timer, data_start_the_timer, ended}
-use Rattle.ddcmp_laws.proofs.StationLaws.{renewed, asks_at_expiry, starts_anew, ended_by_nak, asks_nothing}
+use Rattle.ddcmp_laws.proofs.StationLaws.{renewed, asks_at_expiry, starts_anew, ended_by_nak}
+use Rattle.ddcmp_laws.proofs.StationLaws.{asks_nothing}
 use Rattle.ddcmp_laws.proofs.CallLaws.{timer_stays_on}
 use Rattle.ddcmp_laws.proofs.station.timer_is_not_starved.Goals as goal
 
