@@ -4,4 +4,5 @@ pub mod Served
 pub mod Streams
 pub mod Links
 pub mod LinkLines
+pub mod LinkRules
 pub mod LinkStory

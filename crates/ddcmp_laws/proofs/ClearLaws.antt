@@ -11,7 +11,8 @@ use Rattle.ddcmp_frame.specs.declared.header.ControlType.TheVariants as control
 use Rattle.ddcmp_frame.specs.declared.header.Header.{Header}
 use Rattle.ddcmp_frame.specs.declared.header.Header.TheVariants as header
 use Rattle.ddcmp_frame.specs.Fields.{ShortFields}
-use Rattle.ddcmp_frame.specs.Reading.{items, good_frames_in, good_frames}
+use Rattle.ddcmp_frame.specs.declared.item.Item.TheVariants as item
+use Rattle.ddcmp_frame.specs.Reading.{ReadItem, items, good_frames_in, good_frames}
 use Rattle.ddcmp_frame.proofs.ReadingLaws.{items-nothing}
 use Rattle.ddcmp_core.specs.declared.state.State.{State}
 use Rattle.ddcmp_core.specs.declared.state.State.TheVariants.{Halted, IStart, AStart, Running}
@@ -24,11 +25,11 @@ use Rattle.ddcmp_core.specs.Table.{after_start, may_send, after_accept, on, Next
 use Rattle.ddcmp_core.specs.Table.{next_frame, after_next}
 use Rattle.ddcmp_core.specs.Frames.{frame_of, frame_of_control}
 use Rattle.ddcmp_core.specs.Counting.{count_plus}
-use Rattle.ddcmp_core.specs.Core.{IsSound, IsReceivable}
+use Rattle.ddcmp_core.specs.Core.{CoreView, IsSound, IsReceivable}
 use Rattle.ddcmp_core.proofs.Sent.{sending}
 use Rattle.ddcmp_core.proofs.Sound.{sound_on}
 use Rattle.ddcmp_core.proofs.StartLaws.{read_sent}
-use Rattle.ddcmp_proto.specs.Bytes.{after_items, items_added}
+use Rattle.ddcmp_proto.specs.Bytes.{after_item, after_items, items_added}
 use Rattle.ddcmp_proto.specs.Config.{first_refusal}
 use Rattle.ddcmp_proto.specs.declared.config.Config.{Config}
 use Rattle.ddcmp_proto.proofs.FeedLaws.{items_added-all, after_piece-limits}
@@ -57,16 +58,16 @@ use Rattle.ddcmp_run.proofs.Arrivals.{seen, on_the_way, Related}
 use Rattle.ddcmp_run.proofs.Linked.{Linked, linked-turned, linked-arrival, none-anew, same-starts}
 use Rattle.ddcmp_run.proofs.Ordered.{run-holds, run-new, run-event}
 use Rattle.ddcmp_laws.specs.Counted.{is_nak, is_nak_type, frames_of}
-use Rattle.ddcmp_laws.specs.Faithful.{written, Begins}
+use Rattle.ddcmp_laws.specs.Faithful.{written, Begins, IsFaithful}
 use Rattle.ddcmp_laws.specs.Positions.{messages_in}
-use Rattle.ddcmp_laws.specs.Clear.{IsClear, StaysClear, messages_sent, WastesNothing}
-use Rattle.ddcmp_laws.proofs.CountLaws.{inbox_grows}
+use Rattle.ddcmp_laws.specs.Clear.{IsMessage, FindRoom, FindsRoom, StaysClear, messages_sent}
+use Rattle.ddcmp_laws.specs.Clear.{WastesNothing}
 use Rattle.ddcmp_laws.proofs.FaithfulLaws.{AllWritable, IsWell, IsStraight, straight_event}
 use Rattle.ddcmp_laws.proofs.FaithfulLaws.{well_new}
 use Rattle.ddcmp_laws.proofs.ClearSteps.{Follows, NoData, no_data_more, IsPlain, Goes, goes_nowhere}
 use Rattle.ddcmp_laws.proofs.ClearSteps.{goes_on, MayCome, hears, NoNaks, polls, expires}
 use Rattle.ddcmp_laws.proofs.ClearReads.{AllGood, good_back, AllShort, short_more, has_read, placed}
-use Rattle.ddcmp_laws.proofs.ClearReads.{way_from, heard, items_heard, inbox_heard}
+use Rattle.ddcmp_laws.proofs.ClearReads.{way_from, heard, items_heard}
 
 -- ---- frames come to x from y
 
@@ -157,9 +158,11 @@ sender_runs s resp num message fs early = by s.state refl
 
 may_come : (x y : Face) (fs : List Frame) (f : Frame) (rest : List Frame) → Clears x y fs (f ∷ rest)
     → IsReceivable x.limits (Good f) → is_naked f ≡ false
-    → (y.station.state ≢ Running → NoData (f ∷ rest)) → length x.station.inbox < x.limits.room
+    → (y.station.state ≢ Running → NoData (f ∷ rest))
+    → (IsMessage (Good f) → length x.station.inbox < x.limits.room)
     → MayCome x.limits x.station f
-may_come x y fs (Data resp num message) rest c v n early room = (by x.station.state refl, room, v.0)
+may_come x y fs (Data resp num message) rest c v n early room =
+    (by x.station.state refl, room tt, v.0)
   where
     by : (p : State) → x.station.state ≡ p
         → (x.station.state ≡ Running) ⊎ ((x.station.state ≡ AStart) × (resp ≡ 0))
@@ -184,7 +187,8 @@ may_come x y fs (Maint message) rest c v n early room = tt
 one_heard : (x y : Face) (fs : List Frame) (f : Frame) (rest : List Frame)
     → Clears x y fs (f ∷ rest)
     → IsReceivable x.limits (Good f) → is_naked f ≡ false
-    → (y.station.state ≢ Running → NoData (f ∷ rest)) → length x.station.inbox < x.limits.room
+    → (y.station.state ≢ Running → NoData (f ∷ rest))
+    → (IsMessage (Good f) → length x.station.inbox < x.limits.room)
     → Clears (hearing x (Good f)) y fs rest × Goes x.station (on x.limits x.station (Good f))
 one_heard x y fs f rest c v n early room =
     let r = c.related in
@@ -207,17 +211,40 @@ one_heard x y fs f rest c v n early room =
       h.goes,
     )
 
+-- each message among frames finds room
+abbrev HeardWithRoom : List Frame → Face → Type 0
+HeardWithRoom [] x = Unit {0}
+HeardWithRoom (f ∷ mid) x =
+    (IsMessage (Good f) → length x.station.inbox < x.limits.room)
+    × HeardWithRoom mid (hearing x (Good f))
+
+items_with_room : (given : List ReadItem) (k : CoreView) (x : Face) → AllGood given
+    → k.limits ≡ x.limits → k.station ≡ x.station → FindRoom given k
+    → HeardWithRoom (map seen (good_frames_in given)) x
+unfolding good_frames_in
+items_with_room [] k x g l s r = tt
+items_with_room ((item.Good o h, lent) ∷ rest) k x g l s r = (
+  λ m. let room = r.0 m in
+      let limit = ap (λ (z : Limits). z.room) l in
+      let mail = ap (λ (z : StationState). length z.inbox) s in
+      omega (arith, room, limit, mail),
+  items_with_room rest (after_item (item.Good o h, lent) k) (hearing x (Good (frame_of h lent))) g.1
+      l (λ i. on (l i) (s i) (Good (frame_of h lent))) r.1,
+)
+items_with_room ((item.HeaderCheck o, lent) ∷ rest) k x g l s r = absurd (let z = g.0 in cc)
+items_with_room ((item.DataCheck o h, lent) ∷ rest) k x g l s r = absurd (let z = g.0 in cc)
+items_with_room ((item.TooLong o h, lent) ∷ rest) k x g l s r = absurd (let z = g.0 in cc)
+items_with_room ((item.Format o f, lent) ∷ rest) k x g l s r = absurd (let z = g.0 in cc)
+
 all_heard : (mid rest : List Frame) (x y : Face) (fs : List Frame) → Clears x y fs (mid ++ rest)
     → AllComing x.limits mid → (y.station.state ≢ Running → NoData (mid ++ rest))
-    → length (heard mid x).station.inbox < x.limits.room
+    → HeardWithRoom mid x
     → Clears (heard mid x) y fs rest × Goes x.station (heard mid x).station
 unfolding heard
 all_heard [] rest x y fs c v early room = (c, goes_nowhere x.station c.plain)
 all_heard (f ∷ mid) rest x y fs c v early room =
-    let one = inbox_grows x.limits x.station (Good f) in
-    let more = inbox_heard mid (hearing x (Good f)) in
-    let s = one_heard x y fs f (mid ++ rest) c v.0.0 v.0.1 early (omega (arith, one, more, room)) in
-    let r = all_heard mid rest (hearing x (Good f)) y fs s.0 v.1 (λ e. (early e).1) room in (
+    let s = one_heard x y fs f (mid ++ rest) c v.0.0 v.0.1 early room.0 in
+    let r = all_heard mid rest (hearing x (Good f)) y fs s.0 v.1 (λ e. (early e).1) room.1 in (
       r.0,
       goes_on x.station (on x.limits x.station (Good f))
           (heard mid (hearing x (Good f))).station s.1 r.1,
@@ -270,8 +297,7 @@ tidy_turned most x y t =
 tidy_arrive : (most : ℕ) (bytes : List ℕ) (x y : EndState) → Tidy most x y → Linked x y → IsWell x
     → IsWell y
     → Begins (x.arrived ++ bytes) (written y)
-    → length (after_arrival_here bytes x).core.station.inbox
-    < (after_arrival_here bytes x).core.limits.room
+    → FindRoom (items_added x.core.limits.longest x.arrived bytes) x.core
     → Tidy most (after_arrival_here bytes x) y
 tidy_arrive most bytes x y t l hx hy b room =
     let k = has_read most y.syn y.sent (x.arrived ++ bytes) hy.sent t.there.short b in
@@ -320,11 +346,11 @@ tidy_arrive most bytes x y t l hx hy b room =
     ∙ items_heard its x.core (face x) good refl refl in
     let limits : (after_arrival_here bytes x).core.limits ≡ x.core.limits =
     after_piece-limits x.arrived bytes x.core in
-    let inbox = ap (λ (s : StationState). length s.inbox) is in
-    let most_room = ap (λ (z : Limits). z.room) limits in
+    let found : FindRoom its x.core =
+    subst (λ m. FindRoom (items_added m x.arrived bytes) x.core) t.longest_x room in
     let r =
     all_heard (map seen mid) (map seen k.rest) (face x) (face y) (on_the_way l.there x.sent)
-    c coming early (omega (arith, inbox, most_room, room)) in
+    c coming early (items_with_room its x.core (face x) good refl refl found) in
     let g : Goes x.core.station (after_arrival_here bytes x).core.station =
     subst (Goes x.core.station) (sym is) r.1 in
     let quiet = (linked-arrival bytes x y t.here.once
@@ -710,9 +736,37 @@ abbrev NoHalt : Event → Type 0
 NoHalt (event.Halt e) = ⊥
 NoHalt e = Unit {0}
 
+-- what an event brings to an end finds room
+abbrev RoomHere : Event → EndState → Type 0
+RoomHere (event.Arrive e bytes) x =
+    FindRoom (items_added x.core.limits.longest x.arrived bytes) x.core
+RoomHere e x = Unit {0}
+
+abbrev RoomAt : Option End → Event → PairState → Type 0
+RoomAt (Some A) e p = RoomHere e p.a
+RoomAt (Some B) e p = RoomHere e p.b
+RoomAt None e p = Unit {0}
+
+room_at : (e : Event) (p : PairState) → FindsRoom e p → RoomAt (end_of e) e p
+room_at (event.Start A) p r = tt
+room_at (event.Start B) p r = tt
+room_at (event.Halt A) p r = tt
+room_at (event.Halt B) p r = tt
+room_at (event.Send A message) p r = tt
+room_at (event.Send B message) p r = tt
+room_at (event.Poll A) p r = tt
+room_at (event.Poll B) p r = tt
+room_at (event.Arrive A bytes) p r = r
+room_at (event.Arrive B bytes) p r = r
+room_at (event.Expire A) p r = tt
+room_at (event.Expire B) p r = tt
+room_at (event.Take A) p r = tt
+room_at (event.Take B) p r = tt
+room_at event.Clear p r = tt
+
 tidy_here : (most : ℕ) (e : Event) (x y : EndState) → NoHalt e → Linked x y → IsWell x → IsWell y
     → Begins (after_event_here e x).arrived (written y)
-    → length (after_event_here e x).core.station.inbox < (after_event_here e x).core.limits.room
+    → RoomHere e x
     → Tidy most x y
     → Tidy most (after_event_here e x) y
 tidy_here most (event.Start e) x y n l hx hy b room t = tidy_start most x y t
@@ -738,35 +792,38 @@ neat_linked most p n =
     (run-holds p n.leads).linked n.straight.honest
     (clean_is p.a.starts p.b.starts n.tidy.here.once n.tidy.there.once)
 
-tidy_at : (most : ℕ) (o : Option End) (e : Event) (p : PairState) → NoHalt e
-    → IsClear (after_event_at o e p)
+tidy_at : (most : ℕ) (o : Option End) (e : Event) (p : PairState) → NoHalt e → RoomAt o e p
+    → IsFaithful (after_event_at o e p)
     → Neat most p → Tidy most (after_event_at o e p).a (after_event_at o e p).b
-tidy_at most (Some A) e p h c n =
+tidy_at most (Some A) e p h r c n =
     tidy_here most e p.a p.b h (neat_linked most p n)
-    n.straight.a n.straight.b c.faithful.to_a c.room_a n.tidy
-tidy_at most (Some B) e p h c n =
+    n.straight.a n.straight.b c.to_a r n.tidy
+tidy_at most (Some B) e p h r c n =
     tidy_turned most _ p.a
     (tidy_here most e p.b p.a h (linked-turned p.a p.b (neat_linked most p n))
-    n.straight.b n.straight.a c.faithful.to_b c.room_b (tidy_turned most p.a p.b n.tidy))
-tidy_at most None e p h c n = tidy_clear most (clear_refusal p) p refl n.tidy
+    n.straight.b n.straight.a c.to_b r (tidy_turned most p.a p.b n.tidy))
+tidy_at most None e p h r c n = tidy_clear most (clear_refusal p) p refl n.tidy
 
-tidy_event : (most : ℕ) (e : Event) (p : PairState) → NoHalt e → IsClear (after_event e p)
+tidy_event : (most : ℕ) (e : Event) (p : PairState) → NoHalt e → FindsRoom e p
+    → IsFaithful (after_event e p)
     → Neat most p
     → Tidy most (after_event e p).a (after_event e p).b
 unfolding after_event
-tidy_event most e p h c n = tidy_at most (end_of e) e p h c n
+tidy_event most e p h r c n = tidy_at most (end_of e) e p h (room_at e p r) c n
 
-neat_event : (most : ℕ) (e : Event) (p : PairState) → NoHalt e → IsClear (after_event e p)
+neat_event : (most : ℕ) (e : Event) (p : PairState) → NoHalt e → FindsRoom e p
+    → IsFaithful (after_event e p)
     → Neat most p
     → Neat most (after_event e p)
-neat_event most e p h c n = record {
+neat_event most e p h r c n = record {
   leads = run-event e p (after_event e p) refl n.leads;
-  straight = straight_event e p c.faithful n.straight;
-  tidy = tidy_event most e p h c n;
+  straight = straight_event e p c n.straight;
+  tidy = tidy_event most e p h r c n;
 }
 
 first_clear : (e : Event) (rest : List Event) (p : PairState) → StaysClear (e ∷ rest) p
-    → NoHalt e × (IsClear (after_event e p) × StaysClear rest (after_event e p))
+    → NoHalt e
+    × (FindsRoom e p × IsFaithful (after_event e p) × StaysClear rest (after_event e p))
 first_clear (event.Start e) rest p s = (tt, s)
 first_clear (event.Halt e) rest p s = absurd s
 first_clear (event.Send e message) rest p s = (tt, s)
@@ -782,7 +839,8 @@ unfolding run
 neat_run most [] p s n = n
 neat_run most (e ∷ rest) p s n =
     let f = first_clear e rest p s in
-    neat_run most rest (after_event e p) f.1.1 (neat_event most e p f.0 f.1.0 n)
+    let g = f.1 in
+    neat_run most rest (after_event e p) g.2 (neat_event most e p f.0 g.0 g.1 n)
 
 tidy_new : (most : ℕ) (config : Config) → IsTidy most (new_end config)
 tidy_new most config = record {

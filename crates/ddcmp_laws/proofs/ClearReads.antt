@@ -22,7 +22,6 @@ use Rattle.ddcmp_run.proofs.Relation.{Face}
 use Rattle.ddcmp_run.proofs.Receptions.{hearing}
 use Rattle.ddcmp_run.proofs.Arrivals.{seen, on_the_way}
 use Rattle.ddcmp_laws.specs.Faithful.{bytes_of, Begins}
-use Rattle.ddcmp_laws.proofs.CountLaws.{inbox_grows}
 use Rattle.ddcmp_laws.proofs.FaithfulLaws.{AllWritable}
 
 -- ---- what is read of a clear line
@@ -162,12 +161,3 @@ items_heard ((item.HeaderCheck o, lent) ∷ rest) k x g l s = absurd (let z = g.
 items_heard ((item.DataCheck o h, lent) ∷ rest) k x g l s = absurd (let z = g.0 in cc)
 items_heard ((item.TooLong o h, lent) ∷ rest) k x g l s = absurd (let z = g.0 in cc)
 items_heard ((item.Format o f, lent) ∷ rest) k x g l s = absurd (let z = g.0 in cc)
-
-pub inbox_heard : (fs : List Frame) (x : Face)
-    → length x.station.inbox ≤ length (heard fs x).station.inbox
-unfolding heard
-inbox_heard [] x = omega arith
-inbox_heard (f ∷ fs) x =
-    let one = inbox_grows x.limits x.station (Good f) in
-    let more = inbox_heard fs (hearing x (Good f)) in
-    omega (arith, one, more)

@@ -1,4 +1,6 @@
 pub mod StationLaws
+pub mod StartingLaws
+pub mod CameLaws
 pub mod NumberLaws
 pub mod StartLaws
 pub mod LineLaws

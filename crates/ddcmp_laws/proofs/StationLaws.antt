@@ -20,6 +20,7 @@ use Rattle.ddcmp_core.specs.declared.notice.Notice.TheVariants as notice
 use Rattle.ddcmp_core.specs.Table.{StationState, Limits, Data, Acked, Naked, Rep, Strt, Stack}
 use Rattle.ddcmp_core.specs.Table.{Maint, Received, Good, BadHeader, BadData, TooLong, BadFormat}
 use Rattle.ddcmp_core.specs.Table.{newly_acknowledged, after_ack, acknowledged_notice}
+use Rattle.ddcmp_core.specs.Table.{Frame, before_next, after_offer}
 use Rattle.ddcmp_core.specs.Table.{acknowledged_by, reply_to_offer, on_data, data_notice, on_nak}
 use Rattle.ddcmp_core.specs.Table.{may_restart, after_restart, after_halt, on_maintenance}
 use Rattle.ddcmp_core.specs.Table.{maintenance_notice, on_running, running_notice, takes_data}
@@ -32,9 +33,10 @@ use Rattle.ddcmp_core.specs.NextFrame.{sends_data, sends_ack, sends_maint, halte
 use Rattle.ddcmp_core.specs.NextFrame.{starting_idles, running_idles, maintenance_idles}
 use Rattle.ddcmp_core.proofs.Sent.{sending}
 use Rattle.ddcmp_core.proofs.ToldLaws.{number_told, number_told_data}
-use Rattle.ddcmp_laws.specs.Station.{Responds, AcknowledgesUpTo, AcknowledgesNothing, tells_mail}
-use Rattle.ddcmp_laws.specs.Station.{HandsUp, HandsUpNothing, IsNoMessage, IsNoMaintenance}
-use Rattle.ddcmp_laws.specs.Station.{CallsFor, SendsNak, BeginsAnew, HaltsAtRestart}
+use Rattle.ddcmp_laws.specs.Station.{Responds, Acknowledges, OnlyResponds, AcknowledgesUpTo}
+use Rattle.ddcmp_laws.specs.Station.{AcknowledgesNothing, tells_mail, HandsUp, HandsUpNothing}
+use Rattle.ddcmp_laws.specs.Station.{IsNoMessage, IsMaintenance, IsNoMaintenance, CallsFor}
+use Rattle.ddcmp_laws.specs.Station.{SendsNak, BeginsAnew, HaltsAtRestart, WantsAnswer}
 
 -- ---- a state that is known
 
@@ -197,6 +199,76 @@ passes_over l s h q e responds w = while_running (AcknowledgesNothing s) l s h e
     by (BadData b) r = absurd r
     by (TooLong b) r = absurd r
     by BadFormat r = absurd r
+
+-- a station after an acknowledgement of q, by the number of messages that it acknowledges
+abbrev pub ack_of : StationState → ℕ → ℕ → StationState
+ack_of s q m =
+    record s {
+      a = cond (m == 0) s.a q;
+      t = cond (nat_lt (before_next s) m) (next_number q) s.t;
+      out = drop m s.out;
+      rep = cond (m == 0) s.rep false;
+      timer = cond (m == 0) s.timer (cond (q == s.n) Off Fresh);
+    }
+
+none_before : (k : ℕ) → nat_lt k 0 ≡ false
+none_before k = grind (arith)
+
+unchanged : (s : StationState) (q : ℕ) → newly_acknowledged s q ≡ 0 → after_ack s q ≡ s
+unchanged s q none =
+    ap (ack_of s q) none
+    ∙ ap (λ b. record s { t = cond b (next_number q) s.t }) (none_before (before_next s))
+
+pub ignores : (l : Limits) (s : StationState) (h : Received) (q : ℕ) → s.state ≡ Running
+    → OnlyResponds h q → ¬ Within s.a q s.n → (on l s h ≡ s) × (notice_of l s h ≡ None)
+ignores l s h q e responds w =
+    while_running (λ u told. (u ≡ s) × (told ≡ None)) l s h e (by h responds)
+  where
+    none : newly_acknowledged s q ≡ 0
+    none = count_by_test s q false (is_within_false s.a q s.n w)
+
+    untold : acknowledged_notice (newly_acknowledged s q) ≡ None
+    untold = ap acknowledged_notice none
+
+    by : (h : Received) → OnlyResponds h q
+        → (on_running l s h ≡ s) × (running_notice l s h ≡ None)
+    by (Good (Acked resp)) r =
+        subst (λ x. (after_ack s x ≡ s) × (acknowledged_notice (newly_acknowledged s x) ≡ None))
+        (sym r) (unchanged s q none, untold)
+    by (Good (Naked why resp)) r =
+        subst (λ x. (on_nak s x ≡ s) × (acknowledged_notice (newly_acknowledged s x) ≡ None))
+        (sym r)
+        (subst (λ b. nak_by s q b ≡ s) (sym (is_within_false s.a q s.n w)) refl, untold)
+    by (Good (Data resp num message)) r = absurd r
+    by (Good (Rep num)) r = absurd r
+    by (Good Strt) r = absurd r
+    by (Good Stack) r = absurd r
+    by (Good (Maint message)) r = absurd r
+    by BadHeader r = absurd r
+    by (BadData b) r = absurd r
+    by (TooLong b) r = absurd r
+    by BadFormat r = absurd r
+
+within_itself : (a n : ℕ) → is_within a a n ≡ true
+within_itself a n =
+    is_within_true a a n (let z : distance a a ≡ 0 = omega arith in omega (arith, z))
+
+-- nothing is acknowledged: that is RESP A
+pub receives_as_a : (l : Limits) (s : StationState) (q num : ℕ) (message : List ℕ)
+    → s.state ≡ Running → ¬ Within s.a q s.n
+    → on l s (Good (Data q num message)) ≡ on l s (Good (Data s.a num message))
+receives_as_a l s q num message e w =
+    running_on l s (Good (Data q num message)) e
+    ∙ ap (λ u. after_offer l u num message) (unchanged s q none ∙ sym (unchanged s s.a own))
+    ∙ sym (running_on l s (Good (Data s.a num message)) e)
+  where
+    none : newly_acknowledged s q ≡ 0
+    none = count_by_test s q false (is_within_false s.a q s.n w)
+
+    own : newly_acknowledged s s.a ≡ 0
+    own =
+        count_by_test s s.a true (within_itself s.a s.n)
+        ∙ (let z : distance s.a s.a ≡ 0 = omega arith in z)
 
 -- ---- messages that come
 
@@ -584,19 +656,155 @@ ended l s h e ha hn waits responds = while_running (λ u told. u.timer ≡ Off) 
     by (TooLong b) r = absurd r
     by BadFormat r = absurd r
 
+abbrev IsAnew : Next → Type 0
+IsAnew (Sends (Rep num) u) = u.timer ≡ Fresh
+IsAnew (Sends Strt u) = u.timer ≡ Fresh
+IsAnew (Sends Stack u) = u.timer ≡ Fresh
+IsAnew (Sends (Acked r) u) = Unit {0}
+IsAnew (Sends (Naked why r) u) = Unit {0}
+IsAnew (Sends (Data r num message) u) = Unit {0}
+IsAnew (Sends (Maint message) u) = Unit {0}
+IsAnew Idle = Unit {0}
+
+asked_anew : (s : StationState) (t : Next) → SentFor s t → IsAnew t
+asked_anew s _ (sends_strt p d) = refl
+asked_anew s _ (sends_stack p d) = refl
+asked_anew s _ (sends_nak why p r) = tt
+asked_anew s _ (sends_rep p r f) = refl
+asked_anew s _ (sends_data p r f place) = tt
+asked_anew s _ (sends_ack p r f place) = tt
+asked_anew s _ (sends_maint m ms p o) = tt
+asked_anew s _ (halted_idles p) = tt
+asked_anew s _ (starting_idles p d) = tt
+asked_anew s _ (running_idles p r f place) = tt
+asked_anew s _ (maintenance_idles p o) = tt
+
+pub starts_anew : (s u : StationState) (f : Frame) → next s ≡ Sends f u → WantsAnswer f
+    → u.timer ≡ Fresh
+starts_anew s u f e = by f (subst IsAnew e (asked_anew s (next s) (sending s)))
+  where
+    by : (f : Frame) → IsAnew (Sends f u) → WantsAnswer f → u.timer ≡ Fresh
+    by Strt i w = i
+    by Stack i w = i
+    by (Rep num) i w = i
+    by (Data r num message) i w = absurd w
+    by (Acked r) i w = absurd w
+    by (Naked why r) i w = absurd w
+    by (Maint message) i w = absurd w
+
+pub ended_by_nak : (l : Limits) (s : StationState) (why : Reason) (q : ℕ) → s.state ≡ Running
+    → Within s.a q s.n
+    → ((on l s (Good (Naked why q))).timer ≡ Off) × ((on l s (Good (Naked why q))).rep ≡ false)
+ended_by_nak l s why q e w =
+    while_running (λ u told. (u.timer ≡ Off) × (u.rep ≡ false)) l s (Good (Naked why q)) e
+    (subst (λ b. ((nak_by s q b).timer ≡ Off) × ((nak_by s q b).rep ≡ false))
+    (sym (is_within_true s.a q s.n w)) (refl, refl))
+
+no_rep_by : (s : StationState) (m : ℕ) → m ≢ 0 → (b : Bool) → (m == 0) ≡ b
+    → cond b s.rep false ≡ false
+no_rep_by s m some true e = absurd (some (grind (arith)))
+no_rep_by s m some false e = refl
+
+pub takes_back_the_rep : (l : Limits) (s : StationState) (h : Received) (q : ℕ)
+    → s.state ≡ Running → s.a < 256 → q < 256 → q ≢ s.a → Within s.a q s.n → Responds h q
+    → (on l s h).rep ≡ false
+takes_back_the_rep l s h q e ha hq new w responds =
+    while_running (λ u told. u.rep ≡ false) l s h e (by h responds)
+  where
+    ack : (after_ack s q).rep ≡ false
+    ack =
+        let c = count_by_test s q true (is_within_true s.a q s.n w) in
+        let some : newly_acknowledged s q ≢ 0 = λ z. new (omega (arith, c, z, ha, hq)) in
+        no_rep_by s (newly_acknowledged s q) some (newly_acknowledged s q == 0) refl
+
+    by : (h : Received) → Responds h q → (on_running l s h).rep ≡ false
+    by (Good (Acked resp)) r = subst (λ x. (after_ack s x).rep ≡ false) (sym r) ack
+    by (Good (Naked why resp)) r =
+        subst (λ x. (on_nak s x).rep ≡ false) (sym r)
+        (subst (λ b. (nak_by s q b).rep ≡ false) (sym (is_within_true s.a q s.n w)) refl)
+    by (Good (Data resp num message)) r =
+        subst (λ x. (on_data l s x num message).rep ≡ false) (sym r) ack
+    by (Good (Rep num)) r = absurd r
+    by (Good Strt) r = absurd r
+    by (Good Stack) r = absurd r
+    by (Good (Maint message)) r = absurd r
+    by BadHeader r = absurd r
+    by (BadData b) r = absurd r
+    by (TooLong b) r = absurd r
+    by BadFormat r = absurd r
+
+pub asks_nothing : (s : StationState) → s.a ≡ s.n → (after_expire s).rep ≡ s.rep
+asks_nothing s all = at s.timer
+  where
+    same : (s.a == s.n) ≡ true
+    same = grind (arith)
+
+    by : (p : State) → (after_expire_in p s).rep ≡ s.rep
+    by Halted = refl
+    by IStart = refl
+    by AStart = refl
+    by Running = ap (λ b. cond b s.rep true) same
+    by Maintenance = refl
+
+    at : (t : Timer) → (after_expire_with t s).rep ≡ s.rep
+    at Off = refl
+    at Fresh = by s.state
+    at On = by s.state
+
+-- an acknowledgement of a part
+after_ack_of_some : (s : StationState) (q m : ℕ) → m ≢ 0 → q ≢ s.n → (b c : Bool) → (m == 0) ≡ b
+    → (q == s.n) ≡ c → cond b s.timer (cond c Off Fresh) ≡ Fresh
+after_ack_of_some s q m some other true c e f = absurd (some (grind (arith)))
+after_ack_of_some s q m some other false true e f = absurd (other (grind (arith)))
+after_ack_of_some s q m some other false false e f = refl
+
+pub renewed : (l : Limits) (s : StationState) (h : Received) (q : ℕ) → s.state ≡ Running
+    → s.a < 256 → q < 256 → q ≢ s.a → q ≢ s.n → Within s.a q s.n → Acknowledges h q
+    → (on l s h).timer ≡ Fresh
+renewed l s h q e ha hq new other w responds =
+    while_running (λ u told. u.timer ≡ Fresh) l s h e (by h responds)
+  where
+    ack : (after_ack s q).timer ≡ Fresh
+    ack =
+        let c = count_by_test s q true (is_within_true s.a q s.n w) in
+        let some : newly_acknowledged s q ≢ 0 = λ z. new (omega (arith, c, z, ha, hq)) in
+        after_ack_of_some s q (newly_acknowledged s q) some other (newly_acknowledged s q == 0)
+        (q == s.n) refl refl
+
+    by : (h : Received) → Acknowledges h q → (on_running l s h).timer ≡ Fresh
+    by (Good (Acked resp)) r = subst (λ x. (after_ack s x).timer ≡ Fresh) (sym r) ack
+    by (Good (Data resp num message)) r =
+        subst (λ x. (on_data l s x num message).timer ≡ Fresh) (sym r) ack
+    by (Good (Naked why resp)) r = absurd r
+    by (Good (Rep num)) r = absurd r
+    by (Good Strt) r = absurd r
+    by (Good Stack) r = absurd r
+    by (Good (Maint message)) r = absurd r
+    by BadHeader r = absurd r
+    by (BadData b) r = absurd r
+    by (TooLong b) r = absurd r
+    by BadFormat r = absurd r
+
 -- ---- maintenance
 
-pub maintenance_elsewhere : (l : Limits) (s : StationState) (message : List ℕ)
-    → s.state ≢ Maintenance → on l s (Good (Maint message)) ≡ s
+pub maintenance_elsewhere : (l : Limits) (s : StationState) (h : Received)
+    → s.state ≢ Maintenance → IsMaintenance h → on l s h ≡ s
 unfolding on
-maintenance_elsewhere l s message other = by s.state other
+maintenance_elsewhere l s h other is = by s.state other h is
   where
-    by : (p : State) → p ≢ Maintenance → on_by p l s (Good (Maint message)) ≡ s
-    by Halted w = refl
-    by IStart w = refl
-    by AStart w = refl
-    by Running w = refl
-    by Maintenance w = absurd (w refl)
+    by : (p : State) → p ≢ Maintenance → (h : Received) → IsMaintenance h → on_by p l s h ≡ s
+    by Maintenance w h r = absurd (w refl)
+    by Halted w h r = refl
+    by IStart w (Good (Maint message)) r = refl
+    by IStart w (BadData b) r = refl
+    by IStart w (TooLong b) r = refl
+    by AStart w (Good (Maint message)) r = refl
+    by AStart w (BadData b) r = refl
+    by AStart w (TooLong b) r = refl
+    by Running w (Good (Maint message)) r = refl
+    by Running w (BadData false) r = refl
+    by Running w (TooLong false) r = refl
+    by p w h r = absurd r
 
 pub in_maintenance : (P : StationState → Option Notice → Type 0) (l : Limits) (s : StationState)
     (h : Received) → s.state ≡ Maintenance

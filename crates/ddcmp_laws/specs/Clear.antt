@@ -1,25 +1,43 @@
--- A clear line: nothing is lost, no end halts, and no inbox is ever full.
+-- A clear line: nothing is lost, no end halts, and no message comes to a full inbox.
 use Rattle.std.specs.Prelude.{◌≡◌, ◌<◌, ℕ, List, [], ◌∷◌, length, map}
+use Rattle.ddcmp_frame.specs.Reading.{ReadItem}
+use Rattle.ddcmp_core.specs.Core.{CoreView}
 use Rattle.ddcmp_core.specs.Frames.{frame_of}
+use Rattle.ddcmp_core.specs.Table.{Data, Received, Good}
+use Rattle.ddcmp_proto.specs.Bytes.{received_of, after_item, items_added}
 use Rattle.ddcmp_run.specs.declared.event.Event.{Event}
 use Rattle.ddcmp_run.specs.declared.event.Event.TheVariants as event
 use Rattle.ddcmp_run.specs.Prefix.{IsPrefixOf}
-use Rattle.ddcmp_run.specs.Run.{EndState, PairState, after_event}
+use Rattle.ddcmp_run.specs.Run.{EndState, PairState, at, after_event}
 use Rattle.ddcmp_laws.specs.Counted.{is_nak, frames_of}
 use Rattle.ddcmp_laws.specs.Faithful.{IsFaithful}
 use Rattle.ddcmp_laws.specs.Positions.{messages_in}
 
--- what arrived at each end is a beginning of what the other wrote, and both inboxes have room
-pub record IsClear (p : PairState) : Type 0 where
-  pub faithful : IsFaithful p
-  pub room_a : length p.a.core.station.inbox < p.a.core.limits.room
-  pub room_b : length p.b.core.station.inbox < p.b.core.limits.room
+-- what comes is a data message
+abbrev pub IsMessage : Received → Type 0
+IsMessage (Good (Data resp num message)) = Unit {0}
+IsMessage _ = ⊥
 
--- it is so after each of these events, among which is no halt
+-- Each data message among these items finds room in the inbox.
+abbrev pub FindRoom : List ReadItem → CoreView → Type 0
+FindRoom [] k = Unit {0}
+FindRoom (given ∷ rest) k =
+    (IsMessage (received_of given) → length k.station.inbox < k.limits.room)
+    × FindRoom rest (after_item given k)
+
+-- so does each that an event brings to an end
+abbrev pub FindsRoom : Event → PairState → Type 0
+FindsRoom (event.Arrive e bytes) p =
+    FindRoom (items_added (at e p).core.limits.longest (at e p).arrived bytes) (at e p).core
+FindsRoom _ p = Unit {0}
+
+-- Each of these events, among which is no halt, brings only messages that find room, and after each
+-- what arrived at each end is a beginning of what the other wrote.
 abbrev pub StaysClear : List Event → PairState → Type 0
 StaysClear [] p = Unit {0}
 StaysClear (event.Halt e ∷ rest) p = ⊥
-StaysClear (e ∷ rest) p = IsClear (after_event e p) × StaysClear rest (after_event e p)
+StaysClear (e ∷ rest) p =
+    FindsRoom e p × IsFaithful (after_event e p) × StaysClear rest (after_event e p)
 
 -- the messages of the data messages that an end sent, in their order
 abbrev pub messages_sent : EndState → List (List ℕ)

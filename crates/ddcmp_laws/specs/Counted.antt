@@ -1,11 +1,16 @@
--- What the counters of an end say of its histories.
-use Rattle.std.specs.Prelude.{◌≡◌, ℕ, ◌+◌, ◌≤◌, Bool, true, false, List, [], ◌∷◌, length, sum_by}
-use Rattle.std.specs.Prelude.{if◌then◌else◌}
+-- What the counters of a station say of what comes, and those of an end of its histories.
+use Rattle.std.specs.Prelude.{◌≡◌, ℕ, ◌+◌, ◌≤◌, Bool, true, false, List, [], ◌∷◌, ◌++◌, length}
+use Rattle.std.specs.Prelude.{sum_by, replicate, if◌then◌else◌}
+use Rattle.ddcmp_frame.specs.declared.nak.Nak.TheVariants as reason
 use Rattle.ddcmp_frame.specs.declared.header.ControlType.{ControlType}
 use Rattle.ddcmp_frame.specs.declared.header.ControlType.TheVariants as control
 use Rattle.ddcmp_frame.specs.declared.header.Header.{Header}
 use Rattle.ddcmp_frame.specs.declared.header.Header.TheVariants as header
+use Rattle.ddcmp_core.specs.declared.counters.Counters.{Counters}
 use Rattle.ddcmp_core.specs.declared.counters.NakCounts.{NakCounts}
+use Rattle.ddcmp_core.specs.Counting.{no_counts, counters_on}
+use Rattle.ddcmp_core.specs.Table.{Limits, StationState, Frame, Naked, Rep, Received, Good}
+use Rattle.ddcmp_core.specs.Table.{BadHeader, BadData, TooLong, BadFormat, on}
 use Rattle.ddcmp_run.specs.declared.event.Event.{Event}
 use Rattle.ddcmp_run.specs.declared.event.Event.TheVariants as event
 use Rattle.ddcmp_run.specs.Place.{WholeFrame}
@@ -42,6 +47,54 @@ abbrev pub all_naks : NakCounts → ℕ
 all_naks c =
     c.header_check + (c.data_check + (c.reply_to_rep + (c.no_buffer + (c.overrun
     + (c.too_long + (c.format + c.other))))))
+
+-- ---- what comes
+
+-- what a station has counted after all this came, one after another
+unfoldable pub counted_after : Limits → List Received → StationState → Counters → Counters
+counted_after l [] s c = c
+counted_after l (h ∷ rest) s c = counted_after l rest (on l s h) (counters_on l s h c)
+
+-- each fault as often as no other
+abbrev pub written_faults : List Received
+written_faults =
+    BadHeader ∷ BadData true ∷ BadData false ∷ TooLong true ∷ TooLong false ∷ TooLong true
+    ∷ BadFormat ∷ BadFormat ∷ BadFormat ∷ BadFormat ∷ []
+
+abbrev pub counts_of_faults : Counters
+counts_of_faults = record no_counts {
+  header_checks = 1;
+  data_checks = 2;
+  too_longs = 3;
+  formats = 4;
+}
+
+abbrev pub times : ℕ → Frame → List Received
+times n frame = replicate n (Good frame)
+
+-- each reason of a NAK as often as no other, and REPs
+abbrev pub written_replies : List Received
+written_replies =
+    times 1 (Naked reason.HeaderCheck 0) ++ (times 2 (Naked reason.DataCheck 0)
+    ++ (times 3 (Naked reason.ReplyToRep 0) ++ (times 4 (Naked reason.NoBuffer 0)
+    ++ (times 5 (Naked reason.Overrun 0) ++ (times 6 (Naked reason.TooLong 0)
+    ++ (times 7 (Naked reason.Format 0) ++ (times 8 (Naked (reason.Other 63) 0)
+    ++ times 9 (Rep 0))))))))
+
+abbrev pub counts_of_replies : Counters
+counts_of_replies = record no_counts {
+  nak_received = record {
+    header_check = 1;
+    data_check = 2;
+    reply_to_rep = 3;
+    no_buffer = 4;
+    overrun = 5;
+    too_long = 6;
+    format = 7;
+    other = 8;
+  };
+  rep_received = 9;
+}
 
 -- ---- a run
 

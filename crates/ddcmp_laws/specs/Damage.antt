@@ -1,6 +1,6 @@
 -- Damage on the line: one byte, or a burst of bits.
 use Rattle.std.specs.Prelude.{◌≡◌, ◌≢◌, ℕ, ◌<◌, ◌≤◌, Bool, List, ◌∷◌, ◌++◌, length}
-use Rattle.ddcmp_num.specs.Check.{bits}
+use Rattle.ddcmp_num.specs.Check.{bits, check_of, check_pair}
 
 -- The bits of two texts, in the order in which they go on the line, are the same but for at most 16
 -- in a row.
@@ -26,3 +26,7 @@ pub record DiffersInOneByte (old new : List ℕ) : Type 0 where
   pub sent_byte : sent < 256
   pub came_byte : came < 256
   pub other : sent ≢ came
+
+-- six bytes and their check
+abbrev pub with_check : List ℕ → List ℕ
+with_check six = six ++ check_pair (check_of six)

@@ -1,17 +1,23 @@
 -- What the laws of one station say, in words of their own.
-use Rattle.std.specs.Prelude.{◌≡◌, ℕ, ◌+◌, ◌%◌, ◌<◌, Bool, true, false, List, [], ◌∷◌, ◌++◌, length}
+use Rattle.std.specs.Prelude.{◌≡◌, ◌≢◌, ℕ, ◌+◌, ◌%◌, ◌<◌, ◌≤◌, Bool, true, false, List, [], ◌∷◌}
+use Rattle.std.specs.Prelude.{◌++◌, length}
 use Rattle.std.specs.Prelude.{drop, slice_index_or, Option, Some}
 use Rattle.ddcmp_num.specs.Sequence.{distance}
 use Rattle.ddcmp_frame.specs.declared.nak.Nak.{Nak as Reason}
 use Rattle.ddcmp_frame.specs.Naks.{subtype_of}
 use Rattle.ddcmp_core.specs.declared.notice.Notice.{Notice}
 use Rattle.ddcmp_core.specs.declared.notice.Notice.TheVariants as notice
+use Rattle.ddcmp_window.specs.declared.sender.SendRefusal.{SendRefusal}
+use Rattle.ddcmp_window.specs.declared.sender.SendRefusal.TheVariants as refusal
+use Rattle.ddcmp_core.specs.declared.station_core.StartRefusal.{StartRefusal}
+use Rattle.ddcmp_core.specs.declared.station_core.StartRefusal.TheVariants.{NotHalted, Untaken}
+use Rattle.ddcmp_core.specs.declared.state.State.{State}
 use Rattle.ddcmp_core.specs.declared.state.State.TheVariants.{Halted, AStart}
 use Rattle.ddcmp_core.specs.declared.state.Owed.TheVariants.{Quiet, Ack}
 use Rattle.ddcmp_core.specs.declared.state.Timer.TheVariants.{Off}
-use Rattle.ddcmp_core.specs.Table.{StationState, Data, Acked, Naked, Strt, Stack, Received, Good}
+use Rattle.ddcmp_core.specs.Table.{Limits, StationState, Data, Acked, Naked, Strt, Stack, Received}
 use Rattle.ddcmp_core.specs.Table.{BadHeader, BadData, TooLong, BadFormat, next, next_frame}
-use Rattle.ddcmp_core.specs.Table.{acknowledged_by, Maint}
+use Rattle.ddcmp_core.specs.Table.{Frame, Rep, Good, acknowledged_by, Maint}
 
 -- ---- what a halt leaves
 
@@ -39,6 +45,18 @@ Responds (Good (Naked why resp)) q = resp ≡ q
 Responds (Good (Data resp num message)) q = resp ≡ q
 Responds _ q = ⊥
 
+-- an ACK or data with this RESP, which ask for nothing
+abbrev pub Acknowledges : Received → ℕ → Type 0
+Acknowledges (Good (Acked resp)) q = resp ≡ q
+Acknowledges (Good (Data resp num message)) q = resp ≡ q
+Acknowledges _ q = ⊥
+
+-- an ACK or a NAK with this RESP, which carry nothing else
+abbrev pub OnlyResponds : Received → ℕ → Type 0
+OnlyResponds (Good (Acked resp)) q = resp ≡ q
+OnlyResponds (Good (Naked why resp)) q = resp ≡ q
+OnlyResponds _ q = ⊥
+
 -- Exactly the messages up to q leave, q is the last that is acknowledged, and as many are told.
 pub record AcknowledgesUpTo (q : ℕ) (before after : StationState)
     (notice_told : Option Notice) : Type 0 where
@@ -54,6 +72,15 @@ pub record AcknowledgesNothing (before after : StationState)
   pub n : after.n ≡ before.n
   pub out : after.out ≡ before.out
   pub told : acknowledged_by notice_told ≡ 0
+
+-- ---- the timer
+
+-- a frame that is sent again until it is answered: a STRT, a STACK or a REP
+abbrev pub WantsAnswer : Frame → Type 0
+WantsAnswer Strt = Unit {0}
+WantsAnswer Stack = Unit {0}
+WantsAnswer (Rep num) = Unit {0}
+WantsAnswer _ = ⊥
 
 -- ---- messages that come
 
@@ -85,7 +112,18 @@ IsNoMessage (Good (Data resp num message)) = ⊥
 IsNoMessage (Good Strt) = ⊥
 IsNoMessage _ = Unit {0}
 
--- what comes is no maintenance message
+-- what comes is a maintenance message, good, damaged or too long
+abbrev pub IsMaintenance : Received → Type 0
+IsMaintenance (Good (Maint message)) = Unit {0}
+IsMaintenance (BadData false) = Unit {0}
+IsMaintenance (TooLong false) = Unit {0}
+IsMaintenance _ = ⊥
+
+abbrev pub IsGoodMaintenance : Received → Type 0
+IsGoodMaintenance (Good (Maint message)) = Unit {0}
+IsGoodMaintenance _ = ⊥
+
+-- what comes is no good maintenance message
 abbrev pub IsNoMaintenance : Received → Type 0
 IsNoMaintenance (Good (Maint message)) = ⊥
 IsNoMaintenance _ = Unit {0}
@@ -131,3 +169,20 @@ pub record KeepsUnder (s : StationState) (number : ℕ) (message : List ℕ) : T
   pub there : place < length s.out
   pub message_at : slice_index_or s.out place [] ≡ message
   pub number_is : number ≡ (s.a + (place + 1)) % 256
+
+-- ---- what the user is refused
+
+-- why `start` is refused, of two reasons the first that fits
+abbrev pub IsStartRefused : StationState → StartRefusal → Type 0
+IsStartRefused s NotHalted = s.state ≢ Halted
+IsStartRefused s Untaken = (s.state ≡ Halted) × (0 < length s.inbox)
+
+-- Why a message isn't accepted by a call that takes it in this state alone, of four reasons the
+-- first that fits.
+abbrev pub IsRefused : State → Limits → StationState → List ℕ → SendRefusal → Type 0
+IsRefused state l s message refusal.WrongState = s.state ≢ state
+IsRefused state l s message refusal.Empty = (s.state ≡ state) × (message ≡ [])
+IsRefused state l s message refusal.TooLong = (s.state ≡ state) × (l.longest < length message)
+IsRefused state l s message refusal.WindowFull =
+    (s.state ≡ state) × (1 ≤ length message) × (length message ≤ l.longest)
+    × (l.window ≤ length s.out)

@@ -67,9 +67,9 @@ pub fn messages_carry_positions()
 {}
 
 /// A clear line wastes nothing: between two ends that take messages of the same lengths, where
-/// after each event what arrived at each end is a beginning of what the other wrote and no inbox is
-/// full, and no end halts, no NAK is ever sent, and each message is sent once, in its order,
-/// whatever timers run out.
+/// after each event what arrived at each end is a beginning of what the other wrote, no message
+/// comes to a full inbox, and no end halts, no NAK is ever sent, and each message is sent once, in
+/// its order, whatever timers run out.
 pub fn clear_line_wastes_nothing()
     ensures { (first second : ConfigValue) (events : List EventValue)
         → first_refusal first ≡ None → first_refusal second ≡ None → first.max ≡ second.max

@@ -1,6 +1,6 @@
 //! Laws of one station, of whatever sizes and in whatever it waits for.
 ghost use Rattle.std.specs.Prelude.{◌≡◌, ◌≢◌, ◌+◌, ◌%◌, ◌<◌, ◌≤◌, ◌↔◌, ◌⊎◌, ℕ, List, [], ◌∷◌, ◌++◌};
-ghost use Rattle.std.specs.Prelude.{length, true, false, Some, None, Ok};
+ghost use Rattle.std.specs.Prelude.{length, true, false, Some, None, Ok, Err};
 ghost use Rattle.ddcmp_num.specs.Sequence.{distance, Within};
 ghost use Rattle.ddcmp_core.specs.Seq.{Seq as SeqValue};
 ghost use Rattle.ddcmp_frame.specs.declared.nak.Nak.{Nak as Reason};
@@ -8,6 +8,14 @@ ghost use Rattle.ddcmp_core.specs.declared.state.State.TheVariants.{Halted, ASta
 ghost use Rattle.ddcmp_core.specs.declared.state.State.TheVariants.{Maintenance};
 ghost use Rattle.ddcmp_core.specs.declared.state.Owed.TheVariants.{Quiet, Ack};
 ghost use Rattle.ddcmp_core.specs.declared.state.Timer.TheVariants.{Off, Fresh, On};
+ghost use Rattle.ddcmp_core.specs.declared.notice.Notice.TheVariants.{PeerStarts, MaintenanceSeen};
+ghost use Rattle.ddcmp_core.specs.declared.notice.Notice.TheVariants.{MaintenanceDropped};
+ghost use Rattle.ddcmp_core.specs.declared.notice.Notice.TheVariants.{Running as RunningNotice};
+ghost use Rattle.ddcmp_core.specs.declared.station_core.StartRefusal.{StartRefusal as StartWhy};
+ghost use Rattle.ddcmp_window.specs.declared.sender.SendRefusal.{SendRefusal as SendWhy};
+ghost use Rattle.ddcmp_core.specs.Laws.{BeginsRunning};
+ghost use Rattle.ddcmp_core.specs.Table.{Frame, Stack, is_starting, answer_to_start, after_start};
+ghost use Rattle.ddcmp_core.specs.Table.{answer_to_send_maintenance};
 ghost use Rattle.ddcmp_core.specs.Table.{Limits, StationState, Data, Acked, Naked, Rep, Strt};
 ghost use Rattle.ddcmp_core.specs.Table.{Maint, Received, Good, Idle, Sends, on, notice_of};
 ghost use Rattle.ddcmp_core.specs.Table.{acknowledged_by, next, after_next, next_frame, after_halt};
@@ -16,9 +24,14 @@ ghost use Rattle.ddcmp_core.specs.Table.{after_accept, after_take, after_expire,
 ghost use Rattle.ddcmp_core.specs.Core.{IsSound, IsReceivable};
 ghost use Rattle.ddcmp_laws.specs.Calls.{Call, after_calls, SendsInOrder, HandsUpInOrder};
 ghost use Rattle.ddcmp_laws.specs.Calls.{LeavesUnanswered};
-ghost use Rattle.ddcmp_laws.specs.Station.{HasHalted, Responds, AcknowledgesUpTo};
-ghost use Rattle.ddcmp_laws.specs.Station.{AcknowledgesNothing, HandsUp, HandsUpNothing};
-ghost use Rattle.ddcmp_laws.specs.Station.{tells_mail, IsNoMessage, IsNoMaintenance, CallsFor};
+ghost use Rattle.ddcmp_core.specs.Counting.{no_counts};
+ghost use Rattle.ddcmp_laws.specs.Counted.{counted_after, written_faults, counts_of_faults};
+ghost use Rattle.ddcmp_laws.specs.Counted.{written_replies, counts_of_replies};
+ghost use Rattle.ddcmp_laws.specs.Station.{HasHalted, Responds, Acknowledges, OnlyResponds};
+ghost use Rattle.ddcmp_laws.specs.Station.{AcknowledgesUpTo, AcknowledgesNothing, HandsUp};
+ghost use Rattle.ddcmp_laws.specs.Station.{HandsUpNothing, tells_mail, IsNoMessage, IsMaintenance};
+ghost use Rattle.ddcmp_laws.specs.Station.{IsNoMaintenance, IsGoodMaintenance, CallsFor};
+ghost use Rattle.ddcmp_laws.specs.Station.{IsStartRefused, IsRefused, WantsAnswer};
 ghost use Rattle.ddcmp_laws.specs.Station.{SendsNak, BeginsAnew, HaltsAtRestart, KeepsUnder};
 
 /// A halted station is deaf and dumb: nothing that comes changes it, it sends nothing, and it takes
@@ -47,14 +60,25 @@ pub fn takes_what_it_may()
 {}
 
 /// What comes with a RESP within what was sent acknowledges exactly the messages up to it, be it an
-/// ACK, a NAK or data; and tells how many. Beyond what was sent it acknowledges none.
+/// ACK, a NAK or data; and reports how many. If it acknowledges some, no REP is due any more.
+/// Beyond what was sent it acknowledges none: such an ACK or NAK changes nothing, and such data are
+/// received as if their RESP were A.
 pub fn acknowledges_exactly()
     ensures within { (l : Limits) (s : StationState) (h : Received) (q : ℕ)
         → s.state ≡ Running → s.a < 256 → q < 256 → Responds h q → Within s.a q s.n
         → AcknowledgesUpTo q s (on l s h) (notice_of l s h) }
+    ensures no_rep { (l : Limits) (s : StationState) (h : Received) (q : ℕ)
+        → s.state ≡ Running → s.a < 256 → q < 256 → q ≢ s.a → Within s.a q s.n → Responds h q
+        → (on l s h).rep ≡ false }
     ensures beyond { (l : Limits) (s : StationState) (h : Received) (q : ℕ)
         → s.state ≡ Running → Responds h q → ¬ Within s.a q s.n
         → AcknowledgesNothing s (on l s h) (notice_of l s h) }
+    ensures ignored { (l : Limits) (s : StationState) (h : Received) (q : ℕ)
+        → s.state ≡ Running → OnlyResponds h q → ¬ Within s.a q s.n
+        → (on l s h ≡ s) × (notice_of l s h ≡ None) }
+    ensures received { (l : Limits) (s : StationState) (q num : ℕ) (message : List ℕ)
+        → s.state ≡ Running → ¬ Within s.a q s.n
+        → on l s (Good (Data q num message)) ≡ on l s (Good (Data s.a num message)) }
 {}
 
 /// A running station hands up exactly the message that comes next where there is room: the inbox,
@@ -127,6 +151,54 @@ pub fn tells_of_each_strt()
         → HaltsAtRestart s (on l s (Good Strt)) (notice_of l s (Good Strt)) }
 {}
 
+/// A STRT that comes to a station that is halted or in Maintenance is reported. So is a maintenance
+/// message: elsewhere that it came, and in Maintenance that it was dropped since the inbox is full.
+/// Each of these three notices means that and nothing else.
+pub fn reports_what_it_leaves_alone()
+    ensures peer_starts { (l : Limits) (s : StationState) (h : Received)
+        → (notice_of l s h ≡ Some PeerStarts)
+        ↔ ((h ≡ Good Strt) × ((s.state ≡ Halted) ⊎ (s.state ≡ Maintenance))) }
+    ensures seen { (l : Limits) (s : StationState) (h : Received)
+        → (notice_of l s h ≡ Some MaintenanceSeen)
+        ↔ (IsGoodMaintenance h × (s.state ≢ Maintenance)) }
+    ensures dropped { (l : Limits) (s : StationState) (h : Received)
+        → (notice_of l s h ≡ Some MaintenanceDropped)
+        ↔ (IsGoodMaintenance h × (s.state ≡ Maintenance) × (l.room ≤ length s.inbox)) }
+{}
+
+/// `start` returns how many messages it drops, or why it is refused: that the station isn't halted
+/// goes before mail that wasn't taken. A message is refused for the first of four reasons: another
+/// state, no bytes, too many bytes, and a full window.
+pub fn refuses_for_the_first_reason()
+    ensures started { (s : StationState) → s.state ≡ Halted → s.inbox ≡ []
+        → (answer_to_start s ≡ Ok (length s.out)) × ((after_start s).out ≡ []) }
+    ensures start { (s : StationState) (why : StartWhy) → IsStartRefused s why
+        → answer_to_start s ≡ Err why }
+    ensures send { (l : Limits) (s : StationState) (message : List ℕ) (why : SendWhy)
+        → IsRefused Running l s message why → answer_to_send l s message ≡ Err why }
+    ensures maintenance { (l : Limits) (s : StationState) (message : List ℕ)
+        (why : SendWhy) → IsRefused Maintenance l s message why
+        → answer_to_send_maintenance l s message ≡ Err why }
+{}
+
+/// A station that starts answers a STRT by a STACK. A STACK makes it run and owe an ACK, and an ACK
+/// with RESP 0 makes one run that answered a STRT. Nothing else but data with RESP 0 changes it, so
+/// no fault, NAK or REP of that time is answered once it runs.
+pub fn starts_by_what_answers_it()
+    ensures strt { (l : Limits) (s : StationState) → is_starting s.state ≡ true
+        → next_frame (next (on l s (Good Strt))) ≡ Some Stack }
+    ensures stack { (l : Limits) (s : StationState) → is_starting s.state ≡ true
+        → (on l s (Good Stack)
+        ≡ record s { state = Running; due = false; reply = Ack; timer = Off })
+        × (notice_of l s (Good Stack) ≡ Some RunningNotice) }
+    ensures ack { (l : Limits) (s : StationState) → s.state ≡ AStart
+        → (on l s (Good (Acked 0)) ≡ record s { state = Running; due = false; timer = Off })
+        × (notice_of l s (Good (Acked 0)) ≡ Some RunningNotice) }
+    ensures nothing_else { (l : Limits) (s : StationState) (h : Received)
+        → is_starting s.state ≡ true → h ≢ Good Strt → ¬ BeginsRunning s.state h
+        → on l s h ≡ s }
+{}
+
 /// There is no reply to a reply: an ACK and a NAK leave nothing to be answered, and what is owed is
 /// sent once.
 pub fn answers_no_answer()
@@ -141,21 +213,33 @@ pub fn answers_no_answer()
         → next s ≡ Sends (Data r num message) u → u.reply ≡ Quiet }
 {}
 
-/// The timer isn't starved: data start a timer that is off, and leave one that is running as it is.
-/// What acknowledges all that was sent ends it. And where it runs out while a message waits to be
-/// acknowledged, and no NAK is owed, the station asks by a REP. Over any number of calls a timer
-/// that is on stays on, and so runs out in the end, whatever is sent and whatever comes, until
-/// something is acknowledged or asked for, or the peer begins anew.
+/// The timer isn't starved: data start a timer that is off, and leave one that is running as it is;
+/// a STRT, a STACK and a REP start it anew. What acknowledges all that was sent ends it, and so
+/// does a NAK, which takes back a REP too; an ACK or data that acknowledge a part start it anew.
+/// And where it runs out while a message waits to be acknowledged, and no NAK is owed, the station
+/// asks by a REP; where none waits it asks for nothing. Over any number of calls a timer that is on
+/// stays on, and so runs out in the end, whatever is sent and whatever comes, until something is
+/// acknowledged or asked for, or the peer begins anew.
 pub fn timer_is_not_starved()
     ensures running { (s u : StationState) (r num : ℕ) (message : List ℕ)
         → next s ≡ Sends (Data r num message) u → s.timer ≢ Off → u.timer ≡ s.timer }
     ensures starts { (s u : StationState) (r num : ℕ) (message : List ℕ)
         → next s ≡ Sends (Data r num message) u → s.timer ≡ Off → u.timer ≡ Fresh }
+    ensures anew { (s u : StationState) (f : Frame) → next s ≡ Sends f u → WantsAnswer f
+        → u.timer ≡ Fresh }
     ensures ends { (l : Limits) (s : StationState) (h : Received) → s.state ≡ Running
         → s.a < 256 → s.n < 256 → s.a ≢ s.n → Responds h s.n → (on l s h).timer ≡ Off }
+    ensures ends_by_nak { (l : Limits) (s : StationState) (why : Reason) (q : ℕ)
+        → s.state ≡ Running → Within s.a q s.n
+        → ((on l s (Good (Naked why q))).timer ≡ Off)
+        × ((on l s (Good (Naked why q))).rep ≡ false) }
+    ensures renewed { (l : Limits) (s : StationState) (h : Received) (q : ℕ) → s.state ≡ Running
+        → s.a < 256 → q < 256 → q ≢ s.a → q ≢ s.n → Within s.a q s.n → Acknowledges h q
+        → (on l s h).timer ≡ Fresh }
     ensures asks { (s : StationState) → s.state ≡ Running → s.timer ≢ Off → s.a ≢ s.n
         → (s.reply ≡ Quiet) ⊎ (s.reply ≡ Ack)
         → next_frame (next (after_expire s)) ≡ Some (Rep s.n) }
+    ensures asks_nothing { (s : StationState) → s.a ≡ s.n → (after_expire s).rep ≡ s.rep }
     ensures stays { (l : Limits) (s : StationState) (calls : List Call) → s.state ≡ Running
         → s.rep ≡ false → s.timer ≡ On → LeavesUnanswered s.a calls
         → (after_calls l calls s).timer ≡ On }
@@ -192,12 +276,12 @@ pub fn sends_under_the_number_answered()
         ⊎ KeepsUnder (on l s h) number message }
 {}
 
-/// Maintenance stands apart: elsewhere a maintenance message changes nothing, and in Maintenance
-/// nothing else does. There each message goes to the inbox, behind the others, or is lost where
-/// there is no room; and those to be sent are sent in their order.
+/// Maintenance stands apart: elsewhere a maintenance message changes nothing, be it good, damaged
+/// or too long, and in Maintenance nothing else does. There each message goes to the inbox, behind
+/// the others, or is lost where there is no room; and those to be sent are sent in their order.
 pub fn maintenance_stands_apart()
-    ensures elsewhere { (l : Limits) (s : StationState) (message : List ℕ)
-        → s.state ≢ Maintenance → on l s (Good (Maint message)) ≡ s }
+    ensures elsewhere { (l : Limits) (s : StationState) (h : Received)
+        → s.state ≢ Maintenance → IsMaintenance h → on l s h ≡ s }
     ensures nothing_else { (l : Limits) (s : StationState) (h : Received)
         → s.state ≡ Maintenance → IsNoMaintenance h → on l s h ≡ s }
     ensures handed_up { (l : Limits) (s : StationState) (message : List ℕ)
@@ -221,4 +305,15 @@ pub fn maintenance_is_in_order()
         → SendsInOrder l calls s }
     ensures handed_up { (l : Limits) (s : StationState) (calls : List Call)
         → s.state ≡ Maintenance → HandsUpInOrder l calls s }
+{}
+
+/// What comes is counted under its own counter alone. The four faults are counted in every state;
+/// NAKs, each under its reason, and REPs while the station runs.
+pub fn counts_what_comes()
+    ensures faults { (l : Limits) (s : StationState)
+        → counted_after l written_faults s no_counts ≡ counts_of_faults }
+    ensures replies { (l : Limits) (s : StationState) → s.state ≡ Running
+        → counted_after l written_replies s no_counts ≡ counts_of_replies }
+    ensures elsewhere { (l : Limits) (s : StationState) → s.state ≢ Running
+        → counted_after l written_replies s no_counts ≡ no_counts }
 {}

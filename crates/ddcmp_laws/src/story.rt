@@ -28,9 +28,11 @@ pub fn second_run_is_answered()
 {}
 
 /// The same of a run over a clear line, in which a timer runs out all the same: so the law that
-/// such a line wastes nothing speaks of runs in which messages are sent and asked for.
+/// such a line wastes nothing speaks of runs in which messages are sent and asked for, also between
+/// ends whose inboxes take one message.
 pub fn clear_run_is_answered()
     ensures clear { StaysClear (map event_in clear_run) (new_pair usual usual) }
+    ensures one { StaysClear (map event_in clear_run) (new_pair tight tight) }
     ensures replies { replies_to (map event_in clear_run) (new_pair usual usual)
         ≡ map reply_in clear_run }
     ensures ends { EndsWell (run (map event_in clear_run) (new_pair usual usual))

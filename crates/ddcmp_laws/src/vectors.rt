@@ -6,6 +6,7 @@ ghost use Rattle.ddcmp_frame.specs.declared.header.ControlType.TheVariants.{Strt
 ghost use Rattle.ddcmp_frame.specs.declared.header.ControlType.TheVariants.{Stack as StackType};
 ghost use Rattle.ddcmp_frame.specs.declared.nak.Nak.TheVariants as reason;
 ghost use Rattle.ddcmp_core.specs.Table.{Data, Acked, Naked, Rep as RepFrame, Strt, Stack, Maint};
+ghost use Rattle.ddcmp_proto.specs.Bytes.{frame_on_line};
 ghost use Rattle.ddcmp_laws.specs.Vectors.{nine_digits, abc, control, data_of, maintenance_of};
 ghost use Rattle.ddcmp_laws.specs.Vectors.{IsHeader, IsOnLine};
 
@@ -38,7 +39,8 @@ pub fn headers_in_bytes()
 {}
 
 /// Each kind of frame that a station sends, with each reason of a NAK that has a name, is these
-/// bytes; and a station that reads these bytes reads that frame and nothing else.
+/// bytes; and a station that reads these bytes reads that frame and nothing else. Before a frame
+/// goes as much fill as was chosen, of bytes 0x96.
 pub fn frames_in_bytes()
     ensures strt { IsOnLine Strt
         (0x05 ∷ 0x06 ∷ 0xC0 ∷ 0x00 ∷ 0x00 ∷ 0x01 ∷ 0x75 ∷ 0x95 ∷ []) }
@@ -68,4 +70,6 @@ pub fn frames_in_bytes()
     ensures maintenance { IsOnLine (Maint abc)
         (0x90 ∷ 0x03 ∷ 0xC0 ∷ 0x00 ∷ 0x00 ∷ 0x01 ∷ 0xA4 ∷ 0x90
         ∷ 0x61 ∷ 0x62 ∷ 0x63 ∷ 0x38 ∷ 0x97 ∷ []) }
+    ensures fill { frame_on_line 2 (Acked 5) ≡ 0x96 ∷ 0x96
+        ∷ 0x05 ∷ 0x01 ∷ 0x00 ∷ 0x05 ∷ 0x00 ∷ 0x01 ∷ 0xEC ∷ 0x54 ∷ [] }
 {}

@@ -10,17 +10,25 @@ use Rattle.ddcmp_core.specs.Counting.{counters_on, counters_after_next}
 use Rattle.ddcmp_proto.specs.Bytes.{after_items, notices_of_items}
 use Rattle.ddcmp_run.specs.Place.{first_index, place_from}
 use Rattle.ddcmp_run.specs.Run.{after_event, reply_to, run, new_pair}
-use Rattle.ddcmp_laws.specs.Story.{usual, clear_run, event_in, replies_to}
+use Rattle.ddcmp_laws.specs.Story.{usual, tight, clear_run, event_in, replies_to}
 use Rattle.ddcmp_laws.specs.Faithful.{bytes_of}
-use Rattle.ddcmp_laws.proofs.ClearRuns.{begins, is_clear, stays_clear, stays_by}
+use Rattle.ddcmp_laws.proofs.ClearRuns.{begins, find_room, finds_room, is_faithful}
+use Rattle.ddcmp_laws.proofs.ClearRuns.{stays_clear, stays_by}
 use Rattle.ddcmp_laws.proofs.story.clear_run_is_answered.Goals as goal
 
 pub returns-clause-clear : goal.returns-clause-clear
 unfolding low_bits bits add divisor_rest remainder number check_of xor six_bytes wire is_check_right
     parsed read_for read_rows is_data_right row read items good_frames_in on notice_of next
     counters_on counters_after_next after_items notices_of_items first_index place_from after_event
-    reply_to run replies_to bytes_of begins is_clear stays_clear
+    reply_to run replies_to bytes_of begins find_room finds_room is_faithful stays_clear
 returns-clause-clear c = stays_by (map event_in clear_run) (new_pair usual usual) refl
+
+pub returns-clause-one : goal.returns-clause-one
+unfolding low_bits bits add divisor_rest remainder number check_of xor six_bytes wire is_check_right
+    parsed read_for read_rows is_data_right row read items good_frames_in on notice_of next
+    counters_on counters_after_next after_items notices_of_items first_index place_from after_event
+    reply_to run replies_to bytes_of begins find_room finds_room is_faithful stays_clear
+returns-clause-one c = stays_by (map event_in clear_run) (new_pair tight tight) refl
 
 pub returns-clause-replies : goal.returns-clause-replies
 unfolding low_bits bits add divisor_rest remainder number check_of xor six_bytes wire is_check_right

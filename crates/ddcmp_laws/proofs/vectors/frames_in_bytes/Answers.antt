@@ -71,3 +71,7 @@ pub returns-clause-maintenance : goal.returns-clause-maintenance
 unfolding low_bits bits add divisor_rest remainder number check_of xor six_bytes wire is_check_right
     parsed read_for read_rows is_data_right row read items
 returns-clause-maintenance c = record { written = refl; read = refl }
+
+pub returns-clause-fill : goal.returns-clause-fill
+unfolding low_bits bits add divisor_rest remainder number check_of xor six_bytes wire
+returns-clause-fill c = refl
