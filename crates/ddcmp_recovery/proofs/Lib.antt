@@ -14,3 +14,6 @@ mod Delivering
 mod Rounding
 mod InStep
 pub mod Waiting
+mod Sweeping
+mod Timely
+mod SweepRounds
