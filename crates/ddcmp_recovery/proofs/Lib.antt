@@ -16,4 +16,4 @@ mod InStep
 pub mod Waiting
 mod Sweeping
 mod Timely
-mod SweepRounds
+pub mod SweepRounds

@@ -1,6 +1,6 @@
 -- Sweeps enough end a round, and two such rounds deliver.
 use Rattle.std.proofs.Common.{◌≡◌, inl, inr, Bool, true, false, cond, List, [], ◌∷◌, ◌++◌}
-use Rattle.std.proofs.Common.{refl, sym, ap, ◌∙◌, subst, arith}
+use Rattle.std.proofs.Common.{refl, sym, ap, ◌∙◌, subst, arith, append_assoc}
 use Rattle.std.specs.Prelude.{◌||◌}
 use Rattle.ddcmp_core.specs.declared.state.Timer.{Timer}
 use Rattle.ddcmp_core.specs.declared.state.Timer.TheVariants.{Off, Fresh, On}
@@ -12,27 +12,27 @@ use Rattle.ddcmp_run.specs.declared.event.Event.{Event}
 use Rattle.ddcmp_run.specs.declared.event.Event.TheVariants as event
 use Rattle.ddcmp_run.specs.InOrder.{IsRun}
 use Rattle.ddcmp_run.specs.Recovery.{IsDone, larger_window}
-use Rattle.ddcmp_run.specs.Run.{EndState, PairState, at, after_expire_here, after_event}
+use Rattle.ddcmp_run.specs.Run.{EndState, PairState, at, after_expire_here, after_event, run}
 use Rattle.ddcmp_recovery.specs.LossFree.{Line, after_on_line, IsLossFree, run_on_line, IsWhole}
 use Rattle.ddcmp_recovery.specs.Rests.{GoesOn, IsUnderWay}
 use Rattle.ddcmp_recovery.specs.Delivers.{IsAtRest, is_expiry, runs_out, IsRoundInAnyOrder}
 use Rattle.ddcmp_recovery.specs.Sweeps.{OnlyCarries, AreSweeps, in_a_row, AreEnough}
 use Rattle.ddcmp_recovery.specs.Sweeps.{RunsOutOrIsOff, IsRoundBySweeps, after_round}
 use Rattle.ddcmp_recovery.specs.Sweeps.{IsRecoveryBySweeps}
-use Rattle.ddcmp_recovery.proofs.Settling.{begins, whole_again}
+use Rattle.ddcmp_recovery.proofs.Settling.{begins, whole_again, pair_is}
 use Rattle.ddcmp_recovery.proofs.Resting.{Gone, all_under}
-use Rattle.ddcmp_recovery.proofs.InStep.{goes-append, loss-append, line-append}
+use Rattle.ddcmp_recovery.proofs.InStep.{goes-append, line-append}
 use Rattle.ddcmp_recovery.proofs.Rounding.{delivered}
-use Rattle.ddcmp_recovery.proofs.Sweeping.{come-to-rest, added-is}
+use Rattle.ddcmp_recovery.proofs.Sweeping.{come-to-rest, added-is, loss-parts}
 use Rattle.ddcmp_recovery.proofs.Timely.{row-carries}
 
-pub rests : (sweeps : List (List Event)) (l : Line) → IsWhole l → AreEnough sweeps l
-    → IsAtRest (run_on_line (in_a_row sweeps) l)
-rests sweeps l h e =
+pub rests : (sweeps : List (List Event)) (l : Line) → IsWhole l → IsLossFree (in_a_row sweeps) l
+    → AreEnough sweeps l → IsAtRest (run_on_line (in_a_row sweeps) l)
+rests sweeps l h f e =
     let w = larger_window l.pair in
     let n = e.enough in
     let i = added-is w (in_a_row sweeps) l in
-    come-to-rest w false sweeps l e.each (begins l h) (λ p. absurd (cc p)) (omega (arith, n, i))
+    come-to-rest w false sweeps l f e.each (begins l h) (λ p. absurd (cc p)) (omega (arith, n, i))
 
 carried-on : (events : List Event) → OnlyCarries events → GoesOn events
 carried-on [] c = tt
@@ -44,14 +44,6 @@ carried-on (event.Halt e ∷ rest) c = absurd c
 carried-on (event.Send e m ∷ rest) c = absurd c
 carried-on (event.Expire e ∷ rest) c = absurd c
 carried-on (event.Clear ∷ rest) c = absurd c
-
-row-loses-nothing : (sweeps : List (List Event)) (l : Line) → AreSweeps sweeps l
-    → IsLossFree (in_a_row sweeps) l
-unfolding in_a_row
-row-loses-nothing [] l s = tt
-row-loses-nothing (sweep ∷ rest) l s =
-    loss-append sweep (in_a_row rest) l s.0.loss_free
-    (row-loses-nothing rest (run_on_line sweep l) s.1)
 
 still-expires : (e : End) (first second : List Event) → runs_out e first ≡ true
     → runs_out e (first ++ second) ≡ true
@@ -81,11 +73,10 @@ goes-by events l g n k =
           k.gone.under_way;
     }
 
-swept : (sweeps : List (List Event)) (l : Line) → AreSweeps sweeps l → Known l
-    → Known (run_on_line (in_a_row sweeps) l)
-swept sweeps l s k =
-    goes-by (in_a_row sweeps) l (carried-on (in_a_row sweeps) (row-carries sweeps l s))
-    (row-loses-nothing sweeps l s) k
+swept : (sweeps : List (List Event)) (l : Line) → AreSweeps sweeps l
+    → IsLossFree (in_a_row sweeps) l → Known l → Known (run_on_line (in_a_row sweeps) l)
+swept sweeps l s f k =
+    goes-by (in_a_row sweeps) l (carried-on (in_a_row sweeps) (row-carries sweeps l s)) f k
 
 -- ---- a timer that is off may run out and changes nothing
 
@@ -173,55 +164,82 @@ still-out e first second p (inl r) = inl (still-expires e first second r)
 still-out e first second p (inr o) = inr o
 
 rounded : (waking : List Event) (sweeps : List (List Event)) (l : Line) → Known l
-    → IsRoundBySweeps waking sweeps l → Rounded l (after_round waking sweeps l)
-rounded waking sweeps l k r =
+    → IsLossFree (waking ++ in_a_row sweeps) l → IsRoundBySweeps waking sweeps l
+    → Rounded l (after_round waking sweeps l)
+rounded waking sweeps l k f r =
     let m = run_on_line waking l in
     let s = r.enough.each in
     let row = in_a_row sweeps in
+    let p = loss-parts waking row l f in
     by-timers (waking ++ row) l (run_on_line row m)
     (record {
       goes_on = goes-append waking row r.goes_on (carried-on row (row-carries sweeps m s));
-      loss_free = loss-append waking row l r.loss_free (row-loses-nothing sweeps m s);
+      loss_free = f;
       leads = line-append waking row l;
-    }) (rests sweeps m (whole_again waking l k.whole r.loss_free) r.enough)
+    }) (rests sweeps m (whole_again waking l k.whole p.0) p.1 r.enough)
     (still-out A waking row l.pair r.timer_a) (still-out B waking row l.pair r.timer_b)
 
 deliver-by : (once twice : List Event) (sweeps more last : List (List Event)) (l : Line)
-    → IsRun l.pair → IsWhole l → IsUnderWay l → AreEnough sweeps l
-    → IsRoundBySweeps once more (run_on_line (in_a_row sweeps) l)
+    → IsRun l.pair → IsWhole l → IsUnderWay l
+    → IsLossFree (in_a_row sweeps ++ ((once ++ in_a_row more) ++ (twice ++ in_a_row last))) l
+    → AreEnough sweeps l → IsRoundBySweeps once more (run_on_line (in_a_row sweeps) l)
     → IsRoundBySweeps twice last (after_round once more (run_on_line (in_a_row sweeps) l))
     → IsDone (after_round twice last
     (after_round once more (run_on_line (in_a_row sweeps) l))).pair
-deliver-by once twice sweeps more last l r h u e o t =
-    let k =
-    swept sweeps l e.each (record { whole = h; gone = record { under_way = u; is_run = r } }) in
+deliver-by once twice sweeps more last l r h u n e o t =
+    let first = once ++ in_a_row more in
+    let second = twice ++ in_a_row last in
+    let a = loss-parts (in_a_row sweeps) (first ++ second) l n in
     let m = run_on_line (in_a_row sweeps) l in
-    let f = rounded once more m k o in
+    let b = loss-parts first second m a.1 in
+    let k =
+    swept sweeps l e.each a.0 (record { whole = h; gone = record { under_way = u; is_run = r } })
+    in
+    let f = rounded once more m k b.0 o in
     let g = f.is_round in
     let k' = goes-by f.events m g.goes_on g.loss_free k in
+    let same : run_on_line first m ≡ run_on_line f.events m =
+    line-append once (in_a_row more) m ∙ sym f.leads in
     let t' : IsRoundBySweeps twice last (run_on_line f.events m) =
     subst (λ (n : Line). IsRoundBySweeps twice last n) (sym f.leads) t in
-    let s = rounded twice last (run_on_line f.events m) k' t' in
+    let n' : IsLossFree second (run_on_line f.events m) =
+    subst (λ (n : Line). IsLossFree second n) same b.1 in
+    let s = rounded twice last (run_on_line f.events m) k' n' t' in
     let d =
-    delivered f.events s.events m k.gone.is_run k.whole k.gone.under_way (rests sweeps l h e) g
+    delivered f.events s.events m k.gone.is_run k.whole k.gone.under_way (rests sweeps l h a.0 e) g
     s.is_round in
     subst (λ (n : Line). IsDone n.pair)
     (s.leads ∙ ap (λ (n : Line). after_round twice last n) f.leads) d
 
-five-parts : (a b c d e : List Event) (l : Line)
-    → run_on_line (a ++ (b ++ (c ++ (d ++ e)))) l
+two-rounds : (a b c d e : List Event) → a ++ (b ++ (c ++ (d ++ e))) ≡ a ++ ((b ++ c) ++ (d ++ e))
+two-rounds a b c d e = ap (λ z. a ++ z) (sym (append_assoc b c (d ++ e)))
+
+rounds-lead : (a b c d e : List Event) (l : Line)
+    → run_on_line (a ++ ((b ++ c) ++ (d ++ e))) l
     ≡ run_on_line e (run_on_line d (run_on_line c (run_on_line b (run_on_line a l))))
-five-parts a b c d e l =
-    line-append a (b ++ (c ++ (d ++ e))) l
-    ∙ line-append b (c ++ (d ++ e)) (run_on_line a l)
-    ∙ line-append c (d ++ e) (run_on_line b (run_on_line a l))
+rounds-lead a b c d e l =
+    line-append a ((b ++ c) ++ (d ++ e)) l
+    ∙ line-append (b ++ c) (d ++ e) (run_on_line a l)
+    ∙ ap (λ (m : Line). run_on_line (d ++ e) m) (line-append b c (run_on_line a l))
     ∙ line-append d e (run_on_line c (run_on_line b (run_on_line a l)))
 
 pub deliver : (events : List Event) (l : Line) → IsRun l.pair → IsWhole l → IsUnderWay l
-    → IsRecoveryBySweeps events l → IsDone (run_on_line events l).pair
-deliver events l r h u z =
+    → IsLossFree events l → IsRecoveryBySweeps events l → IsDone (run_on_line events l).pair
+deliver events l r h u n z =
+    let row = in_a_row z.sweeps in
+    let parts = row ++ ((z.once ++ in_a_row z.more) ++ (z.twice ++ in_a_row z.last)) in
+    let same : events ≡ parts =
+    z.events_are ∙ two-rounds row z.once (in_a_row z.more) z.twice (in_a_row z.last) in
     subst (λ (n : Line). IsDone n.pair)
     (sym
-    (ap (λ es. run_on_line es l) z.events_are
-    ∙ five-parts (in_a_row z.sweeps) z.once (in_a_row z.more) z.twice (in_a_row z.last) l))
-    (deliver-by z.once z.twice z.sweeps z.more z.last l r h u z.enough z.first_round z.second_round)
+    (ap (λ es. run_on_line es l) same
+    ∙ rounds-lead row z.once (in_a_row z.more) z.twice (in_a_row z.last) l))
+    (deliver-by z.once z.twice z.sweeps z.more z.last l r h u
+    (subst (λ es. IsLossFree es l) same n) z.enough z.first_round z.second_round)
+
+-- the pair of a line after some events
+pub run-pair : (events : List Event) (l : Line) → (run_on_line events l).pair ≡ run events l.pair
+unfolding run_on_line run
+run-pair [] l = refl
+run-pair (e ∷ rest) l =
+    run-pair rest (after_on_line e l) ∙ ap (λ (p : PairState). run rest p) (pair_is e l)

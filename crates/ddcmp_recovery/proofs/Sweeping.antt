@@ -397,13 +397,21 @@ rest-stays (e ∷ rest) l c n r =
       idle_b = s.same_b ∙ r.idle_b;
     })
 
-pub sweeps-stay : (sweeps : List (List Event)) (l : Line) → IsAtRest l → AreSweeps sweeps l
-    → IsAtRest (run_on_line (in_a_row sweeps) l)
+pub loss-parts : (first second : List Event) (l : Line) → IsLossFree (first ++ second) l
+    → IsLossFree first l × IsLossFree second (run_on_line first l)
+unfolding run_on_line
+loss-parts [] second l n = (tt, n)
+loss-parts (e ∷ first) second l n =
+    let p = loss-parts first second (after_on_line e l) n.1 in ((n.0, p.0), p.1)
+
+pub sweeps-stay : (sweeps : List (List Event)) (l : Line) → IsAtRest l
+    → IsLossFree (in_a_row sweeps) l → AreSweeps sweeps l → IsAtRest (run_on_line (in_a_row sweeps) l)
 unfolding run_on_line in_a_row
-sweeps-stay [] l r s = r
-sweeps-stay (sweep ∷ rest) l r s =
+sweeps-stay [] l r n s = r
+sweeps-stay (sweep ∷ rest) l r n s =
+    let p = loss-parts sweep (in_a_row rest) l n in
     subst (λ (m : Line). IsAtRest m) (sym (line-append sweep (in_a_row rest) l))
-    (sweeps-stay rest (run_on_line sweep l) (rest-stays sweep l s.0.carries s.0.loss_free r) s.1)
+    (sweeps-stay rest (run_on_line sweep l) (rest-stays sweep l s.0.carries p.0 r) p.1 s.1)
 
 -- ---- sweeps enough
 
@@ -412,30 +420,33 @@ abbrev Emptied : Bool → Line → Type 0
 Emptied c l = c ≡ true → (l.to_a ≡ []) × (l.to_b ≡ [])
 
 pub come-to-rest : (w : ℕ) (c : Bool) (sweeps : List (List Event)) (l : Line)
-    → AreSweeps sweeps l → Settles w l → Emptied c l
+    → IsLossFree (in_a_row sweeps) l → AreSweeps sweeps l → Settles w l → Emptied c l
     → 2 * (price w l + added_on w (in_a_row sweeps) l) + 2 ≤ length sweeps + cond c 1 0
     → IsAtRest (run_on_line (in_a_row sweeps) l)
 unfolding in_a_row added_on
-come-to-rest w true [] l s h e n = absurd (omega (arith, n))
-come-to-rest w false [] l s h e n = absurd (omega (arith, n))
-come-to-rest w c (sweep ∷ rest) l s h e n =
+come-to-rest w true [] l f s h e n = absurd (omega (arith, n))
+come-to-rest w false [] l f s h e n = absurd (omega (arith, n))
+come-to-rest w c (sweep ∷ rest) l f s h e n =
     subst (λ (m : Line). IsAtRest m) (sym (line-append sweep (in_a_row rest) l))
     (by (frames_on sweep l) c refl e fewer
-    (λ d. come-to-rest w d rest (run_on_line sweep l) s.1))
+    (λ d. come-to-rest w d rest (run_on_line sweep l) free.1 s.1))
   where
     m : Line
     m = run_on_line sweep l
+
+    free : IsLossFree sweep l × IsLossFree (in_a_row rest) m
+    free = loss-parts sweep (in_a_row rest) l f
 
     fewer : 2 * ((price w l + added_on w sweep l) + added_on w (in_a_row rest) m) + 2
         ≤ length rest + 1 + cond c 1 0
     fewer = let a = added-append w sweep (in_a_row rest) l in omega (arith, a, n)
 
     keeps : Settles w m
-    keeps = run_keeps w sweep l s.0.loss_free h
+    keeps = run_keeps w sweep l free.0 h
 
     empty : frames_on sweep l ≡ 0 → (m.to_a ≡ []) × (m.to_b ≡ [])
     empty z =
-        let k = shrinks sweep l s.0.carries s.0.loss_free z in
+        let k = shrinks sweep l s.0.carries free.0 z in
         let a = k.to_a in
         let b = k.to_b in
         let p = s.0.all_to_a in
@@ -452,16 +463,15 @@ come-to-rest w c (sweep ∷ rest) l s h e n =
     by zero true z e n more =
         let o = e refl in
         sweeps-stay rest m
-        (idle-now false false sweep l s.0.carries s.0.loss_free z o.0 o.1 (λ p. absurd (cc p))
-        (λ p. absurd (cc p)) s.0.asked_a s.0.asked_b) s.1
+        (idle-now false false sweep l s.0.carries free.0 z o.0 o.1 (λ p. absurd (cc p))
+        (λ p. absurd (cc p)) s.0.asked_a s.0.asked_b) free.1 s.1
     by zero false z e n more =
-        let f = falls w sweep l s.0.loss_free h in
-        more true keeps (λ p. empty z) (omega (arith, f, z, n))
+        let f = falls w sweep l free.0 h in more true keeps (λ p. empty z) (omega (arith, f, z, n))
     by (suc k) true z e n more =
-        let f = falls w sweep l s.0.loss_free h in
+        let f = falls w sweep l free.0 h in
         more false keeps (λ p. absurd (cc p)) (omega (arith, f, z, n))
     by (suc k) false z e n more =
-        let f = falls w sweep l s.0.loss_free h in
+        let f = falls w sweep l free.0 h in
         more false keeps (λ p. absurd (cc p)) (omega (arith, f, z, n))
 
 -- ---- each line has a sweep
@@ -470,9 +480,11 @@ pub shortest : (l : Line) → IsSweep (sweep_of l) l
 unfolding bytes_brought is_asked
 shortest l = record {
   carries = tt;
-  loss_free = (([], append-nil l.to_a), (([], append-nil l.to_b), (tt, (tt, tt))));
   all_to_a = omega arith;
   all_to_b = omega arith;
   asked_a = refl;
   asked_b = refl;
 }
+
+pub loses-nothing : (l : Line) → IsLossFree (sweep_of l) l
+loses-nothing l = (([], append-nil l.to_a), (([], append-nil l.to_b), (tt, (tt, tt))))

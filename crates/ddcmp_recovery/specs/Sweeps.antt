@@ -10,7 +10,7 @@ use Rattle.ddcmp_run.specs.declared.event.Event.{Event}
 use Rattle.ddcmp_run.specs.declared.event.Event.TheVariants as event
 use Rattle.ddcmp_run.specs.Recovery.{larger_window}
 use Rattle.ddcmp_run.specs.Run.{EndState, PairState, at, after_event}
-use Rattle.ddcmp_recovery.specs.LossFree.{Line, IsLossFree, run_on_line}
+use Rattle.ddcmp_recovery.specs.LossFree.{Line, run_on_line}
 use Rattle.ddcmp_recovery.specs.Price.{price, added, items_on_way}
 use Rattle.ddcmp_recovery.specs.Rests.{GoesOn}
 use Rattle.ddcmp_recovery.specs.Delivers.{runs_out}
@@ -50,7 +50,6 @@ is_asked end (e ∷ rest) = is_poll end e || is_asked end rest
 -- each end is asked for a frame at least once. More may arrive, and messages may be taken.
 pub record IsSweep (events : List Event) (l : Line) : Type 0 where
   pub carries : OnlyCarries events
-  pub loss_free : IsLossFree events l
   pub all_to_a : length l.to_a ≤ bytes_brought A events
   pub all_to_b : length l.to_b ≤ bytes_brought B events
   pub asked_a : is_asked A events ≡ true
@@ -110,12 +109,11 @@ abbrev pub RunsOutOrIsOff : End → List Event → PairState → Type 0
 RunsOutOrIsOff end events p =
     (runs_out end events ≡ true) ⊎ ((at end p).core.station.timer ≡ Off)
 
--- A round by sweeps: among some events, by which nothing is lost and no end starts or halts, the
--- timer of each end runs out, where it isn't off; and then come sweeps enough.
+-- A round by sweeps: among some events, by which no end starts or halts, the timer of each end runs
+-- out, where it isn't off; and then come sweeps enough.
 pub record IsRoundBySweeps (waking : List Event) (sweeps : List (List Event)) (l : Line)
     : Type 0 where
   pub goes_on : GoesOn waking
-  pub loss_free : IsLossFree waking l
   pub timer_a : RunsOutOrIsOff A waking l.pair
   pub timer_b : RunsOutOrIsOff B waking l.pair
   pub enough : AreEnough sweeps (run_on_line waking l)

@@ -5,7 +5,7 @@ ghost use Rattle.ddcmp_proto.specs.declared.config.Config.{Config as ConfigValue
 ghost use Rattle.ddcmp_run.specs.Recovery.{IsDone};
 ghost use Rattle.ddcmp_run.specs.Run.{new_pair, run};
 ghost use Rattle.ddcmp_run.specs.declared.event.Event.{Event as EventValue};
-ghost use Rattle.ddcmp_recovery.specs.LossFree.{Line, run_on_line, IsWhole};
+ghost use Rattle.ddcmp_recovery.specs.LossFree.{Line, IsLossFree, run_on_line, IsWhole};
 ghost use Rattle.ddcmp_recovery.specs.Rests.{IsUnderWay};
 ghost use Rattle.ddcmp_recovery.specs.Delivers.{IsAtRest};
 ghost use Rattle.ddcmp_recovery.specs.Sweeps.{IsSweep, sweep_of, AreSweeps, in_a_row};
@@ -17,9 +17,11 @@ ghost use Rattle.ddcmp_recovery.specs.Sweeps.{AreEnough, AreInTime, IsRecoveryBy
 /// are enough, w being the larger window, and 4 * w + 2 more for each item in flight.
 pub fn comes_to_rest()
     ensures rests { (sweeps : List (List EventValue)) (l : Line) → IsWhole l
-        → AreEnough sweeps l → IsAtRest (run_on_line (in_a_row sweeps) l) }
+        → IsLossFree (in_a_row sweeps) l → AreEnough sweeps l
+        → IsAtRest (run_on_line (in_a_row sweeps) l) }
     ensures stays { (sweeps : List (List EventValue)) (l : Line) → IsAtRest l
-        → AreSweeps sweeps l → IsAtRest (run_on_line (in_a_row sweeps) l) }
+        → IsLossFree (in_a_row sweeps) l → AreSweeps sweeps l
+        → IsAtRest (run_on_line (in_a_row sweeps) l) }
     ensures in_time { (sweeps : List (List EventValue)) (l : Line) → IsWhole l
         → AreInTime sweeps l → AreEnough sweeps l }
 {}
@@ -32,11 +34,12 @@ pub fn sweeps_deliver()
     ensures { (first second : ConfigValue) (before events : List EventValue) (l : Line)
         → first_refusal first ≡ None → first_refusal second ≡ None
         → run before (new_pair first second) ≡ l.pair → IsWhole l → IsUnderWay l
-        → IsRecoveryBySweeps events l → IsDone (run_on_line events l).pair }
+        → IsLossFree events l → IsRecoveryBySweeps events l → IsDone (run_on_line events l).pair }
 {}
 
 /// Each line has sweeps, so that no law above holds because there are none: what is in flight to
 /// each end arrives, and then each is asked for a frame.
 pub fn each_line_has_a_sweep()
-    ensures { (l : Line) → IsSweep (sweep_of l) l }
+    ensures sweep { (l : Line) → IsSweep (sweep_of l) l }
+    ensures loss_free { (l : Line) → IsLossFree (sweep_of l) l }
 {}

@@ -2,7 +2,7 @@ use Rattle.ddcmp_recovery.proofs.SweepRounds.{deliver}
 use Rattle.ddcmp_recovery.proofs.sweeps.sweeps_deliver.Goals as goal
 
 pub returns : goal.returns
-returns c = λ first second before events l f g e h u r.
+returns c = λ first second before events l f g e h u n r.
     deliver events l
     (record {
       first = first;
@@ -11,4 +11,4 @@ returns c = λ first second before events l f g e h u r.
       second_made = g;
       events = before;
       leads = e;
-    }) h u r
+    }) h u n r
