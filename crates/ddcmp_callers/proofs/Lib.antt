@@ -12,3 +12,4 @@ pub mod Acknowledged
 pub mod LinkCalls
 pub mod TwoLinks
 pub mod Sleeping
+pub mod LinkRecovery

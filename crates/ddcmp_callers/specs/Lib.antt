@@ -5,3 +5,4 @@ pub mod Streams
 pub mod Links
 pub mod LinkLines
 pub mod LinkStory
+pub mod LinkSweeps
