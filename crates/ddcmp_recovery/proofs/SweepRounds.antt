@@ -16,7 +16,7 @@ use Rattle.ddcmp_run.specs.Run.{EndState, PairState, at, after_expire_here, afte
 use Rattle.ddcmp_recovery.specs.LossFree.{Line, after_on_line, IsLossFree, run_on_line, IsWhole}
 use Rattle.ddcmp_recovery.specs.Rests.{GoesOn, IsUnderWay}
 use Rattle.ddcmp_recovery.specs.Delivers.{IsAtRest, is_expiry, runs_out, IsRoundInAnyOrder}
-use Rattle.ddcmp_recovery.specs.Sweeps.{OnlyCarries, AreSweeps, in_a_row, AreEnough}
+use Rattle.ddcmp_recovery.specs.Sweeps.{AreSweeps, in_a_row, AreEnough}
 use Rattle.ddcmp_recovery.specs.Sweeps.{RunsOutOrIsOff, IsRoundBySweeps, after_round}
 use Rattle.ddcmp_recovery.specs.Sweeps.{IsRecoveryBySweeps}
 use Rattle.ddcmp_recovery.proofs.Settling.{begins, whole_again, pair_is}
@@ -24,7 +24,7 @@ use Rattle.ddcmp_recovery.proofs.Resting.{Gone, all_under}
 use Rattle.ddcmp_recovery.proofs.InStep.{goes-append, line-append}
 use Rattle.ddcmp_recovery.proofs.Rounding.{delivered}
 use Rattle.ddcmp_recovery.proofs.Sweeping.{come-to-rest, added-is, loss-parts}
-use Rattle.ddcmp_recovery.proofs.Timely.{row-carries}
+use Rattle.ddcmp_recovery.proofs.Timely.{row-carries, carried-on}
 
 pub rests : (sweeps : List (List Event)) (l : Line) → IsWhole l → IsLossFree (in_a_row sweeps) l
     → AreEnough sweeps l → IsAtRest (run_on_line (in_a_row sweeps) l)
@@ -33,17 +33,6 @@ rests sweeps l h f e =
     let n = e.enough in
     let i = added-is w (in_a_row sweeps) l in
     come-to-rest w false sweeps l f e.each (begins l h) (λ p. absurd (cc p)) (omega (arith, n, i))
-
-carried-on : (events : List Event) → OnlyCarries events → GoesOn events
-carried-on [] c = tt
-carried-on (event.Poll e ∷ rest) c = carried-on rest c
-carried-on (event.Arrive e bytes ∷ rest) c = carried-on rest c
-carried-on (event.Take e ∷ rest) c = carried-on rest c
-carried-on (event.Start e ∷ rest) c = absurd c
-carried-on (event.Halt e ∷ rest) c = absurd c
-carried-on (event.Send e m ∷ rest) c = absurd c
-carried-on (event.Expire e ∷ rest) c = absurd c
-carried-on (event.Clear ∷ rest) c = absurd c
 
 still-expires : (e : End) (first second : List Event) → runs_out e first ≡ true
     → runs_out e (first ++ second) ≡ true

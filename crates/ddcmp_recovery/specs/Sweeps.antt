@@ -3,6 +3,7 @@
 use Rattle.std.specs.Prelude.{◌≡◌, ◌⊎◌, ℕ, ◌+◌, ◌*◌, ◌≤◌, Bool, true, false, ◌||◌, List, [], ◌∷◌}
 use Rattle.std.specs.Prelude.{◌++◌, length}
 use Rattle.ddcmp_core.specs.declared.state.Timer.TheVariants.{Off}
+use Rattle.ddcmp_core.specs.Table.{has_room}
 use Rattle.ddcmp_proto.specs.Bytes.{items_added}
 use Rattle.ddcmp_run.specs.declared.event.End.{End}
 use Rattle.ddcmp_run.specs.declared.event.End.TheVariants.{A, B}
@@ -79,26 +80,43 @@ pub record AreEnough (sweeps : List (List Event)) (l : Line) : Type 0 where
   pub enough : 2 * (price (larger_window l.pair) l
       + added (larger_window l.pair) (in_a_row sweeps) l.pair) + 2 ≤ length sweeps
 
--- What arrives finds room: the inbox has it for as many messages as items come.
-abbrev pub HasRoomFor : List ℕ → EndState → Type 0
-HasRoomFor bytes x =
-    length x.core.station.inbox + length (items_added x.core.limits.longest x.arrived bytes)
-    ≤ x.core.limits.room
-
+-- As bytes arrive, the inbox has room for a message.
 abbrev pub FindsRoom : Event → PairState → Type 0
-FindsRoom (event.Arrive e bytes) p = HasRoomFor bytes (at e p)
+FindsRoom (event.Arrive e bytes) p = has_room (at e p).core.limits (at e p).core.station ≡ true
 FindsRoom e p = Unit {0}
 
--- Received messages are taken in time: whatever arrives finds room.
+-- Received messages are taken in time: whenever bytes arrive, there is room for a message.
 abbrev pub AreTakenInTime : List Event → PairState → Type 0
 AreTakenInTime [] p = Unit {0}
 AreTakenInTime (e ∷ rest) p = FindsRoom e p × AreTakenInTime rest (after_event e p)
 
--- In numbers, where received messages are taken in time: 32 * w + 26 sweeps, w being the larger
--- window, and 4 * w + 2 more for each item in flight.
+-- In numbers, if received messages are taken in time, w being the larger window.
 pub record AreInTime (sweeps : List (List Event)) (l : Line) : Type 0 where
   pub each : AreSweeps sweeps l
   pub taken : AreTakenInTime (in_a_row sweeps) l.pair
+  pub enough : 8 * larger_window l.pair * larger_window l.pair + 32 * larger_window l.pair + 26
+      + (4 * larger_window l.pair + 2) * items_on_way l ≤ length sweeps
+
+-- As bytes arrive, the inbox has room for as many messages as items come.
+abbrev pub HasRoomForAll : List ℕ → EndState → Type 0
+HasRoomForAll bytes x =
+    length x.core.station.inbox + length (items_added x.core.limits.longest x.arrived bytes)
+    ≤ x.core.limits.room
+
+abbrev pub FindsRoomForAll : Event → PairState → Type 0
+FindsRoomForAll (event.Arrive e bytes) p = HasRoomForAll bytes (at e p)
+FindsRoomForAll e p = Unit {0}
+
+-- Received messages are taken at once: whenever bytes arrive, there is room for all that they
+-- bring.
+abbrev pub AreTakenAtOnce : List Event → PairState → Type 0
+AreTakenAtOnce [] p = Unit {0}
+AreTakenAtOnce (e ∷ rest) p = FindsRoomForAll e p × AreTakenAtOnce rest (after_event e p)
+
+-- In numbers, if they are taken at once.
+pub record AreAtOnce (sweeps : List (List Event)) (l : Line) : Type 0 where
+  pub each : AreSweeps sweeps l
+  pub taken : AreTakenAtOnce (in_a_row sweeps) l.pair
   pub enough : 32 * larger_window l.pair + 26
       + (4 * larger_window l.pair + 2) * items_on_way l ≤ length sweeps
 

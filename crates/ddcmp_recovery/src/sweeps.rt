@@ -9,12 +9,15 @@ ghost use Rattle.ddcmp_recovery.specs.LossFree.{Line, IsLossFree, run_on_line, I
 ghost use Rattle.ddcmp_recovery.specs.Rests.{IsUnderWay};
 ghost use Rattle.ddcmp_recovery.specs.Delivers.{IsAtRest};
 ghost use Rattle.ddcmp_recovery.specs.Sweeps.{IsSweep, sweep_of, AreSweeps, in_a_row};
-ghost use Rattle.ddcmp_recovery.specs.Sweeps.{AreEnough, AreInTime, IsRecoveryBySweeps};
+ghost use Rattle.ddcmp_recovery.specs.Sweeps.{AreEnough, AreAtOnce, AreInTime, IsRecoveryBySweeps};
 
 /// A line that loses nothing comes to rest. From two sound ends in any states, with anything in
 /// flight that comes whole: after enough sweeps nothing is in flight and neither end has a frame to
-/// send, and further sweeps leave it so. If received messages are taken in time, 32 * w + 26 sweeps
-/// are enough, w being the larger window, and 4 * w + 2 more for each item in flight.
+/// send, and further sweeps leave it so. Enough are twice as many as frames may be sent, and two.
+/// In numbers, w being the larger window, and with 4 * w + 2 more for each item in flight: if
+/// received messages are taken at once, so that there is room for all that arrives, 32 * w + 26
+/// sweeps; if a line that is under way has only room for a message whenever bytes arrive, 8 * w * w
+/// more.
 pub fn comes_to_rest()
     ensures rests { (sweeps : List (List EventValue)) (l : Line) → IsWhole l
         → IsLossFree (in_a_row sweeps) l → AreEnough sweeps l
@@ -22,8 +25,13 @@ pub fn comes_to_rest()
     ensures stays { (sweeps : List (List EventValue)) (l : Line) → IsAtRest l
         → IsLossFree (in_a_row sweeps) l → AreSweeps sweeps l
         → IsAtRest (run_on_line (in_a_row sweeps) l) }
-    ensures in_time { (sweeps : List (List EventValue)) (l : Line) → IsWhole l
-        → AreInTime sweeps l → AreEnough sweeps l }
+    ensures at_once { (sweeps : List (List EventValue)) (l : Line) → IsWhole l
+        → AreAtOnce sweeps l → AreEnough sweeps l }
+    ensures in_time { (first second : ConfigValue) (before : List EventValue)
+        (sweeps : List (List EventValue)) (l : Line)
+        → first_refusal first ≡ None → first_refusal second ≡ None
+        → run before (new_pair first second) ≡ l.pair → IsWhole l → IsUnderWay l
+        → IsLossFree (in_a_row sweeps) l → AreInTime sweeps l → AreEnough sweeps l }
 {}
 
 /// Two stations that any events led to and that are under way, over a line that loses nothing from
