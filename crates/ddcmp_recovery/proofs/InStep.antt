@@ -38,7 +38,7 @@ goes-append (event.Start e ∷ rest) second g h = absurd g
 goes-append (event.Halt e ∷ rest) second g h = absurd g
 goes-append (event.Clear ∷ rest) second g h = goes-append rest second g h
 
-loss-append : (first second : List Event) (l : Line) → IsLossFree first l
+pub loss-append : (first second : List Event) (l : Line) → IsLossFree first l
     → IsLossFree second (run_on_line first l) → IsLossFree (first ++ second) l
 unfolding run_on_line
 loss-append [] second l f g = g

@@ -411,7 +411,7 @@ most l h =
 
 -- ---- from the beginning
 
-nothing_comes : (config : Config) → ComesWhole (new_end config) []
+pub nothing_comes : (config : Config) → ComesWhole (new_end config) []
 nothing_comes config = record {
   closed = ap (λ (p : Place). length p.rest) (ending-nothing config.max);
   receivable =

@@ -383,7 +383,7 @@ no-frame (event.Send e m) rest l c r = absurd c
 no-frame (event.Expire e) rest l c r = absurd c
 no-frame event.Clear rest l c r = absurd c
 
-rest-stays : (events : List Event) (l : Line) → OnlyCarries events → IsLossFree events l
+pub rest-stays : (events : List Event) (l : Line) → OnlyCarries events → IsLossFree events l
     → IsAtRest l → IsAtRest (run_on_line events l)
 unfolding run_on_line
 rest-stays [] l c n r = r

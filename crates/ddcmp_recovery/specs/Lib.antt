@@ -4,3 +4,4 @@ pub mod Rests
 pub mod Delivers
 pub mod Sleep
 pub mod Sweeps
+pub mod SweepStory

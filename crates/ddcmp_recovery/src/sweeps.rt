@@ -1,5 +1,5 @@
 //! How soon a line without loss comes to rest.
-ghost use Rattle.std.specs.Prelude.{◌≡◌, List, None};
+ghost use Rattle.std.specs.Prelude.{◌≡◌, List, [], ◌∷◌, None};
 ghost use Rattle.ddcmp_proto.specs.Config.{first_refusal};
 ghost use Rattle.ddcmp_proto.specs.declared.config.Config.{Config as ConfigValue};
 ghost use Rattle.ddcmp_run.specs.Recovery.{IsDone};
@@ -8,6 +8,8 @@ ghost use Rattle.ddcmp_run.specs.declared.event.Event.{Event as EventValue};
 ghost use Rattle.ddcmp_recovery.specs.LossFree.{Line, IsLossFree, run_on_line, IsWhole};
 ghost use Rattle.ddcmp_recovery.specs.Rests.{IsUnderWay};
 ghost use Rattle.ddcmp_recovery.specs.Delivers.{IsAtRest};
+ghost use Rattle.ddcmp_laws.specs.Vectors.{abc};
+ghost use Rattle.ddcmp_recovery.specs.SweepStory.{after_loss, recovery_events};
 ghost use Rattle.ddcmp_recovery.specs.Sweeps.{IsSweep, sweep_of, AreSweeps, in_a_row};
 ghost use Rattle.ddcmp_recovery.specs.Sweeps.{AreEnough, AreAtOnce, AreInTime, IsRecoveryBySweeps};
 
@@ -50,4 +52,14 @@ pub fn sweeps_deliver()
 pub fn each_line_has_a_sweep()
     ensures sweep { (l : Line) → IsSweep (sweep_of l) l }
     ensures loss_free { (l : Line) → IsLossFree (sweep_of l) l }
+{}
+
+/// A message that was lost arrives, so that no law above holds because nothing can happen: two
+/// stations under way, a loss, and a list of events, written out, that is a recovery by sweeps.
+pub fn a_lost_message_arrives()
+    ensures whole { IsWhole after_loss }
+    ensures under_way { IsUnderWay after_loss }
+    ensures loss_free { IsLossFree recovery_events after_loss }
+    ensures recovers { IsRecoveryBySweeps recovery_events after_loss }
+    ensures arrives { (run_on_line recovery_events after_loss).pair.b.taken ≡ abc ∷ [] }
 {}
