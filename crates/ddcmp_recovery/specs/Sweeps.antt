@@ -1,5 +1,5 @@
--- Sweeps of a line: all that is in flight arrives, each end is asked for a frame, and received
--- messages are taken.
+-- Sweeps of a line: all that is in flight arrives, each end is polled, and received messages are
+-- taken.
 use Rattle.std.specs.Prelude.{◌≡◌, ◌⊎◌, ℕ, ◌+◌, ◌*◌, ◌≤◌, Bool, true, false, ◌||◌, List, [], ◌∷◌}
 use Rattle.std.specs.Prelude.{◌++◌, length}
 use Rattle.ddcmp_core.specs.declared.state.Timer.TheVariants.{Off}
@@ -36,7 +36,7 @@ unfoldable pub bytes_brought : End → List Event → ℕ
 bytes_brought end [] = 0
 bytes_brought end (e ∷ rest) = bytes_to end e + bytes_brought end rest
 
--- this end is asked for a frame
+-- this end is polled
 abbrev pub is_poll : End → Event → Bool
 is_poll A (event.Poll A) = true
 is_poll B (event.Poll B) = true
@@ -48,7 +48,7 @@ is_asked end [] = false
 is_asked end (e ∷ rest) = is_poll end e || is_asked end rest
 
 -- A sweep: in any order, and in pieces of any cut, all that was in flight as it began arrives and
--- each end is asked for a frame at least once. More may arrive, and messages may be taken.
+-- each end is polled at least once. More may arrive, and messages may be taken.
 pub record IsSweep (events : List Event) (l : Line) : Type 0 where
   pub carries : OnlyCarries events
   pub all_to_a : length l.to_a ≤ bytes_brought A events
@@ -66,7 +66,7 @@ unfoldable pub in_a_row : List (List Event) → List Event
 in_a_row [] = []
 in_a_row (sweep ∷ rest) = sweep ++ in_a_row rest
 
--- The shortest: what is in flight to each end arrives at once, and then each is asked.
+-- The shortest: what is in flight to each end arrives at once, and then each is polled.
 abbrev pub sweep_of : Line → List Event
 sweep_of l =
     event.Arrive A l.to_a ∷ event.Arrive B l.to_b ∷ event.Poll A ∷ event.Poll B ∷ []
@@ -74,13 +74,13 @@ sweep_of l =
 -- ---- how many are enough
 
 -- Twice as many as frames may be sent, and two more: the frames are the price of the line and, for
--- each NAK that says that there was no room, the window that it sends again.
+-- each NAK of a full inbox, the window that is retransmitted.
 pub record AreEnough (sweeps : List (List Event)) (l : Line) : Type 0 where
   pub each : AreSweeps sweeps l
   pub enough : 2 * (price (larger_window l.pair) l
       + added (larger_window l.pair) (in_a_row sweeps) l.pair) + 2 ≤ length sweeps
 
--- As bytes arrive, the inbox has room for a message.
+-- as bytes arrive, the inbox has room for a message
 abbrev pub FindsRoom : Event → PairState → Type 0
 FindsRoom (event.Arrive e bytes) p = has_room (at e p).core.limits (at e p).core.station ≡ true
 FindsRoom e p = Unit {0}
@@ -97,7 +97,7 @@ pub record AreInTime (sweeps : List (List Event)) (l : Line) : Type 0 where
   pub enough : 8 * larger_window l.pair * larger_window l.pair + 32 * larger_window l.pair + 26
       + (4 * larger_window l.pair + 2) * items_on_way l ≤ length sweeps
 
--- As bytes arrive, the inbox has room for as many messages as items come.
+-- as bytes arrive, the inbox has room for as many messages as items come
 abbrev pub HasRoomForAll : List ℕ → EndState → Type 0
 HasRoomForAll bytes x =
     length x.core.station.inbox + length (items_added x.core.limits.longest x.arrived bytes)
@@ -122,13 +122,13 @@ pub record AreAtOnce (sweeps : List (List Event)) (l : Line) : Type 0 where
 
 -- ---- a round
 
--- the timer of this end runs out among these events, or it is off as they begin
+-- the timer of this end expires among these events, or it is off as they begin
 abbrev pub RunsOutOrIsOff : End → List Event → PairState → Type 0
 RunsOutOrIsOff end events p =
     (runs_out end events ≡ true) ⊎ ((at end p).core.station.timer ≡ Off)
 
--- A round by sweeps: among some events, by which no end starts or halts, the timer of each end runs
--- out, where it isn't off; and then come sweeps enough.
+-- A round by sweeps: some events, by which no end starts or halts and the timer of each end expires,
+-- unless it is off; and then enough sweeps.
 pub record IsRoundBySweeps (waking : List Event) (sweeps : List (List Event)) (l : Line)
     : Type 0 where
   pub goes_on : GoesOn waking
@@ -140,7 +140,7 @@ pub record IsRoundBySweeps (waking : List Event) (sweeps : List (List Event)) (l
 abbrev pub after_round : List Event → List (List Event) → Line → Line
 after_round waking sweeps l = run_on_line (in_a_row sweeps) (run_on_line waking l)
 
--- These events are a recovery by sweeps: sweeps enough, and two rounds.
+-- These events are a recovery by sweeps: enough sweeps, and two rounds.
 pub record IsRecoveryBySweeps (events : List Event) (l : Line) : Type 0 where
   pub sweeps : List (List Event)
   pub once : List Event

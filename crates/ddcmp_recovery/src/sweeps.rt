@@ -48,7 +48,7 @@ pub fn sweeps_deliver()
 {}
 
 /// Each line has sweeps, so that no law above holds because there are none: what is in flight to
-/// each end arrives, and then each is asked for a frame.
+/// each end arrives, and then each is polled.
 pub fn each_line_has_a_sweep()
     ensures sweep { (l : Line) → IsSweep (sweep_of l) l }
     ensures loss_free { (l : Line) → IsLossFree (sweep_of l) l }
