@@ -24,10 +24,11 @@ use Rattle.ddcmp_run.specs.InOrder.{IsRun}
 use Rattle.ddcmp_run.specs.Recovery.{IsDone}
 use Rattle.ddcmp_run.specs.Run.{EndState, PairState, line_bytes, run, new_pair}
 use Rattle.ddcmp_run.proofs.Runs.{run-append}
-use Rattle.ddcmp_recovery.specs.LossFree.{Line, bytes_or_none, after_on_line, ComesFirst}
+use Rattle.ddcmp_recovery.specs.LossFree.{Line, bytes_or_none, ComesFirst}
 use Rattle.ddcmp_recovery.specs.LossFree.{IsLossFree, run_on_line, IsWhole}
 use Rattle.ddcmp_recovery.specs.Rests.{IsUnderWay}
 use Rattle.ddcmp_recovery.specs.Sweeps.{IsRecoveryBySweeps}
+use Rattle.ddcmp_recovery.proofs.InStep.{loss-append, line-append}
 use Rattle.ddcmp_recovery.proofs.SweepRounds.{deliver, run-pair}
 use Rattle.ddcmp_callers.specs.Calls.{Call, Poll, Expire, Arm, after_arm_here, run_calls, noted}
 use Rattle.ddcmp_callers.specs.Calls.{events_of, events_in}
@@ -46,18 +47,6 @@ use Rattle.ddcmp_callers.proofs.TwoLinks.{AreSame, steps_same}
 use Rattle.ddcmp_callers.proofs.Sleeping.{delivered_same, delivered_links}
 
 -- ---- lists
-
-loss-append : (first second : List Event) (l : Line) → IsLossFree first l
-    → IsLossFree second (run_on_line first l) → IsLossFree (first ++ second) l
-unfolding run_on_line
-loss-append [] second l f g = g
-loss-append (e ∷ first) second l f g = (f.0, loss-append first second (after_on_line e l) f.1 g)
-
-line-append : (first second : List Event) (l : Line)
-    → run_on_line (first ++ second) l ≡ run_on_line second (run_on_line first l)
-unfolding run_on_line
-line-append [] second l = refl
-line-append (e ∷ first) second l = line-append first second (after_on_line e l)
 
 events-append : (a b : List (End × Call)) → events_in (a ++ b) ≡ events_in a ++ events_in b
 unfolding events_in

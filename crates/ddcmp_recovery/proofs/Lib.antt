@@ -12,7 +12,7 @@ mod Acting
 mod Staying
 mod Delivering
 mod Rounding
-mod InStep
+pub mod InStep
 pub mod Waiting
 mod Sweeping
 mod Timely
