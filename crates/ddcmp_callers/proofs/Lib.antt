@@ -13,3 +13,4 @@ pub mod LinkCalls
 pub mod TwoLinks
 pub mod Sleeping
 pub mod LinkRules
+pub mod LinkRecovery

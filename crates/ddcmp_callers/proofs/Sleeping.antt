@@ -94,7 +94,7 @@ quiet x h s z = by (held (frame_of_link h.link) h.link.station.core.limits h.lin
     by (inr f) = inr f
 
 -- what is delivered stays so, but for the note of a started timer
-delivered_same : (x y u v : EndState) → after_arm_here x ≡ after_arm_here u
+pub delivered_same : (x y u v : EndState) → after_arm_here x ≡ after_arm_here u
     → after_arm_here y ≡ after_arm_here v → IsDelivered u v → IsDelivered x y
 delivered_same x y u v e f d = record {
   runs = ap (λ (z : EndState). z.core.station.state) e ∙ d.runs;
@@ -105,7 +105,7 @@ delivered_same x y u v e f d = record {
       ∙ sym (ap (λ (z : EndState). length z.given) e);
 }
 
-delivered_links : (x y : EndState) (h k : LinkHistory) → IsSameEnd x h → IsSameEnd y k
+pub delivered_links : (x y : EndState) (h k : LinkHistory) → IsSameEnd x h → IsSameEnd y k
     → IsDelivered x y → LinkIsDelivered h k
 delivered_links x y h k s t d = record {
   runs = sym (ap (λ (c : CoreView). c.station.state) s.core) ∙ d.runs;

@@ -105,7 +105,7 @@ unfolding run_calls after_calls_here
 runs_b P [] rest p more = more p refl refl
 runs_b P (c ∷ calls) rest p more = runs_b P calls rest (after_call B c p) more
 
-steps_same : (steps : List (End × LinkStep)) (q : Links) (p : PairState) → AreSame p q
+pub steps_same : (steps : List (End × LinkStep)) (q : Links) (p : PairState) → AreSame p q
     → AreLinkCalls steps q → AreSame (run_calls (calls_of_steps steps q) p) (after_steps steps q)
 unfolding calls_of_steps run_calls after_steps
 steps_same [] q p s o = s

@@ -6,3 +6,4 @@ pub mod Links
 pub mod LinkLines
 pub mod LinkRules
 pub mod LinkStory
+pub mod LinkSweeps

@@ -3,7 +3,7 @@ use Rattle.std.specs.Prelude.{◌≡◌, true, ◌++◌}
 use Rattle.ddcmp_core.specs.Naks.{subtype_of}
 use Rattle.ddcmp_core.specs.Table.{Frame, Naked, next, after_next}
 use Rattle.ddcmp_proto.specs.Bytes.{frame_on_line}
-use Rattle.ddcmp_link.specs.Linking.{LinkView, puts_frame}
+use Rattle.ddcmp_station.specs.Linking.{LinkView, puts_frame}
 use Rattle.ddcmp_callers.specs.Links.{LinkCall, Wakes}
 
 -- a NAK for want of a buffer, which has the SUBTYPE 8

@@ -5,6 +5,7 @@
 pub mod calls;
 pub mod link_steps;
 pub mod links;
+pub mod recovering;
 pub mod rules;
 pub mod served;
 pub mod streams;

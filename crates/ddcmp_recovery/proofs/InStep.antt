@@ -27,7 +27,7 @@ use Rattle.ddcmp_recovery.proofs.Settling.{drop_front}
 
 -- ---- one list behind another
 
-goes-append : (first second : List Event) → GoesOn first → GoesOn second → GoesOn (first ++ second)
+pub goes-append : (first second : List Event) → GoesOn first → GoesOn second → GoesOn (first ++ second)
 goes-append [] second g h = h
 goes-append (event.Poll e ∷ rest) second g h = goes-append rest second g h
 goes-append (event.Arrive e bytes ∷ rest) second g h = goes-append rest second g h
@@ -38,13 +38,13 @@ goes-append (event.Start e ∷ rest) second g h = absurd g
 goes-append (event.Halt e ∷ rest) second g h = absurd g
 goes-append (event.Clear ∷ rest) second g h = goes-append rest second g h
 
-loss-append : (first second : List Event) (l : Line) → IsLossFree first l
+pub loss-append : (first second : List Event) (l : Line) → IsLossFree first l
     → IsLossFree second (run_on_line first l) → IsLossFree (first ++ second) l
 unfolding run_on_line
 loss-append [] second l f g = g
 loss-append (e ∷ first) second l f g = (f.0, loss-append first second (after_on_line e l) f.1 g)
 
-line-append : (first second : List Event) (l : Line)
+pub line-append : (first second : List Event) (l : Line)
     → run_on_line (first ++ second) l ≡ run_on_line second (run_on_line first l)
 unfolding run_on_line
 line-append [] second l = refl

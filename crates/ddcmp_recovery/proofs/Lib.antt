@@ -12,5 +12,8 @@ mod Acting
 mod Staying
 mod Delivering
 mod Rounding
-mod InStep
+pub mod InStep
 pub mod Waiting
+mod Sweeping
+mod Timely
+pub mod SweepRounds

@@ -237,7 +237,7 @@ pub record Settles (w : ℕ) (l : Line) : Type 0 where
 
 pub record Stepped (w : ℕ) (e : Event) (l : Line) : Type 0 where
   pub kept : Settles w (after_on_line e l)
-  falls : frames_of (reply_to e l.pair) + price w (after_on_line e l)
+  pub falls : frames_of (reply_to e l.pair) + price w (after_on_line e l)
       ≤ price w l + added_by w e l.pair
 
 longest_same : (bytes : List ℕ) (x : EndState)
@@ -352,7 +352,7 @@ all_steps w (e ∷ rest) l n h =
     omega (arith, f, m') in
     all
 
-run_keeps : (w : ℕ) (events : List Event) (l : Line) → IsLossFree events l → Settles w l
+pub run_keeps : (w : ℕ) (events : List Event) (l : Line) → IsLossFree events l → Settles w l
     → Settles w (run_on_line events l)
 unfolding run_on_line
 run_keeps w [] l n h = h
@@ -411,7 +411,7 @@ most l h =
 
 -- ---- from the beginning
 
-nothing_comes : (config : Config) → ComesWhole (new_end config) []
+pub nothing_comes : (config : Config) → ComesWhole (new_end config) []
 nothing_comes config = record {
   closed = ap (λ (p : Place). length p.rest) (ending-nothing config.max);
   receivable =

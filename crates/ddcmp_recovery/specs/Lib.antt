@@ -3,3 +3,5 @@ pub mod Price
 pub mod Rests
 pub mod Delivers
 pub mod Sleep
+pub mod Sweeps
+pub mod SweepStory

@@ -6,3 +6,4 @@ pub mod delivers;
 pub mod rests;
 pub mod settles;
 pub mod sleep;
+pub mod sweeps;
