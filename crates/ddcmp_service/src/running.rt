@@ -654,7 +654,7 @@ impl Desk {
         clock: &mut C,
         end: u64,
     ) -> Result<(), Stop> {
-        let mut idle = 0;
+        let mut idle = 0u8;
         for _write in 0..u64::MAX {
             self.hand_mail();
             if self.said.is_empty() {
@@ -666,7 +666,7 @@ impl Desk {
             }
             let left = end.saturating_sub(clock.now());
             if left == 0 {
-                idle += 1;
+                idle = idle.saturating_add(1);
             }
             if idle > MOST_IDLE || !waiting.wait(Wanted::OUTPUT, left.max(END_MS)) {
                 return Err(Stop::Time);
