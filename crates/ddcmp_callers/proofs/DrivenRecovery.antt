@@ -166,7 +166,7 @@ part-does : (end : End) (part : TurnPart) (q r : PairState) (l : DrivenLine) →
 part-does A part q r l t u = part-does-a part q r l t u
 part-does B part q r l t u = part-does-b part q r l t u
 
-part-ties : (end : End) (part : TurnPart) (q : PairState) (l : DrivenLine) → Tied q l.a l.b
+pub part-ties : (end : End) (part : TurnPart) (q : PairState) (l : DrivenLine) → Tied q l.a l.b
     → Tied (run (events_in (at_one end (calls_of_part part (driven_at end l)))) q)
     (after_on_driven end part l).a (after_on_driven end part l).b
 part-ties A part q l t = part-a part q l.a l.b t
@@ -174,7 +174,7 @@ part-ties B part q l t = part-b part q l.a l.b t
 
 -- ---- any parts
 
-ties : (parts : List (End × TurnPart)) (q : PairState) (l : DrivenLine) → Tied q l.a l.b
+pub ties : (parts : List (End × TurnPart)) (q : PairState) (l : DrivenLine) → Tied q l.a l.b
     → Tied (run (events_of_parts parts l) q) (run_on_driven parts l).a (run_on_driven parts l).b
 unfolding events_of_parts run_on_driven run
 ties [] q l t = t
@@ -186,16 +186,16 @@ ties (step ∷ rest) q l t =
     (sym (run-append es (events_of_parts rest m) q))
     (ties rest (run es q) m (part-ties step.0 step.1 q l t))
 
-record Follows (parts : List (End × TurnPart)) (q : PairState) (l : DrivenLine) : Type 0 where
-  loss_free : IsLossFree (events_of_parts parts l) (line_of_driven q l)
-  leads : run_on_line (events_of_parts parts l) (line_of_driven q l)
+pub record Follows (parts : List (End × TurnPart)) (q : PairState) (l : DrivenLine) : Type 0 where
+  pub loss_free : IsLossFree (events_of_parts parts l) (line_of_driven q l)
+  pub leads : run_on_line (events_of_parts parts l) (line_of_driven q l)
       ≡ line_of_driven (run (events_of_parts parts l) q) (run_on_driven parts l)
 
 line-is : (n : Line) (q : PairState) (l : DrivenLine) → n.pair ≡ q → n.to_a ≡ l.to_a
     → n.to_b ≡ l.to_b → n ≡ line_of_driven q l
 line-is n q l e f g = λ i. record { pair = e i; to_a = f i; to_b = g i }
 
-follows : (parts : List (End × TurnPart)) (q : PairState) (l : DrivenLine) → Tied q l.a l.b
+pub follows : (parts : List (End × TurnPart)) (q : PairState) (l : DrivenLine) → Tied q l.a l.b
     → TurnsLoseNothing parts l → Follows parts q l
 unfolding events_of_parts run_on_line run_on_driven run
 follows [] q l t n = record { loss_free = tt; leads = refl }
@@ -290,7 +290,7 @@ module _ (one two : Config) (ms other_ms : ℕ) (before : List (End × TurnPart)
   unfolding run after_event
   starts = refl
 
-  tied-so-far : Tied q l.a l.b
+  pub tied-so-far : Tied q l.a l.b
   tied-so-far =
       subst (λ (r : PairState). Tied r (run_on_driven before fresh).a (run_on_driven before fresh).b)
       (ap (λ (r : PairState). run (events_of_parts before fresh) r) (sym starts)

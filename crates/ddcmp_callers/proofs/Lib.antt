@@ -17,3 +17,4 @@ pub mod LinkRecovery
 pub mod TurnTies
 pub mod DrivenRecovery
 pub mod TurnSweeps
+pub mod TurnRooms

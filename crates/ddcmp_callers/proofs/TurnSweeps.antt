@@ -1,6 +1,6 @@
 -- Turns in which nothing but frames and bytes move are a sweep.
 use Rattle.std.proofs.Common.{◌≡◌, ℕ, ◌+◌, ◌≤◌, Bool, true, false, cond, List, [], ◌∷◌, ◌++◌, length}
-use Rattle.std.proofs.Common.{zero, suc, replicate, refl, sym, ◌∙◌, ap, subst, arith, Option}
+use Rattle.std.proofs.Common.{zero, suc, replicate, refl, sym, ◌∙◌, ap, subst, arith}
 use Rattle.std.specs.Prelude.{◌&&◌, ◌||◌}
 use Rattle.ddcmp_core.specs.declared.state.Timer.{Timer}
 use Rattle.ddcmp_core.specs.declared.state.Timer.TheVariants.{Off, Fresh, On}
@@ -12,9 +12,9 @@ use Rattle.ddcmp_run.specs.declared.event.End.TheVariants.{A, B}
 use Rattle.ddcmp_run.specs.declared.event.Event.{Event}
 use Rattle.ddcmp_run.specs.declared.event.Event.TheVariants as event
 use Rattle.ddcmp_run.specs.Run.{PairState}
-use Rattle.ddcmp_recovery.specs.Sweeps.{OnlyCarries, bytes_to, bytes_brought, is_poll, is_asked}
+use Rattle.ddcmp_recovery.specs.Sweeps.{OnlyCarries, bytes_brought, is_poll, is_asked}
 use Rattle.ddcmp_recovery.specs.Sweeps.{IsSweep}
-use Rattle.ddcmp_callers.specs.Calls.{Call, Send, Poll, Arrive, Expire, Take, Arm, events_in}
+use Rattle.ddcmp_callers.specs.Calls.{Send, Poll, Expire, Take, Arm, events_in}
 use Rattle.ddcmp_callers.specs.DrivenSweeps.{TurnPart, Writes, Reads, Again, DrivenEnd, DrivenLine}
 use Rattle.ddcmp_callers.specs.DrivenSweeps.{driven_at, after_on_driven, calls_of_part}
 use Rattle.ddcmp_callers.specs.DrivenSweeps.{events_of_parts, line_of_driven, IsQuietTurn, IsQuiet}

@@ -1,10 +1,11 @@
 -- Two driven stations over lines that lose nothing from some moment on: what is in flight between
 -- them, and when all is delivered.
-use Rattle.std.specs.Prelude.{◌≡◌, ℕ, ◌+◌, ◌≤◌, Bool, true, false, ◌||◌, if◌then◌else◌, List, []}
+use Rattle.std.specs.Prelude.{◌≡◌, ℕ, ◌+◌, ◌*◌, ◌≤◌, max, Bool, true, false, ◌||◌, if◌then◌else◌, List, []}
 use Rattle.std.specs.Prelude.{◌∷◌, ◌++◌, length, drop, None}
 use Rattle.ddcmp_core.specs.Core.{CoreView}
 use Rattle.ddcmp_core.specs.declared.state.State.TheVariants.{Running}
 use Rattle.ddcmp_core.specs.Table.{may_send, next, next_frame}
+use Rattle.ddcmp_proto.specs.Bytes.{items_added}
 use Rattle.ddcmp_proto.specs.Config.{first_refusal}
 use Rattle.ddcmp_proto.specs.declared.config.Config.{Config}
 use Rattle.ddcmp_station.specs.Driving.{DriveTurn, Driving, deadline_at, expires_at}
@@ -222,3 +223,37 @@ pub record IsSweepOfTurns (parts : List (End × TurnPart)) (l : DrivenLine) : Ty
   pub all_to_b : length l.to_b ≤ bytes_read_at B parts
   pub turn_a : is_driven_in A parts ≡ true
   pub turn_b : is_driven_in B parts ≡ true
+
+-- ---- how many are enough
+
+-- one sweep after another
+abbrev pub AreSweepsOfTurns : List (List (End × TurnPart)) → DrivenLine → Type 0
+AreSweepsOfTurns [] l = Unit {0}
+AreSweepsOfTurns (sweep ∷ rest) l =
+    IsSweepOfTurns sweep l × AreSweepsOfTurns rest (run_on_driven sweep l)
+
+-- their parts of turns
+unfoldable pub turns_in_a_row : List (List (End × TurnPart)) → List (End × TurnPart)
+turns_in_a_row [] = []
+turns_in_a_row (sweep ∷ rest) = sweep ++ turns_in_a_row rest
+
+-- the events that sweeps are
+unfoldable pub events_of_sweeps : List (List (End × TurnPart)) → DrivenLine → List (List Event)
+events_of_sweeps [] l = []
+events_of_sweeps (sweep ∷ rest) l =
+    events_of_parts sweep l ∷ events_of_sweeps rest (run_on_driven sweep l)
+
+-- the larger window, and the number of items in flight
+abbrev pub window_of : DrivenLine → ℕ
+window_of l = max l.a.driving.core.limits.window l.b.driving.core.limits.window
+
+abbrev pub items_in_flight : DrivenLine → ℕ
+items_in_flight l =
+    length (items_added l.a.driving.core.limits.longest l.a.driving.text l.to_a)
+    + length (items_added l.b.driving.core.limits.longest l.b.driving.text l.to_b)
+
+-- Sweeps of turns, as many as are enough for the line to come to rest.
+pub record AreEnoughTurns (sweeps : List (List (End × TurnPart))) (l : DrivenLine) : Type 0 where
+  pub each : AreSweepsOfTurns sweeps l
+  pub enough : 8 * window_of l * window_of l + 32 * window_of l + 26
+      + (4 * window_of l + 2) * items_in_flight l ≤ length sweeps
