@@ -154,10 +154,10 @@ driven_once first second a b calls h =
 
 -- ---- after turns no mail is left
 
-abbrev IsTaken : CoreView → Type 0
+abbrev pub IsTaken : CoreView → Type 0
 IsTaken k = k.station.inbox ≡ []
 
-taken_timer : (now : ℕ) (deadline : Option ℕ) (k : CoreView) → IsTaken k
+pub taken_timer : (now : ℕ) (deadline : Option ℕ) (k : CoreView) → IsTaken k
     → IsTaken (core_at_deadline now deadline k)
 taken_timer now deadline k e = by (is_on k.station.timer && is_due now deadline)
   where
@@ -165,7 +165,7 @@ taken_timer now deadline k e = by (is_on k.station.timer && is_due now deadline)
     by true = expired-inbox k.station ∙ e
     by false = e
 
-taken_message : (offered : List ℕ) (k : CoreView) → IsTaken k
+pub taken_message : (offered : List ℕ) (k : CoreView) → IsTaken k
     → IsTaken (core_after_message offered k)
 taken_message offered k e = by (may_send k.limits k.station offered)
   where

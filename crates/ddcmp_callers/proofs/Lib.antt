@@ -14,3 +14,7 @@ pub mod TwoLinks
 pub mod Sleeping
 pub mod LinkRules
 pub mod LinkRecovery
+pub mod TurnTies
+pub mod DrivenRecovery
+pub mod TurnSweeps
+pub mod TurnRooms

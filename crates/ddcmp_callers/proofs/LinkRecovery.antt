@@ -48,7 +48,7 @@ use Rattle.ddcmp_callers.proofs.Sleeping.{delivered_same, delivered_links}
 
 -- ---- lists
 
-events-append : (a b : List (End × Call)) → events_in (a ++ b) ≡ events_in a ++ events_in b
+pub events-append : (a b : List (End × Call)) → events_in (a ++ b) ≡ events_in a ++ events_in b
 unfolding events_in
 events-append [] b = refl
 events-append (c ∷ a) b =

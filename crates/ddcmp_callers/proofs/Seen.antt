@@ -36,7 +36,7 @@ handed_of_mail : (o : Option (List ℕ))
 handed_of_mail None = refl
 handed_of_mail (Some m) = refl
 
-handed_of_offer : (asked : Bool) (room : ℕ) (message : List ℕ)
+pub handed_of_offer : (asked : Bool) (room : ℕ) (message : List ℕ)
     → handed_to (cond asked (Asked room message ∷ []) []) ≡ []
 handed_of_offer true room message = refl
 handed_of_offer false room message = refl
@@ -49,7 +49,7 @@ told_of_mail : (o : Option (List ℕ)) → acknowledged_to (map Handed (option_t
 told_of_mail None = refl
 told_of_mail (Some m) = refl
 
-told_of_offer : (asked : Bool) (room : ℕ) (message : List ℕ)
+pub told_of_offer : (asked : Bool) (room : ℕ) (message : List ℕ)
     → acknowledged_to (cond asked (Asked room message ∷ []) []) ≡ 0
 told_of_offer true room message = refl
 told_of_offer false room message = refl
@@ -108,7 +108,7 @@ grown true true given m = refl
 grown true false given m = sym (append-nil given)
 grown false fit given m = sym (append-nil given)
 
-send_given : (l : Limits) (s : StationState) (given : List (List ℕ)) (m : List ℕ)
+pub send_given : (l : Limits) (s : StationState) (given : List (List ℕ)) (m : List ℕ)
     → cond (may_send l s m) (given ++ m ∷ []) given
     ≡ given
     ++ accepted_from
@@ -174,7 +174,7 @@ call_acknowledged Ask x = omega arith
 
 -- ---- calls
 
-lists_more : (f : UserCall → List (List ℕ)) (before : List (List ℕ)) (a b : List UserCall)
+pub lists_more : (f : UserCall → List (List ℕ)) (before : List (List ℕ)) (a b : List UserCall)
     → (before ++ flat_map f a) ++ flat_map f b ≡ before ++ flat_map f (a ++ b)
 lists_more f before a b =
     append_assoc before (flat_map f a) (flat_map f b)
@@ -198,7 +198,7 @@ seen_taken (c ∷ rest) x =
     ∙ ap (λ y. y ++ handed_to (shown_in rest (after_call_here c x))) (call_taken c x)
     ∙ lists_more handed_of x.taken (shown_by c x) (shown_in rest (after_call_here c x))
 
-counts_more : (n : ℕ) (a b : List UserCall)
+pub counts_more : (n : ℕ) (a b : List UserCall)
     → n + acknowledged_to a + acknowledged_to b ≡ n + acknowledged_to (a ++ b)
 counts_more n a b =
     let e =

@@ -301,7 +301,7 @@ module _ (came : List ℕ) (x : EndState) (deadline : Option ℕ) (before : List
       ap (λ y. calls_of_notices (notices_of_piece x.arrived came x.core) ++ y)
       (mail_shown fed.core.station.inbox fed)
 
-  went_read : Went (calls_of_read came (at_end x deadline before seen)) x before seen
+  pub went_read : Went (calls_of_read came (at_end x deadline before seen)) x before seen
       (after_read came (at_end x deadline before seen))
   went_read = record {
     deadline = deadline;

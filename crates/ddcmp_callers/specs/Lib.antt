@@ -7,3 +7,4 @@ pub mod LinkLines
 pub mod LinkRules
 pub mod LinkStory
 pub mod LinkSweeps
+pub mod DrivenSweeps

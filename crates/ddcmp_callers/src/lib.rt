@@ -3,6 +3,7 @@
 #![tactic(auto)]
 
 pub mod calls;
+pub mod drives_recover;
 pub mod link_steps;
 pub mod links;
 pub mod recovering;
