@@ -305,7 +305,7 @@ module _ (one two : Config) (ms other_ms : ℕ) (before : List (End × TurnPart)
         noted_same = refl;
       }))
 
-  is_run : IsRun q
+  pub is_run : IsRun q
   is_run = record {
     first = one;
     second = two;

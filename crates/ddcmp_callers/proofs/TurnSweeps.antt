@@ -51,7 +51,7 @@ brings-append end [] second = omega arith
 brings-append end (e ∷ first) second =
     let i = brings-append end first second in omega (arith, i)
 
-or-three : (a b c : Bool) → (a || (b || c)) ≡ ((a || b) || c)
+pub or-three : (a b c : Bool) → (a || (b || c)) ≡ ((a || b) || c)
 or-three true b c = refl
 or-three false b c = refl
 
@@ -106,7 +106,7 @@ takes-carry B (suc n) =
       asks_b = c.asks_b;
     }
 
-armed-is-on : (t : Timer) → is_on (cond (is_fresh t) On t) ≡ is_on t
+pub armed-is-on : (t : Timer) → is_on (cond (is_fresh t) On t) ≡ is_on t
 armed-is-on Off = refl
 armed-is-on Fresh = refl
 armed-is-on On = refl

@@ -1,9 +1,10 @@
 -- Two driven stations over lines that lose nothing from some moment on: what is in flight between
 -- them, and when all is delivered.
-use Rattle.std.specs.Prelude.{◌≡◌, ℕ, ◌+◌, ◌*◌, ◌≤◌, max, Bool, true, false, ◌||◌, if◌then◌else◌, List, []}
+use Rattle.std.specs.Prelude.{◌≡◌, ◌⊎◌, ℕ, ◌+◌, ◌*◌, ◌≤◌, max, Bool, true, false, ◌||◌, if◌then◌else◌, List, []}
 use Rattle.std.specs.Prelude.{◌∷◌, ◌++◌, length, drop, None}
 use Rattle.ddcmp_core.specs.Core.{CoreView}
 use Rattle.ddcmp_core.specs.declared.state.State.TheVariants.{Running}
+use Rattle.ddcmp_core.specs.declared.state.Timer.TheVariants.{Off}
 use Rattle.ddcmp_core.specs.Table.{may_send, next, next_frame}
 use Rattle.ddcmp_proto.specs.Bytes.{items_added}
 use Rattle.ddcmp_proto.specs.Config.{first_refusal}
@@ -257,3 +258,48 @@ pub record AreEnoughTurns (sweeps : List (List (End × TurnPart))) (l : DrivenLi
   pub each : AreSweepsOfTurns sweeps l
   pub enough : 8 * window_of l * window_of l + 32 * window_of l + 26
       + (4 * window_of l + 2) * items_in_flight l ≤ length sweeps
+
+-- ---- a recovery
+
+-- the timer of this end expires in a turn
+abbrev pub expires_by : End → End → TurnPart → DrivenEnd → Bool
+expires_by A A (Writes turn) x =
+    expires_at x.milliseconds turn.now x.driving.core.station.timer x.driving.deadline
+expires_by B B (Writes turn) x =
+    expires_at x.milliseconds turn.now x.driving.core.station.timer x.driving.deadline
+expires_by _ _ part x = false
+
+-- among these parts of turns
+unfoldable pub expires_in : End → List (End × TurnPart) → DrivenLine → Bool
+expires_in end [] l = false
+expires_in end (step ∷ rest) l =
+    expires_by end step.0 step.1 (driven_at step.0 l)
+    || expires_in end rest (after_on_driven step.0 step.1 l)
+
+-- or it is off as they begin
+abbrev pub ExpiresOrIsOff : End → List (End × TurnPart) → DrivenLine → Type 0
+ExpiresOrIsOff end parts l =
+    (expires_in end parts l ≡ true)
+    ⊎ ((driven_at end l).driving.core.station.timer ≡ Off)
+
+-- A round of turns: turns in which the timer of each end expires, unless it is off, and messages
+-- may be accepted; and then enough sweeps.
+pub record IsRoundOfTurns (waking : List (End × TurnPart)) (sweeps : List (List (End × TurnPart)))
+    (l : DrivenLine) : Type 0 where
+  pub timer_a : ExpiresOrIsOff A waking l
+  pub timer_b : ExpiresOrIsOff B waking l
+  pub enough : AreEnoughTurns sweeps (run_on_driven waking l)
+
+-- These turns are a recovery: enough sweeps, and two rounds.
+pub record IsRecoveryOfTurns (parts : List (End × TurnPart)) (l : DrivenLine) : Type 0 where
+  pub sweeps : List (List (End × TurnPart))
+  pub once : List (End × TurnPart)
+  pub more : List (List (End × TurnPart))
+  pub twice : List (End × TurnPart)
+  pub last : List (List (End × TurnPart))
+  pub parts_are : parts ≡ turns_in_a_row sweeps
+      ++ (once ++ (turns_in_a_row more ++ (twice ++ turns_in_a_row last)))
+  pub enough : AreEnoughTurns sweeps l
+  pub first_round : IsRoundOfTurns once more (run_on_driven (turns_in_a_row sweeps) l)
+  pub second_round : IsRoundOfTurns twice last
+      (run_on_driven (turns_in_a_row sweeps ++ (once ++ turns_in_a_row more)) l)
