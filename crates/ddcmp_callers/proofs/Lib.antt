@@ -19,3 +19,4 @@ pub mod DrivenRecovery
 pub mod TurnSweeps
 pub mod TurnRooms
 pub mod TurnRounds
+pub mod TurnsGoOn

@@ -1,7 +1,7 @@
 -- Two driven stations over lines that lose nothing from some moment on: what is in flight between
 -- them, and when all is delivered.
-use Rattle.std.specs.Prelude.{◌≡◌, ◌⊎◌, ℕ, ◌+◌, ◌*◌, ◌≤◌, max, Bool, true, false, ◌||◌, if◌then◌else◌, List, []}
-use Rattle.std.specs.Prelude.{◌∷◌, ◌++◌, length, drop, None}
+use Rattle.std.specs.Prelude.{◌≡◌, ◌⊎◌, ℕ, ◌+◌, ◌*◌, ◌<◌, ◌≤◌, max, Bool, true, false, ◌||◌, if◌then◌else◌, List, []}
+use Rattle.std.specs.Prelude.{◌∷◌, ◌++◌, length, drop, Some, None}
 use Rattle.ddcmp_core.specs.Core.{CoreView}
 use Rattle.ddcmp_core.specs.declared.state.State.TheVariants.{Running}
 use Rattle.ddcmp_core.specs.declared.state.Timer.TheVariants.{Off}
@@ -224,6 +224,20 @@ pub record IsSweepOfTurns (parts : List (End × TurnPart)) (l : DrivenLine) : Ty
   pub all_to_b : length l.to_b ≤ bytes_read_at B parts
   pub turn_a : is_driven_in A parts ≡ true
   pub turn_b : is_driven_in B parts ≡ true
+
+-- The shortest: each reads what is in flight to it, and then has a turn at this moment in which its
+-- user offers nothing.
+abbrev pub sweep_at : ℕ → DrivenLine → List (End × TurnPart)
+sweep_at now l =
+    (A, Reads l.to_a) ∷ (B, Reads l.to_b)
+    ∷ (A, Writes (record { now = now; offered = []; came = [] }))
+    ∷ (B, Writes (record { now = now; offered = []; came = [] })) ∷ []
+
+-- a moment before the deadline of an end, where one is set, and of which a clock can tell a later
+pub record IsEarly (now : ℕ) (x : DrivenEnd) : Type 0 where
+  pub waits : 1 ≤ x.milliseconds
+  pub later : now < 18446744073709551615
+  pub before : (moment : ℕ) → x.driving.deadline ≡ Some moment → now < moment
 
 -- ---- how many are enough
 

@@ -1,5 +1,5 @@
 //! Two driven stations over lines that lose nothing from some moment on.
-ghost use Rattle.std.specs.Prelude.{◌≡◌, List};
+ghost use Rattle.std.specs.Prelude.{◌≡◌, ℕ, List};
 ghost use Rattle.ddcmp_station.specs.Driving.{DriveTurn, after_turn};
 ghost use Rattle.ddcmp_run.specs.declared.event.End.{End as EndValue};
 ghost use Rattle.ddcmp_run.specs.Run.{PairState, run};
@@ -10,7 +10,8 @@ ghost use Rattle.ddcmp_callers.specs.DrivenSweeps.{DrivenLine, TurnsLoseNothing}
 ghost use Rattle.ddcmp_callers.specs.DrivenSweeps.{run_on_driven, events_of_parts, line_of_driven};
 ghost use Rattle.ddcmp_callers.specs.DrivenSweeps.{IsKeptWhileDriven, DrivenAreDone};
 ghost use Rattle.ddcmp_callers.specs.DrivenSweeps.{IsSweepOfTurns, AreEnoughTurns, turns_in_a_row};
-ghost use Rattle.ddcmp_callers.specs.DrivenSweeps.{events_of_sweeps, IsRecoveryOfTurns};
+ghost use Rattle.ddcmp_callers.specs.DrivenSweeps.{events_of_sweeps, IsRecoveryOfTurns, IsEarly};
+ghost use Rattle.ddcmp_callers.specs.DrivenSweeps.{sweep_at};
 
 use ddcmp_recovery::rests::is_ready_in_any_order;
 use ddcmp_recovery::settles::settles_in_any_order;
@@ -38,6 +39,14 @@ pub fn turns_lose_nothing()
 pub fn turns_are_a_sweep()
     ensures { (parts : List (EndValue × TurnPart)) (p : PairState) (l : DrivenLine)
         → IsSweepOfTurns parts l → IsSweep (events_of_parts parts l) (line_of_driven p l) }
+{}
+
+/// Each line has sweeps of turns, before the deadlines: each station reads what is in flight to it,
+/// and has a turn in which its user offers nothing.
+pub fn each_line_has_a_sweep_of_turns()
+    ensures sweep { (now : ℕ) (l : DrivenLine) → IsEarly now l.a → IsEarly now l.b
+        → IsSweepOfTurns (sweep_at now l) l }
+    ensures loss_free { (now : ℕ) (l : DrivenLine) → TurnsLoseNothing (sweep_at now l) l }
 {}
 
 /// Each turn hands up all mail, so there is room for a message whenever bytes are read. So sweeps of
