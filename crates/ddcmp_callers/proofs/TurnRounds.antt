@@ -280,7 +280,8 @@ module _ (one two : Config) (f : first_refusal one ≡ None) (g : first_refusal 
       let l4 = run_on_driven z.twice l3 in
       let there : run_on_driven (row ++ (z.once ++ row')) l ≡ l3 =
       driven-append row (z.once ++ row') l ∙ driven-append z.once row' l1 in
-      let second = subst (λ (k : DrivenLine). IsRoundOfTurns z.twice z.last k) there z.second_round in
+      let second =
+      subst (λ (k : DrivenLine). IsRoundOfTurns z.twice z.last k) there z.second_round in
       let one' = swept z.sweeps q l h s.0 in
       let rounded : after_round (events_of_parts z.once l1) (events_of_sweeps z.more l2)
       (run_on_line (in_a_row (events_of_sweeps z.sweeps l)) (line_of_driven q l))
@@ -312,11 +313,13 @@ module _ (one two : Config) (f : first_refusal one ≡ None) (g : first_refusal 
         enough = enough z.sweeps q l h s.0 z.enough;
         first_round =
             subst
-            (λ (k : Line). IsRoundBySweeps (events_of_parts z.once l1) (events_of_sweeps z.more l2) k)
+            (λ (k : Line). IsRoundBySweeps (events_of_parts z.once l1)
+            (events_of_sweeps z.more l2) k)
             (sym one') (round z.once z.more q1 l1 h1 s1.0 s2.0 z.first_round);
         second_round =
             subst
-            (λ (k : Line). IsRoundBySweeps (events_of_parts z.twice l3) (events_of_sweeps z.last l4) k)
+            (λ (k : Line). IsRoundBySweeps (events_of_parts z.twice l3)
+            (events_of_sweeps z.last l4) k)
             (sym rounded) (round z.twice z.last q3 l3 h3 s3.0 s3.1 second);
       }
 

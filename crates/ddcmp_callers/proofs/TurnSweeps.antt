@@ -1,6 +1,6 @@
 -- Turns in which nothing but frames and bytes move are a sweep.
-use Rattle.std.proofs.Common.{◌≡◌, ℕ, ◌+◌, ◌≤◌, Bool, true, false, cond, List, [], ◌∷◌, ◌++◌, length}
-use Rattle.std.proofs.Common.{zero, suc, replicate, refl, sym, ◌∙◌, ap, subst, arith}
+use Rattle.std.proofs.Common.{◌≡◌, ℕ, ◌+◌, ◌≤◌, Bool, true, false, cond, List, [], ◌∷◌, ◌++◌}
+use Rattle.std.proofs.Common.{length, zero, suc, replicate, refl, sym, ◌∙◌, ap, subst, arith}
 use Rattle.std.specs.Prelude.{◌&&◌, ◌||◌}
 use Rattle.ddcmp_core.specs.declared.state.Timer.{Timer}
 use Rattle.ddcmp_core.specs.declared.state.Timer.TheVariants.{Off, Fresh, On}
@@ -83,7 +83,8 @@ carries-then first second k m n o a b c d f s = record {
 
 -- ---- a part of a turn
 
-takes-carry : (end : End) (n : ℕ) → Carries (events_in (at_one end (replicate n Take))) 0 0 false false
+takes-carry : (end : End) (n : ℕ)
+    → Carries (events_in (at_one end (replicate n Take))) 0 0 false false
 unfolding events_in bytes_brought is_asked
 takes-carry end zero =
     record { only = tt; brings_a = refl; brings_b = refl; asks_a = refl; asks_b = refl }
@@ -123,7 +124,8 @@ quiet-calls turn x h =
 
 poll-carries : (end : End) (turn : DriveTurn)
     → Carries (events_in (at_one end (Arm ∷ Poll ∷ []))) (bytes_read_by A end (Writes turn))
-    (bytes_read_by B end (Writes turn)) (has_turn A end (Writes turn)) (has_turn B end (Writes turn))
+    (bytes_read_by B end (Writes turn)) (has_turn A end (Writes turn))
+    (has_turn B end (Writes turn))
 unfolding events_in bytes_brought is_asked
 poll-carries A turn =
     record { only = tt; brings_a = refl; brings_b = refl; asks_a = refl; asks_b = refl }

@@ -44,8 +44,8 @@ idle now came x e =
     let k = before_offer y.milliseconds turn y.driving in
     record {
       timer =
-          stays-on x.milliseconds now y.driving.core.station.timer x.driving.deadline e.waits e.later
-          e.before;
+          stays-on x.milliseconds now y.driving.core.station.timer x.driving.deadline e.waits
+          e.later e.before;
       message = empty-refused k.limits k.station;
     }
 

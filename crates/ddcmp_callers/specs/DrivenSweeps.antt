@@ -1,7 +1,7 @@
 -- Two driven stations over lines that lose nothing from some moment on: what is in flight between
 -- them, and when all is delivered.
-use Rattle.std.specs.Prelude.{◌≡◌, ◌⊎◌, ℕ, ◌+◌, ◌*◌, ◌<◌, ◌≤◌, max, Bool, true, false, ◌||◌, if◌then◌else◌, List, []}
-use Rattle.std.specs.Prelude.{◌∷◌, ◌++◌, length, drop, Some, None}
+use Rattle.std.specs.Prelude.{◌≡◌, ◌⊎◌, ℕ, ◌+◌, ◌*◌, ◌<◌, ◌≤◌, max, Bool, true, false, ◌||◌}
+use Rattle.std.specs.Prelude.{if◌then◌else◌, List, [], ◌∷◌, ◌++◌, length, drop, Some, None}
 use Rattle.ddcmp_core.specs.Core.{CoreView}
 use Rattle.ddcmp_core.specs.declared.state.State.TheVariants.{Running}
 use Rattle.ddcmp_core.specs.declared.state.Timer.TheVariants.{Off}
@@ -10,8 +10,8 @@ use Rattle.ddcmp_proto.specs.Bytes.{items_added}
 use Rattle.ddcmp_proto.specs.Config.{first_refusal}
 use Rattle.ddcmp_proto.specs.declared.config.Config.{Config}
 use Rattle.ddcmp_station.specs.Driving.{DriveTurn, Driving, deadline_at, expires_at}
-use Rattle.ddcmp_station.specs.Driving.{core_after_take_arm, before_offer, before_frame, frame_bytes}
-use Rattle.ddcmp_station.specs.Driving.{before_read, after_read}
+use Rattle.ddcmp_station.specs.Driving.{core_after_take_arm, before_offer, before_frame}
+use Rattle.ddcmp_station.specs.Driving.{frame_bytes, before_read, after_read}
 use Rattle.ddcmp_run.specs.declared.event.End.{End}
 use Rattle.ddcmp_run.specs.declared.event.End.TheVariants.{A, B}
 use Rattle.ddcmp_run.specs.declared.event.Event.{Event}
@@ -147,7 +147,8 @@ abbrev pub pair_after : Config → Config → List (End × TurnPart) → DrivenL
 pair_after first second before l =
     run (event.Start A ∷ event.Start B ∷ events_of_parts before l) (new_pair first second)
 
--- two stations that are such a pair, if what is in flight comes whole, and they are under way
+-- It holds of two driven stations and their pair, if what is in flight comes whole, and they are
+-- under way.
 abbrev pub KeepsFrom : (Line → DrivenLine → Type 0) → PairState → DrivenLine → Type 0
 KeepsFrom Promise p l =
     IsWhole (line_of_driven p l) → IsUnderWay (line_of_driven p l)

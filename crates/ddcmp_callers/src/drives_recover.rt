@@ -49,9 +49,9 @@ pub fn each_line_has_a_sweep_of_turns()
     ensures loss_free { (now : ℕ) (l : DrivenLine) → TurnsLoseNothing (sweep_at now l) l }
 {}
 
-/// Each turn hands up all mail, so there is room for a message whenever bytes are read. So sweeps of
-/// turns, as many as `AreEnoughTurns` says, are in time, and by `comes_to_rest` the line comes to
-/// rest.
+/// Each turn hands up all mail, so there is room for a message whenever bytes are read. So sweeps
+/// of turns, as many as `AreEnoughTurns` says, are in time, and by `comes_to_rest` the line comes
+/// to rest.
 pub fn turns_are_in_time()
     ensures { IsKeptWhileDriven (λ line l. (sweeps : List (List (EndValue × TurnPart)))
         → TurnsLoseNothing (turns_in_a_row sweeps) l → AreEnoughTurns sweeps l
