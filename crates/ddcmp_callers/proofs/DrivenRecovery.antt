@@ -292,7 +292,8 @@ module _ (one two : Config) (ms other_ms : ℕ) (before : List (End × TurnPart)
 
   pub tied-so-far : Tied q l.a l.b
   tied-so-far =
-      subst (λ (r : PairState). Tied r (run_on_driven before fresh).a (run_on_driven before fresh).b)
+      subst
+      (λ (r : PairState). Tied r (run_on_driven before fresh).a (run_on_driven before fresh).b)
       (ap (λ (r : PairState). run (events_of_parts before fresh) r) (sym starts)
       ∙ sym
       (run-append (event.Start A ∷ event.Start B ∷ []) (events_of_parts before fresh)
@@ -305,7 +306,7 @@ module _ (one two : Config) (ms other_ms : ℕ) (before : List (End × TurnPart)
         noted_same = refl;
       }))
 
-  is_run : IsRun q
+  pub is_run : IsRun q
   is_run = record {
     first = one;
     second = two;

@@ -18,3 +18,5 @@ pub mod TurnTies
 pub mod DrivenRecovery
 pub mod TurnSweeps
 pub mod TurnRooms
+pub mod TurnRounds
+pub mod TurnsGoOn

@@ -31,7 +31,7 @@ use Rattle.ddcmp_callers.proofs.TwoLinks.{AreSame, clean, ends}
 
 -- ---- of one link
 
-same_off : (t u : Timer) → note t ≡ note u → t ≡ Off → u ≡ Off
+pub same_off : (t u : Timer) → note t ≡ note u → t ≡ Off → u ≡ Off
 same_off t Off e f = refl
 same_off t Fresh e f = absurd (let z = ap note f in cc (e, z))
 same_off t On e f = absurd (let z = ap note f in cc (e, z))

@@ -29,11 +29,11 @@ use Rattle.ddcmp_callers.proofs.DrivenRecovery.{part-ties, ties, follows, tied-s
 
 -- ---- room for a message
 
-record Rooms (q : PairState) : Type 0 where
-  a : 1 ≤ q.a.core.limits.room
-  b : 1 ≤ q.b.core.limits.room
+pub record Rooms (q : PairState) : Type 0 where
+  pub a : 1 ≤ q.a.core.limits.room
+  pub b : 1 ≤ q.b.core.limits.room
 
-rooms-stay : (events : List Event) (q : PairState) → Rooms q → Rooms (run events q)
+pub rooms-stay : (events : List Event) (q : PairState) → Rooms q → Rooms (run events q)
 rooms-stay events q r = record {
   a = subst (λ (k : Limits). 1 ≤ k.room) (sym (run-limits events q A)) r.a;
   b = subst (λ (k : Limits). 1 ≤ k.room) (sym (run-limits events q B)) r.b;
@@ -107,7 +107,7 @@ parts-time (step ∷ rest) q l t r =
 
 -- ---- sweeps
 
-turns-split : (first second : List (End × TurnPart)) (l : DrivenLine)
+pub turns-split : (first second : List (End × TurnPart)) (l : DrivenLine)
     → TurnsLoseNothing (first ++ second) l
     → TurnsLoseNothing first l × TurnsLoseNothing second (run_on_driven first l)
 unfolding run_on_driven
@@ -156,25 +156,9 @@ needed k m x y to_a to_b =
 has-inbox : (config : Config) → first_refusal config ≡ None → 1 ≤ config.inbox
 has-inbox config f = grind (arith, f)
 
-module _ (one two : Config) (ms other_ms : ℕ) (before : List (End × TurnPart))
-    (to_a to_b : List ℕ) (f : first_refusal one ≡ None) (g : first_refusal two ≡ None) where
-  abbrev fresh : DrivenLine
-  fresh = new_driven one ms two other_ms
+-- ---- anywhere
 
-  abbrev q : PairState
-  q = pair_after one two before fresh
-
-  abbrev l : DrivenLine
-  l = driven_after before fresh to_a to_b
-
-  tied : Tied q l.a l.b
-  tied = tied-so-far one two ms other_ms before to_a to_b f g
-
-  roomy : Rooms q
-  roomy =
-      rooms-stay (event.Start A ∷ event.Start B ∷ events_of_parts before fresh) (new_pair one two)
-      (record { a = has-inbox one f; b = has-inbox two g })
-
+module _ (q : PairState) (l : DrivenLine) (tied : Tied q l.a l.b) (roomy : Rooms q) where
   limits-a : l.a.driving.core.limits ≡ q.a.core.limits
   limits-a =
       ap (λ (d : DrivenEnd). d.driving.core.limits) tied.at_a.is
@@ -195,19 +179,44 @@ module _ (one two : Config) (ms other_ms : ℕ) (before : List (End × TurnPart)
       ap (λ (d : DrivenEnd). d.driving.text) tied.at_b.is
       ∙ ap (λ (p : PairState). p.b.arrived) tied.noted_same
 
-  pub in-time : (rows : List (List (End × TurnPart))) → TurnsLoseNothing (turns_in_a_row rows) l
+  pub in-time-there : (rows : List (List (End × TurnPart)))
+      → TurnsLoseNothing (turns_in_a_row rows) l
       → AreEnoughTurns rows l → AreInTime (events_of_sweeps rows l) (line_of_driven q l)
   unfolding needed
-  in-time rows n e =
+  in-time-there rows n e =
       let r = are-rows rows q l tied roomy n e.each in
       let same : needed l.a.driving.core.limits l.b.driving.core.limits l.a.driving.text
-      l.b.driving.text to_a to_b
-      ≡ needed q.a.core.limits q.b.core.limits q.a.arrived q.b.arrived to_a to_b =
-      λ i. needed (limits-a i) (limits-b i) (text-a i) (text-b i) to_a to_b in
+      l.b.driving.text l.to_a l.to_b
+      ≡ needed q.a.core.limits q.b.core.limits q.a.arrived q.b.arrived l.to_a l.to_b =
+      λ i. needed (limits-a i) (limits-b i) (text-a i) (text-b i) l.to_a l.to_b in
       record {
         each = r.each;
         taken = r.taken;
         enough =
-            subst (λ m. needed q.a.core.limits q.b.core.limits q.a.arrived q.b.arrived to_a to_b ≤ m)
+            subst
+            (λ m. needed q.a.core.limits q.b.core.limits q.a.arrived q.b.arrived l.to_a l.to_b ≤ m)
             (sym (as-many rows l)) (subst (λ m. m ≤ length rows) same e.enough);
       }
+
+-- ---- from two new stations
+
+module _ (one two : Config) (ms other_ms : ℕ) (before : List (End × TurnPart))
+    (to_a to_b : List ℕ) (f : first_refusal one ≡ None) (g : first_refusal two ≡ None) where
+  abbrev fresh : DrivenLine
+  fresh = new_driven one ms two other_ms
+
+  abbrev q : PairState
+  q = pair_after one two before fresh
+
+  abbrev l : DrivenLine
+  l = driven_after before fresh to_a to_b
+
+  pub roomy-so-far : Rooms q
+  roomy-so-far =
+      rooms-stay (event.Start A ∷ event.Start B ∷ events_of_parts before fresh) (new_pair one two)
+      (record { a = has-inbox one f; b = has-inbox two g })
+
+  pub in-time : (rows : List (List (End × TurnPart))) → TurnsLoseNothing (turns_in_a_row rows) l
+      → AreEnoughTurns rows l → AreInTime (events_of_sweeps rows l) (line_of_driven q l)
+  in-time rows n e =
+      in-time-there q l (tied-so-far one two ms other_ms before to_a to_b f g) roomy-so-far rows n e

@@ -1,6 +1,6 @@
 -- Turns in which nothing but frames and bytes move are a sweep.
-use Rattle.std.proofs.Common.{◌≡◌, ℕ, ◌+◌, ◌≤◌, Bool, true, false, cond, List, [], ◌∷◌, ◌++◌, length}
-use Rattle.std.proofs.Common.{zero, suc, replicate, refl, sym, ◌∙◌, ap, subst, arith}
+use Rattle.std.proofs.Common.{◌≡◌, ℕ, ◌+◌, ◌≤◌, Bool, true, false, cond, List, [], ◌∷◌, ◌++◌}
+use Rattle.std.proofs.Common.{length, zero, suc, replicate, refl, sym, ◌∙◌, ap, subst, arith}
 use Rattle.std.specs.Prelude.{◌&&◌, ◌||◌}
 use Rattle.ddcmp_core.specs.declared.state.Timer.{Timer}
 use Rattle.ddcmp_core.specs.declared.state.Timer.TheVariants.{Off, Fresh, On}
@@ -51,7 +51,7 @@ brings-append end [] second = omega arith
 brings-append end (e ∷ first) second =
     let i = brings-append end first second in omega (arith, i)
 
-or-three : (a b c : Bool) → (a || (b || c)) ≡ ((a || b) || c)
+pub or-three : (a b c : Bool) → (a || (b || c)) ≡ ((a || b) || c)
 or-three true b c = refl
 or-three false b c = refl
 
@@ -83,7 +83,8 @@ carries-then first second k m n o a b c d f s = record {
 
 -- ---- a part of a turn
 
-takes-carry : (end : End) (n : ℕ) → Carries (events_in (at_one end (replicate n Take))) 0 0 false false
+takes-carry : (end : End) (n : ℕ)
+    → Carries (events_in (at_one end (replicate n Take))) 0 0 false false
 unfolding events_in bytes_brought is_asked
 takes-carry end zero =
     record { only = tt; brings_a = refl; brings_b = refl; asks_a = refl; asks_b = refl }
@@ -106,7 +107,7 @@ takes-carry B (suc n) =
       asks_b = c.asks_b;
     }
 
-armed-is-on : (t : Timer) → is_on (cond (is_fresh t) On t) ≡ is_on t
+pub armed-is-on : (t : Timer) → is_on (cond (is_fresh t) On t) ≡ is_on t
 armed-is-on Off = refl
 armed-is-on Fresh = refl
 armed-is-on On = refl
@@ -123,7 +124,8 @@ quiet-calls turn x h =
 
 poll-carries : (end : End) (turn : DriveTurn)
     → Carries (events_in (at_one end (Arm ∷ Poll ∷ []))) (bytes_read_by A end (Writes turn))
-    (bytes_read_by B end (Writes turn)) (has_turn A end (Writes turn)) (has_turn B end (Writes turn))
+    (bytes_read_by B end (Writes turn)) (has_turn A end (Writes turn))
+    (has_turn B end (Writes turn))
 unfolding events_in bytes_brought is_asked
 poll-carries A turn =
     record { only = tt; brings_a = refl; brings_b = refl; asks_a = refl; asks_b = refl }

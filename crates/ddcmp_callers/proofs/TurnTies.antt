@@ -8,7 +8,8 @@ use Rattle.ddcmp_core.proofs.Sent.{sending}
 use Rattle.ddcmp_proto.specs.Bytes.{frame_on_line, after_poll}
 use Rattle.ddcmp_station.specs.UserCalls.{UserCall, calls_of_offer, is_user_asked}
 use Rattle.ddcmp_station.specs.Driving.{DriveTurn, Driving, deadline_at, core_after_take_arm}
-use Rattle.ddcmp_station.specs.Driving.{core_at_deadline, core_after_message, frame_bytes, after_read}
+use Rattle.ddcmp_station.specs.Driving.{core_at_deadline, core_after_message, frame_bytes}
+use Rattle.ddcmp_station.specs.Driving.{after_read}
 use Rattle.ddcmp_run.specs.declared.event.End.{End}
 use Rattle.ddcmp_run.specs.declared.event.End.TheVariants.{A, B}
 use Rattle.ddcmp_run.specs.Run.{EndState, PairState, line_bytes, run}
@@ -393,4 +394,5 @@ bytes-are x y d s e =
     ∙ ap (λ f. frame_bytes y.syn f) (frame_armed y.core.station)
     ∙ sym (ap (λ (z : EndState). frame_bytes z.syn (next_frame (next z.core.station))) e)
     ∙ ap (λ f. frame_bytes x.syn f) (sym (frame_armed x.core.station))
-    ∙ sym (ap (λ (c : DrivenEnd). frame_bytes c.syn (next_frame (next c.driving.core.station))) s.is)
+    ∙ sym
+    (ap (λ (c : DrivenEnd). frame_bytes c.syn (next_frame (next c.driving.core.station))) s.is)

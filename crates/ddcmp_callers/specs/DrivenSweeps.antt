@@ -1,16 +1,17 @@
 -- Two driven stations over lines that lose nothing from some moment on: what is in flight between
 -- them, and when all is delivered.
-use Rattle.std.specs.Prelude.{◌≡◌, ℕ, ◌+◌, ◌*◌, ◌≤◌, max, Bool, true, false, ◌||◌, if◌then◌else◌, List, []}
-use Rattle.std.specs.Prelude.{◌∷◌, ◌++◌, length, drop, None}
+use Rattle.std.specs.Prelude.{◌≡◌, ◌⊎◌, ℕ, ◌+◌, ◌*◌, ◌<◌, ◌≤◌, max, Bool, true, false, ◌||◌}
+use Rattle.std.specs.Prelude.{if◌then◌else◌, List, [], ◌∷◌, ◌++◌, length, drop, Some, None}
 use Rattle.ddcmp_core.specs.Core.{CoreView}
 use Rattle.ddcmp_core.specs.declared.state.State.TheVariants.{Running}
+use Rattle.ddcmp_core.specs.declared.state.Timer.TheVariants.{Off}
 use Rattle.ddcmp_core.specs.Table.{may_send, next, next_frame}
 use Rattle.ddcmp_proto.specs.Bytes.{items_added}
 use Rattle.ddcmp_proto.specs.Config.{first_refusal}
 use Rattle.ddcmp_proto.specs.declared.config.Config.{Config}
 use Rattle.ddcmp_station.specs.Driving.{DriveTurn, Driving, deadline_at, expires_at}
-use Rattle.ddcmp_station.specs.Driving.{core_after_take_arm, before_offer, before_frame, frame_bytes}
-use Rattle.ddcmp_station.specs.Driving.{before_read, after_read}
+use Rattle.ddcmp_station.specs.Driving.{core_after_take_arm, before_offer, before_frame}
+use Rattle.ddcmp_station.specs.Driving.{frame_bytes, before_read, after_read}
 use Rattle.ddcmp_run.specs.declared.event.End.{End}
 use Rattle.ddcmp_run.specs.declared.event.End.TheVariants.{A, B}
 use Rattle.ddcmp_run.specs.declared.event.Event.{Event}
@@ -146,7 +147,8 @@ abbrev pub pair_after : Config → Config → List (End × TurnPart) → DrivenL
 pair_after first second before l =
     run (event.Start A ∷ event.Start B ∷ events_of_parts before l) (new_pair first second)
 
--- two stations that are such a pair, if what is in flight comes whole, and they are under way
+-- It holds of two driven stations and their pair, if what is in flight comes whole, and they are
+-- under way.
 abbrev pub KeepsFrom : (Line → DrivenLine → Type 0) → PairState → DrivenLine → Type 0
 KeepsFrom Promise p l =
     IsWhole (line_of_driven p l) → IsUnderWay (line_of_driven p l)
@@ -224,6 +226,20 @@ pub record IsSweepOfTurns (parts : List (End × TurnPart)) (l : DrivenLine) : Ty
   pub turn_a : is_driven_in A parts ≡ true
   pub turn_b : is_driven_in B parts ≡ true
 
+-- The shortest: each reads what is in flight to it, and then has a turn at this moment in which its
+-- user offers nothing.
+abbrev pub sweep_at : ℕ → DrivenLine → List (End × TurnPart)
+sweep_at now l =
+    (A, Reads l.to_a) ∷ (B, Reads l.to_b)
+    ∷ (A, Writes (record { now = now; offered = []; came = [] }))
+    ∷ (B, Writes (record { now = now; offered = []; came = [] })) ∷ []
+
+-- a moment before the deadline of an end, where one is set, and of which a clock can tell a later
+pub record IsEarly (now : ℕ) (x : DrivenEnd) : Type 0 where
+  pub waits : 1 ≤ x.milliseconds
+  pub later : now < 18446744073709551615
+  pub before : (moment : ℕ) → x.driving.deadline ≡ Some moment → now < moment
+
 -- ---- how many are enough
 
 -- one sweep after another
@@ -257,3 +273,48 @@ pub record AreEnoughTurns (sweeps : List (List (End × TurnPart))) (l : DrivenLi
   pub each : AreSweepsOfTurns sweeps l
   pub enough : 8 * window_of l * window_of l + 32 * window_of l + 26
       + (4 * window_of l + 2) * items_in_flight l ≤ length sweeps
+
+-- ---- a recovery
+
+-- the timer of this end expires in a turn
+abbrev pub expires_by : End → End → TurnPart → DrivenEnd → Bool
+expires_by A A (Writes turn) x =
+    expires_at x.milliseconds turn.now x.driving.core.station.timer x.driving.deadline
+expires_by B B (Writes turn) x =
+    expires_at x.milliseconds turn.now x.driving.core.station.timer x.driving.deadline
+expires_by _ _ part x = false
+
+-- among these parts of turns
+unfoldable pub expires_in : End → List (End × TurnPart) → DrivenLine → Bool
+expires_in end [] l = false
+expires_in end (step ∷ rest) l =
+    expires_by end step.0 step.1 (driven_at step.0 l)
+    || expires_in end rest (after_on_driven step.0 step.1 l)
+
+-- or it is off as they begin
+abbrev pub ExpiresOrIsOff : End → List (End × TurnPart) → DrivenLine → Type 0
+ExpiresOrIsOff end parts l =
+    (expires_in end parts l ≡ true)
+    ⊎ ((driven_at end l).driving.core.station.timer ≡ Off)
+
+-- A round of turns: turns in which the timer of each end expires, unless it is off, and messages
+-- may be accepted; and then enough sweeps.
+pub record IsRoundOfTurns (waking : List (End × TurnPart)) (sweeps : List (List (End × TurnPart)))
+    (l : DrivenLine) : Type 0 where
+  pub timer_a : ExpiresOrIsOff A waking l
+  pub timer_b : ExpiresOrIsOff B waking l
+  pub enough : AreEnoughTurns sweeps (run_on_driven waking l)
+
+-- These turns are a recovery: enough sweeps, and two rounds.
+pub record IsRecoveryOfTurns (parts : List (End × TurnPart)) (l : DrivenLine) : Type 0 where
+  pub sweeps : List (List (End × TurnPart))
+  pub once : List (End × TurnPart)
+  pub more : List (List (End × TurnPart))
+  pub twice : List (End × TurnPart)
+  pub last : List (List (End × TurnPart))
+  pub parts_are : parts ≡ turns_in_a_row sweeps
+      ++ (once ++ (turns_in_a_row more ++ (twice ++ turns_in_a_row last)))
+  pub enough : AreEnoughTurns sweeps l
+  pub first_round : IsRoundOfTurns once more (run_on_driven (turns_in_a_row sweeps) l)
+  pub second_round : IsRoundOfTurns twice last
+      (run_on_driven (turns_in_a_row sweeps ++ (once ++ turns_in_a_row more)) l)

@@ -1,5 +1,5 @@
 //! Two driven stations over lines that lose nothing from some moment on.
-ghost use Rattle.std.specs.Prelude.{◌≡◌, List};
+ghost use Rattle.std.specs.Prelude.{◌≡◌, ℕ, List};
 ghost use Rattle.ddcmp_station.specs.Driving.{DriveTurn, after_turn};
 ghost use Rattle.ddcmp_run.specs.declared.event.End.{End as EndValue};
 ghost use Rattle.ddcmp_run.specs.Run.{PairState, run};
@@ -10,7 +10,12 @@ ghost use Rattle.ddcmp_callers.specs.DrivenSweeps.{DrivenLine, TurnsLoseNothing}
 ghost use Rattle.ddcmp_callers.specs.DrivenSweeps.{run_on_driven, events_of_parts, line_of_driven};
 ghost use Rattle.ddcmp_callers.specs.DrivenSweeps.{IsKeptWhileDriven, DrivenAreDone};
 ghost use Rattle.ddcmp_callers.specs.DrivenSweeps.{IsSweepOfTurns, AreEnoughTurns, turns_in_a_row};
-ghost use Rattle.ddcmp_callers.specs.DrivenSweeps.{events_of_sweeps};
+ghost use Rattle.ddcmp_callers.specs.DrivenSweeps.{events_of_sweeps, IsRecoveryOfTurns, IsEarly};
+ghost use Rattle.ddcmp_callers.specs.DrivenSweeps.{sweep_at};
+
+use ddcmp_recovery::rests::is_ready_in_any_order;
+use ddcmp_recovery::settles::settles_in_any_order;
+use ddcmp_recovery::sweeps::comes_to_rest;
 
 /// A turn of `drive` has two parts: up to its read, and the read.
 pub fn turns_have_two_parts()
@@ -36,9 +41,17 @@ pub fn turns_are_a_sweep()
         → IsSweepOfTurns parts l → IsSweep (events_of_parts parts l) (line_of_driven p l) }
 {}
 
-/// Each turn hands up all mail, so there is room for a message whenever bytes are read. So sweeps of
-/// turns are in time, and by `comes_to_rest` the line comes to rest after 8 * w * w + 32 * w + 26 of
-/// them, w being the larger window, and 4 * w + 2 more for each item in flight.
+/// Each line has sweeps of turns, before the deadlines: each station reads what is in flight to it,
+/// and has a turn in which its user offers nothing.
+pub fn each_line_has_a_sweep_of_turns()
+    ensures sweep { (now : ℕ) (l : DrivenLine) → IsEarly now l.a → IsEarly now l.b
+        → IsSweepOfTurns (sweep_at now l) l }
+    ensures loss_free { (now : ℕ) (l : DrivenLine) → TurnsLoseNothing (sweep_at now l) l }
+{}
+
+/// Each turn hands up all mail, so there is room for a message whenever bytes are read. So sweeps
+/// of turns, as many as `AreEnoughTurns` says, are in time, and by `comes_to_rest` the line comes
+/// to rest.
 pub fn turns_are_in_time()
     ensures { IsKeptWhileDriven (λ line l. (sweeps : List (List (EndValue × TurnPart)))
         → TurnsLoseNothing (turns_in_a_row sweeps) l → AreEnoughTurns sweeps l
@@ -54,3 +67,17 @@ pub fn driven_recover()
         → TurnsLoseNothing parts l → IsRecoveryBySweeps (events_of_parts parts l) line
         → DrivenAreDone (run_on_driven parts l)) }
 {}
+
+/// The same in turns: enough sweeps of turns, and two rounds, each of turns in which the timer of
+/// each expires by its clock, unless it is off, and of enough sweeps. Enough are
+/// 8 * w * w + 32 * w + 26 sweeps, w being the larger window, and 4 * w + 2 more for each item in
+/// flight as they begin. The body names the laws that it stands on.
+pub fn driven_recover_in_turns()
+    ensures { IsKeptWhileDriven (λ line l. (parts : List (EndValue × TurnPart))
+        → TurnsLoseNothing parts l → IsRecoveryOfTurns parts l
+        → DrivenAreDone (run_on_driven parts l)) }
+{
+    comes_to_rest();
+    is_ready_in_any_order();
+    settles_in_any_order();
+}
