@@ -325,6 +325,40 @@ def seconds_slow():
         wrong(f"status {link.run.returncode}: {link.errors()}")
 
 
+def seconds_flooded():
+    """A standard input that is written all the time doesn't end the patience with a slow output."""
+    reading, writing = os.pipe()
+    with server() as it:
+        link = Link(f"connect:127.0.0.1:{it.getsockname()[1]}", "--stay", "--seconds", "2", stdout=writing)
+        os.close(writing)
+        peer = Peer(it.accept()[0], good)
+    peer.runs()
+    sent = [drawn.randbytes(1500) for _ in range(60)]
+    for number, message in enumerate(sent, 1):
+        peer.send(data(message, number))
+        time.sleep(0.004)
+
+    def flood():
+        with contextlib.suppress(OSError):
+            while True:
+                link.run.stdin.write(b"61\n")
+                link.run.stdin.flush()
+                time.sleep(0.001)
+
+    threading.Thread(target=flood, daemon=True).start()
+    time.sleep(1.5)
+    out = b""
+    while piece := os.read(reading, 4096):
+        out += piece
+        time.sleep(0.05)
+    mails = [bytes.fromhex(it[5:].decode()) for it in out.split(b"\n")[:-1] if it.startswith(b"mail ")]
+    if mails != sent[:len(mails)] or len(mails) < 40 or not out.split(b"\n")[-2].startswith(b"state="):
+        wrong(f"{len(mails)} messages, {out[-100:]}")
+    link.ended(5)
+    if any("isn't read" in it for it in link.errors()):
+        wrong(f"{link.errors()}")
+
+
 def start_closed(words, closed):
     """A program that is started with these descriptors closed, and the others to nothing."""
     def close():
@@ -414,6 +448,6 @@ def closed_ends():
 
 
 TRIALS = [slow_reader, closed_output, idle, junk, errors_unread, errors_unread_and_timer, errors_unread_again,
-          stopped_output, stopped_terminal, stopped_device, full_output, seconds_unread, seconds_slow,
+          stopped_output, stopped_terminal, stopped_device, full_output, seconds_unread, seconds_slow, seconds_flooded,
           closed_one_or_two, closed_errors, closed_ends]
 LONG_TRIALS = []

@@ -32,12 +32,16 @@ const LINE_ROOM: usize = 512;
 /// The room for the last lines, with all counters.
 const END_ROOM: usize = 4096;
 
-/// How often an output may take nothing before what is queued for it is given up. Something else
-/// may end a wait.
+/// How often standard error may take nothing before what is queued for it is given up. Something
+/// else may end a wait.
 const MOST_IDLE: u8 = 3;
 
-/// How long an output may take nothing at the end of a run, in milliseconds, each of these times.
+/// How long standard error may take nothing at the end of a run, in milliseconds, each of these
+/// times.
 pub(crate) const END_MS: u64 = 250;
+
+/// How long standard output may take nothing once the time of the run is over, in milliseconds.
+const UNREAD_MS: u64 = 1000;
 
 /// The bytes of lines for standard error that are queued at most.
 const ERRORS_ROOM: usize = 65536;
@@ -645,8 +649,8 @@ impl Desk {
         }
     }
 
-    /// Writes all received messages and what else is queued for standard output. Once the run's
-    /// `end` has come, it gives up if nothing is taken for some times `END_MS` milliseconds.
+    /// Writes all received messages and what else is queued for standard output. After the run's
+    /// `end` it gives up once nothing was taken for `UNREAD_MS` milliseconds.
     pub(crate) fn drain_output<W: Sink, C: Clock>(
         &mut self,
         writer: &mut W,
@@ -654,22 +658,25 @@ impl Desk {
         clock: &mut C,
         end: u64,
     ) -> Result<(), Stop> {
-        let mut idle = 0u8;
+        let mut last = end.max(clock.now());
         for _write in 0..u64::MAX {
             self.hand_mail();
             if self.said.is_empty() {
                 break;
             }
-            if self.write_output(writer, waiting)? {
-                idle = 0;
+            let moved = self.write_output(writer, waiting)?;
+            let now = clock.now();
+            if moved {
+                last = end.max(now);
                 continue;
             }
-            let left = end.saturating_sub(clock.now());
+            // Something else may end a wait, so the clock tells how long nothing was taken.
+            let left = last.saturating_add(UNREAD_MS).saturating_sub(now);
             if left == 0 {
-                idle = idle.saturating_add(1);
-            }
-            if idle > MOST_IDLE || !waiting.wait(Wanted::OUTPUT, left.max(END_MS)) {
                 return Err(Stop::Time);
+            }
+            if !waiting.wait(Wanted::OUTPUT, left) {
+                return Err(Stop::Read);
             }
         }
         Ok(())
