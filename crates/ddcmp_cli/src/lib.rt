@@ -20,7 +20,7 @@ pub use ddcmp_explain::{
     explain_as, explain_dump, explain_fault, explain_with, explaining, form, notation, style,
 };
 pub use ddcmp_net::{SERVED_MAX, ServeFault, serve, serve_fault, serving};
-pub use ddcmp_service::{Options, Served as LinkServed, ServiceFault};
+pub use ddcmp_service::{LineName, Options, Served as LinkServed, ServiceFault};
 pub use ddcmp_tap::{TapFault, tap_fault};
 pub use ddcmp_words::{
     Command, Declined, Linked, Role, Served, Tapped, View, command, declined, linked, read_words,

@@ -15,11 +15,12 @@ const NO_LINE: &str =
     "'--line' is connect:HOST:PORT, listen:HOST:PORT, udp:LOCAL,REMOTE or device:PATH";
 
 /// The options of a link over this line.
-fn options_of<'a>(linked: &Linked<'a>, line: LineName<'a>) -> Options<'a> {
+fn options_of(linked: &Linked<'_>, line: LineName<'_>) -> Options {
     Options {
-        line,
         config: linked.config,
         timer_ms: linked.timer_ms,
+        attempts: linked.attempts,
+        linger_ms: linked.linger_ms,
         form: if linked.binary {
             Form::Binary
         } else {
@@ -30,6 +31,9 @@ fn options_of<'a>(linked: &Linked<'a>, line: LineName<'a>) -> Options<'a> {
         seconds: linked.seconds,
         counters: linked.counters,
         trace: linked.trace,
+        listens: matches!(line, LineName::Listen(_)),
+        datagrams: matches!(line, LineName::Udp { .. }),
+        connects: matches!(line, LineName::Connect(_) | LineName::Listen(_)),
     }
 }
 
@@ -54,7 +58,8 @@ pub trait Lines {
     fn serve_line<'a, R: Source, W: Sink>(
         &self,
         alloc: Global,
-        options: Options<'a>,
+        line: LineName<'a>,
+        options: Options,
         reader: &mut R,
         writer: &mut W,
     ) -> Result<Served, ServiceFault<'a>>
@@ -65,11 +70,12 @@ impl Lines for HostRuntime {
     fn serve_line<'a, R: Source, W: Sink>(
         &self,
         alloc: Global,
-        options: Options<'a>,
+        line: LineName<'a>,
+        options: Options,
         reader: &mut R,
         writer: &mut W,
     ) -> Result<Served, ServiceFault<'a>> {
-        serve_link(self, alloc, options, reader, writer)
+        serve_link(self, alloc, line, options, reader, writer)
     }
 }
 
@@ -88,7 +94,7 @@ pub(crate) fn link<S: Lines, R: Source, W: Sink>(
     let Some(line) = LineName::read(linked.line) else {
         return usage(alloc, NO_LINE);
     };
-    match system.serve_line(alloc, options_of(linked, line), reader, writer) {
+    match system.serve_line(alloc, line, options_of(linked, line), reader, writer) {
         Ok(Served::Delivered) => Ending::Done,
         Ok(Served::SomeRefused) => Ending::SomeRefused,
         Err(ServiceFault::Open(fault)) => no_line(alloc, &fault),

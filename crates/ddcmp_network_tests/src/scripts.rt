@@ -2,7 +2,7 @@
 // fails. What they write else is the matter of `worked_commands`.
 use crate::same::is;
 use ddcmp_cli::{
-    Connection, Connections, Ending, Fault, Inputs, Lines, LinkServed, Options, Role, ServiceFault,
+    Connection, Connections, Ending, Fault, Inputs, Lines, LinkServed, LineName, Options, Role, ServiceFault,
     run,
 };
 use ddcmp_frame::failing::{Pieces, Taken};
@@ -131,11 +131,12 @@ impl<S: Lines> Lines for Poor<'_, S> {
     fn serve_line<'a, R: Source, W: Sink>(
         &self,
         alloc: Global,
-        options: Options<'a>,
+        line: LineName<'a>,
+        options: Options,
         reader: &mut R,
         writer: &mut W,
     ) -> Result<LinkServed, ServiceFault<'a>> {
-        self.system.serve_line(alloc, options, reader, writer)
+        self.system.serve_line(alloc, line, options, reader, writer)
     }
 }
 

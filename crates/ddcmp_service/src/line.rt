@@ -1,5 +1,5 @@
 //! The line of a service: a socket or a device that is read and written without waiting.
-use crate::held::Held;
+use crate::chunk::Chunk;
 use crate::waiting::Waiting;
 use mio::net::{TcpStream, UdpSocket};
 use std::fs::File;
@@ -88,8 +88,8 @@ impl Line {
         matches!(self, Line::Datagrams(..))
     }
 
-    /// Reads what has come into the room at the end of what waits.
-    pub(crate) fn read(&mut self, waiting: &mut Waiting, came: &mut Held) -> Moved {
+    /// Reads what has come into an empty chunk.
+    pub(crate) fn read(&mut self, waiting: &mut Waiting, came: &mut Chunk) -> Moved {
         let got = match self {
             Line::Stream(stream) => read_by(stream.read(came.space())),
             Line::Datagrams(socket, remote) => {

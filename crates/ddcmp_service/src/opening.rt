@@ -1,5 +1,5 @@
 //! Opening the line that a name names.
-use crate::fault::Cause;
+use crate::fault::{Cause, NotOpened};
 use crate::line::Line;
 use crate::line_name::LineName;
 use crate::waiting::Waiting;
@@ -76,9 +76,9 @@ impl<'a> Opener<'a> {
         }
     }
 
-    /// Whether it takes one connection after the other.
-    pub(crate) fn is_listening(&self) -> bool {
-        self.listener.is_some()
+    /// Returns the fault of a line of this name that couldn't be opened.
+    pub(crate) fn fault(&self, refused: OpenRefusal) -> NotOpened<'a> {
+        self.name.not_opened(refused)
     }
 
     /// Listens if the line is one of whoever comes: returns the address.

@@ -142,6 +142,9 @@ has_options_as o p t u (Link linked) e w h = record {
   line = h.line ∙ ap (λ x. unwrap_or x []) (w (codes "line"));
   sizes = sizes_as (usual_syn_of linked.line.now) o p linked.config e h.sizes;
   timer_ms = subst (λ t. HasNumber 1 MOST 3000 t linked.timer_ms) (e (codes "timer-ms")) h.timer_ms;
+  attempts = subst (λ t. HasNumber 0 MOST MOST t linked.attempts) (e (codes "attempts")) h.attempts;
+  linger_ms =
+      subst (λ t. HasNumber 0 MOST 500 t linked.linger_ms) (e (codes "linger-ms")) h.linger_ms;
   seconds = subst (λ t. HasNumber 1 MOST MOST t linked.seconds) (e (codes "seconds")) h.seconds;
   binary = subst (λ t. HasFlag t linked.binary) (e (codes "binary")) h.binary;
   stay = subst (λ t. HasFlag t linked.stay) (e (codes "stay")) h.stay;

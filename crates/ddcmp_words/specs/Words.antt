@@ -124,9 +124,11 @@ line_app = with_rule (new_app (codes "link")) (required (text_rule (codes "line"
 
 abbrev pub link_app : App
 link_app =
-    with_rule (with_rule (with_rule (with_rule (with_rule (with_rule (with_rule
+    with_rule (with_rule (with_rule (with_rule (with_rule (with_rule (with_rule (with_rule (with_rule
     (with_sizes line_app)
     (number_rule (codes "timer-ms") 1 MOST))
+    (number_rule (codes "attempts") 0 MOST))
+    (number_rule (codes "linger-ms") 0 MOST))
     (number_rule (codes "seconds") 1 MOST))
     (flag_rule (codes "binary")))
     (flag_rule (codes "stay")))
@@ -275,6 +277,8 @@ pub record HasLink (option text : Text → Option Text) (linked : Linked) : Type
   pub line : linked.line.now ≡ unwrap_or (text (codes "line")) []
   pub sizes : HasSizes (usual_syn_of linked.line.now) option linked.config
   pub timer_ms : HasNumber 1 MOST 3000 (option (codes "timer-ms")) linked.timer_ms
+  pub attempts : HasNumber 0 MOST MOST (option (codes "attempts")) linked.attempts
+  pub linger_ms : HasNumber 0 MOST 500 (option (codes "linger-ms")) linked.linger_ms
   pub seconds : HasNumber 1 MOST MOST (option (codes "seconds")) linked.seconds
   pub binary : HasFlag (option (codes "binary")) linked.binary
   pub stay : HasFlag (option (codes "stay")) linked.stay

@@ -59,7 +59,7 @@ fn bare_command<'a>(alloc: Global) -> clap::Command<'a>
 }
 
 /// The options of a link beside its line and its sizes.
-static LINK_OPTIONS: [CommandOption; 7] = [
+static LINK_OPTIONS: [CommandOption; 9] = [
     CommandOption {
         name: "timer-ms",
         takes: Takes::Number {
@@ -68,6 +68,24 @@ static LINK_OPTIONS: [CommandOption; 7] = [
         },
         is_required: false,
         help: "Reply timer in milliseconds, from 1 [default: 3000]",
+    },
+    CommandOption {
+        name: "attempts",
+        takes: Takes::Number {
+            low: 0,
+            high: u32::MAX,
+        },
+        is_required: false,
+        help: "Leave a line after N tries without progress, 0: never [default: 7 to start]",
+    },
+    CommandOption {
+        name: "linger-ms",
+        takes: Takes::Number {
+            low: 0,
+            high: u32::MAX,
+        },
+        is_required: false,
+        help: "Once done, stay until nothing came for N milliseconds [default: 500]",
     },
     CommandOption {
         name: "seconds",
@@ -136,6 +154,8 @@ pub(crate) fn link_given<'a>(options: &ArgMatches<'a>) -> Linked<'a>
         line,
         config: sizes_given(options, usual_syn(line)),
         timer_ms: number_given(options, "timer-ms", 1, u32::MAX, 3000),
+        attempts: number_given(options, "attempts", 0, u32::MAX, u32::MAX),
+        linger_ms: number_given(options, "linger-ms", 0, u32::MAX, 500),
         seconds: number_given(options, "seconds", 1, u32::MAX, u32::MAX),
         binary: flag_given(options, "binary"),
         stay: flag_given(options, "stay"),

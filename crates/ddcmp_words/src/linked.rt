@@ -8,7 +8,13 @@ pub struct Linked<'a> {
     pub line: &'a str,
     pub config: Config,
     pub timer_ms: u32,
-    /// After how many seconds it ends as if its input did.
+    /// After how many tries without progress it leaves a line; 0 is never, and `u32::MAX` is 7
+    /// until the station runs and never from then on.
+    pub attempts: u32,
+    /// For how long it stays once all of its input was delivered, since a message came, in
+    /// milliseconds.
+    pub linger_ms: u32,
+    /// After how many seconds it ends.
     pub seconds: u32,
     /// Whether messages are bytes after their length, and not digits.
     pub binary: bool,

@@ -1,8 +1,8 @@
-//! What a trace tells: the frames that went to the line and those that came from it, what was
-//! discarded, and expiries.
+//! A trace: the frames that went to the line and those that came from it, discarded bytes, and
+//! expiries of the reply timer.
 use crate::errors::Errors;
-use crate::heard::Heard;
-use crate::held::Held;
+use crate::queue::Queue;
+use crate::skipped::Heard;
 use ddcmp_explain::{Notation, reason_name, write_discarded, write_item};
 use ddcmp_frame::{ControlType, Header, Item, MAX_COUNT, Nak, ReaderRefusal};
 use ddcmp_io::Page;
@@ -111,9 +111,9 @@ impl Trace {
             self.put_discarded(way, discarded.from, discarded.count, errors);
         }
         let needed = (2 * self.heard(way).data().len()).saturating_add(NOTE);
-        if self.has_room(needed, errors) {
-            let now = self.now;
-            put_item(now, way, item, self.heard(way).data(), errors.lines());
+        let now = self.now;
+        if let Some(lines) = self.line(needed, errors) {
+            put_item(now, way, item, self.heard(way).data(), lines);
         }
     }
 
@@ -125,48 +125,50 @@ impl Trace {
     }
 
     fn put_discarded(&mut self, way: Way, from: u64, count: u64, errors: &mut Errors) {
-        if !self.has_room(NOTE, errors) {
+        let Some(text) = self.line(NOTE, errors) else {
             return;
-        }
-        let text = errors.lines();
+        };
         let mut page = Page::new();
         write_number(&mut page, text, self.now);
         page.write(text, way.mark());
         write_discarded(&mut page, text, Notation::Plain, from, count);
-        let _has_room = page.flush(text);
+        let _is_whole = page.flush(text);
     }
 
-    /// Whether a line of so many bytes has room, and what else is reported still has some.
-    fn has_room(&self, needed: usize, errors: &mut Errors) -> bool {
-        errors.has_room(self.spared.saturating_add(needed))
+    /// Returns where a line of at most `needed` bytes is to be written, if there is room for it and
+    /// for what else is reported.
+    fn line<'a>(&self, needed: usize, errors: &'a mut Errors) -> Option<&'a mut Queue> {
+        errors.long_line(self.spared.saturating_add(needed))
     }
 
     /// It is this moment, and the station's timer has expired or not.
     pub(crate) fn wake(&mut self, now: u64, has_expired: bool, errors: &mut Errors) {
         self.now = now;
-        if has_expired && self.has_room(NOTE, errors) {
-            let text = errors.lines();
+        if !has_expired {
+            return;
+        }
+        if let Some(text) = self.line(NOTE, errors) {
             let mut page = Page::new();
             write_number(&mut page, text, now);
             page.write(text, b" timer\n");
-            let _has_room = page.flush(text);
+            let _is_whole = page.flush(text);
         }
     }
 }
 
 /// Puts the line of an item with the data that it lends; that of a NAK has its reason in words.
-fn put_item(now: u64, way: Way, item: &Item, data: &[u8], text: &mut Held) {
+fn put_item(now: u64, way: Way, item: &Item, data: &[u8], text: &mut Queue) {
     let mut page = Page::new();
     write_number(&mut page, text, now);
     page.write(text, way.mark());
     write_item(&mut page, text, Notation::Plain, item, data);
-    let _has_room = page.flush(text);
+    let _is_whole = page.flush(text);
     if let Some(reason) = reason_in(item) {
         text.take_back(1);
         page.write(text, b" (");
         page.write(text, reason_name(reason));
         page.write(text, b")\n");
-        let _has_room = page.flush(text);
+        let _is_whole = page.flush(text);
     }
 }
 

@@ -19,12 +19,12 @@ pub(crate) enum Event<'a> {
 impl fmt::Display for Event<'_> {
     fn fmt<W: fmt::Write>(&self, f: &mut fmt::Formatter<W>) -> fmt::Result {
         match self {
-            Event::Listening(addr) => write!(f, "listening {addr}\n"),
-            Event::Connected(addr) => write!(f, "connected {addr}\n"),
-            Event::Retry(fault, seconds) => write!(f, "ddcmp: {fault}; retry in {seconds} s\n"),
-            Event::Ended(seconds) => write!(f, "ddcmp: line ended; retry in {seconds} s\n"),
+            Event::Listening(addr) => write!(f, "listening {addr}"),
+            Event::Connected(addr) => write!(f, "connected {addr}"),
+            Event::Retry(fault, seconds) => write!(f, "ddcmp: {fault}; retry in {seconds} s"),
+            Event::Ended(seconds) => write!(f, "ddcmp: line ended; retry in {seconds} s"),
             Event::Unread => {
-                f.write_str("ddcmp: standard output isn't read: received messages are lost\n")
+                f.write_str("ddcmp: standard output isn't read: received messages are lost")
             }
         }
     }

@@ -1,0 +1,162 @@
+"""When a link leaves a line: a peer that doesn't answer or refuses is given up, and one that has more to send is heard."""
+import socket
+import subprocess
+import time
+
+from links.carrying import Bad
+from links.kit import (Link, binary, connected, free_port, listening, messages_of, server, tcp_pair, unpacked, wants, wrong)
+from links.lines import Refusing, datagram_peer
+from links.peer import Peer, ack, good, no_ack, silent
+
+QUICK = ("--timer-ms", "50")
+
+
+def silent_server(*options):
+    """A link whose server says nothing, and the server's peer."""
+    with server() as it:
+        link = Link(f"connect:127.0.0.1:{it.getsockname()[1]}", *QUICK, *options)
+        return link, Peer(it.accept()[0], silent)
+
+
+def no_handshake():
+    """A peer that says nothing is given up after seven tries, or as many as are asked for."""
+    for options, count in (((), 7), (("--attempts", "2"), 2)):
+        link, peer = silent_server(*options)
+        link.give(b"61\n")
+        wants(f"{options}", link, 3, "ddcmp: ended", seconds=5)
+        if "ddcmp: peer doesn't answer" not in link.errors() or len(peer.named("STRT")) != count:
+            wrong(f"{options}: {link.errors()}, {len(peer.named('STRT'))} STRT")
+        if not 0.05 * count <= link.took <= 0.05 * count + 2:
+            wrong(f"{options}: {link.took} s")
+    link, peer = silent_server("--attempts", "0", "--seconds", "1")
+    wants("never", link, 3, "ddcmp: ended", seconds=5)
+    if "ddcmp: peer doesn't answer" in link.errors() or len(peer.named("STRT")) < 10:
+        wrong(f"never: {link.errors()}, {len(peer.named('STRT'))} STRT")
+
+
+def silent_caller():
+    """A caller that says nothing doesn't hold a listener."""
+    link = Link("listen:127.0.0.1:0", *QUICK)
+    port = listening(link)
+    with connected(port):
+        time.sleep(0.1)
+        peer = Peer(connected(port))
+        if not peer.runs():
+            wrong(f"the second caller isn't served: {link.errors()}")
+        link.give(b"61\n")
+        wants("listener", link, 0, "ddcmp: peer doesn't answer", seconds=5)
+        if peer.mail != [b"a"]:
+            wrong(f"{peer.mail}")
+
+
+def gone():
+    """A peer that ran and answers nothing any more is given up if that is asked for, and else isn't."""
+    for options, status, last in ((("--attempts", "3"), 3, "ddcmp: 1 message lost"),
+                                  (("--attempts", "3", "--again"), None, None), ((), None, None)):
+        with server() as it:
+            link = Link(f"connect:127.0.0.1:{it.getsockname()[1]}", *QUICK, *options)
+            peer = Peer(it.accept()[0], no_ack)
+            peer.runs()
+            link.give(b"61\n")
+            if status is not None:
+                wants(f"{options}", link, status, last, seconds=5)
+            elif options:
+                second = Peer(it.accept()[0], good)  # the line is opened again
+                if not second.runs():
+                    wrong(f"{options}: it doesn't come back")
+            else:
+                time.sleep(1)
+                if not link.is_running():
+                    wrong(f"{options}: it has ended")
+            if bool(options) != ("ddcmp: peer doesn't answer" in link.errors()):
+                wrong(f"{options}: {link.errors()}")
+            link.kill()
+
+
+def absent():
+    """Over datagrams a peer that isn't there yet is waited for, and one that is gone isn't."""
+    link, peer, _local = datagram_peer("--attempts", "3", answer=silent)
+    time.sleep(1.5)
+    if not link.is_running():
+        wrong(f"it doesn't wait: {link.errors()}")
+    peer.answer = good
+    if not peer.runs():
+        wrong("it doesn't start")
+    peer.answer = silent
+    link.give(b"61\n")
+    wants("gone", link, 3, "ddcmp: 1 message lost", seconds=5)
+
+
+def refused():
+    """A peer that refuses a message is given up with its reason."""
+    for reason, words in ((16, "message too long"), (8, "buffer temporarily unavailable"), (17, "header format error")):
+        with server() as it:
+            link = Link(f"connect:127.0.0.1:{it.getsockname()[1]}", *QUICK, "--attempts", "3")
+            peer = Peer(it.accept()[0], Refusing(reason))
+        peer.runs()
+        link.give(b"61\n")
+        wants(words, link, 3, "ddcmp: 1 message lost", seconds=5)
+        if f"ddcmp: peer refuses: {words}" not in link.errors():
+            wrong(f"{words}: {link.errors()}")
+
+
+def slow_progress():
+    """Progress between two tries keeps a line, however many tries there are."""
+    with server() as it:
+        link = Link(f"connect:127.0.0.1:{it.getsockname()[1]}", *QUICK, "--attempts", "3", "--window", "1")
+        peer = Peer(it.accept()[0], no_ack)
+    peer.runs()
+    link.give(b"61\n" * 6)
+    for number in range(1, 7):
+        time.sleep(0.12)  # about two expiries
+        peer.send(ack(number))
+    wants("progress", link, 0, seconds=5)
+
+
+def both_done(name, one, two, to_two, to_one):
+    """Both inputs end at once: each side receives all of the other's, and both end with 0."""
+    one.give(binary(to_two))
+    two.give(binary(to_one))
+    for it in (one, two):
+        if it.ended() != 0:
+            wrong(f"{name}: status {it.run.returncode}, {it.errors()[-3:]}")
+    if unpacked(two.said) != to_two or unpacked(one.said) != to_one:
+        wrong(f"{name}: {len(unpacked(two.said))} of {len(to_two)}, {len(unpacked(one.said))} of {len(to_one)}")
+
+
+def lingers():
+    """Who is done first hears the other out, over TCP and UDP."""
+    for few, many in ((1, 400), (400, 1), (100, 100)):
+        options = ("--binary", "--timer-ms", "200")
+        both_done(f"TCP {few} {many}", *tcp_pair(options, options), messages_of(few), messages_of(many))
+        a, b = free_port(socket.SOCK_DGRAM), free_port(socket.SOCK_DGRAM)
+        one = Link(f"udp:127.0.0.1:{a},127.0.0.1:{b}", *options)
+        two = Link(f"udp:127.0.0.1:{b},127.0.0.1:{a}", *options)
+        both_done(f"UDP {few} {many}", one, two, messages_of(few), messages_of(many))
+
+
+def lingers_on_a_bad_line():
+    """The same over a line that damages a tenth of what it carries."""
+    for _time in range(3):
+        bad = Bad(0.1)
+        options = ("--binary", "--timer-ms", "100", "--linger-ms", "1500")
+        one = Link(f"listen:127.0.0.1:{bad.target}", *options)
+        listening(one)
+        two = Link(f"connect:127.0.0.1:{bad.port}", *options)
+        both_done("10 %", one, two, messages_of(40, 200), messages_of(40, 200))
+
+
+def lingers_so_long():
+    """For as long as is asked for since the last message, and with 0 not at all."""
+    for linger, least, most in (("0", 0, 0.4), ("300", 0.3, 1), ("1200", 1.2, 2)):
+        with server() as it:
+            link = Link(f"connect:127.0.0.1:{it.getsockname()[1]}", "--linger-ms", linger, stdin=subprocess.DEVNULL)
+            peer = Peer(it.accept()[0])
+        peer.runs()
+        begun = time.monotonic()
+        if link.ended(5) != 0 or not least - 0.1 <= time.monotonic() - begun <= most:
+            wrong(f"--linger-ms {linger}: {time.monotonic() - begun:.2f} s, status {link.run.returncode}")
+
+
+TRIALS = [no_handshake, silent_caller, gone, absent, refused, slow_progress, lingers, lingers_on_a_bad_line, lingers_so_long]
+LONG_TRIALS = []

@@ -1,0 +1,42 @@
+-- A received message that was taken.
+use Rattle.std.proofs.Common.{◌≡◌, ap, sym, subst, ◌∙◌, ℕ, List, ◌++◌, length, take, drop, Option}
+use Rattle.std.proofs.Common.{Some, None, option_map, false}
+use Rattle.std.proofs.Math.Seq.{take-append_seam}
+use Rattle.ddcmp_window.specs.Store.{with_front}
+use Rattle.ddcmp_session.specs.declared.messages.Form.{Form}
+use Rattle.ddcmp_session.specs.Queue.{QueueView}
+use Rattle.ddcmp_session.specs.Text.{Wrote, mail_text}
+
+-- the first bytes of a slice that it was put at the front of
+taken : (f : Option (List ℕ)) (n : ℕ) (old new : List ℕ) → Some n ≡ option_map length f
+    → new ≡ with_front f old → (message : List ℕ) × (f ≡ Some message) × (take n new ≡ message)
+taken None n old new is put = cc
+taken (Some message) n old new is put = (
+  message,
+  cc,
+  ap (λ k. take k new) (counted is) ∙ ap (take (length message)) put
+      ∙ take-append_seam message (drop (length message) old),
+)
+  where
+    counted : {a b : ℕ} → Some a ≡ Some b → a ≡ b
+    counted e = cc
+
+-- The text of what was taken, written after room was made.
+pub delivers : (form : Form) (f : Option (List ℕ)) (n : ℕ) (mail out : List ℕ)
+    (old settled new : QueueView) → Some n ≡ option_map length f → out ≡ with_front f mail
+    → settled.waiting ≡ old.waiting → settled.is_cut ≡ old.is_cut
+    → Wrote (mail_text form (take n out)) settled new
+    → (message : List ℕ) × (f ≡ Some message) × Wrote (mail_text form message) old new
+delivers form f n mail out old settled new is put same cut wrote =
+    let t = taken f n mail out is put in (
+      t.0,
+      t.1,
+      record {
+        whole = λ whole.
+            let w = wrote.whole whole in (
+              sym cut ∙ w.0,
+              w.1 ∙ ap (λ q. q ++ mail_text form (take n out)) same
+                  ∙ ap (λ m. old.waiting ++ mail_text form m) t.2,
+            );
+      },
+    )

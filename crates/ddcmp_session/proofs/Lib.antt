@@ -1,0 +1,5 @@
+pub mod DeliverLaws
+pub mod FrameLaws
+pub mod InputLaws
+pub mod NoticeLaws
+pub mod TextLaws

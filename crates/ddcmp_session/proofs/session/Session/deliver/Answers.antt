@@ -1,0 +1,21 @@
+use Rattle.std.proofs.Common.{◌≡◌, ◌∙◌, ap, sym, subst, take}
+use Rattle.std.proofs.lemmas.List.{with_items_is}
+use Rattle.ddcmp_session.specs.Session.{form_of}
+use Rattle.ddcmp_session.specs.Text.{Wrote, mail_text}
+use Rattle.ddcmp_session.proofs.DeliverLaws.{delivers}
+use Rattle.ddcmp_session.proofs.session.Session.deliver.Goals as goal
+
+pub returns-in-Some-clause-wrote : goal.returns-in-Some-clause-wrote
+returns-in-Some-clause-wrote c =
+    let items =
+    with_items_is c.self.inside.mail c.take.new.out (c.take.auto.out ∙ c.deref_mut.ensures.len) in
+    λ e.
+    rw (sym c.self.view_is)
+    (delivers (form_of c.self.inside.messages) _ c.in-Some.n _ c.deref.result.now
+    c.self.inside.output c.settle.new.self c.write_mail.new.out
+    (sym c.in-Some.is ∙ c.take.ensures.length)
+    (c.deref.ensures.value ∙ items ∙ c.take.ensures.out)
+    c.settle.ensures.waiting c.settle.ensures.cut
+    (subst (λ form. Wrote (mail_text form (take c.in-Some.n c.deref.result.now))
+    c.settle.new.self c.write_mail.new.out) c.self.invariant.0
+    (record { whole = c.write_mail.ensures.whole })))

@@ -1,0 +1,4 @@
+pub mod Messages
+pub mod Queue
+pub mod Session
+pub mod Text

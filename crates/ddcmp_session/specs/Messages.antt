@@ -1,0 +1,42 @@
+-- The messages of an input, in either form.
+use Rattle.std.specs.Prelude.{ℕ, Bool, false, List, Option, None}
+use Rattle.ddcmp_input.specs.declared.entry.Entry.{Entry}
+use Rattle.ddcmp_input.specs.HexLines as lines
+use Rattle.ddcmp_input.specs.Lengths as lengths
+use Rattle.ddcmp_session.specs.declared.messages.Form.{Form}
+use Rattle.ddcmp_session.specs.declared.messages.Form.TheVariants as form
+use Rattle.ddcmp_session.specs.declared.messages.Messages.{Messages}
+use Rattle.ddcmp_session.specs.declared.messages.Messages.TheVariants.{Digits, Binary}
+
+-- nothing has come
+abbrev pub messages_begun : Form → ℕ → Messages
+messages_begun form.Digits max = Digits (lines.begun max)
+messages_begun form.Binary max = Binary (lengths.begun max)
+
+-- the message that the last byte completed, if it did
+abbrev pub message_in : Messages → List ℕ
+message_in (Digits v) = v.message
+message_in (Binary v) = v.message
+
+-- bytes of the input, and what each of them completes
+abbrev pub after_input : List ℕ → Messages → Messages
+after_input bytes (Digits v) = Digits (lines.after_bytes bytes v)
+after_input bytes (Binary v) = Binary (lengths.after_bytes bytes v)
+
+abbrev pub entries_of_input : List ℕ → Messages → List Entry
+entries_of_input bytes (Digits v) = lines.entries_of_bytes bytes v
+entries_of_input bytes (Binary v) = lengths.entries_of_bytes bytes v
+
+-- The end of the input ends a last line, and completes nothing in binary.
+abbrev pub after_last : Messages → Messages
+after_last (Digits v) = Digits (lines.after_byte 10 v)
+after_last (Binary v) = Binary v
+
+abbrev pub entry_of_last : Messages → Option Entry
+entry_of_last (Digits v) = lines.entry_of_byte 10 v
+entry_of_last (Binary v) = None
+
+-- a message in binary has begun, and its end is to come
+abbrev pub is_message_unfinished : Messages → Bool
+is_message_unfinished (Digits v) = false
+is_message_unfinished (Binary v) = lengths.is_unfinished v.place

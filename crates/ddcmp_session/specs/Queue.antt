@@ -1,0 +1,24 @@
+-- A queue of bytes as its users see it.
+use Rattle.std.specs.Prelude.{ℕ, ◌-◌, Bool, false, ◌==◌, if◌then◌else◌, List, [], ◌++◌, length, drop}
+
+-- How many bytes it has room for when it is empty, the queued bytes, for how many more there is
+-- room, and whether some text found none.
+pub record QueueView : Type 0 where
+  pub size : ℕ
+  pub waiting : List ℕ
+  pub room : ℕ
+  pub is_cut : Bool
+
+abbrev pub no_bytes : ℕ → QueueView
+no_bytes size = record { size = size; waiting = []; room = size; is_cut = false }
+
+abbrev pub after_pushed : List ℕ → QueueView → QueueView
+after_pushed bytes q =
+    record q { waiting = q.waiting ++ bytes; room = q.room - length bytes }
+
+-- an empty queue has all of its room
+abbrev pub after_taken : ℕ → QueueView → QueueView
+after_taken n q = record q {
+  waiting = drop n q.waiting;
+  room = if n == length q.waiting then q.size else q.room;
+}

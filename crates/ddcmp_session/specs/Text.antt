@@ -1,0 +1,41 @@
+-- The text that a session writes to standard output.
+use Rattle.std.specs.Prelude.{◌≡◌, ℕ, Bool, false, ◌==◌, if◌then◌else◌, List, [], ◌∷◌, ◌++◌, codes}
+use Rattle.std.specs.Prelude.{decimal}
+use Rattle.hex.specs.Hex.{encode_lower}
+use Rattle.ddcmp_core.specs.declared.notice.Notice.{Notice}
+use Rattle.ddcmp_core.specs.declared.notice.Notice.TheVariants as notice
+use Rattle.ddcmp_input.specs.InBinary.{behind_length}
+use Rattle.ddcmp_station_text.specs.StationText.{notice_line}
+use Rattle.ddcmp_session.specs.declared.messages.Form.{Form}
+use Rattle.ddcmp_session.specs.declared.messages.Form.TheVariants.{Digits, Binary}
+use Rattle.ddcmp_session.specs.Queue.{QueueView}
+
+-- a received message
+abbrev pub mail_text : Form → List ℕ → List ℕ
+mail_text Digits message = codes "mail " ++ encode_lower message ++ codes "\n"
+mail_text Binary message = behind_length message
+
+-- how many accepted messages were dropped, if any
+abbrev pub lost_line : ℕ → List ℕ
+lost_line count = codes "lost " ++ decimal count ++ codes "\n"
+
+abbrev pub lost_text : Form → ℕ → List ℕ
+lost_text Digits count = if count == 0 then [] else lost_line count
+lost_text Binary count = []
+
+abbrev pub dropped_by : Notice → ℕ
+dropped_by (notice.Restarted count) = count
+dropped_by _ = 0
+
+-- a notice: with messages in binary it is no part of standard output
+abbrev pub notice_text : Form → Notice → List ℕ
+notice_text Digits n = notice_line [] n ++ lost_text Digits (dropped_by n)
+notice_text Binary n = []
+
+unfoldable pub notices_text : Form → List Notice → List ℕ
+notices_text form [] = []
+notices_text form (n ∷ rest) = notice_text form n ++ notices_text form rest
+
+-- A text was appended to a queue, if none ever found no room.
+pub record Wrote (text : List ℕ) (old new : QueueView) : Type 0 where
+  pub whole : new.is_cut ≡ false → (old.is_cut ≡ false) × (new.waiting ≡ old.waiting ++ text)

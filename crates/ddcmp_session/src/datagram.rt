@@ -1,0 +1,41 @@
+//! Where frames end in a datagram.
+use ddcmp_frame::{Reader, ReaderRefusal};
+use std::alloc::Global;
+
+/// Finds the frame that a datagram has only the beginning of.
+pub(crate) struct Framing {
+    frames: Reader,
+}
+
+// By hand, so that it is dropped by a call: a derived one is written out at each such place.
+impl Drop for Framing {
+    fn drop(self) {
+        let Framing { frames: _frames } = self;
+    }
+}
+
+impl Framing {
+    /// Makes one for messages of at most `max` bytes.
+    pub(crate) fn new(alloc: Global, max: u16) -> Result<Framing, ReaderRefusal> {
+        Ok(Framing {
+            frames: Reader::new(alloc, max)?,
+        })
+    }
+
+    /// Returns how many bytes at the end of a datagram begin a frame whose end isn't there.
+    pub(crate) fn unfinished(&mut self, datagram: &[u8]) -> usize {
+        let mut at = 0;
+        for _item in 0..u64::MAX {
+            let rest = datagram.get(at..).unwrap_or(&[]);
+            // It counts from the datagram's beginning, so its next byte always has a number.
+            let countable = u64::MAX - self.frames.offset();
+            if rest.is_empty() || countable <= rest.len() as u64 {
+                break;
+            }
+            at = at.saturating_add(self.frames.push_all(rest).used);
+        }
+        let unfinished = self.frames.open();
+        self.frames.reset();
+        unfinished
+    }
+}

@@ -1,0 +1,18 @@
+//! A link between a line and a pipe, without devices. `Session` decides all that `ddcmp link` does:
+//! bytes and moments in, bytes and moments out.
+#![tactic(auto)]
+
+mod datagram;
+mod errors;
+mod messages;
+mod pacing;
+mod patience;
+mod queue;
+mod retry;
+mod session;
+mod skipped;
+mod text;
+mod trace;
+
+pub use messages::Form;
+pub use session::{End, Options, Session};

@@ -1,0 +1,100 @@
+//! Messages as text: a line of hexadecimal digits each, or bytes after their length.
+ghost use Rattle.std.specs.Prelude.{◌≡◌, ◌+◌, ◌≤◌, ℕ, [], IfOk, None, Some, length, take, option_to_list};
+ghost use Rattle.ddcmp_session.specs.Messages.{messages_begun, message_in, after_input};
+ghost use Rattle.ddcmp_session.specs.Messages.{entries_of_input, is_message_unfinished};
+ghost use Rattle.ddcmp_session.specs.Messages.{after_last, entry_of_last};
+
+use ddcmp_input::{Entry, HexLines, Lengths, Pushed};
+use std::alloc::{AllocError, Global};
+
+/// How messages are written on standard input and output.
+#[derive(Clone, Copy, Debug, PartialEq, Eq)]
+pub enum Form {
+    /// A line of hexadecimal digits for each.
+    Digits,
+    /// Each after its length as two bytes, high byte first.
+    Binary,
+}
+
+/// Reads messages from an input that comes in chunks of any size.
+pub(crate) enum Messages {
+    Digits(HexLines),
+    Binary(Lengths),
+}
+
+// By hand, so that it is dropped by a call: a derived one is written out at each such place.
+impl Drop for Messages {
+    fn drop(self) {
+        match self {
+            Messages::Digits(_lines) => {}
+            Messages::Binary(_lengths) => {}
+        }
+    }
+}
+
+impl Messages {
+    /// Makes a reader of messages of 1 to `max` bytes. It takes all the memory that it will need.
+    pub(crate) fn new(alloc: Global, form: Form, max: u16) -> Result<Messages, AllocError>
+        ensures { IfOk result (λ made. made ≡ messages_begun form max) }
+    {
+        match form {
+            Form::Digits => Ok(Messages::Digits(HexLines::new(alloc, max)?)),
+            Form::Binary => Ok(Messages::Binary(Lengths::new(alloc, max)?)),
+        }
+    }
+
+    /// Returns the message that was read last.
+    pub(crate) fn message(&self) -> &[u8]
+        ensures { result.now ≡ message_in self.now }
+    {
+        match self {
+            Messages::Digits(lines) => lines.message(),
+            Messages::Binary(lengths) => lengths.message(),
+        }
+    }
+
+    /// Takes bytes of the input, up to the first that completes a message or a part that is none.
+    pub(crate) fn push(&mut self, bytes: &[u8]) -> Pushed
+        ensures used { result.used ≤ length bytes.now }
+        ensures first { (n : ℕ) (entry : Entry) → result.entry ≡ Some entry → result.used ≡ n + 1
+            → entries_of_input (take n bytes.now) self.old ≡ [] }
+        ensures whole { result.entry ≡ None → result.used ≡ length bytes.now }
+        ensures state { self.new ≡ after_input (take result.used bytes.now) self.old }
+        ensures entries { entries_of_input (take result.used bytes.now) self.old
+            ≡ option_to_list result.entry }
+    {
+        match self {
+            Messages::Digits(lines) => lines.push_all(bytes),
+            Messages::Binary(lengths) => lengths.push_all(bytes),
+        }
+    }
+
+    /// Takes the end of the input: returns what the last line is, if it has no LF.
+    pub(crate) fn end(&mut self) -> Option<Entry>
+        ensures state { self.new ≡ after_last self.old }
+        ensures entry { result ≡ entry_of_last self.old }
+    {
+        match self {
+            Messages::Digits(lines) => lines.push(b'\n'),
+            Messages::Binary(_lengths) => None,
+        }
+    }
+
+    /// Whether a message in binary has begun whose end is still to come.
+    pub(crate) fn is_unfinished(&self) -> bool
+        ensures { result ≡ is_message_unfinished self.now }
+    {
+        match self {
+            Messages::Digits(_lines) => false,
+            Messages::Binary(lengths) => lengths.is_unfinished(),
+        }
+    }
+
+    /// Returns the number of the line of the input that was read last, from 1; none in binary.
+    pub(crate) fn line_number(&self) -> Option<u64> {
+        match self {
+            Messages::Digits(lines) => Some(lines.number()),
+            Messages::Binary(_lengths) => None,
+        }
+    }
+}

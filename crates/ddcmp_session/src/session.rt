@@ -1,0 +1,246 @@
+//! A link with its messages as text, without a device.
+mod closing;
+mod input;
+mod line;
+mod output;
+mod timing;
+
+use crate::datagram::Framing;
+use crate::errors::Errors;
+use crate::messages::{Form, Messages};
+use crate::pacing::Pacing;
+use crate::patience::Patience;
+use crate::queue::Queue;
+use crate::retry::Retry;
+use crate::text;
+use crate::trace::Trace;
+use ddcmp_station::{Config, ConfigRefusal, Link};
+use std::alloc::Global;
+use std::marker::Model;
+
+/// The bytes that are queued for standard output beside the longest message.
+const OUTPUT_ROOM: usize = 65536;
+
+/// The bytes of lines that are queued for standard error, and eight times as many with a trace.
+const ERRORS_ROOM: usize = 65536;
+
+/// How a session runs.
+#[derive(Clone, Copy, Debug, PartialEq, Eq)]
+pub struct Options {
+    pub config: Config,
+    /// How long the station waits for an answer, in milliseconds.
+    pub timer_ms: u32,
+    /// After how many tries without progress a line is left; 0 is never, and `u32::MAX` is 7 until
+    /// the station runs and never from then on.
+    pub attempts: u32,
+    /// For how long it stays once all of the input was delivered, since a message came, in
+    /// milliseconds.
+    pub linger_ms: u32,
+    pub form: Form,
+    /// Whether it goes on once all of the input was delivered.
+    pub stay: bool,
+    /// Whether the line is opened again if it ends or can't be opened.
+    pub again: bool,
+    /// After how many seconds it ends.
+    pub seconds: u32,
+    /// Whether counters are written before the last line.
+    pub counters: bool,
+    /// Whether the frames of both ways are logged on standard error.
+    pub trace: bool,
+    /// Whether the line is of whoever calls.
+    pub listens: bool,
+    /// Whether the line is of datagrams.
+    pub datagrams: bool,
+    /// Whether the line is a connection, so that a peer is there once it is open.
+    pub connects: bool,
+}
+
+/// Why a session leaves its line.
+#[derive(Clone, Copy, Debug, PartialEq, Eq)]
+pub enum End {
+    /// All of the input was delivered.
+    Delivered,
+    /// The time of the run is over.
+    Time,
+    /// The peer restarted, and the station was halted by that.
+    Restarted,
+    /// The peer didn't answer, or refused what was sent, too many times in a row.
+    GivenUp,
+}
+
+/// A link with its messages as text: standard input on one side, a line on the other, and two
+/// outputs. It decides, and has no device and no clock: pass it the bytes that came and the moment
+/// that it is, in milliseconds since it was made, and write what it returns.
+///
+/// Once a line is open call `connected`. Then, in any order: `typed` with bytes of the input while
+/// `wants_input`, and `input_ended` at its end; `received` with bytes of the line while
+/// `wants_line`; `fill`, then write what `to_line` returns and call `line_took`; the same with
+/// `to_output` and `to_errors`; `deliver` after each of these, until it returns false. Call
+/// `handle_timeout` before and after each wait, and wait until `wakes_at` at most. If `end` returns
+/// something, or the line ends, call `line_ended`. `close` and `finish` end the run. No call after
+/// `new` allocates, but `line_ended` with a trace.
+pub struct Session {
+    options: Options,
+    link: Link,
+    messages: Messages,
+    output: Queue,
+    errors: Errors,
+    mail: Vec<u8>,
+    framing: Option<Framing>,
+    trace: Option<Trace>,
+    pacing: Pacing,
+    patience: Patience,
+    retry: Retry,
+    /// The moment since which no data message came: at first that of the startup handshake.
+    quiet_since: u64,
+    /// How many data messages have come.
+    received: u32,
+    /// The moment of the last call that was passed one, in milliseconds.
+    moment: u64,
+    /// How many messages of an input in binary were read.
+    read: u64,
+    input_is_read: bool,
+    was_refused: bool,
+    /// How many messages were read and will never be acknowledged.
+    lost: u64,
+    /// Whether the peer has begun to start, over the line that is open.
+    peer_has_started: bool,
+    /// Whether the station has run over the line that is open, and over any line.
+    has_run_here: bool,
+    has_run: bool,
+    peer_restarted: bool,
+}
+
+impl Model for Session {
+    ghost use Rattle.std.specs.Prelude.{◌≡◌, ◌≤◌, ◌<◌, vec_len};
+    ghost use Rattle.ddcmp_session.specs.Session.{SessionView, form_of};
+
+    ghost Value = { SessionView };
+
+    ghost view = { λ s. record {
+      link = s.link;
+      messages = s.messages;
+      is_read = s.input_is_read;
+      was_refused = s.was_refused;
+      output = s.output;
+    } };
+
+    ghost invariant = { λ s. (s.options.form ≡ form_of s.messages)
+        × (s.link.station.core.limits.longest ≤ vec_len s.mail) × (vec_len s.mail < 65536) };
+}
+
+// By hand, so that a session is dropped by a call: a derived one is written out at each such place.
+impl Drop for Session {
+    fn drop(self) {
+        let Session {
+            options: _,
+            link: _link,
+            messages: _messages,
+            output: _output,
+            errors: _errors,
+            mail: _mail,
+            framing: _framing,
+            trace: _trace,
+            pacing: _,
+            patience: _,
+            quiet_since: _,
+            received: _,
+            retry: _,
+            moment: _,
+            read: _,
+            input_is_read: _,
+            was_refused: _,
+            lost: _,
+            peer_has_started: _,
+            has_run_here: _,
+            has_run: _,
+            peer_restarted: _,
+        } = self;
+    }
+}
+
+/// Makes the trace that is asked for, if one is.
+fn trace_of(alloc: Global, options: &Options) -> Result<Option<Trace>, ConfigRefusal> {
+    if !options.trace {
+        return Ok(None);
+    }
+    match Trace::new(
+        alloc,
+        options.config.max,
+        text::mail_room(options.config.max),
+    ) {
+        Ok(trace) => Ok(Some(trace)),
+        Err(_refused) => Err(ConfigRefusal::Memory),
+    }
+}
+
+/// Makes what finds the ends of frames in datagrams, if the line is of these.
+fn framing_of(alloc: Global, options: &Options) -> Result<Option<Framing>, ConfigRefusal> {
+    if !options.datagrams {
+        return Ok(None);
+    }
+    match Framing::new(alloc, options.config.max.max(1)) {
+        Ok(framing) => Ok(Some(framing)),
+        Err(_refused) => Err(ConfigRefusal::Memory),
+    }
+}
+
+impl Session {
+    ghost use Rattle.std.specs.Prelude.{◌≡◌, [], IfOk};
+    ghost use Rattle.ddcmp_frame.specs.Reader.{StandsFor};
+    ghost use Rattle.ddcmp_session.specs.Session.{session_made};
+
+    /// Makes a session that has no line yet. It takes all the memory that it will need.
+    pub fn new(alloc: Global, options: Options) -> Result<Session, ConfigRefusal>
+        ensures made { IfOk result (λ s. s ≡ session_made options.form options.config
+            options.timer_ms s.link.station.line) }
+        ensures stands { IfOk result (λ s. StandsFor s.link.station.line []) }
+    {
+        let max = options.config.max;
+        let link = Link::new(alloc, options.config, options.timer_ms)?;
+        let trace = trace_of(alloc, &options)?;
+        let framing = framing_of(alloc, &options)?;
+        let errors_room = if options.trace {
+            8 * ERRORS_ROOM
+        } else {
+            ERRORS_ROOM
+        };
+        let Ok(messages) = Messages::new(alloc, options.form, max) else {
+            return Err(ConfigRefusal::Memory);
+        };
+        let Ok(output) = Queue::new(alloc, OUTPUT_ROOM + 2 * text::mail_room(max)) else {
+            return Err(ConfigRefusal::Memory);
+        };
+        let Ok(errors) = Errors::new(alloc, errors_room) else {
+            return Err(ConfigRefusal::Memory);
+        };
+        let Ok(mail) = Vec::from_elem(alloc, 0u8, max as usize) else {
+            return Err(ConfigRefusal::Memory);
+        };
+        let pacing = Pacing::new(options.timer_ms, &link);
+        Ok(Session {
+            options,
+            link,
+            messages,
+            output,
+            errors,
+            mail,
+            framing,
+            trace,
+            pacing,
+            patience: Patience::new(options.attempts),
+            quiet_since: 0,
+            received: 0,
+            retry: Retry::at_once(),
+            moment: 0,
+            read: 0,
+            input_is_read: false,
+            was_refused: false,
+            lost: 0,
+            peer_has_started: false,
+            has_run_here: false,
+            has_run: false,
+            peer_restarted: false,
+        })
+    }
+}

@@ -1,0 +1,151 @@
+//! The input of a session: messages that are sent, and parts that are none.
+use crate::session::Session;
+use ddcmp_input::Entry;
+
+/// What is wrong with a part of the input that is no message.
+fn reason_of(entry: Entry) -> &'static [u8] {
+    match entry {
+        Entry::Message => b"message",
+        Entry::NotHexadecimal => b"not hexadecimal",
+        Entry::TooLong => b"too long",
+        Entry::Empty => b"empty",
+    }
+}
+
+const UNFINISHED: &[u8] = b"unfinished";
+
+impl Session {
+    ghost use Rattle.std.specs.Prelude.{◌≡◌, ◌+◌, ◌≤◌, ◌∷◌, ℕ, true, false, [], length, take};
+    ghost use Rattle.std.specs.Prelude.{option_to_list};
+    ghost use Rattle.ddcmp_session.specs.Messages.{entries_of_input};
+    ghost use Rattle.ddcmp_session.specs.Session.{wants_input, after_typed, after_input_end};
+    ghost use Rattle.ddcmp_session.specs.Session.{after_entries, after_unfinished};
+
+    /// Whether bytes of the input are wanted: the station runs and takes a message.
+    pub fn wants_input(&self) -> bool
+        ensures { result ≡ wants_input self.now }
+    {
+        !self.input_is_read && self.link.has_room()
+    }
+
+    /// Takes bytes of the input, up to the end of the first message, which it sends, or of the
+    /// first part that is none, which it reports. Returns how many; none while `wants_input` is
+    /// false.
+    pub fn typed(&mut self, bytes: &[u8]) -> usize
+        ensures used { result ≤ length bytes.now }
+        ensures state { self.new ≡ after_typed (take result bytes.now) self.old }
+        // All bytes, or those up to the first that completes something.
+        ensures whole { wants_input self.old ≡ true
+            → entries_of_input (take result bytes.now) self.old.messages ≡ []
+            → result ≡ length bytes.now }
+        ensures first { (n : ℕ) (entry : Entry)
+            → entries_of_input (take result bytes.now) self.old.messages ≡ entry ∷ []
+            → result ≡ n + 1 → entries_of_input (take n bytes.now) self.old.messages ≡ [] }
+        ensures few { length (entries_of_input (take result bytes.now) self.old.messages) ≤ 1 }
+        ensures none { wants_input self.old ≡ false → result ≡ 0 }
+    {
+        if !self.wants_input() {
+            return 0;
+        }
+        let pushed = self.messages.push(bytes);
+        self.take_entry(pushed.entry);
+        pushed.used
+    }
+
+    /// Takes the end of the input, if `wants_input`. A last line needs no LF; a message in binary
+    /// whose end is missing is reported.
+    pub fn input_ended(&mut self)
+        ensures { self.new ≡ after_input_end self.old }
+    {
+        if !self.wants_input() {
+            return;
+        }
+        self.input_is_read = true;
+        let entry = self.messages.end();
+        self.take_entry(entry);
+        self.refuse_unfinished();
+    }
+
+    /// Sends the message that an entry is, or reports that it is none.
+    fn take_entry(&mut self, entry: Option<Entry>)
+        ensures { self.new ≡ after_entries (option_to_list entry) self.old }
+    {
+        match entry {
+            None => {}
+            Some(Entry::Message) => {
+                self.count_entry();
+                let _sent = self.link.offer(self.messages.message());
+            }
+            Some(refused) => {
+                self.count_entry();
+                self.refuse(reason_of(refused));
+            }
+        }
+    }
+
+    fn count_entry(&mut self)
+        ensures { self.new ≡ self.old }
+    {
+        self.read = self.read.saturating_add(1);
+    }
+
+    /// Takes what was read of the input after the run is over: its messages are lost, and a message
+    /// whose end hasn't come is reported.
+    pub(super) fn drop_input(&mut self, bytes: &[u8], is_at_end: bool) {
+        let mut at = 0usize;
+        for _part in 0..u64::MAX {
+            let rest = bytes.get(at..).unwrap_or(&[]);
+            if rest.is_empty() {
+                break;
+            }
+            let pushed = self.messages.push(rest);
+            at = at.saturating_add(pushed.used);
+            self.drop_entry(pushed.entry);
+        }
+        if self.input_is_read {
+            return;
+        }
+        self.input_is_read = true;
+        match self.messages.end() {
+            Some(_cut) if !is_at_end => self.refuse(UNFINISHED),
+            entry => self.drop_entry(entry),
+        }
+        self.refuse_unfinished();
+    }
+
+    fn drop_entry(&mut self, entry: Option<Entry>) {
+        match entry {
+            None => {}
+            Some(Entry::Message) => {
+                self.count_entry();
+                self.lost = self.lost.saturating_add(1);
+            }
+            Some(refused) => {
+                self.count_entry();
+                self.refuse(reason_of(refused));
+            }
+        }
+    }
+
+    /// Reports a message in binary whose end is missing.
+    fn refuse_unfinished(&mut self)
+        ensures { self.new ≡ after_unfinished self.old }
+    {
+        if self.messages.is_unfinished() {
+            self.count_entry();
+            self.refuse(UNFINISHED);
+        }
+    }
+
+    /// Reports that the part of the input that was read last is no message.
+    fn refuse(&mut self, why: &[u8])
+        ensures { self.new ≡ record self.old { was_refused = true } }
+    {
+        self.was_refused = true;
+        let (part, number): (&[u8], u64) = match self.messages.line_number() {
+            Some(line) => (b"line ", line),
+            None => (b"message ", self.read),
+        };
+        self.errors.write_refused(part, number, why);
+    }
+}

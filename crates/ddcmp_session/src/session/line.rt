@@ -1,0 +1,217 @@
+//! The line of a session: bytes that are received, and frames that are sent.
+use crate::messages::Form;
+use crate::session::Session;
+use crate::text;
+use crate::trace::Way;
+use ddcmp_station::{Notice, State};
+
+impl Session {
+    ghost use Rattle.std.specs.Prelude.{◌≡◌, ◌+◌, ◌<◌, ◌≤◌, ℕ, List, [], ◌++◌, true, false, min, length};
+    ghost use Rattle.std.specs.Prelude.{take, is_ok, option_to_list};
+    ghost use Rattle.ddcmp_frame.specs.Reader.{StandsFor};
+    ghost use Rattle.ddcmp_core.specs.Table.{after_halt, answer_to_start};
+    ghost use Rattle.ddcmp_proto.specs.Bytes.{after_piece, notices_of_piece};
+    ghost use Rattle.ddcmp_station.specs.Linking.{anew, after_frame, after_frames, after_sent};
+    ghost use Rattle.ddcmp_station.specs.Linking.{countable};
+    ghost use Rattle.ddcmp_session.specs.Session.{form_of, wants_line};
+    ghost use Rattle.ddcmp_session.specs.Text.{Wrote, notice_text, notices_text, lost_text};
+
+    /// Starts the station on a line that was opened. Returns false if received messages weren't
+    /// delivered before: `deliver` them, then call it again.
+    pub fn connected(&mut self) -> bool
+        ensures state { self.new
+            ≡ record self.old { link = anew self.new.link.station.line self.old.link } }
+        ensures cleared { StandsFor self.new.link.station.line [] }
+        ensures answer { result
+            ≡ is_ok (answer_to_start (after_halt self.old.link.station.core.station)) }
+    {
+        self.peer_has_started = false;
+        self.has_run_here = false;
+        self.peer_restarted = false;
+        self.pacing.begin_anew();
+        self.patience.restart();
+        self.link.begin_anew().is_ok()
+    }
+
+    /// Takes the end of the line: reports what was sent and not acknowledged as lost.
+    pub fn line_ended(&mut self)
+        ensures wrote { Wrote (lost_text (form_of self.old.messages)
+            (length self.old.link.station.core.station.out)) self.old.output self.new.output }
+        ensures stays { self.new ≡ record self.old { output = self.new.output } }
+    {
+        let lost = self.link.lost();
+        self.report_lost(lost);
+        if let Some(trace) = &mut self.trace {
+            trace.begin_anew(&mut self.errors);
+        }
+    }
+
+    /// Whether bytes of the line are wanted: a received message and its notice have room.
+    pub fn wants_line(&self) -> bool
+        ensures { result ≡ wants_line self.now }
+    {
+        self.link.wants_line() && self.output.room() >= text::LINE_ROOM
+    }
+
+    /// Returns how many bytes of a datagram are whole frames: no frame goes on in the next one, so
+    /// the rest is to be dropped. Of another line it is all bytes.
+    pub fn whole_frames(&mut self, datagram: &[u8]) -> usize
+        ensures most { result ≤ length datagram.now }
+        ensures stays { self.new ≡ self.old }
+    {
+        match &mut self.framing {
+            Some(framing) => {
+                let unfinished = framing.unfinished(datagram);
+                datagram.len().saturating_sub(unfinished)
+            }
+            None => datagram.len(),
+        }
+    }
+
+    /// Logs bytes that came from the line, if there is a trace: each once, before `received`.
+    pub fn log_received(&mut self, bytes: &[u8])
+        ensures { self.new ≡ self.old }
+    {
+        if let Some(trace) = &mut self.trace {
+            trace.tell(Way::FromLine, bytes, &mut self.errors);
+        }
+    }
+
+    /// Takes bytes of the line, up to the first that gives a notice, and writes that. Returns how
+    /// many; none while `wants_line` is false.
+    pub fn received(&mut self, bytes: &[u8]) -> usize
+        ensures used { result ≤ length bytes.now }
+        ensures some { 0 < length bytes.now → 0 < countable self.old.link.station
+            → wants_line self.old ≡ true → 0 < result }
+        ensures none { wants_line self.old ≡ false → (result ≡ 0) × (self.new ≡ self.old) }
+        ensures stands { (text : List ℕ) → StandsFor self.old.link.station.line text
+            → StandsFor self.new.link.station.line (text ++ take result bytes.now) }
+        ensures state { (text : List ℕ) → StandsFor self.old.link.station.line text
+            → self.new.link.station.core
+            ≡ after_piece text (take result bytes.now) self.old.link.station.core }
+        ensures wrote { (text : List ℕ) → StandsFor self.old.link.station.line text
+            → Wrote (notices_text (form_of self.old.messages)
+            (notices_of_piece text (take result bytes.now) self.old.link.station.core))
+            self.old.output self.new.output }
+        ensures syn { self.new.link.station.syn ≡ self.old.link.station.syn }
+        ensures link { self.new.link ≡ record self.old.link {
+          station = self.new.link.station;
+          totals = self.new.link.totals;
+        } }
+        ensures stays { self.new
+            ≡ record self.old { link = self.new.link; output = self.new.output } }
+    {
+        if !self.wants_line() {
+            return 0;
+        }
+        let fed = self.link.feed(bytes);
+        self.note();
+        if let Some(notice) = fed.notice {
+            self.report_notice(notice);
+        }
+        fed.used
+    }
+
+    /// Looks at what the bytes that were fed have done.
+    fn note(&mut self)
+        ensures { self.new ≡ self.old }
+    {
+        if let Some(reason) = self.pacing.note(self.moment, &self.link) {
+            self.patience.refused(reason);
+        }
+        self.patience.note(&self.link);
+        self.note_quiet();
+        match self.link.state() {
+            State::Running => {
+                self.peer_has_started = true;
+                self.has_run_here = true;
+                self.has_run = true;
+            }
+            State::AStart => self.peer_has_started = true,
+            _ => {}
+        }
+    }
+
+    /// Takes note of the moment if the station has begun to run or has received a message.
+    fn note_quiet(&mut self)
+        ensures { self.new ≡ self.old }
+    {
+        let received = self.link.counters().messages_up;
+        let begins = self.link.state() == State::Running && !self.has_run_here;
+        if begins || received != self.received {
+            self.quiet_since = self.moment;
+        }
+        self.received = received;
+    }
+
+    /// Writes a notice: with messages in binary to standard error.
+    fn report_notice(&mut self, notice: Notice)
+        ensures wrote { Wrote (notice_text (form_of self.old.messages) notice) self.old.output
+            self.new.output }
+        ensures stays { self.new ≡ record self.old { output = self.new.output } }
+    {
+        match self.options.form {
+            Form::Digits => text::write_notice_line(&mut self.output, notice),
+            Form::Binary => {
+                if let Some(lines) = self.errors.line() {
+                    text::write_notice_line(lines, notice);
+                }
+            }
+        }
+        match notice {
+            Notice::Restarted(lost) => self.report_lost(lost),
+            Notice::PeerRestarted => self.peer_restarted = true,
+            _ => {}
+        }
+    }
+
+    /// Puts frames behind what waits for the line, as far as there is room: one at a time for
+    /// datagrams, and while messages wait for the peer none that carries one.
+    pub fn fill(&mut self)
+        ensures { (n : ℕ) × (self.new
+            ≡ record self.old { link = after_frames n self.old.link }) }
+    {
+        if self.options.datagrams && !self.link.unsent().is_empty() {
+            return;
+        }
+        while self.fill_one() {
+            if self.options.datagrams {
+                break;
+            }
+        }
+    }
+
+    /// Puts the next frame behind what waits for the line, unless it is a message that waits for
+    /// the peer: returns whether it did.
+    fn fill_one(&mut self) -> bool
+        ensures state { (n : ℕ) × (self.new
+            ≡ record self.old { link = after_frames n self.old.link }) }
+        ensures less { result ≡ true → self.new.link.outbox.room < self.old.link.outbox.room }
+    {
+        if self.pacing.until().is_some() && self.link.sends_message() {
+            return false;
+        }
+        self.link.fill_one()
+    }
+
+    /// Returns what waits for the line.
+    pub fn to_line(&self) -> &[u8]
+        ensures { result.now ≡ self.now.link.outbox.waiting }
+    {
+        self.link.unsent()
+    }
+
+    /// Takes note that the line took the first `n` bytes of `to_line`.
+    pub fn line_took(&mut self, n: usize)
+        ensures { self.new ≡ record self.old {
+          link = after_sent (min n (length self.old.link.outbox.waiting)) self.old.link;
+        } }
+    {
+        let unsent = self.link.unsent();
+        let n = n.min(unsent.len());
+        if let Some(trace) = &mut self.trace {
+            trace.tell(Way::ToLine, &unsent[..n], &mut self.errors);
+        }
+        self.link.sent(n);
+    }
+}

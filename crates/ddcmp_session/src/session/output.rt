@@ -1,0 +1,104 @@
+//! The two outputs of a session.
+use crate::messages::Form;
+use crate::session::Session;
+use crate::text;
+use std::fmt;
+use std::fmt::Write;
+
+impl Session {
+    ghost use Rattle.std.specs.Prelude.{◌≡◌, ◌≤◌, ℕ, List, Some, true, false, min, length, is_some};
+    ghost use Rattle.std.specs.Prelude.{if◌then◌else◌};
+    ghost use Rattle.ddcmp_station.specs.Linking.{after_taking};
+    ghost use Rattle.ddcmp_window.specs.Store.{first_message};
+    ghost use Rattle.ddcmp_session.specs.Queue.{after_taken};
+    ghost use Rattle.ddcmp_session.specs.Session.{form_of, room_for_mail};
+    ghost use Rattle.ddcmp_session.specs.Text.{Wrote, mail_text, lost_text};
+
+    /// Writes the first received message, if there is one and the output has room for it: returns
+    /// whether it did.
+    pub fn deliver(&mut self) -> bool
+        ensures link { self.new.link
+            ≡ (if result then after_taking self.old.link else self.old.link) }
+        ensures wrote { result ≡ true → (message : List ℕ)
+            × (first_message self.old.link.station.core.station.inbox ≡ Some message)
+            × Wrote (mail_text (form_of self.old.messages) message) self.old.output
+            self.new.output }
+        ensures waits { result ≡ false → (self.new.output.waiting ≡ self.old.output.waiting)
+            × (self.new.output.is_cut ≡ self.old.output.is_cut) }
+        ensures when { room_for_mail self.old ≤ self.old.output.room → result
+            ≡ is_some (first_message self.old.link.station.core.station.inbox) }
+        ensures stays { self.new
+            ≡ record self.old { link = self.new.link; output = self.new.output } }
+    {
+        self.output.settle();
+        if self.output.room() < text::mail_room(self.link.config().max) {
+            return false;
+        }
+        match self.link.take(&mut self.mail) {
+            None => false,
+            Some(n) => {
+                text::write_mail(&mut self.output, self.options.form, &self.mail[..n]);
+                true
+            }
+        }
+    }
+
+    /// Returns what waits for standard output.
+    pub fn to_output(&self) -> &[u8]
+        ensures { result.now ≡ self.now.output.waiting }
+    {
+        self.output.waiting()
+    }
+
+    /// Takes note that standard output took the first `n` bytes of `to_output`.
+    pub fn output_took(&mut self, n: usize)
+        ensures { self.new ≡ record self.old {
+          output = after_taken (min n (length self.old.output.waiting)) self.old.output;
+        } }
+    {
+        let n = n.min(self.output.waiting().len());
+        self.output.took(n);
+    }
+
+    /// Returns what waits for standard error.
+    pub fn to_errors(&self) -> &[u8] {
+        self.errors.waiting()
+    }
+
+    /// Takes note that standard error took the first `n` bytes of `to_errors`.
+    pub fn errors_took(&mut self, n: usize)
+        ensures { self.new ≡ self.old }
+    {
+        self.errors.took(n);
+    }
+
+    /// Reports an event on standard error, as a line of its own.
+    pub fn report<E: fmt::Display>(&mut self, event: &E)
+        ensures { self.new ≡ self.old }
+    {
+        if let Some(lines) = self.errors.line() {
+            let _is_whole = write!(lines, "{event}\n");
+        }
+    }
+
+    /// Reports how many accepted messages were dropped, if any.
+    #[tactic(auto, using(crate::proofs::TextLaws::nothing))]
+    pub(super) fn report_lost(&mut self, lost: u8)
+        ensures wrote { Wrote (lost_text (form_of self.old.messages) lost) self.old.output
+            self.new.output }
+        ensures stays { self.new ≡ record self.old { output = self.new.output } }
+    {
+        if lost == 0 {
+            return;
+        }
+        self.lost = self.lost.saturating_add(lost as u64);
+        match self.options.form {
+            Form::Digits => text::write_lost(&mut self.output, lost),
+            Form::Binary => {
+                if let Some(lines) = self.errors.line() {
+                    text::write_lost(lines, lost);
+                }
+            }
+        }
+    }
+}
