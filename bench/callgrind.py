@@ -1,5 +1,6 @@
 """Instructions of programs, as callgrind counts them. Runs of the same program count the same, whatever else
-the machine does: valgrind shows each program the same processor, if that of the machine has AVX2."""
+the machine does, with the same libc: valgrind shows each program the same processor, if that of the machine has
+AVX2."""
 import os
 import re
 import shutil
