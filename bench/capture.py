@@ -72,4 +72,5 @@ def main():
         sys.stdout.buffer.write(text)
 
 
-main()
+if __name__ == "__main__":
+    main()
