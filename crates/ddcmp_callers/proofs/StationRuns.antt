@@ -1,5 +1,5 @@
 -- Every call of a station keeps what an honest and clean run promises, and is that call of the code.
-use Rattle.std.proofs.Common.{◌≡◌, ℕ, ◌≤◌, Bool, true, false, cond, List, [], ◌∷◌, ◌++◌, length}
+use Rattle.std.proofs.Common.{◌≡◌, ℕ, ◌+◌, ◌≤◌, Bool, true, false, cond, List, [], ◌∷◌, ◌++◌, length}
 use Rattle.std.proofs.Common.{refl, sym, ◌∙◌, ap, subst, arith, append-nil, Option, Some, None}
 use Rattle.std.specs.Prelude.{◌&&◌, ◌==◌, if◌then◌else◌, is_some, is_none, nat_le}
 use Rattle.std.specs.Prelude.{option_to_list}
@@ -20,7 +20,7 @@ use Rattle.ddcmp_core.specs.Table.{Limits, StationState, is_halted, is_maintenan
 use Rattle.ddcmp_core.specs.Table.{after_start, after_enter_maintenance, after_halt, may_send}
 use Rattle.ddcmp_core.specs.Table.{may_send_maintenance, after_accept, after_take, after_expire}
 use Rattle.ddcmp_core.specs.Table.{after_take_arm}
-use Rattle.ddcmp_proto.specs.Bytes.{items_added, after_piece, after_poll}
+use Rattle.ddcmp_proto.specs.Bytes.{items_added, after_piece, after_poll, notices_of_piece}
 use Rattle.ddcmp_proto.specs.Config.{first_refusal, core_made}
 use Rattle.ddcmp_proto.specs.declared.config.Config.{Config}
 use Rattle.ddcmp_proto.specs.Station.{StationView}
@@ -32,9 +32,10 @@ use Rattle.ddcmp_run.specs.declared.event.End.{End}
 use Rattle.ddcmp_run.specs.declared.event.End.TheVariants.{A, B}
 use Rattle.ddcmp_run.specs.declared.event.Event.{Event}
 use Rattle.ddcmp_run.specs.declared.event.Event.TheVariants as event
-use Rattle.ddcmp_run.specs.InOrder.{IsInOrder, IsLink}
+use Rattle.ddcmp_run.specs.InOrder.{Delivers, IsInOrder, IsLink}
 use Rattle.ddcmp_run.specs.Place.{place_of}
 use Rattle.ddcmp_run.specs.Run.{EndState, PairState, at, notices_at, with_station, cleared}
+use Rattle.ddcmp_run.specs.Run.{acknowledged_in}
 use Rattle.ddcmp_run.specs.Run.{after_arrival_here, after_event_here, after_event_at, after_event}
 use Rattle.ddcmp_run.specs.Run.{clear_refusal, after_clear_by, run, new_end, new_pair, is_clean}
 use Rattle.ddcmp_run.proofs.Linked.{Linked, linked-turned, linked-event, starts-grow}
@@ -48,9 +49,11 @@ use Rattle.ddcmp_callers.specs.StationRuns.{after_clear_line_here, after_mainten
 use Rattle.ddcmp_callers.specs.StationRuns.{after_send_maintenance_here, after_station_call_here}
 use Rattle.ddcmp_callers.specs.StationRuns.{has_heard_none, after_station_call}
 use Rattle.ddcmp_callers.specs.StationRuns.{run_station_calls, station_call, station_calls}
-use Rattle.ddcmp_callers.specs.StationRuns.{IsStationAt, StationStep, Stations, AreStationCalls}
-use Rattle.ddcmp_callers.specs.StationRuns.{after_station_steps, calls_of_stations, AreStationsOf}
-use Rattle.ddcmp_callers.specs.StationRuns.{accepted_by, taken_by, kept_by}
+use Rattle.ddcmp_callers.specs.StationRuns.{IsStationAt, StationHistory, begun_station, used_by}
+use Rattle.ddcmp_callers.specs.StationRuns.{accepted_by, taken_by, acknowledged_after, kept_by}
+use Rattle.ddcmp_callers.specs.StationRuns.{StationStep, after_station_step, IsSameStation, Stations}
+use Rattle.ddcmp_callers.specs.StationRuns.{after_step_at, AreStationCalls, after_station_steps}
+use Rattle.ddcmp_callers.specs.StationRuns.{calls_of_stations, AreSameStations, StationReaches}
 use Rattle.ddcmp_callers.proofs.Stations.{again}
 use Rattle.ddcmp_callers.proofs.Calling.{end_again, station_is, accepted, pair_is}
 use Rattle.ddcmp_callers.proofs.Runs.{one_same, order_same, links_same, notices_same, honest_same}
@@ -653,74 +656,176 @@ accepts : (b : Bool) (given : List (List ℕ)) (message : List ℕ)
 accepts true given message = refl
 accepts false given message = sym (append-nil given)
 
--- what a line that is cleared keeps
-keeps-messages : (b c : Bool) (messages : List (List ℕ)) → b ≡ c
-    → cond b [] messages ≡ cond c [] messages ++ []
-keeps-messages b c messages e =
-    ap (λ d. cond d [] messages) e ∙ sym (append-nil (cond c [] messages))
+-- what is kept if the line is cleared
+kept-list : {X : Type 0} (b c : Bool) (l : List X) → b ≡ c → cond b [] l ≡ cond c [] l ++ []
+kept-list b c l e = ap (λ d. cond d [] l) e ∙ sym (append-nil (cond c [] l))
 
-same-state : (x : EndState) (v : StationView) → IsStationAt x v
-    → is_halted x.core.station.state ≡ is_halted v.core.station.state
-same-state x v at = ap (λ (k : CoreView). is_halted k.station.state) at.core
+kept-count : (b c : Bool) (n : ℕ) → b ≡ c → cond b 0 n ≡ cond c 0 n + 0
+kept-count b c n e = ap (λ d. cond d 0 n) e ∙ plus-none (cond c 0 n)
+  where
+    plus-none : (m : ℕ) → m ≡ m + 0
+    plus-none m = omega arith
 
-given-cleared : (b empty : Bool) (x : EndState)
-    → (if b then begun_anew empty x else x).given ≡ cond b [] x.given
-given-cleared true empty x = refl
-given-cleared false empty x = refl
+cleared-part : {X : Type 0} (f : EndState → X) (nothing : X) (b empty : Bool) (x : EndState)
+    → f (begun_anew empty x) ≡ nothing
+    → f (if b then begun_anew empty x else x) ≡ cond b nothing (f x)
+cleared-part f nothing true empty x e = e
+cleared-part f nothing false empty x e = refl
 
-taken-cleared : (b empty : Bool) (x : EndState)
-    → (if b then begun_anew empty x else x).taken ≡ cond b [] x.taken
-taken-cleared true empty x = refl
-taken-cleared false empty x = refl
+module _ (x : EndState) (v : StationView) (at : IsStationAt x v) where
+  same-state : is_halted x.core.station.state ≡ is_halted v.core.station.state
+  same-state = ap (λ (k : CoreView). is_halted k.station.state) at.core
 
-pub call-given : (call : StationCall) (v : StationView) (x : EndState) → IsStationAt x v
-    → (after_station_call_here call x).given ≡ kept_by call v x.given ++ accepted_by call v
-call-given Starts v x at = sym (append-nil x.given)
-call-given Halts v x at = sym (append-nil x.given)
-call-given (Sends message) v x at =
-    ap (λ (k : CoreView). cond (may_send k.limits k.station message) (x.given ++ message ∷ [])
-    x.given) at.core
-    ∙ accepts (may_send v.core.limits v.core.station message) x.given message
-call-given Polls v x at = sym (append-nil x.given)
-call-given (Feeds used) v x at = sym (append-nil x.given)
-call-given Expires v x at = sym (append-nil x.given)
-call-given Takes v x at = sym (append-nil x.given)
-call-given TakesArm v x at = sym (append-nil x.given)
-call-given Asks v x at = sym (append-nil x.given)
-call-given ClearsLine v x at =
-    given-cleared (is_halted x.core.station.state) (length x.core.station.inbox == 0) x
-    ∙ keeps-messages _ _ x.given (same-state x v at)
-call-given EntersMaintenance v x at = sym (append-nil x.given)
-call-given (SendsMaintenance message) v x at = sym (append-nil x.given)
+  cleared-list : {X : Type 0} (f : EndState → List X)
+      → ((empty : Bool) → f (begun_anew empty x) ≡ [])
+      → f (after_clear_line_here x) ≡ cond (is_halted v.core.station.state) [] (f x) ++ []
+  cleared-list f e =
+      cleared-part f [] (is_halted x.core.station.state) (length x.core.station.inbox == 0) x
+      (e (length x.core.station.inbox == 0))
+      ∙ kept-list _ _ (f x) same-state
 
-pub call-taken : (call : StationCall) (v : StationView) (x : EndState) → IsStationAt x v
-    → (after_station_call_here call x).taken ≡ kept_by call v x.taken ++ taken_by call v
-call-taken Starts v x at = sym (append-nil x.taken)
-call-taken Halts v x at = sym (append-nil x.taken)
-call-taken (Sends message) v x at = sym (append-nil x.taken)
-call-taken Polls v x at = sym (append-nil x.taken)
-call-taken (Feeds used) v x at = sym (append-nil x.taken)
-call-taken Expires v x at = sym (append-nil x.taken)
-call-taken Takes v x at =
-    ap (λ (k : CoreView). x.taken ++ option_to_list (first_message k.station.inbox)) at.core
-call-taken TakesArm v x at = sym (append-nil x.taken)
-call-taken Asks v x at = sym (append-nil x.taken)
-call-taken ClearsLine v x at =
-    taken-cleared (is_halted x.core.station.state) (length x.core.station.inbox == 0) x
-    ∙ keeps-messages _ _ x.taken (same-state x v at)
-call-taken EntersMaintenance v x at = sym (append-nil x.taken)
-call-taken (SendsMaintenance message) v x at = sym (append-nil x.taken)
+  call-used : (call : StationCall)
+      → (after_station_call_here call x).arrived ≡ kept_by call v [] x.arrived ++ used_by call
+  call-used (Feeds used) = refl
+  call-used ClearsLine = cleared-list (λ y. y.arrived) (λ empty. refl)
+  call-used Starts = sym (append-nil x.arrived)
+  call-used Halts = sym (append-nil x.arrived)
+  call-used (Sends message) = sym (append-nil x.arrived)
+  call-used Polls = sym (append-nil x.arrived)
+  call-used Expires = sym (append-nil x.arrived)
+  call-used Takes = sym (append-nil x.arrived)
+  call-used TakesArm = sym (append-nil x.arrived)
+  call-used Asks = sym (append-nil x.arrived)
+  call-used EntersMaintenance = sym (append-nil x.arrived)
+  call-used (SendsMaintenance message) = sym (append-nil x.arrived)
+
+  call-given : (call : StationCall)
+      → (after_station_call_here call x).given ≡ kept_by call v [] x.given ++ accepted_by call v
+  call-given (Sends message) =
+      ap (λ (k : CoreView). cond (may_send k.limits k.station message) (x.given ++ message ∷ [])
+      x.given) at.core
+      ∙ accepts (may_send v.core.limits v.core.station message) x.given message
+  call-given ClearsLine = cleared-list (λ y. y.given) (λ empty. refl)
+  call-given Starts = sym (append-nil x.given)
+  call-given Halts = sym (append-nil x.given)
+  call-given Polls = sym (append-nil x.given)
+  call-given (Feeds used) = sym (append-nil x.given)
+  call-given Expires = sym (append-nil x.given)
+  call-given Takes = sym (append-nil x.given)
+  call-given TakesArm = sym (append-nil x.given)
+  call-given Asks = sym (append-nil x.given)
+  call-given EntersMaintenance = sym (append-nil x.given)
+  call-given (SendsMaintenance message) = sym (append-nil x.given)
+
+  call-taken : (call : StationCall)
+      → (after_station_call_here call x).taken ≡ kept_by call v [] x.taken ++ taken_by call v
+  call-taken Takes =
+      ap (λ (k : CoreView). x.taken ++ option_to_list (first_message k.station.inbox)) at.core
+  call-taken ClearsLine = cleared-list (λ y. y.taken) (λ empty. refl)
+  call-taken Starts = sym (append-nil x.taken)
+  call-taken Halts = sym (append-nil x.taken)
+  call-taken (Sends message) = sym (append-nil x.taken)
+  call-taken Polls = sym (append-nil x.taken)
+  call-taken (Feeds used) = sym (append-nil x.taken)
+  call-taken Expires = sym (append-nil x.taken)
+  call-taken TakesArm = sym (append-nil x.taken)
+  call-taken Asks = sym (append-nil x.taken)
+  call-taken EntersMaintenance = sym (append-nil x.taken)
+  call-taken (SendsMaintenance message) = sym (append-nil x.taken)
+
+call-acknowledged : (call : StationCall) (x : EndState) (h : StationHistory) → IsSameStation x h
+    → (after_station_call_here call x).acknowledged
+    ≡ kept_by call h.station 0 x.acknowledged + acknowledged_after call h
+call-acknowledged (Feeds used) x h s =
+    λ i. x.acknowledged + acknowledged_in (notices_of_piece (s.used i) used (s.at.core i))
+call-acknowledged ClearsLine x h s =
+    cleared-part (λ y. y.acknowledged) 0 (is_halted x.core.station.state)
+    (length x.core.station.inbox == 0) x refl
+    ∙ kept-count _ _ x.acknowledged (same-state x h.station s.at)
+call-acknowledged Starts x h s = omega arith
+call-acknowledged Halts x h s = omega arith
+call-acknowledged (Sends message) x h s = omega arith
+call-acknowledged Polls x h s = omega arith
+call-acknowledged Expires x h s = omega arith
+call-acknowledged Takes x h s = omega arith
+call-acknowledged TakesArm x h s = omega arith
+call-acknowledged Asks x h s = omega arith
+call-acknowledged EntersMaintenance x h s = omega arith
+call-acknowledged (SendsMaintenance message) x h s = omega arith
+
+pub station-step : (step : StationStep) (h : StationHistory) (x : EndState)
+    → HasDone step.call h.station step.station → IsSameStation x h
+    → IsSameStation (after_station_call_here step.call x) (after_station_step step h)
+station-step step h x done s =
+    let c = step.call in let v = h.station in record {
+      at = station-call c v step.station x done s.at;
+      used = call-used x v s.at c ∙ ap (λ l. kept_by c v [] l ++ used_by c) s.used;
+      accepted =
+          call-given x v s.at c ∙ ap (λ l. kept_by c v [] l ++ accepted_by c v) s.accepted;
+      taken = call-taken x v s.at c ∙ ap (λ l. kept_by c v [] l ++ taken_by c v) s.taken;
+      acknowledged =
+          call-acknowledged c x h s
+          ∙ ap (λ n. kept_by c v 0 n + acknowledged_after c h) s.acknowledged;
+    }
 
 -- ---- both stations
 
-pub both-stations : (steps : List (End × StationStep)) (v : Stations) (p : PairState)
-    → AreStationCalls steps v → AreStationsOf p v
-    → AreStationsOf (run_station_calls (calls_of_stations steps) p) (after_station_steps steps v)
+pub both-stations : (steps : List (End × StationStep)) (q : Stations) (p : PairState)
+    → AreStationCalls steps q → AreSameStations p q
+    → AreSameStations (run_station_calls (calls_of_stations steps) p) (after_station_steps steps q)
 unfolding run_station_calls after_station_steps
-both-stations [] v p done at = at
-both-stations ((A, step) ∷ rest) v p done at =
-    both-stations rest _ (after_station_call A step.call p) done.1
-    (record { a = station-call step.call v.a step.station p.a done.0 at.a; b = at.b })
-both-stations ((B, step) ∷ rest) v p done at =
-    both-stations rest _ (after_station_call B step.call p) done.1
-    (record { a = at.a; b = station-call step.call v.b step.station p.b done.0 at.b })
+both-stations [] q p done s = s
+both-stations ((A, step) ∷ rest) q p done s =
+    both-stations rest (after_step_at A step q) (after_station_call A step.call p) done.1
+    (record { a = station-step step q.a p.a done.0 s.a; b = s.b })
+both-stations ((B, step) ∷ rest) q p done s =
+    both-stations rest (after_step_at B step q) (after_station_call B step.call p) done.1
+    (record { a = s.a; b = station-step step q.b p.b done.0 s.b })
+
+begun-same : (config : Config) (v : StationView) → IsStationAt (new_end config) v
+    → IsSameStation (new_end config) (begun_station v)
+begun-same config v at =
+    record { at = at; used = refl; accepted = refl; taken = refl; acknowledged = refl }
+
+station-reaches : (x y : EndState) (h k : StationHistory) → IsSameStation x h → IsSameStation y k
+    → Delivers x y → StationReaches h k
+station-reaches x y h k s t d =
+    let up : y.taken ++ y.core.station.inbox ≡ k.taken ++ k.station.core.station.inbox =
+    ap (λ l. l ++ y.core.station.inbox) t.taken
+    ∙ ap (λ (c : CoreView). k.taken ++ c.station.inbox) t.at.core in
+    record {
+      order = (d.order.0, ap (λ l. l ++ d.order.0) (sym up) ∙ d.order.1 ∙ s.accepted);
+      acknowledged =
+          let e = ap length up in let f = s.acknowledged in let g = d.acknowledged in
+          omega (arith, e, f, g);
+    }
+
+module _ (first second : Config) (v w : StationView) (steps : List (End × StationStep))
+    (f : first_refusal first ≡ None) (g : first_refusal second ≡ None)
+    (av : IsStationAt (new_end first) v) (aw : IsStationAt (new_end second) w)
+    (done : AreStationCalls steps (record { a = begun_station v; b = begun_station w }))
+    (honest : (run_station_calls (calls_of_stations steps) (new_pair first second)).honest ≡ true)
+    (clean : is_clean (run_station_calls (calls_of_stations steps) (new_pair first second)) ≡ true)
+  where
+    abbrev two : Stations
+    two = record { a = begun_station v; b = begun_station w }
+
+    both : AreSameStations (run_station_calls (calls_of_stations steps) (new_pair first second))
+        (after_station_steps steps two)
+    both =
+        both-stations steps two (new_pair first second) done
+        (record { a = begun-same first v av; b = begun-same second w aw })
+
+    pub stations-to-b : StationReaches (after_station_steps steps two).a
+        (after_station_steps steps two).b
+    stations-to-b =
+        station-reaches _ _ _ _ both.a both.b
+        ((station-calls-in-order first second (calls_of_stations steps) f g).where_clean honest
+        clean).a_to_b
+
+    pub stations-to-a : StationReaches (after_station_steps steps two).b
+        (after_station_steps steps two).a
+    stations-to-a =
+        station-reaches _ _ _ _ both.b both.a
+        ((station-calls-in-order first second (calls_of_stations steps) f g).where_clean honest
+        clean).b_to_a

@@ -1,19 +1,24 @@
 -- Two stations by every call that a station has, also those that clear a line or concern
 -- maintenance: what each call does to an end of a run, and which ends stations are.
-use Rattle.std.specs.Prelude.{◌≡◌, ℕ, Bool, ◌&&◌, if◌then◌else◌, ◌==◌, List, [], ◌∷◌, length, map}
-use Rattle.std.specs.Prelude.{option_to_list}
+use Rattle.std.specs.Prelude.{◌≡◌, ℕ, ◌+◌, ◌≤◌, Bool, true, ◌&&◌, if◌then◌else◌, ◌==◌, List, []}
+use Rattle.std.specs.Prelude.{◌∷◌, ◌++◌, length, map, None, option_to_list}
 use Rattle.ddcmp_frame.specs.Reader.{StandsFor}
 use Rattle.ddcmp_frame.specs.Reading.{good_frames}
 use Rattle.ddcmp_core.specs.Store.{first_message}
 use Rattle.ddcmp_core.specs.Table.{is_halted, may_start, after_enter_maintenance, may_send}
 use Rattle.ddcmp_core.specs.Table.{may_send_maintenance, after_accept}
+use Rattle.ddcmp_proto.specs.Bytes.{notices_of_piece}
+use Rattle.ddcmp_proto.specs.Config.{first_refusal}
+use Rattle.ddcmp_proto.specs.declared.config.Config.{Config}
 use Rattle.ddcmp_proto.specs.Station.{StationView}
 use Rattle.ddcmp_proto.specs.StationCalls.{StationCall, Starts, Halts, Sends, Polls, Feeds, Expires}
 use Rattle.ddcmp_proto.specs.StationCalls.{Takes, TakesArm, Asks, ClearsLine, EntersMaintenance}
 use Rattle.ddcmp_proto.specs.StationCalls.{SendsMaintenance, HasDone}
 use Rattle.ddcmp_run.specs.declared.event.End.{End}
 use Rattle.ddcmp_run.specs.declared.event.End.TheVariants.{A, B}
-use Rattle.ddcmp_run.specs.Run.{EndState, PairState, with_station, cleared}
+use Rattle.ddcmp_run.specs.Prefix.{IsPrefixOf}
+use Rattle.ddcmp_run.specs.Run.{EndState, PairState, with_station, cleared, acknowledged_in}
+use Rattle.ddcmp_run.specs.Run.{new_end, new_pair, is_clean}
 use Rattle.ddcmp_callers.specs.Calls.{Call, Start, Halt, Send, Poll, Arrive, Expire, Take, Arm, Ask}
 use Rattle.ddcmp_callers.specs.Calls.{after_call_here, is_call_honest}
 
@@ -111,7 +116,31 @@ pub record IsStationAt (x : EndState) (v : StationView) : Type 0 where
   pub syn : x.syn ≡ v.syn
   pub line : StandsFor v.line x.arrived
 
--- the messages that a call accepts, and those that it takes
+-- ---- the history of a station
+
+-- A station, and what has been since its line was cleared: the bytes of the line that it used, the
+-- messages that it accepted, those that were taken from it, and how many it reported acknowledged.
+pub record StationHistory : Type 0 where
+  pub station : StationView
+  pub used : List ℕ
+  pub accepted : List (List ℕ)
+  pub taken : List (List ℕ)
+  pub acknowledged : ℕ
+
+abbrev pub begun_station : StationView → StationHistory
+begun_station v = record {
+  station = v;
+  used = [];
+  accepted = [];
+  taken = [];
+  acknowledged = 0;
+}
+
+-- what a call adds
+abbrev pub used_by : StationCall → List ℕ
+used_by (Feeds used) = used
+used_by _ = []
+
 abbrev pub accepted_by : StationCall → StationView → List (List ℕ)
 accepted_by (Sends message) v =
     if may_send v.core.limits v.core.station message then message ∷ [] else []
@@ -121,45 +150,92 @@ abbrev pub taken_by : StationCall → StationView → List (List ℕ)
 taken_by Takes v = option_to_list (first_message v.core.station.inbox)
 taken_by _ v = []
 
--- what a history keeps of a list: none if the line is cleared
-abbrev pub kept_by : StationCall → StationView → List (List ℕ) → List (List ℕ)
-kept_by ClearsLine v messages = if is_halted v.core.station.state then [] else messages
-kept_by _ v messages = messages
+abbrev pub acknowledged_after : StationCall → StationHistory → ℕ
+acknowledged_after (Feeds used) h =
+    acknowledged_in (notices_of_piece h.used used h.station.core)
+acknowledged_after _ h = 0
+
+-- what it keeps: nothing, if the line is cleared
+abbrev pub kept_by : {A : Type 0} → StationCall → StationView → A → A → A
+kept_by ClearsLine v nothing old = if is_halted v.core.station.state then nothing else old
+kept_by _ v nothing old = old
 
 -- a call, and the station after it
 pub record StationStep : Type 0 where
   pub call : StationCall
   pub station : StationView
 
--- two stations
+abbrev pub after_station_step : StationStep → StationHistory → StationHistory
+after_station_step step h = record {
+  station = step.station;
+  used = kept_by step.call h.station [] h.used ++ used_by step.call;
+  accepted = kept_by step.call h.station [] h.accepted ++ accepted_by step.call h.station;
+  taken = kept_by step.call h.station [] h.taken ++ taken_by step.call h.station;
+  acknowledged =
+      kept_by step.call h.station 0 h.acknowledged + acknowledged_after step.call h;
+}
+
+-- An end of a run and a station with its history are the same.
+pub record IsSameStation (x : EndState) (h : StationHistory) : Type 0 where
+  pub at : IsStationAt x h.station
+  pub used : x.arrived ≡ h.used
+  pub accepted : x.given ≡ h.accepted
+  pub taken : x.taken ≡ h.taken
+  pub acknowledged : x.acknowledged ≡ h.acknowledged
+
+-- ---- two stations
+
 pub record Stations : Type 0 where
-  pub a : StationView
-  pub b : StationView
+  pub a : StationHistory
+  pub b : StationHistory
 
-abbrev pub station_at : End → Stations → StationView
-station_at A v = v.a
-station_at B v = v.b
+abbrev pub history_at : End → Stations → StationHistory
+history_at A q = q.a
+history_at B q = q.b
 
-abbrev pub after_station_step : End → StationStep → Stations → Stations
-after_station_step A step v = record { a = step.station; b = v.b }
-after_station_step B step v = record { a = v.a; b = step.station }
+abbrev pub after_step_at : End → StationStep → Stations → Stations
+after_step_at A step q = record { a = after_station_step step q.a; b = q.b }
+after_step_at B step q = record { a = q.a; b = after_station_step step q.b }
 
 -- Each step is a call of one of two stations, as its contract says.
 abbrev pub AreStationCalls : List (End × StationStep) → Stations → Type 0
-AreStationCalls [] v = Unit {0}
-AreStationCalls (step ∷ rest) v =
-    HasDone step.1.call (station_at step.0 v) step.1.station
-    × AreStationCalls rest (after_station_step step.0 step.1 v)
+AreStationCalls [] q = Unit {0}
+AreStationCalls (step ∷ rest) q =
+    HasDone step.1.call (history_at step.0 q).station step.1.station
+    × AreStationCalls rest (after_step_at step.0 step.1 q)
 
 unfoldable pub after_station_steps : List (End × StationStep) → Stations → Stations
-after_station_steps [] v = v
-after_station_steps (step ∷ rest) v =
-    after_station_steps rest (after_station_step step.0 step.1 v)
+after_station_steps [] q = q
+after_station_steps (step ∷ rest) q = after_station_steps rest (after_step_at step.0 step.1 q)
 
 abbrev pub calls_of_stations : List (End × StationStep) → List (End × StationCall)
 calls_of_stations steps = map (λ step. (step.0, step.1.call)) steps
 
 -- both ends of a run
-pub record AreStationsOf (p : PairState) (v : Stations) : Type 0 where
-  pub a : IsStationAt p.a v.a
-  pub b : IsStationAt p.b v.b
+pub record AreSameStations (p : PairState) (q : Stations) : Type 0 where
+  pub a : IsSameStation p.a q.a
+  pub b : IsSameStation p.b q.b
+
+-- the messages that were taken from a station, and after them those that wait in its inbox
+abbrev pub received : StationHistory → List (List ℕ)
+received h = h.taken ++ h.station.core.station.inbox
+
+-- What one station received are the first of the messages that the other accepted, in their order,
+-- each once and unchanged; and the other reported no more of them acknowledged.
+pub record StationReaches (giver taker : StationHistory) : Type 0 where
+  pub order : IsPrefixOf (received taker) giver.accepted
+  pub acknowledged : giver.acknowledged ≤ length (received taker)
+
+-- A promise about the histories of two stations is kept: it holds for two new stations of any sizes
+-- in range, whatever the calls, if the line is honest and the run clean since the lines were
+-- cleared.
+abbrev pub IsKeptByStations : (Stations → Type 0) → Type 0
+IsKeptByStations Promise = (first second : Config) (v w : StationView)
+    (steps : List (End × StationStep))
+    → first_refusal first ≡ None → first_refusal second ≡ None
+    → IsStationAt (new_end first) v → IsStationAt (new_end second) w
+    → AreStationCalls steps (record { a = begun_station v; b = begun_station w })
+    → (run_station_calls (calls_of_stations steps) (new_pair first second)).honest ≡ true
+    → is_clean (run_station_calls (calls_of_stations steps) (new_pair first second)) ≡ true
+    → Promise
+    (after_station_steps steps (record { a = begun_station v; b = begun_station w }))

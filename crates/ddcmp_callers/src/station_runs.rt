@@ -1,5 +1,5 @@
 //! Two stations by every call that a station has.
-ghost use Rattle.std.specs.Prelude.{◌≡◌, ◌++◌, ℕ, List, [], true, false, None};
+ghost use Rattle.std.specs.Prelude.{◌≡◌, ℕ, List, [], true, false, None};
 ghost use Rattle.std.specs.List.{All};
 ghost use Rattle.ddcmp_frame.specs.Reader.{StandsFor};
 ghost use Rattle.ddcmp_core.specs.Laws.{tells_restart};
@@ -18,9 +18,11 @@ ghost use Rattle.ddcmp_run.specs.InOrder.{IsInOrder, IsLink};
 ghost use Rattle.ddcmp_callers.specs.Calls.{Call, run_calls};
 ghost use Rattle.ddcmp_callers.specs.StationRuns.{after_station_call_here, after_station_call};
 ghost use Rattle.ddcmp_callers.specs.StationRuns.{run_station_calls, station_calls, IsStationAt};
-ghost use Rattle.ddcmp_callers.specs.StationRuns.{StationStep, Stations, AreStationCalls};
+ghost use Rattle.ddcmp_callers.specs.StationRuns.{StationHistory, StationStep, Stations};
+ghost use Rattle.ddcmp_callers.specs.StationRuns.{AreStationCalls, after_station_step};
 ghost use Rattle.ddcmp_callers.specs.StationRuns.{after_station_steps, calls_of_stations};
-ghost use Rattle.ddcmp_callers.specs.StationRuns.{AreStationsOf, accepted_by, taken_by, kept_by};
+ghost use Rattle.ddcmp_callers.specs.StationRuns.{IsSameStation, AreSameStations};
+ghost use Rattle.ddcmp_callers.specs.StationRuns.{IsKeptByStations, StationReaches};
 
 /// The headline for every call of a station. Two new stations of any sizes in range are in order
 /// after every list of calls, if the line is honest and the run clean since the lines were cleared.
@@ -60,22 +62,28 @@ pub fn every_call()
 
 /// What the contract of a call of a station says is that call of a run: a new station is a new end
 /// of a run, and each call takes a station that is an end of a run to the one that is that end
-/// after the call. The end has the messages that the station accepted and those that were taken
-/// from it, since the line was cleared. Two stations are both ends, after any calls of both.
+/// after the call. So it is with the histories of a station, and with two stations, after any calls
+/// of both.
 pub fn station_calls_are_calls()
     ensures begins { (config : ConfigValue) (v : StationView) → v.core ≡ core_made config
         → v.syn ≡ config.syn → StandsFor v.line [] → IsStationAt (new_end config) v }
     ensures call { (call : StationCall) (old new : StationView) (x : EndState)
         → HasDone call old new → IsStationAt x old
         → IsStationAt (after_station_call_here call x) new }
-    ensures given { (call : StationCall) (v : StationView) (x : EndState) → IsStationAt x v
-        → (after_station_call_here call x).given
-        ≡ kept_by call v x.given ++ accepted_by call v }
-    ensures taken { (call : StationCall) (v : StationView) (x : EndState) → IsStationAt x v
-        → (after_station_call_here call x).taken
-        ≡ kept_by call v x.taken ++ taken_by call v }
-    ensures both { (steps : List (EndValue × StationStep)) (v : Stations) (p : PairState)
-        → AreStationCalls steps v → AreStationsOf p v
-        → AreStationsOf (run_station_calls (calls_of_stations steps) p)
-        (after_station_steps steps v) }
+    ensures history { (step : StationStep) (h : StationHistory) (x : EndState)
+        → HasDone step.call h.station step.station → IsSameStation x h
+        → IsSameStation (after_station_call_here step.call x) (after_station_step step h) }
+    ensures both { (steps : List (EndValue × StationStep)) (q : Stations) (p : PairState)
+        → AreStationCalls steps q → AreSameStations p q
+        → AreSameStations (run_station_calls (calls_of_stations steps) p)
+        (after_station_steps steps q) }
+{}
+
+/// Two new stations of any sizes in range, over an honest line, in a clean run, whatever the calls:
+/// what each received since its line was cleared are the first of the messages that the other
+/// accepted since its own was, in their order, each once and unchanged, and no more are reported
+/// acknowledged than were received.
+pub fn stations_in_order()
+    ensures to_b { IsKeptByStations (λ q. StationReaches q.a q.b) }
+    ensures to_a { IsKeptByStations (λ q. StationReaches q.b q.a) }
 {}
