@@ -5,8 +5,8 @@ ghost use Rattle.ddcmp_core.specs.Table.{after_start, after_enter_maintenance, a
 ghost use Rattle.ddcmp_core.specs.Table.{is_halted};
 ghost use Rattle.ddcmp_proto.specs.Config.{first_refusal, core_made, config_of};
 ghost use Rattle.ddcmp_proto.specs.Station.{StationView};
-ghost use Rattle.ddcmp_proto.specs.StationCalls.{Starts as StartCall, Halts, ClearsLine, with_state};
-ghost use Rattle.ddcmp_proto.specs.StationCalls.{EntersMaintenance};
+ghost use Rattle.ddcmp_proto.specs.StationCalls.{Starts as StartCall, Halts, ClearsLine};
+ghost use Rattle.ddcmp_proto.specs.StationCalls.{EntersMaintenance, with_state};
 ghost use Rattle.ddcmp_c.specs.Codes.{code_of_config, code_of_state, given_config, taken_config};
 ghost use Rattle.ddcmp_c.specs.Calls.{Asks, FillsIn, Makes, Starts};
 

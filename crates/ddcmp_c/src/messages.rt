@@ -119,8 +119,8 @@ pub extern "C" fn ddcmp_outgoing(alloc: Global, station: &mut Handle) -> u8
     value
 }
 
-/// Moves the first message of the inbox to the front of `out`, and returns its length: 0 if there is
-/// none.
+/// Moves the first message of the inbox to the front of `out`, and returns its length: 0 if there
+/// is none.
 #[unsafe(no_mangle)]
 pub extern "C" fn ddcmp_take(
     alloc: Global,

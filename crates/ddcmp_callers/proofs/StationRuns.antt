@@ -1,6 +1,7 @@
--- Every call of a station keeps what an honest and clean run promises, and is that call of the code.
-use Rattle.std.proofs.Common.{◌≡◌, ℕ, ◌+◌, ◌≤◌, Bool, true, false, cond, List, [], ◌∷◌, ◌++◌, length}
-use Rattle.std.proofs.Common.{refl, sym, ◌∙◌, ap, subst, arith, append-nil, Option, Some, None}
+-- Every call of a station keeps what an honest and clean run promises, and is that of the code.
+use Rattle.std.proofs.Common.{◌≡◌, ℕ, ◌+◌, ◌≤◌, Bool, true, false, cond, List, [], ◌∷◌, ◌++◌}
+use Rattle.std.proofs.Common.{length, refl, sym, ◌∙◌, ap, subst, arith, append-nil, Option, Some}
+use Rattle.std.proofs.Common.{None}
 use Rattle.std.specs.Prelude.{◌&&◌, ◌==◌, if◌then◌else◌, is_some, is_none, nat_le}
 use Rattle.std.specs.Prelude.{option_to_list}
 use Rattle.std.specs.List.{All}
@@ -40,7 +41,8 @@ use Rattle.ddcmp_run.specs.Run.{after_arrival_here, after_event_here, after_even
 use Rattle.ddcmp_run.specs.Run.{clear_refusal, after_clear_by, run, new_end, new_pair, is_clean}
 use Rattle.ddcmp_run.proofs.Linked.{Linked, linked-turned, linked-event, starts-grow}
 use Rattle.ddcmp_run.proofs.Ordered.{Holds, IsFresh, clean-means, fresh-linked, fresh-new}
-use Rattle.ddcmp_run.proofs.Ordered.{fresh-cleared, holds-new, holds-at, none-at, delivers, may-clear}
+use Rattle.ddcmp_run.proofs.Ordered.{fresh-cleared, holds-new, holds-at, none-at, delivers}
+use Rattle.ddcmp_run.proofs.Ordered.{may-clear}
 use Rattle.ddcmp_run.proofs.Places.{place_of-none, good_frames_in-append}
 use Rattle.ddcmp_run.proofs.Relation.{Face, face, Stands, not_begun, begun, StateFits}
 use Rattle.ddcmp_callers.specs.Calls.{Call, Start, Halt, Send, Poll, Arrive, Expire, Take, Arm, Ask}
@@ -51,8 +53,8 @@ use Rattle.ddcmp_callers.specs.StationRuns.{has_heard_none, after_station_call}
 use Rattle.ddcmp_callers.specs.StationRuns.{run_station_calls, station_call, station_calls}
 use Rattle.ddcmp_callers.specs.StationRuns.{IsStationAt, StationHistory, begun_station, used_by}
 use Rattle.ddcmp_callers.specs.StationRuns.{accepted_by, taken_by, acknowledged_after, kept_by}
-use Rattle.ddcmp_callers.specs.StationRuns.{StationStep, after_station_step, IsSameStation, Stations}
-use Rattle.ddcmp_callers.specs.StationRuns.{after_step_at, AreStationCalls, after_station_steps}
+use Rattle.ddcmp_callers.specs.StationRuns.{StationStep, after_station_step, IsSameStation}
+use Rattle.ddcmp_callers.specs.StationRuns.{Stations, after_step_at, AreStationCalls, after_station_steps}
 use Rattle.ddcmp_callers.specs.StationRuns.{calls_of_stations, AreSameStations, StationReaches}
 use Rattle.ddcmp_callers.proofs.Stations.{again}
 use Rattle.ddcmp_callers.proofs.Calling.{end_again, station_is, accepted, pair_is}
@@ -581,7 +583,8 @@ changed f old new x y c s t e at = record {
   core = c ∙ ap f at.core ∙ sym (ap (λ (v : StationView). v.core) e);
   syn = s ∙ at.syn ∙ sym (ap (λ (v : StationView). v.syn) e);
   line =
-      subst (λ (z : StationView × List ℕ). StandsFor z.0.line z.1) (λ i. (sym e i, sym t i)) at.line;
+      subst (λ (z : StationView × List ℕ). StandsFor z.0.line z.1) (λ i. (sym e i, sym t i))
+      at.line;
 }
 
 has-cleared : (old new : StationView) (x : EndState) → HasCleared old new → IsStationAt x old

@@ -77,8 +77,8 @@ pub fn is_sent(link: &mut Link, n: usize)
     link.sent(n);
 }
 
-/// Handles received bytes: those that were used, all that can be counted if they give no notice. The
-/// history counts what the notice reports acknowledged.
+/// Handles received bytes: those that were used, all that can be counted if they give no notice.
+/// The history counts what the notice reports acknowledged.
 pub fn feeds(link: &mut Link, piece: &[u8]) -> Fed
     ensures done { (text : List ℕ) → StandsFor link.old.station.line text
         → HasDone (Feeds (take result.used piece.now)) text link.old link.new }

@@ -196,7 +196,8 @@ is-empty [] e = refl
 is-empty (m ∷ inbox) e =
     let z : length (m ∷ inbox) ≡ 0 = eqb-true _ _ e in absurd (omega (arith, z))
 
-pub fresh-cleared : (x : EndState) → x.core.limits.window ≤ 255 → is_halted x.core.station.state ≡ true
+pub fresh-cleared : (x : EndState) → x.core.limits.window ≤ 255
+    → is_halted x.core.station.state ≡ true
     → (length x.core.station.inbox == 0) ≡ true → IsFresh (cleared x)
 fresh-cleared x small h i = record {
   small = small;

@@ -1,5 +1,6 @@
 use Rattle.ddcmp_callers.proofs.StationRuns.{station-calls-in-order, station-calls-linked}
-use Rattle.ddcmp_callers.proofs.StationRuns.{station-calls-quiet, same-calls, both-clear, leaves-out}
+use Rattle.ddcmp_callers.proofs.StationRuns.{station-calls-quiet, same-calls, both-clear}
+use Rattle.ddcmp_callers.proofs.StationRuns.{leaves-out}
 use Rattle.ddcmp_callers.proofs.station_runs.every_call.Goals as goal
 
 pub returns-clause-order : goal.returns-clause-order
