@@ -2,14 +2,17 @@
 use Rattle.std.specs.Prelude.{◌≡◌, ◌≢◌, ℕ, if◌then◌else◌, Option, Some, None, Ok}
 use Rattle.ddcmp_core.specs.Table.{StationState, may_start, answer_to_start}
 use Rattle.ddcmp_proto.specs.Station.{StationView}
+use Rattle.ddcmp_proto.specs.StationCalls.{StationCall, HasDone, with_state}
 use Rattle.ddcmp_c.specs.declared.values.TheConstants.{OK, CLOSED}
 use Rattle.ddcmp_c.specs.Codes.{code_of_start_answer}
 
--- a station in another state
-abbrev pub with_state : StationView → StationState → StationView
-with_state s state = record s { core = record s.core { station = state } }
+-- It makes this call of the station that the handle owns, and of none if it owns none.
+pub record Makes (call : StationCall) (old new : Option StationView) : Type 0 where
+  pub closed : old ≡ None → new ≡ None
+  pub done : (s : StationView) → old ≡ Some s
+      → (t : StationView) × (new ≡ Some t) × HasDone call s t
 
--- The station stays, and is asked for a value, which is `none` where there is no station.
+-- The station stays, and is asked for a value, which is `none` if there is no station.
 pub record Asks {A : Type 0} (none : A) (answer : StationView → A) (old : Option StationView)
     (result : A) (new : Option StationView) : Type 0 where
   pub closed : old ≡ None → result ≡ none
@@ -24,7 +27,7 @@ pub record FillsIn {A : Type 0} (given : StationView → A) (old : Option Statio
   pub value : (s : StationView) → old ≡ Some s → (result ≡ OK) × (after ≡ given s)
   pub none : result ≢ OK → after ≡ before
 
--- A station that may start does it by `started`, and tells how many messages it dropped, in place
+-- A station that may start does it by `started`, and returns how many messages it dropped, in place
 -- of `before`.
 pub record Starts (started : StationState → StationState) (old : Option StationView) (before : ℕ)
     (result : ℕ) (new : Option StationView) (after : ℕ) : Type 0 where

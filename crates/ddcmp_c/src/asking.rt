@@ -1,16 +1,17 @@
-//! The timer, and what is asked of a station.
+//! The reply timer, and values of a station.
 ghost use Rattle.std.specs.Prelude.{◌≡◌, false, Some, None};
 ghost use Rattle.ddcmp_core.specs.Table.{after_expire, after_take_arm, is_on, is_fresh};
 ghost use Rattle.ddcmp_core.specs.Counting.{counters_after_expire};
 ghost use Rattle.ddcmp_proto.specs.Station.{StationView};
+ghost use Rattle.ddcmp_proto.specs.StationCalls.{Expires, TakesArm, with_state};
 ghost use Rattle.ddcmp_c.specs.Codes.{given_counters, given_numbers};
-ghost use Rattle.ddcmp_c.specs.Calls.{Asks, FillsIn, with_state};
+ghost use Rattle.ddcmp_c.specs.Calls.{Asks, FillsIn, Makes};
 
 use crate::handle::{Handle, put_back, take_out};
 use crate::values::{CCounters, CLOSED, CNumbers, OK, counters_of, numbers_of};
 use std::alloc::Global;
 
-/// The timer has run out: whether it was on.
+/// Lets the reply timer expire; returns whether it was on.
 #[unsafe(no_mangle)]
 pub extern "C" fn ddcmp_expire(alloc: Global, station: &mut Handle) -> bool
     ensures closed { station.old.station ≡ None
@@ -24,6 +25,7 @@ pub extern "C" fn ddcmp_expire(alloc: Global, station: &mut Handle) -> bool
         }) }
     ensures answer { (s : StationView) → station.old.station ≡ Some s
         → result ≡ is_on s.core.station.timer }
+    ensures call { Makes Expires station.old.station station.new.station }
 {
     let Some(mut open) = take_out(alloc, station) else {
         return false;
@@ -33,7 +35,7 @@ pub extern "C" fn ddcmp_expire(alloc: Global, station: &mut Handle) -> bool
     was_on
 }
 
-/// Whether the timer was started since this was last asked.
+/// Returns whether the reply timer was started since the last such call.
 #[unsafe(no_mangle)]
 pub extern "C" fn ddcmp_take_arm(alloc: Global, station: &mut Handle) -> bool
     ensures closed { station.old.station ≡ None
@@ -42,6 +44,7 @@ pub extern "C" fn ddcmp_take_arm(alloc: Global, station: &mut Handle) -> bool
         → station.new.station ≡ Some (with_state s (after_take_arm s.core.station)) }
     ensures answer { (s : StationView) → station.old.station ≡ Some s
         → result ≡ is_fresh s.core.station.timer }
+    ensures call { Makes TakesArm station.old.station station.new.station }
 {
     let Some(mut open) = take_out(alloc, station) else {
         return false;
@@ -51,7 +54,7 @@ pub extern "C" fn ddcmp_take_arm(alloc: Global, station: &mut Handle) -> bool
     armed
 }
 
-/// Whether the timer isn't off.
+/// Returns whether the reply timer is running.
 #[unsafe(no_mangle)]
 pub extern "C" fn ddcmp_timer_on(alloc: Global, station: &mut Handle) -> bool
     ensures { Asks false (λ s. is_on s.core.station.timer)
@@ -65,7 +68,7 @@ pub extern "C" fn ddcmp_timer_on(alloc: Global, station: &mut Handle) -> bool
     value
 }
 
-/// The numbers.
+/// Returns the station's numbers.
 #[unsafe(no_mangle)]
 pub extern "C" fn ddcmp_numbers(alloc: Global, station: &mut Handle, numbers: &mut CNumbers) -> u32
     ensures { FillsIn (λ s. given_numbers s.core.station) station.old.station numbers.old result
@@ -80,7 +83,7 @@ pub extern "C" fn ddcmp_numbers(alloc: Global, station: &mut Handle, numbers: &m
     OK
 }
 
-/// The counters.
+/// Returns the station's counters.
 #[unsafe(no_mangle)]
 pub extern "C" fn ddcmp_counters(
     alloc: Global,

@@ -7,15 +7,16 @@ ghost use Rattle.ddcmp_window.specs.Store.{with_front};
 ghost use Rattle.ddcmp_core.specs.Table.{next, next_frame};
 ghost use Rattle.ddcmp_proto.specs.Bytes.{frame_on_line, after_poll, after_piece, notices_of_piece};
 ghost use Rattle.ddcmp_proto.specs.Station.{StationView, held_of};
+ghost use Rattle.ddcmp_proto.specs.StationCalls.{Feeds, Polls};
 ghost use Rattle.ddcmp_c.specs.Codes.{code_of_notices, acknowledged_of};
-ghost use Rattle.ddcmp_c.specs.Calls.{Asks};
+ghost use Rattle.ddcmp_c.specs.Calls.{Asks, Makes};
 
 use crate::handle::{Handle, put_back, take_out};
 use crate::values::{CLOSED, CNotice, LONG_LINE, OK, ROOM, notice_code};
 use ddcmp_num::check;
 use std::alloc::Global;
 
-/// Takes bytes of the line, up to the first that gives a notice.
+/// Handles bytes of the line, up to the first that gives a notice.
 #[unsafe(no_mangle)]
 pub extern "C" fn ddcmp_feed(
     alloc: Global,
@@ -47,7 +48,9 @@ pub extern "C" fn ddcmp_feed(
     ensures used { used.new ≤ length piece.now }
     ensures whole { result ≡ OK → notice.new.kind ≡ 0 → used.new ≡ length piece.now }
     ensures some { result ≡ OK → 0 < length piece.now → 0 < used.new }
-    // What is told acknowledged has left. The rest needs no text.
+    ensures call { result ≡ OK
+        → Makes (Feeds (take used.new piece.now)) station.old.station station.new.station }
+    // What is reported acknowledged has left. The rest needs no text.
     ensures kept { (s : StationView) → station.old.station ≡ Some s → result ≡ OK
         → (t : StationView) × (station.new.station ≡ Some t)
         × (acknowledged_of notice.new + length t.core.station.out ≤ length s.core.station.out)
@@ -70,7 +73,7 @@ pub extern "C" fn ddcmp_feed(
     OK
 }
 
-/// Writes the next frame at the front of `out`, and says how many bytes it has: 0 where there is
+/// Writes the next frame at the front of `out`, and returns how many bytes it has: 0 if there is
 /// none.
 #[unsafe(no_mangle)]
 pub extern "C" fn ddcmp_poll(
@@ -93,6 +96,7 @@ pub extern "C" fn ddcmp_poll(
         (option_map (frame_on_line s.syn) (next_frame (next s.core.station)))) 0 }
     ensures out { (s : StationView) → station.old.station ≡ Some s → result ≡ OK → out.new
         ≡ with_front (option_map (frame_on_line s.syn) (next_frame (next s.core.station))) out.old }
+    ensures call { result ≡ OK → Makes Polls station.old.station station.new.station }
 {
     *written = 0;
     let Some(mut open) = take_out(alloc, station) else {
@@ -108,7 +112,7 @@ pub extern "C" fn ddcmp_poll(
     OK
 }
 
-/// The number of bytes that the next frame has: 0 where there is none.
+/// Returns the number of bytes of the next frame: 0 if there is none.
 #[unsafe(no_mangle)]
 pub extern "C" fn ddcmp_next_length(alloc: Global, station: &mut Handle) -> usize
     ensures { Asks 0
@@ -124,7 +128,7 @@ pub extern "C" fn ddcmp_next_length(alloc: Global, station: &mut Handle) -> usiz
     value
 }
 
-/// The room that `ddcmp_poll` wants.
+/// Returns the room that `ddcmp_poll` needs.
 #[unsafe(no_mangle)]
 pub extern "C" fn ddcmp_frame_room(alloc: Global, station: &mut Handle) -> usize
     ensures { Asks 0 (λ s. s.syn + s.core.limits.longest + 10)
@@ -138,7 +142,7 @@ pub extern "C" fn ddcmp_frame_room(alloc: Global, station: &mut Handle) -> usize
     value
 }
 
-/// The number of bytes of the line since it was cleared.
+/// Returns the number of bytes of the line since it was cleared.
 #[unsafe(no_mangle)]
 pub extern "C" fn ddcmp_offset(alloc: Global, station: &mut Handle) -> u64
     ensures { Asks 0 (λ s. s.line.offset) station.old.station result station.new.station }
@@ -151,7 +155,7 @@ pub extern "C" fn ddcmp_offset(alloc: Global, station: &mut Handle) -> u64
     value
 }
 
-/// The number of bytes from the start byte of the unfinished frame on.
+/// Returns the number of bytes from the start byte of the unfinished frame on.
 #[unsafe(no_mangle)]
 pub extern "C" fn ddcmp_open(alloc: Global, station: &mut Handle) -> usize
     ensures { Asks 0 (λ s. open_of s.line) station.old.station result station.new.station }
@@ -164,7 +168,7 @@ pub extern "C" fn ddcmp_open(alloc: Global, station: &mut Handle) -> usize
     value
 }
 
-/// The number of bytes of messages and of the unfinished frame.
+/// Returns the number of bytes of messages and of the unfinished frame.
 #[unsafe(no_mangle)]
 pub extern "C" fn ddcmp_held(alloc: Global, station: &mut Handle) -> usize
     ensures { Asks 0 held_of station.old.station result station.new.station }
@@ -177,7 +181,7 @@ pub extern "C" fn ddcmp_held(alloc: Global, station: &mut Handle) -> usize
     value
 }
 
-/// The block check of a text.
+/// Returns the CRC (block check) of a text.
 #[unsafe(no_mangle)]
 pub extern "C" fn ddcmp_check(text: &[u8]) -> u16
     ensures { result ≡ check_of text.now }

@@ -1,12 +1,14 @@
-//! A station begins, starts, halts and ends.
+//! Makes, starts, halts and frees a station.
 ghost use Rattle.std.specs.Prelude.{◌≡◌, ◌≢◌, [], true, false, Some, None};
 ghost use Rattle.ddcmp_frame.specs.Reader.{StandsFor};
 ghost use Rattle.ddcmp_core.specs.Table.{after_start, after_enter_maintenance, after_halt};
 ghost use Rattle.ddcmp_core.specs.Table.{is_halted};
 ghost use Rattle.ddcmp_proto.specs.Config.{first_refusal, core_made, config_of};
 ghost use Rattle.ddcmp_proto.specs.Station.{StationView};
+ghost use Rattle.ddcmp_proto.specs.StationCalls.{Starts as StartCall, Halts, ClearsLine};
+ghost use Rattle.ddcmp_proto.specs.StationCalls.{EntersMaintenance, with_state};
 ghost use Rattle.ddcmp_c.specs.Codes.{code_of_config, code_of_state, given_config, taken_config};
-ghost use Rattle.ddcmp_c.specs.Calls.{Asks, FillsIn, Starts, with_state};
+ghost use Rattle.ddcmp_c.specs.Calls.{Asks, FillsIn, Makes, Starts};
 
 use crate::handle::{Handle, put_back, take_out};
 use crate::values::{
@@ -54,7 +56,7 @@ pub extern "C" fn ddcmp_free(alloc: Global, station: &mut Handle)
     let _open = take_out(alloc, station);
 }
 
-/// The sizes.
+/// Returns the station's sizes.
 #[unsafe(no_mangle)]
 pub extern "C" fn ddcmp_config(alloc: Global, station: &mut Handle, config: &mut CConfig) -> u32
     ensures { FillsIn (λ s. given_config (config_of s.core.limits s.syn)) station.old.station
@@ -68,11 +70,12 @@ pub extern "C" fn ddcmp_config(alloc: Global, station: &mut Handle, config: &mut
     OK
 }
 
-/// Asks the peer to start.
+/// Starts the station: it asks the peer to start.
 #[unsafe(no_mangle)]
 pub extern "C" fn ddcmp_start(alloc: Global, station: &mut Handle, dropped: &mut u8) -> u32
-    ensures { Starts after_start station.old.station dropped.old result station.new.station
+    ensures starts { Starts after_start station.old.station dropped.old result station.new.station
         dropped.new }
+    ensures call { Makes StartCall station.old.station station.new.station }
 {
     let Some(mut open) = take_out(alloc, station) else {
         return CLOSED;
@@ -82,15 +85,16 @@ pub extern "C" fn ddcmp_start(alloc: Global, station: &mut Handle, dropped: &mut
     start_code(answer, dropped)
 }
 
-/// Enters the state of maintenance.
+/// Enters maintenance mode.
 #[unsafe(no_mangle)]
 pub extern "C" fn ddcmp_enter_maintenance(
     alloc: Global,
     station: &mut Handle,
     dropped: &mut u8,
 ) -> u32
-    ensures { Starts after_enter_maintenance station.old.station dropped.old result
+    ensures starts { Starts after_enter_maintenance station.old.station dropped.old result
         station.new.station dropped.new }
+    ensures call { Makes EntersMaintenance station.old.station station.new.station }
 {
     let Some(mut open) = take_out(alloc, station) else {
         return CLOSED;
@@ -100,13 +104,14 @@ pub extern "C" fn ddcmp_enter_maintenance(
     start_code(answer, dropped)
 }
 
-/// Sends and takes nothing more.
+/// Halts the station, which sends and accepts nothing from then on.
 #[unsafe(no_mangle)]
 pub extern "C" fn ddcmp_halt(alloc: Global, station: &mut Handle) -> u32
     ensures closed { station.old.station ≡ None
         → (result ≡ CLOSED) × (station.new.station ≡ None) }
     ensures state { (s : StationView) → station.old.station ≡ Some s → (result ≡ OK)
         × (station.new.station ≡ Some (with_state s (after_halt s.core.station))) }
+    ensures call { Makes Halts station.old.station station.new.station }
 {
     let Some(mut open) = take_out(alloc, station) else {
         return CLOSED;
@@ -116,7 +121,7 @@ pub extern "C" fn ddcmp_halt(alloc: Global, station: &mut Handle) -> u32
     OK
 }
 
-/// Forgets the bytes of the line so far, where the station is halted: whether it is.
+/// Forgets the bytes of the line so far, if the station is halted; returns whether it is.
 #[unsafe(no_mangle)]
 pub extern "C" fn ddcmp_clear_line(alloc: Global, station: &mut Handle) -> bool
     ensures closed { station.old.station ≡ None
@@ -127,6 +132,7 @@ pub extern "C" fn ddcmp_clear_line(alloc: Global, station: &mut Handle) -> bool
         → (t : StationView) × (station.new.station ≡ Some t) × (t.core ≡ s.core)
         × (t.syn ≡ s.syn) × StandsFor t.line [] }
     ensures refused { result ≡ false → station.new.station ≡ station.old.station }
+    ensures call { Makes ClearsLine station.old.station station.new.station }
 {
     let Some(mut open) = take_out(alloc, station) else {
         return false;
@@ -136,7 +142,7 @@ pub extern "C" fn ddcmp_clear_line(alloc: Global, station: &mut Handle) -> bool
     cleared
 }
 
-/// The state: 5 where there is no station.
+/// Returns the state: 5 if there is no station.
 #[unsafe(no_mangle)]
 pub extern "C" fn ddcmp_state(alloc: Global, station: &mut Handle) -> u32
     ensures { Asks 5 (λ s. code_of_state s.core.station.state)

@@ -1,4 +1,4 @@
-//! Messages that are sent, and mail.
+//! Messages to send, and received messages.
 ghost use Rattle.std.specs.Prelude.{◌≡◌, ◌≢◌, ◌↔◌, ◌<◌, ◌≤◌, [], unwrap_or, false, length};
 ghost use Rattle.std.specs.Prelude.{slice_index_or, option_map, IsTrue, Some, None, Ok};
 ghost use Rattle.std.specs.Prelude.{if◌then◌else◌};
@@ -8,15 +8,16 @@ ghost use Rattle.ddcmp_core.specs.Table.{send_refusal as send_refusal_of, answer
 ghost use Rattle.ddcmp_core.specs.Table.{answer_to_send_maintenance, may_send_maintenance};
 ghost use Rattle.ddcmp_core.specs.Table.{after_accept, after_take};
 ghost use Rattle.ddcmp_proto.specs.Station.{StationView};
+ghost use Rattle.ddcmp_proto.specs.StationCalls.{Sends, Takes, SendsMaintenance, with_state};
 ghost use Rattle.ddcmp_c.specs.Codes.{code_of_send_answer, code_of_send_refusal};
 ghost use Rattle.ddcmp_c.specs.Codes.{code_of_send_maintenance_answer};
-ghost use Rattle.ddcmp_c.specs.Calls.{Asks, with_state};
+ghost use Rattle.ddcmp_c.specs.Calls.{Asks, Makes};
 
 use crate::handle::{Handle, put_back, take_out};
 use crate::values::{ABSENT, CLOSED, OK, ROOM, refusal_code, send_code};
 use std::alloc::Global;
 
-/// Keeps a message to be sent, and says its number.
+/// Queues a message, and returns its number.
 #[unsafe(no_mangle)]
 pub extern "C" fn ddcmp_send(
     alloc: Global,
@@ -35,6 +36,7 @@ pub extern "C" fn ddcmp_send(
         → answer_to_send s.core.limits s.core.station message.now ≡ Ok n → number.new ≡ n.0 }
     ensures refused { result ≢ OK → (station.new.station ≡ station.old.station)
         × (number.new ≡ number.old) }
+    ensures call { Makes (Sends message.now) station.old.station station.new.station }
 {
     let Some(mut open) = take_out(alloc, station) else {
         return CLOSED;
@@ -44,7 +46,7 @@ pub extern "C" fn ddcmp_send(
     send_code(answer, number)
 }
 
-/// Keeps a maintenance message to be sent.
+/// Queues a maintenance message.
 #[unsafe(no_mangle)]
 pub extern "C" fn ddcmp_send_maintenance(alloc: Global, station: &mut Handle, message: &[u8]) -> u32
     ensures closed { station.old.station ≡ None
@@ -56,6 +58,7 @@ pub extern "C" fn ddcmp_send_maintenance(alloc: Global, station: &mut Handle, me
         ≡ code_of_send_maintenance_answer
         (answer_to_send_maintenance s.core.limits s.core.station message.now) }
     ensures refused { result ≢ OK → station.new.station ≡ station.old.station }
+    ensures call { Makes (SendsMaintenance message.now) station.old.station station.new.station }
 {
     let Some(mut open) = take_out(alloc, station) else {
         return CLOSED;
@@ -68,7 +71,7 @@ pub extern "C" fn ddcmp_send_maintenance(alloc: Global, station: &mut Handle, me
     }
 }
 
-/// Why a message isn't sent: `OK` where it is.
+/// Returns why a message would be refused: `OK` if it would not.
 #[unsafe(no_mangle)]
 pub extern "C" fn ddcmp_send_refusal(alloc: Global, station: &mut Handle, message: &[u8]) -> u32
     ensures { Asks CLOSED
@@ -86,7 +89,7 @@ pub extern "C" fn ddcmp_send_refusal(alloc: Global, station: &mut Handle, messag
     }
 }
 
-/// Whether fewer messages are kept than the window allows.
+/// Returns whether the window has room.
 #[unsafe(no_mangle)]
 pub extern "C" fn ddcmp_room(alloc: Global, station: &mut Handle) -> bool
     ensures closed { station.old.station ≡ None → result ≡ false }
@@ -102,7 +105,7 @@ pub extern "C" fn ddcmp_room(alloc: Global, station: &mut Handle) -> bool
     value
 }
 
-/// The number of messages to send that are kept.
+/// Returns the number of queued messages.
 #[unsafe(no_mangle)]
 pub extern "C" fn ddcmp_outgoing(alloc: Global, station: &mut Handle) -> u8
     ensures { Asks 0 (λ s. length s.core.station.out)
@@ -116,7 +119,7 @@ pub extern "C" fn ddcmp_outgoing(alloc: Global, station: &mut Handle) -> u8
     value
 }
 
-/// Moves the first message of the inbox to the front of `out`, and says its length: 0 where there
+/// Moves the first message of the inbox to the front of `out`, and returns its length: 0 if there
 /// is none.
 #[unsafe(no_mangle)]
 pub extern "C" fn ddcmp_take(
@@ -138,6 +141,7 @@ pub extern "C" fn ddcmp_take(
         ≡ unwrap_or (option_map length (first_message s.core.station.inbox)) 0 }
     ensures out { (s : StationView) → station.old.station ≡ Some s → result ≡ OK → out.new
         ≡ with_front (first_message s.core.station.inbox) out.old }
+    ensures call { result ≡ OK → Makes Takes station.old.station station.new.station }
 {
     *taken = 0;
     let Some(mut open) = take_out(alloc, station) else {
@@ -153,7 +157,7 @@ pub extern "C" fn ddcmp_take(
     OK
 }
 
-/// The number of messages in the inbox.
+/// Returns the number of messages in the inbox.
 #[unsafe(no_mangle)]
 pub extern "C" fn ddcmp_waiting(alloc: Global, station: &mut Handle) -> u8
     ensures { Asks 0 (λ s. length s.core.station.inbox)
@@ -167,7 +171,7 @@ pub extern "C" fn ddcmp_waiting(alloc: Global, station: &mut Handle) -> u8
     value
 }
 
-/// The length of message `i` of the inbox, counted from 0: 0 where there is none.
+/// Returns the length of message `i` of the inbox, counted from 0: 0 if there is none.
 #[unsafe(no_mangle)]
 pub extern "C" fn ddcmp_waiting_length(alloc: Global, station: &mut Handle, i: u8) -> usize
     ensures closed { station.old.station ≡ None → result ≡ 0 }
@@ -190,7 +194,7 @@ pub extern "C" fn ddcmp_waiting_length(alloc: Global, station: &mut Handle, i: u
     value
 }
 
-/// Copies message `i` of the inbox, counted from 0, to the front of `out`, and says its length.
+/// Copies message `i` of the inbox, counted from 0, to the front of `out`, and returns its length.
 #[unsafe(no_mangle)]
 pub extern "C" fn ddcmp_waiting_at(
     alloc: Global,

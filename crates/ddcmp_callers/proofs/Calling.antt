@@ -77,11 +77,11 @@ notices_armed bytes x =
 
 -- ---- a call at one end
 
-end_again : (x : EndState) → after_arm_here x ≡ after_arm_here (after_arm_here x)
+pub end_again : (x : EndState) → after_arm_here x ≡ after_arm_here (after_arm_here x)
 end_again x = ap (λ (s : StationState). with_station s x) (again x.core.station)
 
 -- an end with another station
-station_is : (x : EndState) (s t : StationState) → s ≡ t → with_station s x ≡ with_station t x
+pub station_is : (x : EndState) (s t : StationState) → s ≡ t → with_station s x ≡ with_station t x
 station_is x s t e = ap (λ (u : StationState). with_station u x) e
 
 started : (s : StationState) (b : Bool)
@@ -90,7 +90,7 @@ started : (s : StationState) (b : Bool)
 started s true = refl
 started s false = again s
 
-accepted : (s : StationState) (message : List ℕ) (b : Bool)
+pub accepted : (s : StationState) (message : List ℕ) (b : Bool)
     → after_take_arm (cond b (after_accept s message) s)
     ≡ after_take_arm (cond b (after_accept (after_take_arm s) message) (after_take_arm s))
 accepted s message true = accept_armed s message
@@ -165,7 +165,7 @@ honest_armed Ask x sent = refl
 abbrev pair : EndState → EndState → Bool → PairState
 pair a b h = record { a = a; b = b; honest = h }
 
-pair_is : (a b c d : EndState) (h k : Bool) → a ≡ c → b ≡ d → h ≡ k → pair a b h ≡ pair c d k
+pub pair_is : (a b c d : EndState) (h k : Bool) → a ≡ c → b ≡ d → h ≡ k → pair a b h ≡ pair c d k
 pair_is a b c d h k e f g = λ i. pair (e i) (f i) (g i)
 
 call_noted : (end : End) (c : Call) (p : PairState)

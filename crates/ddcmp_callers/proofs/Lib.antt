@@ -20,3 +20,5 @@ pub mod TurnSweeps
 pub mod TurnRooms
 pub mod TurnRounds
 pub mod TurnsGoOn
+pub mod StationRuns
+pub mod LinksAnew

@@ -85,7 +85,7 @@ honest_same p q e = ap (λ (r : PairState). r.honest) e
 pub clean_same : (p q : PairState) → noted p ≡ noted q → is_clean p ≡ is_clean q
 clean_same p q e = ap is_clean e
 
-order_same : (p q : PairState) → noted p ≡ noted q → IsInOrder q → IsInOrder p
+pub order_same : (p q : PairState) → noted p ≡ noted q → IsInOrder q → IsInOrder p
 order_same p q e o = record {
   where_clean =
       λ h c. let d =
@@ -103,7 +103,7 @@ link_armed : (x y : EndState) → IsLink (after_arm_here x) (after_arm_here y) �
 link_armed x y l =
     record { sent = l.sent; forward = l.forward; back = l.back; is_reached = l.is_reached }
 
-links_same : (p q : PairState) → noted p ≡ noted q → IsLink q.a q.b × IsLink q.b q.a
+pub links_same : (p q : PairState) → noted p ≡ noted q → IsLink q.a q.b × IsLink q.b q.a
     → IsLink p.a p.b × IsLink p.b p.a
 links_same p q e l = (
   link_armed p.a p.b (subst (λ (r : PairState). IsLink r.a r.b) (sym e) (armed_link q.a q.b l.0)),
@@ -113,7 +113,7 @@ links_same p q e l = (
 abbrev Quiet : List Notice → Type 0
 Quiet notices = All (λ n. tells_restart n ≡ false) notices
 
-notices_same : (p q : PairState) (end : End) (bytes : List ℕ) → noted p ≡ noted q
+pub notices_same : (p q : PairState) (end : End) (bytes : List ℕ) → noted p ≡ noted q
     → notices_at bytes (at end p) ≡ notices_at bytes (at end q)
 notices_same p q A bytes e =
     notices_armed bytes p.a ∙ ap (λ (r : PairState). notices_at bytes r.a) e

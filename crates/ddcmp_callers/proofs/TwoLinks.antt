@@ -224,7 +224,7 @@ delivered_all x y h k s t d told e =
     ∙ ap (λ (c : CoreView). k.taken ++ c.station.inbox) t.core)
     ∙ all_up x y d (told none) ∙ s.given
 
-reaches : (x y : EndState) (h k : LinkHistory) → IsSameEnd x h → IsSameEnd y k → Delivers x y
+pub reaches : (x y : EndState) (h k : LinkHistory) → IsSameEnd x h → IsSameEnd y k → Delivers x y
     → LinkReaches h k
 reaches x y h k s t d =
     let up : y.taken ++ y.core.station.inbox ≡ k.taken ++ k.link.station.core.station.inbox =

@@ -8,3 +8,5 @@ pub mod LinkRules
 pub mod LinkStory
 pub mod LinkSweeps
 pub mod DrivenSweeps
+pub mod StationRuns
+pub mod LinksAnew

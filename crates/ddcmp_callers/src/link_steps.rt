@@ -9,10 +9,11 @@ ghost use Rattle.ddcmp_proto.specs.Bytes.{notices_of_piece};
 ghost use Rattle.ddcmp_run.specs.Run.{acknowledged_in};
 ghost use Rattle.ddcmp_callers.specs.Links.{Starts, BeginsAnew, Halts, Wakes, Offers, FillsOne};
 ghost use Rattle.ddcmp_callers.specs.Links.{IsSent, Feeds, Takes, HasDone, accepted_by, taken_by};
+ghost use Rattle.ddcmp_callers.specs.LinksAnew.{Does};
 
 use ddcmp_station::{Fed, Link, SendRefusal, StartRefusal};
 
-/// A start of a station.
+/// Starts a link.
 pub fn starts(link: &mut Link) -> Result<u8, StartRefusal>
     ensures done { (text : List ℕ) → HasDone Starts text link.old link.new }
     ensures line { link.new.station.line ≡ link.old.station.line }
@@ -21,16 +22,17 @@ pub fn starts(link: &mut Link) -> Result<u8, StartRefusal>
     link.start()
 }
 
-/// A start of a link whose line is clear and for whose line nothing waits.
+/// Starts a link whose line is clear and whose outbox is empty; or starts it again on a new line.
 pub fn begins_anew(link: &mut Link) -> Result<u8, StartRefusal>
     ensures done { link.old.outbox.waiting ≡ [] → HasDone BeginsAnew [] link.old link.new }
+    ensures again { (text : List ℕ) → Does BeginsAnew text link.old link.new }
     ensures line { StandsFor link.new.station.line [] }
     ensures answer { result ≡ answer_to_start (after_halt link.old.station.core.station) }
 {
     link.begin_anew()
 }
 
-/// A halt.
+/// Halts it.
 pub fn halts(link: &mut Link)
     ensures done { (text : List ℕ) → HasDone Halts text link.old link.new }
     ensures line { link.new.station.line ≡ link.old.station.line }
@@ -38,7 +40,7 @@ pub fn halts(link: &mut Link)
     link.halt();
 }
 
-/// A look after the timer.
+/// Handles the reply timer.
 pub fn wakes(link: &mut Link, now: u64)
     ensures done { (text : List ℕ) → HasDone (Wakes now) text link.old link.new }
     ensures line { link.new.station.line ≡ link.old.station.line }
@@ -46,7 +48,7 @@ pub fn wakes(link: &mut Link, now: u64)
     link.wake(now);
 }
 
-/// A message that is offered. The history has it as accepted exactly where the answer is that.
+/// Offers a message. The history has it as accepted exactly if that is returned.
 pub fn offers(link: &mut Link, message: &[u8]) -> Result<(), SendRefusal>
     ensures done { (text : List ℕ) → HasDone (Offers message.now) text link.old link.new }
     ensures line { link.new.station.line ≡ link.old.station.line }
@@ -57,7 +59,7 @@ pub fn offers(link: &mut Link, message: &[u8]) -> Result<(), SendRefusal>
     link.offer(message)
 }
 
-/// A frame, or none.
+/// Puts a frame into the outbox, or none.
 pub fn fills_one(link: &mut Link) -> bool
     ensures done { (text : List ℕ) → HasDone FillsOne text link.old link.new }
     ensures line { link.new.station.line ≡ link.old.station.line }
@@ -66,7 +68,7 @@ pub fn fills_one(link: &mut Link) -> bool
     link.fill_one()
 }
 
-/// Bytes that the line took.
+/// Drops bytes from the outbox that the line took.
 pub fn is_sent(link: &mut Link, n: usize)
     requires { n ≤ length link.old.outbox.waiting }
     ensures done { (text : List ℕ) → HasDone (IsSent n) text link.old link.new }
@@ -75,8 +77,8 @@ pub fn is_sent(link: &mut Link, n: usize)
     link.sent(n);
 }
 
-/// Bytes that came: those that were used, all that can be counted where they give no notice. The
-/// history counts what the notice tells acknowledged.
+/// Handles received bytes: those that were used, all that can be counted if they give no notice.
+/// The history counts what the notice reports acknowledged.
 pub fn feeds(link: &mut Link, piece: &[u8]) -> Fed
     ensures done { (text : List ℕ) → StandsFor link.old.station.line text
         → HasDone (Feeds (take result.used piece.now)) text link.old link.new }
@@ -92,7 +94,7 @@ pub fn feeds(link: &mut Link, piece: &[u8]) -> Fed
     link.feed(piece)
 }
 
-/// The first mail. The history has the bytes that were given.
+/// Takes the first message. The history has the bytes that were returned.
 pub fn takes(link: &mut Link, out: &mut [u8]) -> Option<usize>
     requires { link.old.station.core.limits.longest ≤ length out.old }
     ensures done { (text : List ℕ) → HasDone Takes text link.old link.new }

@@ -2,6 +2,7 @@ pub mod Config
 pub mod Bytes
 pub mod Station
 pub mod OnePart
+pub mod StationCalls
 pub use Rattle.ddcmp_frame.specs.Reader
 pub use Rattle.ddcmp_frame.specs.Reading
 pub use Rattle.ddcmp_frame.specs.Wire

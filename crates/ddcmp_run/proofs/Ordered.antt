@@ -53,7 +53,7 @@ both : (a b : Bool) → (a && b) ≡ true → (a ≡ true) × (b ≡ true)
 both true b h = (refl, h)
 both false b h = absurd (cc)
 
-clean-means : (m n : ℕ) → (nat_le m 1 && nat_le n 1) ≡ true → (m ≤ 1) × (n ≤ 1)
+pub clean-means : (m n : ℕ) → (nat_le m 1 && nat_le n 1) ≡ true → (m ≤ 1) × (n ≤ 1)
 clean-means m n c = let z = both (nat_le m 1) (nat_le n 1) c in (grind (arith, z), grind (arith, z))
 
 clean-is : (m n : ℕ) → m ≤ 1 → n ≤ 1 → (nat_le m 1 && nat_le n 1) ≡ true
@@ -129,7 +129,7 @@ fresh-fits x y f g = record {
   wire' = no_wire;
 }
 
-fresh-linked : (x y : EndState) → IsFresh x → IsFresh y → Linked x y
+pub fresh-linked : (x y : EndState) → IsFresh x → IsFresh y → Linked x y
 fresh-linked x y f g = record {
   there = 0;
   here = 0;
@@ -166,7 +166,7 @@ window-small config e = by (is_size MAX_WINDOW config.window) refl e
         refused : is_size MAX_WINDOW config.window ≡ false → first_refusal config ≡ Some Window
         refused s = rw s refl
 
-fresh-new : (config : Config) → first_refusal config ≡ None → IsFresh (new_end config)
+pub fresh-new : (config : Config) → first_refusal config ≡ None → IsFresh (new_end config)
 fresh-new config e = record {
   small = window-small config e;
   halted = refl;
@@ -179,7 +179,7 @@ fresh-new config e = record {
   starts = refl;
 }
 
-holds-new : (first second : Config) → first_refusal first ≡ None → first_refusal second ≡ None
+pub holds-new : (first second : Config) → first_refusal first ≡ None → first_refusal second ≡ None
     → Holds (new_pair first second)
 holds-new first second f g =
     holds-fresh (new_pair first second) (fresh-new first f) (fresh-new second g)
@@ -196,7 +196,8 @@ is-empty [] e = refl
 is-empty (m ∷ inbox) e =
     let z : length (m ∷ inbox) ≡ 0 = eqb-true _ _ e in absurd (omega (arith, z))
 
-fresh-cleared : (x : EndState) → x.core.limits.window ≤ 255 → is_halted x.core.station.state ≡ true
+pub fresh-cleared : (x : EndState) → x.core.limits.window ≤ 255
+    → is_halted x.core.station.state ≡ true
     → (length x.core.station.inbox == 0) ≡ true → IsFresh (cleared x)
 fresh-cleared x small h i = record {
   small = small;
@@ -210,13 +211,13 @@ fresh-cleared x small h i = record {
   starts = refl;
 }
 
-record MayClear (p : PairState) : Type 0 where
-  halted : is_halted p.a.core.station.state ≡ true
-  halted' : is_halted p.b.core.station.state ≡ true
-  inbox : (length p.a.core.station.inbox == 0) ≡ true
-  inbox' : (length p.b.core.station.inbox == 0) ≡ true
+pub record MayClear (p : PairState) : Type 0 where
+  pub halted : is_halted p.a.core.station.state ≡ true
+  pub halted' : is_halted p.b.core.station.state ≡ true
+  pub inbox : (length p.a.core.station.inbox == 0) ≡ true
+  pub inbox' : (length p.b.core.station.inbox == 0) ≡ true
 
-may-clear : (p : PairState) → clear_refusal p ≡ None → MayClear p
+pub may-clear : (p : PairState) → clear_refusal p ≡ None → MayClear p
 may-clear p e = at (is_halted p.a.core.station.state && is_halted p.b.core.station.state) refl
     (length p.a.core.station.inbox == 0 && length p.b.core.station.inbox == 0) refl e
   where
@@ -240,7 +241,7 @@ holds-clear None p e h =
 
 -- ---- each event
 
-holds-at : (o : Option End) (e : Event) (p : PairState) → Holds p → Holds (after_event_at o e p)
+pub holds-at : (o : Option End) (e : Event) (p : PairState) → Holds p → Holds (after_event_at o e p)
 holds-at (Some A) e p h = record {
   small = (let s = limits-stay e p.a in let n = h.small in omega (arith, s, n));
   small' = h.small';
@@ -288,7 +289,7 @@ run-linked p r h c =
       record { sent = f.sent'; forward = f.forward'; back = f.back'; is_reached = f.reached' },
     )
 
-delivers : (from to : EndState) → IsLink from to → Delivers from to
+pub delivers : (from to : EndState) → IsLink from to → Delivers from to
 delivers from to l =
     record {
       order = reached-in-order _ _ l.is_reached;
@@ -388,7 +389,7 @@ none-cleared : (refusal : Option StartRefusal) → NoRestart (reply_to_clear ref
 none-cleared None = tt
 none-cleared (Some refusal) = tt
 
-none-at : (o : Option End) (e : Event) (p : PairState) → Holds p → is_clean p ≡ true
+pub none-at : (o : Option End) (e : Event) (p : PairState) → Holds p → is_clean p ≡ true
     → (after_event_at o e p).honest ≡ true → NoRestart (reply_at o e p)
 none-at (Some A) e p h c honest =
     let f = both _ _ honest in

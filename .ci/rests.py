@@ -1,0 +1,60 @@
+"""Which files of definitions the contract of a law rests on: those that it cites, and all that these import."""
+import os
+import re
+
+USE = re.compile(r"^\s*(?:ghost |pub )*use Rattle\.(\w+)\.specs\.(\w+)[\w.]*?(?:\.\{([^}]*)\}| as (\w+))?;?$", re.M)
+
+
+def read(path):
+    with open(path, encoding="utf-8") as it:
+        return it.read()
+
+
+class Definitions:
+    """The definitions below a folder of crates. A file is named as ddcmp_run/specs/Run.antt."""
+
+    def __init__(self, crates):
+        self.crates = crates
+        self.known = {}
+
+    def file_of(self, crate, name):
+        """The file that a module of `specs` is, perhaps of another crate; None of a type of the code, or of std."""
+        path = f"{crate}/specs/{name}.antt"
+        if os.path.isfile(f"{self.crates}/{path}"):
+            return path
+        passing = f"{self.crates}/{crate}/specs/Lib.antt"
+        if os.path.isfile(passing):
+            for other, module in re.findall(r"^pub use Rattle\.(\w+)\.specs\.(\w+)$", read(passing), re.M):
+                if module == name:
+                    return self.file_of(other, module)
+        return None
+
+    def imports(self, text):
+        """Each word that a text imports, with its file."""
+        found = {}
+        for crate, name, words, other_name in USE.findall(text):
+            path = self.file_of(crate, name)
+            if path:
+                for word in [*words.split(","), other_name, name]:
+                    found[word.split(" as ")[-1].strip()] = path
+        return found
+
+    def below(self, path):
+        """A file, and all that it imports."""
+        if path not in self.known:
+            self.known[path] = {path}
+            for other in set(self.imports(read(f"{self.crates}/{path}")).values()):
+                self.known[path] = self.known[path] | self.below(other)
+        return self.known[path]
+
+    def of_law(self, law):
+        """The files that a law rests on, which is named as ddcmp_run::laws::in_order; None if there is none."""
+        crate, module, name = law.split("::")
+        source = f"{self.crates}/{crate}/src/{module}.rt"
+        text = read(source) if os.path.isfile(source) else ""
+        found = re.search(rf"^pub fn {name}\b.*?^\{{", text, re.M | re.S)
+        if not found:
+            return None
+        words = set(re.findall(r"[^\s(){}\[\],;.]+", found[0]))
+        cited = {path for word, path in self.imports(text).items() if word in words}
+        return set().union(*map(self.below, cited))
