@@ -270,7 +270,7 @@ impl Player {
             → Plays counted input (around p pair.new d log (C.told carrier.new))
             (Appends sink (W.contents writer.new))
             (AppendsPart sink (W.contents writer.new)) result }
-        // Where the view goes no further, the script ends as for want of memory.
+        // If the view goes no further, the script ends as after an allocation failure.
         ensures shown { result ≢ Err ScriptFault.Memory → O.broken shown.new ≡ false }
     {
         let mut piece = [0; PIECE];
@@ -354,8 +354,9 @@ pub fn script_with<R: Source, W: Sink, C: Carrier>(
 }
 
 /// Does what the lines of a script say, and has a view show it to a sink: what is promised of the
-/// pair, of the carrier and of the answer is what `script` promises. Where the view goes no
-/// further, the script ends as for want of memory. A sink that failed is left to the caller.
+/// pair, of the carrier and of the result is what `script` promises. If the view goes no
+/// further, the script ends as after an allocation failure. A sink that failed is left to the
+/// caller.
 pub fn script_viewed<R: Source, W: Sink, C: Carrier, V: View>(
     alloc: Global,
     pair: &mut Pair,

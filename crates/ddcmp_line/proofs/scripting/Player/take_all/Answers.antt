@@ -23,7 +23,7 @@ counts_lines : (old seen n new now : ℕ) (buf : List ℕ) → new ≤ old + len
     → old ≤ seen → n ≤ length buf → now ≡ seen + n → new ≤ now
 counts_lines old seen n new now buf few most within e = omega (arith, length-take-le n buf within)
 
--- want of memory is no other fault
+-- an allocation failure is no other fault
 memory_or : (fault : ScriptFault) → fault ≢ Memory
     → ◌≡◌ {A = Result (Unit {0}) ScriptFault} (Err Memory) (Err fault) → ⊥
 memory_or fault other e = other (sym (same_fault Memory fault e))
