@@ -246,6 +246,19 @@ module _ (counted : Bool) (input : List ℕ) (x : Around) where
         };
   }
 
+  pub plays-stopped : (rest line : List ℕ) (number : ℕ) (lines : Between) (sink : Known)
+      (o : Output) → HasDone input rest (played line number lines) (course (fresh sink) o x)
+      → o.broken ≡ false → o.waiting ≡ []
+      → Plays counted input x (Appends sink o.sink) (AppendsPart sink o.sink) (Err Memory)
+  plays-stopped rest line number lines sink o h whole empty = record {
+    done = h.done;
+    behind = lines_of (line ++ rest);
+    begins = h.begins;
+    stopped =
+        nothing-of-next (lines_of (line ++ rest)) h.done x (HandsOver (fresh sink) o) h.did;
+    written = wrote-all sink o _ h.did.written whole empty;
+  }
+
   pub paused-before : (rest line : List ℕ) (number : ℕ) (lines : Between) (sink : Known)
       (o : Output) → HasDone input rest (played line number lines) (course (fresh sink) o x)
       → o.broken ≡ false → o.waiting ≡ []

@@ -4,8 +4,10 @@
 #![tactic(auto)]
 
 mod frame_lines;
+mod nowhere;
 mod performing;
 mod scripting;
+mod view;
 
 pub use ddcmp_io::{input, text};
 pub use ddcmp_net::Sockets;
@@ -17,4 +19,5 @@ pub use ddcmp_pair::{
 pub use ddcmp_run::{Carrier, Direct, LineFault};
 pub use ddcmp_script_text::ScriptFault;
 pub use ddcmp_station_text::{state_name, write_notice};
-pub use scripting::{script, script_with};
+pub use scripting::{script, script_viewed, script_with};
+pub use view::View;

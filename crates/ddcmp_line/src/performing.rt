@@ -16,6 +16,7 @@ ghost use Rattle.ddcmp_line.specs.ScriptSteps.{TellsDevices};
 ghost use Rattle.ddcmp_run.specs.declared.event.Event.TheVariants as event_value;
 
 use crate::frame_lines::{FrameLeft, FrameLines};
+use crate::view::View;
 use ddcmp_io::{Page, Sink, WriteFailed};
 use ddcmp_pair::{Bytes, End, Event, Pair, Reply};
 use ddcmp_run::Carrier;
@@ -46,8 +47,9 @@ pub(crate) struct Stage {
 }
 
 /// An end writes its next frame, which goes last on its line.
-fn poll<W: Sink>(
+fn poll<W: Sink, V: View>(
     pair: &mut Pair,
+    view: &mut V,
     frames: &mut VecDeque<FrameLeft>,
     page: &mut Page,
     writer: &mut W,
@@ -63,7 +65,7 @@ fn poll<W: Sink>(
         × (page.new ≡ page.old) × (writer.new ≡ writer.old)) }
 {
     frames.reserve(1)?;
-    let reply = pair.step(Event::Poll(end))?;
+    let reply = pair.step_watched(view, Event::Poll(end))?;
     write_reply(page, writer, end_name(end), &reply);
     put_last(frames, reply);
     Ok(())
@@ -132,7 +134,13 @@ impl Stage {
     }
 
     /// An end writes its next frame.
-    fn poll<W: Sink>(&mut self, pair: &mut Pair, writer: &mut W, end: End) -> Result<(), Memory>
+    fn poll<W: Sink, V: View>(
+        &mut self,
+        pair: &mut Pair,
+        view: &mut V,
+        writer: &mut W,
+        end: End,
+    ) -> Result<(), Memory>
         ensures comes { IsOk result
             → Comes (outcome_of_event (event_value.Poll end) (scene_of pair.old self.old.lines))
             (scene_of pair.old self.old.lines) (scene_of pair.new self.new.lines)
@@ -142,13 +150,18 @@ impl Stage {
             × (self.new.page ≡ self.old.page) × (writer.new ≡ writer.old)) }
     {
         match end {
-            End::A => poll(pair, &mut self.lines.a, &mut self.page, writer, end),
-            End::B => poll(pair, &mut self.lines.b, &mut self.page, writer, end),
+            End::A => poll(pair, view, &mut self.lines.a, &mut self.page, writer, end),
+            End::B => poll(pair, view, &mut self.lines.b, &mut self.page, writer, end),
         }
     }
 
     /// The line is cleared, and where it is both lines are emptied.
-    fn clear<W: Sink>(&mut self, pair: &mut Pair, writer: &mut W) -> Result<(), Memory>
+    fn clear<W: Sink, V: View>(
+        &mut self,
+        pair: &mut Pair,
+        view: &mut V,
+        writer: &mut W,
+    ) -> Result<(), Memory>
         ensures comes { IsOk result
             → Comes (outcome_of_event event_value.Clear (scene_of pair.old self.old.lines))
             (scene_of pair.old self.old.lines) (scene_of pair.new self.new.lines)
@@ -157,14 +170,20 @@ impl Stage {
         ensures memory { OnErr result ((pair.new ≡ pair.old)
             × (self.new.page ≡ self.old.page) × (writer.new ≡ writer.old)) }
     {
-        let reply = pair.step(Event::Clear)?;
+        let reply = pair.step_watched(view, Event::Clear)?;
         write_reply(&mut self.page, writer, b"", &reply);
         self.lines.clear_after(&reply);
         Ok(())
     }
 
     /// An event happens that puts no frame on a line and takes none off.
-    fn tell<W: Sink>(&mut self, pair: &mut Pair, writer: &mut W, event: Event) -> Result<(), Memory>
+    fn tell<W: Sink, V: View>(
+        &mut self,
+        pair: &mut Pair,
+        view: &mut V,
+        writer: &mut W,
+        event: Event,
+    ) -> Result<(), Memory>
         ensures pair { IsOk result → pair.new ≡ after_event event pair.old }
         ensures lines { self.new.lines ≡ self.old.lines }
         ensures text { IsOk result
@@ -175,15 +194,16 @@ impl Stage {
             × (self.new.page ≡ self.old.page) × (writer.new ≡ writer.old)) }
     {
         let who = answerer_name(event.end());
-        let reply = pair.step(event)?;
+        let reply = pair.step_watched(view, event)?;
         write_reply(&mut self.page, writer, who, &reply);
         Ok(())
     }
 
     /// An event happens.
-    fn happen<W: Sink>(
+    fn happen<W: Sink, V: View>(
         &mut self,
         pair: &mut Pair,
+        view: &mut V,
         writer: &mut W,
         event: Event,
     ) -> Result<(), Memory>
@@ -196,16 +216,17 @@ impl Stage {
             × (self.new.page ≡ self.old.page) × (writer.new ≡ writer.old)) }
     {
         match event {
-            Event::Poll(end) => self.poll(pair, writer, end),
-            Event::Clear => self.clear(pair, writer),
-            event => self.tell(pair, writer, event),
+            Event::Poll(end) => self.poll(pair, view, writer, end),
+            Event::Clear => self.clear(pair, view, writer),
+            event => self.tell(pair, view, writer, event),
         }
     }
 
     /// Bytes arrive at an end: a line with these words and their number, and then the notices.
-    fn arrive<W: Sink>(
+    fn arrive<W: Sink, V: View>(
         &mut self,
         pair: &mut Pair,
+        view: &mut V,
         writer: &mut W,
         who: End,
         words: &[u8],
@@ -223,16 +244,17 @@ impl Stage {
         ensures asks { asks_memory (event_value.Arrive to bytes) pair.old ≡ false → IsOk result }
     {
         let length = bytes.as_slice().len();
-        let reply = pair.step(Event::Arrive(to, bytes))?;
+        let reply = pair.step_watched(view, Event::Arrive(to, bytes))?;
         write_counted(&mut self.page, writer, end_name(who), words, length as u64);
         write_reply(&mut self.page, writer, end_name(to), &reply);
         Ok(())
     }
 
     /// The front of an end's line arrives at the other end, as the carrier gives it.
-    fn carry<W: Sink, C: Carrier>(
+    fn carry<W: Sink, C: Carrier, V: View>(
         &mut self,
         pair: &mut Pair,
+        view: &mut V,
         writer: &mut W,
         carrier: &mut C,
         from: End,
@@ -265,7 +287,7 @@ impl Stage {
             Err(_fault) => return Err(Stop::Carrier),
         }
         let came = Bytes::new(out);
-        match self.arrive(pair, writer, from, b"passed ", from.other(), came) {
+        match self.arrive(pair, view, writer, from, b"passed ", from.other(), came) {
             Ok(()) => {
                 self.lines.take_off(from, length);
                 Ok(())
@@ -309,7 +331,12 @@ impl Stage {
     }
 
     /// All frames on both lines are lost, and then both ends settle.
-    fn settle<W: Sink>(&mut self, pair: &mut Pair, writer: &mut W) -> Result<(), Memory>
+    fn settle<W: Sink, V: View>(
+        &mut self,
+        pair: &mut Pair,
+        view: &mut V,
+        writer: &mut W,
+    ) -> Result<(), Memory>
         ensures comes { IsOk result → Comes (outcome_of_settle (scene_of pair.old self.old.lines))
             (scene_of pair.old self.old.lines) (scene_of pair.new self.new.lines)
             (output_of W.broken W.contents writer.old self.old.page)
@@ -317,14 +344,20 @@ impl Stage {
         ensures memory { OnErr result (WantsMemory (settling pair.old).events pair.old pair.new
             × (self.new.page ≡ self.old.page) × (writer.new ≡ writer.old)) }
     {
-        let settled = pair.settle()?;
+        let settled = pair.settle_watched(view)?;
         self.lines.clear();
         write_settled(&mut self.page, writer, settled.exchanges, settled.quiet);
+        view.settled(&settled);
         Ok(())
     }
 
     /// All frames on both lines are lost, and then the line recovers.
-    fn recover<W: Sink>(&mut self, pair: &mut Pair, writer: &mut W) -> Result<(), Memory>
+    fn recover<W: Sink, V: View>(
+        &mut self,
+        pair: &mut Pair,
+        view: &mut V,
+        writer: &mut W,
+    ) -> Result<(), Memory>
         ensures comes { IsOk result → Comes (outcome_of_recover (scene_of pair.old self.old.lines))
             (scene_of pair.old self.old.lines) (scene_of pair.new self.new.lines)
             (output_of W.broken W.contents writer.old self.old.page)
@@ -332,16 +365,32 @@ impl Stage {
         ensures memory { OnErr result (WantsMemory (recovering pair.old).events pair.old pair.new
             × (self.new.page ≡ self.old.page) × (writer.new ≡ writer.old)) }
     {
-        let recovered = pair.recover()?;
+        let recovered = pair.recover_watched(view)?;
         self.lines.clear();
-        write_recovered(&mut self.page, writer, &recovered.exchanges, pair.done());
+        let done = pair.done();
+        write_recovered(&mut self.page, writer, &recovered.exchanges, done);
+        view.recovered(&recovered, done);
         Ok(())
     }
 
+    /// The number of bytes that are left of the first frame on the line that a command names.
+    fn front_length(&self, command: &ScriptCommand) -> Option<usize> {
+        let from = match command {
+            ScriptCommand::Carry(from, _) | ScriptCommand::Lose(from) => *from,
+            ScriptCommand::Damage(from, _, _) => *from,
+            _ => return None,
+        };
+        match self.lines.front(from) {
+            Some(front) => Some(front.len()),
+            None => None,
+        }
+    }
+
     /// Does what a command asks for, and hands over its text.
-    fn perform<W: Sink, C: Carrier>(
+    fn perform<W: Sink, C: Carrier, V: View>(
         &mut self,
         pair: &mut Pair,
+        view: &mut V,
         writer: &mut W,
         carrier: &mut C,
         command: ScriptCommand,
@@ -356,9 +405,10 @@ impl Stage {
             (output_of W.broken W.contents writer.new self.new.page) result }
         ensures direct { C.direct carrier.new ≡ C.direct carrier.old }
     {
+        view.begins(pair, &command, self.front_length(&command));
         match command {
-            ScriptCommand::Carry(from, most) => self.carry(pair, writer, carrier, from, most),
-            ScriptCommand::Happens(event) => stopped(self.happen(pair, writer, event)),
+            ScriptCommand::Carry(from, most) => self.carry(pair, view, writer, carrier, from, most),
+            ScriptCommand::Happens(event) => stopped(self.happen(pair, view, writer, event)),
             ScriptCommand::Lose(from) => {
                 self.lose(writer, from);
                 Ok(())
@@ -368,10 +418,10 @@ impl Stage {
                 Ok(())
             }
             ScriptCommand::Raw(to, bytes) => {
-                stopped(self.arrive(pair, writer, to, b"got ", to, bytes))
+                stopped(self.arrive(pair, view, writer, to, b"got ", to, bytes))
             }
-            ScriptCommand::Settle => stopped(self.settle(pair, writer)),
-            ScriptCommand::Recover => stopped(self.recover(pair, writer)),
+            ScriptCommand::Settle => stopped(self.settle(pair, view, writer)),
+            ScriptCommand::Recover => stopped(self.recover(pair, view, writer)),
             ScriptCommand::State(end) => {
                 write_station(&mut self.page, writer, end_name(end), pair.station(end));
                 Ok(())
@@ -380,9 +430,10 @@ impl Stage {
     }
 
     /// Does what a line asks for.
-    pub(crate) fn do_line<W: Sink, C: Carrier>(
+    pub(crate) fn do_line<W: Sink, C: Carrier, V: View>(
         &mut self,
         pair: &mut Pair,
+        view: &mut V,
         writer: &mut W,
         carrier: &mut C,
         line: &[u8],
@@ -399,7 +450,7 @@ impl Stage {
     {
         match read_line(self.alloc, line) {
             Ok(ParsedLine::Skipped) => Ok(()),
-            Ok(ParsedLine::Asks(command)) => self.perform(pair, writer, carrier, command),
+            Ok(ParsedLine::Asks(command)) => self.perform(pair, view, writer, carrier, command),
             Ok(ParsedLine::NoCommand) => Err(Stop::NoCommand),
             Ok(ParsedLine::NotHex) => Err(Stop::NotHex),
             Err(_refused) => Err(Stop::Memory),

@@ -1,6 +1,6 @@
 //! A script: lines that say what happens between two ends.
 ghost use Rattle.std.specs.Prelude.{◌≡◌, ◌≢◌, ◌⊎◌, ◌↔◌, ◌+◌, ◌-◌, ◌<◌, ◌≤◌, ◌^◌, ◌∷◌, [], false};
-ghost use Rattle.std.specs.Prelude.{Bool, List, ℕ, Option, Some, Err, OnErr, IsTrue, length};
+ghost use Rattle.std.specs.Prelude.{Bool, List, ℕ, Option, Some, None, Err, OnErr, IsTrue, length};
 ghost use Rattle.std.specs.Io.KnownBytes.{Appends, Consumes};
 ghost use Rattle.ddcmp_io.specs.Written.{AppendsPart, Output, output_of};
 ghost use Rattle.ddcmp_run.specs.Run.{PairState};
@@ -12,11 +12,13 @@ ghost use Rattle.ddcmp_line.specs.ScriptProgress.{HasDone, IsPlaying, PlaysOut, 
 ghost use Rattle.ddcmp_line.specs.ScriptProgress.{moment, course, fresh, played};
 ghost use Rattle.ddcmp_line.specs.ScriptSteps.{TellsDevices};
 
+use crate::nowhere::Nowhere;
 use crate::performing::{Stage, Stop};
+use crate::view::View;
 use ddcmp_closing::write_closing;
 use ddcmp_io::input::read_within;
 use ddcmp_io::{Got, Page, Sink, Source, Worst};
-use ddcmp_pair::Pair;
+use ddcmp_pair::{Pair, Unwatched};
 use ddcmp_run::Carrier;
 use ddcmp_script_text::{ScriptFault, without_cr};
 use std::alloc::Global;
@@ -53,9 +55,10 @@ impl Player {
     }
 
     /// Takes a byte of the script, and where it is LF does the line that it ends.
-    fn take_byte<W: Sink, C: Carrier>(
+    fn take_byte<W: Sink, C: Carrier, V: View>(
         &mut self,
         pair: &mut Pair,
+        view: &mut V,
         writer: &mut W,
         carrier: &mut C,
         byte: u8,
@@ -83,7 +86,7 @@ impl Player {
         }
         match self
             .stage
-            .do_line(pair, writer, carrier, without_cr(&self.line))
+            .do_line(pair, view, writer, carrier, without_cr(&self.line))
         {
             Ok(()) => {
                 self.line.clear();
@@ -95,9 +98,10 @@ impl Player {
     }
 
     /// Takes a piece of the script, and does the lines that it completes.
-    fn take<W: Sink, C: Carrier>(
+    fn take<W: Sink, C: Carrier, V: View>(
         &mut self,
         pair: &mut Pair,
+        view: &mut V,
         writer: &mut W,
         carrier: &mut C,
         piece: &[u8],
@@ -118,7 +122,7 @@ impl Player {
             pair.new (C.told carrier.new)) result }
     {
         for i in 0..piece.len() {
-            match self.take_byte(pair, writer, carrier, piece[i]) {
+            match self.take_byte(pair, view, writer, carrier, piece[i]) {
                 Ok(()) => {}
                 Err(stop) => return Err(stop),
             }
@@ -158,9 +162,10 @@ impl Player {
     }
 
     /// Does the last line, where LF doesn't end it.
-    fn end_input<W: Sink, C: Carrier>(
+    fn end_input<W: Sink, C: Carrier, V: View>(
         &mut self,
         pair: &mut Pair,
+        view: &mut V,
         writer: &mut W,
         carrier: &mut C,
     ) -> Result<(), Stop>
@@ -183,13 +188,14 @@ impl Player {
         if self.line.is_empty() {
             return Ok(());
         }
-        self.stage.do_line(pair, writer, carrier, &self.line)
+        self.stage.do_line(pair, view, writer, carrier, &self.line)
     }
 
     /// Does what is left of the input, and writes what has been done.
-    fn finish<W: Sink, C: Carrier>(
+    fn finish<W: Sink, C: Carrier, V: View>(
         &mut self,
         pair: &mut Pair,
+        view: &mut V,
         writer: &mut W,
         carrier: &mut C,
         counted: bool,
@@ -210,7 +216,7 @@ impl Player {
             (Appends sink (W.contents writer.new))
             (AppendsPart sink (W.contents writer.new)) result }
     {
-        match self.end_input(pair, writer, carrier) {
+        match self.end_input(pair, view, writer, carrier) {
             Ok(()) => {}
             Err(stop) => return Err(self.stop(writer, stop)),
         }
@@ -222,15 +228,18 @@ impl Player {
     }
 
     /// Takes the script to its end.
-    fn take_all<R: Source, W: Sink, C: Carrier>(
+    fn take_all<R: Source, W: Sink, C: Carrier, V: View, O: Sink>(
         &mut self,
         pair: &mut Pair,
+        view: &mut V,
         reader: &mut R,
         writer: &mut W,
+        shown: &mut O,
         carrier: &mut C,
         counted: bool,
     ) -> Result<(), ScriptFault>
         requires fine { R.state reader.old ≡ Worst.Fine }
+        requires shown { O.broken shown.old ≡ false }
         requires whole { C.broken carrier.old ≡ false }
         requires seen { self.old.seen ≡ 0 }
         requires number { self.old.number ≡ 0 }
@@ -261,14 +270,19 @@ impl Player {
             → Plays counted input (around p pair.new d log (C.told carrier.new))
             (Appends sink (W.contents writer.new))
             (AppendsPart sink (W.contents writer.new)) result }
+        // If the view goes no further, the script ends as after an allocation failure.
+        ensures shown { result ≢ Err ScriptFault.Memory → O.broken shown.new ≡ false }
     {
         let mut piece = [0; PIECE];
         while self.seen < u64::MAX {
             if self.stage.page.flush(writer).is_err() {
                 return Err(ScriptFault::Write);
             }
+            if !view.show(shown) {
+                return Err(ScriptFault::Memory);
+            }
             let n = match read_within(reader, &mut piece, u64::MAX - self.seen) {
-                Got::Bytes(0) => return self.finish(pair, writer, carrier, counted),
+                Got::Bytes(0) => return self.finish(pair, view, writer, carrier, counted),
                 Got::Bytes(n) => n,
                 _ => return Err(ScriptFault::Read),
             };
@@ -277,7 +291,7 @@ impl Player {
             if self.seen == u64::MAX {
                 return Err(ScriptFault::Read);
             }
-            match self.take(pair, writer, carrier, &piece[..n]) {
+            match self.take(pair, view, writer, carrier, &piece[..n]) {
                 Ok(()) => {}
                 Err(stop) => return Err(self.stop(writer, stop)),
             }
@@ -326,8 +340,69 @@ pub fn script_with<R: Source, W: Sink, C: Carrier>(
         (sink_change (W.contents writer.old) (W.contents writer.new) (W.broken writer.new))
         (C.broken carrier.new) result }
 {
+    let mut nothing = Nowhere;
+    script_over(
+        alloc,
+        pair,
+        &mut Unwatched,
+        reader,
+        writer,
+        &mut nothing,
+        carrier,
+        counted,
+    )
+}
+
+/// Does what the lines of a script say, and has a view show it to a sink: what is promised of the
+/// pair, of the carrier and of the result is what `script` promises. If the view goes no
+/// further, the script ends as after an allocation failure. A sink that failed is left to the
+/// caller.
+pub fn script_viewed<R: Source, W: Sink, C: Carrier, V: View>(
+    alloc: Global,
+    pair: &mut Pair,
+    view: &mut V,
+    reader: &mut R,
+    writer: &mut W,
+    carrier: &mut C,
+) -> Result<(), ScriptFault>
+    requires fine { R.state reader.old ≡ Worst.Fine }
+    requires whole { W.broken writer.old ≡ false }
+    requires carrier { C.broken carrier.old ≡ false }
+    ensures played { IsPlayed false (around pair.old pair.new (C.direct carrier.old)
+        (C.told carrier.old) (C.told carrier.new))
+        (source_change (R.left reader.old) (R.left reader.new) (R.state reader.new))
+        (sink_change None None false) (C.broken carrier.new) result }
+    ensures whole { result ≢ Err ScriptFault.Memory → W.broken writer.new ≡ false }
+{
+    let mut text = Nowhere;
+    script_over(alloc, pair, view, reader, &mut text, writer, carrier, false)
+}
+
+/// Does what the lines of a script say: its text goes to `writer`, and what the view shows to
+/// `shown`.
+fn script_over<R: Source, W: Sink, C: Carrier, V: View, O: Sink>(
+    alloc: Global,
+    pair: &mut Pair,
+    view: &mut V,
+    reader: &mut R,
+    writer: &mut W,
+    shown: &mut O,
+    carrier: &mut C,
+    counted: bool,
+) -> Result<(), ScriptFault>
+    requires fine { R.state reader.old ≡ Worst.Fine }
+    requires whole { W.broken writer.old ≡ false }
+    requires shown { O.broken shown.old ≡ false }
+    requires carrier { C.broken carrier.old ≡ false }
+    ensures played { IsPlayed counted (around pair.old pair.new (C.direct carrier.old)
+        (C.told carrier.old) (C.told carrier.new))
+        (source_change (R.left reader.old) (R.left reader.new) (R.state reader.new))
+        (sink_change (W.contents writer.old) (W.contents writer.new) (W.broken writer.new))
+        (C.broken carrier.new) result }
+    ensures shown { result ≢ Err ScriptFault.Memory → O.broken shown.new ≡ false }
+{
     let mut player = Player::new(alloc);
-    let done = player.take_all(pair, reader, writer, carrier, counted);
+    let done = player.take_all(pair, view, reader, writer, shown, carrier, counted);
     pair.is_run();
     done
 }

@@ -3,3 +3,4 @@ pub mod Errors
 pub mod Feeding
 pub mod KeptLaws
 pub mod Placed
+pub mod Watching

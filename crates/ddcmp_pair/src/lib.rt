@@ -9,6 +9,7 @@ mod recovering;
 mod running;
 mod settling;
 mod side;
+mod watch;
 
 pub use ddcmp_proto::{
     Config, ConfigRefusal, Memory, Notice, SendRefusal, Seq, StartRefusal, State, Station,
@@ -18,3 +19,4 @@ pub use pair::{Pair, PairRefusal};
 pub use recovering::Recovered;
 pub use running::{RunRefusal, run};
 pub use settling::Settled;
+pub use watch::{Unwatched, Watch};

@@ -1,6 +1,7 @@
 //! Two stations on a line.
 use crate::ends::Ends;
 use crate::side::Side;
+use crate::watch::Watch;
 use ddcmp_proto::{Config, ConfigRefusal, Memory, Station};
 use ddcmp_run::{End, Event, Reply};
 use std::alloc::Global;
@@ -40,7 +41,7 @@ impl Model for Pair {
 }
 
 impl Pair {
-    ghost use Rattle.std.specs.Prelude.{◌≡◌, ◌⊎◌, ◌<◌, ◌≤◌, true, false, [], length};
+    ghost use Rattle.std.specs.Prelude.{◌≡◌, ◌⊎◌, ◌<◌, ◌≤◌, true, false, [], ◌∷◌, length};
     ghost use Rattle.std.specs.Prelude.{slice_index_or, max, Some, None, Err, IsOk, IfOk, OnErr};
     ghost use Rattle.ddcmp_frame.specs.Reader.{StandsFor};
     ghost use Rattle.ddcmp_core.specs.Store.{with_front};
@@ -49,6 +50,7 @@ impl Pair {
     ghost use Rattle.ddcmp_run.specs.Run.{new_pair, after_event, reply_to, asks_memory, at};
     ghost use Rattle.ddcmp_run.specs.Run.{handed_up, is_clean};
     ghost use Rattle.ddcmp_run.specs.InOrder.{IsRun, IsInOrder, NoRestart};
+    ghost use Rattle.ddcmp_pair.specs.Steps.{Reports};
 
     /// Two stations begun over an empty line.
     pub fn new(alloc: Global, first: Config, second: Config) -> Result<Pair, PairRefusal>
@@ -93,7 +95,28 @@ impl Pair {
         ensures limits { (end : EndValue) → (at end self.new).core.limits
             ≡ (at end self.old).core.limits }
     {
-        self.ends.apply(&event)
+        self.apply(&event)
+    }
+
+    /// The same as `step`, reported to a watch.
+    pub fn step_watched<W: Watch>(&mut self, watch: &mut W, event: Event) -> Result<Reply, Memory>
+        ensures state { IsOk result → self.new ≡ after_event event self.old }
+        ensures reply { IfOk result (λ reply. reply ≡ reply_to event self.old) }
+        ensures memory { OnErr result (self.new ≡ self.old) }
+        ensures asks { asks_memory event self.old ≡ false → IsOk result }
+        ensures order { IsInOrder self.new }
+        ensures no_restart { is_clean self.old ≡ true → self.new.honest ≡ true
+            → IfOk result NoRestart }
+        ensures limits { (end : EndValue) → (at end self.new).core.limits
+            ≡ (at end self.old).core.limits }
+        // An event that was done is reported, and no other.
+        ensures seen { IsOk result
+            → Reports (W.seen watch.old) (W.seen watch.new) (event ∷ []) self.old }
+        ensures unseen { OnErr result (watch.new ≡ watch.old) }
+    {
+        let reply = self.apply(&event)?;
+        watch.did(self, &event, &reply);
+        Ok(reply)
     }
 
     /// The same of an event that is kept.
@@ -103,6 +126,9 @@ impl Pair {
         // Want of memory leaves all as it was, and is answered to no event that asks for none.
         ensures memory { OnErr result (self.new ≡ self.old) }
         ensures asks { asks_memory event.now self.old ≡ false → IsOk result }
+        ensures order { IsInOrder self.new }
+        ensures no_restart { is_clean self.old ≡ true → self.new.honest ≡ true
+            → IfOk result NoRestart }
         ensures limits { (end : EndValue) → (at end self.new).core.limits
             ≡ (at end self.old).core.limits }
     {

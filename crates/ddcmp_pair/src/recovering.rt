@@ -4,6 +4,7 @@ ghost use Rattle.std.specs.Prelude.{◌≡◌, ◌↔◌, IsTrue};
 
 use crate::pair::Pair;
 use crate::settling::Settled;
+use crate::watch::{Unwatched, Watch};
 use ddcmp_core::MAX_COUNT;
 use ddcmp_proto::{Memory, State};
 use ddcmp_run::{End, Event};
@@ -49,6 +50,7 @@ impl Pair {
     ghost use Rattle.ddcmp_run.specs.Settle.{WantsMemory, most_exchanges};
     ghost use Rattle.ddcmp_run.specs.Recovery.{rounding, rounded, recovering, recovered, is_ready};
     ghost use Rattle.ddcmp_run.specs.Recovery.{larger_window, IsDone, IsRepaired};
+    ghost use Rattle.ddcmp_pair.specs.Steps.{Reports};
 
     /// Both timers run out, where they are on, and then the line settles.
     pub fn round(&mut self) -> Result<Settled, Memory>
@@ -62,9 +64,25 @@ impl Pair {
             ≡ (at end self.old).core.limits }
         ensures order { IsInOrder self.new }
     {
-        let _first = self.step(Event::Expire(End::A))?;
-        let _second = self.step(Event::Expire(End::B))?;
-        self.settle()
+        self.round_watched(&mut Unwatched)
+    }
+
+    /// The same as `round`, reported to a watch.
+    pub fn round_watched<W: Watch>(&mut self, watch: &mut W) -> Result<Settled, Memory>
+        ensures state { IsOk result → self.new ≡ rounded self.old }
+        ensures exchanges { IfOk result (λ s. s.exchanges ≡ (rounding self.old).exchanges) }
+        ensures quiet { IfOk result (λ s. s.quiet ≡ (rounding self.old).quiet) }
+        ensures memory { OnErr result (WantsMemory (rounding self.old).events self.old self.new) }
+        ensures limits { (end : EndValue) → (at end self.new).core.limits
+            ≡ (at end self.old).core.limits }
+        ensures order { IsInOrder self.new }
+        // Each event of the round is reported, in order, and no other.
+        ensures seen { IsOk result
+            → Reports (W.seen watch.old) (W.seen watch.new) (rounding self.old).events self.old }
+    {
+        let _first = self.step_watched(watch, Event::Expire(End::A))?;
+        let _second = self.step_watched(watch, Event::Expire(End::B))?;
+        self.settle_watched(watch)
     }
 
     /// A settle and two rounds. What was sent before and hasn't arrived never arrives.
@@ -90,10 +108,33 @@ impl Pair {
             → IfOk result (λ r. All (λ n. n ≤ 12 * larger_window self.old + 12) r.exchanges) }
         ensures done { is_ready self.old ≡ true → IsOk result → IsDone self.new }
     {
+        self.recover_watched(&mut Unwatched)
+    }
+
+    /// The same as `recover`, reported to a watch.
+    pub fn recover_watched<W: Watch>(&mut self, watch: &mut W) -> Result<Recovered, Memory>
+        ensures state { IsOk result → self.new ≡ recovered self.old }
+        ensures exchanges { IfOk result (λ r. r.exchanges ≡ (recovering self.old).exchanges) }
+        ensures quiet { IfOk result (λ r. r.quiet ≡ (recovering self.old).quiet) }
+        ensures memory { OnErr result
+            (WantsMemory (recovering self.old).events self.old self.new) }
+        ensures limits { (end : EndValue) → (at end self.new).core.limits
+            ≡ (at end self.old).core.limits }
+        ensures order { IsInOrder self.new }
+        ensures repaired { is_ready self.old ≡ true → IfOk result (λ r. r.quiet ≡ true) }
+        ensures within { is_ready self.old ≡ true
+            → IfOk result (λ r. All (λ n. n ≤ most_exchanges self.old) r.exchanges) }
+        ensures fewer { is_ready self.old ≡ true
+            → IfOk result (λ r. All (λ n. n ≤ 12 * larger_window self.old + 12) r.exchanges) }
+        ensures done { is_ready self.old ≡ true → IsOk result → IsDone self.new }
+        // Each event of the recovery is reported, in order, and no other.
+        ensures seen { IsOk result
+            → Reports (W.seen watch.old) (W.seen watch.new) (recovering self.old).events self.old }
+    {
         self.is_repaired();
-        let first = self.settle()?;
-        let second = self.round()?;
-        let third = self.round()?;
+        let first = self.settle_watched(watch)?;
+        let second = self.round_watched(watch)?;
+        let third = self.round_watched(watch)?;
         Ok(Recovered::of(first, second, third))
     }
 

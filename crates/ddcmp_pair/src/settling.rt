@@ -1,5 +1,6 @@
 //! Frames arrive whole, one after another, until neither end sends any more.
 use crate::pair::Pair;
+use crate::watch::{Unwatched, Watch};
 use ddcmp_proto::Memory;
 use ddcmp_run::{End, Event, Reply};
 
@@ -19,6 +20,7 @@ impl Pair {
     ghost use Rattle.ddcmp_run.specs.InOrder.{IsInOrder};
     ghost use Rattle.ddcmp_run.specs.Settle.{settling, settled, exchange, either_writes, crossing};
     ghost use Rattle.ddcmp_run.specs.Settle.{writes, mail_events, WantsMemory};
+    ghost use Rattle.ddcmp_pair.specs.Steps.{Reports};
 
     /// Takes all mail, and then carries frames to and fro until neither end writes one. What was
     /// sent before and hasn't arrived never arrives.
@@ -34,22 +36,40 @@ impl Pair {
         // On want of memory too, messages are in order.
         ensures order { IsInOrder self.new }
     {
-        let settled = self.settle_all();
-        self.is_run();
-        settled
+        self.settle_watched(&mut Unwatched)
     }
 
-    fn settle_all(&mut self) -> Result<Settled, Memory>
+    /// The same as `settle`, reported to a watch.
+    pub fn settle_watched<W: Watch>(&mut self, watch: &mut W) -> Result<Settled, Memory>
         ensures state { IsOk result → self.new ≡ settled self.old }
         ensures exchanges { IfOk result (λ s. s.exchanges ≡ (settling self.old).exchanges) }
         ensures quiet { IfOk result (λ s. s.quiet ≡ (settling self.old).quiet) }
         ensures memory { OnErr result (WantsMemory (settling self.old).events self.old self.new) }
+        ensures limits { (end : EndValue) → (at end self.new).core.limits
+            ≡ (at end self.old).core.limits }
+        ensures order { IsInOrder self.new }
+        // Each event of the settle is reported, in order, and no other.
+        ensures seen { IsOk result
+            → Reports (W.seen watch.old) (W.seen watch.new) (settling self.old).events self.old }
+    {
+        let settled = self.settle_all(watch);
+        self.is_run();
+        settled
+    }
+
+    fn settle_all<W: Watch>(&mut self, watch: &mut W) -> Result<Settled, Memory>
+        ensures state { IsOk result → self.new ≡ settled self.old }
+        ensures exchanges { IfOk result (λ s. s.exchanges ≡ (settling self.old).exchanges) }
+        ensures quiet { IfOk result (λ s. s.quiet ≡ (settling self.old).quiet) }
+        ensures memory { OnErr result (WantsMemory (settling self.old).events self.old self.new) }
+        ensures seen { IsOk result
+            → Reports (W.seen watch.old) (W.seen watch.new) (settling self.old).events self.old }
     {
         let most = 16 * (self.window() as u32 + 4);
-        self.take_mail(End::A)?;
-        self.take_mail(End::B)?;
+        self.take_mail(watch, End::A)?;
+        self.take_mail(watch, End::B)?;
         for exchanges in 0..most {
-            if !self.exchange()? {
+            if !self.exchange(watch)? {
                 return Ok(Settled {
                     exchanges,
                     quiet: true,
@@ -63,38 +83,44 @@ impl Pair {
     }
 
     /// A frame from A to B and one from B to A: whether either end wrote.
-    fn exchange(&mut self) -> Result<bool, Memory>
+    fn exchange<W: Watch>(&mut self, watch: &mut W) -> Result<bool, Memory>
         ensures state { IsOk result → self.new ≡ run (exchange self.old) self.old }
         ensures wrote { IfOk result (λ wrote. wrote ≡ either_writes self.old) }
         ensures memory { OnErr result (WantsMemory (exchange self.old) self.old self.new) }
+        ensures seen { IsOk result
+            → Reports (W.seen watch.old) (W.seen watch.new) (exchange self.old) self.old }
     {
-        let first = self.cross(End::A)?;
-        let second = self.cross(End::B)?;
+        let first = self.cross(watch, End::A)?;
+        let second = self.cross(watch, End::B)?;
         Ok(first || second)
     }
 
     /// The end's next frame arrives whole at the other, whose mail is taken: whether there was one.
-    fn cross(&mut self, from: End) -> Result<bool, Memory>
+    fn cross<W: Watch>(&mut self, watch: &mut W, from: End) -> Result<bool, Memory>
         ensures state { IsOk result → self.new ≡ run (crossing from self.old) self.old }
         ensures wrote { IfOk result (λ wrote. wrote ≡ writes from self.old) }
         ensures memory { OnErr result (WantsMemory (crossing from self.old) self.old self.new) }
+        ensures seen { IsOk result
+            → Reports (W.seen watch.old) (W.seen watch.new) (crossing from self.old) self.old }
     {
         let to = from.other();
-        let Reply::Wrote(bytes) = self.step(Event::Poll(from))? else {
+        let Reply::Wrote(bytes) = self.step_watched(watch, Event::Poll(from))? else {
             return Ok(false);
         };
-        let _notices = self.step(Event::Arrive(to, bytes))?;
-        self.take_mail(to)?;
+        let _notices = self.step_watched(watch, Event::Arrive(to, bytes))?;
+        self.take_mail(watch, to)?;
         Ok(true)
     }
 
     /// Takes all mail of an end.
-    fn take_mail(&mut self, end: End) -> Result<(), Memory>
+    fn take_mail<W: Watch>(&mut self, watch: &mut W, end: End) -> Result<(), Memory>
         ensures state { IsOk result → self.new ≡ run (mail_events end self.old) self.old }
         ensures memory { OnErr result (WantsMemory (mail_events end self.old) self.old self.new) }
+        ensures seen { IsOk result
+            → Reports (W.seen watch.old) (W.seen watch.new) (mail_events end self.old) self.old }
     {
         for _taken in 0..self.station(end).waiting() {
-            let _message = self.step(Event::Take(end))?;
+            let _message = self.step_watched(watch, Event::Take(end))?;
         }
         Ok(())
     }

@@ -1,11 +1,11 @@
 //! What is drawn on: a terminal, or the sheet of a document.
-ghost use Rattle.std.specs.Prelude.{◌≡◌, not};
+ghost use Rattle.std.specs.Prelude.{◌≡◌, false, IsTrue};
 
 use crate::ladder::{write_ladder, write_ladder_head};
 use crate::mark::Mark;
 use crate::svg::{write_document, write_element};
 use ddcmp_closing::write_closing;
-use ddcmp_io::{MemorySink, Page, Sink};
+use ddcmp_io::{MemorySink, Page, Sink, write_all};
 use ddcmp_pair::Pair;
 use std::alloc::Global;
 
@@ -21,22 +21,19 @@ pub enum Picture {
 /// A picture on its way.
 pub(crate) struct Canvas {
     picture: Picture,
-    /// What goes to the writer.
-    page: Page,
-    /// What goes to the sheet, where a document is drawn.
+    /// What goes to the sheet.
     draft: Page,
+    /// What is drawn and hasn't been written.
     sheet: MemorySink,
     /// How many rows there are so far.
     rows: u64,
 }
 
-// By hand, so that a canvas is let go by a call: a derived one is written out at
-// each such place.
+// By hand, so that a canvas is dropped by a call: a derived one is written out at each such place.
 impl Drop for Canvas {
     fn drop(self) {
         let Canvas {
             picture: _,
-            page: _page,
             draft: _draft,
             sheet: _sheet,
             rows: _,
@@ -53,14 +50,18 @@ fn rows_of(mark: &Mark) -> u64 {
 }
 
 impl Canvas {
+    /// An empty one; above a ladder are the names of both ends.
     pub(crate) fn new(alloc: Global, picture: Picture) -> Self {
-        Canvas {
+        let mut canvas = Canvas {
             picture,
-            page: Page::new(),
             draft: Page::new(),
             sheet: MemorySink::new(alloc),
             rows: 0,
+        };
+        if picture == Picture::Ladder {
+            write_ladder_head(&mut canvas.draft, &mut canvas.sheet);
         }
+        canvas
     }
 
     /// The row of the next mark.
@@ -68,42 +69,36 @@ impl Canvas {
         self.rows
     }
 
-    /// What stands above everything else.
-    pub(crate) fn begin<W: Sink>(&mut self, writer: &mut W) {
-        if self.picture == Picture::Ladder {
-            write_ladder_head(&mut self.page, writer);
-        }
-    }
-
-    pub(crate) fn put<W: Sink>(&mut self, writer: &mut W, mark: &Mark) {
+    pub(crate) fn put(&mut self, mark: &Mark) {
         match self.picture {
-            Picture::Ladder => write_ladder(&mut self.page, writer, mark),
+            Picture::Ladder => write_ladder(&mut self.draft, &mut self.sheet, mark),
             Picture::Svg => write_element(&mut self.draft, &mut self.sheet, self.rows, mark),
         }
         self.rows = self.rows.saturating_add(rows_of(mark));
     }
 
-    /// Ends the picture: whether there was memory for all of it. Behind it stands what has been
-    /// done, where there is a pair to ask.
-    pub(crate) fn end<W: Sink>(
-        &mut self,
-        alloc: Global,
-        writer: &mut W,
-        closing: Option<&Pair>,
-        counted: bool,
-    ) -> bool {
+    /// Writes the lines that were drawn: whether there was memory for them and all went out. A
+    /// document waits for its end.
+    pub(crate) fn show<W: Sink>(&mut self, writer: &mut W) -> bool
+        requires { W.broken writer.old ≡ false }
+        ensures { IsTrue result → W.broken writer.new ≡ false }
+    {
+        if self.draft.flush(&mut self.sheet).is_err() {
+            return false;
+        }
         match self.picture {
             Picture::Ladder => {
-                if let Some(pair) = closing {
-                    write_closing(&mut self.page, writer, pair, counted);
-                }
-                true
+                let shown = write_all(writer, self.sheet.bytes.as_slice());
+                self.sheet.clear();
+                shown.is_ok()
             }
-            Picture::Svg => self.end_document(alloc, writer, closing, counted),
+            Picture::Svg => true,
         }
     }
 
-    fn end_document<W: Sink>(
+    /// Ends the picture: whether there was memory for all of it. After it comes what has been done,
+    /// if there is a pair to ask.
+    pub(crate) fn end<W: Sink>(
         &mut self,
         alloc: Global,
         writer: &mut W,
@@ -116,20 +111,21 @@ impl Canvas {
             write_closing(&mut self.draft, &mut caption, pair, counted);
         }
         let is_said = self.draft.flush(&mut caption).is_ok();
-        write_document(
-            &mut self.page,
-            writer,
-            self.sheet.bytes.as_slice(),
-            self.rows,
-            caption.bytes.as_slice(),
-        );
+        let mut page = Page::new();
+        self.write_out(&mut page, writer, caption.bytes.as_slice());
+        let _the_writer_tells = page.flush(writer);
         is_drawn && is_said
     }
 
-    /// Writes the lines that wait: whether all went out. A document waits for its end.
-    pub(crate) fn show<W: Sink>(&mut self, writer: &mut W) -> bool
-        ensures { W.broken writer.new ≡ not result }
-    {
-        self.page.flush(writer).is_ok()
+    /// Hands over the rest of a ladder, or the whole document, and the caption below it.
+    fn write_out<W: Sink>(&self, page: &mut Page, writer: &mut W, caption: &[u8]) {
+        let sheet = self.sheet.bytes.as_slice();
+        match self.picture {
+            Picture::Ladder => {
+                page.write(writer, sheet);
+                page.write(writer, caption);
+            }
+            Picture::Svg => write_document(page, writer, sheet, self.rows, caption),
+        }
     }
 }

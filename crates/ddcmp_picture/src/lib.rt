@@ -8,11 +8,11 @@
 #![tactic(auto)]
 
 mod canvas;
+mod drawing;
 mod flights;
 mod labels;
 mod ladder;
 mod mark;
-mod performing;
 mod playing;
 mod short_text;
 mod svg;

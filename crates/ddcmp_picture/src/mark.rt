@@ -9,7 +9,25 @@ pub(crate) struct Trip {
     /// The row in which it left.
     pub(crate) row: u64,
     pub(crate) label: ShortText,
+    /// Whether none of its bytes have arrived.
+    pub(crate) is_whole: bool,
     pub(crate) is_damaged: bool,
+}
+
+impl Trip {
+    /// A byte was changed by exclusive or.
+    pub(crate) fn damage(&mut self, by: u8) {
+        self.is_damaged = self.is_damaged || by != 0;
+    }
+
+    /// Some bytes have arrived; the rest begins its way in this row.
+    pub(crate) fn leave_rest(&mut self, row: u64) {
+        self.row = row;
+        if self.is_whole {
+            self.is_whole = false;
+            self.label = self.label.with(b", rest");
+        }
+    }
 }
 
 /// How a trip ends.

@@ -9,7 +9,7 @@ pub returns-clause-comes : goal.returns-clause-comes
 returns-clause-comes g c = λ ok.
     let p = c.args.pair.now in
     let state = c.in_ok-recovered.ensures.state refl in
-    let done = c.done.ensures.answer ∙ ap is_done state in
+    let done = c.done-done.ensures.answer ∙ ap is_done state in
     record {
       scene =
           λ i. record { pair = (state ∙ sym (recovering-state p)) i; lines = c.clear.ensures i };

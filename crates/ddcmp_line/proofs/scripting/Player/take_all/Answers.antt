@@ -1,4 +1,5 @@
-use Rattle.std.proofs.Common.{◌≡◌, ℕ, ◌+◌, ◌<◌, ◌≤◌, List, [], length, take, Err, inl, inr}
+use Rattle.std.proofs.Common.{◌≡◌, ◌≢◌, ℕ, ◌+◌, ◌<◌, ◌≤◌, List, [], length, take, Result, Err}
+use Rattle.std.proofs.Common.{inl, inr}
 use Rattle.std.proofs.Common.{length-take-le, rules, refl, sym, ap, subst, ◌∙◌, arith}
 use Rattle.std.proofs.KnownBytes.{Consumes-nil, Consumes-kept}
 use Rattle.ddcmp_io.specs.Written.{output_of}
@@ -6,10 +7,13 @@ use Rattle.ddcmp_io.proofs.Inputs.{read-more}
 use Rattle.ddcmp_script_text.proofs.TakingLaws.{stays_fine, worsens, stays_whole, stays_below}
 use Rattle.ddcmp_script_text.proofs.TakingLaws.{write_or_read, read_or_write, write_or_carrier}
 use Rattle.ddcmp_script_text.proofs.TakingLaws.{read_or_carrier, same_fault, true_or_false}
+use Rattle.ddcmp_script_text.specs.declared.script_fault.ScriptFault.{ScriptFault}
+use Rattle.ddcmp_script_text.specs.declared.script_fault.ScriptFault.TheVariants.{Read, Write}
+use Rattle.ddcmp_script_text.specs.declared.script_fault.ScriptFault.TheVariants.{Memory, Carrier}
 use Rattle.ddcmp_line.specs.ScriptEnds.{around}
 use Rattle.ddcmp_line.specs.ScriptProgress.{HasDone, course, fresh, played}
-use Rattle.ddcmp_line.proofs.Endings.{has-flushed, plays-paused, plays-unwritten, paused-before}
-use Rattle.ddcmp_line.proofs.Endings.{kept-by, kept-left, left-after, none-left}
+use Rattle.ddcmp_line.proofs.Endings.{has-flushed, plays-paused, plays-stopped, plays-unwritten}
+use Rattle.ddcmp_line.proofs.Endings.{paused-before, kept-by, kept-left, left-after, none-left}
 use Rattle.ddcmp_line.proofs.scripting.Player.take_all.Goals as goal
 
 less_or_most : (n m : ℕ) → n < m → n ≡ m → ⊥
@@ -18,6 +22,11 @@ less_or_most n m l e = omega arith
 counts_lines : (old seen n new now : ℕ) (buf : List ℕ) → new ≤ old + length (take n buf)
     → old ≤ seen → n ≤ length buf → now ≡ seen + n → new ≤ now
 counts_lines old seen n new now buf few most within e = omega (arith, length-take-le n buf within)
+
+-- an allocation failure is no other fault
+memory_or : (fault : ScriptFault) → fault ≢ Memory
+    → ◌≡◌ {A = Result (Unit {0}) ScriptFault} (Err Memory) (Err fault) → ⊥
+memory_or fault other e = other (sym (same_fault Memory fault e))
 
 has_room : (xs : List ℕ) (k : ℕ) → length xs ≡ k → k ≡ 4096 → 0 < length xs
 has_room xs k e f = omega arith
@@ -31,6 +40,7 @@ pub loop-self-preserved : goal.loop-self-preserved
 loop-self-preserved g c = record {
   fine = stays_fine _ _ _ _ c.loop-self.invariant.fine c.in-Bytes.is c.read_within.ensures.worst;
   whole = stays_whole _ _ c.in-Ok.ensures.devices.carrier.1;
+  shown = c.if-not-show.ensures.whole refl;
   room = c.read_within.auto.buf ∙ c.loop-self.invariant.room;
   below = stays_below _ _ _ _ c.in-Bytes.ensures.within c.loop-self.invariant.below c.if-self.false
       c.take.ensures.seen;
@@ -188,6 +198,7 @@ pub loop-self-init : goal.loop-self-init
 loop-self-init g c = record {
   fine = c.requires.fine;
   whole = c.requires.whole;
+  shown = c.requires.shown;
   room = refl;
   below = omega (arith, c.requires.seen);
   number = omega (arith, c.requires.seen, c.requires.number);
@@ -223,6 +234,50 @@ returns-then-is_err-clause-carrier g c = (
 pub returns-then-is_err-clause-paused : goal.returns-then-is_err-clause-paused
 returns-then-is_err-clause-paused g c = λ input rest p d log sink de h read. absurd
     (write_or_read read)
+
+pub returns-then-not-show-clause-consumed : goal.returns-then-not-show-clause-consumed
+returns-then-not-show-clause-consumed g c = c.loop-self.invariant.consumed
+
+pub returns-then-not-show-clause-read : goal.returns-then-not-show-clause-read
+returns-then-not-show-clause-read g c = λ bad. absurd (bad c.loop-self.invariant.fine)
+
+pub returns-then-not-show-clause-read_only : goal.returns-then-not-show-clause-read_only
+returns-then-not-show-clause-read_only g c = λ e. absurd (memory_or Read (λ r. cc) e)
+
+pub returns-then-not-show-clause-read_most : goal.returns-then-not-show-clause-read_most
+returns-then-not-show-clause-read_most g c = λ most. absurd
+    (less_or_most _ _ c.loop-self.invariant.below most)
+
+pub returns-then-not-show-clause-write : goal.returns-then-not-show-clause-write
+returns-then-not-show-clause-write g c =
+    let whole = c.flush.ensures.broken ∙ sym c.is_err.ensures.value ∙ c.if-is_err.false in
+    (λ e. absurd (memory_or Write (λ r. cc) e), λ down. absurd (true_or_false _ whole down))
+
+pub returns-then-not-show-clause-carrier : goal.returns-then-not-show-clause-carrier
+returns-then-not-show-clause-carrier g c = (
+  λ e. absurd (memory_or Carrier (λ r. cc) e),
+  λ down. absurd
+      (true_or_false _ c.loop-self.invariant.whole down),
+)
+
+pub returns-then-not-show-clause-paused : goal.returns-then-not-show-clause-paused
+returns-then-not-show-clause-paused g c = λ input rest p d log sink de h read. absurd
+    (memory_or Read (λ r. cc) read)
+
+pub returns-then-not-show-clause-plays : goal.returns-then-not-show-clause-plays
+returns-then-not-show-clause-plays g c = λ input p d log sink de h.
+    let player = c.loop-self.self in
+    let lines = player.stage.lines in
+    let a = output_of g.W.Sink.broken g.W.Sink.contents c.loop-self.writer player.stage.page in
+    let out = output_of g.W.Sink.broken g.W.Sink.contents c.flush.new.writer c.flush.new.self in
+    let x = around p c.loop-self.pair d log (g.C.Carrier.told c.loop-self.carrier) in
+    let far = c.loop-self.invariant.so_far input p d log sink de h in
+    let now =
+    has-flushed c.args.counted input x far.0 player.line.items player.number lines (fresh sink)
+    a far.2 out c.flush.ensures.sends in
+    let whole = c.flush.ensures.broken ∙ sym c.is_err.ensures.value ∙ c.if-is_err.false in
+    plays-stopped c.args.counted input x far.0 player.line.items player.number lines sink out now
+    whole c.flush.ensures.empty
 
 pub returns-in-Bytes-eq0-clause-consumed : goal.returns-in-Bytes-eq0-clause-consumed
 returns-in-Bytes-eq0-clause-consumed g c =

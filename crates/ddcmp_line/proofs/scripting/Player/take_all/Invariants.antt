@@ -12,6 +12,7 @@ abbrev pub invariant-loop-self : goal.invariant-loop-self
 invariant-loop-self g l = record {
   fine : g.R.Source.state l.reader ≡ Fine;
   whole : g.C.Carrier.broken l.carrier ≡ false;
+  shown : g.O.Sink.broken l.shown ≡ false;
   room : length l.piece ≡ 4096;
   below : l.self.seen < 2 ^ 64 - 1;
   number : l.self.number ≤ l.self.seen;

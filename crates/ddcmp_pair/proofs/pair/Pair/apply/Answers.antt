@@ -1,7 +1,7 @@
 use Rattle.std.proofs.Common.{◌∙◌, ap}
-use Rattle.ddcmp_run.specs.Run.{at}
+use Rattle.ddcmp_run.specs.Run.{at, is_clean}
 use Rattle.ddcmp_run.proofs.Limits.{step-limits}
-use Rattle.ddcmp_run.proofs.Ordered.{stepped}
+use Rattle.ddcmp_run.proofs.Ordered.{stepped, stepped-quiet, run-in-order}
 use Rattle.ddcmp_pair.proofs.pair.Pair.apply.Goals as goal
 
 pub returns-clause-limits : goal.returns-clause-limits
@@ -14,3 +14,15 @@ pub invariant_of-self : goal.invariant_of-self
 invariant_of-self c =
     stepped c.apply.result c.args.event.now c.self.inside.ends c.apply.new.self
     c.apply.ensures.state c.apply.ensures.memory c.self.invariant
+
+pub returns-clause-order : goal.returns-clause-order
+returns-clause-order c =
+    run-in-order c.apply.new.self
+    (stepped c.apply.result c.args.event.now c.self.inside.ends c.apply.new.self
+    c.apply.ensures.state c.apply.ensures.memory c.self.invariant)
+
+pub returns-clause-no_restart : goal.returns-clause-no_restart
+returns-clause-no_restart c = λ clean honest.
+    stepped-quiet c.apply.result c.args.event.now c.self.inside.ends c.apply.new.self
+    c.apply.ensures.state c.apply.ensures.reply c.self.invariant
+    (ap is_clean c.self.view_is ∙ clean) honest

@@ -8,8 +8,8 @@ use Rattle.ddcmp_line.specs.ScriptEnds.{around, Plays}
 use Rattle.ddcmp_line.specs.ScriptProgress.{HasDone, course, fresh, played}
 use Rattle.ddcmp_io.proofs.Inputs.{gave-most, read-all}
 use Rattle.ddcmp_line.proofs.Endings.{begun-has, most-read, not-most, ok-exactly}
-use Rattle.ddcmp_line.proofs.scripting.script_with.Goals as goal
-use Rattle.ddcmp_line.proofs.scripting.script_with.Goals.{After-drop-player-3}
+use Rattle.ddcmp_line.proofs.scripting.script_over.Goals as goal
+use Rattle.ddcmp_line.proofs.scripting.script_over.Goals.{After-drop-player-3}
 
 read-only : (g : _) (c : After-drop-player-3 g) → c.take_all-done.result ≡ Err Read
     → (g.R.Source.state c.take_all-done.new.reader ≢ Fine)
@@ -49,8 +49,8 @@ told g c input left =
     (g.C.Carrier.told c.args.carrier.now) (g.W.Sink.contents c.args.writer.now) refl
     (input, left, begun g c input)
 
-pub returns : goal.returns
-returns g c =
+pub returns-clause-played : goal.returns-clause-played
+returns-clause-played g c =
     let made = c.take_all-done.new in
     let done = c.take_all-done.ensures in
     let seen = made.self.seen in

@@ -1,9 +1,9 @@
 use Rattle.ddcmp_run.specs.Settle.{settling}
 use Rattle.ddcmp_run.proofs.Limits.{part-limits}
-use Rattle.ddcmp_pair.proofs.pair.Pair.settle.Goals as goal
+use Rattle.ddcmp_pair.proofs.pair.Pair.settle_watched.Goals as goal
 
 pub returns-clause-limits : goal.returns-clause-limits
-returns-clause-limits c = λ end.
+returns-clause-limits g c = λ end.
     part-limits c.settle_all-settled.result
     (settling c.args.self.now).events c.args.self.now c.settle_all-settled.new.self end
     c.settle_all-settled.ensures.state c.settle_all-settled.ensures.memory

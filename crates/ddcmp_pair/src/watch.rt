@@ -1,0 +1,26 @@
+//! What watches a pair.
+use crate::pair::Pair;
+use ddcmp_run::{Event, Reply};
+
+/// Watches a pair: each event that was done is reported to it, in order.
+pub trait Watch {
+    ghost use Rattle.std.specs.Prelude.{Option, List, None, [], ◌∷◌};
+    ghost use Rattle.ddcmp_io.specs.Device.{Logs};
+    ghost use Rattle.ddcmp_pair.specs.Steps.{Step};
+
+    // The steps that were reported to it, if these are known.
+    ghost seen: { Self → Option (List Step) } = { λ _. None };
+
+    /// Takes note of an event and of its reply; `pair` is as the event left it.
+    fn did(&mut self, pair: &Pair, event: &Event, reply: &Reply)
+        ensures { Logs (seen self.old) (seen self.new)
+            (record { event = event.now; reply = reply.now } ∷ []) };
+}
+
+/// Watches nothing.
+#[derive(Clone, Copy, Debug, Drop, PartialEq, Eq)]
+pub struct Unwatched;
+
+impl Watch for Unwatched {
+    fn did(&mut self, _pair: &Pair, _event: &Event, _reply: &Reply) {}
+}
