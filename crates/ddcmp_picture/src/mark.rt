@@ -1,4 +1,6 @@
 //! What a step of a run puts into a picture.
+ghost use Rattle.std.specs.Prelude.{◌≡◌, ◌≢◌, true};
+
 use crate::short_text::ShortText;
 use ddcmp_pair::End;
 
@@ -15,13 +17,21 @@ pub(crate) struct Trip {
 }
 
 impl Trip {
-    /// A byte was changed by exclusive or.
-    pub(crate) fn damage(&mut self, by: u8) {
+    /// A byte was changed by exclusive or: a frame that was damaged stays so.
+    pub(crate) fn damage(&mut self, by: u8)
+        ensures stays { self.old.is_damaged ≡ true → self.new.is_damaged ≡ true }
+        ensures damages { by ≢ 0 → self.new.is_damaged ≡ true }
+        ensures same { by ≡ 0 → self.new ≡ self.old }
+    {
         self.is_damaged = self.is_damaged || by != 0;
     }
 
     /// Some bytes have arrived; the rest begins its way in this row.
-    pub(crate) fn leave_rest(&mut self, row: u64) {
+    pub(crate) fn leave_rest(&mut self, row: u64)
+        ensures row { self.new.row ≡ row }
+        ensures damaged { self.new.is_damaged ≡ self.old.is_damaged }
+        ensures from { self.new.from ≡ self.old.from }
+    {
         self.row = row;
         if self.is_whole {
             self.is_whole = false;
