@@ -19,7 +19,7 @@ fn link_help() -> &'static str {
 LINE is one of:
   connect:HOST:PORT      a TCP connection to this address
   listen:HOST:PORT       a TCP connection from whoever calls
-  udp:LOCAL,REMOTE       datagrams between two addresses, one frame each
+  udp:LOCAL,REMOTE       datagrams between two addresses
   device:PATH            a serial device that is set up already, as by stty;
                          the default of --syn is 4
 Input: one message per line, in hexadecimal digits.
