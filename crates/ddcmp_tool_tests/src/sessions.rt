@@ -1,0 +1,207 @@
+//! Sessions without devices, by a clock of the test's own: two over lines that lose, damage and
+//! cut, and one through days of silence.
+use ddcmp_session::{End, Form, Options, Session};
+use ddcmp_station::Config;
+use std::process::Abort;
+use test_kit::Draws;
+
+/// Messages in binary over a connection, for a day, with a reply timer of three seconds.
+fn options(linger_ms: u32, seconds: u32) -> Options {
+    Options {
+        config: Config {
+            window: 7,
+            inbox: 8,
+            max: 1500,
+            syn: 0,
+            restart: false,
+        },
+        timer_ms: 3000,
+        attempts: 0,
+        linger_ms,
+        form: Form::Binary,
+        stay: false,
+        again: false,
+        seconds,
+        counters: false,
+        trace: false,
+        listens: false,
+        datagrams: false,
+        connects: true,
+    }
+}
+
+fn session(rt: &(impl Abort + AllocGlobal), options: Options) -> Session {
+    let Ok(mut session) = Session::new(rt.alloc(), options) else {
+        panic!(rt; "no memory");
+    };
+    assert!(rt; session.connected());
+    session
+}
+
+/// One end: its session, its input and how much of that was taken, its output, and the bytes that
+/// are in flight to it.
+#[derive(Drop)]
+struct Side {
+    session: Session,
+    input: Vec<u8>,
+    at: usize,
+    output: Vec<u8>,
+    line: Vec<u8>,
+    end: Option<End>,
+}
+
+fn append(rt: &impl Abort, to: &mut Vec<u8>, bytes: &[u8]) {
+    assert!(rt; to.extend_from_slice(bytes).is_ok());
+}
+
+/// So many messages of drawn lengths, each after its length.
+fn messages(rt: &(impl Abort + AllocGlobal), draws: &mut Draws, count: u32) -> Vec<u8> {
+    let mut input = Vec::new(rt.alloc());
+    for _message in 0..count {
+        let length = 1 + draws.below(1500) as u16;
+        append(rt, &mut input, &length.to_be_bytes());
+        for _byte in 0..length {
+            append(rt, &mut input, &[draws.byte()]);
+        }
+    }
+    input
+}
+
+impl Side {
+    fn new(rt: &(impl Abort + AllocGlobal), draws: &mut Draws, count: u32) -> Side {
+        Side {
+            session: session(rt, options(3_600_000, 86_400)),
+            input: messages(rt, draws, count),
+            at: 0,
+            output: Vec::new(rt.alloc()),
+            line: Vec::new(rt.alloc()),
+            end: None,
+        }
+    }
+
+    /// Passes some of the input to the session, or its end.
+    fn types(&mut self, draws: &mut Draws) {
+        let rest = self.input.as_slice().get(self.at..).unwrap_or(&[]);
+        if rest.is_empty() {
+            self.session.input_ended();
+            return;
+        }
+        let piece = &rest[..rest.len().min(draws.below(4000))];
+        self.at = self.at.saturating_add(self.session.typed(piece));
+    }
+
+    /// Passes to the session what its line has of it, in a drawn piece.
+    fn hears(&mut self, draws: &mut Draws) {
+        let piece = self.line.len().min(draws.below(3000));
+        let used = self.session.received(&self.line.as_slice()[..piece]);
+        let left = self.line.len().saturating_sub(used);
+        self.line
+            .as_mut_slice()
+            .rotate_left(used.min(left.saturating_add(used)));
+        self.line.truncate(left);
+    }
+
+    /// Writes some of the output.
+    fn writes(&mut self, rt: &impl Abort, draws: &mut Draws) {
+        while self.session.deliver() {}
+        let waiting = self.session.to_output();
+        let n = waiting.len().min(draws.below(2000));
+        append(rt, &mut self.output, &waiting[..n]);
+        self.session.output_took(n);
+    }
+
+    /// Sends a piece of what waits for the line; what happens to it on the way is drawn.
+    fn sends(&mut self, rt: &impl Abort, draws: &mut Draws, to: &mut Vec<u8>) {
+        self.session.fill();
+        let waiting = self.session.to_line();
+        let n = waiting.len().min(draws.below(3000));
+        let before = to.len();
+        match draws.below(20) {
+            0 => {}
+            1 => append(rt, to, &waiting[..n / 2]),
+            2 => {
+                append(rt, to, &waiting[..n]);
+                if let Some(byte) = to.as_mut_slice().get_mut(before.saturating_add(n / 3)) {
+                    *byte ^= 1 + draws.up_to(200);
+                }
+            }
+            _ => append(rt, to, &waiting[..n]),
+        }
+        self.session.line_took(n);
+    }
+
+    /// Does what an end does between two waits.
+    fn turn(&mut self, rt: &impl Abort, draws: &mut Draws, now: u64, to: &mut Vec<u8>) {
+        self.session.handle_timeout(now);
+        self.end = self.session.end();
+        if self.end.is_none() {
+            self.types(draws);
+            self.sends(rt, draws, to);
+            self.hears(draws);
+            self.writes(rt, draws);
+        }
+    }
+}
+
+/// Two sessions over a line that loses, damages and cuts: both end, and what each wrote is what the
+/// other read. A header whose data are lost takes what comes after it, and then that is
+/// acknowledgements alone, so they linger for an hour.
+fn exchanges(rt: &(impl Abort + AllocGlobal), seed: u64) {
+    let mut draws = Draws { state: seed };
+    let mut a = Side::new(rt, &mut draws, 60);
+    let mut b = Side::new(rt, &mut draws, 25);
+    let mut now = 0u64;
+    for _turn in 0..200_000u32 {
+        a.turn(rt, &mut draws, now, &mut b.line);
+        b.turn(rt, &mut draws, now, &mut a.line);
+        if a.end.is_some() && b.end.is_some() {
+            break;
+        }
+        now = now.saturating_add(100);
+    }
+    assert!(rt; (a.end, b.end) == (Some(End::Delivered), Some(End::Delivered)));
+    assert!(rt; a.output.as_slice() == b.input.as_slice());
+    assert!(rt; b.output.as_slice() == a.input.as_slice());
+    assert!(rt; (a.session.lost(), b.session.lost()) == (0, 0));
+}
+
+#[test]
+fn outputs_are_inputs(rt: HostRuntime) {
+    for seed in 1..9u64 {
+        exchanges(&rt, seed);
+    }
+}
+
+/// Wakes a session at each of its moments until it ends: how often, and when it ended.
+fn sleeps(rt: &(impl Abort + AllocGlobal), seconds: u32) -> (u64, u64) {
+    let mut session = session(rt, options(500, seconds));
+    let mut wakes = 0u64;
+    let mut now = 0u64;
+    for _wake in 0..10_000_000u32 {
+        session.handle_timeout(now);
+        if session.end().is_some() {
+            break;
+        }
+        session.fill();
+        let n = session.to_line().len();
+        session.line_took(n);
+        session.handle_timeout(now);
+        assert!(rt; session.wakes_at() > now);
+        now = session.wakes_at();
+        wakes = wakes.saturating_add(1);
+    }
+    assert!(rt; session.end() == Some(End::Time));
+    (wakes, now)
+}
+
+/// A peer that never answers is asked to start every three seconds, and the run ends in time.
+#[test]
+fn a_day_of_silence(rt: HostRuntime) {
+    assert!(&rt; sleeps(&rt, 86_400) == (28_800, 86_400_000));
+}
+
+/// Moments don't wrap where 32 bits of milliseconds end, after 49 days.
+#[test]
+fn sixty_days_of_silence(rt: HostRuntime) {
+    assert!(&rt; sleeps(&rt, 60 * 86_400) == (1_728_000, 5_184_000_000));
+}
