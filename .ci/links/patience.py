@@ -1,4 +1,5 @@
 """When a link leaves a line: a peer that doesn't answer or refuses is given up, and one that has more to send is heard."""
+import os
 import socket
 import subprocess
 import time
@@ -7,6 +8,7 @@ from links.carrying import Bad
 from links.kit import (Link, binary, connected, free_port, listening, messages_of, server, tcp_pair, unpacked, wants, wrong)
 from links.lines import Refusing, datagram_peer
 from links.peer import Peer, ack, good, no_ack, silent
+from trials import drawn
 
 QUICK = ("--timer-ms", "50")
 
@@ -146,6 +148,24 @@ def lingers_on_a_bad_line():
         both_done("10 %", one, two, messages_of(40, 200), messages_of(40, 200))
 
 
+def lingers_at_a_slow_reader():
+    """A peer isn't heard out while the output holds the line back."""
+    reading, writing = os.pipe()
+    one = Link("listen:127.0.0.1:0", "--binary", stdout=writing)
+    os.close(writing)
+    two = Link(f"connect:127.0.0.1:{listening(one)}", "--binary")
+    sent = [drawn.randbytes(1500) for _ in range(600)]
+    one.give(binary([b"a"]))
+    two.give(binary(sent))
+    time.sleep(2)
+    out = b""
+    while piece := os.read(reading, 1 << 16):
+        out += piece
+    os.close(reading)
+    if one.ended() != 0 or two.ended() != 0 or unpacked(out) != sent:
+        wrong(f"{one.errors()[-1:]} {two.errors()[-1:]}, {len(unpacked(out))} of {len(sent)}")
+
+
 def lingers_so_long():
     """For as long as is asked for since the last message, and with 0 not at all."""
     for linger, least, most in (("0", 0, 0.4), ("300", 0.3, 1), ("1200", 1.2, 2)):
@@ -158,5 +178,6 @@ def lingers_so_long():
             wrong(f"--linger-ms {linger}: {time.monotonic() - begun:.2f} s, status {link.run.returncode}")
 
 
-TRIALS = [no_handshake, silent_caller, gone, absent, refused, slow_progress, lingers, lingers_on_a_bad_line, lingers_so_long]
+TRIALS = [no_handshake, silent_caller, gone, absent, refused, slow_progress, lingers, lingers_on_a_bad_line,
+          lingers_at_a_slow_reader, lingers_so_long]
 LONG_TRIALS = []

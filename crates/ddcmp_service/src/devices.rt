@@ -6,7 +6,7 @@ use crate::line::{Line, Moved};
 use crate::outlet::Outlet;
 use crate::waiting::{Descriptor, Waiting, Wanted};
 use ddcmp_io::{Got, Sink, Source, Worst};
-use ddcmp_session::Session;
+use ddcmp_session::{End, Session};
 use ddcmp_station::Clock;
 use std::alloc::{AllocError, Global};
 use std::fs::{File, Files};
@@ -212,7 +212,8 @@ impl Devices {
         let mut moved = false;
         for _notice in 0..u64::MAX {
             deliver_all(session);
-            if self.received.is_empty() || !session.wants_line() || session.end().is_some() {
+            let has_halted = session.end() == Some(End::Restarted);
+            if self.received.is_empty() || !session.wants_line() || has_halted {
                 break;
             }
             let used = session.received(self.received.rest());

@@ -25,6 +25,10 @@ impl Session {
             self.patience.expired();
         }
         self.report_given_up();
+        if !self.wants_line() {
+            // A peer that isn't read can't be heard out.
+            self.quiet_since = now;
+        }
         if let Some(trace) = &mut self.trace {
             trace.wake(now, has_expired, &mut self.errors);
         }
