@@ -2,8 +2,8 @@
 // fails. What they write else is the matter of `worked_commands`.
 use crate::same::is;
 use ddcmp_cli::{
-    Connection, Connections, Ending, Fault, Inputs, Lines, LinkServed, LineName, Options, Role, ServiceFault,
-    run,
+    Connection, Connections, Ending, Fault, Inputs, LineName, Lines, LinkServed, Options, Role,
+    ServiceFault, run,
 };
 use ddcmp_frame::failing::{Pieces, Taken};
 use ddcmp_frame::{Sink, Source};
