@@ -103,7 +103,11 @@ impl Side {
 
     /// Writes some of the output.
     fn writes(&mut self, rt: &impl Abort, draws: &mut Draws) {
-        while self.session.deliver() {}
+        for _message in 0..u64::MAX {
+            if !self.session.deliver() {
+                break;
+            }
+        }
         let waiting = self.session.to_output();
         let n = waiting.len().min(draws.below(2000));
         append(rt, &mut self.output, &waiting[..n]);
