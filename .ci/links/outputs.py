@@ -7,11 +7,12 @@ import socket
 import subprocess
 import threading
 import time
+import tty
 
 from links import kit
 from links.kit import (Link, binary, connected, drawn, free_port, left_out, listening, messages_of, server, tcp_pair,
-                       terminals, unpacked, wants, wrong)
-from links.peer import STRT, Peer, Reader, data, good, no_ack, rep
+                       unpacked, wants, wrong)
+from links.peer import STACK, STRT, Peer, Reader, data, good, no_ack, rep
 
 
 def slow_reader():
@@ -225,23 +226,22 @@ def stopped_terminal():
 
 def stopped_device():
     """A serial line that nobody reads: a message that comes is handed out meanwhile."""
-    with terminals() as ends:
-        if not ends:
-            return
-        link = Link(f"device:{ends[0]}", "--window", "100", "--max", "16383", "--syn", "0", "--timer-ms", "500")
-        end = os.open(ends[1], os.O_RDWR | os.O_NOCTTY)
-        reader = Reader()
-        while not any(it.name == "STRT" for it in reader.push(os.read(end, 4096))):
-            pass
-        os.write(end, bytes.fromhex("0507c0000001") + kit.checked(bytes.fromhex("0507c0000001"))[6:])
-        link.waits(lambda it: b"Running" in it.said, 10)
-        link.give(kit.digits([bytes(16383)] * 60), close=False)
-        time.sleep(1)
-        os.write(end, data(b"abc", 1))
-        if not link.waits(lambda it: b"mail 616263" in it.said, 5):
-            wrong(f"the message isn't handed out: {link.lines()}")
-        link.kill()
-        os.close(end)
+    end, device = os.openpty()  # not by socat, whose own writes would block
+    tty.setraw(device)
+    link = Link(f"device:{os.ttyname(device)}", "--window", "100", "--max", "16383", "--syn", "0", "--timer-ms", "500")
+    reader = Reader()
+    while not any(it.name == "STRT" for it in reader.push(os.read(end, 4096))):
+        pass
+    os.write(end, STACK)
+    link.waits(lambda it: b"Running" in it.said, 10)
+    link.give(kit.digits([bytes(16383)] * 60), close=False)
+    time.sleep(1)
+    os.write(end, data(b"abc", 1))
+    if not link.waits(lambda it: b"mail 616263" in it.said, 5):
+        wrong(f"the message isn't handed out: {link.lines()}")
+    link.kill()
+    os.close(end)
+    os.close(device)
 
 
 def full_output():
