@@ -332,7 +332,7 @@ def no_line():
     for line, last in trials:
         link = Link(line, stdin=subprocess.DEVNULL)
         wants(line, link, 3, last)
-        if link.errors() != [last]:
+        if link.faults() != [last] or link.events() != [f"connecting {line[8:]}"] * line.startswith("connect"):
             wrong(f"{link.errors()}")
     for word in ("tcp:1", "listen", "udp:127.0.0.1:1"):
         link = Link(word, stdin=subprocess.DEVNULL)
@@ -370,7 +370,7 @@ def callers():
     link.give(b"61\n")
     wants("a good caller", link, 0)
     told = [it.split()[0] for it in link.errors()]
-    if peer.mail != [b"a"] or told != ["listening"] + ["connected"] * 8 or not link.errors()[-1].startswith("connected 127.0.0.1:"):
+    if peer.mail != [b"a"] or told != ["listening"] + ["connected", "line"] * 7 + ["connected"]:
         wrong(f"{peer.mail} {link.errors()}")
 
 

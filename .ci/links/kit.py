@@ -1,6 +1,7 @@
 """A link that runs, and what the trials of links share."""
 import contextlib
 import os
+import random
 import re
 import shutil
 import socket
@@ -14,14 +15,20 @@ from trials import drawn, wrong
 
 TOP = os.path.dirname(os.path.dirname(os.path.dirname(os.path.realpath(__file__))))
 PROGRAM = [f"{TOP}/crates/ddcmp/out/ddcmp"]
+EVENT = re.compile(r"(listening|connecting|connected) \S+$|line down: |retry in \d+ s$")
 LONG = 40  # seconds that nothing here may take
 longer = []  # not empty: the long trials are run too
 
 
 def free_port(kind=socket.SOCK_STREAM):
-    with socket.socket(socket.AF_INET, kind) as it:
-        it.bind(("127.0.0.1", 0))
-        return it.getsockname()[1]
+    """A port that nothing uses, and that the system gives to no connection meanwhile."""
+    while True:
+        port = random.SystemRandom().randrange(12000, 32000)
+        with contextlib.suppress(OSError), socket.socket(socket.AF_INET, kind) as it:
+            if kind == socket.SOCK_STREAM:  # a process that is being started may have this socket for a moment, too
+                it.setsockopt(socket.SOL_SOCKET, socket.SO_REUSEADDR, 1)
+            it.bind(("127.0.0.1", port))
+            return port
 
 
 def is_listening(port):
@@ -36,7 +43,7 @@ def server(backlog=128):
     return made
 
 
-def connected(port, seconds=10):
+def connected(port, seconds=20):
     """A connection to a port, once something listens there."""
     until = time.monotonic() + seconds
     while not is_listening(port) and time.monotonic() < until:
@@ -146,6 +153,14 @@ class Link:
     def errors(self):
         """The lines on standard error."""
         return self.told.decode(errors="replace").split("\n")[:-1]
+
+    def events(self):
+        """Those that report an event of the line."""
+        return [it for it in self.errors() if EVENT.match(it)]
+
+    def faults(self):
+        """Those that don't."""
+        return [it for it in self.errors() if not EVENT.match(it)]
 
     def mails(self):
         return [bytes.fromhex(it[5:]) for it in self.lines() if it.startswith("mail ")]

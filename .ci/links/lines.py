@@ -44,7 +44,10 @@ def closed_at_once():
         if not 2 <= count <= 3 or link.processor_time() > 0.5:
             wrong(f"{count} connections, {link.processor_time()} s of processor time")
         link.kill()
-        if link.errors()[:2] != [f"ddcmp: line ended; retry in {it} s" for it in (1, 2)][:count]:
+        name = f"127.0.0.1:{it.getsockname()[1]}"
+        wanted = [[f"connecting {name}", f"connected {name}", "line down", f"retry in {it} s"] for it in (1, 2)]
+        told = [it.split(":")[0] if it.startswith("line down: c") else it for it in link.errors()]
+        if told[:8] != sum(wanted[:count], []):
             wrong(f"{link.errors()}")
         it.close()
     link = Link("device:/dev/null", "--again", "--seconds", "2", stdin=subprocess.DEVNULL)
@@ -60,7 +63,7 @@ def late_server():
         name = f"127.0.0.1:{it.getsockname()[1]}"
         link = Link(f"connect:{name}", "--again")
         begun = time.monotonic()
-        if not link.waits(lambda it: len(it.errors()) == 2, 6):
+        if not link.waits(lambda it: len(it.faults()) == 2, 6):
             wrong(f"{link.errors()}")
             link.kill()
             return
@@ -72,7 +75,7 @@ def late_server():
         if link.ended(5) != 0 or not 2.5 < took < 4:
             wrong(f"after {took} s, status {link.run.returncode}")
     wanted = [f"ddcmp: connect {name}: connection refused; retry in {it} s" for it in (1, 2)]
-    if link.errors() != wanted:
+    if link.faults() != wanted or link.events() != [f"connecting {name}"] * 3 + [f"connected {name}"]:
         wrong(f"{link.errors()}")
 
 
@@ -105,7 +108,7 @@ def server_away():
         except TimeoutError:
             wrong(f"it doesn't come back: {link.errors()}")
     link.give(b"61\n")
-    if link.ended(5) != 0 or [it.rsplit("retry", 1)[-1] for it in link.errors()] != [" in 1 s", " in 2 s"]:
+    if link.ended(5) != 0 or [it.rsplit("retry", 1)[-1] for it in link.faults()] != [" in 1 s", " in 2 s"]:
         wrong(f"status {link.run.returncode}: {link.errors()}")
 
 
@@ -113,15 +116,15 @@ def seconds_in_pause():
     """--seconds ends a link in a pause before its next try."""
     link = Link(f"connect:127.0.0.1:{free_port()}", "--again", "--seconds", "4")
     wants("paused", link, 3, "ddcmp: ended", seconds=10)
-    if len(link.errors()) != 4 or link.took > 6:
+    if len(link.faults()) != 4 or link.took > 6:
         wrong(f"{link.took} s: {link.errors()}")
 
 
 def longest_pause():
     """The pause doubles up to 30 s."""
     link = Link(f"connect:127.0.0.1:{free_port()}", "--again")
-    link.waits(lambda it: len(it.errors()) == 6, 60)
-    if [it.split()[-2] for it in link.errors()] != ["1", "2", "4", "8", "16", "30"]:
+    link.waits(lambda it: len(it.faults()) == 6, 60)
+    if [it.split()[-2] for it in link.faults()] != ["1", "2", "4", "8", "16", "30"]:
         wrong(f"{link.errors()}")
     link.kill()
 

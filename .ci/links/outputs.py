@@ -152,6 +152,21 @@ def errors_unread():
                 wrong(f"{seen} notices and {count} left out in {gaps} gaps")
 
 
+def errors_read_at_last():
+    """The last line has room on a standard error that was full until the end."""
+    one = Unread("listen:127.0.0.1:0", "--binary", "--stay", "--inbox", "127", "--counters")
+    two = Unread(f"connect:127.0.0.1:{one.port()}", "--binary", "--window", "127")
+    two.link.give(binary([b"%05d" % it for it in range(8000)]))
+    one.link.waits(lambda it: len(it.said) >= 7 * 8000, 30)
+    two.read()
+    two.link.ended(5)
+    time.sleep(0.3)
+    one.read()
+    one.link.ended(4)
+    if [it.split("=")[0] for it in one.lines()[-2:]] != ["counters nak_sent_header_check", "state"] or not left_out(one.lines())[0]:
+        wrong(f"{[it[:60] for it in one.lines()[-3:]]}")
+
+
 def errors_unread_and_timer():
     """A trace that nobody reads while the timer expires all the time: messages that come are handed out."""
     with server() as it:
@@ -447,7 +462,7 @@ def closed_ends():
                 wrong(f"without {closed}: {status} {told!r}")
 
 
-TRIALS = [slow_reader, closed_output, idle, junk, errors_unread, errors_unread_and_timer, errors_unread_again,
+TRIALS = [slow_reader, closed_output, idle, junk, errors_unread, errors_read_at_last, errors_unread_and_timer, errors_unread_again,
           stopped_output, stopped_terminal, stopped_device, full_output, seconds_unread, seconds_slow, seconds_flooded,
           closed_one_or_two, closed_errors, closed_ends]
 LONG_TRIALS = []

@@ -7,7 +7,7 @@ import time
 from links.carrying import Bad
 from links.kit import (Link, binary, connected, free_port, listening, messages_of, server, tcp_pair, unpacked, wants, wrong)
 from links.lines import Refusing, datagram_peer
-from links.peer import Peer, ack, good, no_ack, silent
+from links.peer import Peer, ack, data, good, no_ack, silent
 from trials import drawn
 
 QUICK = ("--timer-ms", "50")
@@ -89,9 +89,57 @@ def absent():
     wants("gone", link, 3, "ddcmp: 1 message lost", seconds=5)
 
 
+def absent_again():
+    """So it is over a second line, after a peer that ran and went."""
+    link, peer, _local = datagram_peer("--again", "--attempts", "3", answer=good)
+    peer.runs()
+    peer.answer = silent
+    link.give(b"61\n", close=False)
+    link.waits(lambda it: "ddcmp: peer doesn't answer" in it.errors(), 5)
+    time.sleep(1.5)
+    if link.errors().count("ddcmp: peer doesn't answer") != 1 or not link.is_running():
+        wrong(f"it doesn't wait: {link.errors()}")
+    peer.answer = good
+    link.give(b"6262\n")
+    wants("back", link, 3, "ddcmp: 1 message lost", seconds=5)
+    if peer.mail[-1:] != [b"bb"]:
+        wrong(f"{peer.mail}")
+
+
+def late_start():
+    """A peer that starts late is heard out for as long as any other: the time counts from the handshake."""
+    with server() as it:
+        link = Link(f"connect:127.0.0.1:{it.getsockname()[1]}", "--timer-ms", "250")
+        peer = Peer(it.accept()[0], silent)
+        link.give(b"61\n")
+        time.sleep(1)
+        peer.answer = good
+        peer.waits(lambda it: it.mail, 5)
+        time.sleep(0.2)
+        peer.send(data(b"hi", 1, 1))
+        wants("late", link, 0, seconds=5)
+        if link.mails() != [b"hi"]:
+            wrong(f"{link.lines()}")
+
+
+def refused_then_silent():
+    """A peer that refuses a message and then says nothing doesn't answer."""
+    with server() as it:
+        link = Link(f"connect:127.0.0.1:{it.getsockname()[1]}", *QUICK, "--attempts", "6")
+        peer = Peer(it.accept()[0], Refusing(16))
+    peer.runs()
+    link.give(b"61\n")
+    peer.waits(lambda it: len(it.named("DATA")) >= 3, 5)
+    peer.answer = silent
+    wants("silent", link, 3, "ddcmp: 1 message lost", seconds=5)
+    if [it for it in link.errors() if "peer" in it] != ["ddcmp: peer doesn't answer"]:
+        wrong(f"{link.errors()}")
+
+
 def refused():
     """A peer that refuses a message is given up with its reason."""
-    for reason, words in ((16, "message too long"), (8, "buffer temporarily unavailable"), (17, "header format error")):
+    for reason, words in ((1, "header check"), (2, "data check"), (8, "buffer temporarily unavailable"), (9, "receive overrun"),
+                          (16, "message too long"), (17, "header format error")):
         with server() as it:
             link = Link(f"connect:127.0.0.1:{it.getsockname()[1]}", *QUICK, "--attempts", "3")
             peer = Peer(it.accept()[0], Refusing(reason))
@@ -178,6 +226,6 @@ def lingers_so_long():
             wrong(f"--linger-ms {linger}: {time.monotonic() - begun:.2f} s, status {link.run.returncode}")
 
 
-TRIALS = [no_handshake, silent_caller, gone, absent, refused, slow_progress, lingers, lingers_on_a_bad_line,
+TRIALS = [absent_again, late_start, refused_then_silent, no_handshake, silent_caller, gone, absent, refused, slow_progress, lingers, lingers_on_a_bad_line,
           lingers_at_a_slow_reader, lingers_so_long]
 LONG_TRIALS = []

@@ -8,7 +8,7 @@ import threading
 import time
 
 from links import kit
-from links.kit import (Link, binary, checked, drawn, explained, left_out, listening, messages_of, server, tcp_pair,
+from links.kit import (EVENT, Link, binary, checked, drawn, explained, left_out, listening, messages_of, server, tcp_pair,
                        terminals, unpacked, wrong)
 from links.peer import STACK, STRT, Peer, data, good, silent
 
@@ -28,7 +28,7 @@ def traced():
     server.close()
     one.ended()
     lines = one.told.decode().split("\n")[:-1]
-    told = [it for it in lines if not it.startswith("ddcmp")]
+    told = [it for it in lines if not it.startswith("ddcmp") and not EVENT.match(it)]
     wanted = [r"\d+ > 0 STRT sub=0 q=1 s=1 resp=0 num=0 addr=1", r"1[5-9]\d timer", r"1[5-9]\d > 8 STRT .*",
               r"\d+ < 0 STACK sub=0 q=1 s=1 resp=0 num=0 addr=1", r"\d+ > \d+ ACK .*", r"\d+ < 8 header check",
               r"\d+ > \d+ NAK sub=1 .* \(header check\)",
@@ -235,7 +235,7 @@ def trace_unread():
     os.set_blocking(reading, True)
     while piece := os.read(reading, 1 << 16):
         told += piece
-    lines = told.decode().split("\n")[:-1]
+    lines = [it for it in told.decode().split("\n")[:-1] if not EVENT.match(it)]
     count, gaps = left_out(lines)
     seen = sum(bool(re.match(r"\d+ [<>] ", it)) for it in lines)
     whole = len(peer.frames) + number + 1

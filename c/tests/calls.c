@@ -198,6 +198,7 @@ static void messages(void) {
     IS(ddcmp_send(&a, longer, 0, &number) == DDCMP_EMPTY);
     IS(ddcmp_send(&a, longer, MAX + 1, &number) == DDCMP_TOO_LONG && number == 0);
     IS(ddcmp_send_refusal(&a, longer, MAX + 1) == DDCMP_TOO_LONG);
+    IS(ddcmp_send_refusal(&a, longer, 0) == DDCMP_EMPTY);
     IS(ddcmp_send_refusal(&a, longer, MAX) == DDCMP_OK);
     after = told_of(&a);
     IS(memcmp(&before, &after, sizeof before) == 0);
@@ -206,6 +207,7 @@ static void messages(void) {
     IS(!ddcmp_room(&a) && ddcmp_outgoing(&a) == 2 && ddcmp_held(&a) == 7);
     before = told_of(&a);
     IS(ddcmp_send(&a, longer, 1, &number) == DDCMP_WINDOW_FULL && number == 2);
+    IS(ddcmp_send_refusal(&a, longer, 1) == DDCMP_WINDOW_FULL);
     IS(ddcmp_poll(&a, out, ROOM - 1, &n) == DDCMP_ROOM && n == 0);
     after = told_of(&a);
     IS(memcmp(&before, &after, sizeof before) == 0);
@@ -259,6 +261,49 @@ static void ends(void) {
     IS(ddcmp_send_maintenance(&a, (const uint8_t *)"m", 1) == DDCMP_OK);
     IS(pass(&a, &b) == DDCMP_MAINTENANCE_SEEN);
     IS(ddcmp_check((const uint8_t *)"123456789", 9) == 0xBB3D);
+}
+
+/* A halted station whose inbox isn't empty isn't started. */
+static void untaken(void) {
+    uint8_t dropped, number;
+    struct told before, after;
+    IS(ddcmp_halt(&a) == DDCMP_OK && ddcmp_halt(&b) == DDCMP_OK);
+    IS(ddcmp_clear_line(&a) && ddcmp_clear_line(&b));
+    IS(ddcmp_start(&a, &dropped) == DDCMP_OK && dropped == 0);
+    IS(ddcmp_start(&b, &dropped) == DDCMP_OK);
+    while (ddcmp_next_length(&a) + ddcmp_next_length(&b) > 0) {
+        pass(&a, &b);
+        pass(&b, &a);
+    }
+    IS(ddcmp_send(&a, (const uint8_t *)"x", 1, &number) == DDCMP_OK);
+    IS(pass(&a, &b) == DDCMP_HANDED_UP && ddcmp_halt(&b) == DDCMP_OK);
+    before = told_of(&b);
+    dropped = 7;
+    IS(ddcmp_start(&b, &dropped) == DDCMP_UNTAKEN && dropped == 7);
+    IS(ddcmp_enter_maintenance(&b, &dropped) == DDCMP_UNTAKEN && dropped == 7);
+    after = told_of(&b);
+    IS(memcmp(&before, &after, sizeof before) == 0 && after.waiting == 1);
+}
+
+/* What maintenance messages are refused. */
+static void maintenance(void) {
+    static const uint8_t longer[MAX + 1];
+    uint8_t dropped;
+    struct told before, after;
+    IS(ddcmp_halt(&a) == DDCMP_OK && ddcmp_enter_maintenance(&a, &dropped) == DDCMP_OK);
+    IS(ddcmp_state(&a) == DDCMP_MAINTENANCE);
+    before = told_of(&a);
+    IS(ddcmp_send_maintenance(&a, longer, 0) == DDCMP_EMPTY);
+    IS(ddcmp_send_maintenance(&a, longer, MAX + 1) == DDCMP_TOO_LONG);
+    IS(ddcmp_send_refusal(&a, longer, 1) == DDCMP_WRONG_STATE);
+    after = told_of(&a);
+    IS(memcmp(&before, &after, sizeof before) == 0);
+    IS(ddcmp_send_maintenance(&a, longer, MAX) == DDCMP_OK);
+    IS(ddcmp_send_maintenance(&a, longer, 1) == DDCMP_OK);
+    before = told_of(&a);
+    IS(ddcmp_send_maintenance(&a, longer, 1) == DDCMP_WINDOW_FULL);
+    after = told_of(&a);
+    IS(memcmp(&before, &after, sizeof before) == 0 && after.outgoing == 2);
 }
 
 /* ---- a reader alone */
@@ -383,13 +428,36 @@ static void items_read(void) {
     IS(item.offset == 16 && item.header.count == MAX + 1);
 }
 
+/* The names of states, notices and headers are compared by c/header_test. */
 static void texts(void) {
-    uint32_t code;
-    for (code = 0; code <= DDCMP_BAD_COUNT; code++)
-        IS(strcmp(ddcmp_strerror(code), ddcmp_strerror(99)) != 0);
-    IS(strcmp(ddcmp_state_name(DDCMP_ISTART), "IStart") == 0);
-    IS(strcmp(ddcmp_notice_name(DDCMP_HANDED_UP), "HandedUp") == 0);
-    IS(strcmp(ddcmp_header_name(DDCMP_HEADER_NAK), "NAK") == 0);
+    static const struct { uint32_t code; const char *text; } errors[] = {
+        { DDCMP_OK, "no error" },
+        { DDCMP_WINDOW, "the window isn't 1 to 255" },
+        { DDCMP_INBOX, "the inbox isn't 1 to 255" },
+        { DDCMP_MAX, "the largest message isn't 1 to 16383" },
+        { DDCMP_SYN, "the SYN fill is above 16" },
+        { DDCMP_MEMORY, "memory was refused" },
+        { DDCMP_CLOSED, "the handle has no station or reader" },
+        { DDCMP_OPEN, "the handle has a station or reader already" },
+        { DDCMP_NOT_HALTED, "the station isn't halted" },
+        { DDCMP_UNTAKEN, "the inbox isn't empty" },
+        { DDCMP_WRONG_STATE, "the station doesn't run" },
+        { DDCMP_EMPTY, "the message is empty" },
+        { DDCMP_TOO_LONG, "the message is too long" },
+        { DDCMP_WINDOW_FULL, "the window is full" },
+        { DDCMP_ROOM, "the room is too short" },
+        { DDCMP_LONG_LINE, "the line has 2^64 bytes" },
+        { DDCMP_ABSENT, "there is no such message" },
+        { DDCMP_NULL, "a pointer is null" },
+        { DDCMP_BAD_HEADER, "a number of the header is out of range" },
+        { DDCMP_BAD_COUNT, "the data aren't as many as the header says" },
+        { 20, "no code of DDCMP" }
+    };
+    size_t i;
+    for (i = 0; i < sizeof errors / sizeof errors[0]; i++) {
+        IS(errors[i].code == i);
+        is(strcmp(ddcmp_strerror(errors[i].code), errors[i].text) == 0, errors[i].text);
+    }
     IS(strcmp(ddcmp_version(), DDCMP_VERSION) == 0);
 }
 
@@ -406,6 +474,8 @@ int main(void) {
     messages();
     long_run();
     ends();
+    untaken();
+    maintenance();
     frames_written();
     items_read();
     texts();

@@ -1,4 +1,4 @@
-//! The program `ddcmp`: hands over words, streams and the exit status.
+//! The program `ddcmp`: passes on arguments, streams and the exit status.
 #![tactic(auto)]
 
 use ddcmp_cli::{StandIns, report, run_args};

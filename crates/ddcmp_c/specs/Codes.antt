@@ -1,4 +1,4 @@
--- The numbers that C has of answers.
+-- The numbers that C has of results.
 use Rattle.std.specs.Prelude.{ℕ, ◌||◌, if◌then◌else◌, List, [], ◌∷◌, Option, Some, None, Result, Ok}
 use Rattle.std.specs.Prelude.{Err, not, nat_eq}
 use Rattle.ddcmp_num.specs.declared.seq.Seq.{Seq}
@@ -40,7 +40,7 @@ code_of_refusal send.Empty = 11
 code_of_refusal send.TooLong = 12
 code_of_refusal send.WindowFull = 13
 
--- 0 where it is sent
+-- 0 if it is sent
 abbrev pub code_of_send_refusal : Option SendRefusal → ℕ
 code_of_send_refusal None = 0
 code_of_send_refusal (Some r) = code_of_refusal r
@@ -75,7 +75,7 @@ code_of_notices (notice.MaintenanceSeen ∷ rest) = record { kind = 9; count = 0
 code_of_notices (notice.MaintenanceHandedUp ∷ rest) = record { kind = 10; count = 0 }
 code_of_notices (notice.MaintenanceDropped ∷ rest) = record { kind = 11; count = 0 }
 
--- how many messages a notice tells acknowledged
+-- how many messages a notice reports acknowledged
 abbrev pub acknowledged_of : CNotice → ℕ
 acknowledged_of c = if nat_eq c.kind 3 || nat_eq c.kind 5 then c.count else 0
 

@@ -115,7 +115,7 @@ taken_short kind c = if nat_lt c.sub 64
     }))
     else None
 
--- the header that a struct stands for, where its kind is one and its numbers are in range
+-- the header that a struct stands for, if its kind is one and its numbers are in range
 abbrev pub taken_header : CHeader → Option Header
 taken_header c =
     if c.kind == 1 then taken_counted Data c

@@ -11,7 +11,7 @@ use base.Fml.{Fml, ftrue, ffalse}
 use denote.RattleType.{RattleType}
 use denote.RawPtr.{Ptr, block_ptr, null_ptr}
 
--- null where there is no value, else the block of a box with it
+-- null if there is no value, else the block of a box with it
 abbrev pub null_or_box : (R : RattleType) → Global → Ptr → Option R.Denot → Fml
 null_or_box R alloc null_ptr None = ftrue
 null_or_box R alloc null_ptr (Some s) = ffalse

@@ -1,4 +1,4 @@
-//! Headers and items as C gives and gets them.
+//! Headers and items as C passes and gets them.
 ghost use Rattle.std.specs.Prelude.{◌≡◌, Some, None, option_map};
 ghost use Rattle.ddcmp_frame.specs.declared.header.Header.TheVariants.{Data, Maint};
 ghost use Rattle.ddcmp_c.specs.Frames.{given_kind, given_counted, given_header, given_with};
@@ -7,7 +7,7 @@ ghost use Rattle.ddcmp_c.specs.Frames.{taken_short, taken_header, taken_item};
 
 use ddcmp_frame::{ControlType, Counted, Flags, Header, HeaderFault, Item, MAX_COUNT, Short};
 
-/// A header, for C: its kind, 0 where there is none, and its fields. A control header has no count,
+/// A header, for C: its kind, 0 if there is none, and its fields. A control header has no count,
 /// the others have no sub.
 #[repr(C)]
 #[derive(Clone, Copy)]
@@ -23,7 +23,7 @@ pub struct CHeader {
     pub addr: u8,
 }
 
-/// An item, for C: its kind, 0 where there is none, and the offset of its start byte.
+/// An item, for C: its kind, 0 if there is none, and the offset of its start byte.
 #[repr(C)]
 #[derive(Clone, Copy)]
 pub struct CItem {
@@ -47,7 +47,7 @@ const NO_HEADER: CHeader = CHeader {
     addr: 0,
 };
 
-/// The number of a TYPE of control messages.
+/// Returns the number of a TYPE of control messages.
 fn kind_code(kind: ControlType) -> u8
     ensures { result ≡ given_kind kind }
 {
@@ -143,7 +143,7 @@ pub(crate) fn item_for_c(item: Option<Item>) -> CItem
     }
 }
 
-/// The flags that C gave.
+/// Returns the flags that C passed.
 fn flags_of_c(header: &CHeader) -> Flags
     ensures { result ≡ taken_flags header.now }
 {
@@ -153,7 +153,7 @@ fn flags_of_c(header: &CHeader) -> Flags
     }
 }
 
-/// The fields that C gave of a header with COUNT, where this is in range.
+/// Returns the fields that C passed of a header with COUNT, if this is in range.
 fn counted_of_c(header: &CHeader) -> Option<Counted>
     ensures data { option_map Data result ≡ taken_counted Data header.now }
     ensures maintenance { option_map Maint result ≡ taken_counted Maint header.now }
@@ -171,7 +171,7 @@ fn counted_of_c(header: &CHeader) -> Option<Counted>
     }
 }
 
-/// The control header that C gave, where its sub is in range.
+/// Returns the control header that C passed, if its sub is in range.
 fn short_of_c(kind: ControlType, header: &CHeader) -> Option<Header>
     ensures { result ≡ taken_short kind header.now }
 {
@@ -189,7 +189,7 @@ fn short_of_c(kind: ControlType, header: &CHeader) -> Option<Header>
     }
 }
 
-/// The header that C gave, if it is one.
+/// Returns the header that C passed, if it is one.
 pub(crate) fn header_of_c(header: &CHeader) -> Option<Header>
     ensures { result ≡ taken_header header.now }
 {

@@ -10,7 +10,7 @@ use std::marker::Model;
 use std::mem::replace;
 use std::ptr::null_mut;
 
-/// What C has of a station: null where there is none. C moves it and never copies it.
+/// What C has of a station: null if there is none. C moves it and never copies it.
 #[repr(C)]
 pub struct Handle {
     at: *mut u8,

@@ -16,7 +16,7 @@ use crate::values::{CLOSED, CNotice, LONG_LINE, OK, ROOM, notice_code};
 use ddcmp_num::check;
 use std::alloc::Global;
 
-/// Handles bytes of the line, up to the first that gives a notice.
+/// Handles bytes of the line, up to the first that yields a notice.
 #[unsafe(no_mangle)]
 pub extern "C" fn ddcmp_feed(
     alloc: Global,

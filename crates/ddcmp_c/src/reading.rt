@@ -67,8 +67,8 @@ fn copy_data(reader: &Reader, out: &mut [u8]) -> usize
     end
 }
 
-/// Takes the bytes of a piece, up to and with the first that gives an item, and copies the data of
-/// a good item to the front of `out`.
+/// Takes the bytes of a chunk, up to and with the first that completes an item, and copies the data
+/// of a good item to the front of `out`.
 #[unsafe(no_mangle)]
 pub extern "C" fn ddcmp_reader_push(
     alloc: Global,
@@ -89,7 +89,7 @@ pub extern "C" fn ddcmp_reader_push(
     ensures same { result ≢ OK → reader.new.reader ≡ reader.old.reader }
     ensures unused { result ≢ OK → (used.new ≡ 0) × (item.new ≡ given_item None)
         × (out.new ≡ out.old) × (written.new ≡ 0) }
-    // The reader stands for the bytes so far, and has given their items.
+    // The reader stands for the bytes so far, and has yielded their items.
     ensures stands { (r t : ReaderView) (text : List ℕ) → reader.old.reader ≡ Some r
         → reader.new.reader ≡ Some t → result ≡ OK → StandsFor r text
         → StandsFor t (text ++ take used.new piece.now) }
@@ -99,7 +99,7 @@ pub extern "C" fn ddcmp_reader_push(
         ++ items_given (taken_item item.new) t.lent }
     // What doesn't belong to an item is 0.
     ensures given { item.new ≡ given_item (taken_item item.new) }
-    // No byte before the last one used gave an item.
+    // No byte before the last one used completed an item.
     ensures first { (r : ReaderView) (text : List ℕ) (n : ℕ) → reader.old.reader ≡ Some r
         → result ≡ OK → StandsFor r text → n < used.new
         → items r.max (text ++ take n piece.now) ≡ items r.max text }
@@ -140,7 +140,7 @@ pub extern "C" fn ddcmp_reader_push(
     OK
 }
 
-/// The number of bytes from the start byte of the unfinished frame on: 0 where there is no reader.
+/// Returns the number of bytes from the start byte of the unfinished frame on, 0 without a reader.
 #[unsafe(no_mangle)]
 pub extern "C" fn ddcmp_reader_open(alloc: Global, reader: &mut ReaderHandle) -> usize
     ensures closed { reader.old.reader ≡ None → result ≡ 0 }
@@ -157,7 +157,7 @@ pub extern "C" fn ddcmp_reader_open(alloc: Global, reader: &mut ReaderHandle) ->
     value
 }
 
-/// Begins anew.
+/// Restarts.
 #[unsafe(no_mangle)]
 pub extern "C" fn ddcmp_reader_reset(alloc: Global, reader: &mut ReaderHandle) -> u32
     ensures closed { reader.old.reader ≡ None
@@ -174,7 +174,7 @@ pub extern "C" fn ddcmp_reader_reset(alloc: Global, reader: &mut ReaderHandle) -
     OK
 }
 
-/// Whether a header and data make a frame.
+/// Returns whether a header and data make a frame.
 fn is_frame(header: &Header, message: &[u8]) -> bool
     ensures frame { IsTrue result ↔ IsFrame header.now message.now }
     ensures length { IsTrue result
@@ -188,7 +188,7 @@ fn is_frame(header: &Header, message: &[u8]) -> bool
     }
 }
 
-/// Writes a frame at the front of `out`, and says how many bytes it has.
+/// Writes a frame at the front of `out`; returns how many bytes it has.
 #[unsafe(no_mangle)]
 pub extern "C" fn ddcmp_write_frame(
     header: &CHeader,

@@ -1,4 +1,4 @@
-//! What C gives and gets: structs of its own, and a number for each answer.
+//! What C passes and gets: structs of its own, and a number for each result.
 ghost use Rattle.std.specs.Prelude.{◌≡◌, ◌≢◌, ℕ, option_to_list, None, Ok, IsErr};
 ghost use Rattle.ddcmp_num.specs.declared.seq.Seq.{Seq as SeqValue};
 ghost use Rattle.ddcmp_core.specs.Table.{acknowledged_by};
@@ -20,11 +20,11 @@ pub struct CConfig {
     pub inbox: u16,
     pub max: u16,
     pub syn: u8,
-    /// Not 0: a running end whose inbox is empty answers a STRT by beginning anew.
+    /// Not 0: restart when the peer restarts, if the inbox is empty.
     pub restart: u8,
 }
 
-/// A notice, for C: its kind, 0 where there is none, and a number of messages.
+/// A notice, for C: its kind, 0 if there is none, and a number of messages.
 #[repr(C)]
 #[derive(Clone, Copy)]
 pub struct CNotice {
@@ -103,10 +103,10 @@ pub(crate) const ABSENT: u32 = 16;
 /// A field of a header is out of range. 17 is the header's own, for null pointers.
 pub(crate) const BAD_HEADER: u32 = 18;
 
-/// The data aren't as many as the header says.
+/// The data aren't as many as the header counts.
 pub(crate) const BAD_COUNT: u32 = 19;
 
-/// The number of a refusal of sizes.
+/// Returns the number of a refusal of sizes.
 pub(crate) fn config_code(refusal: ConfigRefusal) -> u32
     ensures { result ≡ code_of_config refusal }
 {
@@ -119,7 +119,7 @@ pub(crate) fn config_code(refusal: ConfigRefusal) -> u32
     }
 }
 
-/// The number of an answer to a start, and how many messages were dropped.
+/// Returns the number of the result of a start, and how many messages were dropped.
 pub(crate) fn start_code(answer: Result<u8, StartRefusal>, dropped: &mut u8) -> u32
     ensures code { result ≡ code_of_start_answer answer }
     ensures dropped { (n : ℕ) → answer ≡ Ok n → dropped.new ≡ n }
@@ -135,7 +135,7 @@ pub(crate) fn start_code(answer: Result<u8, StartRefusal>, dropped: &mut u8) -> 
     }
 }
 
-/// The number of an answer to a message, and the number that it got.
+/// Returns the number of the result of a send, and the number that the message got.
 pub(crate) fn send_code(answer: Result<Seq, SendRefusal>, number: &mut u8) -> u32
     ensures code { result ≡ code_of_send_answer answer }
     ensures number { (n : SeqValue) → answer ≡ Ok n → number.new ≡ n.0 }
@@ -150,7 +150,7 @@ pub(crate) fn send_code(answer: Result<Seq, SendRefusal>, number: &mut u8) -> u3
     }
 }
 
-/// The number of a refusal of a message.
+/// Returns the number of a refusal of a message.
 pub(crate) fn refusal_code(refusal: SendRefusal) -> u32
     ensures { result ≡ code_of_refusal refusal }
 {
@@ -162,7 +162,7 @@ pub(crate) fn refusal_code(refusal: SendRefusal) -> u32
     }
 }
 
-/// The number of a state.
+/// Returns the number of a state.
 pub(crate) fn state_code(state: State) -> u32
     ensures { result ≡ code_of_state state }
 {
@@ -236,7 +236,7 @@ pub(crate) fn counters_of(counters: &Counters) -> CCounters
     }
 }
 
-/// The sizes that C gave.
+/// Returns the sizes that C passed.
 pub(crate) fn asked_sizes(config: &CConfig) -> Config
     ensures { result ≡ taken_config config.now }
 {
@@ -249,7 +249,7 @@ pub(crate) fn asked_sizes(config: &CConfig) -> Config
     }
 }
 
-/// The numbers for C.
+/// Returns the numbers for C.
 pub(crate) fn numbers_of(numbers: Numbers) -> CNumbers
     ensures { result ≡ record {
       r = numbers.r.0;
@@ -266,7 +266,7 @@ pub(crate) fn numbers_of(numbers: Numbers) -> CNumbers
     }
 }
 
-/// The sizes for C.
+/// Returns the sizes for C.
 pub(crate) fn sizes_of(config: Config) -> CConfig
     ensures { result ≡ given_config config }
 {

@@ -16,12 +16,12 @@ use Rattle.ddcmp_run.specs.InOrder.{IsRun}
 use Rattle.ddcmp_run.specs.Recovery.{IsDelivered, IsDone}
 use Rattle.ddcmp_run.specs.Run.{EndState, PairState, line_bytes, run, after_event, new_pair}
 use Rattle.ddcmp_run.proofs.Runs.{run-append}
-use Rattle.ddcmp_recovery.specs.LossFree.{Line, bytes_or_none}
-use Rattle.ddcmp_recovery.specs.LossFree.{IsLossFree, run_on_line, IsWhole}
-use Rattle.ddcmp_recovery.specs.Rests.{IsUnderWay}
-use Rattle.ddcmp_recovery.specs.Sweeps.{IsRecoveryBySweeps}
-use Rattle.ddcmp_recovery.proofs.InStep.{loss-append, line-append}
-use Rattle.ddcmp_recovery.proofs.SweepRounds.{deliver, run-pair}
+use Rattle.ddcmp_laws.specs.LossFree.{Line, bytes_or_none}
+use Rattle.ddcmp_laws.specs.LossFree.{IsLossFree, run_on_line, IsWhole}
+use Rattle.ddcmp_laws.specs.Rests.{IsUnderWay}
+use Rattle.ddcmp_laws.specs.Sweeps.{IsRecoveryBySweeps}
+use Rattle.ddcmp_laws.proofs.InStep.{loss-append, line-append}
+use Rattle.ddcmp_laws.proofs.SweepRounds.{deliver, run-pair}
 use Rattle.ddcmp_callers.specs.Calls.{Call, Start, Send, Poll, Expire, Arm, Take, after_call}
 use Rattle.ddcmp_callers.specs.Calls.{events_in}
 use Rattle.ddcmp_callers.specs.Driven.{accepted_from, handed_to, acknowledged_to, begun}

@@ -21,4 +21,4 @@ pub mod TurnRooms
 pub mod TurnRounds
 pub mod TurnsGoOn
 pub mod StationRuns
-pub mod LinksAnew
+pub mod LinkRestarts

@@ -24,12 +24,12 @@ use Rattle.ddcmp_run.specs.InOrder.{IsRun}
 use Rattle.ddcmp_run.specs.Recovery.{IsDone}
 use Rattle.ddcmp_run.specs.Run.{EndState, PairState, line_bytes, run, new_pair}
 use Rattle.ddcmp_run.proofs.Runs.{run-append}
-use Rattle.ddcmp_recovery.specs.LossFree.{Line, bytes_or_none, ComesFirst}
-use Rattle.ddcmp_recovery.specs.LossFree.{IsLossFree, run_on_line, IsWhole}
-use Rattle.ddcmp_recovery.specs.Rests.{IsUnderWay}
-use Rattle.ddcmp_recovery.specs.Sweeps.{IsRecoveryBySweeps}
-use Rattle.ddcmp_recovery.proofs.InStep.{loss-append, line-append}
-use Rattle.ddcmp_recovery.proofs.SweepRounds.{deliver, run-pair}
+use Rattle.ddcmp_laws.specs.LossFree.{Line, bytes_or_none, ComesFirst}
+use Rattle.ddcmp_laws.specs.LossFree.{IsLossFree, run_on_line, IsWhole}
+use Rattle.ddcmp_laws.specs.Rests.{IsUnderWay}
+use Rattle.ddcmp_laws.specs.Sweeps.{IsRecoveryBySweeps}
+use Rattle.ddcmp_laws.proofs.InStep.{loss-append, line-append}
+use Rattle.ddcmp_laws.proofs.SweepRounds.{deliver, run-pair}
 use Rattle.ddcmp_callers.specs.Calls.{Call, Poll, Expire, Arm, after_arm_here, run_calls, noted}
 use Rattle.ddcmp_callers.specs.Calls.{events_of, events_in}
 use Rattle.ddcmp_callers.specs.Links.{LinkCall, Starts, BeginsAnew, Halts, Wakes, Offers, FillsOne}
@@ -55,7 +55,8 @@ events-append (c ∷ a) b =
     ap (λ es. events_of c.0 c.1 ++ es) (events-append a b)
     ∙ sym (append_assoc (events_of c.0 c.1) (events_in a) (events_in b))
 
-drop-front : (xs ys zs : List ℕ) → drop (length xs) ((xs ++ ys) ++ zs) ≡ drop (length xs) (xs ++ ys) ++ zs
+drop-front : (xs ys zs : List ℕ)
+    → drop (length xs) ((xs ++ ys) ++ zs) ≡ drop (length xs) (xs ++ ys) ++ zs
 drop-front [] ys zs = refl
 drop-front (x ∷ xs) ys zs = drop-front xs ys zs
 
@@ -86,7 +87,8 @@ module _ (x y : EndState) (h : LinkHistory) (s : IsSameEnd x h)
 
   bytes-are : bytes_or_none (line_bytes y) ≡ bytes_of h.link.station.syn (frame_of_link h.link)
   bytes-are =
-      ap (λ n. bytes_or_none (option_map (frame_on_line n) (next_frame (next y.core.station)))) syn-is
+      ap (λ n. bytes_or_none (option_map (frame_on_line n) (next_frame (next y.core.station))))
+      syn-is
       ∙ ap (λ f. bytes_or_none (option_map (frame_on_line h.link.station.syn) f)) frame-is
       ∙ put (frame_of_link h.link)
 
@@ -253,7 +255,8 @@ module _ (q : PairState) (l : LinkLine) (t : Tied q l.links) where
           to_b =
               moved n l.to_b l.links.a.link.outbox.waiting
               ∙ ap
-              (λ (d : LinkView). (l.to_b ++ take n l.links.a.link.outbox.waiting) ++ d.outbox.waiting)
+              (λ (d : LinkView).
+              (l.to_b ++ take n l.links.a.link.outbox.waiting) ++ d.outbox.waiting)
               (sym e);
         };
       }
@@ -387,7 +390,8 @@ module _ (q : PairState) (l : LinkLine) (t : Tied q l.links) where
           to_a =
               moved n l.to_a l.links.b.link.outbox.waiting
               ∙ ap
-              (λ (d : LinkView). (l.to_a ++ take n l.links.b.link.outbox.waiting) ++ d.outbox.waiting)
+              (λ (d : LinkView).
+              (l.to_a ++ take n l.links.b.link.outbox.waiting) ++ d.outbox.waiting)
               (sym e);
         };
       }
@@ -415,7 +419,8 @@ module _ (q : PairState) (l : LinkLine) (t : Tied q l.links) where
 at-end : (q : PairState) (l : LinkLine) → Tied q l.links → (end : End) (one : LinkStep)
     → HasDone one.call (link_at end l.links).used (link_at end l.links).link one.link
     → UsesTheFirst end one.call l
-    → Does (events_in (at_one end (station_calls one.call (link_at end l.links).link))) (line_of q l)
+    → Does (events_in (at_one end (station_calls one.call (link_at end l.links).link)))
+    (line_of q l)
     (line_of q (after_on_links end one l))
 at-end q l t A one e u = call-a q l t one.call one.link e u
 at-end q l t B one e u = call-b q l t one.call one.link e u
@@ -441,7 +446,8 @@ ties end one q links t e =
     record {
       p = run_calls calls t.p;
       same =
-          subst (λ cs. AreSame (run_calls cs t.p) (after_step_at end one links)) (append-nil calls) s;
+          subst (λ cs. AreSame (run_calls cs t.p) (after_step_at end one links))
+          (append-nil calls) s;
       noted_same = run_same calls t.p q t.noted_same;
     }
 

@@ -19,7 +19,7 @@ use Rattle.ddcmp_run.specs.Recovery.{IsDelivered}
 use Rattle.ddcmp_run.specs.Run.{EndState, PairState, handed_up, line_bytes, is_clean, new_pair, run}
 use Rattle.ddcmp_station.specs.Linking.{frame_of_link, fits}
 use Rattle.ddcmp_station.specs.Linking.{is_held_back, is_nak_for_buffer}
-use Rattle.ddcmp_recovery.proofs.Waiting.{sleeps-a, sleeps-b}
+use Rattle.ddcmp_laws.proofs.Waiting.{sleeps-a, sleeps-b}
 use Rattle.ddcmp_callers.specs.Calls.{Call, noted, after_arm_here, events_in, run_calls}
 use Rattle.ddcmp_callers.specs.Links.{LinkStep, LinkHistory, Links, IsSameEnd, AreStartedOnce}
 use Rattle.ddcmp_callers.specs.Links.{new_links, after_steps, received}
@@ -81,7 +81,8 @@ record IsQuiet (x : EndState) : Type 0 where
 
 quiet : (x : EndState) (h : LinkHistory) → IsSameEnd x h → LinkIsAsleep h.link
     → IsQuiet x ⊎ InboxIsFull h.link
-quiet x h s z = by (held (frame_of_link h.link) h.link.station.core.limits h.link.station.core.station
+quiet x h s z = by
+    (held (frame_of_link h.link) h.link.station.core.limits h.link.station.core.station
     (fits h.link) z.room z.no_frame)
   where
     by : (frame_of_link h.link ≡ None) ⊎ InboxIsFull h.link → IsQuiet x ⊎ InboxIsFull h.link
@@ -169,7 +170,8 @@ module _ (first second : Config) (ms other_ms : ℕ) (line other_line : ReaderVi
       (sym (ap (λ (c : CoreView). c.station.state) same.b.core)
       ∙ (ap (λ (r : PairState). r.b.core.station.state) noted_same ∙ e))
 
-  pub asleep_a : LinkIsAsleep links.a.link → LinkIsDelivered links.a links.b ⊎ InboxIsFull links.a.link
+  pub asleep_a : LinkIsAsleep links.a.link → LinkIsDelivered links.a links.b
+      ⊎ InboxIsFull links.a.link
   asleep_a z = by (quiet p.a links.a same.a z)
     where
       by : IsQuiet p.a ⊎ InboxIsFull links.a.link
@@ -185,7 +187,8 @@ module _ (first second : Config) (ms other_ms : ℕ) (line other_line : ReaderVi
           (same_off p.a.core.station.timer q.a.core.station.timer
           (ap (λ (r : PairState). r.a.core.station.timer) noted_same) n.no_timer))))
 
-  pub asleep_b : LinkIsAsleep links.b.link → LinkIsDelivered links.b links.a ⊎ InboxIsFull links.b.link
+  pub asleep_b : LinkIsAsleep links.b.link → LinkIsDelivered links.b links.a
+      ⊎ InboxIsFull links.b.link
   asleep_b z = by (quiet p.b links.b same.b z)
     where
       by : IsQuiet p.b ⊎ InboxIsFull links.b.link

@@ -13,8 +13,8 @@ use Rattle.ddcmp_run.specs.declared.event.Event.{Event}
 use Rattle.ddcmp_run.specs.declared.event.Event.TheVariants as event
 use Rattle.ddcmp_run.specs.Run.{PairState, run, after_event, new_pair}
 use Rattle.ddcmp_run.proofs.Limits.{run-limits}
-use Rattle.ddcmp_recovery.specs.LossFree.{Line}
-use Rattle.ddcmp_recovery.specs.Sweeps.{AreSweeps, in_a_row, AreTakenInTime, AreInTime}
+use Rattle.ddcmp_laws.specs.LossFree.{Line}
+use Rattle.ddcmp_laws.specs.Sweeps.{AreSweeps, in_a_row, AreTakenInTime, AreInTime}
 use Rattle.ddcmp_callers.specs.Calls.{Send, Poll, Expire, Take, Arm, events_in}
 use Rattle.ddcmp_callers.specs.DrivenSweeps.{TurnPart, Writes, Reads, Again, DrivenEnd, DrivenLine}
 use Rattle.ddcmp_callers.specs.DrivenSweeps.{driven_at, after_on_driven, run_on_driven}

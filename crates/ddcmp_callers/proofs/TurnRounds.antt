@@ -14,12 +14,12 @@ use Rattle.ddcmp_run.specs.declared.event.Event.{Event}
 use Rattle.ddcmp_run.specs.declared.event.Event.TheVariants as event
 use Rattle.ddcmp_run.specs.Run.{PairState, run, new_pair}
 use Rattle.ddcmp_run.proofs.Runs.{run-append}
-use Rattle.ddcmp_recovery.specs.LossFree.{Line, IsLossFree, run_on_line, IsWhole}
-use Rattle.ddcmp_recovery.specs.Rests.{GoesOn, IsUnderWay}
-use Rattle.ddcmp_recovery.specs.Delivers.{is_expiry, runs_out}
-use Rattle.ddcmp_recovery.specs.Sweeps.{in_a_row, AreEnough, AreInTime, RunsOutOrIsOff}
-use Rattle.ddcmp_recovery.specs.Sweeps.{IsRoundBySweeps, after_round, IsRecoveryBySweeps}
-use Rattle.ddcmp_recovery.proofs.InStep.{goes-append}
+use Rattle.ddcmp_laws.specs.LossFree.{Line, IsLossFree, run_on_line, IsWhole}
+use Rattle.ddcmp_laws.specs.Rests.{GoesOn, IsUnderWay}
+use Rattle.ddcmp_laws.specs.Delivers.{is_expiry, runs_out}
+use Rattle.ddcmp_laws.specs.Sweeps.{in_a_row, AreEnough, AreInTime, RunsOutOrIsOff}
+use Rattle.ddcmp_laws.specs.Sweeps.{IsRoundBySweeps, after_round, IsRecoveryBySweeps}
+use Rattle.ddcmp_laws.proofs.InStep.{goes-append}
 use Rattle.ddcmp_callers.specs.Calls.{Send, Poll, Expire, Take, Arm, events_in}
 use Rattle.ddcmp_callers.specs.DrivenSweeps.{TurnPart, Writes, Reads, Again, DrivenEnd, DrivenLine}
 use Rattle.ddcmp_callers.specs.DrivenSweeps.{driven_at, after_on_driven, run_on_driven}

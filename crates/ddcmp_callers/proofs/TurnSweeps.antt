@@ -12,8 +12,8 @@ use Rattle.ddcmp_run.specs.declared.event.End.TheVariants.{A, B}
 use Rattle.ddcmp_run.specs.declared.event.Event.{Event}
 use Rattle.ddcmp_run.specs.declared.event.Event.TheVariants as event
 use Rattle.ddcmp_run.specs.Run.{PairState}
-use Rattle.ddcmp_recovery.specs.Sweeps.{OnlyCarries, bytes_brought, is_poll, is_asked}
-use Rattle.ddcmp_recovery.specs.Sweeps.{IsSweep}
+use Rattle.ddcmp_laws.specs.Sweeps.{OnlyCarries, bytes_brought, is_poll, is_asked}
+use Rattle.ddcmp_laws.specs.Sweeps.{IsSweep}
 use Rattle.ddcmp_callers.specs.Calls.{Send, Poll, Expire, Take, Arm, events_in}
 use Rattle.ddcmp_callers.specs.DrivenSweeps.{TurnPart, Writes, Reads, Again, DrivenEnd, DrivenLine}
 use Rattle.ddcmp_callers.specs.DrivenSweeps.{driven_at, after_on_driven, calls_of_part}

@@ -15,7 +15,7 @@ use Rattle.ddcmp_run.specs.declared.event.End.TheVariants.{A, B}
 use Rattle.ddcmp_run.specs.Run.{EndState, PairState, line_bytes, run}
 use Rattle.ddcmp_run.proofs.Runs.{run-append}
 use Rattle.ddcmp_run.proofs.Steady.{inbox-sent}
-use Rattle.ddcmp_recovery.specs.LossFree.{bytes_or_none}
+use Rattle.ddcmp_laws.specs.LossFree.{bytes_or_none}
 use Rattle.ddcmp_callers.specs.Calls.{Call, Send, Poll, Arm, after_arm_here}
 use Rattle.ddcmp_callers.specs.Calls.{after_call, after_calls_here, run_calls, noted}
 use Rattle.ddcmp_callers.specs.Calls.{events_in}

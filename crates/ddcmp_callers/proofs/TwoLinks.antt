@@ -170,7 +170,8 @@ starts_a [] q = refl
 starts_a (step ∷ rest) q = by step.0 step.1 (starts_a rest (after_step_at step.0 step.1 q))
   where
     by : (end : End) (one : LinkStep)
-        → starts_in (calls_at A (calls_of_steps rest (after_step_at end one q))) ≡ link_starts A rest
+        → starts_in (calls_at A (calls_of_steps rest (after_step_at end one q)))
+        ≡ link_starts A rest
         → starts_in
         (calls_at A
         (at_one end (station_calls one.call (link_at end q).link)
@@ -181,7 +182,8 @@ starts_a (step ∷ rest) q = by step.0 step.1 (starts_a rest (after_step_at step
         let more = calls_at A (calls_of_steps rest (after_step_at A one q)) in
         let f = call_starts one.call q.a.link in
         let g = sum_by-append starts_by calls more in
-        ap starts_in (own_a calls (calls_of_steps rest (after_step_at A one q))) ∙ omega (arith, e, f, g)
+        ap starts_in (own_a calls (calls_of_steps rest (after_step_at A one q)))
+        ∙ omega (arith, e, f, g)
     by B one e =
         ap starts_in
         (other_a (station_calls one.call q.b.link) (calls_of_steps rest (after_step_at B one q)))
@@ -194,7 +196,8 @@ starts_b [] q = refl
 starts_b (step ∷ rest) q = by step.0 step.1 (starts_b rest (after_step_at step.0 step.1 q))
   where
     by : (end : End) (one : LinkStep)
-        → starts_in (calls_at B (calls_of_steps rest (after_step_at end one q))) ≡ link_starts B rest
+        → starts_in (calls_at B (calls_of_steps rest (after_step_at end one q)))
+        ≡ link_starts B rest
         → starts_in
         (calls_at B
         (at_one end (station_calls one.call (link_at end q).link)
@@ -209,7 +212,8 @@ starts_b (step ∷ rest) q = by step.0 step.1 (starts_b rest (after_step_at step
         let more = calls_at B (calls_of_steps rest (after_step_at B one q)) in
         let f = call_starts one.call q.b.link in
         let g = sum_by-append starts_by calls more in
-        ap starts_in (own_b calls (calls_of_steps rest (after_step_at B one q))) ∙ omega (arith, e, f, g)
+        ap starts_in (own_b calls (calls_of_steps rest (after_step_at B one q)))
+        ∙ omega (arith, e, f, g)
 
 -- ---- from two new links
 

@@ -13,7 +13,7 @@ use Rattle.ddcmp_run.specs.Run.{after_halt_here, after_send_here, after_poll_her
 use Rattle.ddcmp_run.specs.Run.{after_arrival_here, after_expire_here, after_take_here}
 
 -- A call of a station: one that is an event of a run, by its name; Arm, which asks whether the
--- timer was started; or Ask, any call that only tells.
+-- timer was started; or Ask, any call that only returns something.
 pub data Call : Type 0 where
   Start : Call
   Halt : Call
@@ -43,7 +43,7 @@ after_call_here Take x = after_take_here x
 after_call_here Arm x = after_arm_here x
 after_call_here Ask x = x
 
--- whether it is honest, where the other end has sent these frames
+-- whether it is honest, if the other end has sent these frames
 abbrev pub is_call_honest : Call → EndState → List WholeFrame → Bool
 is_call_honest (Arrive bytes) x sent =
     is_some (place_of (good_frames x.core.limits.longest (x.arrived ++ bytes)) sent)

@@ -27,7 +27,8 @@ use Rattle.ddcmp_callers.specs.Calls.{after_calls_here, after_call_here, calls_a
 
 -- ---- what a user sees of calls
 
--- A user gives a message that is sent, is told what an arrival tells, and is handed what is taken.
+-- A user offers a message that is sent, gets the notices of an arrival, and is passed what is
+-- taken.
 abbrev pub shown_by : Call → EndState → List UserCall
 shown_by (Send message) x = calls_of_offer x.core message
 shown_by (Arrive bytes) x = calls_of_notices (notices_at bytes x)
@@ -38,7 +39,7 @@ unfoldable pub shown_in : List Call → EndState → List UserCall
 shown_in [] x = []
 shown_in (c ∷ rest) x = shown_by c x ++ shown_in rest (after_call_here c x)
 
--- A message that a user gave is accepted where it has a byte, and no more than there was room for.
+-- A message that a user gave is accepted if it has a byte, and no more than there was room for.
 abbrev pub accepted_of : UserCall → List (List ℕ)
 accepted_of (Asked room message) =
     if nat_le 1 (length message) && nat_le (length message) room then message ∷ [] else []
@@ -59,12 +60,12 @@ accepted_from seen = flat_map accepted_of seen
 abbrev pub handed_to : List UserCall → List (List ℕ)
 handed_to seen = flat_map handed_of seen
 
--- how many messages it was told acknowledged
+-- how many messages were reported acknowledged to it
 abbrev pub acknowledged_to : List UserCall → ℕ
 acknowledged_to seen = acknowledged_in (flat_map told_of seen)
 
 -- One user was handed the first of the messages that were accepted of the other, in their order,
--- each once and unchanged; and the other was told acknowledged no more of them.
+-- each once and unchanged; and no more of them was reported acknowledged to the other.
 pub record Reaches (giver taker : List UserCall) : Type 0 where
   pub order : IsPrefixOf (handed_to taker) (accepted_from giver)
   pub acknowledged : acknowledged_to giver ≤ length (handed_to taker)
@@ -87,7 +88,7 @@ calls_before_read milliseconds turn d =
     (core_after_take_arm d.core))
     ++ (calls_of_message turn.offered (before_offer milliseconds turn d) ++ Poll ∷ [])
 
--- its read: what came arrives, and all mail is taken
+-- its read: what came arrives, and all received messages are taken
 abbrev pub calls_of_read : List ℕ → Driving → List Call
 calls_of_read came d =
     Arrive came ∷ replicate (length (after_piece d.text came d.core).station.inbox) Take
@@ -113,7 +114,7 @@ pub record DriveCall : Type 0 where
   pub turns : List DriveTurn
   pub last : Option DriveTurn
 
--- where it broke off, the station was halted
+-- if it broke off, the station was halted
 abbrev pub after_last : ℕ → ℕ → Option DriveTurn → Driving → Driving
 after_last milliseconds syn None d = d
 after_last milliseconds syn (Some turn) d = record (before_read milliseconds syn turn d) {
@@ -124,7 +125,7 @@ abbrev pub calls_of_last : ℕ → Option DriveTurn → Driving → List Call
 calls_of_last milliseconds None d = []
 calls_of_last milliseconds (Some turn) d = calls_before_read milliseconds turn d ++ Halt ∷ []
 
--- what it did to a station, where this text came before
+-- what it did to a station, if this text came before
 abbrev pub after_all_turns : ℕ → DriveCall → CoreView → List ℕ → Driving
 after_all_turns syn call k text =
     after_turns call.milliseconds syn call.turns (driving_from k text)
@@ -158,7 +159,7 @@ calls_of_drives syn (call ∷ rest) d =
 -- ---- calls and turns are the same
 
 -- These calls at an end leave the station and the text of its line as they are driven, write the
--- same bytes behind those before, and the user sees the same.
+-- same bytes after those before, and the user sees the same.
 pub record Does (calls : List Call) (x : EndState) (d : Driving) : Type 0 where
   pub core : (after_calls_here calls x).core ≡ d.core
   pub text : (after_calls_here calls x).arrived ≡ d.text
@@ -166,7 +167,7 @@ pub record Does (calls : List Call) (x : EndState) (d : Driving) : Type 0 where
   pub seen : shown_in calls x ≡ d.seen
 
 -- A station was driven by this call of `drive`, as its contract says: it took from the source what
--- its turns read and brought the sink what they wrote, or where it broke off a beginning of that.
+-- its turns read and brought the sink what they wrote, or if it broke off a beginning of that.
 pub record IsDriven (milliseconds : ℕ) (call : DriveCall) (old new : StationView)
     (devices : Devices) (saw : List UserCall → Type 0) : Type 0 where
   pub timer : call.milliseconds ≡ milliseconds
@@ -194,7 +195,7 @@ abbrev pub begun : Config → Driving
 begun config =
     driving_from (record (core_made config) { station = after_start new_station }) []
 
--- what its user saw in all, where it was driven so
+-- what its user saw in all, if it was driven so
 abbrev pub seen_of : Config → List DriveCall → List UserCall
 seen_of config drives = (after_drives config.syn drives (begun config)).seen
 

@@ -17,8 +17,8 @@ use Rattle.ddcmp_run.specs.declared.event.End.TheVariants.{A, B}
 use Rattle.ddcmp_run.specs.declared.event.Event.{Event}
 use Rattle.ddcmp_run.specs.declared.event.Event.TheVariants as event
 use Rattle.ddcmp_run.specs.Run.{PairState, run, new_pair}
-use Rattle.ddcmp_recovery.specs.LossFree.{Line, ComesFirst, IsWhole}
-use Rattle.ddcmp_recovery.specs.Rests.{IsUnderWay}
+use Rattle.ddcmp_laws.specs.LossFree.{Line, ComesFirst, IsWhole}
+use Rattle.ddcmp_laws.specs.Rests.{IsUnderWay}
 use Rattle.ddcmp_callers.specs.Calls.{Call, Send, Poll, Arm, events_in}
 use Rattle.ddcmp_callers.specs.Driven.{calls_of_timer, calls_of_read, accepted_from, handed_to}
 use Rattle.ddcmp_callers.specs.Driven.{acknowledged_to, begun}
@@ -155,7 +155,7 @@ KeepsFrom Promise p l =
     → Promise (line_of_driven p l) l
 
 -- A promise about two driven stations under way: these turns led to them from two new stations of
--- any sizes in range, each started once, and so many bytes are in flight to each. What was lost
+-- any sizes in range, each started once, and this many bytes are in flight to each. What was lost
 -- before is free, but the line was honest, neither is halted, and what is in flight comes whole.
 abbrev pub IsKeptWhileDriven : (Line → DrivenLine → Type 0) → Type 0
 IsKeptWhileDriven Promise = (first second : Config) (milliseconds other_milliseconds : ℕ)
@@ -167,7 +167,7 @@ IsKeptWhileDriven Promise = (first second : Config) (milliseconds other_millisec
     (driven_after before (new_driven first milliseconds second other_milliseconds) to_a to_b)
 
 -- A station runs, and each message that was accepted of its user was handed to the other's, and it
--- was told acknowledged.
+-- was reported acknowledged.
 pub record DrivenIsDelivered (giver taker : Driving) : Type 0 where
   pub runs : giver.core.station.state ≡ Running
   pub handed : handed_to taker.seen ≡ accepted_from giver.seen
@@ -234,7 +234,7 @@ sweep_at now l =
     ∷ (A, Writes (record { now = now; offered = []; came = [] }))
     ∷ (B, Writes (record { now = now; offered = []; came = [] })) ∷ []
 
--- a moment before the deadline of an end, where one is set, and of which a clock can tell a later
+-- a moment before the deadline of an end, if one is set, and of which a clock can return a later
 pub record IsEarly (now : ℕ) (x : DrivenEnd) : Type 0 where
   pub waits : 1 ≤ x.milliseconds
   pub later : now < 18446744073709551615

@@ -9,4 +9,4 @@ pub mod LinkStory
 pub mod LinkSweeps
 pub mod DrivenSweeps
 pub mod StationRuns
-pub mod LinksAnew
+pub mod LinkRestarts

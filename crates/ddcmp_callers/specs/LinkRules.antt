@@ -6,7 +6,7 @@ use Rattle.ddcmp_proto.specs.Bytes.{frame_on_line}
 use Rattle.ddcmp_station.specs.Linking.{LinkView, puts_frame}
 use Rattle.ddcmp_callers.specs.Links.{LinkCall, Wakes}
 
--- a NAK for want of a buffer, which has the SUBTYPE 8
+-- a NAK of a full inbox, which has the SUBTYPE 8
 abbrev pub AsksForABuffer : Frame → Type 0
 AsksForABuffer (Naked why resp) = subtype_of why ≡ 8
 AsksForABuffer _ = ⊥

@@ -8,8 +8,8 @@ use Rattle.ddcmp_run.specs.declared.event.End.{End}
 use Rattle.ddcmp_run.specs.declared.event.End.TheVariants.{A, B}
 use Rattle.ddcmp_run.specs.declared.event.Event.{Event}
 use Rattle.ddcmp_run.specs.Run.{PairState, run, new_pair}
-use Rattle.ddcmp_recovery.specs.LossFree.{Line, ComesFirst, IsWhole}
-use Rattle.ddcmp_recovery.specs.Rests.{IsUnderWay}
+use Rattle.ddcmp_laws.specs.LossFree.{Line, ComesFirst, IsWhole}
+use Rattle.ddcmp_laws.specs.Rests.{IsUnderWay}
 use Rattle.ddcmp_callers.specs.Calls.{events_in}
 use Rattle.ddcmp_callers.specs.Links.{LinkCall, LinkStep, Links, link_at, HasDone, used_by, gone_by}
 use Rattle.ddcmp_callers.specs.Links.{after_step_at, after_steps, new_links}
@@ -77,7 +77,7 @@ line_after first second steps p to_a to_b =
 -- ---- two links under way
 
 -- A promise about two links under way: these steps led to them from two new links of any sizes in
--- range, and so many bytes are in flight to each. What was lost before is free, but the line was
+-- range, and this many bytes are in flight to each. What was lost before is free, but the line was
 -- honest, neither was started twice, neither is halted, and what is in flight comes whole.
 abbrev pub IsKeptUnderWay : (Line → LinkLine → Type 0) → Type 0
 IsKeptUnderWay Promise = (first second : Config) (milliseconds other_milliseconds : ℕ)

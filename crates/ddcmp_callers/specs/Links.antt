@@ -21,8 +21,9 @@ use Rattle.ddcmp_callers.specs.Driven.{calls_of_timer}
 
 -- ---- calls of a link
 
--- A call of a link, by its name: with the moment that it was told, the message that it was given,
--- the bytes that it used, or how many bytes its line took. A call of `fill` is some of `fill_one`.
+-- A call of a link, by its name: with the moment that it was reported, the message that it was
+-- given, the bytes that it used, or how many bytes its line took. A call of `fill` is some of
+-- `fill_one`.
 pub data LinkCall : Type 0 where
   Starts : LinkCall
   BeginsAnew : LinkCall
@@ -51,7 +52,7 @@ station_calls Takes d = Take ∷ []
 
 -- ---- what the contract of each call says that it does
 
--- bytes were used, where this text came before
+-- bytes were used, if this text came before
 pub record HasFed (text used : List ℕ) (old new : LinkView) : Type 0 where
   pub core : new.station.core ≡ after_piece text used old.station.core
   pub syn : new.station.syn ≡ old.station.syn
@@ -73,7 +74,7 @@ HasDone Takes text old new = new ≡ after_taking old
 -- ---- the history of a link
 
 -- A link, and what has been since it was made: the bytes of its line that it used, those that its
--- line took, the messages that it accepted, those that its user took, and how many it told
+-- line took, the messages that it accepted, those that its user took, and how many it reported
 -- acknowledged.
 pub record LinkHistory : Type 0 where
   pub link : LinkView
@@ -106,18 +107,18 @@ abbrev pub gone_by : LinkCall → LinkView → List ℕ
 gone_by (IsSent n) d = take n d.outbox.waiting
 gone_by _ d = []
 
--- `offer` accepts a message exactly where it answers so
+-- `offer` accepts a message exactly if it returns so
 abbrev pub accepted_by : LinkCall → LinkView → List (List ℕ)
 accepted_by (Offers message) d =
     if may_send d.station.core.limits d.station.core.station message then message ∷ [] else []
 accepted_by _ d = []
 
--- `take` gives the first mail
+-- `take` returns the first received message
 abbrev pub taken_by : LinkCall → LinkView → List (List ℕ)
 taken_by Takes d = option_to_list (first_message d.station.core.station.inbox)
 taken_by _ d = []
 
--- `feed` tells what the bytes give notice of
+-- `feed` returns the notice of the bytes
 abbrev pub acknowledged_after : LinkCall → LinkHistory → ℕ
 acknowledged_after (Feeds used) h =
     acknowledged_in (notices_of_piece h.used used h.link.station.core)
@@ -193,7 +194,7 @@ abbrev pub after_step_at : End → LinkStep → Links → Links
 after_step_at A step p = record { a = after_step step p.a; b = p.b }
 after_step_at B step p = record { a = p.a; b = after_step step p.b }
 
--- what each used is a beginning of what the line of the other took
+-- what each used is a prefix of what the line of the other took
 pub record AreStreams (p : Links) : Type 0 where
   pub to_a : Begins p.a.used p.b.gone
   pub to_b : Begins p.b.used p.a.gone
@@ -251,12 +252,12 @@ IsKeptOverStreams Promise = (first second : Config) (milliseconds other_millisec
     → Promise (after_steps steps
     (new_links first milliseconds line second other_milliseconds other_line))
 
--- the messages that a link's user took, and behind them the mail that waits for it
+-- the messages that a link's user took, and after them the received messages that wait for it
 abbrev pub received : LinkHistory → List (List ℕ)
 received h = h.taken ++ h.link.station.core.station.inbox
 
 -- What one link received are the first of the messages that the other accepted, in their order,
--- each once and unchanged; and the other told no more of them acknowledged.
+-- each once and unchanged; and the other reported no more of them acknowledged.
 pub record LinkReaches (giver taker : LinkHistory) : Type 0 where
   pub order : IsPrefixOf (received taker) giver.accepted
   pub acknowledged : giver.acknowledged ≤ length (received taker)

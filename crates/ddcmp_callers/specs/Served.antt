@@ -11,7 +11,7 @@ use Rattle.ddcmp_laws.specs.Faithful.{Begins}
 use Rattle.ddcmp_callers.specs.Driven.{DriveCall, after_drives, begun, seen_of}
 
 -- A served station is a new one that was started and driven by this call: it took from the source
--- what its turns read and brought the sink what they wrote, or where it broke off a beginning of
+-- what its turns read and brought the sink what they wrote, or if it broke off a beginning of
 -- that. Its user gave the message once, and what the user saw is the report.
 pub record IsServed (milliseconds : ℕ) (restart counted : Bool) (send : List ℕ) (call : DriveCall)
     (devices : Devices) (failed : Bool) (report report_after : Known) : Type 0 where

@@ -10,7 +10,7 @@ use Rattle.ddcmp_callers.specs.Driven.{DriveCall, after_drive}
 
 -- ---- calls in any order
 
--- After each of these calls, what arrived at each end is a beginning of what the other had written.
+-- After each of these calls, what arrived at each end is a prefix of what the other had written.
 abbrev pub OverStreams : List (End × Call) → PairState → Type 0
 OverStreams [] p = Unit {0}
 OverStreams (step ∷ rest) p =

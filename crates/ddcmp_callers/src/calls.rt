@@ -20,7 +20,7 @@ ghost use Rattle.ddcmp_callers.specs.Calls.{IsStartedOnce, IsSameStation, IsSame
 
 /// Whether a station knows already that its timer was started makes no difference but to the call
 /// that asks: every other call takes two stations that are the same but for that to two such
-/// stations, and answers, writes, tells and counts the same. That call tells a start once, and
+/// stations, and returns, writes, reports and counts the same. That call reports a start once, and
 /// neither starts the timer nor stops it.
 pub fn fresh_is_on()
     ensures receives { (l : Limits) (s t : StationState) (h : Received) → IsSameStation s t
@@ -54,9 +54,9 @@ pub fn fresh_is_on()
 {}
 
 /// The headline for every caller. For two new stations of any sizes in range, after every list of
-/// calls: what is promised of a run's events. Where each end is started at most once, an honest
-/// line makes the calls clean. Calls do what the events do that they are, but that those don't ask
-/// for the start of a timer.
+/// calls: what is promised of a run's events. If each end is started at most once, an honest line
+/// makes the calls clean. Calls do what the events do that they are, but that those don't ask for
+/// the start of a timer.
 pub fn every_caller()
     ensures order { (first second : ConfigValue) (calls : List (EndValue × Call))
         → first_refusal first ≡ None → first_refusal second ≡ None

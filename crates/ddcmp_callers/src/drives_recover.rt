@@ -3,8 +3,8 @@ ghost use Rattle.std.specs.Prelude.{◌≡◌, ℕ, List};
 ghost use Rattle.ddcmp_station.specs.Driving.{DriveTurn, after_turn};
 ghost use Rattle.ddcmp_run.specs.declared.event.End.{End as EndValue};
 ghost use Rattle.ddcmp_run.specs.Run.{PairState, run};
-ghost use Rattle.ddcmp_recovery.specs.LossFree.{IsLossFree, run_on_line};
-ghost use Rattle.ddcmp_recovery.specs.Sweeps.{IsSweep, AreInTime, IsRecoveryBySweeps};
+ghost use Rattle.ddcmp_laws.specs.LossFree.{IsLossFree, run_on_line};
+ghost use Rattle.ddcmp_laws.specs.Sweeps.{IsSweep, AreInTime, IsRecoveryBySweeps};
 ghost use Rattle.ddcmp_callers.specs.DrivenSweeps.{TurnPart, Writes, Reads, DrivenEnd, after_part};
 ghost use Rattle.ddcmp_callers.specs.DrivenSweeps.{DrivenLine, TurnsLoseNothing};
 ghost use Rattle.ddcmp_callers.specs.DrivenSweeps.{run_on_driven, events_of_parts, line_of_driven};
@@ -13,9 +13,9 @@ ghost use Rattle.ddcmp_callers.specs.DrivenSweeps.{IsSweepOfTurns, AreEnoughTurn
 ghost use Rattle.ddcmp_callers.specs.DrivenSweeps.{events_of_sweeps, IsRecoveryOfTurns, IsEarly};
 ghost use Rattle.ddcmp_callers.specs.DrivenSweeps.{sweep_at};
 
-use ddcmp_recovery::rests::is_ready_in_any_order;
-use ddcmp_recovery::settles::settles_in_any_order;
-use ddcmp_recovery::sweeps::comes_to_rest;
+use ddcmp_laws::rests::is_ready_in_any_order;
+use ddcmp_laws::settles::settles_in_any_order;
+use ddcmp_laws::sweeps::comes_to_rest;
 
 /// A turn of `drive` has two parts: up to its read, and the read.
 pub fn turns_have_two_parts()
@@ -49,9 +49,9 @@ pub fn each_line_has_a_sweep_of_turns()
     ensures loss_free { (now : ℕ) (l : DrivenLine) → TurnsLoseNothing (sweep_at now l) l }
 {}
 
-/// Each turn hands up all mail, so there is room for a message whenever bytes are read. So sweeps
-/// of turns, as many as `AreEnoughTurns` says, are in time, and by `comes_to_rest` the line comes
-/// to rest.
+/// Each turn delivers all received messages, so there is room for a message whenever bytes are
+/// read. So sweeps of turns, as many as `AreEnoughTurns` says, are in time, and by `comes_to_rest`
+/// the line comes to rest.
 pub fn turns_are_in_time()
     ensures { IsKeptWhileDriven (λ line l. (sweeps : List (List (EndValue × TurnPart)))
         → TurnsLoseNothing (turns_in_a_row sweeps) l → AreEnoughTurns sweeps l
@@ -61,7 +61,7 @@ pub fn turns_are_in_time()
 /// Two driven stations recover. Under way over lines that lose nothing from now on, whatever was
 /// lost before: after enough sweeps of their turns, and two rounds, in each of which the timer of
 /// each expires, unless it is off, and enough sweeps follow, both run, and each message that was
-/// accepted of one user, also meanwhile, is handed to the other and told acknowledged.
+/// accepted from one user, also meanwhile, is handed to the other and reported acknowledged.
 pub fn driven_recover()
     ensures { IsKeptWhileDriven (λ line l. (parts : List (EndValue × TurnPart))
         → TurnsLoseNothing parts l → IsRecoveryBySweeps (events_of_parts parts l) line

@@ -5,9 +5,9 @@
 
 pub mod calls;
 pub mod drives_recover;
+pub mod link_restarts;
 pub mod link_steps;
 pub mod links;
-pub mod links_anew;
 pub mod recovering;
 pub mod rules;
 pub mod served;

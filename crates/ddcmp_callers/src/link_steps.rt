@@ -9,7 +9,7 @@ ghost use Rattle.ddcmp_proto.specs.Bytes.{notices_of_piece};
 ghost use Rattle.ddcmp_run.specs.Run.{acknowledged_in};
 ghost use Rattle.ddcmp_callers.specs.Links.{Starts, BeginsAnew, Halts, Wakes, Offers, FillsOne};
 ghost use Rattle.ddcmp_callers.specs.Links.{IsSent, Feeds, Takes, HasDone, accepted_by, taken_by};
-ghost use Rattle.ddcmp_callers.specs.LinksAnew.{Does};
+ghost use Rattle.ddcmp_callers.specs.LinkRestarts.{Does};
 
 use ddcmp_station::{Fed, Link, SendRefusal, StartRefusal};
 

@@ -15,9 +15,9 @@ ghost use Rattle.ddcmp_callers.specs.LinkLines.{InboxIsFull, LinkIsDelivered, ca
 ghost use Rattle.ddcmp_callers.specs.LinkStory.{small, small_links, story_steps, HasGotAcross};
 
 /// Each call of a link is calls of its station, and so is a history of calls. They leave the
-/// station as the link leaves it; what the link's line took, and behind it what waits for the line,
-/// is what their polls wrote; the messages that it accepted are theirs, and the mail that it gave.
-/// Each message that it was offered goes to `send` once, in order.
+/// station as the link leaves it; what the link's line took, and after it the bytes pending for the
+/// line, are what their polls wrote; the messages that it accepted are theirs, and so are those
+/// that its user took. Each message that it was offered goes to `send` once, in order.
 pub fn link_calls_are_calls()
     ensures begins { (config : ConfigValue) (milliseconds : ℕ) (line : ReaderView)
         → IsSameEnd (new_end config) (new_history config milliseconds line) }
@@ -34,8 +34,8 @@ pub fn link_calls_are_calls()
 /// Two new links of any sizes in range, each started at most once, over an honest line: the good
 /// frames that each received are, in their order, among those that the other sent. Whatever else
 /// the line did, as lose, cut or damage what it carries, whatever the calls, the moments and the
-/// cuts: what each received are the first of the messages that the other accepted, in their order,
-/// each once and unchanged, and no more are reported acknowledged than were received.
+/// cuts: what each received is a prefix of the messages that the other accepted, each once and
+/// unchanged, and no more is reported acknowledged than was received.
 pub fn links_in_order()
     ensures to_b { IsKeptOverHonestLines (λ p. LinkReaches p.a p.b) }
     ensures to_a { IsKeptOverHonestLines (λ p. LinkReaches p.b p.a) }
@@ -63,14 +63,14 @@ pub fn links_sleep_when_done()
 {}
 
 /// Two new links of any sizes in range, each started at most once, over streams: whatever the
-/// calls, the moments and the cuts, the user of each takes the first of the messages that the other
-/// accepted, in their order, each once and unchanged, and is told acknowledged no more than came.
+/// calls, the moments and the cuts, the user of each takes a prefix of the messages that the other
+/// accepted, each once and unchanged, and no more is reported acknowledged to it than was received.
 pub fn links_over_a_stream()
     ensures to_b { IsKeptOverStreams (λ p. LinkReaches p.a p.b) }
     ensures to_a { IsKeptOverStreams (λ p. LinkReaches p.b p.a) }
 {}
 
-/// Where one of two such links says that all is delivered, the other has received all that it
+/// If one of two such links returns that all is delivered, the other has received all that it
 /// accepted: these messages, in their order, each once and unchanged, and no others.
 pub fn delivered_is_received()
     ensures to_b { IsKeptOverStreams

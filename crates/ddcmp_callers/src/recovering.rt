@@ -4,16 +4,16 @@ ghost use Rattle.ddcmp_core.specs.declared.state.Timer.TheVariants.{On};
 ghost use Rattle.ddcmp_station.specs.Linking.{LinkView};
 ghost use Rattle.ddcmp_run.specs.declared.event.End.{End as EndValue};
 ghost use Rattle.ddcmp_run.specs.Run.{run};
-ghost use Rattle.ddcmp_recovery.specs.LossFree.{IsLossFree, run_on_line};
-ghost use Rattle.ddcmp_recovery.specs.Sweeps.{IsRecoveryBySweeps};
+ghost use Rattle.ddcmp_laws.specs.LossFree.{IsLossFree, run_on_line};
+ghost use Rattle.ddcmp_laws.specs.Sweeps.{IsRecoveryBySweeps};
 ghost use Rattle.ddcmp_callers.specs.Calls.{Arm, Expire};
 ghost use Rattle.ddcmp_callers.specs.Links.{LinkStep, Wakes, station_calls, after_steps};
 ghost use Rattle.ddcmp_callers.specs.LinkSweeps.{LinksLoseNothing, run_on_links, events_of_steps};
 ghost use Rattle.ddcmp_callers.specs.LinkSweeps.{line_of, IsKeptUnderWay, LinksAreDone};
 
 /// Calls of two links over lines that lose nothing are events of their stations over a line that
-/// loses nothing, in whose flight is also what waits in an outbox: so a frame that `fill_one` puts
-/// there is sent, and what the line takes of it changes nothing.
+/// loses nothing, in whose flight is also what is pending in an outbox: so a frame that `fill_one`
+/// puts there is sent, and what the line takes of it changes nothing.
 pub fn links_lose_nothing()
     ensures loss_free { IsKeptUnderWay (λ line l. (steps : List (EndValue × LinkStep))
         → LinksLoseNothing steps l → IsLossFree (events_of_steps steps l.links) line) }

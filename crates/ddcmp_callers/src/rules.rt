@@ -1,4 +1,4 @@
-//! What a link and a driven station do by themselves, said apart from how they do it.
+//! What a link and a driven station do by themselves, stated apart from how they do it.
 ghost use Rattle.std.specs.Prelude.{◌≡◌, ◌≢◌, ◌+◌, ◌^◌, ◌<◌, ◌≤◌, ◌↔◌, ◌⊎◌, ℕ, List, [], ◌∷◌, ◌++◌};
 ghost use Rattle.std.specs.Prelude.{length, true, false, None, Some, Ok};
 ghost use Rattle.ddcmp_core.specs.declared.state.State.TheVariants.{Running};
@@ -11,8 +11,8 @@ ghost use Rattle.ddcmp_station.specs.Linking.{after_wake};
 ghost use Rattle.ddcmp_callers.specs.Links.{LinkCall, HasDone};
 ghost use Rattle.ddcmp_callers.specs.LinkRules.{AsksForABuffer, PutsFrame, IsNoWake};
 
-/// A link that has a frame to send, and room for one of any length, puts it. Only a NAK for want of
-/// a buffer stays, and that while the inbox is full. Without a frame or without room it puts none.
+/// A link that has a frame to send, and room for one of any length, puts it. Only a NAK 8 (no
+/// buffer) stays, and that while the inbox is full. Without a frame or without room it puts none.
 pub fn puts_what_it_has()
     ensures puts { (d : LinkView) (f : Frame) → next_frame (next d.station.core.station) ≡ Some f
         → d.station.syn + (d.station.core.limits.longest + 10) ≤ d.outbox.room
@@ -41,8 +41,8 @@ pub fn accepts_while_it_has_room()
         ≡ d.station.core.station.out ++ message ∷ []) }
 {}
 
-/// All is delivered exactly if no message is left to be acknowledged, no byte waits for the line,
-/// and there is no frame to send.
+/// All is delivered exactly if no message is left to be acknowledged, no byte is pending for the
+/// line, and there is no frame to send.
 pub fn delivered_leaves_nothing()
     ensures { (d : LinkView) → (delivered d ≡ true) ↔ ((d.station.core.station.out ≡ [])
         × (d.outbox.waiting ≡ []) × (next_frame (next d.station.core.station) ≡ None)) }

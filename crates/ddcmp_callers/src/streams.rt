@@ -1,4 +1,4 @@
-//! Two stations over streams that give what they took, in its order.
+//! Two stations over streams that yield what they took, in its order.
 ghost use Rattle.std.specs.Prelude.{◌≡◌, List, true, None};
 ghost use Rattle.ddcmp_proto.specs.Config.{first_refusal};
 ghost use Rattle.ddcmp_proto.specs.declared.config.Config.{Config as ConfigValue};
@@ -18,9 +18,9 @@ pub fn stream_is_honest()
 {}
 
 /// Two new stations of any sizes in range, each started once and then driven over streams: whatever
-/// the turns, the clocks, the users and the cuts, each user is handed the first of the messages
-/// that were accepted of the other, in their order, each once and unchanged, and is told
-/// acknowledged no more than the other was handed.
+/// the turns, the clocks, the users and the cuts, each user receives a prefix of the messages that
+/// were accepted from the other, each once and unchanged, and no more is reported acknowledged to
+/// it than the other received.
 pub fn over_a_stream()
     ensures to_b { (first second : ConfigValue) (a b : List DriveCall)
         (calls : List (EndValue × Call))

@@ -18,8 +18,8 @@ ghost use Rattle.ddcmp_callers.specs.Driven.{Does, IsDriven, Reaches, AreDriven,
 
 use ddcmp_station::User;
 
-/// What the histories of an end hold is what its user saw of the calls: what was accepted of it,
-/// what it was handed, and how many it was told acknowledged.
+/// What the histories of an end hold is what its user saw of the calls: what was accepted from it,
+/// what it received, and how many messages were reported acknowledged to it.
 pub fn users_see_histories()
     ensures given { (calls : List Call) (x : EndState)
         → (after_calls_here calls x).given ≡ x.given ++ accepted_from (shown_in calls x) }
@@ -31,7 +31,7 @@ pub fn users_see_histories()
 {}
 
 /// Turns of `drive` are calls: they leave the station and its line as those calls do, write the
-/// same bytes, and the user sees the same. So is a whole call of `drive`, also where it broke off.
+/// same bytes, and the user sees the same. So is a whole call of `drive`, also if it broke off.
 pub fn turns_are_calls()
     ensures turns { (milliseconds : ℕ) (turns : List DriveTurn) (x : EndState)
         → Does (calls_of_turns milliseconds x.syn turns (driving_from x.core x.arrived)) x
@@ -52,9 +52,9 @@ pub fn contract_is_a_call<U: User>()
 {}
 
 /// Two new stations of any sizes in range, each started once and then driven by any calls of
-/// `drive`: in whatever order their calls are made, where the line is honest each user is handed
-/// the first of the messages that were accepted of the other, in their order, each once and
-/// unchanged, and is told acknowledged no more than the other was handed.
+/// `drive`: in whatever order their calls are made, if the line is honest each user receives a
+/// prefix of the messages that were accepted from the other, each once and unchanged, and no more
+/// is reported acknowledged to it than the other received.
 pub fn driven_in_order()
     ensures to_b { (first second : ConfigValue) (a b : List DriveCall)
         (calls : List (EndValue × Call))

@@ -68,12 +68,13 @@ untold counted input before p q is_direct t u Wrote WrotePart r e n m h =
     (subst (λ y. Plays counted input (around before q is_direct t y) Wrote WrotePart r) m h))
 
 -- what holds of a run that was written holds of one that is shown
-pub shows-as : (svg ladder : Bool) (Refused Written Wanted : Type 0) → (Written → Wanted)
-    → ShowsBy svg ladder Refused Written → ShowsBy svg ladder Refused Wanted
-shows-as true true R W V f h = h
-shows-as true false R W V f h = tt
-shows-as false true R W V f h = tt
-shows-as false false R W V f h = f h
+pub shows-as : (svg ladder : Bool) (Refused Drawn Pictured Written Wanted : Type 0)
+    → (Drawn → Pictured) → (Written → Wanted) → ShowsBy svg ladder Refused Drawn Written
+    → ShowsBy svg ladder Refused Pictured Wanted
+shows-as true true R D E W V d f h = h
+shows-as true false R D E W V d f h = d h
+shows-as false true R D E W V d f h = d h
+shows-as false false R D E W V d f h = f h
 
 -- what a script tells of its devices the ending tells
 pub tells : (source : SourceChange) (broken : Bool) (r : Result (Unit {0}) ScriptFault)

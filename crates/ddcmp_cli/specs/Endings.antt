@@ -17,6 +17,7 @@ use Rattle.ddcmp_cli.specs.declared.fault.Fault.TheVariants.{Memory as NoMemory,
 use Rattle.ddcmp_cli.specs.declared.fault.Fault.TheVariants.{Lost}
 use Rattle.ddcmp_run.specs.Run.{PairState, new_pair}
 use Rattle.ddcmp_line.specs.ScriptEnds.{around, Plays}
+use Rattle.ddcmp_picture.specs.Drawn.{DrawsScript}
 use Rattle.ddcmp_proto.specs.declared.config.Config.{Config}
 use Rattle.ddcmp_station.specs.Config.{first_refusal}
 use Rattle.ddcmp_cli.specs.declared.ending.Ending.{Ending}
@@ -282,18 +283,36 @@ Pairs config counted s ending =
     ((ending ≡ Faulted Carrier) × (s.left ≡ Some s.input) × Appends s.before s.after [])
     ⊎ PlaysBetween false config counted s ending
 
--- What is said of a run, by which pictures are asked for: both at once are refused; of one picture
--- nothing is said here; and where none is asked for, the text is written.
-abbrev pub ShowsBy : Bool → Bool → Type 0 → Type 0 → Type 0
-ShowsBy true true Refused Written = Refused
-ShowsBy true false Refused Written = ⊤
-ShowsBy false true Refused Written = ⊤
-ShowsBy false false Refused Written = Written
+-- Such a run was drawn: of what is written this says nothing.
+abbrev pub DrawsBetween : Bool → Config → Streams → Ending → Type 0
+DrawsBetween is_direct config s ending =
+    ((ending ≡ Faulted NoMemory) × (s.left ≡ Some s.input) × Appends s.before s.after [])
+    ⊎ ((result : Result (Unit {0}) ScriptFault) × (after : PairState)
+    × (ending ≡ ending_of script_fault result)
+    × DrawsScript s.input (around (new_pair config config) after is_direct None None) result)
 
--- the same, where text is written so; a refusal reads and writes nothing
-abbrev pub ShowsRun : View → (Streams → Ending → Type 0) → Streams → Ending → Type 0
-ShowsRun view Writes s ending =
-    ShowsBy view.svg view.ladder ((is_refusal ending ≡ true) × Untouched s) (Writes s ending)
+abbrev pub DrawsSimulated : Config → Streams → Ending → Type 0
+DrawsSimulated config s ending = DrawsBetween true config s ending × (ending ≢ Faulted Carrier)
+
+abbrev pub DrawsPaired : Config → Streams → Ending → Type 0
+DrawsPaired config s ending =
+    ((ending ≡ Faulted Carrier) × (s.left ≡ Some s.input) × Appends s.before s.after [])
+    ⊎ DrawsBetween false config s ending
+
+-- What is said of a run, by which pictures are asked for: both at once are refused; one is drawn;
+-- and if none is asked for, the text is written.
+abbrev pub ShowsBy : Bool → Bool → Type 0 → Type 0 → Type 0 → Type 0
+ShowsBy true true Refused Drawn Written = Refused
+ShowsBy true false Refused Drawn Written = Drawn
+ShowsBy false true Refused Drawn Written = Drawn
+ShowsBy false false Refused Drawn Written = Written
+
+-- the same of a view; a refusal reads and writes nothing
+abbrev pub ShowsRun : View → (Streams → Ending → Type 0) → (Streams → Ending → Type 0) → Streams
+    → Ending → Type 0
+ShowsRun view Draws Writes s ending =
+    ShowsBy view.svg view.ladder ((is_refusal ending ≡ true) × Untouched s) (Draws s ending)
+    (Writes s ending)
 
 -- The ending tells that a read failed exactly where the source isn't fine or has given 2^64 - 1
 -- bytes, and that a write failed exactly where one has.
@@ -378,9 +397,9 @@ TapsOrNoMemory words old new ending =
 abbrev pub Performs : (List ℕ → Known) → Peers → Command → Streams → Ending → Type 0
 Performs held peers (Explain explained) s ending = ExplainsAsked held explained s ending
 Performs held peers (Simulate config view) s ending =
-    ShowsRun view (Simulates config view.counters) s ending
+    ShowsRun view (DrawsSimulated config) (Simulates config view.counters) s ending
 Performs held peers (Pair config view) s ending =
-    ShowsRun view (Pairs config view.counters) s ending
+    ShowsRun view (DrawsPaired config) (Pairs config view.counters) s ending
 Performs held peers (Station served) s ending =
     (s.left ≡ Some s.input) × Stations peers served s.before s.after ending
 Performs held peers (Tap tapped) s ending =

@@ -6,36 +6,13 @@ use crate::ending::Ending;
 use crate::fault::Fault;
 use crate::usage::usage;
 use ddcmp_io::{Sink, Source};
-use ddcmp_service::{Form, LineName, NotOpened, Options, Served, ServiceFault, serve_link};
+use ddcmp_service::{LineName, NotOpened, Options, Served, ServiceFault, serve_link};
 use ddcmp_words::Linked;
 use std::alloc::Global;
 
 /// The usage error for another value of `--line`.
 const NO_LINE: &str =
     "'--line' is connect:HOST:PORT, listen:HOST:PORT, udp:LOCAL,REMOTE or device:PATH";
-
-/// The options of a link over this line.
-fn options_of(linked: &Linked<'_>, line: LineName<'_>) -> Options {
-    Options {
-        config: linked.config,
-        timer_ms: linked.timer_ms,
-        attempts: linked.attempts,
-        linger_ms: linked.linger_ms,
-        form: if linked.binary {
-            Form::Binary
-        } else {
-            Form::Digits
-        },
-        stay: linked.stay,
-        again: linked.again,
-        seconds: linked.seconds,
-        counters: linked.counters,
-        trace: linked.trace,
-        listens: matches!(line, LineName::Listen(_)),
-        datagrams: matches!(line, LineName::Udp { .. }),
-        connects: matches!(line, LineName::Connect(_) | LineName::Listen(_)),
-    }
-}
 
 /// The ending if the line can't be opened.
 fn no_line(alloc: Global, fault: &NotOpened<'_>) -> Ending
@@ -94,7 +71,7 @@ pub(crate) fn link<S: Lines, R: Source, W: Sink>(
     let Some(line) = LineName::read(linked.line) else {
         return usage(alloc, NO_LINE);
     };
-    match system.serve_line(alloc, line, options_of(linked, line), reader, writer) {
+    match system.serve_line(alloc, line, linked.options, reader, writer) {
         Ok(Served::Delivered) => Ending::Done,
         Ok(Served::SomeRefused) => Ending::SomeRefused,
         Err(ServiceFault::Open(fault)) => no_line(alloc, &fault),

@@ -2,7 +2,8 @@
 ghost use Rattle.std.specs.Prelude.{◌≡◌, false, true, None, Some, IsTrue, List, ℕ};
 ghost use Rattle.ddcmp_io.specs.Change.{source_change};
 ghost use Rattle.ddcmp_station.specs.Config.{first_refusal};
-ghost use Rattle.ddcmp_cli.specs.Endings.{is_refusal, Pairs, PlaysBetween, ShowsRun, Simulates};
+ghost use Rattle.ddcmp_cli.specs.Endings.{DrawsBetween, DrawsPaired, DrawsSimulated, is_refusal};
+ghost use Rattle.ddcmp_cli.specs.Endings.{Pairs, PlaysBetween, ShowsRun, Simulates};
 ghost use Rattle.ddcmp_cli.specs.Endings.{TellsDevices, streams};
 
 use crate::ending::Ending;
@@ -33,7 +34,11 @@ fn draw_over<R: Source, W: Sink, C: Carrier>(
     requires fine { R.state reader.old ≡ Worst.Fine }
     requires whole { W.broken writer.old ≡ false }
     requires carrier { C.broken carrier.old ≡ false }
+    requires silent { (c : C) → C.told c ≡ None }
     requires sizes { first_refusal config ≡ None }
+    ensures draws { (input : List ℕ) → R.left reader.old ≡ Some input
+        → DrawsBetween (C.direct carrier.old) config (streams input (R.left reader.new)
+        (W.contents writer.old) (W.contents writer.new)) result }
     ensures devices { TellsDevices (source_change (R.left reader.old) (R.left reader.new)
         (R.state reader.new)) (W.broken writer.new) result }
     ensures carried { result ≡ Ending.Fault Fault.Carrier → IsTrue (C.broken carrier.new) }
@@ -62,7 +67,8 @@ fn show_over<R: Source, W: Sink, C: Carrier>(
     requires silent { (c : C) → C.told c ≡ None }
     requires sizes { first_refusal config ≡ None }
     ensures shows { (input : List ℕ) → R.left reader.old ≡ Some input
-        → ShowsRun view (PlaysBetween (C.direct carrier.old) config view.counters)
+        → ShowsRun view (DrawsBetween (C.direct carrier.old) config)
+        (PlaysBetween (C.direct carrier.old) config view.counters)
         (streams input (R.left reader.new) (W.contents writer.old) (W.contents writer.new))
         result }
     ensures devices { TellsDevices (source_change (R.left reader.old) (R.left reader.new)
@@ -91,8 +97,8 @@ pub(crate) fn show_simulation<R: Source, W: Sink>(
     requires whole { W.broken writer.old ≡ false }
     requires sizes { first_refusal config ≡ None }
     ensures shows { (input : List ℕ) → R.left reader.old ≡ Some input
-        → ShowsRun view (Simulates config view.counters) (streams input (R.left reader.new)
-        (W.contents writer.old) (W.contents writer.new)) result }
+        → ShowsRun view (DrawsSimulated config) (Simulates config view.counters)
+        (streams input (R.left reader.new) (W.contents writer.old) (W.contents writer.new)) result }
     ensures devices { TellsDevices (source_change (R.left reader.old) (R.left reader.new)
         (R.state reader.new)) (W.broken writer.new) result }
 {
@@ -112,8 +118,8 @@ pub(crate) fn show_pair<N: Net<Stream = TcpStream>, R: Source, W: Sink>(
     requires whole { W.broken writer.old ≡ false }
     requires sizes { first_refusal config ≡ None }
     ensures shows { (input : List ℕ) → R.left reader.old ≡ Some input
-        → ShowsRun view (Pairs config view.counters) (streams input (R.left reader.new)
-        (W.contents writer.old) (W.contents writer.new)) result }
+        → ShowsRun view (DrawsPaired config) (Pairs config view.counters)
+        (streams input (R.left reader.new) (W.contents writer.old) (W.contents writer.new)) result }
     ensures devices { TellsDevices (source_change (R.left reader.old) (R.left reader.new)
         (R.state reader.new)) (W.broken writer.new) result }
 {

@@ -1,7 +1,6 @@
-//! The last lines of a run between two ends: what both stations have counted, where that is asked
-//! for, and what has been done since the line was cleared. Nothing happens here: what plays a
-//! script writes them at its end, as text or below a picture.
-//!
+//! The last lines of a run between two ends: what both stations have counted, if that is asked for,
+//! and what has been done since the line was cleared. Nothing happens here: what plays a script
+//! writes them at its end, as text or below a picture.
 //! ```text
 //! honest yes clean yes up A=0 B=1 acked A=1 B=0
 //! ```
@@ -65,7 +64,7 @@ fn write_counted_closing<W: Sink>(page: &mut Page, writer: &mut W, pair: &Pair)
     write_last_line(page, writer, pair);
 }
 
-/// The end of the text: the counters, where they are asked for, and the last line.
+/// Writes the end of the text: the counters, if they are asked for, and the last line.
 pub fn write_closing<W: Sink>(page: &mut Page, writer: &mut W, pair: &Pair, counted: bool)
     ensures { HandsOver (output_of W.broken W.contents writer.old page.old)
         (output_of W.broken W.contents writer.new page.new) (closing_text counted pair.now) }

@@ -81,7 +81,7 @@ IsReceivable l (Good (Naked why resp)) = resp < 256
 IsReceivable l (Good (Maint message)) = (1 ≤ length message) × (length message ≤ l.longest)
 IsReceivable l _ = Unit {0}
 
--- Where the timer is off: a running station waits for nothing, or is to send a REP, or all that is
+-- If the timer is off: a running station waits for nothing, or is to send a REP, or all that is
 -- kept; one that starts is to send its STRT or STACK.
 pub record IsTimed (s : StationState) : Type 0 where
   pub waits : s.state ≡ Running → s.timer ≡ Off

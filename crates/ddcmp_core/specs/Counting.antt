@@ -59,7 +59,8 @@ nak_counts_after reason.TooLong c = record c { too_long = count_plus c.too_long 
 nak_counts_after reason.Format c = record c { format = count_plus c.format 1 }
 nak_counts_after (reason.Other n) c = record c { other = count_plus c.other 1 }
 
--- one message of so many bytes is sent for the first time, or sent again, or put into the inbox
+-- one message of this many bytes is sent for the first time, or retransmitted, or put into the
+-- inbox
 abbrev pub counters_after_sent : ℕ → Counters → Counters
 counters_after_sent bytes c =
     record c {

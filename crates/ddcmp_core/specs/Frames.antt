@@ -87,7 +87,7 @@ message_of (Data resp num message) = message
 message_of (Maint message) = message
 message_of _ = []
 
--- the length of the data, where there is a frame
+-- the length of the data, if there is a frame
 abbrev pub data_length : Option Frame → ℕ
 data_length None = 0
 data_length (Some f) = length (message_of f)

@@ -8,7 +8,7 @@ use Rattle.ddcmp_core.specs.declared.notice.Notice.{Notice}
 use Rattle.ddcmp_core.specs.declared.notice.Notice.TheVariants as notice
 use Rattle.ddcmp_core.specs.Table.{StationState, Data, Acked, Stack, Received, Good, before_next}
 
--- what makes a station run: a STACK, or, where it answered a STRT, an ACK or data with RESP 0
+-- what makes a station run: a STACK, or, if it answered a STRT, an ACK or data with RESP 0
 abbrev pub BeginsRunning : State → Received → Type 0
 BeginsRunning IStart (Good Stack) = Unit {0}
 BeginsRunning AStart (Good Stack) = Unit {0}
@@ -33,7 +33,7 @@ pub record HasNothing (s : StationState) : Type 0 where
   pub out : s.out ≡ []
   pub inbox : s.inbox ≡ []
 
--- that the peer began anew: this end halted, or it began anew too
+-- that the peer restarted: this end halted, or it restarted too
 abbrev pub tells_restart : Notice → Bool
 tells_restart notice.PeerRestarted = true
 tells_restart (notice.Restarted dropped) = true

@@ -1,5 +1,5 @@
--- What a core is once something came, and what its user is told: the rows of each state, with what
--- they count.
+-- What a core is once something came, and what its user is reported: the rows of each state, with
+-- what they count.
 use Rattle.std.specs.Prelude.{ℕ, List, length, Option}
 use Rattle.ddcmp_frame.specs.Fields.{ShortFields}
 use Rattle.ddcmp_core.specs.declared.counters.Counters.{Counters}
@@ -45,7 +45,7 @@ core_on_maintenance h c = record c {
 abbrev pub told_in_maintenance : Received → CoreView → Option Notice
 told_in_maintenance h c = maintenance_notice c.limits c.station h
 
--- a data message is counted where the inbox takes it
+-- a data message is counted if the inbox takes it
 abbrev pub counters_on_data : ℕ → List ℕ → CoreView → Counters
 counters_on_data num message c =
     counters_after_up_if (takes_data c.limits c.station num) (length message) c.counters

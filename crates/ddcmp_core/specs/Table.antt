@@ -30,8 +30,8 @@ use Rattle.ddcmp_core.specs.declared.station_core.StartRefusal.TheVariants.{NotH
 -- ---- the state
 
 -- What never changes: the largest number of messages kept (window) and of messages in the inbox
--- (room), the largest length of a message, and whether a running station answers a STRT by
--- beginning anew.
+-- (room), the largest length of a message, and whether a running station restarts
+-- when its peer does.
 pub record Limits : Type 0 where
   pub window : ℕ
   pub room : ℕ
@@ -376,7 +376,7 @@ notice_by Maintenance l s h = maintenance_notice l s h
 unfoldable pub notice_of : Limits → StationState → Received → Option Notice
 notice_of l s h = notice_by s.state l s h
 
--- the number of messages that a notice tells acknowledged
+-- the number of messages that a notice reports acknowledged
 abbrev pub acknowledged_by : Option Notice → ℕ
 acknowledged_by None = 0
 acknowledged_by (Some (notice.Acknowledged m)) = m

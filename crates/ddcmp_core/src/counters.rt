@@ -36,9 +36,9 @@ pub struct Counters {
     pub messages_sent: u32,
     /// Bytes of data in these.
     pub bytes_sent: u32,
-    /// Data messages sent again.
+    /// Retransmitted data messages.
     pub messages_again: u32,
-    /// Bytes of data in messages sent again.
+    /// Bytes of data in retransmitted messages.
     pub bytes_again: u32,
     /// Messages put into the inbox.
     pub messages_up: u32,
@@ -153,7 +153,7 @@ impl Counters {
         add(&mut self.bytes_sent, bytes as u32);
     }
 
-    /// A message of this many bytes was sent again.
+    /// Counts a message of this many bytes that is retransmitted.
     pub(crate) fn again(&mut self, bytes: usize)
         requires { bytes ≤ MAX_COUNT }
         ensures { self.new ≡ counters_after_again bytes self.old }
@@ -177,7 +177,7 @@ impl Counters {
         add(&mut self.expiries, 1);
     }
 
-    /// What came, where it is a fault.
+    /// Counts an input that is a fault.
     pub(crate) fn fault(&mut self, input: &Input<'_>)
         ensures { self.new ≡ counters_after_fault (received input.now) self.old }
     {

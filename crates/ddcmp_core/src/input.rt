@@ -1,7 +1,7 @@
-//! What comes to a station from its line.
+//! What a station receives from its line.
 use ddcmp_frame::Header;
 
-/// What comes from the line.
+/// An input from the line.
 #[derive(Clone, Copy, Debug)]
 pub enum Input<'a> {
     /// A frame and its data.

@@ -69,14 +69,14 @@ pub fn leaves_istart_for_good()
     ensures arms { (s : StationState) → (after_take_arm s).state ≡ s.state }
 {}
 
-/// A station begins to run by a STACK, or where it answered a STRT by an ACK or data with RESP 0,
+/// A station begins to run by a STACK, or, if it answered a STRT, by an ACK or data with RESP 0,
 /// and by nothing else.
 pub fn runs_after_startup()
     ensures { (l : Limits) (s : StationState) (h : Received)
         → s.state ≢ Running → (on l s h).state ≡ Running → BeginsRunning s.state h }
 {}
 
-/// Only a STRT that comes to a running station tells that the peer began anew; no station runs
+/// Only a STRT that a running station receives reports that the peer restarted; no station runs
 /// after a STRT; and what is no good frame changes no state.
 pub fn stops_at_a_strt()
     ensures told { (l : Limits) (s : StationState) (h : Received) (n : NoticeValue)
@@ -95,7 +95,7 @@ pub fn sends_in_window()
         × IsSentInWindow s num message }
 {}
 
-/// An acknowledgement never passes N, and no more is told than was sent.
+/// An acknowledgement never passes N, and no more is reported than was sent.
 pub fn acknowledges_what_was_sent()
     ensures number { (s : StationState) (q : ℕ) → s.a < 256
         → distance s.a (after_ack s q).a ≤ distance s.a s.n }
@@ -104,8 +104,8 @@ pub fn acknowledges_what_was_sent()
         → acknowledged_by (notice_of l s h) ≤ distance s.a s.n }
 {}
 
-/// What is told acknowledged leaves: with what is left it is no more than was kept before.
-pub fn tells_what_leaves()
+/// What is reported acknowledged leaves: with what is left it is no more than was queued before.
+pub fn reports_what_leaves()
     ensures { (l : Limits) (s : StationState) (h : Received)
         → IsSound l s → acknowledged_by (notice_of l s h) + length (on l s h).out ≤ length s.out }
 {}
@@ -127,8 +127,8 @@ pub fn sends_what_is_read()
         × (length (message_of f) ≤ l.longest) }
 {}
 
-/// A running station has its timer off only where A is N, or a REP or all that is kept is to be
-/// sent; one that starts only where its STRT or STACK is to be sent.
+/// A running station has its timer off only if A is N, or a REP or all that is queued is to be
+/// sent; one that starts only if its STRT or STACK is to be sent.
 pub fn stays_timed()
     ensures new { IsTimed new_station }
     ensures receives { (l : Limits) (s : StationState) (h : Received) → IsTimed s

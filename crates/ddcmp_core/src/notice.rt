@@ -1,6 +1,6 @@
-//! What a station tells its user.
+//! What a station reports to its user.
 
-/// What the user is told.
+/// A notice for the user.
 #[derive(Clone, Copy, Debug, PartialEq, Eq)]
 pub enum Notice {
     /// Both ends have started.
@@ -15,11 +15,11 @@ pub enum Notice {
     HandedUpAndAcknowledged(u8),
     /// The peer asks this end, which isn't starting, to start.
     PeerStarts,
-    /// The peer began anew, so this end halted.
+    /// The peer restarted, so this end halted.
     PeerRestarted,
-    /// The peer began anew, and so did this end. It dropped this many messages.
+    /// The peer restarted, and so did this end. It dropped this many messages.
     Restarted(u8),
-    /// A maintenance message came where none is taken.
+    /// A maintenance message was received in a state that takes none.
     MaintenanceSeen,
     /// A maintenance message is in the inbox.
     MaintenanceHandedUp,

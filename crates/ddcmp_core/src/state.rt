@@ -7,7 +7,7 @@ use ddcmp_frame::Nak;
 /// The states of a station.
 #[derive(Clone, Copy, Debug, PartialEq, Eq)]
 pub enum State {
-    /// Nothing is sent, and what comes is passed over.
+    /// Nothing is sent, and input is ignored.
     Halted,
     /// It asks its peer to start.
     IStart,
@@ -34,13 +34,13 @@ pub enum Owed {
 #[derive(Clone, Copy, Debug, PartialEq, Eq)]
 pub enum Timer {
     Off,
-    /// It was started, and `take_arm` hasn't told it yet.
+    /// It was started, and `take_arm` hasn't reported it yet.
     Fresh,
     On,
 }
 
 impl Timer {
-    /// As it is after something was sent that is to be answered: it goes on, or starts.
+    /// Returns the timer after a frame that is to be answered was sent: it goes on, or starts.
     pub(crate) fn started(self) -> Timer
         ensures { result ≡ timer_started self }
     {

@@ -7,7 +7,7 @@ use crate::state::{Owed, State, Timer};
 use ddcmp_window::{Inbox, SendRefusal, Sender, Seq, Store};
 use std::marker::Model;
 
-/// Why a station isn't started. The first that fits is answered.
+/// Why a station isn't started: the first that fits.
 #[derive(Clone, Copy, Debug, PartialEq, Eq)]
 pub enum StartRefusal {
     NotHalted,
@@ -40,12 +40,12 @@ pub struct Core<S: Store> {
     timer: Timer,
     sender: Sender<S>,
     inbox: Inbox<S>,
-    /// A running end whose inbox is empty answers a STRT by beginning anew.
+    /// Restart when the peer restarts, if the inbox is empty.
     restart: bool,
     counters: Counters,
 }
 
-// By hand, so that a core is let go by a call: a derived one is written out at each such place.
+// Manual, since a derived `Drop` is expanded wherever a core is dropped.
 impl<S: Store + Drop> Drop for Core<S> {
     fn drop(self) {
         let Core {
@@ -100,7 +100,8 @@ impl<S: Store> Core<S> {
     ghost use Rattle.ddcmp_core.specs.Counting.{no_counts, counters_after_expire};
     ghost use Rattle.ddcmp_core.specs.Core.{IsSound};
 
-    /// A halted station that keeps the messages to send in `out` and those that came in `inbox`.
+    /// Makes a halted station that keeps the messages to send in `out` and those that came in
+    /// `inbox`.
     pub fn new(out: S, inbox: S, restart: bool) -> Self
         requires out_empty { S.messages out ≡ [] }
         requires inbox_empty { S.messages inbox ≡ [] }
@@ -129,7 +130,7 @@ impl<S: Store> Core<S> {
         }
     }
 
-    /// Asks the peer to start: how many messages that waited to be sent were dropped.
+    /// Asks the peer to start; returns how many messages that waited to be sent were dropped.
     pub fn start(&mut self) -> Result<u8, StartRefusal>
         ensures state { self.new ≡ record self.old {
           station = if may_start self.old.station then after_start self.old.station
@@ -141,7 +142,8 @@ impl<S: Store> Core<S> {
         self.begin_halted(State::IStart, true)
     }
 
-    /// Enters the state of maintenance: how many messages that waited to be sent were dropped.
+    /// Enters the state of maintenance; returns how many messages that waited to be sent were
+    /// dropped.
     pub fn enter_maintenance(&mut self) -> Result<u8, StartRefusal>
         ensures state { self.new ≡ record self.old {
           station = if may_start self.old.station then after_enter_maintenance self.old.station
@@ -153,7 +155,8 @@ impl<S: Store> Core<S> {
         self.begin_halted(State::Maintenance, false)
     }
 
-    /// Begins in a state where it is halted and its inbox empty: how many messages were dropped.
+    /// Begins in a state, if it is halted and its inbox empty; returns how many messages were
+    /// dropped.
     fn begin_halted(&mut self, state: State, due: bool) -> Result<u8, StartRefusal>
         ensures state { self.new ≡ record self.old {
           station = if may_start self.old.station
@@ -170,7 +173,7 @@ impl<S: Store> Core<S> {
         Ok(self.begin(state, due))
     }
 
-    /// Begins with an empty inbox in a state: how many messages were dropped.
+    /// Begins with an empty inbox in a state; returns how many messages were dropped.
     fn begin(&mut self, state: State, due: bool) -> u8
         requires { length self.old.station.inbox ≡ 0 }
         ensures state { self.new
@@ -198,7 +201,7 @@ impl<S: Store> Core<S> {
         self.timer = Timer::Off;
     }
 
-    /// Why a message isn't sent: None where it is.
+    /// Returns why a message isn't sent, or None if it is.
     pub fn send_refusal(&self, message: &[u8]) -> Option<SendRefusal>
         ensures { result ≡ send_refusal_of self.now.limits self.now.station message.now }
     {
@@ -208,7 +211,7 @@ impl<S: Store> Core<S> {
         }
     }
 
-    /// Keeps a message to be sent, and answers its number.
+    /// Queues a message and returns its number.
     pub fn send(&mut self, message: &[u8]) -> Result<Seq, SendRefusal>
         ensures state { self.new ≡ record self.old {
           station = if may_send self.old.limits self.old.station message.now
@@ -242,7 +245,7 @@ impl<S: Store> Core<S> {
         }
     }
 
-    /// Moves the first message of the inbox to the front of `out`, and answers its length.
+    /// Moves the first message of the inbox to the front of `out` and returns its length.
     pub fn take(&mut self, out: &mut [u8]) -> Option<usize>
         requires { self.old.limits.longest ≤ length out.old }
         ensures state { self.new ≡ record self.old { station = after_take self.old.station } }
@@ -252,7 +255,7 @@ impl<S: Store> Core<S> {
         self.inbox.take(out)
     }
 
-    /// The timer has run out: whether it was on.
+    /// Handles an expiry of the timer; returns whether it was on.
     pub fn expire(&mut self) -> bool
         ensures state { self.new ≡ record self.old {
           station = after_expire self.old.station;
@@ -277,7 +280,8 @@ impl<S: Store> Core<S> {
         true
     }
 
-    /// Whether the timer was started since this was last asked: the caller sets its deadline.
+    /// Returns whether the timer was started since this was last asked: the caller sets its
+    /// deadline.
     pub fn take_arm(&mut self) -> bool
         ensures state { self.new ≡ record self.old { station = after_take_arm self.old.station } }
         ensures answer { result ≡ is_fresh self.old.station.timer }
@@ -289,14 +293,14 @@ impl<S: Store> Core<S> {
         true
     }
 
-    /// The state.
+    /// Returns the state.
     pub fn state(&self) -> State
         ensures { result ≡ self.now.station.state }
     {
         self.state
     }
 
-    /// The numbers.
+    /// Returns the numbers.
     pub fn numbers(&self) -> Numbers
         ensures { result ≡ record {
           r = record { 0 = self.now.station.r };
@@ -313,28 +317,28 @@ impl<S: Store> Core<S> {
         }
     }
 
-    /// The number of messages kept.
+    /// Returns the number of messages kept.
     pub fn outgoing(&self) -> u8
         ensures { result ≡ length self.now.station.out }
     {
         self.sender.len()
     }
 
-    /// Whether fewer messages are kept than the window allows.
+    /// Returns whether fewer messages are kept than the window allows.
     pub fn room(&self) -> bool
         ensures { IsTrue result ↔ (length self.now.station.out < self.now.limits.window) }
     {
         self.sender.room()
     }
 
-    /// The number of messages in the inbox.
+    /// Returns the number of messages in the inbox.
     pub fn waiting(&self) -> u8
         ensures { result ≡ length self.now.station.inbox }
     {
         self.inbox.len()
     }
 
-    /// The length of message `i` of the inbox, counted from 0.
+    /// Returns the length of message `i` of the inbox, counted from 0.
     pub fn waiting_length(&self, i: u8) -> usize
         requires { i < length self.now.station.inbox }
         ensures length { result ≡ length (slice_index_or self.now.station.inbox i []) }
@@ -343,7 +347,7 @@ impl<S: Store> Core<S> {
         self.inbox.length(i)
     }
 
-    /// Copies message `i` of the inbox, counted from 0, to the front of `out`, and answers its
+    /// Copies message `i` of the inbox, counted from 0, to the front of `out` and returns its
     /// length.
     pub fn waiting_at(&self, i: u8, out: &mut [u8]) -> usize
         requires there { i < length self.now.station.inbox }
@@ -355,21 +359,21 @@ impl<S: Store> Core<S> {
         self.inbox.copy(i, out)
     }
 
-    /// Whether the timer isn't off.
+    /// Returns whether the timer isn't off.
     pub fn timer_on(&self) -> bool
         ensures { result ≡ is_on self.now.station.timer }
     {
         self.timer != Timer::Off
     }
 
-    /// What was counted.
+    /// Returns what was counted.
     pub fn counters(&self) -> &Counters
         ensures { result.now ≡ self.now.counters }
     {
         &self.counters
     }
 
-    /// The length of all messages kept and in the inbox.
+    /// Returns the length of all messages kept and in the inbox.
     pub fn bytes(&self) -> usize
         ensures value { result
             ≡ sum_by length self.now.station.out + sum_by length self.now.station.inbox }
@@ -384,7 +388,7 @@ impl<S: Store> Core<S> {
     pub fn holds(&self)
         ensures { IsSound self.now.limits self.now.station }
     {
-        // Where a field is looked at, the proof knows what holds of all of them.
+        // If a field is looked at, the proof knows what holds of all of them.
         let _ = &self.state;
     }
 }

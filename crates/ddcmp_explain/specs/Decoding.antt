@@ -9,7 +9,7 @@ use Rattle.ddcmp_explain.specs.declared.hex_digits.TheConstants.{HEX_VALUES}
 use Rattle.ddcmp_explain.specs.Digits.{bytes_of, hex_value, left_in, pairs, unexpected_in}
 
 -- a piece after what was seen: the further bytes that the two spell, their first unexpected byte,
--- and where there is none the digit that is left over.
+-- and, if there is none, the digit that is left over.
 pub record Decodes (form : Form) (seen piece : List ℕ) (decoded : Decoded) (bytes : List ℕ)
     (high : Option ℕ) : Type 0 where
   pub whole : bytes_of form (seen ++ piece) ≡ bytes_of form seen ++ take decoded.count bytes
@@ -17,7 +17,7 @@ pub record Decodes (form : Form) (seen piece : List ℕ) (decoded : Decoded) (by
       ≡ option_map (λ i. length seen + i) decoded.unexpected
   pub left : decoded.unexpected ≡ None → left_in form (seen ++ piece) ≡ option_to_list high
 
--- sixteen digits stand together in a piece, and the eight bytes that they spell were put behind
+-- sixteen digits stand together in a piece, and the eight bytes that they spell were put after
 -- others
 pub record PutsEight (piece : List ℕ) (i : ℕ) (old : List ℕ) (count : ℕ) (new : List ℕ)
     : Type 0 where

@@ -21,7 +21,7 @@ use Rattle.ddcmp_explain.specs.Output.{line_in, lines, last_line}
 -- ---- which bytes are in which line
 
 -- how many bytes an item takes: a frame that is damaged or too long all that its header counts, and
--- a loss of synchronism none, since its start byte is passed over
+-- a loss of synchronism none, since its start byte is skipped
 abbrev pub taken_by : Item → ℕ
 taken_by (Good offset h) = frame_length h
 taken_by (HeaderCheck offset) = 0
@@ -29,11 +29,11 @@ taken_by (DataCheck offset h) = frame_length h
 taken_by (TooLong offset h) = frame_length h
 taken_by (Format offset fault) = 8
 
--- the offset behind an item
+-- the offset after an item
 abbrev pub behind : Item → ℕ
 behind item = item_offset item + taken_by item
 
--- What a line is of: an item; the bytes from an offset on that were passed over, and how many; the
+-- What a line is of: an item; the bytes from an offset on that were skipped, and how many; the
 -- place of the frame that is still open.
 pub data Part : Type 0 where
   Told : ReadItem → Part
@@ -43,13 +43,13 @@ pub data Part : Type 0 where
 abbrev pub passed : ℕ → ℕ → List Part
 passed from to = if nat_lt from to then Passed from (to - from) ∷ [] else []
 
--- items, and what was passed over before each, from an offset on
+-- items, and what was skipped before each, from an offset on
 unfoldable pub parts_from : ℕ → List ReadItem → List Part
 parts_from at [] = []
 parts_from at (given ∷ later) =
     passed at (item_offset given.0) ++ Told given ∷ parts_from (behind given.0) later
 
--- the offset behind the last of some items
+-- the offset after the last of some items
 unfoldable pub reached : ℕ → List ReadItem → ℕ
 reached at [] = at
 reached at (given ∷ later) = reached (behind given.0) later
@@ -57,7 +57,7 @@ reached at (given ∷ later) = reached (behind given.0) later
 abbrev pub opened : Place → List Part
 opened p = if nat_lt 0 (length p.rest) then Open p ∷ [] else []
 
--- what is told of the rest once the bytes have come to their end
+-- what is reported of the rest once the bytes have come to their end
 abbrev pub last_parts : ℕ → List ℕ → List Part
 last_parts max bytes =
     passed (reached 0 (items max bytes)) (ending max bytes).offset ++ opened (ending max bytes)
@@ -71,7 +71,7 @@ offset_of (Told given) = item_offset given.0
 offset_of (Passed from count) = from
 offset_of (Open p) = p.offset
 
--- how many bytes are in a line, where the frame that is open begins at `end`: a frame that is too
+-- how many bytes are in a line, if the frame that is open begins at `end`: a frame that is too
 -- long and still open has them in the line that says so
 abbrev pub count_in : ℕ → Part → ℕ
 count_in end (Told given) = if nat_lt end (behind given.0) then 0 else taken_by given.0
@@ -97,7 +97,7 @@ passed_text Plain from count =
 passed_text Json from count =
     json_start from ++ member (codes "discarded") (decimal count) ++ codes "}\n"
 
--- the header of a frame that is open, where it is whole
+-- the header of a frame that is open, if it is whole
 abbrev pub open_header : List ℕ → Option Header
 open_header bytes = if nat_lt (length bytes) 8 then None else result_ok (parsed (take 8 bytes))
 
@@ -145,16 +145,16 @@ abbrev pub lines_by : Bool → Notation → ℕ → List ℕ → List ℕ
 lines_by false notation max bytes = lines notation max bytes
 lines_by true notation max bytes = part_lines notation (parts_from 0 (items max bytes))
 
--- the lines of the items of some bytes, and of what was passed over before each where that is told
+-- the lines of the items of some bytes, and of what was skipped before each if that is reported
 abbrev pub lines_in : Style → ℕ → List ℕ → List ℕ
 lines_in style max bytes = lines_by style.discarded style.notation max bytes
 
--- what is told at the end of the bytes that no item took
+-- what is reported at the end of the bytes that no item took
 abbrev pub rest_by : Bool → Notation → ℕ → List ℕ → List ℕ
 rest_by false notation max bytes = []
 rest_by true notation max bytes = part_lines notation (last_parts max bytes)
 
--- what is written at the end: what no item took where that is told, and the last line
+-- what is written at the end: what no item took if that is reported, and the last line
 abbrev pub end_in : Style → ℕ → List ℕ → List ℕ
 end_in style max bytes =
     rest_by style.discarded style.notation max bytes ++ last_line style.notation max bytes

@@ -1,4 +1,4 @@
--- What explain writes and answers of a dump: what it does of the dump's text as digits, with all
+-- What explain writes and returns of a dump: what it does of the dump's text as digits, with all
 -- blank but those of its data.
 use Rattle.std.specs.Prelude.{◌≡◌, ℕ, List, ◌++◌, Some, Result, Ok, Err}
 use Rattle.ddcmp_input.specs.Dump.{DumpView, dump_after, dump_begun, not_dumped, shown}
@@ -10,7 +10,7 @@ use Rattle.ddcmp_explain.specs.declared.form.Form.TheVariants.{Hex}
 use Rattle.ddcmp_explain.specs.declared.style.Style.{Style}
 use Rattle.ddcmp_explain.specs.Explains.{Answer, Tells}
 
--- the answer, by that of the digits: where these are refused, the line is none of a dump in which
+-- the answer, by that of the digits: if these are refused, the line is none of a dump in which
 -- reading stands
 abbrev pub dump_answer : DumpView → Answer → Result (Unit {0}) DumpFault
 dump_answer at (Ok u) = Ok u

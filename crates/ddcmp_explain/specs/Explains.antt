@@ -1,4 +1,4 @@
--- What explain writes and answers.
+-- What explain writes and returns.
 use Rattle.std.specs.Prelude.{◌≡◌, ◌≢◌, ◌⊎◌, ◌↔◌, ℕ, ◌+◌, ◌-◌, ◌<◌, ◌^◌, List, [], ◌∷◌, ◌++◌}
 use Rattle.std.specs.Prelude.{length, if◌then◌else◌, is_none, false, IsOk, IsTrue, Option, Some}
 use Rattle.std.specs.Prelude.{None, Result, Ok, Err}
@@ -25,14 +25,14 @@ refusal_by None (digit ∷ left_digits) = Some Odd
 abbrev pub refusal : Form → List ℕ → Option ExplainFault
 refusal form input = refusal_by (unexpected_in form input) (left_in form input)
 
--- the whole text: the lines of the items of the whole bytes, and the last line where nothing is
+-- the whole text: the lines of the items of the whole bytes, and the last line if nothing is
 -- refused
 unfoldable pub explained : Form → Style → ℕ → List ℕ → List ℕ
 explained form style max input =
     lines_in style max (bytes_of form input)
     ++ (if is_none (refusal form input) then end_in style max (bytes_of form input) else [])
 
--- what explain answers
+-- what explain returns
 abbrev pub Answer : Type 0
 Answer = Result (Unit {0}) ExplainFault
 
@@ -70,7 +70,7 @@ pub record IsExplained (form : Form) (style : Style) (max : ℕ) (source : Sourc
   pub ok : (input : List ℕ) → source.before ≡ Some input
       → IsOk result ↔ ((refusal form input ≡ None) × (length input < 2 ^ 64 - 1)
       × (source.state ≡ Fine) × (sink.broken ≡ false) × (result ≢ Err Memory))
-  -- Read exactly where the source isn't fine, or has given 2^64 - 1 bytes with no write failing.
+  -- Read exactly if the source isn't fine, or has returned 2^64 - 1 bytes with no write failing.
   pub read : source.state ≢ Fine → result ≡ Err Read
   pub read_only : result ≡ Err Read
       → (source.state ≢ Fine) ⊎ GaveMost source.before source.after

@@ -19,7 +19,7 @@ use Rattle.ddcmp_frame.specs.Reading.{ReadItem}
 use Rattle.hex.specs.Hex.{encode_lower}
 use Rattle.ddcmp_explain.specs.Text.{flag_text, kind_text, lends}
 
--- a member of an object behind others: its name, and the text of its value
+-- a member of an object after others: its name, and the text of its value
 abbrev pub member : List ℕ → List ℕ → List ℕ
 member name value = codes ",\"" ++ name ++ codes "\":" ++ value
 
@@ -56,7 +56,7 @@ json_reason Rep sub = []
 json_reason Strt sub = []
 json_reason Stack sub = []
 
--- the name of a header as a value, and its fields as members behind it
+-- the name of a header as a value, and its fields as members after it
 abbrev pub json_header : Header → List ℕ
 json_header (Data h) = quoted (codes "DATA") ++ json_counted h
 json_header (Maint h) = quoted (codes "MAINT") ++ json_counted h

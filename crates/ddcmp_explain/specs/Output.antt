@@ -18,7 +18,7 @@ abbrev pub front_in : Notation → Item → List ℕ
 front_in Plain item = front_text item
 front_in Json item = json_front item
 
--- what stands behind data
+-- what stands after data
 abbrev pub behind_in : Notation → List ℕ
 behind_in Plain = codes "\n"
 behind_in Json = codes "\"}\n"

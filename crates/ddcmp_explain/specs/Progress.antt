@@ -14,7 +14,7 @@ use Rattle.ddcmp_explain.specs.Explains.{Tells}
 use Rattle.ddcmp_explain.specs.Heads.{Heads}
 use Rattle.ddcmp_explain.specs.declared.head.Head.{Head}
 
--- where what was passed over is told, how far the items reach
+-- if what was skipped is reported, how far the items reach
 abbrev pub ReachesTo : Bool → List ReadItem → ℕ → ℕ → Type 0
 ReachesTo false given offset taken = Unit {0}
 ReachesTo true given offset taken = reached 0 given ≡ offset + taken

@@ -1,7 +1,7 @@
 //! Numbers of one byte as text.
 ghost use Rattle.std.specs.Prelude.{◌≡◌, ◌≤◌, decimal, take};
 
-/// The digits of a number, with blanks behind them up to three bytes, and how many digits they are.
+/// The digits of a number, with blanks after them up to three bytes, and how many digits they are.
 /// They go by a table, since the numbers of frames come in no order that a branch could foresee.
 #[inline(always)]
 pub(crate) fn byte_text(number: u8) -> ([u8; 3], usize)

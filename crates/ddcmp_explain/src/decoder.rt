@@ -75,7 +75,7 @@ impl Decoder {
     {
         let mut count = 0;
         let mut i = 0;
-        // Where sixteen digits don't stand together they are looked for again after a wait, which
+        // If sixteen digits don't stand together they are looked for again after a wait, which
         // doubles up to the longest.
         let mut tries_at = 0;
         let mut wait = SHORTEST;
@@ -125,7 +125,7 @@ impl Decoder {
     }
 }
 
-/// The value of the digit at `i`, where one is there.
+/// Returns the value of the digit at `i`, if one is there.
 #[inline(always)]
 fn value_at(piece: &[u8], i: usize) -> Option<u8>
     ensures value { IfSome result (λ v. hex_value_of (get_or piece.now i 0) ≡ Some v) }

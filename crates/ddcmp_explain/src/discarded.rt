@@ -33,7 +33,7 @@ fn put_passed(line: &mut [u8; LINE], notation: Notation, from: u64, count: u64) 
     }
 }
 
-/// Writes the line of bytes that were passed over: the offset of the first, and how many.
+/// Writes the line of skipped bytes: the offset of the first, and how many.
 pub fn write_discarded<W: Sink>(
     page: &mut Page,
     writer: &mut W,
@@ -93,7 +93,7 @@ fn put_open_front(
     }
 }
 
-/// How many bytes are there, of how many.
+/// Returns how many bytes are there, of how many.
 fn put_open_end(line: &mut [u8; LINE], notation: Notation, have: u64, whole: u64) -> usize
     ensures puts { Puts line.old 0 line.new result (open_end notation have whole) }
     ensures within { result ≤ 80 }
@@ -116,7 +116,7 @@ fn put_open_end(line: &mut [u8; LINE], notation: Notation, have: u64, whole: u64
     }
 }
 
-/// The number of bytes of a frame on the line.
+/// Returns the number of bytes of a frame on the line.
 pub(crate) fn frame_length(header: &Header) -> u64
     ensures value { result ≡ length_of header.now }
     ensures most { result ≤ 16393 }
@@ -136,8 +136,8 @@ fn open_length(header: &Option<Header>) -> u64
     }
 }
 
-/// The line of the frame that is still open: its offset, its header where that is whole, and how
-/// many of its bytes came.
+/// Writes the line of the frame that is still open: its offset, its header if that is whole, and
+/// how many of its bytes came.
 pub(crate) fn write_open<W: Sink>(
     page: &mut Page,
     writer: &mut W,

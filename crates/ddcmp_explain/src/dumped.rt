@@ -1,4 +1,4 @@
-//! What the bytes of a dump say, as `hexdump -C`, `xxd` and `od -A x -t x1` write it.
+//! Explains the bytes of a dump, as `hexdump -C`, `xxd` and `od -A x -t x1` write it.
 ghost use Rattle.std.specs.Prelude.{◌≡◌, ◌≢◌, ◌⊎◌, ◌↔◌, ◌+◌, ◌-◌, ◌<◌, ◌≤◌, ◌^◌, ◌++◌, [], false};
 ghost use Rattle.std.specs.Prelude.{IsOk, IsTrue, List, ℕ, None, Option, Some, length};
 ghost use Rattle.std.specs.Io.KnownBytes.{Consumes};
@@ -78,7 +78,7 @@ fn take_dump<R: Source, W: Sink>(
     Err(ExplainFault::Read)
 }
 
-/// What is answered of a dump whose digits were explained so.
+/// Returns the result for a dump whose digits were explained so.
 fn answer(explained: Result<(), ExplainFault>, dump: &Dump) -> Result<(), DumpFault>
     ensures { result ≡ dump_answer dump.now explained }
 {
@@ -93,8 +93,8 @@ fn answer(explained: Result<(), ExplainFault>, dump: &Dump) -> Result<(), DumpFa
 }
 
 /// Writes the line of each item of the bytes that a dump shows, and a last line of totals, in a
-/// style. A line that is none of a dump is told by its number; what the lines before it say is
-/// written.
+/// style. A line that is none of a dump is reported by its number; the items of the lines before it
+/// are written.
 pub fn explain_dump<R: Source, W: Sink>(
     alloc: Global,
     reader: &mut R,
@@ -106,7 +106,7 @@ pub fn explain_dump<R: Source, W: Sink>(
     requires whole { W.broken writer.old ≡ false }
     requires max { (0 < max) × (max ≤ MAX_COUNT) }
 
-    // Where the input is known: what was written, and when each answer comes.
+    // If the input is known: what was written, and when each result comes.
     ensures told { (input : List ℕ) → R.left reader.old ≡ Some input
         → ExplainsDump style max input (R.left reader.new)
         (W.contents writer.old) (W.contents writer.new) result }
@@ -115,7 +115,7 @@ pub fn explain_dump<R: Source, W: Sink>(
         × (R.state reader.new ≡ Worst.Fine) × (W.broken writer.new ≡ false)
         × (result ≢ Err DumpFault.Memory)) }
 
-    // Read exactly where the reader isn't fine, or has given 2^64 - 1 bytes with no write failing.
+    // Read exactly if the reader isn't fine, or has returned 2^64 - 1 bytes with no write failing.
     ensures read { R.state reader.new ≢ Worst.Fine → result ≡ Err DumpFault.Read }
     ensures read_only { result ≡ Err DumpFault.Read
         → (R.state reader.new ≢ Worst.Fine) ⊎ GaveMost (R.left reader.old) (R.left reader.new) }

@@ -17,7 +17,7 @@ use ddcmp_io::{Got, Sink, Source, Worst};
 /// How many bytes of input are read at once.
 pub(crate) const PIECE: usize = 16384;
 
-/// What the input so far says.
+/// Explains an input, piece by piece.
 #[derive(Drop)]
 pub(crate) struct Explainer {
     pub(crate) decoder: Decoder,
@@ -67,7 +67,7 @@ impl Explainer {
         match self.lines.flush(writer) {
             Ok(()) => match decoded.unexpected {
                 None => Ok(()),
-                // A reader that has given the most bytes counts as failed.
+                // A reader that has returned the most bytes counts as failed.
                 Some(_) if self.seen == u64::MAX => Err(ExplainFault::Read),
                 Some(index) => Err(ExplainFault::NotHex(before + index as u64)),
             },

@@ -1,4 +1,4 @@
-//! What a text of bytes says, line by line.
+//! Explains a text of bytes, line by line.
 ghost use Rattle.std.specs.Prelude.{◌≡◌, ◌<◌, ◌≤◌, false};
 ghost use Rattle.ddcmp_frame.specs.Limits.{MAX_COUNT};
 ghost use Rattle.ddcmp_explain.specs.Discarded.{items_in};

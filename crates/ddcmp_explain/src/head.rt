@@ -24,7 +24,7 @@ impl Head {
         }
     }
 
-    /// Takes a byte, after which so many bytes are open.
+    /// Takes a byte, after which this many bytes are open.
     pub(crate) fn follow(&mut self, byte: u8, left_open: usize)
         ensures { (rest more : List ℕ) → Heads self.old rest → Follows rest byte more
             → left_open ≡ length more → Heads self.new more }
@@ -39,7 +39,7 @@ impl Head {
         self.count = left_open;
     }
 
-    /// Keeps a byte behind those that are held.
+    /// Appends a byte to those that are held.
     fn append(&mut self, byte: u8)
         requires few { self.old.count < 8 }
         ensures count { self.new.count ≡ self.old.count }
@@ -63,7 +63,7 @@ impl Head {
         self.bytes[..left_open].copy_from_slice(&held[end - left_open..end]);
     }
 
-    /// The header, where it is whole.
+    /// Returns the header, if it is whole.
     pub(crate) fn header(&self) -> Option<Header>
         ensures { (rest : List ℕ) → Heads self.now rest → result ≡ open_header rest }
     {

@@ -2,8 +2,8 @@
 ghost use Rattle.std.specs.Prelude.{◌≡◌, ◌<◌, IfSome};
 ghost use Rattle.ddcmp_explain.specs.Digits.{hex_value as value_of};
 
-/// The value of a hexadecimal digit of either case. It goes by a table, since digits of data come
-/// in no order that a branch could foresee.
+/// Returns the value of a hexadecimal digit of either case. It goes by a table, since digits of
+/// data come in no order that a branch could foresee.
 #[inline(always)]
 pub(crate) fn hex_value(byte: u8) -> Option<u8>
     ensures value { result ≡ value_of byte }
@@ -13,7 +13,7 @@ pub(crate) fn hex_value(byte: u8) -> Option<u8>
     if value < 16 { Some(value) } else { None }
 }
 
-// Entry `b` is the value of the digit `b`, and 0xFF where `b` is none.
+// Entry `b` is the value of the digit `b`, and 0xFF if `b` is none.
 #[rattlefmt::skip]
 static HEX_VALUES: [u8; 256] = [
     0xFF, 0xFF, 0xFF, 0xFF, 0xFF, 0xFF, 0xFF, 0xFF, 0xFF, 0xFF, 0xFF, 0xFF, 0xFF, 0xFF, 0xFF, 0xFF,

@@ -21,7 +21,7 @@ fn values_of(digits: u8x16) -> u8x16
     decimal.simd_lt(u8x16::splat(10)).select(decimal, by_letter)
 }
 
-/// The bytes of sixteen values, two each, the high one first.
+/// Returns the bytes of sixteen values, two each, the high one first.
 #[inline(always)]
 fn bytes_of(values: u8x16) -> u8x8
     requires { Each1 (λ v. v < 16) values }
@@ -32,8 +32,8 @@ fn bytes_of(values: u8x16) -> u8x8
     high * u8x8::splat(16) + low
 }
 
-/// Puts the eight bytes that sixteen digits from `i` on spell, where so many stand together, no
-/// digit waits for its second and they are looked for by now; it tells whether it did.
+/// Puts the eight bytes that sixteen digits from `i` on spell, if sixteen stand together, no digit
+/// waits for its second and they are looked for by now; returns whether it did.
 #[inline(always)]
 pub(crate) fn put_eight(
     piece: &[u8],

@@ -34,7 +34,7 @@ fn flag_members(flags: Flags) -> &'static [u8; 12]
     }
 }
 
-/// The fields that all headers have.
+/// Returns the fields that all headers have.
 fn put_fields(line: &mut [u8; LINE], at: usize, flags: Flags, resp: u8, num: u8, addr: u8) -> usize
     requires { at + 44 ≤ LINE }
     ensures puts { Puts line.old at line.new result (json_fields flags resp num addr) }
@@ -117,7 +117,7 @@ fn put_counted<const N: usize>(
     put_fields(line, behind_count, h.flags, h.resp, h.num, h.addr)
 }
 
-/// The name of a header as a value, and its fields.
+/// Returns the name of a header as a value, and its fields.
 pub(crate) fn put_header(line: &mut [u8; LINE], at: usize, header: &Header) -> usize
     requires { at + 103 ≤ LINE }
     ensures puts { Puts line.old at line.new result (json_header header.now) }
@@ -143,7 +143,7 @@ fn put_fault(line: &mut [u8; LINE], at: usize, fault: &HeaderFault) -> usize
     }
 }
 
-/// The beginning of an object: the offset, and a text behind it.
+/// Puts the beginning of an object: the offset, and a text after it.
 pub(crate) fn put_start(line: &mut [u8; LINE], offset: u64, text: &[u8]) -> usize
     requires { length text.now ≤ 22 }
     ensures puts { Puts line.old 0 line.new result (json_start offset ++ text.now) }
@@ -154,7 +154,7 @@ pub(crate) fn put_start(line: &mut [u8; LINE], offset: u64, text: &[u8]) -> usiz
     put_slice(line, behind_offset, text)
 }
 
-/// The header of a frame that was damaged or too long.
+/// Returns the header of a frame that was damaged or too long.
 fn put_damaged(line: &mut [u8; LINE], at: usize, header: &Header) -> usize
     requires { at + 109 ≤ LINE }
     ensures puts { Puts line.old at line.new result
@@ -192,7 +192,7 @@ fn put_item(line: &mut [u8; LINE], item: &Item) -> usize
     }
 }
 
-/// What stands behind an item: the name of the data that it lends, or the end of its object.
+/// Returns what comes after an item: the name of the data that it lends, or the end of its object.
 fn item_end(item: &Item) -> &'static [u8]
     ensures value { result.now
         ≡ (if lends_data item.now then codes ",\"data\":\"" else codes "}\n") }
@@ -201,7 +201,7 @@ fn item_end(item: &Item) -> &'static [u8]
     if lends(item) { b",\"data\":\"" } else { b"}\n" }
 }
 
-/// The line of an item, up to the data that it lends.
+/// Returns the line of an item, up to the data that it lends.
 #[inline(never)]
 pub(crate) fn put_json_front(line: &mut [u8; LINE], item: &Item) -> usize
     ensures puts { Puts line.old 0 line.new result (json_front item.now) }
@@ -211,7 +211,8 @@ pub(crate) fn put_json_front(line: &mut [u8; LINE], item: &Item) -> usize
     put_slice(line, behind_item, item_end(item))
 }
 
-/// The last line: how many items, how many bytes, and how many of these of an unfinished frame.
+/// Returns the last line: how many items, how many bytes, and how many of these of an unfinished
+/// frame.
 #[inline(never)]
 pub(crate) fn put_json_totals(
     line: &mut [u8; LINE],

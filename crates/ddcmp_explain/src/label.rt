@@ -50,7 +50,7 @@ fn put_control_label(
     }
 }
 
-/// What stands behind a number of bytes.
+/// Returns what comes after a number of bytes.
 fn put_unit(line: &mut [u8; LINE], at: usize, count: u16) -> usize
     requires { at + 7 ≤ LINE }
     ensures puts { Puts line.old at line.new result
@@ -64,7 +64,7 @@ fn put_unit(line: &mut [u8; LINE], at: usize, count: u16) -> usize
     }
 }
 
-/// How many bytes of data a frame has.
+/// Returns how many bytes of data a frame has.
 fn put_count_label(line: &mut [u8; LINE], at: usize, count: u16) -> usize
     requires { at + 29 ≤ LINE }
     ensures puts { Puts line.old at line.new result (count_label count) }
@@ -88,7 +88,7 @@ fn put_data_label(line: &mut [u8; LINE], at: usize, num: u8, resp: u8, count: u1
     put_count_label(line, behind_resp, count)
 }
 
-/// The label of a frame, by its header.
+/// Returns the label of a frame, by its header.
 fn put_frame_label(line: &mut [u8; LINE], at: usize, header: &Header) -> usize
     requires { at + 46 ≤ LINE }
     ensures puts { Puts line.old at line.new result (frame_label header.now) }
@@ -104,7 +104,7 @@ fn put_frame_label(line: &mut [u8; LINE], at: usize, header: &Header) -> usize
     }
 }
 
-/// The label of a frame: where it ends.
+/// Puts the label of a frame; returns where it ends.
 pub fn label_frame(line: &mut [u8; LABEL_ROOM], header: &Header) -> usize
     ensures puts { Puts line.old 0 line.new result (frame_label header.now) }
     ensures within { result ≤ 46 }
@@ -112,7 +112,7 @@ pub fn label_frame(line: &mut [u8; LABEL_ROOM], header: &Header) -> usize
     put_frame_label(line, 0, header)
 }
 
-/// The label of an item, which may be none that is good: where it ends.
+/// Puts the label of an item, which may be none that is good; returns where it ends.
 #[tactic(auto, unfolding(crate::specs::Label::item_label))]
 pub fn label_item(line: &mut [u8; LABEL_ROOM], item: &Item) -> usize
     ensures puts { Puts line.old 0 line.new result (item_label item.now) }

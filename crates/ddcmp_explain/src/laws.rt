@@ -4,9 +4,9 @@ ghost use Rattle.std.specs.Prelude.{◌≡◌, List, ℕ, length};
 ghost use Rattle.ddcmp_frame.specs.Reading.{ending};
 ghost use Rattle.ddcmp_explain.specs.Discarded.{Adjoin, count_in_all, parts};
 
-/// Where what was passed over is told, every byte is in one line: the first line begins at offset
-/// 0, each other where the one before it ends, and the last ends where the bytes do. So the numbers
-/// of bytes in all lines make the number of bytes.
+/// If skipped bytes are reported, every byte is in one line: the first line begins at offset 0,
+/// each other where the one before it ends, and the last ends where the bytes do. So the numbers of
+/// bytes in all lines make the number of bytes.
 pub fn every_byte_is_in_one_line()
     ensures adjoin { (max : ℕ) (bytes : List ℕ)
         → Adjoin (ending max bytes).offset 0 (parts max bytes) (length bytes) }

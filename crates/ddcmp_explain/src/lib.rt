@@ -1,5 +1,5 @@
-//! What the bytes of a line say, written line by line: the command `ddcmp explain` over any source
-//! and sink.
+//! The bytes of a line in words, line by line: the command `ddcmp explain` over any source and
+//! sink.
 #![tactic(auto)]
 
 mod byte_texts;

@@ -24,8 +24,8 @@ pub struct Reached {
     pub taken: u64,
 }
 
-/// The offset of an item, and how many bytes it takes: a header that is damaged takes none, since
-/// only its start byte is passed over.
+/// Returns the offset of an item, and how many bytes it takes: a header that is damaged takes none,
+/// since only its start byte is skipped.
 pub fn reached_by(item: &Item) -> Reached
     ensures offset { result.offset ≡ item_offset item.now }
     ensures taken { result.taken ≡ taken_by item.now }
@@ -40,14 +40,14 @@ pub fn reached_by(item: &Item) -> Reached
     Reached { offset, taken }
 }
 
-/// What the bytes so far say, on its way to a sink.
+/// The lines of the bytes so far, in order, for a sink.
 #[derive(Drop)]
 pub(crate) struct Lines {
     pub(crate) frames: Reader,
     pub(crate) style: Style,
     pub(crate) items: u64,
     pub(crate) page: Page,
-    // Where what was passed over is told: how far the items reach, and how the frame begins that is
+    // If skipped bytes are reported: how far the items reach, and how the frame begins that is
     // still open.
     pub(crate) reached: Reached,
     pub(crate) head: Head,
@@ -79,8 +79,7 @@ impl Lines {
         }
     }
 
-    /// Takes bytes up to the first that completes an item, and hands over its line. It tells how
-    /// many.
+    /// Takes bytes up to the first that completes an item, and writes its line. Returns how many.
     #[inline(always)]
     fn push<W: Sink>(&mut self, writer: &mut W, bytes: &[u8]) -> usize
         requires some { 0 < length bytes.now }
@@ -110,8 +109,8 @@ impl Lines {
         used
     }
 
-    /// Takes a byte, and hands over the line of the item that it completes, and before it that of
-    /// what was passed over.
+    /// Takes a byte, and writes the line of the item that it completes, and before it that of what
+    /// was skipped.
     fn push_one<W: Sink>(&mut self, writer: &mut W, byte: u8) -> usize
         requires fits { self.old.frames.offset + 1 < 2 ^ 64 }
         requires discarded { self.old.style.discarded ≡ true }
@@ -138,7 +137,7 @@ impl Lines {
         1
     }
 
-    /// Hands over the line of what was passed over before an item.
+    /// Writes the line of what was skipped before an item.
     fn reach<W: Sink>(&mut self, writer: &mut W, item: &Item)
         ensures frames { self.new.frames ≡ self.old.frames }
         ensures style { self.new.style ≡ self.old.style }
@@ -155,7 +154,7 @@ impl Lines {
         self.reached = reached;
     }
 
-    /// Hands over the line of what was passed over up to an offset.
+    /// Writes the line of what was skipped up to an offset.
     fn pass_to<W: Sink>(&mut self, writer: &mut W, to: u64)
         ensures frames { self.new.frames ≡ self.old.frames }
         ensures style { self.new.style ≡ self.old.style }
@@ -173,7 +172,7 @@ impl Lines {
         }
     }
 
-    /// Hands over what is told of the bytes behind the last item.
+    /// Writes the lines of the bytes after the last item.
     fn tell_rest<W: Sink>(&mut self, writer: &mut W, end: u64, left_open: u64)
         ensures frames { self.new.frames ≡ self.old.frames }
         ensures style { self.new.style ≡ self.old.style }
@@ -198,7 +197,7 @@ impl Lines {
         }
     }
 
-    /// Hands over what is told of the bytes behind the last item, where that is told.
+    /// Writes the lines of the bytes after the last item, if they are reported.
     fn tell_end<W: Sink>(&mut self, writer: &mut W, bytes: u64, left_open: u64)
         ensures frames { self.new.frames ≡ self.old.frames }
         ensures style { self.new.style ≡ self.old.style }
@@ -216,7 +215,7 @@ impl Lines {
         self.tell_rest(writer, bytes.saturating_sub(left_open), left_open);
     }
 
-    /// Takes bytes, and hands over the lines of the items that they complete.
+    /// Takes bytes, and writes the lines of the items that they complete.
     pub(crate) fn push_all<W: Sink>(&mut self, writer: &mut W, bytes: &[u8])
         requires { self.old.frames.offset + length bytes.now < 2 ^ 64 }
         ensures max { self.new.frames.max ≡ self.old.frames.max }

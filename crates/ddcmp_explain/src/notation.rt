@@ -21,7 +21,7 @@ pub enum Notation {
 }
 
 impl Notation {
-    /// The line of an item, up to the data that it lends.
+    /// Returns the line of an item, up to the data that it lends.
     #[inline(always)]
     fn put_front(self, line: &mut [u8; LINE], item: &Item) -> usize
         ensures puts { Puts line.old 0 line.new result (front_in self item.now) }
@@ -33,7 +33,7 @@ impl Notation {
         }
     }
 
-    /// What stands behind data.
+    /// Returns what comes after data.
     #[inline(always)]
     fn write_behind<W: Sink>(self, page: &mut Page, writer: &mut W)
         ensures { HandsOver (output_of W.broken W.contents writer.old page.old)
@@ -45,7 +45,7 @@ impl Notation {
         }
     }
 
-    /// The text of the last line.
+    /// Returns the text of the last line.
     fn put_totals(self, line: &mut [u8; LINE], items: u64, bytes: u64, left_open: u64) -> usize
         ensures puts { Puts line.old 0 line.new result (totals_in self items bytes left_open) }
         ensures within { result ≤ 90 }

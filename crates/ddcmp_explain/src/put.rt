@@ -9,8 +9,8 @@ use itoa::write_digits;
 /// More than the text of an item takes, without its data.
 pub(crate) const LINE: usize = 192;
 
-/// Puts a text of a length that the compiler knows behind the first `at` bytes, and tells where it
-/// ends. It is stored at once, where a copy between slices first asks whether they overlap.
+/// Puts a text of a length that the compiler knows after the first `at` bytes; returns where it
+/// ends. It is stored at once, while a copy between slices first asks whether they overlap.
 #[inline(always)]
 pub(crate) fn put<const N: usize>(line: &mut [u8; LINE], at: usize, text: &[u8; N]) -> usize
     requires { at + N ≤ LINE }
@@ -107,7 +107,7 @@ static POWERS: [u64; 20] = [
     10_000_000_000_000_000_000,
 ];
 
-/// How many decimal digits a number has.
+/// Returns how many decimal digits a number has.
 #[inline(always)]
 fn digits_in(number: u64) -> usize
     ensures value { result ≡ length (decimal number) }

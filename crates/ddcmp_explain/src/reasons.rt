@@ -4,7 +4,7 @@ ghost use Rattle.ddcmp_explain.specs.Json.{reason_in_words};
 
 use ddcmp_frame::Nak;
 
-/// The reason of a NAK in words, as JSON and a trace tell it.
+/// Returns the reason of a NAK in words, as JSON and a trace have it.
 pub fn reason_name(reason: Nak) -> &'static [u8]
     ensures name { result.now ≡ reason_in_words reason }
     ensures within { length result.now ≤ 30 }

@@ -1,12 +1,12 @@
-//! What is told of bytes.
+//! What is reported of bytes.
 use crate::notation::Notation;
 
-/// What is told of bytes, and how.
+/// What is reported of bytes, and how.
 #[derive(Clone, Copy, Debug, PartialEq, Eq)]
 pub struct Style {
     pub notation: Notation,
-    /// Whether bytes that no item takes have lines of their own: those that were passed over, and
-    /// those of a frame that is still open.
+    /// Whether bytes that no item takes have lines of their own: those that were skipped, and those
+    /// of a frame that is still open.
     pub discarded: bool,
 }
 

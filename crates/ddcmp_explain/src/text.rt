@@ -9,9 +9,9 @@ ghost use Rattle.ddcmp_explain.specs.Text.{front_text, totals};
 use crate::put::{LINE, put, put_byte, put_number};
 use ddcmp_frame::{ControlType, Counted, Flags, Header, HeaderFault, Item, Short};
 
-/// The name of a control frame, up to the number that follows it, with blanks behind it up to ten
-/// bytes, and how long it is. The compiler makes a table of it, since kinds come in no order that a
-/// branch could foresee.
+/// Returns the name of a control frame, up to the number that follows it, with blanks after it up
+/// to ten bytes, and how long it is. The compiler makes a table of it, since kinds come in no order
+/// that a branch could foresee.
 #[inline(always)]
 fn kind_name(kind: ControlType) -> (&'static [u8; 10], usize)
     ensures name { take result.1 result.0.now ≡ kind_text kind ++ codes " sub=" }
@@ -52,7 +52,7 @@ fn flags_name(flags: Flags) -> &'static [u8; 14]
     }
 }
 
-/// The fields that all headers have.
+/// Returns the fields that all headers have.
 #[inline(always)]
 fn put_fields(line: &mut [u8; LINE], at: usize, flags: Flags, resp: u8, num: u8, addr: u8) -> usize
     requires { at + 34 ≤ LINE }
@@ -166,7 +166,7 @@ fn put_item(line: &mut [u8; LINE], item: &Item) -> usize
     }
 }
 
-/// Whether an item lends data.
+/// Returns whether an item lends data.
 #[inline(always)]
 pub(crate) fn lends(item: &Item) -> bool
     ensures { result ≡ lends_data item.now }
@@ -181,7 +181,7 @@ pub(crate) fn lends(item: &Item) -> bool
     }
 }
 
-/// What stands behind an item: a blank before the data that it lends, or the end of its line.
+/// Returns what comes after an item: a blank before the data that it lends, or the end of its line.
 #[inline(always)]
 fn item_end(item: &Item) -> &'static [u8; 1]
     ensures { result.now ≡ (if lends_data item.now then codes " " else codes "\n") }
@@ -189,7 +189,7 @@ fn item_end(item: &Item) -> &'static [u8; 1]
     if lends(item) { b" " } else { b"\n" }
 }
 
-/// The line of an item, up to the data that it lends.
+/// Returns the line of an item, up to the data that it lends.
 #[inline(always)]
 pub(crate) fn put_front(line: &mut [u8; LINE], item: &Item) -> usize
     ensures puts { Puts line.old 0 line.new result (front_text item.now) }
@@ -199,7 +199,8 @@ pub(crate) fn put_front(line: &mut [u8; LINE], item: &Item) -> usize
     put(line, behind_item, item_end(item))
 }
 
-/// The last line: how many items, how many bytes, and how many of these of an unfinished frame.
+/// Returns the last line: how many items, how many bytes, and how many of these of an unfinished
+/// frame.
 pub(crate) fn put_totals(line: &mut [u8; LINE], items: u64, bytes: u64, left_open: u64) -> usize
     ensures puts { Puts line.old 0 line.new result (totals items bytes left_open) }
     ensures within { result ≤ 80 }

@@ -18,7 +18,7 @@ use Rattle.ddcmp_frame.specs.Reading.{ReadItem, Place, items, ending}
 use Rattle.ddcmp_frame.specs.Resume.{NoneBegins, AtMostALoss}
 
 -- A reader: the most data that it takes, the number of bytes so far, whether synchronism is lost,
--- and of the unfinished frame its bytes, or where it was told to be too long how many have come
+-- and of the unfinished frame its bytes, or if it was reported as too long how many have come
 -- and how many are still to come; last the data that it lends.
 pub record ReaderView : Type 0 where
   pub max : ℕ

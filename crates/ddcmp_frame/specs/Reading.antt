@@ -20,7 +20,7 @@ abbrev pub ReadItem : Type 0
 ReadItem = Item × List ℕ
 
 -- Where reading stands: the offset, whether synchronism is lost, whether the frame that begins
--- here was told to be too long, and the text from there on.
+-- here was reported as too long, and the text from there on.
 pub record Place : Type 0 where
   pub offset : ℕ
   pub lost : Bool
@@ -47,7 +47,7 @@ is_data_right n t =
     (slice_index t (n + 8) == check_of (data_after_header n t) % 256)
     && (slice_index t (n + 9) == check_of (data_after_header n t) / 256)
 
--- A header whose COUNT is above max is told once and passed over with its data, unchecked;
+-- A header whose COUNT is above max is reported once and skipped with its data, unchecked;
 -- another takes its data and their check. Until the last byte the frame is unfinished.
 abbrev pub by_length : Place → Header → ℕ → Bool → Bool → Option (List ReadItem × Place)
 by_length p h n true false = Some ((TooLong p.offset h, []) ∷ [], record p { told = true })
@@ -68,7 +68,7 @@ by_count max p h None = Some ((Good p.offset h, []) ∷ [], place_after 8 false 
 by_count max p h (Some n) = by_length p h n (nat_lt max n) p.told
 
 -- What the first eight bytes are decides. Where their check is wrong the start byte alone is
--- given up, and the loss of synchronism is told once.
+-- given up, and the loss of synchronism is reported once.
 abbrev pub by_verdict : ℕ → Place → Result Header HeaderFault → Option (List ReadItem × Place)
 by_verdict max p (Err NotAStart) = Some ([], place_after 1 p.lost p)
 by_verdict max p (Err Check) =
@@ -88,11 +88,11 @@ by_front max p (b ∷ t) =
     else Some ([], place_after 1 p.lost p)
 
 -- One row of the table: the items that are given at a place and the place where reading goes on;
--- None where it ends.
+-- None if it ends.
 unfoldable pub row : ℕ → Place → Option (List ReadItem × Place)
 row max p = by_front max p p.rest
 
--- what each row takes some of: two for each byte, and one where nothing was told
+-- what each row takes some of: two for each byte, and one if nothing was reported
 abbrev pub weight : Place → ℕ
 weight p = 2 * length p.rest + (if p.told then 0 else 1)
 
@@ -115,7 +115,7 @@ ending max text = (read max (beginning text)).place
 abbrev pub open_at_end : ℕ → List ℕ → ℕ
 open_at_end max text = length (ending max text).rest
 
--- those of them that a reader has to keep: none of a frame that was told to be too long
+-- those of them that a reader has to keep: none of a frame that was reported as too long
 abbrev pub kept_at_end : ℕ → List ℕ → ℕ
 kept_at_end max text = if (ending max text).told then 0 else open_at_end max text
 

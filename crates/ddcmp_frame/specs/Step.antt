@@ -14,7 +14,7 @@ use Rattle.ddcmp_frame.specs.Wire.{wire, IsFrame}
 use Rattle.ddcmp_frame.specs.Reading.{ReadItem, Place, place_after, count_of, data_after_header}
 use Rattle.ddcmp_frame.specs.Reader.{frame_length, candidate_length}
 
--- a place where nothing was told
+-- a place where nothing was reported
 abbrev pub place_untold : ℕ → Bool → List ℕ → Place
 place_untold at lost rest = record { offset = at; lost = lost; told = false; rest = rest }
 

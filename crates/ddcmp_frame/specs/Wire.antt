@@ -27,7 +27,7 @@ six_bytes (Control h) =
 abbrev pub eight_bytes : Header → List ℕ
 eight_bytes h = six_bytes h ++ check_pair (check_of (six_bytes h))
 
--- what follows a header: where it has COUNT, the data and the check of the data alone
+-- what follows a header: if it has COUNT, the data and the check of the data alone
 abbrev pub after_header : Header → List ℕ → List ℕ
 after_header (Data h) data_bytes = data_bytes ++ check_pair (check_of data_bytes)
 after_header (Maint h) data_bytes = data_bytes ++ check_pair (check_of data_bytes)

@@ -27,10 +27,10 @@ pub const STRT_TYPE: u8 = 6;
 /// The TYPE of a STACK.
 pub const STACK_TYPE: u8 = 7;
 
-/// The SUBTYPE of a NAK: header block check.
+/// The SUBTYPE of a NAK: header CRC.
 pub const HEADER_CHECK_REASON: u8 = 1;
 
-/// The SUBTYPE of a NAK: data block check.
+/// The SUBTYPE of a NAK: data CRC.
 pub const DATA_CHECK_REASON: u8 = 2;
 
 /// The SUBTYPE of a NAK: reply to REP.

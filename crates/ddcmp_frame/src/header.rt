@@ -59,7 +59,7 @@ impl Model for Short {
 }
 
 impl Short {
-    /// The fields in this order; None where `sub` is above 63.
+    /// Makes one of these fields, in this order; None if `sub` is above 63.
     pub fn new(
         kind: ControlType,
         sub: u8,
@@ -120,7 +120,7 @@ impl Model for Counted {
 }
 
 impl Counted {
-    /// The fields in this order; None where `count` is 0 or above `MAX_COUNT`.
+    /// Makes one of these fields, in this order; None if `count` is 0 or above `MAX_COUNT`.
     pub fn new(count: u16, flags: Flags, resp: u8, num: u8, addr: u8) -> Option<Self>
         ensures valid { IsSome result ↔ ((0 < count) × (count ≤ MAX_COUNT)) }
         ensures value { IfSome result (λ h. h
@@ -185,7 +185,7 @@ fn kind_of(code: u8) -> Option<ControlType>
     }
 }
 
-/// Whether the last two of eight bytes are the check of the first six.
+/// Returns whether the last two of eight bytes are the check of the first six.
 #[tactic(auto, unfolding(crate::specs::Spelling::is_check_right))]
 #[inline(always)]
 fn check_holds(bytes: &[u8; 8]) -> bool
@@ -237,7 +237,7 @@ fn counted_in(bytes: &[u8; 8]) -> Option<Counted>
 }
 
 impl Header {
-    /// The header that eight bytes are, or the first fault.
+    /// Returns the header that eight bytes are, or the first fault.
     #[inline(always)]
     pub fn parse(bytes: &[u8; 8]) -> Result<Header, HeaderFault>
         // A header and its check are read as this header, and nothing else is read as one.
@@ -297,7 +297,8 @@ impl Header {
         self.write_exactly()
     }
 
-    /// The number of bytes of a frame with this header, its data and their check among them.
+    /// Returns the number of bytes of a frame with this header, its data and their check among
+    /// them.
     pub fn frame_length(&self) -> usize
         ensures { result ≡ length_of_frame self.now }
     {

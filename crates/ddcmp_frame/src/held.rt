@@ -31,7 +31,7 @@ pub(crate) fn frame_buffer(alloc: Global, max: u16) -> Result<Vec<u8>, ReaderRef
     }
 }
 
-/// The item of a candidate that fails: the first of a loss of synchronism is told.
+/// Returns the item of a candidate that fails: the first of a loss of synchronism is reported.
 pub(crate) fn loss(lost: bool, at: u64) -> Option<Item>
     ensures { result ≡ (if lost then None else Some (Item.HeaderCheck at)) }
 {
@@ -42,7 +42,7 @@ pub(crate) fn loss(lost: bool, at: u64) -> Option<Item>
     }
 }
 
-/// Gives up the first byte, and what follows it up to the next start byte.
+/// Drops the first byte, and what follows it up to the next start byte.
 pub(crate) fn resume(buffer: &mut Vec<u8>)
     requires { 0 < vec_len buffer.old }
     ensures items { buffer.new.items ≡ from_start (drop 1 buffer.old.items) }
@@ -58,7 +58,7 @@ pub(crate) fn resume(buffer: &mut Vec<u8>)
     buffer.truncate(kept);
 }
 
-/// COUNT, where the header has one.
+/// Returns COUNT, if the header has one.
 #[inline(always)]
 pub(crate) fn count_of(header: &Header) -> Option<usize>
     ensures value { result ≡ count_in header.now }
@@ -71,7 +71,7 @@ pub(crate) fn count_of(header: &Header) -> Option<usize>
     }
 }
 
-/// Whether the check after `count` bytes of data is theirs.
+/// Returns whether the check after `count` bytes of data is theirs.
 #[tactic(auto, unfolding(crate::specs::Reading::is_data_right))]
 pub(crate) fn data_right(bytes: &[u8], count: usize) -> bool
     requires { count + 10 ≤ length bytes.now }

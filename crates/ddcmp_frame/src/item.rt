@@ -1,4 +1,4 @@
-//! What a reader gives.
+//! What a reader yields.
 use crate::header::{Header, HeaderFault};
 
 /// An item of a text, with the offset of its start byte.
@@ -19,8 +19,8 @@ pub enum Item {
 /// What a reader made of a piece of its line.
 #[derive(Clone, Copy, Debug, PartialEq, Eq)]
 pub struct Pushed {
-    /// How many bytes were used. The caller hands over the rest.
+    /// How many bytes were used. The caller passes the rest again.
     pub used: usize,
-    /// The item that the last of these bytes gave. Without one all bytes were used.
+    /// The item that the last of these bytes completed. Without one all bytes were used.
     pub item: Option<Item>,
 }

@@ -25,7 +25,7 @@ pub fn items_of_nothing()
     ensures ending { (max : ℕ) → ending max [] ≡ beginning [] }
 {}
 
-/// A text that goes on is read on from where its reading ended: what was given stays.
+/// A text that goes on is read on from where its reading ended: what was yielded stays.
 pub fn items_of_longer()
     ensures items { (max : ℕ) (text more_text : List ℕ)
         → items max (text ++ more_text) ≡ items max text
@@ -35,8 +35,8 @@ pub fn items_of_longer()
         ≡ (read max (with_more (ending max text) more_text)).place }
 {}
 
-/// The table of reading, row by row: what a text gives that begins at an offset, and where reading
-/// goes on. Where the text is too short for its row, reading ends there.
+/// The table of reading, row by row: what a text yields that begins at an offset, and where reading
+/// goes on. If the text is too short for its row, reading ends there.
 pub fn reading_table()
     ensures nothing { (max o : ℕ) (lost : Bool)
         → read max (place_untold o lost []) ≡ outcome_at_end (place_untold o lost []) }
@@ -120,7 +120,7 @@ pub fn ending_counts()
         ≡ length text }
 {}
 
-/// Where nothing is open, fill and a whole frame are one good item and leave nothing open, whether
+/// If nothing is open, fill and a whole frame are one good item and leave nothing open, whether
 /// synchronism was lost or not.
 pub fn whole_frame()
     ensures item { (max fill : ℕ) (text message : List ℕ) (h : HeaderValue)

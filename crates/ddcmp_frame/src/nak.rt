@@ -21,7 +21,7 @@ pub enum Nak {
 }
 
 impl Nak {
-    /// The reason that the SUBTYPE of a NAK names.
+    /// Returns the reason that the SUBTYPE of a NAK names.
     pub fn of(sub: u8) -> Nak
         ensures reason { result ≡ reason_of sub }
         ensures subtype { subtype_of result ≡ sub }
@@ -38,7 +38,7 @@ impl Nak {
         }
     }
 
-    /// The SUBTYPE that stands for the reason.
+    /// Returns the SUBTYPE of the reason.
     pub fn sub(self) -> u8
         ensures { result ≡ subtype_of self }
     {

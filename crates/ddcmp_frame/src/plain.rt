@@ -17,7 +17,7 @@ use crate::reader::ReaderRefusal;
 use std::alloc::Global;
 use std::marker::Model;
 
-/// A reader of frames that takes one byte at a time. After it is made it takes no memory.
+/// A reader of frames that takes one byte at a time. After `new` it doesn't allocate.
 #[derive(Drop)]
 pub struct PlainReader {
     max: u16,
@@ -72,7 +72,7 @@ enum Step {
 }
 
 impl PlainReader {
-    /// A reader of frames with at most `max` bytes of data. It takes memory for one frame.
+    /// Makes a reader of frames with at most `max` bytes of data. It takes memory for one frame.
     pub fn new(alloc: Global, max: u16) -> Result<PlainReader, ReaderRefusal>
         ensures { MakesReader max result }
     {
@@ -91,7 +91,7 @@ impl PlainReader {
         }
     }
 
-    /// Takes one byte, and gives the item that it completes.
+    /// Takes one byte; returns the item that it completes.
     pub fn push(&mut self, byte: u8) -> Option<Item>
         requires { self.old.offset + 1 < 2 ^ 64 }
         ensures { Pushes self.old byte result self.new }
@@ -151,7 +151,7 @@ impl PlainReader {
         }
     }
 
-    /// The data of the good item that the last push gave, else none.
+    /// Returns the data of the good item that the last push completed, else none.
     pub fn data(&self) -> &[u8]
         ensures { result.now ≡ self.now.lent }
     {
@@ -161,7 +161,7 @@ impl PlainReader {
         &self.buffer[8..8 + self.lent]
     }
 
-    /// The number of bytes so far.
+    /// Returns the number of bytes so far.
     pub fn offset(&self) -> u64
         ensures value { result ≡ self.now.offset }
         ensures text { (text : List ℕ) → StandsFor self.now text → result ≡ length text }
@@ -169,7 +169,7 @@ impl PlainReader {
         self.offset
     }
 
-    /// The number of bytes from the start byte of the unfinished frame on.
+    /// Returns the number of bytes from the start byte of the unfinished frame on.
     pub fn open(&self) -> usize
         ensures value { result ≡ open_of self.now }
         ensures text { (text : List ℕ) → StandsFor self.now text → result
@@ -178,7 +178,7 @@ impl PlainReader {
         self.kept() + self.skipped
     }
 
-    /// The number of bytes of the unfinished frame that are kept.
+    /// Returns the number of bytes of the unfinished frame that are kept.
     pub fn kept(&self) -> usize
         ensures value { result ≡ kept_of self.now }
         ensures text { (text : List ℕ) → StandsFor self.now text → result
@@ -188,7 +188,7 @@ impl PlainReader {
         if self.finished { 0 } else { self.buffer.len() }
     }
 
-    /// Begins anew.
+    /// Restarts.
     pub fn reset(&mut self)
         ensures stands { StandsFor self.new [] }
         ensures max { self.new.max ≡ self.old.max }
@@ -203,7 +203,7 @@ impl PlainReader {
     }
 }
 
-/// Appends a byte to the bytes held, or puts it in their place where they were read whole.
+/// Appends a byte to the bytes held, or replaces them if they were read whole.
 fn store(buffer: &mut Vec<u8>, finished: bool, byte: u8)
     requires some { 0 < vec_capacity buffer.old }
     requires room { finished ≡ false → vec_len buffer.old < vec_capacity buffer.old }

@@ -21,7 +21,11 @@ pub enum ReaderRefusal {
     Memory,
 }
 
-/// A reader of frames that takes bytes in pieces. After it is made it takes no memory.
+/// A reader of frames that takes a byte stream in chunks of any size. After `new` it doesn't
+/// allocate.
+///
+/// Pass a chunk to `push_all`, and what it didn't use again; `data` lends the data of the item that
+/// it returned until the next push.
 #[derive(Drop)]
 pub struct Reader {
     scan: Scan,
@@ -39,7 +43,7 @@ impl Model for Reader {
 }
 
 impl Reader {
-    /// A reader of frames with at most `max` bytes of data. It takes memory for one frame.
+    /// Makes a reader of frames with at most `max` bytes of data. It takes memory for one frame.
     pub fn new(alloc: Global, max: u16) -> Result<Reader, ReaderRefusal>
         ensures { MakesReader max result }
     {
@@ -58,7 +62,7 @@ impl Reader {
         }
     }
 
-    /// Takes one byte, and gives the item that it completes.
+    /// Takes one byte; returns the item that it completes.
     pub fn push(&mut self, byte: u8) -> Option<Item>
         requires { self.old.offset + 1 < 2 ^ 64 }
         ensures { Pushes self.old byte result self.new }
@@ -68,7 +72,7 @@ impl Reader {
         taken.item
     }
 
-    /// Takes the bytes of a piece, up to and with the first that gives an item.
+    /// Takes the bytes of a chunk, up to and with the first that completes an item.
     #[inline(always)]
     pub fn push_all(&mut self, piece: &[u8]) -> Pushed
         requires { self.old.offset + length piece.now < 2 ^ 64 }
@@ -78,7 +82,7 @@ impl Reader {
         self.scan.take_all(piece)
     }
 
-    /// The data of the good item that the last push gave, else none.
+    /// Returns the data of the good item that the last push completed, else none.
     #[inline(always)]
     pub fn data(&self) -> &[u8]
         ensures { result.now ≡ self.now.lent }
@@ -96,7 +100,7 @@ impl Reader {
         self.scan.max
     }
 
-    /// The number of bytes so far.
+    /// Returns the number of bytes so far.
     pub fn offset(&self) -> u64
         ensures value { result ≡ self.now.offset }
         ensures text { (text : List ℕ) → StandsFor self.now text → result ≡ length text }
@@ -104,7 +108,7 @@ impl Reader {
         self.scan.offset
     }
 
-    /// The number of bytes from the start byte of the unfinished frame on.
+    /// Returns the number of bytes from the start byte of the unfinished frame on.
     pub fn open(&self) -> usize
         ensures value { result ≡ open_of self.now }
         ensures text { (text : List ℕ) → StandsFor self.now text → result
@@ -113,7 +117,7 @@ impl Reader {
         self.scan.open()
     }
 
-    /// The number of bytes of the unfinished frame that are kept.
+    /// Returns the number of bytes of the unfinished frame that are kept.
     pub fn kept(&self) -> usize
         ensures value { result ≡ kept_of self.now }
         ensures text { (text : List ℕ) → StandsFor self.now text → result
@@ -123,7 +127,7 @@ impl Reader {
         self.scan.kept()
     }
 
-    /// Begins anew.
+    /// Restarts.
     pub fn reset(&mut self)
         ensures stands { StandsFor self.new [] }
         ensures max { self.new.max ≡ self.old.max }

@@ -36,7 +36,7 @@ enum Candidate {
     Announces(Header, usize),
 }
 
-/// The bytes of the last frame so far, and where the scan stands.
+/// The bytes of the last frame so far, and the place of the scan.
 #[derive(Drop)]
 pub(crate) struct Scan {
     pub(crate) max: u16,
@@ -49,7 +49,7 @@ pub(crate) struct Scan {
 }
 
 impl Scan {
-    /// Takes bytes of a piece, up to the first that gives an item.
+    /// Takes bytes of a chunk, up to the first that completes an item.
     #[inline(always)]
     pub(crate) fn take_all(&mut self, piece: &[u8]) -> Pushed
         requires sound { IsSoundScan self.old }
@@ -121,7 +121,7 @@ impl Scan {
         }
     }
 
-    /// Takes a header that stands whole at the front of a piece. One that is a frame isn't copied.
+    /// Takes a header that is whole at the front of a chunk. One that is a frame isn't copied.
     #[inline(always)]
     fn take_whole_header(&mut self, piece: &[u8], front: &[u8; 8]) -> Pushed
         requires ready { IsReady self.old piece.now }
@@ -214,7 +214,7 @@ impl Scan {
         }
     }
 
-    /// Takes bytes of the data and their check. The last one gives the item of the frame.
+    /// Takes bytes of the data and their CRC. The last one completes the item of the frame.
     #[inline(always)]
     fn take_data(&mut self, piece: &[u8], header: Header, count: usize) -> Pushed
         requires ready { IsReady self.old piece.now }
@@ -267,7 +267,7 @@ impl Scan {
         Pushed { used, item: None }
     }
 
-    /// The number of bytes of the unfinished frame that are kept.
+    /// Returns the number of bytes of the unfinished frame that are kept.
     pub(crate) fn kept(&self) -> usize
         requires sound { IsSoundScan self.now }
         ensures value { result ≡ kept_of (view_of self.now) }
@@ -279,7 +279,7 @@ impl Scan {
         }
     }
 
-    /// The number of bytes of the unfinished frame.
+    /// Returns the number of bytes of the unfinished frame.
     pub(crate) fn open(&self) -> usize
         requires sound { IsSoundScan self.now }
         ensures value { result ≡ open_of (view_of self.now) }
@@ -291,7 +291,7 @@ impl Scan {
     }
 }
 
-/// How many bytes stand before the first start byte.
+/// Returns how many bytes come before the first start byte.
 fn before_start(piece: &[u8]) -> usize
     ensures within { result ≤ length piece.now }
     ensures other { (i : ℕ) → i < result → is_start_byte (slice_index piece.now i) ≡ false }
@@ -305,7 +305,7 @@ fn before_start(piece: &[u8]) -> usize
     n
 }
 
-/// What the next byte belongs to where these are held, which begin with a start byte.
+/// Returns what the next byte belongs to if these are held, which begin with a start byte.
 fn phase_of(held: &[u8]) -> Phase
     ensures none { length held.now ≡ 0 → result ≡ Phase.Seeking }
     ensures some { 0 < length held.now → result ≡ Phase.Header }

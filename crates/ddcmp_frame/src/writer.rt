@@ -5,7 +5,7 @@ ghost use Rattle.ddcmp_frame.specs.Wire.{wire, IsFrame};
 use crate::header::Header;
 use ddcmp_num::{check, check_bytes};
 
-/// Writes a frame at the front of `out`, and says how many bytes it has.
+/// Writes a frame at the front of `out`; returns how many bytes it has.
 pub fn write_frame(header: &Header, data: &[u8], out: &mut [u8]) -> usize
     requires frame { IsFrame header.now «data».now }
     requires room { length (wire header.now «data».now) ≤ length out.old }
@@ -22,7 +22,7 @@ pub fn write_frame(header: &Header, data: &[u8], out: &mut [u8]) -> usize
     }
 }
 
-/// Writes `bytes` into `out` from `from` on, and says where they end.
+/// Writes `bytes` into `out` from `from` on; returns where they end.
 fn put(out: &mut [u8], from: usize, bytes: &[u8]) -> usize
     requires { from + length bytes.now ≤ length out.old }
     ensures end { result ≡ from + length bytes.now }

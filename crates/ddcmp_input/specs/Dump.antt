@@ -32,7 +32,7 @@ start_then kind.Return = Return
 start_then kind.Star = LeftOut
 start_then _ = Refused
 
--- behind the address stands a colon in a dump of `xxd`, else blanks; or nothing
+-- after the address stands a colon in a dump of `xxd`, else blanks; or nothing
 abbrev pub address_then : Kind → Place
 address_then kind.Digit = Address
 address_then kind.Colon = Colon
@@ -127,7 +127,7 @@ abbrev pub line_at : Place → ℕ → ℕ
 line_at Start line = min (line + 1) (2 ^ 64 - 1)
 line_at _ line = line
 
--- the number of the line at its end, where bytes begin in the line of that number
+-- the number of the line at its end, if bytes begin in the line of that number
 unfoldable pub line_from : Place → ℕ → List ℕ → ℕ
 line_from place line [] = line
 line_from place line (byte ∷ rest) =

@@ -13,8 +13,8 @@ IsDigit c = is_ascii_hexdigit c ≡ true
 abbrev pub IsOneLine : List ℕ → Type 0
 IsOneLine text = All (λ c. c ≢ 10) text
 
--- Behind the address in a dump of `hexdump -C` or `od`: bytes of two digits with blanks in front of
--- each, and at the end maybe blanks, or a bar and the column of text behind it.
+-- After the address in a dump of `hexdump -C` or `od`: bytes of two digits with blanks in front of
+-- each, and at the end maybe blanks, or a bar and the column of text after it.
 pub data Bytes : List ℕ → List ℕ → Type 0 where
   NoByte : Bytes [] []
   Blank : {text digits : List ℕ} → Bytes text digits → Bytes (32 ∷ text) digits
@@ -23,7 +23,7 @@ pub data Bytes : List ℕ → List ℕ → Type 0 where
   Column : {bar : ℕ} {text : List ℕ} → (bar ≡ 124) ⊎ (bar ≡ 62) → IsOneLine text
       → Bytes (32 ∷ bar ∷ text) []
 
--- Behind the colon in a dump of `xxd`: groups of one byte or two with one blank in front of each,
+-- After the colon in a dump of `xxd`: groups of one byte or two with one blank in front of each,
 -- and at the end maybe a blank, or two of them and the column of text.
 pub data Groups : List ℕ → List ℕ → Type 0 where
   NoGroup : Groups [] []
@@ -53,7 +53,7 @@ pub data LineEnd : List ℕ → Type 0 where
 abbrev pub digits_in : List ℕ → List ℕ
 digits_in text = filter is_ascii_hexdigit text
 
--- From a place on, of a text these digits stay, and the next line begins behind it.
+-- From a place on, of a text these digits stay, and the next line begins after it.
 pub record Reads (place : Place) (text digits : List ℕ) : Type 0 where
   pub keeps : digits_in (shown_from place text) ≡ digits
   pub ends : place_from place text ≡ Start

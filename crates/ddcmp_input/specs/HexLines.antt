@@ -1,5 +1,5 @@
 -- Messages in hexadecimal, one in a line.
-use Rattle.std.specs.Prelude.{ℕ, ◌+◌, Bool, true, false, ◌==◌, nat_le, min, if◌then◌else◌, List, []}
+use Rattle.std.specs.Prelude.{ℕ, ◌+◌, Bool, true, false, ◌==◌, ◌&&◌, nat_le, min, if◌then◌else◌, List, []}
 use Rattle.std.specs.Prelude.{◌∷◌, ◌++◌, length, Option, Some, None, option_to_list, Result, Ok}
 use Rattle.std.specs.Prelude.{Err}
 use Rattle.hex.specs.Hex.{decode_sized}
@@ -88,6 +88,14 @@ entry_of_line_in (Some why) v = Some why
 
 abbrev pub entry_of_line : HexView → Option Entry
 entry_of_line v = entry_of_line_in v.refused v
+
+-- the line is `?` alone
+abbrev pub is_mark : Option ℕ → Bool
+is_mark None = false
+is_mark (Some digit) = digit == 63
+
+abbrev pub is_question : HexView → Bool
+is_question v = is_mark v.high && (length v.message == 0)
 
 -- a byte of the input, and what it completes
 abbrev pub in_line : HexView → HexView

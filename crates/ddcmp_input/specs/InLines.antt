@@ -5,7 +5,7 @@ use Rattle.ddcmp_input.specs.HexLines.{HexView, begun, byte_of_digits, after_byt
 use Rattle.ddcmp_input.specs.InBinary.{Fits}
 use Rattle.ddcmp_input.specs.Told.{Told, Got, told_of}
 
--- what a byte tells, with the number of its line, and what bytes tell, one after another
+-- what a byte completes, with the number of its line, and what bytes complete, one after another
 abbrev pub told_by_byte : ℕ → HexView → List (ℕ × Told)
 told_by_byte byte v =
     map (λ e. ((after_byte byte v).number, told_of e (after_byte byte v).message))
@@ -19,7 +19,7 @@ told_in (byte ∷ rest) v = told_by_byte byte v ++ told_in rest (after_byte byte
 abbrev pub line_at : ℕ → ℕ → HexView
 line_at max number = record (begun max) { number = number }
 
--- the number of the line behind it
+-- the number of the line after it
 abbrev pub next_number : ℕ → ℕ
 next_number number = min (number + 1) 18446744073709551615
 
@@ -39,12 +39,12 @@ Spells (high ∷ low ∷ digits) [] = ⊥
 Spells (high ∷ low ∷ digits) (byte ∷ message) =
     (byte_of_digits high low ≡ Some byte) × Spells digits message
 
--- neither this line nor, where a CR ends it, the line without that spells bytes, at most so many
+-- neither this line nor, if a CR ends it, the line without that spells bytes, at most this many
 abbrev pub IsNone : ℕ → List ℕ → Type 0
 IsNone max line = (digits message : List ℕ) (returns : Bool) → line ≡ digits ++ carriage returns
     → Spells digits message → length message ≤ max → ⊥
 
--- digits and the message that they spell, of which there may be so many bytes
+-- digits and the message that they spell, of which there may be this many bytes
 pub record Line : Type 0 where
   pub digits : List ℕ
   pub message : List ℕ
@@ -53,7 +53,7 @@ pub record IsLine (max : ℕ) (line : Line) : Type 0 where
   pub spells : Spells line.digits line.message
   pub fits : Fits max line.message
 
--- lines written one after another, and what is told of them from this number on
+-- lines written one after another, and what is reported of them from this number on
 unfoldable pub in_lines : Bool → List Line → List ℕ
 in_lines returns [] = []
 in_lines returns (line ∷ rest) = line.digits ++ (line_end returns ++ in_lines returns rest)

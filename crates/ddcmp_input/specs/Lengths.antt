@@ -40,7 +40,7 @@ after_length length v =
     then record v { place = place_before length }
     else record v { place = Inside length; message = [] }
 
--- the last byte of a message, or of one that is passed over, stands before the next length
+-- the last byte of a message, or of one that is skipped, stands before the next length
 abbrev pub is_last : ℕ → Bool
 is_last left = nat_le left 1
 

@@ -1,4 +1,4 @@
--- What the bytes of an input tell: its messages, and its parts that are none.
+-- What the bytes of an input are: its messages, and its parts that are none.
 use Rattle.std.specs.Prelude.{ℕ, List}
 use Rattle.ddcmp_input.specs.declared.entry.Entry.{Entry}
 use Rattle.ddcmp_input.specs.declared.entry.Entry.TheVariants.{Message, NotHexadecimal, TooLong, Empty}

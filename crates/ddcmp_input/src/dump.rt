@@ -10,12 +10,12 @@ use thiserror::Error;
 pub enum NotDumped {
     #[error("line {0}: not a line of a dump")]
     NotALine(u64),
-    /// `hexdump` and `od` write a `*` for lines that say what the one before them says.
+    /// `hexdump` and `od` write a `*` for lines that are like the one before them.
     #[error("line {0}: a * stands for lines left out: dump with -v")]
     Star(u64),
 }
 
-/// Where reading a dump stands.
+/// The place up to which a dump was read.
 #[derive(Drop)]
 pub struct Dump {
     place: Place,

@@ -14,8 +14,8 @@ pub fn pieces()
         → dump_after v (text ++ more) ≡ dump_after (dump_after v text) more }
 {}
 
-/// Of a line of a dump, as its grammar says, the digits of its data stay and nothing else, and the
-/// next line begins behind it.
+/// Of a line of a dump, by its grammar, the digits of its data stay and nothing else, and the next
+/// line begins after it.
 pub fn lines_are_read()
     ensures { (line digits end : List ℕ) → Line line digits → LineEnd end
         → Reads Place.Start (line ++ end) digits }

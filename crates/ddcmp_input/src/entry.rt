@@ -1,4 +1,4 @@
-//! What comes of the bytes of an input.
+//! What the bytes of an input complete.
 
 /// What a byte completed.
 #[derive(Clone, Copy, Debug, PartialEq, Eq)]

@@ -49,6 +49,7 @@ impl HexLines {
     ghost use Rattle.ddcmp_input.specs.HexLines.{begun, line_begun, after_digit, return_taken};
     ghost use Rattle.ddcmp_input.specs.HexLines.{line_ended, entry_of_line, after_byte};
     ghost use Rattle.ddcmp_input.specs.HexLines.{entry_of_byte, after_bytes, entries_of_bytes};
+    ghost use Rattle.ddcmp_input.specs.HexLines.{is_question};
 
     /// Nothing has come. It takes all the memory that it will need.
     pub fn new(alloc: Global, max: u16) -> Result<HexLines, AllocError>
@@ -65,7 +66,7 @@ impl HexLines {
         })
     }
 
-    /// Takes a byte: what it completes. Behind the last line push a line feed.
+    /// Takes a byte; returns what it completes. After the last line push a line feed.
     pub fn push(&mut self, byte: u8) -> Option<Entry>
         ensures state { self.new ≡ after_byte byte self.old }
         ensures entry { result ≡ entry_of_byte byte self.old }
@@ -174,14 +175,24 @@ impl HexLines {
         }
     }
 
-    /// The message of the line, where its end completed one.
+    /// Returns the message of the line, if its end completed one.
     pub fn message(&self) -> &[u8]
         ensures { result.now ≡ self.now.message }
     {
         &self.message
     }
 
-    /// The number of the line, from 1.
+    /// Whether the line is `?` alone, which is no message.
+    pub fn is_question(&self) -> bool
+        ensures { result ≡ is_question self.now }
+    {
+        match self.high {
+            Some(digit) => digit == b'?' && self.message.is_empty(),
+            None => false,
+        }
+    }
+
+    /// Returns the number of the line, from 1.
     pub fn number(&self) -> u64
         ensures { result ≡ self.now.number }
     {

@@ -10,9 +10,9 @@ use std::marker::Model;
 pub enum Place {
     /// Before a length.
     Start,
-    /// Behind its high byte.
+    /// After its high byte.
     Half(u8),
-    /// In a message of which so many bytes are to come.
+    /// In a message of which this many bytes are to come.
     Inside(u16),
     /// In one that is skipped.
     Passing(u16),
@@ -134,8 +134,8 @@ impl Lengths {
         Pushed { used, entry: None }
     }
 
-    /// Takes the bytes of a piece that stand at one place: a byte of a length, or what there is of
-    /// a message.
+    /// Takes the bytes of a piece that are at one place: a byte of a length, or what there is of a
+    /// message.
     fn push_part(&mut self, piece: &[u8]) -> Pushed
         requires { 0 < length piece.now }
         ensures some { 0 < result.used }
@@ -155,7 +155,7 @@ impl Lengths {
         }
     }
 
-    /// Takes what there is of a message, of which so many bytes are to come.
+    /// Takes what there is of a message, of which this many bytes are to come.
     fn push_within(&mut self, piece: &[u8], left: u16) -> Pushed
         requires place { self.old.place ≡ Place.Inside left }
         requires some { 0 < length piece.now }
@@ -183,15 +183,15 @@ impl Lengths {
         }
     }
 
-    /// The message that came last, where the last byte completed it.
+    /// Returns the message that came last, if the last byte completed it.
     pub fn message(&self) -> &[u8]
         ensures { result.now ≡ self.now.message }
     {
         &self.message
     }
 
-    /// Whether a length or a message has begun whose end is to come: if the input ends here, it is
-    /// cut off. The rest of a refused message is skipped, and isn't unfinished.
+    /// Returns whether a length or a message has begun whose end is to come: if the input ends
+    /// here, it is cut off. The rest of a refused message is skipped, and isn't unfinished.
     pub fn is_unfinished(&self) -> bool
         ensures { result ≡ is_unfinished self.now.place }
     {
@@ -199,7 +199,7 @@ impl Lengths {
     }
 }
 
-/// Puts bytes behind a message that has room for them.
+/// Appends bytes to a message that has room for them.
 fn append(message: &mut Vec<u8>, bytes: &[u8])
     requires { vec_len message.old + length bytes.now ≤ vec_capacity message.old }
     ensures items { message.new.items ≡ message.old.items ++ bytes.now }

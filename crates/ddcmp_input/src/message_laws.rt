@@ -28,9 +28,8 @@ pub fn pieces()
         ≡ entries_of_digits u v ++ entries_of_digits w (after_digits u v)) }
 {}
 
-/// What bytes tell is what `push_all` answers of them, with the message that is held then: nothing
-/// where nothing is completed, and what the last byte completes. It doesn't matter where they are
-/// cut.
+/// What bytes mean is what `push_all` returns of them, with the message that is held then: nothing
+/// if nothing is completed, and what the last byte completes. It doesn't matter where they are cut.
 pub fn told_is_answered()
     ensures cut { (u w : List ℕ) (v : LengthsView)
         → told_in (u ++ w) v ≡ told_in u v ++ told_in w (after_bytes u v) }
@@ -44,8 +43,8 @@ pub fn told_is_answered()
         × (told_in_lines (u ++ byte ∷ []) v ≡ told_by_digit byte (after_digits u v)) }
 {}
 
-/// Between two messages in binary: a message behind its length gives that message, and messages one
-/// after another give these in their order, and nothing else. One of no bytes, or longer than the
+/// Between two messages in binary: a message after its length yields that message, and messages one
+/// after another yield these in their order, and nothing else. One of no bytes, or longer than the
 /// longest, is refused, and what follows is read as if it hadn't been there.
 pub fn binary_messages()
     ensures message { (message rest : List ℕ) (v : LengthsView)
@@ -62,10 +61,10 @@ pub fn binary_messages()
         → told_in (behind_length message ++ rest) v ≡ Refused TooLong ∷ told_in rest v }
 {}
 
-/// Where a line begins: the digits of a message and a line end, LF or CR LF, give that message with
-/// the number of the line, and lines one after another give their messages in order, and nothing
-/// else. An empty line gives nothing. A line that is no message gives one refusal with its number.
-/// Behind each the next line begins. The digits are those of either case.
+/// At the beginning of a line: the digits of a message and a line end, LF or CR LF, yield that
+/// message with the number of the line, and lines one after another yield their messages in order,
+/// and nothing else. An empty line yields nothing. A line that is no message yields one refusal
+/// with its number. After each the next line begins. The digits are those of either case.
 pub fn messages_in_lines()
     ensures line { (digits message rest : List ℕ) (returns : Bool) (max number : ℕ)
         → Spells digits message → Fits max message

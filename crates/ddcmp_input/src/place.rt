@@ -1,11 +1,11 @@
-//! Where in a line of a dump a byte stands.
+//! The place of a byte in a line of a dump.
 ghost use Rattle.std.specs.Prelude.{◌≡◌};
 ghost use Rattle.ddcmp_input.specs.Dump.{address_then, blanks_then, half_then, return_then};
 ghost use Rattle.ddcmp_input.specs.Dump.{start_then, text_then, whole_then, place_after};
 ghost use Rattle.ddcmp_input.specs.Dump.{place_of_kind};
 ghost use Rattle.ddcmp_input.specs.Dump.{is_data_at, kind_of_byte, line_at, shown_at};
 
-/// Where in a line of a dump the byte stands that was taken last.
+/// The place in a line of a dump of the byte that was taken last.
 #[derive(Clone, Copy, Debug, PartialEq, Eq)]
 pub enum Place {
     /// Nothing of the line was taken.
@@ -18,7 +18,7 @@ pub enum Place {
     High,
     /// At the second.
     Low,
-    /// At the colon behind an address of `xxd`.
+    /// At the colon after an address of `xxd`.
     Colon,
     /// At the one blank in front of a group of `xxd`.
     Gap,
@@ -75,7 +75,7 @@ fn kind_of(byte: u8) -> Kind
 }
 
 impl Place {
-    /// The place of a byte more.
+    /// Returns the place of a byte more.
     #[inline(always)]
     #[tactic(auto, unfolding(crate::specs::Dump::place_after))]
     pub(crate) fn after(self, byte: u8) -> Place
@@ -107,7 +107,7 @@ impl Place {
         }
     }
 
-    /// The number of the line, once a byte came here: a line that is over is counted.
+    /// Returns the number of the line, once a byte came here: a line that is over is counted.
     #[inline(always)]
     pub(crate) fn count(self, line: u64) -> u64
         ensures { result ≡ line_at self line }
@@ -118,7 +118,7 @@ impl Place {
         }
     }
 
-    /// Whether a digit of data stands here.
+    /// Returns whether a digit of data stands here.
     #[inline(always)]
     fn is_data(self) -> bool
         ensures { result ≡ is_data_at self }

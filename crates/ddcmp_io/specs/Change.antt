@@ -3,7 +3,7 @@ use Rattle.std.specs.Prelude.{Bool}
 use Rattle.ddcmp_io.specs.Written.{Known}
 use Rattle.ddcmp_io.specs.declared.device.Worst.{Worst}
 
--- what a source had to give and has yet to give, where that is known, and how it stands
+-- what a source had to give and has yet to give, if that is known, and how it stands
 pub record SourceChange : Type 0 where
   pub before : Known
   pub after : Known
@@ -12,7 +12,7 @@ pub record SourceChange : Type 0 where
 abbrev pub source_change : Known → Known → Worst → SourceChange
 source_change before after state = record { before = before; after = after; state = state }
 
--- what a sink held and holds, where that is known, and whether a write has failed
+-- what a sink held and holds, if that is known, and whether a write has failed
 pub record SinkChange : Type 0 where
   pub before : Known
   pub after : Known

@@ -1,4 +1,4 @@
--- What a source has left and what a sink holds, where these are known.
+-- What a source has left and what a sink holds, if these are known.
 use Rattle.std.specs.Prelude.{◌≡◌, ℕ, ◌<◌, ◌≤◌, Bool, List, ◌++◌, length, take, Option, Some, None}
 use Rattle.std.specs.Io.KnownBytes.{Appends, Consumes, Keeps, IsAtEnd}
 use Rattle.std.specs.declared.io.ErrorKind.{ErrorKind}
@@ -11,7 +11,7 @@ use Rattle.ddcmp_io.specs.declared.device.Worst.{Worst}
 use Rattle.ddcmp_io.specs.declared.device.Worst.TheVariants.{Fine, Idle as HadIdle}
 use Rattle.ddcmp_io.specs.declared.device.Worst.TheVariants.{Failed as HadFailed}
 
--- a read gave the bytes at its front, none only at the end
+-- a read returned the bytes at its front, none only at the end
 abbrev pub ReadGives : Option (List ℕ) → Option (List ℕ) → Got → List ℕ → Type 0
 ReadGives old new (Bytes n) buf =
     (n ≤ length buf) × Consumes old new (take n buf) × (n ≡ 0 → 0 < length buf → IsAtEnd new)
@@ -24,7 +24,7 @@ Logs None new xs = Unit {0}
 Logs (Some old) None xs = ⊥
 Logs (Some old) (Some new) xs = new ≡ old ++ xs
 
--- what an error of a read is: nothing came yet where it would block, timed out or was interrupted
+-- what an error of a read is: nothing came yet if it would block, timed out or was interrupted
 abbrev pub got_of_error : ErrorKind → Got
 got_of_error WouldBlock = Idle
 got_of_error TimedOut = Idle
@@ -43,7 +43,7 @@ worse HadIdle (Bytes n) = HadIdle
 worse HadIdle Idle = HadIdle
 worse HadIdle Failed = HadFailed
 
--- a write took the bytes at the front, at least one where there is one
+-- a write took the bytes at the front, at least one if there is one
 abbrev pub WriteTakes : Option (List ℕ) → Option (List ℕ) → Option ℕ → List ℕ → Type 0
 WriteTakes old new (Some n) bytes =
     (n ≤ length bytes) × (0 < length bytes → 0 < n) × Appends old new (take n bytes)

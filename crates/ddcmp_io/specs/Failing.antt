@@ -4,7 +4,7 @@ use Rattle.ddcmp_io.specs.declared.device.Worst.{Worst}
 use Rattle.ddcmp_io.specs.declared.device.Worst.TheVariants.{Fine}
 
 -- A source over pieces: the bytes that are left and the worst answer so far; how many reads were
--- counted, the most bytes that one gives, and which of them is idle and which fails, where 0 is
+-- counted, the most bytes that one gives, and which of them is idle and which fails, if 0 is
 -- none.
 pub record PiecesView : Type 0 where
   pub left : List ℕ
@@ -14,7 +14,7 @@ pub record PiecesView : Type 0 where
   pub idle_at : ℕ
   pub fails_at : ℕ
 
--- a source of these bytes that was told nothing: its reads have no bound, and none fails
+-- a source of these bytes that was asked for nothing: its reads have no bound, and none fails
 abbrev pub pieces_of : List ℕ → PiecesView
 pieces_of bytes = record {
   left = bytes;
@@ -27,7 +27,7 @@ pieces_of bytes = record {
 
 -- A sink over an array: the bytes that it keeps and whether a write has failed; how many writes
 -- were counted, how many bytes have room, the most that one write takes, and which of them fails,
--- where 0 is none.
+-- if 0 is none.
 pub record TakenView : Type 0 where
   pub bytes : List ℕ
   pub broken : Bool
@@ -36,7 +36,7 @@ pub record TakenView : Type 0 where
   pub most : ℕ
   pub fails_at : ℕ
 
--- a sink with this room that took nothing and was told nothing
+-- a sink with this room that took nothing and was asked for nothing
 abbrev pub taken_nothing : ℕ → TakenView
 taken_nothing room = record {
   bytes = [];

@@ -3,7 +3,7 @@ use Rattle.std.specs.Prelude.{◌≡◌, ℕ, Bool, true, false, List, ◌++◌,
 use Rattle.std.specs.Io.KnownBytes.{Appends}
 use Rattle.ddcmp_io.specs.declared.device.WriteFailed.{WriteFailed}
 
--- the bytes that a sink holds, where they are known
+-- the bytes that a sink holds, if they are known
 abbrev pub Known : Type 0
 Known = Option (List ℕ)
 
@@ -16,7 +16,7 @@ abbrev pub Writes : Known → Known → Result (Unit {0}) WriteFailed → List �
 Writes old new (Ok u) text = Appends old new text
 Writes old new (Err f) text = AppendsPart old new text
 
--- A sink and the page in front of it: whether a write has failed, what the sink holds where that
+-- A sink and the page in front of it: whether a write has failed, what the sink holds if that
 -- is known, and what waits in the page.
 pub record Output : Type 0 where
   pub broken : Bool
@@ -34,7 +34,7 @@ HoldsBy false start sink waiting text =
 HoldsBy true start sink waiting text = AppendsPart start sink text
 
 -- Of a text that was to be written since the sink held `start` the sink has some and the rest
--- waits; where a write has failed the sink has a beginning of it.
+-- waits; if a write has failed the sink has a beginning of it.
 abbrev pub Holds : Known → List ℕ → Output → Type 0
 Holds start text at = HoldsBy at.broken start at.sink at.waiting text
 

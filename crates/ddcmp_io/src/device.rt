@@ -6,7 +6,7 @@ ghost use Rattle.ddcmp_io.specs.Written.{Writes};
 
 use std::io::{ErrorKind, Read, Write};
 
-/// What one read gave.
+/// The result of one read.
 #[derive(Clone, Copy, Debug, PartialEq, Eq)]
 pub enum Got {
     /// This many bytes at the front of the buffer; 0 is the end.
@@ -17,7 +17,7 @@ pub enum Got {
     Failed,
 }
 
-/// The worst answer that a source has given since its making.
+/// The worst status that a source has returned since it was made.
 #[derive(Clone, Copy, Debug, PartialEq, Eq)]
 pub enum Worst {
     Fine,
@@ -25,7 +25,7 @@ pub enum Worst {
     Failed,
 }
 
-/// A device that bytes come from. It tells them to contracts where it knows them.
+/// A device that bytes come from. It reports them to contracts if it knows them.
 pub trait Source {
     ghost use Rattle.std.specs.Prelude.{[], ◌∷◌, None};
     ghost use Rattle.ddcmp_io.specs.declared.device.Got.{Got as GotValue};
@@ -33,13 +33,13 @@ pub trait Source {
     ghost use Rattle.ddcmp_io.specs.declared.device.Worst.TheVariants.{Failed};
     ghost use Rattle.ddcmp_io.specs.Device.{ReadGives, worse, Logs};
 
-    // The bytes that reads will give, where they are known.
+    // The bytes that reads will return, if they are known.
     ghost left: { Self → Option (List ℕ) };
 
-    // The worst answer so far.
+    // The worst status so far.
     ghost state: { Self → WorstValue };
 
-    // The answers of its reads, where these are known.
+    // The results of its reads, if these are known.
     ghost answers: { Self → Option (List GotValue) } = { λ _. None };
 
     /// Reads into the front of `buf`.
@@ -49,30 +49,30 @@ pub trait Source {
         ensures worst { state self.new ≡ worse (state self.old) result }
         ensures answers { Logs (answers self.old) (answers self.new) (result ∷ []) };
 
-    /// The worst answer so far.
+    /// The worst status so far.
     fn worst(&self) -> Worst
         ensures { result ≡ state self.now };
 }
 
-/// A device that bytes go to. It tells what it holds to contracts where it knows it.
+/// A device that bytes go to. It reports what it holds to contracts if it knows it.
 pub trait Sink {
     ghost use Rattle.ddcmp_io.specs.Device.{WriteTakes};
 
-    // The bytes that the sink holds, where they are known.
+    // The bytes that the sink holds, if they are known.
     ghost contents: { Self → Option (List ℕ) };
 
     // Whether a write has failed.
     ghost broken: { Self → Bool };
 
-    /// Takes bytes from the front of `bytes`, at least one where there is one, and says how
-    /// many; None is a write that failed.
+    /// Takes bytes from the front of `bytes`, at least one if there is one, and returns how many;
+    /// None is a write that failed.
     fn write(&mut self, bytes: &[u8]) -> Option<usize>
         requires whole { broken self.old ≡ false }
         requires some { 0 < length bytes.now }
         ensures bytes { WriteTakes (contents self.old) (contents self.new) result bytes.now }
         ensures broken { broken self.new ≡ is_none result };
 
-    /// Whether a write has failed.
+    /// Returns whether a write has failed.
     fn failed(&self) -> bool
         ensures { result ≡ broken self.now };
 }
@@ -104,7 +104,7 @@ pub enum LineFault {
     Read,
     /// A write failed. How much of the last frame went out isn't known.
     Write,
-    /// A read gave no bytes: the line ended.
+    /// A read returned no bytes: the line ended.
     Ended,
     /// Memory was refused, before anything was done.
     Memory,
@@ -132,7 +132,7 @@ impl<R> FromRead<R> {
     }
 }
 
-/// What a read that ended in an error of this kind gave: nothing yet, or a failure.
+/// Returns what a read that ended in an error of this kind counts as: idle, or a failure.
 fn got_of_error(kind: ErrorKind) -> Got
     ensures { result ≡ got_of_error_kind kind }
 {

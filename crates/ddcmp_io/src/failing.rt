@@ -1,6 +1,6 @@
-//! Devices over memory, for tests: they go in small steps, are idle, and fail when they are told
+//! Devices over memory, for tests: they go in small steps, are idle, and fail when they are asked
 //! to.
-//! None takes memory. Run a call with a failure at 1, 2, .. until a device has met none.
+//! None allocates. Run a call with a failure at 1, 2, .. until a device has met none.
 ghost use Rattle.std.specs.Prelude.{◌≡◌, ◌<◌, ◌≤◌, ◌++◌, flat_map};
 ghost use Rattle.ddcmp_io.specs.Failing.{pieces_of, taken_nothing};
 
@@ -10,8 +10,8 @@ use std::marker::Model;
 /// No call: they are counted from 1.
 const NEVER: usize = 0;
 
-/// A source that brings pieces one after another, and then its end. An empty piece is an idle read.
-/// Contracts see the bytes that are left, the worst answer so far and what it was told to do.
+/// A source that yields pieces one after another, and then its end. An empty piece is an idle read.
+/// Contracts see the bytes that are left, the worst status so far and what it was asked to do.
 #[derive(Drop)]
 pub struct Pieces<'a> {
     /// What is left of the piece that was begun.
@@ -70,7 +70,7 @@ impl<'a> Pieces<'a> {
         }
     }
 
-    /// It gives at most so many bytes a read.
+    /// Yields at most this many bytes a read.
     pub fn at_most(self, most: usize) -> Self
         requires { 0 < most }
         ensures { result ≡ record self.entry { most = most } }
@@ -112,7 +112,7 @@ impl<'a> Source for Pieces<'a> {
         ensures bytes { ReadGives (Some self.old.left) (Some self.new.left) result buf.new }
         ensures worst { self.new.worst ≡ worse self.old.worst result }
 
-        // It does what it was told to.
+        // It does what it was asked to.
         ensures told { self.new ≡ record self.old {
           left = self.new.left;
           worst = self.new.worst;
@@ -155,8 +155,8 @@ impl<'a> Source for Pieces<'a> {
     }
 }
 
-/// A sink that keeps what it took, at most N bytes, and fails where it is full. Contracts see the
-/// bytes that it keeps, whether a write has failed and what it was told to do.
+/// A sink that keeps what it took, at most N bytes, and fails when it is full. Contracts see the
+/// bytes that it keeps, whether a write has failed and what it was asked to do.
 #[derive(Drop)]
 pub struct Taken<const N: usize> {
     bytes: [u8; N],
@@ -193,7 +193,7 @@ impl<const N: usize> Taken<N> {
         Taken::full_at(N)
     }
 
-    /// It is full at so many bytes.
+    /// Is full at this many bytes.
     pub fn full_at(room: usize) -> Self
         requires { room ≤ N }
         ensures { result ≡ taken_nothing room }
@@ -209,7 +209,7 @@ impl<const N: usize> Taken<N> {
         }
     }
 
-    /// It takes at most so many bytes a write.
+    /// Takes at most this many bytes a write.
     pub fn at_most(self, most: usize) -> Self
         requires { 0 < most }
         ensures { result ≡ record self.entry { most = most } }
@@ -250,7 +250,7 @@ impl<const N: usize> Sink for Taken<N> {
         ensures bytes { WriteTakes (Some self.old.bytes) (Some self.new.bytes) result bytes.now }
         ensures broken { self.new.broken ≡ is_none result }
 
-        // It does what it was told to.
+        // It does what it was asked to.
         ensures told { self.new ≡ record self.old {
           bytes = self.new.bytes;
           broken = self.new.broken;

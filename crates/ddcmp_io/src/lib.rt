@@ -1,5 +1,5 @@
-//! What a program needs of the world: sources of bytes and sinks for them, text on its way to a
-//! sink, and devices over memory for tests. It knows nothing of the protocol.
+//! What a program needs of the world: sources of bytes and sinks for them, buffered text, and
+//! devices over memory for tests. It knows nothing of the protocol.
 #![tactic(auto)]
 
 pub mod cause;

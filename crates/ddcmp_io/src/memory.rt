@@ -12,7 +12,7 @@ pub struct MemorySink {
 }
 
 impl MemorySink {
-    /// Makes one without bytes. It takes no memory yet.
+    /// Makes one without bytes. It doesn't allocate yet.
     pub fn new(alloc: Global) -> Self
         ensures empty { result.bytes.items ≡ [] }
         ensures whole { result.refused ≡ false }

@@ -1,4 +1,4 @@
-//! Text on its way to a sink, so that many short writes share a long one.
+//! Text that is buffered before a sink, so that many short writes share a long one.
 ghost use Rattle.std.specs.Prelude.{◌≡◌, ◌+◌, ◌≤◌, ◌++◌, [], length, true, is_err};
 ghost use Rattle.ddcmp_io.specs.Written.{HandsOver, output_of};
 
@@ -8,10 +8,10 @@ use std::marker::Model;
 /// The bytes that a page has room for.
 const PAGE: usize = 8192;
 
-/// Text that waits to be written. Contracts see it as the list of its bytes.
+/// Text that is buffered. Contracts see it as the list of its bytes.
 ///
-/// After a write that failed it takes text as before and loses it, so that a caller hands over
-/// the parts of a line one after another and asks once, at `flush`, whether all went out.
+/// After a write that failed it takes text as before and loses it, so that a caller passes the
+/// parts of a line one after another and asks once, at `flush`, whether all went out.
 #[derive(Drop)]
 pub struct Page {
     bytes: [u8; PAGE],
@@ -40,7 +40,7 @@ impl Page {
         }
     }
 
-    /// Hands over a text of any length: it waits, or goes out after what waited.
+    /// Takes a text of any length: it is buffered, or goes out after what was.
     #[inline(always)]
     pub fn write<W: Sink>(&mut self, writer: &mut W, text: &[u8])
         ensures sends { HandsOver (output_of W.broken W.contents writer.old self.old)
@@ -62,7 +62,7 @@ impl Page {
         }
     }
 
-    /// Writes what waits: whether all that was handed over went out.
+    /// Writes what is buffered; returns whether all that was passed went out.
     pub fn flush<W: Sink>(&mut self, writer: &mut W) -> Result<(), WriteFailed>
         ensures sends { HandsOver (output_of W.broken W.contents writer.old self.old)
             (output_of W.broken W.contents writer.new self.new) [] }
@@ -78,7 +78,7 @@ impl Page {
         write_all(writer, &self.bytes[..len])
     }
 
-    /// How many bytes more it has room for.
+    /// Returns how many bytes more it has room for.
     #[inline(always)]
     fn room(&self) -> usize
         ensures { length self.now + result ≡ PAGE }
@@ -86,7 +86,7 @@ impl Page {
         PAGE - self.len
     }
 
-    /// Appends a text to what waits.
+    /// Appends a text to the buffer.
     #[inline(always)]
     fn append(&mut self, text: &[u8])
         requires { length self.old + length text.now ≤ PAGE }

@@ -33,7 +33,7 @@ fn digits_of(values: u8x16) -> u8x16
     values + is_letter.select(u8x16::splat(87), u8x16::splat(48))
 }
 
-/// The first digit of each of sixteen bytes.
+/// Returns the first digit of each of sixteen bytes.
 #[inline(always)]
 fn high_digits(bytes: u8x16) -> u8x16
     ensures { result ≡ map (λ b. slice_index lower_digits (b / 16)) bytes }

@@ -7,7 +7,7 @@ use Rattle.ddcmp_core.specs.Table.{may_send_maintenance, after_accept, after_tak
 use Rattle.ddcmp_core.specs.Table.{after_take_arm}
 
 -- The user sends a message or a maintenance message or takes one, a frame is asked for, something
--- comes, the timer runs out, or its start is taken note of.
+-- comes, the timer expires, or its start is taken note of.
 pub data Call : Type 0 where
   Sending : List ℕ → Call
   SendingMaintenance : List ℕ → Call
@@ -76,22 +76,22 @@ IsOrLost (message ∷ rest) [] = ⊥
 IsOrLost (message ∷ rest) (first ∷ came) =
     ((message ≡ first) × IsOrLost rest came) ⊎ IsOrLost (message ∷ rest) came
 
--- What is sent are maintenance messages; behind those that were to be sent, they are the accepted
+-- What is sent are maintenance messages; after those that were to be sent, they are the accepted
 -- ones in their order, each once, and what isn't sent yet is still to be sent.
 pub record SendsInOrder (l : Limits) (calls : List Call) (s : StationState) : Type 0 where
   pub messages : List (List ℕ)
   pub frames : sent_in l calls s ≡ map (λ message. Maint message) messages
   pub order : messages ++ (after_calls l calls s).out ≡ s.out ++ accepted_in l calls s
 
--- What was handed up, taken or still in the inbox, is behind the mail that was there what came, in
--- its order and each once, or lost.
+-- What was delivered, taken or still in the inbox, is after the received messages that were there
+-- what came, in its order and each once, or lost.
 pub record HandsUpInOrder (l : Limits) (calls : List Call) (s : StationState) : Type 0 where
   pub messages : List (List ℕ)
   pub handed_up : taken_in l calls s ++ (after_calls l calls s).inbox ≡ s.inbox ++ messages
   pub order : IsOrLost messages (maintenance_in calls)
 
--- These calls leave a message that was sent unanswered: what comes acknowledges nothing behind a
--- and is no NAK and no STRT, and the timer doesn't run out.
+-- These calls leave a message that was sent unanswered: what comes acknowledges nothing after a
+-- and is no NAK and no STRT, and the timer doesn't expire.
 abbrev pub LeavesUnanswered : ℕ → List Call → Type 0
 LeavesUnanswered a [] = Unit {0}
 LeavesUnanswered a (Coming (Good (Acked resp)) ∷ rest) = (resp ≡ a) × LeavesUnanswered a rest

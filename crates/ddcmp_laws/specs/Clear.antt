@@ -32,7 +32,7 @@ FindsRoom (event.Arrive e bytes) p =
 FindsRoom _ p = Unit {0}
 
 -- Each of these events, among which is no halt, brings only messages that find room, and after each
--- what arrived at each end is a beginning of what the other wrote.
+-- what arrived at each end is a prefix of what the other wrote.
 abbrev pub StaysClear : List Event → PairState → Type 0
 StaysClear [] p = Unit {0}
 StaysClear (event.Halt e ∷ rest) p = ⊥

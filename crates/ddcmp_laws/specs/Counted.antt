@@ -98,15 +98,15 @@ counts_of_replies = record no_counts {
 
 -- ---- a run
 
--- the line is never cleared, which would begin the histories anew and not the counters
+-- the line is never cleared, which would begin the histories again and not the counters
 abbrev pub NeverClears : List Event → Type 0
 NeverClears [] = Unit {0}
 NeverClears (event.Clear ∷ rest) = ⊥
 NeverClears (e ∷ rest) = NeverClears rest
 
--- Where it sent no more frames, and handed up no more messages, than a counter can hold, an end
+-- If it sent no more frames, and delivered no more messages, than a counter can hold, an end
 -- has counted each REP, each NAK and each message that it sent, for the first time or again, and
--- each that was handed up.
+-- each that was delivered.
 pub record HasCounted (x : EndState) : Type 0 where
   pub reps : length x.sent ≤ 4294967295 → x.core.counters.rep_sent ≡ frames_of is_rep x.sent
   pub naks : length x.sent ≤ 4294967295

@@ -1,4 +1,4 @@
--- A line that loses and changes nothing: what arrived is a beginning of what was written.
+-- A line that loses and changes nothing: what arrived is a prefix of what was written.
 use Rattle.std.specs.Prelude.{◌≡◌, ℕ, List, [], ◌∷◌, ◌++◌, replicate}
 use Rattle.ddcmp_frame.specs.declared.codes.TheConstants.{SYN}
 use Rattle.ddcmp_frame.specs.Wire.{wire}
@@ -6,7 +6,7 @@ use Rattle.ddcmp_run.specs.declared.event.Event.{Event}
 use Rattle.ddcmp_run.specs.Place.{WholeFrame}
 use Rattle.ddcmp_run.specs.Run.{EndState, PairState, after_event}
 
--- frames on the line one after another, each behind its fill
+-- frames on the line one after another, each after its fill
 unfoldable pub bytes_of : ℕ → List WholeFrame → List ℕ
 bytes_of fill [] = []
 bytes_of fill (f ∷ rest) = (replicate fill SYN ++ wire f.0 f.1) ++ bytes_of fill rest
@@ -19,7 +19,7 @@ written x = bytes_of x.syn x.sent
 abbrev pub Begins : List ℕ → List ℕ → Type 0
 Begins front text = (rest : List ℕ) × (front ++ rest ≡ text)
 
--- what arrived at each end is a beginning of what the other wrote
+-- what arrived at each end is a prefix of what the other wrote
 pub record IsFaithful (p : PairState) : Type 0 where
   pub to_a : Begins p.a.arrived (written p.b)
   pub to_b : Begins p.b.arrived (written p.a)

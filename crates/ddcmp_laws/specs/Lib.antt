@@ -9,3 +9,10 @@ pub mod Damage
 pub mod Recovered
 pub mod Positions
 pub mod Clear
+pub mod LossFree
+pub mod Price
+pub mod Rests
+pub mod Delivers
+pub mod Sleep
+pub mod Sweeps
+pub mod SweepStory

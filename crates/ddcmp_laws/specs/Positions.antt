@@ -1,4 +1,4 @@
--- The numbers of two ends, and the frames on their way, as positions and counts of a link.
+-- The numbers of two ends, and the frames in flight, as positions and counts of a link.
 use Rattle.std.specs.Prelude.{◌≡◌, ℕ, ◌+◌, ◌%◌, ◌<◌, ◌≤◌, List, [], ◌∷◌, length, drop, map, Some}
 use Rattle.ddcmp_frame.specs.Reading.{good_frames}
 use Rattle.ddcmp_core.specs.Frames.{frame_of}
@@ -53,7 +53,7 @@ CarryPositions given (f ∷ rest) =
 -- ---- one direction
 
 -- An end that began has as N and T the highest position that it sent and the next one that it
--- sends, and as A the number of messages that were acknowledged to it; it keeps those behind.
+-- sends, and as A the number of messages that were acknowledged to it; it keeps those after.
 pub record HasPositions (x : EndState) (sent next : ℕ) : Type 0 where
   pub n : x.core.station.n ≡ sent % 256
   pub t : x.core.station.t ≡ next % 256
@@ -62,9 +62,9 @@ pub record HasPositions (x : EndState) (sent next : ℕ) : Type 0 where
   pub next_low : x.acknowledged < next
   pub next_high : next ≤ sent + 1
 
--- What one end gave and the other handed up is a run of a link without bounds, and all numbers are
--- those of the link modulo 256: those of the end that gives, R at the other, and those of the
--- frames that each end sent behind the place of what arrived at the other.
+-- What one end accepted and the other delivered is a run of a link without bounds, and all numbers
+-- are those of the link modulo 256: those of the end that gives, R at the other, and those of the
+-- frames that each end sent after the place of what arrived at the other.
 pub record IsNumberedLink (from to : EndState) : Type 0 where
   pub sent : ℕ
   pub next : ℕ

@@ -22,7 +22,7 @@ use Rattle.ddcmp_core.specs.Table.{Frame, Rep, Good, acknowledged_by, Maint}
 -- ---- what a halt leaves
 
 -- A station that halted owes nothing and waits for nothing, and keeps its numbers, its messages to
--- send and its mail.
+-- send and its received messages.
 pub record HasHalted (before after : StationState) : Type 0 where
   pub state : after.state ≡ Halted
   pub due : after.due ≡ false
@@ -57,7 +57,7 @@ OnlyResponds (Good (Acked resp)) q = resp ≡ q
 OnlyResponds (Good (Naked why resp)) q = resp ≡ q
 OnlyResponds _ q = ⊥
 
--- Exactly the messages up to q leave, q is the last that is acknowledged, and as many are told.
+-- Exactly the messages up to q leave, q is the last that is acknowledged, and as many are reported.
 pub record AcknowledgesUpTo (q : ℕ) (before after : StationState)
     (notice_told : Option Notice) : Type 0 where
   pub a : after.a ≡ q
@@ -65,7 +65,7 @@ pub record AcknowledgesUpTo (q : ℕ) (before after : StationState)
   pub out : after.out ≡ drop (distance before.a q) before.out
   pub told : acknowledged_by notice_told ≡ distance before.a q
 
--- nothing leaves, and nothing is told acknowledged
+-- nothing leaves, and nothing is reported acknowledged
 pub record AcknowledgesNothing (before after : StationState)
     (notice_told : Option Notice) : Type 0 where
   pub a : after.a ≡ before.a
@@ -75,7 +75,7 @@ pub record AcknowledgesNothing (before after : StationState)
 
 -- ---- the timer
 
--- a frame that is sent again until it is answered: a STRT, a STACK or a REP
+-- a frame that is retransmitted until it is answered: a STRT, a STACK or a REP
 abbrev pub WantsAnswer : Frame → Type 0
 WantsAnswer Strt = Unit {0}
 WantsAnswer Stack = Unit {0}
@@ -92,7 +92,7 @@ tells_mail (Some notice.RunningAndHandedUp) = true
 tells_mail (Some notice.MaintenanceHandedUp) = true
 tells_mail _ = false
 
--- One message more is in the inbox, and is told; R is one more, and an ACK is owed.
+-- One message more is in the inbox, and is reported; R is one more, and an ACK is owed.
 pub record HandsUp (message : List ℕ) (before after : StationState)
     (notice_told : Option Notice) : Type 0 where
   pub inbox : after.inbox ≡ before.inbox ++ message ∷ []
@@ -100,7 +100,7 @@ pub record HandsUp (message : List ℕ) (before after : StationState)
   pub told : tells_mail notice_told ≡ true
   pub owed : after.reply ≡ Ack
 
--- the inbox and R stay, and no mail is told
+-- the inbox and R stay, and no received message is reported
 pub record HandsUpNothing (before after : StationState) (notice_told : Option Notice) : Type 0 where
   pub inbox : after.inbox ≡ before.inbox
   pub r : after.r ≡ before.r
@@ -145,17 +145,17 @@ pub record SendsNak (k r : ℕ) (s : StationState) : Type 0 where
   pub subtype : subtype_of why ≡ k
   pub frame : next_frame (next s) ≡ Some (Naked why r)
 
--- ---- the peer begins anew
+-- ---- the peer restarts
 
--- The station begins anew as well: its next frame is a STACK, what it was to send is dropped, and
--- how many messages that were is told.
+-- The station restarts as well: its next frame is a STACK, what it was to send is dropped, and
+-- how many messages that were is reported.
 pub record BeginsAnew (before after : StationState) (notice_told : Option Notice) : Type 0 where
   pub state : after.state ≡ AStart
   pub frame : next_frame (next after) ≡ Some Stack
   pub out : after.out ≡ []
   pub told : notice_told ≡ Some (notice.Restarted (length before.out))
 
--- the station halts, and tells why
+-- the station halts, and reports why
 pub record HaltsAtRestart (before after : StationState) (notice_told : Option Notice) : Type 0 where
   pub halted : HasHalted before after
   pub told : notice_told ≡ Some notice.PeerRestarted
@@ -163,7 +163,7 @@ pub record HaltsAtRestart (before after : StationState) (notice_told : Option No
 -- ---- the numbers of messages
 
 -- A station keeps a message under a number: it stands at some place among those that are kept, and
--- the number is as many behind A, counted modulo 256.
+-- the number is as many after A, counted modulo 256.
 pub record KeepsUnder (s : StationState) (number : ℕ) (message : List ℕ) : Type 0 where
   pub place : ℕ
   pub there : place < length s.out

@@ -129,7 +129,7 @@ abbrev pub nak_16_bytes : List ℕ
 nak_16_bytes =
     0x05 ∷ 0x02 ∷ 0x10 ∷ 0x00 ∷ 0x00 ∷ 0x01 ∷ 0xBC ∷ 0x95 ∷ []
 
--- NAK 8, for want of room, with RESP 1
+-- NAK 8, of a full inbox, with RESP 1
 abbrev pub nak_8_bytes : List ℕ
 nak_8_bytes =
     0x05 ∷ 0x02 ∷ 0x08 ∷ 0x01 ∷ 0x00 ∷ 0x01 ∷ 0xEB ∷ 0xF5 ∷ []
@@ -180,7 +180,7 @@ startup =
     ∷ (event.Poll B, reply.Idle)
     ∷ []
 
--- A sends two messages, and the first is lost. Its timer runs out, so it asks by a REP, is told by
+-- A sends two messages, and the first is lost. Its timer expires, so it asks by a REP, is told by
 -- a NAK, and sends both again.
 abbrev pub loss : List Happening
 loss =
@@ -217,8 +217,8 @@ answer =
     ∷ (event.Expire B, reply.Expired false)
     ∷ []
 
--- A message is damaged on its way, and B asks for it at once by a NAK. Then the ACK is lost, so A
--- asks by a REP, which is answered by an ACK: nothing is sent again.
+-- A message is damaged in flight, and B asks for it at once by a NAK. Then the ACK is lost, so A
+-- asks by a REP, which is answered by an ACK: nothing is retransmitted.
 abbrev pub damage : List Happening
 damage =
     (event.Send A g, reply.Accepted (number 3))
@@ -238,7 +238,7 @@ damage =
     ∷ (event.Poll B, reply.Idle)
     ∷ []
 
--- Both users take their mail.
+-- Both users take their received messages.
 abbrev pub mail : List Happening
 mail =
     (event.Take B, reply.Took abc)
@@ -274,7 +274,7 @@ faults =
     ∷ (event.Poll A, reply.Idle)
     ∷ []
 
--- The second message finds no room, and is sent again once there is some.
+-- The second message finds no room, and is retransmitted once there is some.
 abbrev pub want_of_room : List Happening
 want_of_room =
     (event.Send A abc, reply.Accepted (number 1))
@@ -298,8 +298,8 @@ second_run = startup ++ (faults ++ want_of_room)
 
 -- ---- a third run, over a line that loses nothing
 
--- Both ends start at once. A sends a message, and its timer runs out before the message has come,
--- which it does in two pieces. The REP behind it is answered by the same ACK.
+-- Both ends start at once. A sends a message, and its timer expires before the message has come,
+-- which it does in two pieces. The REP after it is answered by the same ACK.
 abbrev pub clear_run : List Happening
 clear_run =
     (event.Start A, reply.Started 0)
@@ -403,7 +403,7 @@ clear_counts_of_a = record no_counts {
 abbrev pub clear_counts_of_b : Counters
 clear_counts_of_b = record no_counts { messages_up = 1; bytes_up = 3; rep_received = 1 }
 
--- All was handed up and acknowledged: these messages at each end. The line was honest, and neither
+-- All was delivered and acknowledged: these messages at each end. The line was honest, and neither
 -- end began twice. And the ends have counted this.
 pub record EndsWell (p : PairState) (mail_of_a mail_of_b : List (List ℕ))
     (counts_at_a counts_at_b : Counters) : Type 0 where

@@ -1,4 +1,4 @@
-//! Damage on the line is detected, and what is damaged or too long is passed over.
+//! Damage on the line is detected, and what is damaged or too long is skipped.
 ghost use Rattle.std.specs.Prelude.{◌≡◌, ◌+◌, ◌%◌, ◌<◌, ◌≤◌, ◌⊎◌, ℕ, List, [], ◌∷◌, ◌++◌, length};
 ghost use Rattle.std.specs.Prelude.{take, drop, replicate, true, false, Some, Ok, Err};
 ghost use Rattle.ddcmp_frame.specs.declared.codes.TheConstants.{SYN};
@@ -12,9 +12,9 @@ ghost use Rattle.ddcmp_frame.specs.Reading.{items, open_at_end, is_data_right, c
 ghost use Rattle.ddcmp_laws.specs.Damage.{DiffersInABurst, DiffersInOneByte, with_check};
 
 /// Eight bytes that are a header are none any more once up to 16 bits in a row of them have
-/// changed, in fields, check or both: their check fails, or they don't begin as a header. So it is
-/// where one byte has changed.
-pub fn damaged_headers_are_told()
+/// changed, in fields, CRC or both: their CRC is wrong, or they don't begin as a header. So it is
+/// if one byte has changed.
+pub fn damaged_headers_are_detected()
     ensures burst { (h : HeaderValue) (old new : List ℕ) → length old ≡ 8 → length new ≡ 8
         → parsed old ≡ Ok h → DiffersInABurst old new
         → (parsed new ≡ Err Check) ⊎ (parsed new ≡ Err NotAStart) }
@@ -23,9 +23,9 @@ pub fn damaged_headers_are_told()
         → (parsed new ≡ Err Check) ⊎ (parsed new ≡ Err NotAStart) }
 {}
 
-/// Data behind a header that are right are so no more once up to 16 bits in a row of them or of
-/// their check have changed, or one byte.
-pub fn damaged_data_are_told()
+/// Data after a header that are right are so no more once up to 16 bits in a row of them or of
+/// their CRC have changed, or one byte.
+pub fn damaged_data_are_detected()
     ensures burst { (n : ℕ) (old new : List ℕ) → length old ≡ n + 10 → length new ≡ n + 10
         → is_data_right n old ≡ true → DiffersInABurst (drop 8 old) (drop 8 new)
         → is_data_right n new ≡ false }
@@ -34,9 +34,9 @@ pub fn damaged_data_are_told()
         → is_data_right n new ≡ false }
 {}
 
-/// A frame whose data are too long is told once and passed over whole: behind it nothing is open,
-/// so that the next frame is read.
-pub fn too_long_is_passed_over()
+/// A frame whose data are too long is reported once and skipped whole: after it nothing is open, so
+/// that the next frame is read.
+pub fn too_long_is_skipped()
     ensures told { (max fill : ℕ) (text message : List ℕ) (h : HeaderValue)
         → open_at_end max text ≡ 0 → IsInRange h → IsFrame h message → max < length message
         → items max (text ++ (replicate fill SYN ++ wire h message))

@@ -13,7 +13,7 @@ ghost use Rattle.ddcmp_run.specs.Run.{reply_to, run, handed_up};
 ghost use Rattle.ddcmp_laws.specs.Starts.{started};
 
 /// What a station sends, another reads as that frame and as nothing else, whatever came before and
-/// with any fill, where it takes messages as long and no frame is unfinished. Nor is one then.
+/// with any fill, if it takes messages as long and no frame is unfinished. Nor is one then.
 pub fn reads_what_another_sends()
     ensures read { (l : Limits) (s u : StationState) (f : Frame) (max fill : ℕ) (text : List ℕ)
         → IsSound l s → next s ≡ Sends f u → l.longest ≤ max → open_at_end max text ≡ 0
@@ -23,8 +23,8 @@ pub fn reads_what_another_sends()
         → open_at_end max (text ++ frame_on_line fill f) ≡ 0 }
 {}
 
-/// Behind the startup, at two ends of any sizes: a message that A accepts is what A writes next.
-/// Once these bytes arrive it is handed up at B, and nothing else is.
+/// After the startup handshake, at two ends of any sizes: a message that A accepts is what A writes
+/// next. Once these bytes arrive it is delivered at B, and nothing else is.
 pub fn delivers_what_was_accepted()
     ensures wrote { (first second : ConfigValue) (message : List ℕ) → first_refusal first ≡ None
         → 1 ≤ length message → length message ≤ first.max

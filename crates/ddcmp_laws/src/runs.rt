@@ -15,15 +15,15 @@ ghost use Rattle.ddcmp_laws.specs.Clear.{StaysClear, WastesNothing};
 ghost use Rattle.ddcmp_laws.specs.Counted.{NeverClears, HasCounted};
 
 /// Counters count what was done: in every run in which the line isn't cleared, whatever arrives,
-/// the counters of both ends say how many REPs, NAKs and messages the histories hold.
+/// the counters of both ends are the numbers of REPs, NAKs and messages that the histories hold.
 pub fn counts_what_was_done()
     ensures { (first second : ConfigValue) (events : List EventValue) (end : EndValue)
         → NeverClears events → HasCounted (at end (run events (new_pair first second))) }
 {}
 
-/// A faithful line is honest: where, after each event, what arrived at each end is a beginning of
-/// the bytes that the other wrote, fill and all, however they were cut, the run is honest. So the
-/// laws of order and of recovery speak of it. What an end wrote are the bytes that it answered.
+/// A faithful line is honest: if, after each event, what arrived at each end is a prefix of the
+/// bytes that the other wrote, fill and all, however they were cut, the run is honest. So the laws
+/// of order and of recovery speak of it. What an end wrote are the bytes that it returned.
 pub fn faithful_is_honest()
     ensures wrote { (end : EndValue) (p : PairState) (bytes : List ℕ)
         → reply_to (Poll end) p ≡ Wrote bytes
@@ -35,8 +35,8 @@ pub fn faithful_is_honest()
 {}
 
 /// Numbers are positions: in every honest and clean run R, N, A and T of each end that began, and
-/// the numbers and messages of the frames on their way, are those of two links without bounds,
-/// modulo 256.
+/// the numbers and messages of the frames in flight, are those of two links without bounds, modulo
+/// 256.
 pub fn numbers_are_positions()
     ensures { (first second : ConfigValue) (events : List EventValue)
         → first_refusal first ≡ None → first_refusal second ≡ None
@@ -48,7 +48,7 @@ pub fn numbers_are_positions()
         (run events (new_pair first second)).a }
 {}
 
-/// The number that `send` answers, and that of each data message that was ever sent, for the first
+/// The number that `send` returns, and that of each data message that was ever sent, for the first
 /// time or again, is the position of the message among those that the end accepted, modulo 256.
 pub fn messages_carry_positions()
     ensures answered { (first second : ConfigValue) (events : List EventValue) (end : EndValue)
@@ -66,10 +66,10 @@ pub fn messages_carry_positions()
         (at end (run events (new_pair first second))).sent }
 {}
 
-/// A clear line wastes nothing: between two ends that take messages of the same lengths, where
-/// after each event what arrived at each end is a beginning of what the other wrote, no message
-/// comes to a full inbox, and no end halts, no NAK is ever sent, and each message is sent once, in
-/// its order, whatever timers run out.
+/// A clear line wastes nothing: between two ends that take messages of the same lengths, if after
+/// each event what arrived at each end is a prefix of what the other wrote, no message comes to a
+/// full inbox, and no end halts, then no NAK is ever sent, and each message is sent once, in its
+/// order, whatever timers expire.
 pub fn clear_line_wastes_nothing()
     ensures { (first second : ConfigValue) (events : List EventValue)
         → first_refusal first ≡ None → first_refusal second ≡ None → first.max ≡ second.max

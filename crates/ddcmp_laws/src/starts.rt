@@ -15,7 +15,7 @@ ghost use Rattle.ddcmp_laws.specs.Starts.{both_start, started, IsUp};
 ghost use Rattle.ddcmp_laws.specs.Recovered.{Accepts, sent_over, HandsOver};
 
 /// Two new ends that take messages of the same lengths are ready once both have started: so the law
-/// of recovery speaks of them. A startup makes both run, whatever their sizes, and that run is
+/// of recovery speaks of them. A handshake makes both run, whatever their sizes, and that run is
 /// honest and clean: so the law of order speaks of it. And then each end accepts every message that
 /// isn't empty and isn't too long, as its first.
 pub fn two_ends_come_up()
@@ -29,9 +29,9 @@ pub fn two_ends_come_up()
 {}
 
 /// Once a line that was ready has recovered, each end accepts every message that isn't empty and
-/// isn't too long, under the number behind those of all that it accepted before. That message and
-/// nothing else is handed up when the line recovers again. So it is of the first message, where
-/// both ends started and nothing more had happened.
+/// isn't too long, under the number after those of all that it accepted before. That message and
+/// nothing else is delivered when the line recovers again. So it is of the first message, if both
+/// ends started and nothing more had happened.
 pub fn takes_messages_once_recovered()
     ensures accepts { (first second : ConfigValue) (events : List EventValue) (p : PairState)
         (end : EndValue) (message : List ℕ)

@@ -1,4 +1,4 @@
-//! Laws of one station, of whatever sizes and in whatever it waits for.
+//! Laws of one station, of any sizes and in any state.
 ghost use Rattle.std.specs.Prelude.{◌≡◌, ◌≢◌, ◌+◌, ◌%◌, ◌<◌, ◌≤◌, ◌↔◌, ◌⊎◌, ℕ, List, [], ◌∷◌, ◌++◌};
 ghost use Rattle.std.specs.Prelude.{length, true, false, Some, None, Ok, Err};
 ghost use Rattle.ddcmp_num.specs.Sequence.{distance, Within};
@@ -34,8 +34,8 @@ ghost use Rattle.ddcmp_laws.specs.Station.{IsNoMaintenance, IsGoodMaintenance, C
 ghost use Rattle.ddcmp_laws.specs.Station.{IsStartRefused, IsRefused, WantsAnswer};
 ghost use Rattle.ddcmp_laws.specs.Station.{SendsNak, BeginsAnew, HaltsAtRestart, KeepsUnder};
 
-/// A halted station is deaf and dumb: nothing that comes changes it, it sends nothing, and it takes
-/// no message. Who halts it finds its numbers, its messages and its mail as they were.
+/// A halted station is deaf and dumb: no input changes it, it sends nothing, and it accepts no
+/// message. Who halts it finds its numbers, its messages and its inbox as they were.
 pub fn halted_is_deaf_and_dumb()
     ensures deaf { (l : Limits) (s : StationState) (h : Received) → s.state ≡ Halted → on l s h
         ≡ s }
@@ -45,9 +45,9 @@ pub fn halted_is_deaf_and_dumb()
     ensures halts { (s : StationState) → HasHalted s (after_halt s) }
 {}
 
-/// A running station takes exactly the messages of 1 to `longest` bytes, while fewer than its
-/// window are kept; and so does one in Maintenance, of maintenance messages. One that it takes is
-/// kept behind the others.
+/// A running station accepts exactly the messages of 1 to `longest` bytes, while fewer than its
+/// window are queued; and so does one in Maintenance, of maintenance messages. One that it accepts
+/// is queued after the others.
 pub fn takes_what_it_may()
     ensures exactly { (l : Limits) (s : StationState) (message : List ℕ) → s.state ≡ Running
         → (may_send l s message ≡ true) ↔ ((1 ≤ length message) × (length message ≤ l.longest)
@@ -59,9 +59,9 @@ pub fn takes_what_it_may()
         ≡ s.out ++ message ∷ [] }
 {}
 
-/// What comes with a RESP within what was sent acknowledges exactly the messages up to it, be it an
-/// ACK, a NAK or data; and reports how many. If it acknowledges some, no REP is due any more.
-/// Beyond what was sent it acknowledges none: such an ACK or NAK changes nothing, and such data are
+/// Input with a RESP within what was sent acknowledges exactly the messages up to it, be it an ACK,
+/// a NAK or data; and reports how many. If it acknowledges some, no REP is due any more. Beyond
+/// what was sent it acknowledges none: such an ACK or NAK changes nothing, and such data are
 /// received as if their RESP were A.
 pub fn acknowledges_exactly()
     ensures within { (l : Limits) (s : StationState) (h : Received) (q : ℕ)
@@ -81,9 +81,9 @@ pub fn acknowledges_exactly()
         → on l s (Good (Data q num message)) ≡ on l s (Good (Data s.a num message)) }
 {}
 
-/// A running station hands up exactly the message that comes next where there is room: the inbox,
-/// R and what is told move together, and an ACK is owed. Other data, a full inbox, and what is no
-/// data message move none of them; a STRT, which ends the run, has a law of its own.
+/// A running station delivers exactly the message that is next in sequence if there is room: the
+/// inbox, R and what is reported move together, and an ACK is owed. Other data, a full inbox, and
+/// what is no data message move none of them; a STRT, which ends the run, has a law of its own.
 pub fn receives_in_step()
     ensures next { (l : Limits) (s : StationState) (resp num : ℕ) (message : List ℕ)
         → s.state ≡ Running → num ≡ (s.r + 1) % 256 → length s.inbox < l.room
@@ -103,9 +103,9 @@ pub fn receives_in_step()
         → HandsUpNothing s (on l s h) (notice_of l s h) }
 {}
 
-/// Data with RESP 0 end the startup of a station that answers one, and are received as a running
-/// station receives them: the message that comes next is handed up at once where there is room, and
-/// no other is. Data with another RESP leave the startup as it was.
+/// Data with RESP 0 end the handshake of a station that answers a STRT, and are received as a
+/// running station receives them: the message that is next is delivered at once if there is room,
+/// and no other is. Data with another RESP leave the handshake as it was.
 pub fn data_end_a_startup()
     ensures next { (l : Limits) (s : StationState) (num : ℕ) (message : List ℕ)
         → s.state ≡ AStart → num ≡ (s.r + 1) % 256 → length s.inbox < l.room
@@ -125,8 +125,8 @@ pub fn data_end_a_startup()
 
 /// A header that can't be read, and a data message that is damaged or too long, are asked for at
 /// once: the next frame is a NAK with R and the reason, and nothing else has changed. So is the
-/// next message where there is no room. A REP is answered by what is owed: an ACK where all that it
-/// asks for has come, and else a NAK.
+/// next message if there is no room. A REP is answered by what is owed: an ACK if all that it asks
+/// for has come, and else a NAK.
 pub fn asks_at_once()
     ensures fault { (l : Limits) (s : StationState) (h : Received) (k : ℕ) → s.state ≡ Running
         → CallsFor h k → SendsNak k s.r (on l s h)
@@ -141,9 +141,9 @@ pub fn asks_at_once()
         → on l s (Good (Rep s.r)) ≡ record s { reply = Ack } }
 {}
 
-/// A running station always tells of a STRT. Where it may restart and has no mail it begins anew
-/// as its peer does; else it halts.
-pub fn tells_of_each_strt()
+/// A running station always reports a STRT. If it may restart and no received message is waiting it
+/// restarts as its peer does; else it halts.
+pub fn reports_each_strt()
     ensures restarts { (l : Limits) (s : StationState) → s.state ≡ Running → l.restart ≡ true
         → s.inbox ≡ [] → BeginsAnew s (on l s (Good Strt)) (notice_of l s (Good Strt)) }
     ensures halts { (l : Limits) (s : StationState) → s.state ≡ Running
@@ -167,8 +167,8 @@ pub fn reports_what_it_leaves_alone()
 {}
 
 /// `start` returns how many messages it drops, or why it is refused: that the station isn't halted
-/// goes before mail that wasn't taken. A message is refused for the first of four reasons: another
-/// state, no bytes, too many bytes, and a full window.
+/// goes before messages that weren't taken. A message is refused for the first of four reasons:
+/// another state, no bytes, too many bytes, and a full window.
 pub fn refuses_for_the_first_reason()
     ensures started { (s : StationState) → s.state ≡ Halted → s.inbox ≡ []
         → (answer_to_start s ≡ Ok (length s.out)) × ((after_start s).out ≡ []) }
@@ -214,12 +214,12 @@ pub fn answers_no_answer()
 {}
 
 /// The timer isn't starved: data start a timer that is off, and leave one that is running as it is;
-/// a STRT, a STACK and a REP start it anew. What acknowledges all that was sent ends it, and so
-/// does a NAK, which takes back a REP too; an ACK or data that acknowledge a part start it anew.
-/// And where it runs out while a message waits to be acknowledged, and no NAK is owed, the station
-/// asks by a REP; where none waits it asks for nothing. Over any number of calls a timer that is on
-/// stays on, and so runs out in the end, whatever is sent and whatever comes, until something is
-/// acknowledged or asked for, or the peer begins anew.
+/// a STRT, a STACK and a REP restart it. What acknowledges all that was sent ends it, and so does a
+/// NAK, which takes back a REP too; an ACK or data that acknowledge a part restart it. And if it
+/// expires while a message waits to be acknowledged, and no NAK is owed, the station asks by a REP;
+/// if none waits it asks for nothing. Over any number of calls a timer that is on stays on, and so
+/// expires in the end, whatever is sent and received, until something is acknowledged or asked for,
+/// or the peer restarts.
 pub fn timer_is_not_starved()
     ensures running { (s u : StationState) (r num : ℕ) (message : List ℕ)
         → next s ≡ Sends (Data r num message) u → s.timer ≢ Off → u.timer ≡ s.timer }
@@ -245,11 +245,11 @@ pub fn timer_is_not_starved()
         → (after_calls l calls s).timer ≡ On }
 {}
 
-/// The number that `send` answers is the number on the line of that message, each time that it is
-/// sent: from then on, while the station runs, the message is kept under that number, no other is,
-/// and what is sent under a number is the message that is kept under it; until it is told
+/// The number that `send` returns is the number on the line of that message, each time that it is
+/// sent: from then on, while the station runs, the message is queued under that number, no other
+/// is, and what is sent under a number is the message that is queued under it; until it is reported
 /// acknowledged.
-pub fn sends_under_the_number_answered()
+pub fn sends_under_the_number_returned()
     ensures answered { (l : Limits) (s : StationState) (message : List ℕ) (number : SeqValue)
         → answer_to_send l s message ≡ Ok number
         → KeepsUnder (after_accept s message) number.0 message }
@@ -277,8 +277,8 @@ pub fn sends_under_the_number_answered()
 {}
 
 /// Maintenance stands apart: elsewhere a maintenance message changes nothing, be it good, damaged
-/// or too long, and in Maintenance nothing else does. There each message goes to the inbox, behind
-/// the others, or is lost where there is no room; and those to be sent are sent in their order.
+/// or too long, and in Maintenance nothing else does. There each message goes to the inbox, after
+/// the others, or is lost if there is no room; and those to be sent are sent in their order.
 pub fn maintenance_stands_apart()
     ensures elsewhere { (l : Limits) (s : StationState) (h : Received)
         → s.state ≢ Maintenance → IsMaintenance h → on l s h ≡ s }
@@ -297,9 +297,9 @@ pub fn maintenance_stands_apart()
         → next s ≡ Sends (Maint message) (record s { out = rest }) }
 {}
 
-/// Over any number of calls in Maintenance, whatever comes: what is sent is what was accepted, in
-/// that order and each once, and what isn't sent yet still is to be sent. What is handed up is what
-/// came, in that order and each once, or it is lost.
+/// Over any number of calls in Maintenance, whatever the input: what is sent is what was accepted,
+/// in that order and each once, and what isn't sent yet still is to be sent. What is delivered is
+/// what was received, in that order and each once, or it is lost.
 pub fn maintenance_is_in_order()
     ensures sent { (l : Limits) (s : StationState) (calls : List Call) → s.state ≡ Maintenance
         → SendsInOrder l calls s }
@@ -307,7 +307,7 @@ pub fn maintenance_is_in_order()
         → s.state ≡ Maintenance → HandsUpInOrder l calls s }
 {}
 
-/// What comes is counted under its own counter alone. The four faults are counted in every state;
+/// An input is counted under its own counter alone. The four faults are counted in every state;
 /// NAKs, each under its reason, and REPs while the station runs.
 pub fn counts_what_comes()
     ensures faults { (l : Limits) (s : StationState)

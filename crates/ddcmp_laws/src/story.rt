@@ -8,9 +8,9 @@ ghost use Rattle.ddcmp_laws.specs.Story.{counts_of_a, counts_of_b, second_counts
 ghost use Rattle.ddcmp_laws.specs.Story.{second_counts_of_b, clear_counts_of_a, clear_counts_of_b};
 ghost use Rattle.ddcmp_laws.specs.Clear.{StaysClear};
 
-/// A startup, messages both ways, of which one is lost and one is damaged, a lost ACK, and the
+/// A handshake, messages both ways, of which one is lost and one is damaged, a lost ACK, and the
 /// repair of each: every frame on the line, every notice and every number is the one that is
-/// written down. In the end each message was handed up once, and both ends have counted right.
+/// written down. In the end each message was delivered once, and both ends have counted right.
 pub fn written_run_is_answered()
     ensures replies { replies_to (map event_in written_run) (new_pair usual usual)
         ≡ map reply_in written_run }
@@ -27,9 +27,9 @@ pub fn second_run_is_answered()
         [] (abc ∷ de ∷ []) second_counts_of_a second_counts_of_b }
 {}
 
-/// The same of a run over a clear line, in which a timer runs out all the same: so the law that
-/// such a line wastes nothing speaks of runs in which messages are sent and asked for, also between
-/// ends whose inboxes take one message.
+/// The same of a run over a clear line, in which a timer expires all the same: so the law that such
+/// a line wastes nothing speaks of runs in which messages are sent and asked for, also between ends
+/// whose inboxes take one message.
 pub fn clear_run_is_answered()
     ensures clear { StaysClear (map event_in clear_run) (new_pair usual usual) }
     ensures one { StaysClear (map event_in clear_run) (new_pair tight tight) }

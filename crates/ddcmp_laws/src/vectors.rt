@@ -18,7 +18,7 @@ pub fn published_checks()
 {}
 
 /// Headers in which each field has a value of its own: which byte has the TYPE, the SUBTYPE, Q, S,
-/// COUNT, RESP, NUM and ADDR, and behind them the check with its low byte first.
+/// COUNT, RESP, NUM and ADDR, and after them the CRC with its low byte first.
 pub fn headers_in_bytes()
     ensures ack { IsHeader (control Ack 0 true false 5 9 7)
         (0x05 ∷ 0x01 ∷ 0x40 ∷ 0x05 ∷ 0x09 ∷ 0x07 ∷ 0x7F ∷ 0xC6 ∷ []) }

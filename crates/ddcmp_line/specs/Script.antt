@@ -124,7 +124,7 @@ outcome_of_lose from (front ∷ later) s =
     outcome_between (with_frames from later s.lines)
     (counted_line (end_name from) (codes "lost ") (length front))
 
--- byte `at` of the front is changed by exclusive or, where it has so many
+-- byte `at` of the front is changed by exclusive or, if it has that byte
 abbrev pub changed : ℕ → ℕ → List ℕ → List ℕ
 changed at by front = slice_set front at (bit_xor (slice_index_or front at 0) by)
 
@@ -158,7 +158,7 @@ outcome_of_recover s = record {
   text = recovered_text (recovering s.pair).exchanges (is_done (recovered s.pair));
 }
 
--- what a command does, where the carrier gives these bytes if it is asked
+-- what a command does, if the carrier gives these bytes if it is asked
 unfoldable pub outcome_of : ScriptCommand → List ℕ → Scene → Effect
 outcome_of (Happens happened) came s = outcome_of_event happened s
 outcome_of (Carry from most) came s =
@@ -207,7 +207,7 @@ pub record Carries (is_direct : Bool) (old new : Option (List Carriage)) (all : 
 
 -- ---- lines, one after another
 
--- a line that was done, and what the carrier gave where the line asked it
+-- a line that was done, and what the carrier gave if the line asked it
 pub record DoneLine : Type 0 where
   pub line : List ℕ
   pub came : List ℕ

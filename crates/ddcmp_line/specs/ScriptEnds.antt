@@ -67,7 +67,7 @@ abbrev pub HasNoLf : List ℕ → Type 0
 HasNoLf [] = ⊤
 HasNoLf (c ∷ more) = (c ≢ 10) × HasNoLf more
 
--- An input begins with these lines, each of them fits, and behind them stand others.
+-- An input begins with these lines, each of them fits, and after them stand others.
 pub record Begins (done : List DoneLine) (behind : List (List ℕ)) (input : List ℕ) : Type 0 where
   pub lines : lines_done done ++ behind ≡ lines_of input
   pub fit : AllFit (lines_done done)
@@ -112,13 +112,13 @@ pub record StoppedAt (Reads : ParsedLine → Type 0) (n : ℕ) (input : List ℕ
   pub reads : Reads (reading_of line)
   pub did : Did done x Wrote
 
--- nothing was done behind these lines
+-- nothing was done after these lines
 abbrev pub StoppedBehind : List DoneLine → Around → Type 0
 StoppedBehind done x =
     (x.pair_after ≡ (scene_then x.pair done).pair) × Carried x (carriages_then x.pair done)
 
--- What the line behind these hands to the carrier was carried; some of its events happened, each of
--- them whole; and the next one asks for memory.
+-- What the line after these hands to the carrier was carried; some of its events happened, each of
+-- them whole; and the next one allocates.
 pub record StoppedInside (line : List ℕ) (done : List DoneLine) (x : Around) : Type 0 where
   pub came : List ℕ
   pub wants : WantsMemory (events_by (reading_of line) came (scene_then x.pair done))
@@ -126,12 +126,12 @@ pub record StoppedInside (line : List ℕ) (done : List DoneLine) (x : Around) :
   pub carried : Carried x (carriages_then x.pair done
       ++ carriages_by (reading_of line) came (scene_then x.pair done))
 
--- nothing was done behind these lines, or the next one was begun
+-- nothing was done after these lines, or the next one was begun
 abbrev pub StoppedBefore : List (List ℕ) → List DoneLine → Around → Type 0
 StoppedBefore [] done x = StoppedBehind done x
 StoppedBefore (line ∷ behind) done x = StoppedBehind done x ⊎ StoppedInside line done x
 
--- behind the text of the last line comes what has been done
+-- after the text of the last line comes what has been done
 abbrev pub text_behind : Bool → List (List ℕ) → PairState → List ℕ
 text_behind counted [] p = closing_text counted p
 text_behind counted (line ∷ behind) p = []
@@ -167,7 +167,7 @@ Plays counted input x Wrote WrotePart (Err Carrier) =
     (n : ℕ) × StoppedAt AsksCarrier n input x Wrote
 
 -- A script was played: which lines were done, what was written, what the pair is, and when each
--- answer comes. The carrier is down where it has failed.
+-- answer comes. The carrier is down if it has failed.
 pub record IsPlayed (counted : Bool) (x : Around) (source : SourceChange) (sink : SinkChange)
     (is_down : Bool) (result : Result (Unit {0}) ScriptFault) : Type 0 where
   pub told : (input : List ℕ) → source.before ≡ Some input
@@ -177,12 +177,12 @@ pub record IsPlayed (counted : Bool) (x : Around) (source : SourceChange) (sink 
   pub paused : (input rest : List ℕ) → source.before ≡ Some input → source.after ≡ Some rest
       → length input < length rest + (2 ^ 64 - 1) → result ≡ Err Read
       → PausedBefore rest input x (Appends sink.before sink.after)
-  -- Ok exactly where every line is a command or skipped, no device failed and memory was had.
+  -- Ok exactly if every line is a command or skipped, no device failed and memory was had.
   pub ok : (input : List ℕ) → source.before ≡ Some input
       → IsOk result ↔ (AllFit (lines_of input) × (source.state ≡ Fine)
       × (GaveMost source.before source.after → ⊥) × (sink.broken ≡ false) × (is_down ≡ false)
       × (result ≢ Err Memory))
-  -- Read exactly where the source isn't fine, or has given 2^64 - 1 bytes.
+  -- Read exactly if the source isn't fine, or has returned 2^64 - 1 bytes.
   pub read : source.state ≢ Fine → result ≡ Err Read
   pub read_only : result ≡ Err Read
       → (source.state ≢ Fine) ⊎ GaveMost source.before source.after

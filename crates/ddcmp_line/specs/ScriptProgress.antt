@@ -61,7 +61,7 @@ abbrev pub IsPlaying : List ℕ → Known → PlayerView → Course → Type 0
 IsPlaying input left player way =
     (rest : List ℕ) × (left ≡ Some rest) × HasDone input rest player way
 
--- why a line wasn't done, behind so many that were
+-- why a line wasn't done, after this many that were
 abbrev pub Stops : List ℕ → ℕ → Course → Stop → Type 0
 Stops input number way NoCommand =
     StoppedAt (λ r. r ≡ reading.NoCommand) (number + 1) input way.around (HandedOver way)

@@ -25,7 +25,7 @@ pub record Comes (o : Effect) (old new : Scene) (before after : Output) : Type 0
   pub text : HandsOver before after o.text
 
 -- What a line hands to the carrier was carried; some of its events happened, each of them whole;
--- and the next one asks for memory.
+-- and the next one allocates.
 pub record HasBegun (is_direct : Bool) (log log_after : Option (List Carriage)) (r : ParsedLine)
     (old new : Scene) : Type 0 where
   pub came : List ℕ
@@ -38,7 +38,7 @@ abbrev pub IsUntouched : Bool → Option (List Carriage) → Option (List Carria
 IsUntouched is_direct log log_after old new =
     (new.pair ≡ old.pair) × Carries is_direct log log_after []
 
--- want of memory stops a line
+-- an allocation failure stops a line
 abbrev pub stopped_of : {E : Type 0} → Result (Unit {0}) E → Result (Unit {0}) Stop
 stopped_of (Ok u) = Ok u
 stopped_of (Err m) = Err Memory
@@ -63,8 +63,8 @@ LineEnds is_direct log log_after r old new before after (Err Memory) =
     HandsOver before after []
     × (IsUntouched is_direct log log_after old new ⊎ HasBegun is_direct log log_after r old new)
 
--- What an answer tells of the sink and of the carrier: a write that failed, or a carrier that did,
--- behind text that was all written.
+-- What a result says of the sink and of the carrier: a write that failed, or a carrier that did,
+-- after text that was all written.
 pub record TellsDevices (output : Output) (is_down : Bool) (result : Result (Unit {0}) Stop)
     : Type 0 where
   pub write : result ≡ Err Write → IsTrue output.broken

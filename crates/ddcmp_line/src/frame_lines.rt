@@ -99,7 +99,7 @@ impl FrameLines {
         self.b.clear();
     }
 
-    /// Whether a line has no frame.
+    /// Returns whether a line has no frame.
     pub(crate) fn is_empty(&self, end: End) -> bool
         ensures { result ≡ (length (frames_of end self.now) == 0) }
     {
@@ -109,7 +109,7 @@ impl FrameLines {
         }
     }
 
-    /// Both lines are emptied, where that was the answer to a Clear.
+    /// Both lines are emptied, if that was the reply to a Clear.
     pub(crate) fn clear_after(&mut self, reply: &Reply)
         ensures { self.new ≡ cleared_by reply.now self.old }
     {
@@ -151,7 +151,7 @@ impl FrameLines {
         }
     }
 
-    /// Changes byte `at` of the front of a line by exclusive or, where it has so many.
+    /// Changes byte `at` of the front of a line by exclusive or, if it has that byte.
     pub(crate) fn change_front(&mut self, end: End, at: usize, by: u8) -> bool
         ensures frames { self.new
             ≡ with_frames end (with_change at by (frames_of end self.old)) self.old }
@@ -189,7 +189,7 @@ fn take_off(frames: &mut VecDeque<FrameLeft>, n: usize)
     }
 }
 
-/// Changes byte `at` of the front by exclusive or, where it has so many.
+/// Changes byte `at` of the front by exclusive or, if it has that byte.
 fn change_front(frames: &mut VecDeque<FrameLeft>, at: usize, by: u8) -> bool
     ensures frames { frames.new.items ≡ with_change at by frames.old.items }
     ensures answer { result ≡ has_byte at frames.old.items }

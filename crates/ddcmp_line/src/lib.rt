@@ -1,6 +1,6 @@
-//! Two stations on a line, joined by a carrier: `script` does what the lines of a text say happens
-//! between them, and writes what comes of it. What else such a program needs is passed on from the
-//! crates below.
+//! Two stations on a line, joined by a carrier: `script` does what the lines of a text ask for
+//! between them, and writes what comes of it. What else such a program needs is re-exported from
+//! the crates below.
 #![tactic(auto)]
 
 mod frame_lines;

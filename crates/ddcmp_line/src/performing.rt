@@ -38,7 +38,7 @@ pub(crate) enum Stop {
     Carrier,
 }
 
-/// The lines between the ends, and the text that waits to be written.
+/// The lines between the ends, and the buffered text.
 #[derive(Drop)]
 pub(crate) struct Stage {
     pub(crate) alloc: Global,
@@ -71,7 +71,7 @@ fn poll<W: Sink, V: View>(
     Ok(())
 }
 
-/// A frame that was written goes last on its line, where there is room for it.
+/// A frame that was written goes last on its line, if there is room for it.
 fn put_last(frames: &mut VecDeque<FrameLeft>, reply: Reply)
     requires { deque_len frames.old < deque_capacity frames.old }
     ensures { frames.new.items ≡ frames_after reply frames.old.items }
@@ -82,7 +82,7 @@ fn put_last(frames: &mut VecDeque<FrameLeft>, reply: Reply)
     }
 }
 
-/// At most so many bytes from the front of some, or all.
+/// Returns at most this many bytes from the front of some, or all.
 fn first_of(bytes: &[u8], most: Option<u32>) -> &[u8]
     ensures { result.now ≡ part_of most bytes.now }
 {
@@ -92,7 +92,7 @@ fn first_of(bytes: &[u8], most: Option<u32>) -> &[u8]
     }
 }
 
-/// Writes what waits before a carry that may fail, so that one device has failed at most.
+/// Writes what is buffered before a carry that may fail, so that one device has failed at most.
 fn flush_before<W: Sink, C: Carrier>(
     page: &mut Page,
     writer: &mut W,
@@ -110,7 +110,7 @@ fn flush_before<W: Sink, C: Carrier>(
     page.flush(writer)
 }
 
-/// Want of memory stops a line.
+/// An allocation failure stops a line.
 fn stopped(done: Result<(), Memory>) -> Result<(), Stop>
     ensures { result ≡ stopped_of done }
 {
@@ -155,7 +155,7 @@ impl Stage {
         }
     }
 
-    /// The line is cleared, and where it is both lines are emptied.
+    /// Clears the line, and if it is cleared empties both lines.
     fn clear<W: Sink, V: View>(
         &mut self,
         pair: &mut Pair,
@@ -250,7 +250,7 @@ impl Stage {
         Ok(())
     }
 
-    /// The front of an end's line arrives at the other end, as the carrier gives it.
+    /// The front of an end's line arrives at the other end, as the carrier returns it.
     fn carry<W: Sink, C: Carrier, V: View>(
         &mut self,
         pair: &mut Pair,
@@ -373,7 +373,8 @@ impl Stage {
         Ok(())
     }
 
-    /// The number of bytes that are left of the first frame on the line that a command names.
+    /// Returns the number of bytes that are left of the first frame on the line that a command
+    /// names.
     fn front_length(&self, command: &ScriptCommand) -> Option<usize> {
         let from = match command {
             ScriptCommand::Carry(from, _) | ScriptCommand::Lose(from) => *from,
@@ -386,7 +387,7 @@ impl Stage {
         }
     }
 
-    /// Does what a command asks for, and hands over its text.
+    /// Does what a command asks for, and writes its text.
     fn perform<W: Sink, C: Carrier, V: View>(
         &mut self,
         pair: &mut Pair,

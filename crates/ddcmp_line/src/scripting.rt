@@ -1,4 +1,4 @@
-//! A script: lines that say what happens between two ends.
+//! A script: lines that ask for what happens between two ends.
 ghost use Rattle.std.specs.Prelude.{◌≡◌, ◌≢◌, ◌⊎◌, ◌↔◌, ◌+◌, ◌-◌, ◌<◌, ◌≤◌, ◌^◌, ◌∷◌, [], false};
 ghost use Rattle.std.specs.Prelude.{Bool, List, ℕ, Option, Some, None, Err, OnErr, IsTrue, length};
 ghost use Rattle.std.specs.Io.KnownBytes.{Appends, Consumes};
@@ -54,7 +54,7 @@ impl Player {
         }
     }
 
-    /// Takes a byte of the script, and where it is LF does the line that it ends.
+    /// Takes a byte of the script, and if it is LF does the line that it ends.
     fn take_byte<W: Sink, C: Carrier, V: View>(
         &mut self,
         pair: &mut Pair,
@@ -130,7 +130,7 @@ impl Player {
         Ok(())
     }
 
-    /// Writes what waits, and says which fault it is.
+    /// Writes what is buffered; returns which fault it is.
     fn stop<W: Sink>(&mut self, writer: &mut W, stop: Stop) -> ScriptFault
         requires few { self.old.number < 2 ^ 64 - 1 }
         requires write { stop ≡ Stop.Write → IsTrue (W.broken writer.old) }
@@ -161,7 +161,7 @@ impl Player {
         }
     }
 
-    /// Does the last line, where LF doesn't end it.
+    /// Does the last line, if LF doesn't end it.
     fn end_input<W: Sink, C: Carrier, V: View>(
         &mut self,
         pair: &mut Pair,
@@ -287,7 +287,7 @@ impl Player {
                 _ => return Err(ScriptFault::Read),
             };
             self.seen += n as u64;
-            // A reader that has given the most bytes counts as failed.
+            // A reader that has returned the most bytes counts as failed.
             if self.seen == u64::MAX {
                 return Err(ScriptFault::Read);
             }
@@ -300,8 +300,8 @@ impl Player {
     }
 }
 
-/// Does what the lines of a script say, and writes what comes of each, and a last line of what has
-/// been done.
+/// Does what the lines of a script ask for, and writes what comes of each, and a last line of what
+/// has been done.
 pub fn script<R: Source, W: Sink, C: Carrier>(
     alloc: Global,
     pair: &mut Pair,
@@ -321,8 +321,8 @@ pub fn script<R: Source, W: Sink, C: Carrier>(
     script_with(alloc, pair, reader, writer, carrier, false)
 }
 
-/// Does what the lines of a script say, and writes what comes of each, the counters of both
-/// stations where they are asked for, and a last line of what has been done.
+/// Does what the lines of a script ask for, and writes what comes of each, the counters of both
+/// stations if they are asked for, and a last line of what has been done.
 pub fn script_with<R: Source, W: Sink, C: Carrier>(
     alloc: Global,
     pair: &mut Pair,
@@ -353,8 +353,8 @@ pub fn script_with<R: Source, W: Sink, C: Carrier>(
     )
 }
 
-/// Does what the lines of a script say, and has a view show it to a sink: what is promised of the
-/// pair, of the carrier and of the result is what `script` promises. If the view goes no
+/// Does what the lines of a script ask for, and has a view show it to a sink: what is promised of
+/// the pair, of the carrier and of the result is what `script` promises. If the view goes no
 /// further, the script ends as after an allocation failure. A sink that failed is left to the
 /// caller.
 pub fn script_viewed<R: Source, W: Sink, C: Carrier, V: View>(
@@ -378,7 +378,7 @@ pub fn script_viewed<R: Source, W: Sink, C: Carrier, V: View>(
     script_over(alloc, pair, view, reader, &mut text, writer, carrier, false)
 }
 
-/// Does what the lines of a script say: its text goes to `writer`, and what the view shows to
+/// Does what the lines of a script ask for: its text goes to `writer`, and what the view shows to
 /// `shown`.
 fn script_over<R: Source, W: Sink, C: Carrier, V: View, O: Sink>(
     alloc: Global,

@@ -24,7 +24,7 @@ pub const DATA_2: &[u8] = &[
     0x81, 0x03, 0x00, 0x00, 0x02, 0x01, 0x9A, 0xB1, 0x61, 0x62, 0x63, 0x38, 0x97,
 ];
 
-/// An arrival that told nothing.
+/// An arrival without a notice.
 pub const NO_NOTICE: Answer = Answer::Notices(&[]);
 
 pub const RUNNING: Answer = Answer::Notices(&[Notice::Running]);
@@ -142,7 +142,7 @@ pub struct Bench {
     pair: Pair,
 }
 
-// By hand, so that a pair is let go by a call: a derived one is written out at each such place.
+// Manual, since a derived `Drop` is expanded wherever a pair is dropped.
 impl Drop for Bench {
     fn drop(self) {
         let Bench { pair: _pair } = self;
@@ -204,7 +204,7 @@ impl Bench {
         self.pair.done()
     }
 
-    /// How many messages were given, handed up, and told acknowledged at an end.
+    /// How many messages were given, delivered, and reported acknowledged at an end.
     pub fn counts(&self, end: End) -> (usize, usize, u64) {
         (
             self.pair.given(end),
@@ -218,7 +218,7 @@ impl Bench {
         i < self.pair.given(end) && self.pair.given_at(end, i) == message
     }
 
-    /// Whether message `i` of those handed up at an end is this one.
+    /// Whether message `i` of those delivered at an end is this one.
     pub fn is_handed_up(&self, end: End, i: usize, message: &[u8]) -> bool {
         let mut out = [0; LONGEST];
         match self.handed_up_at(end, i, &mut out) {
@@ -227,7 +227,7 @@ impl Bench {
         }
     }
 
-    /// Copies message `i` of those handed up at an end, if there are so many, and answers its
+    /// Copies message `i` of those delivered at an end, if there are this many, and returns its
     /// length.
     fn handed_up_at(&self, end: End, i: usize, out: &mut [u8; LONGEST]) -> Option<usize> {
         if i >= self.pair.handed_up(end) || usize::from(self.pair.config(end).max) > LONGEST {
@@ -314,8 +314,8 @@ impl Bench {
         );
     }
 
-    /// On an honest line A gave this message so many times, and each was handed up at B and is told
-    /// acknowledged; B gave none.
+    /// On an honest line A gave this message this many times, and each was delivered at B and is
+    /// reported acknowledged; B sent none.
     pub fn has_many(&self, rt: &impl Abort, message: &[u8], times: usize) {
         assert!(rt; self.counts(End::A) == (times, 0, times as u64));
         assert!(rt; self.counts(End::B) == (0, times, 0));

@@ -108,7 +108,7 @@ fn a_damaged_byte_is_repaired(rt: HostRuntime) {
     }
 }
 
-/// Where the line was honest, each end was handed what the other gave.
+/// If the line was honest, each end was handed what the other gave.
 fn stays_in_order(rt: &(impl Abort + AllocGlobal), frame: usize, at: usize, spoil: Spoil) {
     let mut link = after_path(rt, frame, at, spoil);
     repairs(rt, &mut link);

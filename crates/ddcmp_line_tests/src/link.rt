@@ -16,7 +16,7 @@ struct Lines {
     of_b: Line,
 }
 
-// By hand, so that a line is let go by a call: a derived one is written out at each such place.
+// Manual, since a derived `Drop` is expanded wherever a line is dropped.
 impl Drop for Lines {
     fn drop(self) {
         let Lines {
@@ -40,7 +40,7 @@ pub struct Link {
     lines: Lines,
 }
 
-// By hand, so that a link is let go by a call: a derived one is written out at each such place.
+// Manual, since a derived `Drop` is expanded wherever a link is dropped.
 impl Drop for Link {
     fn drop(self) {
         let Link {
@@ -112,7 +112,7 @@ impl Link {
         }
     }
 
-    /// So many bytes of the front arrive, and the rest stays on the line.
+    /// This many bytes of the front arrive, and the rest stays on the line.
     pub fn cuts(&mut self, rt: &(impl Abort + AllocGlobal), from: End, count: usize) {
         if let Some(front) = self.lines.of(from).pop_front() {
             let count = count.min(front.len());
@@ -188,15 +188,15 @@ impl Link {
         }
     }
 
-    /// Both timers run out, and the line settles.
+    /// Both timers expire, and the line settles.
     pub fn rounds(&mut self, rt: &impl Abort) -> Settled {
         let _a = self.does(rt, Event::Expire(End::A));
         let _b = self.does(rt, Event::Expire(End::B));
         self.settles(rt)
     }
 
-    /// On an honest line and in a clean run what was handed up is a beginning of what was given at
-    /// the other end, and no more is told acknowledged than was handed up.
+    /// On an honest line and in a clean run what was delivered is a prefix of what was given at
+    /// the other end, and no more is reported acknowledged than was delivered.
     pub fn keeps_its_promise(&self, rt: &impl Abort) {
         if self.pair.honest() && self.pair.clean() {
             self.is_in_order(rt, End::A);
@@ -210,7 +210,7 @@ impl Link {
         assert!(rt; self.pair.acknowledged(end) <= self.pair.handed_up(end.other()) as u64);
     }
 
-    /// What was handed up at an end is a beginning of what was given at the other.
+    /// What was delivered at an end is a prefix of what was given at the other.
     pub fn is_in_order(&self, rt: &impl Abort, to: End) {
         let from = to.other();
         let mut out = [0; LONGEST];
@@ -224,7 +224,7 @@ impl Link {
         }
     }
 
-    /// Both ends run, and all that was given at each was handed up at the other and is told
+    /// Both ends run, and all that was given at each was delivered at the other and is reported
     /// acknowledged.
     pub fn is_done(&self, rt: &impl Abort) {
         for end in [End::A, End::B] {

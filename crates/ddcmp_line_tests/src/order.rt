@@ -1,4 +1,4 @@
-//! In order, once, unchanged, or not at all: over a bad line, and what would be false where the
+//! In order, once, unchanged, or not at all: over a bad line, and what would be false if the
 //! line isn't honest or a run isn't clean.
 ghost use Rattle.std.specs.Prelude.{◌<◌, ◌≤◌};
 
@@ -8,7 +8,7 @@ use std::process::Abort;
 
 // ---- what the premises are for
 
-/// One message more is handed up than was accepted.
+/// One message more is delivered than was accepted.
 fn one_too_many(bench: &Bench, rt: &impl Abort) {
     let (given, _up, _told) = bench.counts(End::A);
     let (_given, handed_up, _acknowledged) = bench.counts(End::B);
@@ -21,7 +21,7 @@ const FIRST: &[u8] = &[
     0x81, 0x01, 0x00, 0x00, 0x01, 0x01, 0xE3, 0x81, 0x61, 0xC1, 0xE8,
 ];
 
-/// It comes when 256 messages are over, and is handed up.
+/// It comes when 256 messages are over, and is delivered.
 fn comes_late(bench: &mut Bench, rt: &(impl Abort + AllocGlobal)) {
     let (honest, _clean) = bench.premises();
     assert!(rt; honest);
@@ -39,7 +39,7 @@ fn a_doubled_frame_is_handed_up_twice(rt: HostRuntime) {
     comes_late(&mut bench, &rt);
 }
 
-/// Message 1 is sent, and sent again after a REP and a NAK.
+/// Message 1 is sent, and retransmitted after a REP and a NAK.
 fn sent_twice() -> [Step; 10] {
     [
         (Action::Send(End::A, b"a"), Answer::Accepted(1)),
@@ -67,7 +67,7 @@ fn sent_twice() -> [Step; 10] {
     ]
 }
 
-/// Of two frames that were sent the first comes last, behind 255 others.
+/// Of two frames that were sent the first comes last, after 255 others.
 #[test]
 fn a_late_frame_is_handed_up_twice(rt: HostRuntime) {
     let mut bench = Bench::running(&rt, USUAL);
@@ -85,7 +85,7 @@ fn is_acknowledged(bench: &mut Bench) -> bool {
     bench.crosses(End::B, &[Notice::Acknowledged(1)])
 }
 
-/// A frame is lost, a REP shows it, and it is sent again.
+/// A frame is lost, a REP shows it, and it is retransmitted.
 fn comes_later(rt: &(impl Abort + AllocGlobal), window: u16) {
     let mut bench = Bench::running(rt, sizes(window));
     bench.plays(rt, &sent_twice());
@@ -144,7 +144,7 @@ struct Talk {
     next: [u16; 2],
 }
 
-// By hand, so that a talk is let go by a call: a derived one is written out at each such place.
+// Manual, since a derived `Drop` is expanded wherever a talk is dropped.
 impl Drop for Talk {
     fn drop(self) {
         let Talk {
@@ -208,8 +208,8 @@ impl Talk {
         }
     }
 
-    /// The end's next frame goes over the bad line, and what comes of it arrives. Then the mail is
-    /// taken.
+    /// The end's next frame goes over the bad line, and what comes of it arrives. Then the received
+    /// messages are taken.
     fn crosses(&mut self, rt: &(impl Abort + AllocGlobal), from: End) {
         self.offers(rt, from);
         if let Some(frame) = self.bench.polls(from) {
@@ -220,7 +220,7 @@ impl Talk {
         }
     }
 
-    /// An end's mail is taken.
+    /// An end's received messages are taken.
     fn takes(&mut self, rt: &impl Abort, end: End) {
         for _message in 0..MESSAGES {
             let Reply::Took(_message) = self.does(rt, Event::Take(end)) else {
@@ -229,7 +229,7 @@ impl Talk {
         }
     }
 
-    /// Both timers run out.
+    /// Both timers expire.
     fn expires(&mut self, rt: &impl Abort) {
         let _at_a = self.does(rt, Event::Expire(End::A));
         let _at_b = self.does(rt, Event::Expire(End::B));
@@ -252,7 +252,7 @@ impl Talk {
         assert!(rt; self.bench.premises() == (true, true));
     }
 
-    /// Both timers run out, and on a line that is good again frames go to and fro.
+    /// Both timers expire, and on a line that is good again frames go to and fro.
     fn settles(&mut self, rt: &(impl Abort + AllocGlobal)) {
         for end in [End::A, End::B] {
             self.offers(rt, end);
@@ -264,7 +264,8 @@ impl Talk {
         }
     }
 
-    /// All messages of an end are handed up at the other, in their order, and told acknowledged.
+    /// All messages of an end are delivered at the other, in their order, and reported
+    /// acknowledged.
     fn has_all(&self, rt: &impl Abort, from: End) {
         let (given, _up, acknowledged) = self.bench.counts(from);
         let (_given, handed_up, _told) = self.bench.counts(from.other());
@@ -275,7 +276,7 @@ impl Talk {
         }
     }
 
-    /// Whether this message of an end is handed up at the other, in its place.
+    /// Whether this message of an end is delivered at the other, in its place.
     fn is_all_of(&self, from: End, number: u16) -> bool
         requires { 1 ≤ number }
     {

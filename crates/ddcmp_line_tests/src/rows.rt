@@ -4,8 +4,8 @@ use ddcmp_pair::{End, Settled, State, Station};
 use std::alloc::Global;
 use std::process::Abort;
 
-/// Whether a station runs with these numbers R, N, A, T, keeps no message, has no mail, and its
-/// timer is off.
+/// Whether a station runs with these numbers R, N, A, T, keeps no message, has no received
+/// messages, and its timer is off.
 fn is_at(station: &Station, numbers: [u8; 4]) -> bool {
     let told = station.numbers();
     station.state() == State::Running
@@ -59,7 +59,7 @@ fn window_lost() -> [Step; 2] {
     ]
 }
 
-/// Whether a settle has so many exchanges, and the line is quiet then.
+/// Whether a settle has this many exchanges, and the line is quiet then.
 fn is_settled(bench: &mut Bench, exchanges: u32) -> bool {
     match bench.settle() {
         Ok(told) => told

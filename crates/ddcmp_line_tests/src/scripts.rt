@@ -22,7 +22,7 @@ fn draw_end(draws: &mut Draws) -> End {
     draws.among(&[End::A, End::B])
 }
 
-/// What scripts did where the line was honest and the run clean.
+/// What scripts did if the line was honest and the run clean.
 #[derive(Clone, Copy, Debug)]
 struct Tally {
     /// Events after which the promise was looked at.
@@ -95,7 +95,7 @@ fn harms(rt: &(impl Abort + AllocGlobal), link: &mut Link, draws: &mut Draws, fr
     }
 }
 
-/// Both ends halt, all mail is taken, the line is cleared, and both start.
+/// Both ends halt, all received messages are taken, the line is cleared, and both start.
 fn begins_anew(rt: &impl Abort, link: &mut Link) {
     for end in [End::A, End::B] {
         let _halted = link.does(rt, Event::Halt(end));
@@ -153,8 +153,8 @@ fn happens(
     }
 }
 
-/// Where the pair is ready, a recovery repairs the line whatever was lost: all that was given was
-/// handed up, and is told acknowledged.
+/// If the pair is ready, a recovery repairs the line whatever was lost: all that was given was
+/// delivered, and is reported acknowledged.
 fn recovers(rt: &impl Abort, link: &mut Link, tally: &mut Tally) {
     if link.pair.ready() {
         assert!(rt; link.recovers(rt).quiet);
@@ -164,7 +164,7 @@ fn recovers(rt: &impl Abort, link: &mut Link, tally: &mut Tally) {
     }
 }
 
-/// What is drawn from: all that can happen, or all but what is seldom and begins anew.
+/// What is drawn from: all that can happen, or all but what is seldom and restarts.
 const ANYTHING: usize = 100;
 
 const NOTHING_SELDOM: usize = 98;
@@ -189,7 +189,7 @@ fn plays(rt: &(impl Abort + AllocGlobal), draws: &mut Draws, tally: &mut Tally) 
     counts(&link, tally);
 }
 
-/// Counts what a script did, where it was honest and clean to its end.
+/// Counts what a script did, if it was honest and clean to its end.
 fn counts(link: &Link, tally: &mut Tally) {
     if link.pair.honest() && link.pair.clean() {
         for end in [End::A, End::B] {
@@ -202,7 +202,7 @@ fn counts(link: &Link, tally: &mut Tally) {
 }
 
 /// Half of the events at least find the line honest and the run clean, and in the mean a message
-/// of each script is handed up.
+/// of each script is delivered.
 #[test]
 fn two_thousand_scripts(rt: HostRuntime) {
     let mut draws = Draws {
@@ -225,7 +225,8 @@ fn two_thousand_scripts(rt: HostRuntime) {
     assert!(rt; tally.repaired > 500, "{tally:?}");
 }
 
-/// One script of so many events with this window at both ends, of which each fiftieth is looked at.
+/// One script of this many events with this window at both ends, of which each fiftieth is looked
+/// at.
 fn plays_long(rt: &(impl Abort + AllocGlobal), draws: &mut Draws, window: u16, events: u32) {
     let sizes = Config {
         window,

@@ -39,7 +39,7 @@ end_text driven state =
     ++ codes " read=" ++ decimal driven.read ++ codes " written=" ++ decimal driven.written
     ++ codes "\n"
 
--- the end of a report: the counters, where they are asked for, and the last line
+-- the end of a report: the counters, if they are asked for, and the last line
 abbrev pub closing_text : Bool → Driven → CoreView → List ℕ
 closing_text counted driven k =
     if counted then counters_line [] k.counters ++ end_text driven k.station.state
@@ -55,12 +55,12 @@ call_text (Handed message) = codes "mail " ++ encode_lower message ++ codes "\n"
 abbrev pub calls_text : List UserCall → List ℕ
 calls_text calls = flat_map call_text calls
 
--- a whole report: behind the lines for all calls stands its end, where the turns were over
+-- a whole report: after the lines for all calls stands its end, if the turns were over
 abbrev pub report_text : Bool → List UserCall → Result Driven LineFault → CoreView → List ℕ
 report_text counted calls (Ok driven) k = calls_text calls ++ closing_text counted driven k
 report_text counted calls (Err fault) k = calls_text calls
 
--- All of a text was written, or a beginning of it, where a write failed.
+-- All of a text was written, or a prefix of it, if a write failed.
 abbrev pub WritesOut : Bool → Known → Known → List ℕ → Type 0
 WritesOut false old new text = Appends old new text
 WritesOut true old new text = AppendsPart old new text
@@ -72,15 +72,15 @@ OffersOnce send (Asked room message ∷ calls) = (message ≡ send) × OffersOnc
 OffersOnce send (Told notice ∷ calls) = OffersOnce send calls
 OffersOnce send (Handed message ∷ calls) = OffersOnce send calls
 
--- What is answered to an answer of `drive`: a fault of the line is told, and else whether a write
--- of the report has failed.
+-- What is answered to an answer of `drive`: a fault of the line is reported, and else whether a
+-- write of the report has failed.
 abbrev pub served_answer : Result Driven LineFault → Bool → Result (Unit {0}) ServeFault
 served_answer (Ok driven) false = Ok tt
 served_answer (Ok driven) true = Err Report
 served_answer (Err fault) failed = Err (Line fault)
 
 -- A station that had just started was driven over these devices. Its user sent the message once
--- and reported all that it was told and handed, and the answer tells what came of it. `counted` is
+-- and reported all that it was told and handed, and the result says what came of it. `counted` is
 -- whether the counters are asked for, and `failed` whether a write of the report has failed.
 pub record Serves (milliseconds turns : ℕ) (restart counted : Bool) (send : List ℕ)
     (devices : Devices) (failed : Bool) (report report_after : Known)

@@ -9,7 +9,7 @@ const READ_WAIT_MS: u64 = 10;
 /// How long a write waits for a peer that doesn't read.
 const WRITE_WAIT_MS: u64 = 5000;
 
-/// A connection that waits so long, and no longer to fill a packet.
+/// Makes a connection that waits this long, and no longer to fill a packet.
 fn patient(stream: TcpStream) -> io::Result<TcpStream> {
     stream.set_read_timeout(Some(Duration::from_millis(READ_WAIT_MS)))?;
     stream.set_write_timeout(Some(Duration::from_millis(WRITE_WAIT_MS)))?;
@@ -22,7 +22,7 @@ pub fn connect<N: Net<Stream = TcpStream>>(net: &N, addr: &str) -> io::Result<Tc
     patient(TcpStream::connect(net, addr)?)
 }
 
-/// The first connection to an address, for a station that listens there.
+/// Returns the first connection to an address, for a station that listens there.
 pub fn accept<N: Net<Stream = TcpStream>>(net: &N, addr: &str) -> io::Result<TcpStream> {
     let (stream, _peer) = TcpListener::bind(net, addr)?.accept()?;
     patient(stream)

@@ -14,7 +14,7 @@ use ddcmp_station_text::{state_name, write_counters, write_notice};
 #[derive(Drop)]
 pub(crate) struct Reporter<'a, P> {
     report: &'a mut P,
-    /// What is still to be sent; nothing where it is empty.
+    /// What is still to be sent; empty if nothing is.
     send: &'a [u8],
 }
 
@@ -87,7 +87,7 @@ fn write_counted_totals<P: Sink>(
     write_totals(page, report, driven, station.state());
 }
 
-/// The end of a report: the counters, where they are asked for, and the last line.
+/// Writes the end of a report: the counters, if they are asked for, and the last line.
 fn write_closing<P: Sink>(
     page: &mut Page,
     report: &mut P,
@@ -106,7 +106,7 @@ fn write_closing<P: Sink>(
     }
 }
 
-/// Writes the end of a report: whether it and all before it went out.
+/// Writes the end of a report; returns whether it and all before it went out.
 pub(crate) fn write_end<P: Sink>(
     report: &mut P,
     driven: &Driven,

@@ -7,9 +7,9 @@ use std::fmt;
 pub enum ServeFault {
     /// There was no memory to make the station.
     Config,
-    /// The line failed or ended. This is told even where the report failed too.
+    /// The line failed or ended. This is reported even if the report failed too.
     Line(LineFault),
-    /// A write to the report failed. It is told when the turns are over.
+    /// A write to the report failed, which is known when the turns are over.
     Report,
 }
 

@@ -15,7 +15,7 @@ use std::alloc::Global;
 /// The most bytes of a message that a served station sends or takes.
 pub const SERVED_MAX: u16 = 1500;
 
-/// The sizes of a served station.
+/// Returns the sizes of a served station.
 fn usual_config(restart: bool) -> Config
     ensures { result ≡ config_of restart }
 {
@@ -29,9 +29,9 @@ fn usual_config(restart: bool) -> Config
 }
 
 /// Makes a station, starts it and drives it over a line for some turns. The report has a line for
-/// each notice and each message that came, as they come, and a last one; before that the counters,
-/// where `counted` asks for them. The station sends one message as soon as it runs, where `send`
-/// isn't empty.
+/// each notice and each received message, as they come, and a last one; before that the counters,
+/// if `counted` asks for them. The station sends one message as soon as it runs, if `send` isn't
+/// empty.
 pub fn serve<R: Source, W: Sink, P: Sink, C: Clock>(
     alloc: Global,
     reader: &mut R,

@@ -7,7 +7,7 @@ use std::io::{self, Read, Write};
 use std::net::{Ipv4Addr, Net, OpenListener, TcpListener, TcpStream};
 use std::time::Duration;
 
-/// How many bytes are written before as many are read: few enough that they have room on the way.
+/// How many bytes are written before as many are read: few enough that they have room in between.
 const PIECE: usize = 1024;
 
 /// How long a write or a read waits, in seconds, before the carrier has failed.

@@ -1,4 +1,4 @@
-// The time that a station, a tap and a link are told, over a clock of the test's own.
+// The time that a station, a tap and a link are reported, over a clock of the test's own.
 use crate::same::is;
 use ddcmp_station::{Clock, Elapsed};
 use std::cell::Cell;
@@ -6,7 +6,7 @@ use std::io::{self, ErrorKind};
 use std::process::Abort;
 use std::time::{self, Duration};
 
-/// A clock that tells what it is set to, and fails where it is set to nothing.
+/// A clock that returns what it is set to, and fails if it is set to nothing.
 #[derive(Drop)]
 struct SetClock {
     at: Cell<Option<Duration>>,
@@ -32,7 +32,7 @@ fn clock_at_seven() -> SetClock {
     }
 }
 
-/// So much after the clock was set to seven seconds, so many milliseconds are told.
+/// So much after the clock was set to seven seconds, this many milliseconds are reported.
 fn tells(
     rt: &impl Abort,
     clock: &SetClock,
@@ -61,7 +61,7 @@ fn milliseconds_since_the_making(rt: HostRuntime) {
     tells(&rt, &clock, &mut elapsed, 86_400_123_456_789, 86_400_123);
 }
 
-/// Where the clock fails the time stands, and goes on with it.
+/// If the clock fails the time stands, and goes on with it.
 #[test]
 fn a_clock_that_fails(rt: HostRuntime) {
     let clock = clock_at_seven();
@@ -72,7 +72,7 @@ fn a_clock_that_fails(rt: HostRuntime) {
     tells(&rt, &clock, &mut elapsed, 32_000_000, 32);
 }
 
-/// Where it failed at the making, no time passes.
+/// If it failed at the making, no time passes.
 #[test]
 fn a_clock_that_failed_at_first(rt: HostRuntime) {
     let clock = SetClock {

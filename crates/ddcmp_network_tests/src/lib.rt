@@ -1,5 +1,5 @@
 //! Tests of the program over the network of this machine: scripts between two ends, stations, their
-//! connections and the time that they are told.
+//! connections and the time that they are reported.
 #![tactic(auto)]
 
 #[cfg(test)]

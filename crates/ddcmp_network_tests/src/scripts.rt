@@ -1,4 +1,4 @@
-// Scripts that the program runs where a write fails, or the connection of `pair` can't be made or
+// Scripts that the program runs if a write fails, or the connection of `pair` can't be made or
 // fails. What they write else is the matter of `worked_commands`.
 use crate::same::is;
 use ddcmp_cli::{

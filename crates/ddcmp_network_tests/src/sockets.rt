@@ -56,7 +56,7 @@ impl<S: Net<Stream = TcpStream, Listener = TcpListener>> Net for Own<'_, S> {
     }
 }
 
-/// A listener that tells who has come, and hands over the stream of who came to another one.
+/// A listener that reports who has come, and passes their stream to another one.
 #[derive(Drop)]
 struct SwappingListener<'a> {
     own: TcpListener,
@@ -228,7 +228,7 @@ fn differing<const N: usize>() -> [u8; N] {
     bytes
 }
 
-/// So many bytes of an end come out at the other as they went in.
+/// This many bytes of an end come out at the other as they went in.
 fn cross(
     rt: &(impl Abort + Net<Stream = TcpStream>),
     from: End,
@@ -283,7 +283,7 @@ fn nothing_is_copied(rt: HostRuntime) -> Result<(), Fail> {
     Ok(())
 }
 
-/// Where the other end was shut, the connection has ended.
+/// If the other end was shut, the connection has ended.
 #[test]
 fn a_shut_end_is_an_end(rt: HostRuntime) -> Result<(), Fail> {
     let other = TcpListener::bind(&rt, "127.0.0.1:0")?;
@@ -302,7 +302,7 @@ fn a_shut_end_is_an_end(rt: HostRuntime) -> Result<(), Fail> {
     Ok(())
 }
 
-/// Where nothing comes, a read gives up after five seconds.
+/// If nothing comes, a read gives up after five seconds.
 #[test]
 fn silence_is_a_failed_read(rt: HostRuntime) -> Result<(), Fail> {
     let other = TcpListener::bind(&rt, "127.0.0.1:0")?;

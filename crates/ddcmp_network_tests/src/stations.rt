@@ -69,7 +69,7 @@ fn ends_with(rt: &impl System, digits: &[u8], status: u8) {
     assert!(rt; written.bytes().is_empty());
 }
 
-/// Too many digits are usage, also where they aren't hexadecimal; then come those that aren't, then
+/// Too many digits are usage, also if they aren't hexadecimal; then come those that aren't, then
 /// the connection.
 #[test]
 fn digits_come_before_the_connection(rt: HostRuntime) {
@@ -166,7 +166,7 @@ fn a_station_connects(rt: HostRuntime) -> Result<(), Fail> {
     Ok(())
 }
 
-/// A peer that is silent is asked again when the timer runs out, by the clock of the system.
+/// A peer that is silent is asked again when the timer expires, by the clock of the system.
 #[test]
 fn a_station_asks_again(rt: HostRuntime) -> Result<(), Fail> {
     let alloc = rt.alloc();
@@ -192,7 +192,7 @@ fn a_report_fails(rt: HostRuntime) -> Result<(), Fail> {
     let all = words("connect", addr.as_str(), "0", "0", ["", ""]);
     let (ending, _) = stationed(&rt, &all[..10], 1);
     assert!(rt; is_write_fault(&ending));
-    // Where the port is taken, none can listen there.
+    // If the port is taken, none can listen there.
     let all = words("listen", addr.as_str(), "0", "0", ["", ""]);
     let (ending, _) = stationed(&rt, &all[..10], 0);
     assert!(rt; is_carrier_fault(&ending));

@@ -1,4 +1,4 @@
--- The block check, by division of polynomials over bits.
+-- The CRC, by division of polynomials over bits.
 use Rattle.std.specs.Prelude.{ℕ, zero, suc, ◌+◌, ◌*◌, ◌/◌, ◌%◌, ◌==◌, Bool, true, false, List, []}
 use Rattle.std.specs.Prelude.{◌∷◌, ◌++◌, length, replicate, if◌then◌else◌}
 use Rattle.std.proofs.Math.Bool.{xor}

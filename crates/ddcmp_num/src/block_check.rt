@@ -1,11 +1,11 @@
-//! A block check that is computed piece by piece.
+//! The CRC (block check), computed chunk by chunk.
 ghost use Rattle.std.specs.Prelude.{◌≡◌, ◌<◌, ◌^◌, List, ℕ, [], ◌∷◌, ◌++◌};
 ghost use Rattle.ddcmp_num.specs.Check.{check_of};
 
 use crate::check_tables::byte_check;
 use std::marker::Model;
 
-/// A block check that is computed piece by piece. Contracts see it as the number of the check.
+/// A CRC (block check) that is computed chunk by chunk. Contracts see it as its number.
 #[derive(Clone, Copy, Debug, PartialEq, Eq)]
 pub struct Check {
     register: u16,

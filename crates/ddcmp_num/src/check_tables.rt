@@ -1,4 +1,4 @@
-//! The tables of the block check.
+//! The tables of the CRC.
 ghost use Rattle.std.specs.Prelude.{◌≡◌, ◌<◌, ◌∷◌, replicate};
 ghost use Rattle.ddcmp_num.specs.Check.{check_of};
 

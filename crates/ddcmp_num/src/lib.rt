@@ -1,4 +1,4 @@
-//! Numbers modulo 256 and the block check of DDCMP.
+//! Numbers modulo 256 and the CRC (block check) of DDCMP.
 #![tactic(auto)]
 
 ghost use Rattle.std.specs.Prelude.{◌≡◌, ◌≢◌, ◌<◌, List, ℕ, ◌∷◌, ◌++◌};
@@ -14,8 +14,8 @@ use byteorder::{ByteOrder, LittleEndian};
 pub use limits::{MAX_COUNT, MAX_WINDOW};
 pub use seq::Seq;
 
-/// The block check of a text: CRC-16 of the polynomial x^16 + x^15 + x^2 + 1, begun at 0,
-/// low bit of each byte first, not inverted (DDCMP 4.1, block check).
+/// Returns the CRC (block check) of a text: CRC-16 of the polynomial x^16 + x^15 + x^2 + 1, begun
+/// at 0, low bit of each byte first, not inverted (DDCMP 4.1, block check).
 pub fn check(text: &[u8]) -> u16
     ensures value { result ≡ check_of text.now }
 

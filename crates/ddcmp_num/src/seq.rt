@@ -7,21 +7,21 @@ ghost use Rattle.ddcmp_num.specs.Sequence.{distance as distance_of, Within};
 pub struct Seq(pub u8);
 
 impl Seq {
-    /// The number that follows.
+    /// Returns the number that follows.
     pub fn next(self) -> Seq
         ensures { result.0 ≡ (self.0 + 1) % 256 }
     {
         Seq(self.0.wrapping_add(1))
     }
 
-    /// How many steps of `next` lead from `from` to `to`.
+    /// Returns how many steps of `next` lead from `from` to `to`.
     pub fn distance(from: Seq, to: Seq) -> u8
         ensures { result ≡ distance_of from.0 to.0 }
     {
         to.0.wrapping_sub(from.0)
     }
 
-    /// Whether counting up from `low` meets `x` no later than `high`. All windows up to 255
+    /// Returns whether counting up from `low` meets `x` no later than `high`. All windows up to 255
     /// are judged by this and never by the sign of a difference.
     pub fn within(low: Seq, x: Seq, high: Seq) -> bool
         ensures { IsTrue result ↔ Within low.0 x.0 high.0 }

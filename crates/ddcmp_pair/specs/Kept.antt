@@ -1,4 +1,4 @@
--- Messages and frames that are kept one behind another in one piece of memory.
+-- Messages and frames that are kept one after another in one piece of memory.
 use Rattle.std.specs.Prelude.{◌≡◌, ℕ, ◌-◌, ◌≤◌, List, [], ◌∷◌, drop, take}
 use Rattle.ddcmp_run.specs.Place.{WholeFrame}
 

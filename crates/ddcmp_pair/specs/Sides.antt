@@ -28,8 +28,8 @@ end_with station given taken sent arrived acknowledged starts = record {
   starts = starts;
 }
 
--- What was told acknowledged had been accepted; so had, where this end isn't halted, what is kept.
--- What was taken is no longer than what this end receives.
+-- What was reported acknowledged had been accepted; so had, if this end isn't halted, what is
+-- kept. What was taken is no longer than what this end receives.
 pub record IsSoundEnd (x : EndState) : Type 0 where
   pub told : x.acknowledged ≤ length x.given
   pub kept : is_halted x.core.station.state ≡ false

@@ -11,7 +11,7 @@ pub(crate) struct Ends {
     pub(crate) b: Side,
 }
 
-// By hand, so that a pair is let go by a call: a derived one is written out at each such place.
+// Manual, since a derived `Drop` is expanded wherever a pair is dropped.
 impl Drop for Ends {
     fn drop(self) {
         let Ends { a: _a, b: _b } = self;
@@ -40,7 +40,7 @@ impl Ends {
     ghost use Rattle.ddcmp_run.specs.Run.{asks_memory, asks_at, clear_refusal as clear_refusal_of};
     ghost use Rattle.ddcmp_run.specs.Run.{after_clear_by, reply_to_clear, at, is_clean};
 
-    /// Does what happens, and answers it.
+    /// Does an event and returns its reply.
     #[tactic(auto, unfolding(ddcmp_run::specs::Run::after_event, ddcmp_run::specs::Run::reply_to, ddcmp_run::specs::Run::asks_memory))]
     pub(crate) fn apply(&mut self, event: &Event) -> Result<Reply, Memory>
         ensures state { IsOk result → self.new ≡ after_event event.now self.old }
@@ -75,7 +75,7 @@ impl Ends {
         self.b.apply(event, self.a.sent())
     }
 
-    /// Clears the line, where both ends are halted and have no mail.
+    /// Clears the line, if both ends are halted and have no message to take.
     fn clear(&mut self) -> Reply
         ensures state { self.new ≡ after_clear_by (clear_refusal_of self.old) self.old }
         ensures reply { result ≡ reply_to_clear (clear_refusal_of self.old) }
@@ -111,14 +111,14 @@ impl Ends {
         }
     }
 
-    /// Whether all arrivals at both ends were honest.
+    /// Returns whether all arrivals at both ends were honest.
     pub(crate) fn honest(&self) -> bool
         ensures { result ≡ self.now.honest }
     {
         self.a.is_placed() && self.b.is_placed()
     }
 
-    /// Whether neither end began twice.
+    /// Returns whether neither end began twice.
     pub(crate) fn clean(&self) -> bool
         ensures { result ≡ is_clean self.now }
     {

@@ -1,4 +1,4 @@
-//! Frames that are kept: their headers, and their data one behind another.
+//! Frames that are kept: their headers, and their data one after another.
 ghost use Rattle.std.specs.Prelude.{◌≡◌, ◌↔◌, ◌<◌, ◌≤◌, ◌++◌, ◌∷◌, [], IsOk, IsTrue, get_or};
 ghost use Rattle.std.specs.Prelude.{length};
 ghost use Rattle.ddcmp_run.specs.Place.{WholeFrame};
@@ -49,14 +49,14 @@ impl Frames {
         self.data.clear();
     }
 
-    /// How many they are.
+    /// Returns how many they are.
     pub(crate) fn len(&self) -> usize
         ensures { result ≡ length self.now.all }
     {
         self.headers.len()
     }
 
-    /// Whether frame `i`, counted from 0, is this one.
+    /// Returns whether frame `i`, counted from 0, is this one.
     pub(crate) fn is_at(&self, i: usize, header: &Header, data: &[u8]) -> bool
         requires { i < length self.now.all }
         ensures { (d : WholeFrame)
@@ -87,7 +87,7 @@ impl Frames {
     }
 }
 
-/// Whether a frame that was sent is this one.
+/// Returns whether a frame that was sent is this one.
 fn is_same(sent: &Header, sent_data: &[u8], header: &Header, data: &[u8]) -> bool
     ensures { IsTrue result ↔ ((header.now ≡ sent.now) × («data».now ≡ sent_data.now)) }
 {

@@ -1,4 +1,4 @@
-//! Two stations on a line: what happens between them is told, and their messages are in order.
+//! Two stations on a line: events happen between them, and their messages are in order.
 #![tactic(auto)]
 
 mod ends;

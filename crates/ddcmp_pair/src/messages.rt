@@ -1,4 +1,4 @@
-//! Messages that are kept, one behind another in one piece of memory.
+//! Messages that are kept, one after another in one piece of memory.
 ghost use Rattle.std.specs.Prelude.{◌≡◌, ◌+◌, ◌<◌, ◌≤◌, ◌^◌, ◌++◌, ◌∷◌, [], IsOk, get_or, length};
 ghost use Rattle.std.specs.Prelude.{slice_index_or, vec_capacity, vec_len};
 
@@ -47,7 +47,7 @@ impl Messages {
         self.ends.clear();
     }
 
-    /// How many they are.
+    /// Returns how many they are.
     pub(crate) fn len(&self) -> usize
         ensures count { result ≡ length self.now.all }
         ensures few { result < 2 ^ 63 }
@@ -94,7 +94,7 @@ fn begin_of(ends: &[usize], i: usize) -> usize
     if i == 0 { 0 } else { ends[i - 1] }
 }
 
-/// Appends bytes where there is room for them.
+/// Appends bytes if there is room for them.
 pub(crate) fn append(list: &mut Vec<u8>, bytes: &[u8])
     requires { vec_len list.old + length bytes.now ≤ vec_capacity list.old }
     ensures items { list.new.items ≡ list.old.items ++ bytes.now }

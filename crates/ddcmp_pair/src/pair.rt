@@ -21,7 +21,7 @@ pub struct Pair {
     ends: Ends,
 }
 
-// By hand, so that a pair is let go by a call: a derived one is written out at each such place.
+// Manual, since a derived `Drop` is expanded wherever a pair is dropped.
 impl Drop for Pair {
     fn drop(self) {
         let Pair { ends: _ends } = self;
@@ -56,7 +56,7 @@ impl Pair {
     pub fn new(alloc: Global, first: Config, second: Config) -> Result<Pair, PairRefusal>
         ensures made { IfOk result (λ pair. pair ≡ new_pair first second) }
 
-        // The first size that is out of range is refused; where none is, want of memory alone.
+        // The first size that is out of range is refused; if none is, only an allocation failure.
         ensures first { (refusal : ConfigRefusal) → first_refusal first ≡ Some refusal → result
             ≡ Err (PairRefusal.First refusal) }
         ensures second { (refusal : ConfigRefusal) → first_refusal first ≡ None
@@ -80,15 +80,15 @@ impl Pair {
         })
     }
 
-    /// Does what happens, and answers it.
+    /// Does an event and returns its reply.
     pub fn step(&mut self, event: Event) -> Result<Reply, Memory>
         ensures state { IsOk result → self.new ≡ after_event event self.old }
         ensures reply { IfOk result (λ reply. reply ≡ reply_to event self.old) }
-        // Want of memory leaves all as it was, and is answered to no event that asks for none.
+        // An allocation failure leaves all as it was, and no event fails so that doesn't allocate.
         ensures memory { OnErr result (self.new ≡ self.old) }
         ensures asks { asks_memory event self.old ≡ false → IsOk result }
-        // Messages are handed up in order, once, unchanged, or not at all; and no end that was
-        // clean before an honest arrival is told by it that its peer began anew.
+        // Messages are delivered in order, once, unchanged, or not at all; and to no end that was
+        // clean before an honest arrival does it report that its peer restarted.
         ensures order { IsInOrder self.new }
         ensures no_restart { is_clean self.old ≡ true → self.new.honest ≡ true
             → IfOk result NoRestart }
@@ -123,7 +123,7 @@ impl Pair {
     pub(crate) fn apply(&mut self, event: &Event) -> Result<Reply, Memory>
         ensures state { IsOk result → self.new ≡ after_event event.now self.old }
         ensures reply { IfOk result (λ reply. reply ≡ reply_to event.now self.old) }
-        // Want of memory leaves all as it was, and is answered to no event that asks for none.
+        // An allocation failure leaves all as it was, and no event fails so that doesn't allocate.
         ensures memory { OnErr result (self.new ≡ self.old) }
         ensures asks { asks_memory event.now self.old ≡ false → IsOk result }
         ensures order { IsInOrder self.new }
@@ -143,7 +143,7 @@ impl Pair {
         let _ends = &self.ends;
     }
 
-    /// The number of messages that an end accepted.
+    /// Returns the number of messages that an end accepted.
     pub fn given(&self, end: End) -> usize
         ensures { result ≡ length (at end self.now).given }
     {
@@ -158,15 +158,15 @@ impl Pair {
         self.ends.side(end).given_at(i)
     }
 
-    /// The number of messages handed up at an end: those taken, and those in the inbox.
+    /// Returns the number of messages delivered at an end: those taken, and those in the inbox.
     pub fn handed_up(&self, end: End) -> usize
         ensures { result ≡ length (handed_up (at end self.now)) }
     {
         self.ends.side(end).handed_up()
     }
 
-    /// Copies message `i` of those handed up at an end, counted from 0, to the front of `out`, and
-    /// answers its length.
+    /// Copies message `i` of those delivered at an end, counted from 0, to the front of `out` and
+    /// returns its length.
     pub fn handed_up_at(&self, end: End, i: usize, out: &mut [u8]) -> usize
         requires there { i < length (handed_up (at end self.now)) }
         requires longest { (at end self.now).core.limits.longest ≤ length out.old }
@@ -177,7 +177,7 @@ impl Pair {
         self.ends.side(end).handed_up_at(i, out)
     }
 
-    /// How many messages an end told acknowledged.
+    /// Returns how many messages an end reported acknowledged.
     pub fn acknowledged(&self, end: End) -> u64
         ensures { result ≡ (at end self.now).acknowledged }
     {
@@ -193,22 +193,22 @@ impl Pair {
         self.ends.side(end).station()
     }
 
-    /// The sizes of the station at an end.
+    /// Returns the sizes of the station at an end.
     pub fn config(&self, end: End) -> Config
         ensures { result ≡ config_of (at end self.now).core.limits (at end self.now).syn }
     {
         self.station(end).config()
     }
 
-    /// Whether all good frames that arrived at an end were sent by the other before, in this
-    /// order and none twice.
+    /// Returns whether all good frames that arrived at an end were sent by the other before, in
+    /// this order and none twice.
     pub fn honest(&self) -> bool
         ensures { result ≡ self.now.honest }
     {
         self.ends.honest()
     }
 
-    /// Whether neither end began twice.
+    /// Returns whether neither end began twice.
     pub fn clean(&self) -> bool
         ensures { result ≡ is_clean self.now }
     {

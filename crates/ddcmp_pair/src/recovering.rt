@@ -1,4 +1,4 @@
-//! A line that may have lost frames is repaired: it settles, and then twice both timers run out and
+//! A line that may have lost frames is repaired: it settles, and then twice both timers expire and
 //! it settles again.
 ghost use Rattle.std.specs.Prelude.{◌≡◌, ◌↔◌, IsTrue};
 
@@ -9,7 +9,7 @@ use ddcmp_core::MAX_COUNT;
 use ddcmp_proto::{Memory, State};
 use ddcmp_run::{End, Event};
 
-/// Whether two messages have the same bytes.
+/// Returns whether two messages have the same bytes.
 fn is_same(message: &[u8], other: &[u8]) -> bool
     ensures { IsTrue result ↔ (message.now ≡ other.now) }
 {
@@ -52,13 +52,13 @@ impl Pair {
     ghost use Rattle.ddcmp_run.specs.Recovery.{larger_window, IsDone, IsRepaired};
     ghost use Rattle.ddcmp_pair.specs.Steps.{Reports};
 
-    /// Both timers run out, where they are on, and then the line settles.
+    /// Lets both timers expire, if they are on, and then settles.
     pub fn round(&mut self) -> Result<Settled, Memory>
         ensures state { IsOk result → self.new ≡ rounded self.old }
         ensures exchanges { IfOk result (λ s. s.exchanges ≡ (rounding self.old).exchanges) }
         ensures quiet { IfOk result (λ s. s.quiet ≡ (rounding self.old).quiet) }
-        // On want of memory some of its events were done, each of them whole, and the next one asks
-        // for memory.
+        // On an allocation failure some of its events were done, each of them whole, and the next
+        // one allocates.
         ensures memory { OnErr result (WantsMemory (rounding self.old).events self.old self.new) }
         ensures limits { (end : EndValue) → (at end self.new).core.limits
             ≡ (at end self.old).core.limits }
@@ -90,17 +90,17 @@ impl Pair {
         ensures state { IsOk result → self.new ≡ recovered self.old }
         ensures exchanges { IfOk result (λ r. r.exchanges ≡ (recovering self.old).exchanges) }
         ensures quiet { IfOk result (λ r. r.quiet ≡ (recovering self.old).quiet) }
-        // On want of memory some of its events were done, each of them whole, and the next one asks
-        // for memory.
+        // On an allocation failure some of its events were done, each of them whole, and the next
+        // one allocates.
         ensures memory { OnErr result
             (WantsMemory (recovering self.old).events self.old self.new) }
         ensures limits { (end : EndValue) → (at end self.new).core.limits
             ≡ (at end self.old).core.limits }
         ensures order { IsInOrder self.new }
 
-        // Where the pair was ready it is repaired: the line is quiet after each settle, which
-        // counts at most so many exchanges by the larger window, and in the end nothing is left to
-        // be done.
+        // If the pair was ready it is repaired: the line is quiet after each settle, which counts
+        // at most this many exchanges by the larger window, and in the end nothing is left to be
+        // done.
         ensures repaired { is_ready self.old ≡ true → IfOk result (λ r. r.quiet ≡ true) }
         ensures within { is_ready self.old ≡ true
             → IfOk result (λ r. All (λ n. n ≤ most_exchanges self.old) r.exchanges) }
@@ -155,8 +155,8 @@ impl Pair {
     ghost use Rattle.ddcmp_run.specs.Recovery.{is_ready, is_ready_here, is_done, IsDelivered};
     ghost use Rattle.ddcmp_run.specs.Recovery.{IsDone};
 
-    /// Whether an honest and clean run has led here, both ends have begun, no frame is unfinished,
-    /// and both ends have one `max`: from here a recovery repairs the line.
+    /// Returns whether an honest and clean run has led here, both ends have begun, no frame is
+    /// unfinished, and both ends have one `max`: from here a recovery repairs the line.
     pub fn ready(&self) -> bool
         ensures { result ≡ is_ready self.now }
     {
@@ -174,8 +174,8 @@ impl Pair {
         station.state() != State::Halted && station.open() == 0
     }
 
-    /// Whether both ends run, and all that each accepted was handed up at the other and told
-    /// acknowledged.
+    /// Returns whether both ends run, and all that each accepted was delivered at the other and
+    /// reported acknowledged.
     pub fn done(&self) -> bool
         ensures meaning { IsTrue result ↔ IsDone self.now }
         ensures answer { result ≡ is_done self.now }
@@ -191,7 +191,7 @@ impl Pair {
             && self.is_handed_up(from)
     }
 
-    /// Whether all that an end accepted was handed up at the other.
+    /// Returns whether all that an end accepted was delivered at the other.
     fn is_handed_up(&self, from: End) -> bool
         ensures { IsTrue result ↔ ((at from self.now).given
             ≡ handed_up (at (other from) self.now)) }
@@ -207,7 +207,8 @@ impl Pair {
         self.is_same_as_given(from, to)
     }
 
-    /// Whether each message handed up at an end is the one that the other accepted in its place.
+    /// Returns whether each message delivered at an end is the one that the other accepted in its
+    /// place.
     fn is_same_as_given(&self, from: End, to: End) -> bool
         requires other { to ≡ other from }
         requires length { length (handed_up (at to self.now)) ≡ length (at from self.now).given }
@@ -222,7 +223,7 @@ impl Pair {
         true
     }
 
-    /// Whether message `i` of those handed up at an end, counted from 0, is this one.
+    /// Returns whether message `i` of those delivered at an end, counted from 0, is this one.
     fn is_handed_up_at(&self, end: End, i: usize, message: &[u8], out: &mut [u8]) -> bool
         requires message { i < length (handed_up (at end self.now)) }
         requires room { MAX_COUNT ≤ length out.old }

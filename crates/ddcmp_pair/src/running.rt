@@ -22,7 +22,7 @@ pub enum RunRefusal {
     Memory { done: usize, pair: Pair },
 }
 
-/// Does events, up to one that memory is refused to; then it answers how many were done.
+/// Does events, up to one whose allocation fails; then it returns how many were done.
 fn play(pair: &mut Pair, events: &[Event]) -> Result<(), usize>
     ensures done { IsOk result → pair.new ≡ run_of events.now pair.old }
     ensures memory { (done : ℕ) → result ≡ Err done → (done < length events.now)
@@ -56,7 +56,8 @@ pub fn run(
         → asks_memory (slice_index_or events.now done event_value.Clear) pair ≡ true }
     ensures order { IfOk result IsInOrder }
 
-    // The first size that is out of range is refused; else no station is, but for want of memory.
+    // The first size that is out of range is refused; else no station is, but for an allocation
+    // failure.
     ensures first_size { (refusal : ConfigRefusal) → first_refusal first ≡ Some refusal → result
         ≡ Err (RunRefusal.First refusal) }
     ensures second_size { (refusal : ConfigRefusal) → first_refusal first ≡ None

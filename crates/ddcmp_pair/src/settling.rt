@@ -22,18 +22,18 @@ impl Pair {
     ghost use Rattle.ddcmp_run.specs.Settle.{writes, mail_events, WantsMemory};
     ghost use Rattle.ddcmp_pair.specs.Steps.{Reports};
 
-    /// Takes all mail, and then carries frames to and fro until neither end writes one. What was
-    /// sent before and hasn't arrived never arrives.
+    /// Takes all received messages, and then carries frames to and fro until neither end writes
+    /// one. What was in flight never arrives.
     pub fn settle(&mut self) -> Result<Settled, Memory>
         ensures state { IsOk result → self.new ≡ settled self.old }
         ensures exchanges { IfOk result (λ s. s.exchanges ≡ (settling self.old).exchanges) }
         ensures quiet { IfOk result (λ s. s.quiet ≡ (settling self.old).quiet) }
-        // On want of memory some of its events were done, each of them whole, and the next one asks
-        // for memory.
+        // On an allocation failure some of its events were done, each of them whole, and the next
+        // one allocates.
         ensures memory { OnErr result (WantsMemory (settling self.old).events self.old self.new) }
         ensures limits { (end : EndValue) → (at end self.new).core.limits
             ≡ (at end self.old).core.limits }
-        // On want of memory too, messages are in order.
+        // On an allocation failure too, messages are in order.
         ensures order { IsInOrder self.new }
     {
         self.settle_watched(&mut Unwatched)
@@ -82,7 +82,7 @@ impl Pair {
         })
     }
 
-    /// A frame from A to B and one from B to A: whether either end wrote.
+    /// A frame from A to B and one from B to A; returns whether either end wrote.
     fn exchange<W: Watch>(&mut self, watch: &mut W) -> Result<bool, Memory>
         ensures state { IsOk result → self.new ≡ run (exchange self.old) self.old }
         ensures wrote { IfOk result (λ wrote. wrote ≡ either_writes self.old) }
@@ -95,7 +95,8 @@ impl Pair {
         Ok(first || second)
     }
 
-    /// The end's next frame arrives whole at the other, whose mail is taken: whether there was one.
+    /// The end's next frame arrives whole at the other, whose messages are taken; returns whether
+    /// there was one.
     fn cross<W: Watch>(&mut self, watch: &mut W, from: End) -> Result<bool, Memory>
         ensures state { IsOk result → self.new ≡ run (crossing from self.old) self.old }
         ensures wrote { IfOk result (λ wrote. wrote ≡ writes from self.old) }
@@ -112,7 +113,7 @@ impl Pair {
         Ok(true)
     }
 
-    /// Takes all mail of an end.
+    /// Takes all received messages of an end.
     fn take_mail<W: Watch>(&mut self, watch: &mut W, end: End) -> Result<(), Memory>
         ensures state { IsOk result → self.new ≡ run (mail_events end self.old) self.old }
         ensures memory { OnErr result (WantsMemory (mail_events end self.old) self.old self.new) }

@@ -27,7 +27,7 @@ pub(crate) struct Side {
     buffer: Vec<u8>,
 }
 
-// By hand, so that an end is let go by a call: a derived one is written out at each such place.
+// Manual, since a derived `Drop` is expanded wherever an end is dropped.
 impl Drop for Side {
     fn drop(self) {
         let Side {
@@ -168,7 +168,7 @@ impl Side {
         self.place = Some(0);
     }
 
-    /// The number of messages accepted.
+    /// Returns the number of messages accepted.
     pub(crate) fn given(&self) -> usize
         ensures { result ≡ length self.now.state.given }
     {
@@ -183,15 +183,15 @@ impl Side {
         self.given.at(i)
     }
 
-    /// The number of messages handed up.
+    /// Returns the number of delivered messages.
     pub(crate) fn handed_up(&self) -> usize
         ensures { result ≡ length (handed_up self.now.state) }
     {
         self.taken.len() + self.station.waiting() as usize
     }
 
-    /// Copies message `i` of those handed up, counted from 0, to the front of `out`, and answers
-    /// its length.
+    /// Copies message `i` of those delivered, counted from 0, to the front of `out` and returns its
+    /// length.
     pub(crate) fn handed_up_at(&self, i: usize, out: &mut [u8]) -> usize
         requires there { i < length (handed_up self.now.state) }
         requires longest { self.now.state.core.limits.longest ≤ length out.old }
@@ -199,7 +199,7 @@ impl Side {
         ensures out { out.new
             ≡ with_front (Some (slice_index_or (handed_up self.now.state) i [])) out.old }
     {
-        // The last of those handed up wait in the inbox.
+        // The last of those delivered are in the inbox.
         let waiting = self.station.waiting() as usize;
         let left = self.taken.len() + waiting - i;
         if left <= waiting {
@@ -210,21 +210,21 @@ impl Side {
         message.len()
     }
 
-    /// How many messages were told acknowledged.
+    /// Returns how many messages were reported acknowledged.
     pub(crate) fn acknowledged(&self) -> u64
         ensures { result ≡ self.now.state.acknowledged }
     {
         self.acknowledged
     }
 
-    /// Whether this end began at most once.
+    /// Returns whether this end began at most once.
     pub(crate) fn began_once(&self) -> bool
         ensures { result ≡ nat_le self.now.state.starts 1 }
     {
         self.starts <= 1
     }
 
-    /// Whether all arrivals here were honest.
+    /// Returns whether all arrivals here were honest.
     pub(crate) fn is_placed(&self) -> bool
         ensures { result ≡ is_some self.now.place }
     {

@@ -1,1 +1,5 @@
 pub mod Drawn
+pub mod ShortTexts
+pub mod Labels
+pub mod Trips
+pub mod Marks

@@ -3,6 +3,7 @@ ghost use Rattle.std.specs.Prelude.{◌≡◌, false, IsTrue};
 
 use crate::ladder::{write_ladder, write_ladder_head};
 use crate::mark::Mark;
+use crate::paper::Paper;
 use crate::svg::{write_document, write_element};
 use ddcmp_closing::write_closing;
 use ddcmp_io::{MemorySink, Page, Sink, write_all};
@@ -64,19 +65,6 @@ impl Canvas {
         canvas
     }
 
-    /// The row of the next mark.
-    pub(crate) fn row(&self) -> u64 {
-        self.rows
-    }
-
-    pub(crate) fn put(&mut self, mark: &Mark) {
-        match self.picture {
-            Picture::Ladder => write_ladder(&mut self.draft, &mut self.sheet, mark),
-            Picture::Svg => write_element(&mut self.draft, &mut self.sheet, self.rows, mark),
-        }
-        self.rows = self.rows.saturating_add(rows_of(mark));
-    }
-
     /// Writes the lines that were drawn: whether there was memory for them and all went out. A
     /// document waits for its end.
     pub(crate) fn show<W: Sink>(&mut self, writer: &mut W) -> bool
@@ -127,5 +115,21 @@ impl Canvas {
             }
             Picture::Svg => write_document(page, writer, sheet, self.rows, caption),
         }
+    }
+}
+
+impl Paper for Canvas {
+    ghost next_row = { λ canvas. canvas.rows };
+
+    fn row(&self) -> u64 {
+        self.rows
+    }
+
+    fn put(&mut self, mark: &Mark) {
+        match self.picture {
+            Picture::Ladder => write_ladder(&mut self.draft, &mut self.sheet, mark),
+            Picture::Svg => write_element(&mut self.draft, &mut self.sheet, self.rows, mark),
+        }
+        self.rows = self.rows.saturating_add(rows_of(mark));
     }
 }

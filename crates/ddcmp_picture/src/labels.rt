@@ -1,5 +1,7 @@
 //! The labels of frames, and the words for what ends do.
-ghost use Rattle.std.specs.Prelude.{◌≤◌, length};
+ghost use Rattle.std.specs.Prelude.{◌≡◌, ◌≤◌, ◌<◌, length, take, drop, MatchOption};
+ghost use Rattle.ddcmp_picture.specs.Labels.{after_fill, header_in, label_of as label, line_of};
+ghost use Rattle.ddcmp_picture.specs.Labels.{notice_label, numbers_label, holding_label};
 
 use crate::short_text::ShortText;
 use ddcmp_explain::{LABEL_ROOM, label_frame};
@@ -11,8 +13,10 @@ use ddcmp_station_text::{notice_name, notice_number, state_name};
 const SYN: u8 = 0x96;
 
 /// How many bytes of fill stand in front.
+#[tactic(auto, using(crate::proofs::LabelLaws::fill_step, crate::proofs::LabelLaws::fill_ends, crate::proofs::LabelLaws::fill_all))]
 fn fill_before(bytes: &[u8]) -> usize
-    ensures { result ≤ length bytes.now }
+    ensures within { result ≤ length bytes.now }
+    ensures fill { drop result bytes.now ≡ after_fill bytes.now }
 {
     for i in 0..bytes.len() {
         if bytes[i] != SYN {
@@ -23,7 +27,10 @@ fn fill_before(bytes: &[u8]) -> usize
 }
 
 /// The eight bytes behind the SYN fill.
-fn header_bytes(bytes: &[u8]) -> Option<[u8; 8]> {
+fn header_bytes(bytes: &[u8]) -> Option<[u8; 8]>
+    ensures { MatchOption result (length (after_fill bytes.now) < 8)
+        (λ header. header ≡ take 8 (after_fill bytes.now)) }
+{
     let frame = &bytes[fill_before(bytes)..];
     if frame.len() < 8 {
         return None;
@@ -34,7 +41,9 @@ fn header_bytes(bytes: &[u8]) -> Option<[u8; 8]> {
 }
 
 /// What the bytes of a line begin with, where that is a header.
-fn header_of(bytes: &[u8]) -> Option<Header> {
+fn header_of(bytes: &[u8]) -> Option<Header>
+    ensures { result ≡ header_in bytes.now }
+{
     let header = header_bytes(bytes)?;
     match Header::parse(&header) {
         Ok(header) => Some(header),
@@ -43,7 +52,9 @@ fn header_of(bytes: &[u8]) -> Option<Header> {
 }
 
 /// The label of a frame, by its header; of other bytes the digits.
-pub(crate) fn label_of(bytes: &[u8]) -> ShortText {
+pub(crate) fn label_of(bytes: &[u8]) -> ShortText
+    ensures { result ≡ label bytes.now }
+{
     match header_of(bytes) {
         Some(header) => {
             let mut label = [0; LABEL_ROOM];
@@ -55,7 +66,9 @@ pub(crate) fn label_of(bytes: &[u8]) -> ShortText {
 }
 
 /// A notice, as the text of a script has it.
-pub(crate) fn notice_text(notice: Notice) -> ShortText {
+pub(crate) fn notice_text(notice: Notice) -> ShortText
+    ensures { result ≡ notice_label notice }
+{
     let text = ShortText::new().with(b"notice ").with(notice_name(notice));
     match notice_number(notice) {
         Some(number) => text.with_number(number as u64),
@@ -64,7 +77,9 @@ pub(crate) fn notice_text(notice: Notice) -> ShortText {
 }
 
 /// The state of a station and its numbers.
-pub(crate) fn numbers_text(station: &Station) -> ShortText {
+pub(crate) fn numbers_text(station: &Station) -> ShortText
+    ensures { result ≡ numbers_label station.now.core.station }
+{
     let numbers = station.numbers();
     ShortText::new()
         .with(state_name(station.state()))
@@ -79,7 +94,9 @@ pub(crate) fn numbers_text(station: &Station) -> ShortText {
 }
 
 /// What a station holds, and whether its timer runs.
-pub(crate) fn holding_text(station: &Station) -> ShortText {
+pub(crate) fn holding_text(station: &Station) -> ShortText
+    ensures { result ≡ holding_label station.now.core.station }
+{
     let text = ShortText::new()
         .with(b"out=")
         .with_number(station.outgoing() as u64)
@@ -93,7 +110,9 @@ pub(crate) fn holding_text(station: &Station) -> ShortText {
 }
 
 /// A line of the text of a script, without the LF that ends it.
-pub(crate) fn without_lf(line: &[u8]) -> &[u8] {
+pub(crate) fn without_lf(line: &[u8]) -> &[u8]
+    ensures { result.now ≡ line_of line.now }
+{
     if !line.is_empty() && line[line.len() - 1] == b'\n' {
         &line[..line.len() - 1]
     } else {

@@ -6,7 +6,7 @@ use ddcmp_pair::End;
 /// The columns of a line.
 const WIDTH: usize = 78;
 
-/// Where the frames of A turn into those that are on their way, and those of B.
+/// The column between the frames in flight from A and those from B.
 const NEAR_A: usize = 33;
 
 const NEAR_B: usize = 44;
@@ -16,7 +16,7 @@ const HALF_A: usize = 38;
 
 const HALF_B: usize = 39;
 
-/// A line on its way.
+/// A line of the ladder that is being drawn.
 #[derive(Drop)]
 struct Row {
     bytes: [u8; WIDTH],
@@ -50,8 +50,8 @@ impl Row {
         }
     }
 
-    /// An arrow at the line of A: `outer` is at the line, and `inner` ends it at `reach` or, where
-    /// the label is long, behind that.
+    /// An arrow at the line of A: `outer` is at the line, and `inner` ends it at `reach` or, if the
+    /// label is long, after that.
     fn put_at_a(&mut self, outer: &[u8], label: &[u8], stroke: u8, inner: u8, reach: usize) {
         let start = outer.len().saturating_add(1);
         let behind = start.saturating_add(label.len()).saturating_add(1);

@@ -7,15 +7,22 @@
 //! ```
 #![tactic(auto)]
 
+mod asked;
 mod canvas;
 mod drawing;
+mod endings;
 mod flights;
 mod labels;
 mod ladder;
 mod mark;
+mod notes;
+mod paper;
 mod playing;
+mod replies;
 mod short_text;
+mod states;
 mod svg;
+mod viewing;
 
 pub use canvas::Picture;
 pub use playing::draw;

@@ -1,5 +1,6 @@
 //! What a step of a run puts into a picture.
-ghost use Rattle.std.specs.Prelude.{◌≡◌, ◌≢◌, true};
+ghost use Rattle.std.specs.Prelude.{◌≡◌};
+ghost use Rattle.ddcmp_picture.specs.Trips.{damaged_by, end_label, rest_of};
 
 use crate::short_text::ShortText;
 use ddcmp_pair::End;
@@ -19,18 +20,14 @@ pub(crate) struct Trip {
 impl Trip {
     /// A byte was changed by exclusive or: a frame that was damaged stays so.
     pub(crate) fn damage(&mut self, by: u8)
-        ensures stays { self.old.is_damaged ≡ true → self.new.is_damaged ≡ true }
-        ensures damages { by ≢ 0 → self.new.is_damaged ≡ true }
-        ensures same { by ≡ 0 → self.new ≡ self.old }
+        ensures { self.new ≡ damaged_by by self.old }
     {
         self.is_damaged = self.is_damaged || by != 0;
     }
 
     /// Some bytes have arrived; the rest begins its way in this row.
     pub(crate) fn leave_rest(&mut self, row: u64)
-        ensures row { self.new.row ≡ row }
-        ensures damaged { self.new.is_damaged ≡ self.old.is_damaged }
-        ensures from { self.new.from ≡ self.old.from }
+        ensures { self.new ≡ rest_of row self.old }
     {
         self.row = row;
         if self.is_whole {
@@ -74,7 +71,9 @@ pub(crate) enum Mark {
 
 impl Fate {
     /// The label of a trip with this end.
-    pub(crate) fn label(self, trip: &Trip) -> ShortText {
+    pub(crate) fn label(self, trip: &Trip) -> ShortText
+        ensures { result ≡ end_label self trip.now }
+    {
         let label = if trip.is_damaged {
             trip.label.with(b", damaged")
         } else {

@@ -5,7 +5,7 @@ ghost use Rattle.ddcmp_line.specs.ScriptEnds.{Around, around};
 ghost use Rattle.ddcmp_picture.specs.Drawn.{DrawsScript};
 ghost use Rattle.ddcmp_run.specs.InOrder.{IsInOrder};
 
-use crate::canvas::Picture;
+use crate::canvas::{Canvas, Picture};
 use crate::drawing::Drawing;
 use ddcmp_io::{Sink, Source, Worst};
 use ddcmp_line::script_viewed;
@@ -14,8 +14,8 @@ use ddcmp_run::Carrier;
 use ddcmp_script_text::ScriptFault;
 use std::alloc::Global;
 
-/// The answer to a picture whose script ended so, unless it wasn't drawn whole or the writer
-/// failed.
+/// Returns the result for a picture whose script ended so, unless it wasn't drawn whole or the
+/// writer failed.
 fn answer_of(
     done: Result<(), ScriptFault>,
     is_whole: bool,
@@ -38,7 +38,7 @@ fn answer_of(
     }
 }
 
-/// Does what the lines of a script say, as `ddcmp_line::script` does, and draws what comes of
+/// Does what the lines of a script ask for, as `ddcmp_line::script` does, and draws what comes of
 /// each. Below the picture is what `script` writes at its end. If a line is no command or an
 /// allocation fails, what was drawn stays, and a document is ended. A document is written at the
 /// end of the script, since its height is at its front, and not at all if the script can't be read.
@@ -66,12 +66,12 @@ pub fn draw<R: Source, W: Sink, C: Carrier>(
     // Whatever is returned, messages are in order.
     ensures order { IsInOrder pair.new }
 {
-    let mut drawing = Drawing::new(alloc, picture, pair);
+    let mut drawing = Drawing::new(alloc, Canvas::new(alloc, picture), pair);
     let done = script_viewed(alloc, pair, &mut drawing, reader, writer, carrier);
     if done == Err(ScriptFault::Read) {
         return Err(ScriptFault::Read);
     }
     let closing = if done.is_ok() { Some(&*pair) } else { None };
-    let is_whole = drawing.end(writer, closing, counted);
+    let is_whole = drawing.end(alloc, writer, closing, counted);
     answer_of(done, is_whole, writer.failed())
 }

@@ -1,4 +1,8 @@
 //! Short texts: labels and notes.
+ghost use Rattle.std.specs.Prelude.{◌≡◌, ◌<◌, decimal, slice_index};
+ghost use Rattle.hex.specs.Hex.{lower_digits};
+ghost use Rattle.ddcmp_picture.specs.ShortTexts.{no_text, with_byte, with_text, bytes_shown};
+
 use itoa::Buffer;
 
 /// The most bytes that a short text has; what is behind them is left out.
@@ -12,16 +16,21 @@ pub(crate) struct ShortText {
 }
 
 /// The digit of a number below 16.
-fn digit(nibble: u8) -> u8 {
+fn digit(nibble: u8) -> u8
+    requires { nibble < 16 }
+    ensures { result ≡ slice_index lower_digits nibble }
+{
     if nibble < 10 {
         b'0' + nibble
     } else {
-        b'a' + (nibble.min(15) - 10)
+        b'a' + (nibble - 10)
     }
 }
 
 impl ShortText {
-    pub(crate) fn new() -> Self {
+    pub(crate) fn new() -> Self
+        ensures { result ≡ no_text }
+    {
         ShortText {
             bytes: [b' '; ROOM],
             len: 0,
@@ -32,7 +41,9 @@ impl ShortText {
         &self.bytes[..self.len.min(ROOM)]
     }
 
-    fn push(&mut self, byte: u8) {
+    fn push(&mut self, byte: u8)
+        ensures { self.new ≡ with_byte self.old byte }
+    {
         if self.len < ROOM {
             self.bytes[self.len] = byte;
             self.len += 1;
@@ -40,7 +51,10 @@ impl ShortText {
     }
 
     /// The same, and this text behind it.
-    pub(crate) fn with(mut self, text: &[u8]) -> Self {
+    #[tactic(auto, using(crate::proofs::ShortTextLaws::with_step, crate::proofs::ShortTextLaws::with_none))]
+    pub(crate) fn with(mut self, text: &[u8]) -> Self
+        ensures { result ≡ with_text self text.now }
+    {
         for byte in text {
             self.push(*byte);
         }
@@ -48,13 +62,18 @@ impl ShortText {
     }
 
     /// The same, and a number behind it.
-    pub(crate) fn with_number(self, number: u64) -> Self {
+    pub(crate) fn with_number(self, number: u64) -> Self
+        ensures { result ≡ with_text self (decimal number) }
+    {
         let mut buffer = Buffer::new();
         self.with(buffer.format(number).as_bytes())
     }
 
     /// The same, and bytes in hexadecimal digits behind it; of many the first alone.
-    pub(crate) fn with_bytes(mut self, bytes: &[u8]) -> Self {
+    #[tactic(auto, using(crate::proofs::ShortTextLaws::digits_step, crate::proofs::ShortTextLaws::digits_none, crate::proofs::ShortTextLaws::with_append))]
+    pub(crate) fn with_bytes(mut self, bytes: &[u8]) -> Self
+        ensures { result ≡ with_text self (bytes_shown bytes.now) }
+    {
         let is_long = bytes.len() > 10;
         let shown = if is_long { &bytes[..6] } else { bytes };
         for byte in shown {

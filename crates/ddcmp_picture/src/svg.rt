@@ -16,10 +16,10 @@ const TOP: u64 = 62;
 
 const STEP: u64 = 24;
 
-/// How far a label may be turned: where a frame was long on its way, it stands level.
+/// How far a label may be turned: if a frame was long in flight, it stands level.
 const STEEPEST: u64 = 640;
 
-/// A line of the caption has about so many characters.
+/// A line of the caption has about this many characters.
 const CAPTION: usize = 110;
 
 const STYLE: &[u8] = b"<style>\
@@ -74,7 +74,7 @@ enum Part<'a> {
 
 use Part::{Number, Text, Thousandths};
 
-/// Writes one part behind another.
+/// Writes one part after another.
 fn write<W: Sink>(page: &mut Page, writer: &mut W, parts: &[Part<'_>]) {
     for part in parts {
         match *part {
@@ -191,7 +191,7 @@ impl Stroke {
         }
     }
 
-    /// Where it is after so many quarters.
+    /// Returns where it is after this many quarters.
     fn place(&self, quarters: u64) -> (u64, u64) {
         let x = (self.x1.saturating_mul(4u64.saturating_sub(quarters))).saturating_add(
             self.x2.saturating_mul(quarters),
@@ -301,7 +301,7 @@ impl Stroke {
         }
     }
 
-    /// Words behind the cross of a frame that was lost.
+    /// Words after the cross of a frame that was lost.
     fn write_lost<W: Sink>(&self, page: &mut Page, writer: &mut W) {
         let y = self.y2.saturating_add(4);
         let (x, how): (u64, &[u8]) = match self.from {
@@ -411,7 +411,8 @@ pub(crate) fn write_element<W: Sink>(page: &mut Page, writer: &mut W, row: u64, 
     }
 }
 
-/// The first line of a caption, which a long one has up to a blank, and what stands behind it.
+/// Returns the first line of a caption, which a long one has up to a blank, and what comes after
+/// it.
 fn first_line(text: &[u8]) -> (&[u8], &[u8]) {
     for i in 0..text.len() {
         if text[i] == b'\n' || (i >= CAPTION && text[i] == b' ') {
@@ -436,7 +437,7 @@ fn write_caption<W: Sink>(page: &mut Page, writer: &mut W, top: u64, text: &[u8]
     }
 }
 
-/// How many lines a caption has.
+/// Returns how many lines a caption has.
 fn caption_lines(text: &[u8]) -> u64 {
     let mut lines: u64 = 0;
     let mut rest = text;
@@ -488,7 +489,7 @@ fn write_head<W: Sink>(page: &mut Page, writer: &mut W, foot: u64, height: u64, 
     write_text(page, writer, LINE_B, TOP - 32, how, b"B");
 }
 
-/// A whole document: these elements in so many rows, and a caption below them.
+/// Writes a whole document: these elements in this many rows, and a caption below them.
 pub(crate) fn write_document<W: Sink>(
     page: &mut Page,
     writer: &mut W,

@@ -45,7 +45,7 @@ notices_of_items (given ∷ rest) k =
 abbrev pub items_added : ℕ → List ℕ → List ℕ → List ReadItem
 items_added max text piece = drop (length (items max text)) (items max (text ++ piece))
 
--- a station after a piece of the line, where `text` came before, and the notices in order
+-- a station after a piece of the line, if `text` came before, and the notices in order
 abbrev pub after_piece : List ℕ → List ℕ → CoreView → CoreView
 after_piece text piece k = after_items (items_added k.limits.longest text piece) k
 

@@ -12,7 +12,7 @@ pub record StationView : Type 0 where
   pub syn : ℕ
   pub line : ReaderView
 
--- the number of bytes of the messages to send and of the mail
+-- the number of bytes of the messages to send and of the received messages
 abbrev pub message_bytes : StationState → ℕ
 message_bytes s = sum_by length s.out + sum_by length s.inbox
 
@@ -20,7 +20,7 @@ message_bytes s = sum_by length s.out + sum_by length s.inbox
 abbrev pub held_of : StationView → ℕ
 held_of v = message_bytes v.core.station + kept_of v.line
 
--- at most so many
+-- at most this many
 abbrev pub held_at_most : Limits → ℕ
 held_at_most l = l.window * l.longest + l.room * l.longest + l.longest + 10
 

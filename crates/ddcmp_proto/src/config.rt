@@ -22,11 +22,11 @@ pub struct Config {
     pub max: u16,
     /// The number of SYN bytes before each frame: 0 to `MAX_SYN`.
     pub syn: u8,
-    /// A running end whose inbox is empty answers a STRT by beginning anew.
+    /// Restart when the peer restarts, if the inbox is empty.
     pub restart: bool,
 }
 
-/// Why no station is made. The first that fits is answered.
+/// Why no station is made: the first that fits.
 #[derive(Clone, Copy, Debug, PartialEq, Eq)]
 pub enum ConfigRefusal {
     /// The window isn't 1 to `MAX_WINDOW`.

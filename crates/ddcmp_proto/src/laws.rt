@@ -5,8 +5,7 @@ ghost use Rattle.ddcmp_proto.specs.Bytes.{after_piece, notices_of_piece};
 
 use ddcmp_frame::laws::items_of_longer;
 
-/// A piece of the line is as good as its parts, one after another: where a line is cut doesn't
-/// matter.
+/// A piece of the line is as good as its parts, one after another: chunk sizes don't matter.
 pub fn pieces()
     ensures limits { (text u : List ℕ) (k : CoreView) → (after_piece text u k).limits ≡ k.limits }
     ensures none { (text : List ℕ) (k : CoreView) → (after_piece text [] k ≡ k)

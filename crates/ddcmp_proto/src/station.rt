@@ -22,7 +22,13 @@ use std::marker::Model;
 /// As much SYN fill as a station writes before a frame.
 const FILL: [u8; 16] = [SYN; 16];
 
-/// A station over the bytes of its line. After it is made no call takes memory.
+/// A station over the bytes of its line, without I/O or time. After `new` no call allocates.
+///
+/// Call `start`. After each `feed`, `send` and `expire` call `poll` until it returns None, and
+/// write to the line what it puts into `out`. Pass received bytes to `feed`, and what it didn't use
+/// again; `take` messages while there are any, and don't read the line while the inbox is full. If
+/// `take_arm` returns true, which is to be asked after each `poll` and `feed`, set a deadline; if
+/// `timer_on` returns true when it comes, call `expire`.
 pub struct Station {
     core: Core<RingStore>,
     reader: Reader,
@@ -31,7 +37,7 @@ pub struct Station {
     message: Vec<u8>,
 }
 
-// By hand, so that a station is let go by a call: a derived one is written out at each such place.
+// Manual, since a derived `Drop` is expanded wherever a station is dropped.
 impl Drop for Station {
     fn drop(self) {
         let Station {
@@ -58,7 +64,7 @@ impl Model for Station {
         × (s.core.limits ≡ limits_of s.config) };
 }
 
-/// Writes SYN fill and a frame at the front of `out`, and says how many bytes they have.
+/// Writes SYN fill and a frame at the front of `out`; returns how many bytes they have.
 fn write_line(syn: u8, header: &Header, message: &[u8], out: &mut [u8]) -> usize
     requires syn { syn ≤ MAX_SYN }
     requires frame { IsFrame header.now message.now }
@@ -101,12 +107,12 @@ impl Station {
     ghost use Rattle.ddcmp_proto.specs.Config.{first_refusal, core_made};
     ghost use Rattle.ddcmp_frame.specs.Reader.{StandsFor};
 
-    /// A halted station whose line has had no bytes. It takes all memory that it will need.
+    /// Makes a halted station whose line has had no bytes. It takes all memory that it will need.
     pub fn new(alloc: Global, config: Config) -> Result<Station, ConfigRefusal>
         ensures made { IfOk result (λ s. (s.core ≡ core_made config) × (s.syn ≡ config.syn)) }
         ensures stands { IfOk result (λ s. StandsFor s.line []) }
 
-        // The first size that is out of range is refused; where none is, want of memory alone.
+        // The first size that is out of range is refused; if none is, only an allocation failure.
         ensures refused { (refusal : ConfigRefusal) → first_refusal config ≡ Some refusal → result
             ≡ Err refusal }
         ensures only { first_refusal config ≡ None → IsOk result
@@ -121,7 +127,7 @@ impl Station {
         }
     }
 
-    /// A station with sizes in range; None where memory is refused.
+    /// Makes a station with sizes in range; None if an allocation fails.
     fn make(alloc: Global, config: Config) -> Option<Station>
         requires { first_refusal config ≡ None }
         ensures made { IfSome result (λ s. (s.core ≡ core_made config) × (s.syn ≡ config.syn)) }
@@ -160,7 +166,7 @@ impl Station {
     ghost use Rattle.ddcmp_proto.specs.Station.{IsSoundStation, held_of, held_at_most};
     ghost use Rattle.ddcmp_proto.specs.Station.{message_bytes};
 
-    /// Asks the peer to start: how many messages that waited to be sent were dropped.
+    /// Asks the peer to start; returns how many messages that waited to be sent were dropped.
     pub fn start(&mut self) -> Result<u8, StartRefusal>
         ensures state { self.new ≡ record self.old {
           core = record self.old.core {
@@ -174,7 +180,8 @@ impl Station {
         self.core.start()
     }
 
-    /// Enters the state of maintenance: how many messages that waited to be sent were dropped.
+    /// Enters the state of maintenance; returns how many messages that waited to be sent were
+    /// dropped.
     pub fn enter_maintenance(&mut self) -> Result<u8, StartRefusal>
         ensures state { self.new ≡ record self.old {
           core = record self.old.core {
@@ -197,7 +204,7 @@ impl Station {
         self.core.halt();
     }
 
-    /// Forgets the bytes of the line so far, where the station is halted: whether it is.
+    /// Forgets the bytes of the line so far, if the station is halted; returns whether it is.
     pub fn clear_line(&mut self) -> bool
         ensures answer { result ≡ is_halted self.old.core.station.state }
         ensures cleared { result ≡ true → StandsFor self.new.line [] }
@@ -211,7 +218,7 @@ impl Station {
         true
     }
 
-    /// Why a message isn't sent: None where it is.
+    /// Returns why a message isn't sent, or None if it is.
     pub fn send_refusal(&self, message: &[u8]) -> Option<SendRefusal>
         ensures { result
             ≡ send_refusal_of self.now.core.limits self.now.core.station message.now }
@@ -219,7 +226,7 @@ impl Station {
         self.core.send_refusal(message)
     }
 
-    /// Keeps a message to be sent, and answers its number.
+    /// Queues a message and returns its number.
     pub fn send(&mut self, message: &[u8]) -> Result<Seq, SendRefusal>
         ensures state { self.new ≡ record self.old {
           core = record self.old.core {
@@ -249,8 +256,7 @@ impl Station {
         self.core.send_maintenance(message)
     }
 
-    /// Writes SYN fill and the next frame at the front of `out`, and answers how many bytes they
-    /// have.
+    /// Writes SYN fill and the next frame at the front of `out`; returns how many bytes they have.
     pub fn poll(&mut self, out: &mut [u8]) -> Option<usize>
         requires { self.old.syn + self.old.core.limits.longest + 10 ≤ length out.old }
         ensures state { self.new ≡ record self.old { core = after_poll self.old.core } }
@@ -265,7 +271,7 @@ impl Station {
         write_next(&mut self.core, self.config.syn, &mut self.message, out)
     }
 
-    /// The header of the frame that `poll` would write.
+    /// Returns the header of the frame that `poll` would write.
     pub fn next_header(&self) -> Option<Header>
         ensures header { result ≡ option_map header_of (next_frame (next self.now.core.station)) }
         ensures sound { IsSoundStation self.now }
@@ -273,7 +279,7 @@ impl Station {
         self.core.next_header()
     }
 
-    /// The number of bytes that `poll` would write.
+    /// Returns the number of bytes that `poll` would write.
     pub fn next_length(&self) -> Option<usize>
         ensures { result ≡ option_map length
             (option_map (frame_on_line self.now.syn) (next_frame (next self.now.core.station))) }
@@ -284,7 +290,7 @@ impl Station {
         }
     }
 
-    /// Moves the first message of the inbox to the front of `out`, and answers its length.
+    /// Moves the first message of the inbox to the front of `out` and returns its length.
     pub fn take(&mut self, out: &mut [u8]) -> Option<usize>
         requires { self.old.core.limits.longest ≤ length out.old }
         ensures state { self.new ≡ record self.old {
@@ -296,7 +302,7 @@ impl Station {
         self.core.take(out)
     }
 
-    /// The timer has run out: whether it was on.
+    /// Handles an expiry of the timer; returns whether it was on.
     pub fn expire(&mut self) -> bool
         ensures state { self.new ≡ record self.old {
           core = record self.old.core {
@@ -309,7 +315,8 @@ impl Station {
         self.core.expire()
     }
 
-    /// Whether the timer was started since this was last asked: the caller sets its deadline.
+    /// Returns whether the timer was started since this was last asked: the caller sets its
+    /// deadline.
     pub fn take_arm(&mut self) -> bool
         ensures state { self.new ≡ record self.old {
           core = record self.old.core { station = after_take_arm self.old.core.station };
@@ -319,14 +326,14 @@ impl Station {
         self.core.take_arm()
     }
 
-    /// The state.
+    /// Returns the state.
     pub fn state(&self) -> State
         ensures { result ≡ self.now.core.station.state }
     {
         self.core.state()
     }
 
-    /// The numbers.
+    /// Returns the numbers.
     pub fn numbers(&self) -> Numbers
         ensures { result ≡ record {
           r = record { 0 = self.now.core.station.r };
@@ -338,28 +345,28 @@ impl Station {
         self.core.numbers()
     }
 
-    /// The number of messages to send that are kept.
+    /// Returns the number of messages to send that are kept.
     pub fn outgoing(&self) -> u8
         ensures { result ≡ length self.now.core.station.out }
     {
         self.core.outgoing()
     }
 
-    /// Whether fewer messages are kept than the window allows.
+    /// Returns whether fewer messages are kept than the window allows.
     pub fn room(&self) -> bool
         ensures { IsTrue result ↔ (length self.now.core.station.out < self.now.core.limits.window) }
     {
         self.core.room()
     }
 
-    /// The number of messages in the inbox.
+    /// Returns the number of messages in the inbox.
     pub fn waiting(&self) -> u8
         ensures { result ≡ length self.now.core.station.inbox }
     {
         self.core.waiting()
     }
 
-    /// The length of message `i` of the inbox, counted from 0.
+    /// Returns the length of message `i` of the inbox, counted from 0.
     pub fn waiting_length(&self, i: u8) -> usize
         requires { i < length self.now.core.station.inbox }
         ensures length { result ≡ length (slice_index_or self.now.core.station.inbox i []) }
@@ -368,7 +375,7 @@ impl Station {
         self.core.waiting_length(i)
     }
 
-    /// Copies message `i` of the inbox, counted from 0, to the front of `out`, and answers its
+    /// Copies message `i` of the inbox, counted from 0, to the front of `out` and returns its
     /// length.
     pub fn waiting_at(&self, i: u8, out: &mut [u8]) -> usize
         requires there { i < length self.now.core.station.inbox }
@@ -380,21 +387,21 @@ impl Station {
         self.core.waiting_at(i, out)
     }
 
-    /// Whether the timer isn't off.
+    /// Returns whether the timer isn't off.
     pub fn timer_on(&self) -> bool
         ensures { result ≡ is_on self.now.core.station.timer }
     {
         self.core.timer_on()
     }
 
-    /// What was counted.
+    /// Returns what was counted.
     pub fn counters(&self) -> &Counters
         ensures { result.now ≡ self.now.core.counters }
     {
         self.core.counters()
     }
 
-    /// The number of bytes of the line since it was cleared.
+    /// Returns the number of bytes of the line since it was cleared.
     pub fn offset(&self) -> u64
         ensures value { result ≡ self.now.line.offset }
         ensures text { (text : List ℕ) → StandsFor self.now.line text → result ≡ length text }
@@ -402,7 +409,7 @@ impl Station {
         self.reader.offset()
     }
 
-    /// The number of bytes from the start byte of the unfinished frame on.
+    /// Returns the number of bytes from the start byte of the unfinished frame on.
     pub fn open(&self) -> usize
         ensures value { result ≡ open_of self.now.line }
         ensures text { (text : List ℕ) → StandsFor self.now.line text
@@ -411,8 +418,8 @@ impl Station {
         self.reader.open()
     }
 
-    /// The number of bytes of messages to send, of mail, and of the unfinished frame; none of a
-    /// frame that is too long.
+    /// Returns the number of bytes of messages to send, of received messages, and of the unfinished
+    /// frame; none of a frame that is too long.
     pub fn held(&self) -> usize
         ensures value { result ≡ held_of self.now }
         ensures text { (text : List ℕ) → StandsFor self.now.line text
@@ -423,7 +430,7 @@ impl Station {
         self.core.bytes() + self.reader.kept()
     }
 
-    /// The sizes that it was made with.
+    /// Returns the sizes that it was made with.
     pub fn config(&self) -> Config
         ensures { result ≡ config_of self.now.core.limits self.now.syn }
     {
@@ -431,7 +438,7 @@ impl Station {
         *config
     }
 
-    /// The room that `poll` wants: the largest number of bytes that it writes.
+    /// Returns the room that `poll` needs: the largest number of bytes that it writes.
     pub fn frame_room(&self) -> usize
         ensures { result ≡ self.now.syn + self.now.core.limits.longest + 10 }
     {

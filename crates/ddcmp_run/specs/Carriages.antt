@@ -9,7 +9,7 @@ pub record Carriage : Type 0 where
   pub bytes : List ℕ
   pub came : List ℕ
 
--- One more carriage: a carrier that tells them tells it too, and one that is direct gave what it
+-- One more carriage: a carrier that logs them logs it too, and one that is direct returned what it
 -- was handed.
 pub record HasCarried (is_direct : Bool) (old new : Option (List Carriage)) (c : Carriage)
     : Type 0 where

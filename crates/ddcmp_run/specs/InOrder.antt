@@ -11,8 +11,8 @@ use Rattle.ddcmp_run.specs.Link.{IsReached, link_of}
 use Rattle.ddcmp_run.specs.Prefix.{IsPrefixOf}
 use Rattle.ddcmp_run.specs.Run.{EndState, PairState, handed_up, is_clean, new_pair, run}
 
--- The messages handed up at `to` are the first of those that `from` accepted, and no more of them
--- was told acknowledged than was handed up.
+-- The messages delivered at `to` are the first of those that `from` accepted, and no more of them
+-- was reported acknowledged than was delivered.
 pub record Delivers (from to : EndState) : Type 0 where
   pub order : IsPrefixOf (handed_up to) from.given
   pub acknowledged : from.acknowledged ≤ length (handed_up to)
@@ -21,7 +21,7 @@ pub record DeliversBothWays (p : PairState) : Type 0 where
   pub a_to_b : Delivers p.a p.b
   pub b_to_a : Delivers p.b p.a
 
--- In every honest and clean run, messages are handed up at each end in the order in which the other
+-- In every honest and clean run, messages are delivered at each end in the order in which the other
 -- end accepted them, each once and unchanged, or not at all.
 pub record IsInOrder (p : PairState) : Type 0 where
   pub where_clean : p.honest ≡ true → is_clean p ≡ true → DeliversBothWays p
@@ -35,8 +35,8 @@ pub record IsRun (p : PairState) : Type 0 where
   pub events : List Event
   pub leads : run events (new_pair first second) ≡ p
 
--- What one end gave and the other handed up is a run of an abstract link, whose window is that of
--- the end that gave.
+-- What one end accepted and the other delivered is a run of an abstract link, whose window is that
+-- of the end that gave.
 pub record IsLink (from to : EndState) : Type 0 where
   pub sent : ℕ
   pub forward : List ℕ
@@ -44,7 +44,7 @@ pub record IsLink (from to : EndState) : Type 0 where
   pub is_reached : IsReached from.core.limits.window
       (link_of from.given from.acknowledged sent (handed_up to) forward back)
 
--- no notice tells that the peer began anew
+-- no notice reports that the peer restarted
 abbrev pub NoRestart : Reply → Type 0
 NoRestart (reply.Notices notices) = All (λ n. tells_restart n ≡ false) notices
 NoRestart _ = Unit {0}

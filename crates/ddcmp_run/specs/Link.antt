@@ -4,8 +4,8 @@ use Rattle.std.specs.Prelude.{◌≡◌, ℕ, ◌+◌, ◌-◌, max, Bool, ◌&&
 use Rattle.std.specs.Prelude.{◌==◌, List, [], ◌∷◌, ◌++◌, length, remove, slice_index_or}
 
 -- The messages given at one end, how many of them were acknowledged to it, and the highest position
--- that it sent; the messages handed up at the other end; and what is on its way, in the order in
--- which it arrives: positions forward, and back the counts of messages handed up.
+-- that it sent; the messages delivered at the other end; and what is in flight, in the order in
+-- which it arrives: positions forward, and back the counts of messages delivered.
 pub record Link : Type 0 where
   pub given : List (List ℕ)
   pub acknowledged : ℕ
@@ -25,12 +25,12 @@ link_of given acknowledged sent handed_up forward back = record {
   back = back;
 }
 
--- nothing is given, sent or on its way
+-- nothing is given, sent or in flight
 abbrev pub new_link : Link
 new_link = link_of [] 0 0 [] [] []
 
 -- What happens on a link, in any order: a message is given; a position is sent; the count of
--- messages handed up is sent back; the position or the count at some place on its way, counted from
+-- messages delivered is sent back; the position or the count at some place in flight, counted from
 -- 0, is lost; the first position or the first count arrives. A message that finds no room, or comes
 -- before its end runs, is a loss too.
 pub data Move : Type 0 where
@@ -42,14 +42,14 @@ pub data Move : Type 0 where
   ForwardComes : Move
   BackComes : Move
 
--- Position k may be sent, and sent again, where it isn't acknowledged, it leaves no gap behind the
+-- Position k may be sent, and retransmitted, if it isn't acknowledged, leaves no gap after the
 -- highest one sent, its message was given, and the window allows it.
 abbrev pub may_send_position : ℕ → ℕ → Link → Bool
 may_send_position window k l =
     nat_lt l.acknowledged k && (nat_le k (l.sent + 1)
     && (nat_le k (length l.given) && nat_le k (l.acknowledged + window)))
 
--- it goes last on its way
+-- it is last in flight
 abbrev pub after_send_position : ℕ → Link → Link
 after_send_position k l = record l { sent = max l.sent k; forward = l.forward ++ k ∷ [] }
 
@@ -57,7 +57,7 @@ after_send_position k l = record l { sent = max l.sent k; forward = l.forward ++
 abbrev pub message_at : ℕ → List (List ℕ) → List ℕ
 message_at k given = slice_index_or given (k - 1) []
 
--- A position that arrives hands its message up where it is the next one, and else does nothing.
+-- A position that arrives delivers its message if it is the next one, and else does nothing.
 abbrev pub handed_up_by : ℕ → Link → List (List ℕ)
 handed_up_by k l =
     if k == length l.handed_up + 1 then l.handed_up ++ message_at k l.given ∷ []
@@ -67,12 +67,12 @@ abbrev pub after_forward_comes : List ℕ → Link → Link
 after_forward_comes [] l = l
 after_forward_comes (k ∷ later) l = record l { handed_up = handed_up_by k l; forward = later }
 
--- A count that arrives acknowledges as many messages, where fewer are acknowledged.
+-- A count that arrives acknowledges as many messages, if fewer are acknowledged.
 abbrev pub after_back_comes : List ℕ → Link → Link
 after_back_comes [] l = l
 after_back_comes (q ∷ later) l = record l { acknowledged = max l.acknowledged q; back = later }
 
--- A link after a move. A position that may not be sent is passed over.
+-- A link after a move. A position that may not be sent is skipped.
 abbrev pub after_move : ℕ → Move → Link → Link
 after_move window (Give message) l = record l { given = l.given ++ message ∷ [] }
 after_move window (Send k) l =

@@ -13,7 +13,7 @@ use Rattle.ddcmp_frame.specs.declared.header.Header.TheVariants as header
 abbrev pub WholeFrame : Type 0
 WholeFrame = Header × List ℕ
 
--- ---- frames are the same where all fields and the data are
+-- ---- frames are the same if all fields and the data are
 
 abbrev pub same_flag : Bool → Bool → Bool
 same_flag true flag = flag
@@ -59,14 +59,14 @@ first_index f (g ∷ rest) =
 abbrev pub place_after : WholeFrame → List WholeFrame → ℕ → Option ℕ
 place_after f sent place = option_map (λ i. place + i + 1) (first_index f (drop place sent))
 
--- the same of frames that arrived one after another; none, where one of them isn't there
+-- the same of frames that arrived one after another; none, if one of them isn't there
 unfoldable pub place_from : Option ℕ → List WholeFrame → List WholeFrame → Option ℕ
 place_from place [] sent = place
 place_from place (f ∷ rest) sent =
     place_from (option_and_then (place_after f sent) place) rest sent
 
--- The place of the frames that arrived among those that were sent: each is looked for behind the
--- one before it. There is one where the first are a subsequence of the others.
+-- The place of the frames that arrived among those that were sent: each is looked for after the
+-- one before it. There is one if the first are a subsequence of the others.
 abbrev pub place_of : List WholeFrame → List WholeFrame → Option ℕ
 place_of arrived sent = place_from (Some 0) arrived sent
 

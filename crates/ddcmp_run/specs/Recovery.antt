@@ -1,4 +1,4 @@
--- Recovery: a line settles, and then twice both timers run out and it settles again.
+-- Recovery: a line settles, and then twice both timers expire and it settles again.
 use Rattle.std.specs.Prelude.{◌≡◌, ℕ, ◌+◌, ◌*◌, ◌≤◌, max, Bool, true, not, ◌&&◌, ◌==◌, List, []}
 use Rattle.std.specs.Prelude.{◌∷◌, ◌++◌, length, bytes_eq}
 use Rattle.std.specs.List.{All}
@@ -12,7 +12,7 @@ use Rattle.ddcmp_run.specs.declared.event.Event.TheVariants as event
 use Rattle.ddcmp_run.specs.Run.{EndState, PairState, handed_up, is_clean, run}
 use Rattle.ddcmp_run.specs.Settle.{Settling, most_exchanges, settling, settled}
 
--- ---- a round: both timers run out, and all settles
+-- ---- a round: both timers expire, and all settles
 
 abbrev pub both_expire : List Event
 both_expire = event.Expire A ∷ event.Expire B ∷ []
@@ -57,7 +57,7 @@ is_ready_here x =
     not (is_halted x.core.station.state)
     && (open_at_end x.core.limits.longest x.arrived == 0)
 
--- A pair that an honest and clean run led to is ready where both ends are, and take messages of
+-- A pair that an honest and clean run led to is ready if both ends are, and take messages of
 -- the same lengths.
 abbrev pub is_ready : PairState → Bool
 is_ready p =
@@ -65,7 +65,7 @@ is_ready p =
     && ((is_ready_here p.a && is_ready_here p.b)
     && (p.a.core.limits.longest == p.b.core.limits.longest))
 
--- An end runs, and all that it accepted was handed up at the other and told acknowledged.
+-- An end runs, and all that it accepted was delivered at the other and reported acknowledged.
 pub record IsDelivered (from to : EndState) : Type 0 where
   pub runs : from.core.station.state ≡ Running
   pub handed_up : from.given ≡ handed_up to
@@ -76,7 +76,7 @@ pub record IsDone (p : PairState) : Type 0 where
   pub from_a : IsDelivered p.a p.b
   pub from_b : IsDelivered p.b p.a
 
--- the same, as answers
+-- the same, as results
 abbrev pub is_delivered : EndState → EndState → Bool
 is_delivered from to =
     is_running from.core.station.state
@@ -91,7 +91,7 @@ abbrev pub larger_window : PairState → ℕ
 larger_window p = max p.a.core.limits.window p.b.core.limits.window
 
 -- A recovery repairs a pair: it is quiet, each of its settles counts at most 16 * (w + 4) exchanges
--- and no more than 12 * w + 12, where w is the larger window, and after it nothing is left to be
+-- and no more than 12 * w + 12, w being the larger window, and after it nothing is left to be
 -- done.
 pub record IsRepaired (p : PairState) : Type 0 where
   pub quiet : (recovering p).quiet ≡ true

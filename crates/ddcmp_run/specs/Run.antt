@@ -1,4 +1,4 @@
--- Two ends on a line: what each event does, what it answers, and what has been done since the line
+-- Two ends on a line: what each event does, its reply, and what has been done since the line
 -- was cleared.
 use Rattle.std.specs.Prelude.{ℕ, ◌+◌, Bool, true, false, ◌&&◌, if◌then◌else◌, nat_le, nat_lt, ◌==◌}
 use Rattle.std.specs.Prelude.{List, [], ◌∷◌, ◌++◌, length, sum_by, Option, Some, None, is_some}
@@ -33,8 +33,8 @@ use Rattle.ddcmp_run.specs.Place.{WholeFrame, place_of}
 
 -- One end: its station and the SYN fill before each of its frames; and since the line was cleared
 -- the messages that it accepted, those that its user took, the frames that it sent, the bytes that
--- arrived, how many messages it told acknowledged, and how often it began: started, or restarted
--- by its peer, counted up to the largest number that a counter holds.
+-- arrived, how many messages it reported acknowledged, and how often it began: started, or
+-- restarted by its peer, counted up to the largest number that a counter holds.
 pub record EndState : Type 0 where
   pub core : CoreView
   pub syn : ℕ
@@ -55,11 +55,11 @@ abbrev pub at : End → PairState → EndState
 at A p = p.a
 at B p = p.b
 
--- handed up: taken by the user, or still in the inbox
+-- delivered: taken by the user, or still in the inbox
 abbrev pub handed_up : EndState → List (List ℕ)
 handed_up x = x.taken ++ x.core.station.inbox
 
--- ---- what was told
+-- ---- what was reported
 
 abbrev pub acknowledged_in : List Notice → ℕ
 acknowledged_in notices = sum_by (λ n. acknowledged_by (Some n)) notices
@@ -139,14 +139,14 @@ after_event_here (event.Expire e) x = after_expire_here x
 after_event_here (event.Take e) x = after_take_here x
 after_event_here event.Clear x = x
 
--- An arrival is honest where all good frames that arrived at this end by then stand, in their
+-- An arrival is honest if all good frames that arrived at this end by then stand, in their
 -- order, among those that the other end had sent.
 abbrev pub is_honest_here : Event → EndState → List WholeFrame → Bool
 is_honest_here (event.Arrive e bytes) x sent =
     is_some (place_of (good_frames x.core.limits.longest (x.arrived ++ bytes)) sent)
 is_honest_here _ x sent = true
 
--- ---- what it answers
+-- ---- its reply
 
 abbrev pub started : Result ℕ StartRefusal → Reply
 started (Ok dropped) = reply.Started dropped
@@ -189,7 +189,7 @@ clear_refusal p =
     else Some Untaken)
     else Some NotHalted
 
--- all histories begin anew; the numbers of a halted end stay
+-- all histories begin again; the numbers of a halted end stay
 abbrev pub cleared : EndState → EndState
 cleared x = record {
   core = x.core;
@@ -271,11 +271,11 @@ new_end config = record {
 abbrev pub new_pair : Config → Config → PairState
 new_pair first second = record { a = new_end first; b = new_end second; honest = true }
 
--- A run is clean where, since the line was cleared, neither end began twice.
+-- A run is clean if, since the line was cleared, neither end began twice.
 abbrev pub is_clean : PairState → Bool
 is_clean p = nat_le p.a.starts 1 && nat_le p.b.starts 1
 
--- ---- which events ask for memory: those that record or answer something of their own
+-- ---- which events allocate: those that record or answer something of their own
 
 abbrev pub asks_here : Event → EndState → Bool
 asks_here (event.Send e message) x = may_send x.core.limits x.core.station message

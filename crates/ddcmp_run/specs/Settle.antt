@@ -16,11 +16,11 @@ other B = A
 abbrev pub writes : End → PairState → Bool
 writes e p = is_some (line_bytes (at e p))
 
--- all mail of an end is taken
+-- all received messages of an end is taken
 abbrev pub mail_events : End → PairState → List Event
 mail_events e p = replicate (length (at e p).core.station.inbox) (event.Take e)
 
--- A frame that an end sends arrives whole at the other, whose mail is taken.
+-- A frame that an end sends arrives whole at the other, whose received messages are taken.
 abbrev pub carried : End → List ℕ → List Event
 carried from bytes = event.Poll from ∷ event.Arrive (other from) bytes ∷ []
 
@@ -65,7 +65,7 @@ exchanges_within (suc more) p =
 abbrev pub most_exchanges : PairState → ℕ
 most_exchanges p = 16 * (max p.a.core.limits.window p.b.core.limits.window + 4)
 
--- Both ends' mail is taken, and then exchanges are made.
+-- Both ends' received messages are taken, and then exchanges are made.
 abbrev pub all_mail : PairState → List Event
 all_mail p = mail_events A p ++ mail_events B (run (mail_events A p) p)
 
@@ -85,8 +85,8 @@ pub record StoppedAmong (events : List Event) (before after : PairState) : Type 
   pub events_are : done ++ rest ≡ events
   pub state : after ≡ run done before
 
--- Want of memory stopped a pair between two of these events: some were done, each of them whole,
--- and the next one asks for memory.
+-- An allocation failure stopped a pair between two of these events: some were done, each of them
+-- whole, and the next one allocates.
 pub record WantsMemory (events : List Event) (before after : PairState) : Type 0 where
   pub done : List Event
   pub next : Event

@@ -1,9 +1,9 @@
-//! Lists that events and answers own.
+//! Lists that events and replies own.
 use ddcmp_core::Notice;
 use std::marker::Model;
 use std::ops::Deref;
 
-/// Bytes of a message or of a line. They are made of a `Vec` and give it back as it is.
+/// Bytes of a message or of a line. They are made of a `Vec` and return it as it is.
 #[derive(Drop)]
 pub struct Bytes {
     bytes: Vec<u8>,
@@ -43,7 +43,7 @@ impl Bytes {
     }
 }
 
-/// What an arrival told, in its order.
+/// The notices of an arrival, in their order.
 #[derive(Drop)]
 pub struct Notices {
     notices: Vec<Notice>,

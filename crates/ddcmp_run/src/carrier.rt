@@ -11,10 +11,10 @@ pub trait Carrier {
     ghost use Rattle.ddcmp_io.specs.Device.{Logs};
     ghost use Rattle.ddcmp_run.specs.Carriages.{Carriage, HasCarried};
 
-    // What it was handed and what it gave, carry by carry, where this is known.
+    // What was passed to it and what it returned, carry by carry, if this is known.
     ghost told: { Self → Option (List Carriage) } = { λ _. None };
 
-    // Whether it gives what goes in.
+    // Whether it returns what goes in.
     ghost direct: { Self → Bool } = { λ _. false };
 
     // Whether no carry fails.
@@ -23,7 +23,7 @@ pub trait Carrier {
     // Whether a carry has failed.
     ghost broken: { Self → Bool };
 
-    /// Carries bytes away from an end: how many came out, at the front of `out`.
+    /// Carries bytes away from an end; returns how many came out, at the front of `out`.
     fn carry(&mut self, from: End, bytes: &[u8], out: &mut [u8]) -> Result<usize, LineFault>
         requires whole { broken self.old ≡ false }
         requires room { length out.old ≡ length bytes.now }
@@ -35,11 +35,11 @@ pub trait Carrier {
         ensures sure { sure self.old ≡ true → IsOk result }
         ensures broken { broken self.new ≡ is_err result };
 
-    /// Whether a carry has failed.
+    /// Returns whether a carry has failed.
     fn failed(&self) -> bool
         ensures { result ≡ broken self.now };
 
-    /// Whether no carry fails, so that nothing need be written before one.
+    /// Returns whether no carry fails, so that nothing need be written before one.
     fn is_sure(&self) -> bool
         ensures { IsTrue result → sure self.now ≡ true }
     {
@@ -47,7 +47,7 @@ pub trait Carrier {
     }
 }
 
-/// Gives what went in.
+/// Returns what went in.
 #[derive(Clone, Copy, Debug, Drop, PartialEq, Eq)]
 pub struct Direct;
 

@@ -1,4 +1,4 @@
-//! What happens on a line, and what is answered.
+//! What happens on a line, and the replies.
 ghost use Rattle.std.specs.Prelude.{◌≡◌};
 
 use crate::bytes::{Bytes, Notices};
@@ -14,7 +14,7 @@ pub enum End {
 impl End {
     ghost use Rattle.ddcmp_run.specs.Settle.{other};
 
-    /// The other end.
+    /// Returns the other end.
     pub fn other(self) -> End
         ensures { result ≡ other self }
     {
@@ -37,18 +37,18 @@ pub enum Event {
     Poll(End),
     /// Bytes arrive at the end.
     Arrive(End, Bytes),
-    /// The end's timer has run out.
+    /// The end's timer expires.
     Expire(End),
     /// The end's user takes a message.
     Take(End),
-    /// The line is empty, and all histories begin anew.
+    /// The line is emptied, and all histories begin again.
     Clear,
 }
 
 impl Event {
     ghost use Rattle.ddcmp_run.specs.Run.{end_of};
 
-    /// The end where it happens; none of Clear, which concerns both.
+    /// Returns the end where it happens; none for Clear, which concerns both.
     pub fn end(&self) -> Option<End>
         ensures { result ≡ end_of self.now }
     {
@@ -62,7 +62,7 @@ impl Event {
     }
 }
 
-/// What is answered to an event.
+/// The reply to an event.
 #[derive(Drop)]
 pub enum Reply {
     /// Start: how many messages that waited to be sent were dropped.
@@ -76,15 +76,15 @@ pub enum Reply {
     Wrote(Bytes),
     /// Poll: there is nothing to send.
     Idle,
-    /// Arrive: what it told.
+    /// Arrive: its notices.
     Notices(Notices),
     /// Expire: whether the timer was on.
     Expired(bool),
     /// Take: the message.
     Took(Bytes),
-    /// Take: there is no mail.
+    /// Take: there is no message.
     Nothing,
     Cleared,
-    /// Clear: an end isn't halted, or has mail.
+    /// Clear: an end isn't halted, or has a message that wasn't taken.
     ClearRefused(StartRefusal),
 }

@@ -18,11 +18,11 @@ ghost use Rattle.ddcmp_run.specs.Prefix.{IsPrefixOf};
 ghost use Rattle.ddcmp_run.specs.Link.{Link, IsReached};
 
 /// The headline. For two new stations of any sizes in range, whether they restart or not, after
-/// every list of events that is honest and clean: the messages handed up at each end are the first
-/// of those that the other accepted, in their order, each once and unchanged; and no more was told
-/// acknowledged than was handed up. What was given at one end and handed up at the other is a run
-/// of a link without bounds. And where a clean pair comes to an arrival that is honest, no end is
-/// told that its peer began anew.
+/// every list of events that is honest and clean: the messages delivered at each end are a prefix
+/// of those that the other accepted, each once and unchanged; and no more was reported acknowledged
+/// than was delivered. What was accepted at one end and delivered at the other is a run of a link
+/// without bounds. And if a clean pair comes to an arrival that is honest, no end reports that its
+/// peer restarted.
 pub fn in_order()
     ensures order { (first second : ConfigValue) (events : List EventValue)
         → first_refusal first ≡ None → first_refusal second ≡ None
@@ -40,9 +40,9 @@ pub fn in_order()
         → NoRestart (reply_to e (run events (new_pair first second))) }
 {}
 
-/// Recovery. For two new stations of any sizes in range, after every list of events: where the pair
-/// is ready, a recovery repairs it. The two stations are sound, as every station is to which bytes
-/// came. And a recovery is the run of its events.
+/// Recovery. For two new stations of any sizes in range, after every list of events: if the pair is
+/// ready, a recovery repairs it. The two stations are sound, as every station is that received any
+/// bytes. And a recovery is the run of its events.
 pub fn recovery()
     ensures repaired { (first second : ConfigValue) (events : List EventValue) (p : PairState)
         → first_refusal first ≡ None → first_refusal second ≡ None
@@ -52,7 +52,7 @@ pub fn recovery()
     ensures events { (p : PairState) → run (recovering p).events p ≡ recovered p }
 {}
 
-/// The test of two frames passes exactly where header and data are equal.
+/// The test of two frames passes exactly if header and data are equal.
 pub fn frames_are_compared_whole()
     ensures { (f g : WholeFrame) → IsTrue (same_frame f g) ↔ ((f.0 ≡ g.0) × (f.1 ≡ g.1)) }
 {}
@@ -67,7 +67,7 @@ pub fn place_goes_on()
         ≡ option_and_then (place_after f sent) (place_of arrived sent) }
 {}
 
-/// Frames have a place among those that were sent exactly where they are a subsequence of them.
+/// Frames have a place among those that were sent exactly if they are a subsequence of them.
 pub fn place_is_of_a_subsequence()
     ensures { (arrived sent : List WholeFrame) → IsTrue (is_some (place_of arrived sent))
         ↔ IsSubsequence arrived sent }
@@ -83,8 +83,9 @@ pub fn runs()
 {}
 
 /// In every run of one direction of a link, whatever is lost and whatever the window, the messages
-/// handed up are a beginning of those given, and no more is acknowledged than was handed up. What
-/// was handed up was sent, what was sent was given, and at most a window of it isn't acknowledged.
+/// delivered are a prefix of those accepted, and no more is acknowledged than was delivered. What
+/// was delivered was sent, what was sent was accepted, and at most a window of it isn't
+/// acknowledged.
 pub fn in_order_on_a_link()
     ensures order { (window : ℕ) (l : Link) → IsReached window l
         → IsPrefixOf l.handed_up l.given }
@@ -95,13 +96,13 @@ pub fn in_order_on_a_link()
         → l.sent ≤ l.acknowledged + window }
 {}
 
-/// With a window of at most 255, numbers modulo 256 tell what numbers without bound would. The
+/// With a window of at most 255, numbers modulo 256 say what numbers without bound would. The
 /// position that arrives first differs from the next one by at most the window, so it is the next
-/// one exactly where its number is the next number. (With a window of 256 the first message, sent
-/// again, would be taken for message 257.) The count that comes back first lies, by its number too,
-/// between what is acknowledged and what was sent, and tells how many messages it newly
+/// one exactly if its number is the next number. (With a window of 256 the first message,
+/// retransmitted, would be taken for message 257.) The count that comes back first lies, by its
+/// number too, between what is acknowledged and what was sent, and says how many messages it newly
 /// acknowledges.
-pub fn numbers_tell_positions()
+pub fn numbers_determine_positions()
     ensures near { (window k : ℕ) (later : List ℕ) (l : Link) → IsReached window l
         → l.forward ≡ k ∷ later
         → (length l.handed_up + 1 ≤ k + window) × (k ≤ length l.handed_up + window) }

@@ -1,4 +1,4 @@
--- What a script writes of answers, and its last line.
+-- What a script writes of replies, and its last line.
 use Rattle.std.specs.Prelude.{ℕ, Bool, if◌then◌else◌, List, [], ◌++◌, length, codes, decimal}
 use Rattle.std.specs.Prelude.{Option, Some, None}
 use Rattle.std.specs.List.{flat_map}
@@ -16,12 +16,12 @@ use Rattle.ddcmp_run.specs.declared.event.Reply.{Reply}
 use Rattle.ddcmp_run.specs.declared.event.Reply.TheVariants as reply
 use Rattle.ddcmp_run.specs.Run.{PairState, handed_up, is_clean}
 
--- who answers, before the words of the answer
+-- who replies, before the words of the reply
 abbrev pub end_name : End → List ℕ
 end_name A = codes "A "
 end_name B = codes "B "
 
--- the same; nobody, where both ends are meant
+-- the same; nobody, if both ends are meant
 abbrev pub name_before : Option End → List ℕ
 name_before (Some e) = end_name e
 name_before None = []
@@ -43,7 +43,7 @@ send_refusal_text WindowFull = codes "send refused WindowFull\n"
 abbrev pub expired_text : Bool → List ℕ
 expired_text was_on = if was_on then codes "expired\n" else codes "timer off\n"
 
--- a line with a number, or with bytes, behind its words
+-- a line with a number, or with bytes, after its words
 abbrev pub counted_line : List ℕ → List ℕ → ℕ → List ℕ
 counted_line who words n = who ++ words ++ decimal n ++ codes "\n"
 
@@ -120,7 +120,7 @@ abbrev pub counters_lines : PairState → List ℕ
 counters_lines p =
     counters_line (end_name A) p.a.core.counters ++ counters_line (end_name B) p.b.core.counters
 
--- the end of the text: the counters, where they are asked for, and the last line
+-- the end of the text: the counters, if they are asked for, and the last line
 abbrev pub closing_text : Bool → PairState → List ℕ
 closing_text counted p =
     if counted then counters_lines p ++ totals_line p else totals_line p

@@ -35,7 +35,7 @@ end_named word =
 abbrev pub is_digit : ℕ → Bool
 is_digit c = nat_le 48 c && nat_le c 57
 
--- the number of some digits behind those of `before`
+-- the number of some digits after those of `before`
 abbrev pub number_behind : ℕ → List ℕ → Option ℕ
 number_behind before [] = Some before
 number_behind before (c ∷ rest) =
@@ -130,7 +130,7 @@ asked_damage verb e number byte =
     then damage_of e (number_in number) (byte_in byte)
     else NoCommand
 
--- by the words behind the end
+-- by the words after the end
 unfoldable pub asked_by : List ℕ → End → List (List ℕ) → ParsedLine
 asked_by verb e [] = asked_at verb e
 asked_by verb e (word ∷ []) = asked_with verb e word
@@ -165,7 +165,7 @@ without_cr line =
 unfoldable pub between_lf : List ℕ → List (List ℕ)
 between_lf text = slice_split (λ c. c == 10) text
 
--- the lines that LF ends, without its CR, and behind them the last one, where there is one
+-- the lines that LF ends, without its CR, and after them the last one, if there is one
 abbrev pub lines_between : List (List ℕ) → List (List ℕ)
 lines_between [] = []
 lines_between (last ∷ []) = if length last == 0 then [] else last ∷ []

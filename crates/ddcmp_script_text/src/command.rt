@@ -23,7 +23,7 @@ use std::alloc::Global;
 pub enum ScriptCommand {
     /// An event, which is no arrival.
     Happens(Event),
-    /// The front of an end's line arrives at the other end: all of it, or so many bytes.
+    /// The front of an end's line arrives at the other end: all of it, or this many bytes.
     Carry(End, Option<u32>),
     /// The front of an end's line is dropped.
     Lose(End),
@@ -62,7 +62,7 @@ pub fn without_cr(line: &[u8]) -> &[u8]
     }
 }
 
-/// What stands before the first blank, and what stands after it where there is one.
+/// Returns what comes before the first blank, and what comes after it if there is one.
 fn cut(line: &[u8]) -> (&[u8], Option<&[u8]>)
     ensures { slice_split (λ c. c == 32) line.now ≡ result.0.now
         ∷ option_map_or (λ rest. slice_split (λ c. c == 32) rest.now) result.1 [] }
@@ -75,7 +75,7 @@ fn cut(line: &[u8]) -> (&[u8], Option<&[u8]>)
     (line, None)
 }
 
-/// Whether a word is this one.
+/// Returns whether a word is this one.
 fn is_word(word: &[u8], name: &[u8]) -> bool
     ensures { result ≡ same_bytes word.now name.now }
 {
@@ -98,7 +98,7 @@ fn end_named(word: &[u8]) -> Option<End>
 /// The most digits of a number.
 const DIGITS: usize = 5;
 
-/// The number that a word of one to five decimal digits spells.
+/// Returns the number that a word of one to five decimal digits spells.
 #[tactic(auto, unfolding(crate::specs::ScriptWords::number_in))]
 fn number_in(word: &[u8]) -> Option<u32>
     ensures { result ≡ number_of_word word.now }
@@ -123,7 +123,7 @@ fn is_digit(byte: u8) -> bool
     b'0' <= byte && byte <= b'9'
 }
 
-/// The bytes that a word spells in hexadecimal; none where it doesn't.
+/// Returns the bytes that a word spells in hexadecimal; none if it doesn't.
 #[tactic(auto, unfolding(crate::specs::ScriptWords::bytes_of_digits))]
 fn bytes_of_digits(alloc: Global, word: &[u8]) -> Result<Option<Bytes>, Memory>
     ensures { IfOk result (λ bytes. bytes ≡ bytes_of_word word.now) }
@@ -256,7 +256,7 @@ fn read_damage(verb: &[u8], end: End, number: &[u8], word: &[u8]) -> ParsedLine
     }
 }
 
-/// The words behind the second.
+/// Returns the words after the second.
 #[tactic(auto, unfolding(crate::specs::ScriptWords::asked_by, crate::specs::ScriptWords::words))]
 fn read_further(alloc: Global, verb: &[u8], end: End, words: &[u8]) -> Result<ParsedLine, Memory>
     ensures { IfOk result (λ reading. reading ≡ asked_by verb.now end (words_of words.now)) }

@@ -1,9 +1,9 @@
-//! The text of scripts: what a line asks for, what is written of an answer, and why a script wasn't
+//! The text of scripts: what a line asks for, what is written of a reply, and why a script wasn't
 //! run to its end. Nothing happens here: `ddcmp_line` does what a line asks for.
 //!
 //! ```text
-//! send A 616263     asks that the station at A is given the message `abc`
-//! A accepted 1      is written when it took it as its message number 1
+//! send A 616263     asks that the station at A is to send the message `abc`
+//! A accepted 1      is written when it accepted it as its message number 1
 //! ```
 #![tactic(auto)]
 

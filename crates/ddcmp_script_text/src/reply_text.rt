@@ -1,4 +1,4 @@
-//! What a script writes of answers.
+//! What a script writes of replies.
 ghost use Rattle.std.specs.Prelude.{◌≡◌, ◌++◌};
 ghost use Rattle.std.specs.List.{flat_map};
 ghost use Rattle.ddcmp_io.specs.Written.{HandsOver, output_of};
@@ -17,7 +17,7 @@ use ddcmp_proto::{Notice, SendRefusal, StartRefusal, Station};
 use ddcmp_run::{End, Reply};
 use ddcmp_station_text::{state_name, write_notice};
 
-/// Who answers, before the words of the answer.
+/// Who replies, before the words of the reply.
 pub fn end_name(end: End) -> &'static [u8]
     ensures { result.now ≡ end_name end }
 {
@@ -27,7 +27,7 @@ pub fn end_name(end: End) -> &'static [u8]
     }
 }
 
-/// The same; nobody, where both ends are meant.
+/// The same; nobody, if both ends are meant.
 pub fn answerer_name(end: Option<End>) -> &'static [u8]
     ensures { result.now ≡ name_before end }
 {
@@ -69,7 +69,7 @@ pub fn send_refusal_name(refusal: SendRefusal) -> &'static [u8]
     }
 }
 
-/// Whether a timer ran out, as a line.
+/// Returns whether a timer expired, as a line.
 pub fn expired_name(was_on: bool) -> &'static [u8]
     ensures { result.now ≡ expired_text was_on }
 {
@@ -125,7 +125,7 @@ pub fn write_bytes<W: Sink>(page: &mut Page, writer: &mut W, who: &[u8], words: 
     page.write(writer, b"\n");
 }
 
-/// The text of an answer.
+/// Writes the text of a reply.
 #[tactic(auto, unfolding(crate::specs::ScriptText::reply_text))]
 pub fn write_reply<W: Sink>(page: &mut Page, writer: &mut W, who: &[u8], reply: &Reply)
     ensures { HandsOver (output_of W.broken W.contents writer.old page.old)
@@ -195,7 +195,7 @@ pub fn write_station<W: Sink>(page: &mut Page, writer: &mut W, who: &[u8], stati
     page.write(writer, timer_name(station.timer_on()));
 }
 
-/// How a settle ended, behind its exchanges.
+/// Writes how a settle ended, after its exchanges.
 fn settled_name(quiet: bool) -> &'static [u8]
     ensures { result.now ≡ quiet_text quiet }
 {
@@ -212,7 +212,7 @@ pub fn write_settled<W: Sink>(page: &mut Page, writer: &mut W, exchanges: u32, q
     page.write(writer, settled_name(quiet));
 }
 
-/// How a recovery ended, behind its exchanges.
+/// Writes how a recovery ended, after its exchanges.
 fn done_name(is_done: bool) -> &'static [u8]
     ensures { result.now ≡ done_text is_done }
 {

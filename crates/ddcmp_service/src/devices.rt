@@ -2,6 +2,7 @@
 //! moves bytes between a device and the session, without waiting, and returns whether it moved any.
 use crate::chunk::Chunk;
 use crate::ending::Ended;
+use crate::event::Down;
 use crate::line::{Line, Moved};
 use crate::outlet::Outlet;
 use crate::waiting::{Descriptor, Waiting, Wanted};
@@ -26,8 +27,8 @@ pub(crate) struct Devices {
     input: Chunk,
     received: Chunk,
     input_is_over: bool,
-    /// Whether the line takes nothing any more. What it has given is still read.
-    line_is_closed: bool,
+    /// Why the line takes nothing any more, if it doesn't. What it has given is still read.
+    down: Option<Down>,
 }
 
 // By hand, so that they are dropped by a call: a derived one is written out at each such place.
@@ -40,7 +41,7 @@ impl Drop for Devices {
             input: _input,
             received: _received,
             input_is_over: _,
-            line_is_closed: _,
+            down: _,
         } = self;
     }
 }
@@ -59,7 +60,7 @@ impl Devices {
             input: Chunk::new(alloc)?,
             received: Chunk::new(alloc)?,
             input_is_over: false,
-            line_is_closed: false,
+            down: None,
         })
     }
 
@@ -70,7 +71,7 @@ impl Devices {
             output: !session.to_output().is_empty(),
             errors: !session.to_errors().is_empty(),
             from_line: self.received.is_empty() && session.wants_line(),
-            to_line: !self.line_is_closed && !session.to_line().is_empty(),
+            to_line: self.down.is_none() && !session.to_line().is_empty(),
         }
     }
 
@@ -81,7 +82,7 @@ impl Devices {
     /// Has a line on which nothing has come.
     pub(crate) fn begin_line(&mut self) {
         self.received.clear();
-        self.line_is_closed = false;
+        self.down = None;
     }
 
     /// Has no line.
@@ -174,7 +175,7 @@ impl Devices {
     /// Writes frames to the line, as far as it has room.
     fn write_line(&mut self, session: &mut Session, line: &mut Line) -> bool {
         session.fill();
-        let is_idle = self.line_is_closed || session.to_line().is_empty();
+        let is_idle = self.down.is_some() || session.to_line().is_empty();
         if is_idle || !self.waiting.may_write_line() {
             return false;
         }
@@ -182,7 +183,7 @@ impl Devices {
             Moved::Bytes(n) => session.line_took(n),
             Moved::Nothing => return false,
             Moved::Interrupted => {}
-            Moved::Ended => self.line_is_closed = true,
+            Moved::Ended(why) => self.down = Some(why),
         }
         true
     }
@@ -200,10 +201,12 @@ impl Devices {
                 session.log_received(self.received.rest());
                 Ok(true)
             }
-            Moved::Nothing if self.line_is_closed => Err(Ended::Line),
-            Moved::Nothing => Ok(false),
+            Moved::Nothing => match self.down {
+                Some(why) => Err(Ended::Line(why)),
+                None => Ok(false),
+            },
             Moved::Interrupted => Ok(true),
-            Moved::Ended => Err(Ended::Line),
+            Moved::Ended(why) => Err(Ended::Line(self.down.unwrap_or(why))),
         }
     }
 
@@ -357,7 +360,7 @@ fn taken(moved: Moved, there: &mut Descriptor) -> Write {
             there.has_written();
             Write::Nothing
         }
-        Moved::Ended => Write::Owner,
+        Moved::Ended(_) => Write::Owner,
     }
 }
 

@@ -1,6 +1,7 @@
 //! How the run of a link ends before all is delivered.
 ghost use Rattle.std.specs.Prelude.{◌≢◌};
 
+use crate::event::Down;
 use crate::fault::{Attempt, Cause, NotOpened, ServiceFault};
 use crate::line_name::LineName;
 use crate::opening::OpenRefusal;
@@ -13,8 +14,10 @@ pub(crate) enum Ended {
     NotOpened(OpenRefusal),
     /// The system can't wait for several devices, for this reason.
     CannotWait(ErrorKind),
-    /// The line has ended or failed, or the station was halted by what came.
-    Line,
+    /// The line has ended or failed.
+    Line(Down),
+    /// The line was left, and isn't opened again.
+    Left,
     /// The time of the whole run is over.
     Time,
     /// Standard input, or waiting for it, failed.
@@ -40,7 +43,7 @@ impl Ended {
                 cause: Cause::System(kind),
             }),
             Ended::Read => ServiceFault::Read,
-            Ended::Line | Ended::Time | Ended::Write => ServiceFault::Ended,
+            Ended::Line(_) | Ended::Left | Ended::Time | Ended::Write => ServiceFault::Ended,
             Ended::Lost(count) => ServiceFault::Lost(count),
             Ended::Memory => ServiceFault::Memory,
         }

@@ -1,17 +1,20 @@
 //! What a service reports of its line on standard error as it happens.
 use crate::fault::NotOpened;
+use ddcmp_io::cause::words_of;
 use std::fmt;
+use std::io::ErrorKind;
 use std::net::SocketAddr;
 
 /// An event of the line.
 #[derive(Drop)]
 pub(crate) enum Event<'a> {
     Listening(SocketAddr),
+    Connecting(SocketAddr),
     Connected(SocketAddr),
     /// The line couldn't be opened, and is tried again after so many seconds.
     Retry(NotOpened<'a>, u64),
     /// The line ended before its station ran, and is opened again after so many seconds.
-    Ended(u64),
+    Pause(u64),
     /// Standard output took nothing after the time of the run was over.
     Unread,
 }
@@ -20,12 +23,33 @@ impl fmt::Display for Event<'_> {
     fn fmt<W: fmt::Write>(&self, f: &mut fmt::Formatter<W>) -> fmt::Result {
         match self {
             Event::Listening(addr) => write!(f, "listening {addr}"),
+            Event::Connecting(addr) => write!(f, "connecting {addr}"),
             Event::Connected(addr) => write!(f, "connected {addr}"),
             Event::Retry(fault, seconds) => write!(f, "ddcmp: {fault}; retry in {seconds} s"),
-            Event::Ended(seconds) => write!(f, "ddcmp: line ended; retry in {seconds} s"),
+            Event::Pause(seconds) => write!(f, "retry in {seconds} s"),
             Event::Unread => {
                 f.write_str("ddcmp: standard output isn't read: received messages are lost")
             }
         }
+    }
+}
+
+/// Why a line is down.
+#[derive(Clone, Copy, PartialEq, Eq)]
+pub(crate) enum Down {
+    /// The other end has closed it.
+    Closed,
+    /// A read or a write failed so.
+    Failed(ErrorKind),
+}
+
+impl fmt::Display for Down {
+    fn fmt<W: fmt::Write>(&self, f: &mut fmt::Formatter<W>) -> fmt::Result {
+        f.write_str(match self {
+            Down::Closed => "closed by the other end",
+            Down::Failed(ErrorKind::BrokenPipe) => "broken pipe",
+            Down::Failed(ErrorKind::Other) => "input or output error",
+            Down::Failed(kind) => words_of(*kind),
+        })
     }
 }

@@ -12,6 +12,7 @@ mod line_name;
 mod opening;
 mod outlet;
 mod service;
+mod socket;
 mod system;
 mod waiting;
 

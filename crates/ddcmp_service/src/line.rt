@@ -1,5 +1,6 @@
 //! The line of a service: a socket or a device that is read and written without waiting.
 use crate::chunk::Chunk;
+use crate::event::Down;
 use crate::waiting::Waiting;
 use mio::net::{TcpStream, UdpSocket};
 use std::fs::File;
@@ -34,7 +35,7 @@ pub(crate) enum Moved {
     /// The call was interrupted, and is to be made again.
     Interrupted,
     /// The line has ended or failed.
-    Ended,
+    Ended(Down),
 }
 
 /// What a call of the system returned.
@@ -44,7 +45,7 @@ pub(crate) fn moved_by(answer: io::Result<usize>) -> Moved {
         Err(error) => match error.kind() {
             ErrorKind::WouldBlock => Moved::Nothing,
             ErrorKind::Interrupted => Moved::Interrupted,
-            _ => Moved::Ended,
+            kind => Moved::Ended(Down::Failed(kind)),
         },
     }
 }
@@ -77,17 +78,12 @@ fn sent_by(answer: io::Result<usize>, length: usize) -> Moved {
 /// Reads a stream, of which no bytes are the end.
 fn read_by(answer: io::Result<usize>) -> Moved {
     match moved_by(answer) {
-        Moved::Bytes(0) => Moved::Ended,
+        Moved::Bytes(0) => Moved::Ended(Down::Closed),
         got => got,
     }
 }
 
 impl Line {
-    /// Whether each write is a frame of its own.
-    pub(crate) fn is_of_datagrams(&self) -> bool {
-        matches!(self, Line::Datagrams(..))
-    }
-
     /// Reads what has come into an empty chunk.
     pub(crate) fn read(&mut self, waiting: &mut Waiting, came: &mut Chunk) -> Moved {
         let got = match self {

@@ -4,6 +4,7 @@ ghost use Rattle.ddcmp_service.specs.LineNames.{word_of, IsPlain};
 
 use crate::fault::{Attempt, NotOpened};
 use crate::opening::OpenRefusal;
+use ddcmp_session::LineKind;
 
 /// A line, as a word names it.
 #[derive(Clone, Copy, Debug, PartialEq, Eq)]
@@ -34,6 +35,16 @@ impl<'a> LineName<'a> {
             }
             "device" => Some(LineName::Device(rest)),
             _ => None,
+        }
+    }
+
+    /// Returns what kind of line it names.
+    pub(crate) fn kind(self) -> LineKind {
+        match self {
+            LineName::Connect(_) => LineKind::Connect,
+            LineName::Listen(_) => LineKind::Listen,
+            LineName::Udp { .. } => LineKind::Datagrams,
+            LineName::Device(_) => LineKind::Device,
         }
     }
 

@@ -2,6 +2,7 @@
 use crate::fault::{Cause, NotOpened};
 use crate::line::Line;
 use crate::line_name::LineName;
+use crate::socket::{prepare_datagrams, prepare_stream};
 use crate::waiting::Waiting;
 use mio::net::{TcpListener, TcpStream, UdpSocket};
 use std::fs::{self, File, Files, OpenOptions, TryLockError};
@@ -40,8 +41,10 @@ impl Drop for Opener<'_> {
 #[derive(Drop)]
 pub(crate) enum Opened {
     Line(Line),
-    /// A line to whom has come.
-    Came(Line, SocketAddr),
+    /// A connection, and to whom.
+    Connected(Line, SocketAddr),
+    /// A connection to there has been begun.
+    Connecting(SocketAddr),
     /// Nobody has come yet, or whom it connects to hasn't answered.
     NotYet,
 }
@@ -127,12 +130,12 @@ impl<'a> Opener<'a> {
         name: &str,
     ) -> Result<Opened, OpenRefusal> {
         if let Some(stream) = self.connecting.take() {
-            match is_connected(&stream) {
-                Ok(true) => {
+            match peer_of(&stream) {
+                Ok(Some(peer)) => {
                     self.begin_anew();
-                    return Ok(Opened::Line(Line::Stream(stream)));
+                    return Ok(Opened::Connected(Line::Stream(stream), peer));
                 }
-                Ok(false) => {
+                Ok(None) => {
                     self.connecting = Some(stream);
                     return Ok(Opened::NotYet);
                 }
@@ -151,7 +154,7 @@ impl<'a> Opener<'a> {
             match begin_connecting(net, waiting, addr) {
                 Ok(stream) => {
                     self.connecting = Some(stream);
-                    return Ok(Opened::NotYet);
+                    return Ok(Opened::Connecting(addr));
                 }
                 Err(error) => self.fails(error.kind()),
             }
@@ -174,29 +177,29 @@ impl<'a> Opener<'a> {
     }
 }
 
-/// Whether a connection is there; else it isn't yet, or it failed so.
-fn is_connected(stream: &TcpStream) -> Result<bool, ErrorKind> {
+/// Returns to whom a connection is, once it is there, or why it failed.
+fn peer_of(stream: &TcpStream) -> Result<Option<SocketAddr>, ErrorKind> {
     match stream.take_error() {
         Ok(Some(error)) | Err(error) => return Err(error.kind()),
         Ok(None) => {}
     }
     match stream.peer_addr() {
-        Ok(_) => Ok(true),
+        Ok(peer) => Ok(Some(peer)),
         Err(error) => match error.kind() {
-            ErrorKind::NotConnected => Ok(false),
+            ErrorKind::NotConnected => Ok(None),
             kind => Err(kind),
         },
     }
 }
 
-/// Begins to connect to an address. A connection holds no bytes back to fill a packet.
+/// Begins to connect to an address.
 fn begin_connecting<N: Net>(
     net: &N,
     waiting: &mut Waiting,
     addr: SocketAddr,
 ) -> io::Result<TcpStream> {
     let mut stream = TcpStream::connect(net, addr)?;
-    stream.set_nodelay(true)?;
+    prepare_stream(&stream);
     waiting.add_socket(&mut stream)?;
     Ok(stream)
 }
@@ -217,7 +220,7 @@ fn listening<N: Net<Stream = net::TcpStream, Listener = net::TcpListener>>(
 
 /// A connection of a caller as the line.
 fn caller_line(waiting: &mut Waiting, mut stream: TcpStream) -> io::Result<Line> {
-    stream.set_nodelay(true)?;
+    prepare_stream(&stream);
     waiting.add_socket(&mut stream)?;
     Ok(Line::Stream(stream))
 }
@@ -227,7 +230,7 @@ fn accepted(listener: &Option<TcpListener>, waiting: &mut Waiting) -> io::Result
         return Ok(Opened::NotYet);
     };
     match listener.accept() {
-        Ok((stream, peer)) => Ok(Opened::Came(caller_line(waiting, stream)?, peer)),
+        Ok((stream, peer)) => Ok(Opened::Connected(caller_line(waiting, stream)?, peer)),
         Err(error) => match error.kind() {
             ErrorKind::WouldBlock | ErrorKind::Interrupted | ErrorKind::ConnectionAborted => {
                 Ok(Opened::NotYet)
@@ -282,6 +285,7 @@ fn bound<N: Net>(
 
 fn bind<N: Net>(net: &N, waiting: &mut Waiting, local: SocketAddr) -> io::Result<UdpSocket> {
     let mut socket = UdpSocket::bind(net, local)?;
+    prepare_datagrams(&socket);
     waiting.add_socket(&mut socket)?;
     Ok(socket)
 }

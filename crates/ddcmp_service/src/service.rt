@@ -75,7 +75,7 @@ fn serve<S: System, R: Source, W: Sink>(
     reader: &mut R,
     writer: &mut W,
 ) -> Result<Served, Ended> {
-    let Ok(mut session) = Session::new(alloc, options) else {
+    let Ok(mut session) = Session::new(alloc, options, line.kind()) else {
         return Err(Ended::Memory);
     };
     let waiting = match Waiting::new(system, alloc) {
@@ -86,6 +86,9 @@ fn serve<S: System, R: Source, W: Sink>(
         return Err(Ended::Memory);
     };
     let mut clock = Elapsed::new(system);
+    if let Ok(since_1970) = system.since_1970() {
+        session.began_at(u64::try_from(since_1970.as_millis()).unwrap_or(u64::MAX));
+    }
     let mut opener = Opener::new(line);
     let ran = run_lines(
         system,
@@ -129,7 +132,8 @@ fn run_lines<S: System, C: Clock, R: Source, W: Sink>(
         match run_line(system, session, devices, &mut line, clock, reader, writer) {
             Ok(End::Delivered) => return Ok(()),
             Ok(End::Time) => return Err(Ended::Time),
-            Ok(End::Restarted | End::GivenUp) | Err(Ended::Line) => {}
+            Ok(End::Restarted | End::GivenUp) => {}
+            Err(Ended::Line(why)) => session.report_down(&why),
             Err(ended) => return Err(ended),
         }
         if !session.reopens() {
@@ -137,7 +141,7 @@ fn run_lines<S: System, C: Clock, R: Source, W: Sink>(
         }
         leave_line(system, session, devices, clock, writer)?;
     }
-    Err(Ended::Line)
+    Err(Ended::Left)
 }
 
 /// Listens if the line is one of whoever calls, and reports at which address.
@@ -171,6 +175,7 @@ fn open_line<S: System, C: Clock>(
 ) -> Result<Option<Line>, Ended> {
     for _try in 0..u64::MAX {
         let now = clock.now();
+        session.pass_time(now);
         if session.run_ends_at() <= now {
             break;
         }
@@ -205,9 +210,13 @@ where
 {
     match opener.open(system, &mut devices.waiting)? {
         Opened::Line(line) => Ok(Some(line)),
-        Opened::Came(line, peer) => {
+        Opened::Connected(line, peer) => {
             session.report(&Event::Connected(peer));
             Ok(Some(line))
+        }
+        Opened::Connecting(peer) => {
+            session.report(&Event::Connecting(peer));
+            Ok(None)
         }
         Opened::NotYet => Ok(None),
     }
@@ -220,13 +229,7 @@ fn wait_between_lines(session: &Session, devices: &mut Devices, now: u64) -> boo
     } else {
         Wanted::ERRORS
     };
-    let end = session.run_ends_at();
-    let opens_at = session.opens_at();
-    let moment = if now < opens_at {
-        opens_at.min(end)
-    } else {
-        end
-    };
+    let moment = session.wakes_without_line_at(now);
     devices.waiting.wait(wanted, moment.saturating_sub(now))
 }
 
@@ -271,7 +274,7 @@ fn leave_line<E: Eprint, W: Sink, C: Clock>(
     devices.drain_output(session, writer, clock)?;
     devices.drain_errors(session, system, clock, LINE_END_MS);
     if let Some(seconds) = session.pause_after_line(clock.now()) {
-        session.report(&Event::Ended(seconds));
+        session.report(&Event::Pause(seconds));
     }
     Ok(())
 }
@@ -284,7 +287,7 @@ fn judge<R: Source>(
     reader: &mut R,
     ran: Result<(), Ended>,
 ) -> Result<(), Ended> {
-    let is_over = matches!(ran, Err(Ended::Line | Ended::Time));
+    let is_over = matches!(ran, Err(Ended::Left | Ended::Time));
     let rest = if is_over && session.has_run() {
         devices.read_the_rest(reader)
     } else {

@@ -1,8 +1,9 @@
 -- A received message that was taken.
 use Rattle.std.proofs.Common.{◌≡◌, ap, sym, subst, ◌∙◌, ℕ, List, ◌++◌, length, take, drop, Option}
-use Rattle.std.proofs.Common.{Some, None, option_map, false}
+use Rattle.std.proofs.Common.{Some, None, option_map, false, [], ◌∷◌, refl}
 use Rattle.std.proofs.Math.Seq.{take-append_seam}
-use Rattle.ddcmp_window.specs.Store.{with_front}
+use Rattle.ddcmp_station.specs.Linking.{LinkView, after_taking, totals_after_take, with_state}
+use Rattle.ddcmp_window.specs.Store.{with_front, first_message}
 use Rattle.ddcmp_session.specs.declared.messages.Form.{Form}
 use Rattle.ddcmp_session.specs.Queue.{QueueView}
 use Rattle.ddcmp_session.specs.Text.{Wrote, mail_text}
@@ -40,3 +41,17 @@ delivers form f n mail out old settled new is put same cut wrote =
             );
       },
     )
+
+-- nothing was taken where nothing was there
+empty : (messages : List (List ℕ)) → None ≡ option_map length (first_message messages)
+    → messages ≡ []
+empty [] e = refl
+empty (message ∷ rest) e = cc
+
+pub takes-nothing : (d : LinkView)
+    → None ≡ option_map length (first_message d.station.core.station.inbox) → after_taking d ≡ d
+takes-nothing d none =
+    let e = empty d.station.core.station.inbox none in
+    ap (λ m. record (with_state (record d.station.core.station { inbox = drop 1 m }) d) {
+      totals = totals_after_take m d.totals;
+    }) e ∙ ap (λ m. with_state (record d.station.core.station { inbox = m }) d) (sym e)

@@ -1,5 +1,5 @@
 -- Bytes of an input, of which there are none, and what completes one entry.
-use Rattle.std.proofs.Common.{◌≡◌, refl, ap, sym, ◌∙◌, List, [], ◌∷◌, Option, Some, None, length, ◌≤◌}
+use Rattle.std.proofs.Common.{◌≡◌, ℕ, refl, ap, sym, ◌∙◌, List, [], ◌∷◌, Option, Some, None, length, ◌≤◌}
 use Rattle.std.proofs.Common.{arith}
 use Rattle.std.specs.Prelude.{option_to_list}
 use Rattle.ddcmp_input.specs.HexLines as lines
@@ -7,7 +7,7 @@ use Rattle.ddcmp_input.specs.Lengths as lengths
 use Rattle.ddcmp_session.specs.declared.messages.Messages.{Messages}
 use Rattle.ddcmp_session.specs.declared.messages.Messages.TheVariants.{Digits, Binary}
 use Rattle.ddcmp_session.specs.Messages.{after_input, entries_of_input}
-use Rattle.ddcmp_session.specs.Session.{SessionView, after_typed, after_entries}
+use Rattle.ddcmp_session.specs.Session.{SessionView, after_typed, after_entries, form_of}
 
 pub no-entries : (m : Messages) → entries_of_input [] m ≡ []
 unfolding lines.entries_of_bytes lengths.entries_of_bytes
@@ -28,3 +28,8 @@ nothing-typed s =
 pub one-entry : {A : Type 0} (o : Option A) (e : A) → option_to_list o ≡ e ∷ [] → o ≡ Some e
 one-entry None e is = cc
 one-entry (Some x) e is = cc
+
+-- the form stays
+pub form-stays : (bytes : List ℕ) (m : Messages) → form_of (after_input bytes m) ≡ form_of m
+form-stays bytes (Digits v) = refl
+form-stays bytes (Binary v) = refl

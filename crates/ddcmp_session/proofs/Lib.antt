@@ -1,4 +1,5 @@
 pub mod DeliverLaws
+pub mod DropLaws
 pub mod FrameLaws
 pub mod InputLaws
 pub mod NoticeLaws

@@ -40,3 +40,8 @@ entry_of_last (Binary v) = None
 abbrev pub is_message_unfinished : Messages → Bool
 is_message_unfinished (Digits v) = false
 is_message_unfinished (Binary v) = lengths.is_unfinished v.place
+
+-- the line of the input that was read last is `?`, which asks for a report
+abbrev pub is_question : Messages → Bool
+is_question (Digits v) = lines.is_question v
+is_question (Binary v) = false

@@ -3,7 +3,7 @@ use Rattle.std.specs.Prelude.{ℕ, ◌+◌, ◌*◌, Bool, true, false, ◌&&◌
 use Rattle.std.specs.Prelude.{List, [], ◌∷◌, option_to_list}
 use Rattle.ddcmp_core.specs.Table.{has_room}
 use Rattle.ddcmp_input.specs.declared.entry.Entry.{Entry}
-use Rattle.ddcmp_input.specs.declared.entry.Entry.TheVariants.{Message}
+use Rattle.ddcmp_input.specs.declared.entry.Entry.TheVariants.{Message, NotHexadecimal}
 use Rattle.ddcmp_frame.specs.Reader.{ReaderView}
 use Rattle.ddcmp_proto.specs.declared.config.Config.{Config}
 use Rattle.ddcmp_station.specs.Linking.{LinkView, link_made, takes_message, after_offered, delivered}
@@ -13,7 +13,7 @@ use Rattle.ddcmp_session.specs.declared.messages.Messages.{Messages}
 use Rattle.ddcmp_session.specs.declared.messages.Messages.TheVariants.{Digits, Binary}
 use Rattle.ddcmp_session.specs.declared.text.TheConstants.{LINE_ROOM}
 use Rattle.ddcmp_session.specs.Messages.{messages_begun, message_in, after_input, entries_of_input, after_last}
-use Rattle.ddcmp_session.specs.Messages.{entry_of_last, is_message_unfinished}
+use Rattle.ddcmp_session.specs.Messages.{entry_of_last, is_message_unfinished, is_question}
 use Rattle.ddcmp_session.specs.declared.session.TheConstants.{OUTPUT_ROOM}
 use Rattle.ddcmp_session.specs.Queue.{QueueView, no_bytes}
 
@@ -45,9 +45,11 @@ session_made form config milliseconds line = record {
 abbrev pub wants_input : SessionView → Bool
 wants_input s = not s.is_read && takes_message s.link
 
--- a message is sent; any other part is refused
+-- A message is sent, and a line `?` asks for a report; any other part is refused.
 abbrev pub after_entry : Entry → SessionView → SessionView
 after_entry Message s = record s { link = after_offered (message_in s.messages) s.link }
+after_entry NotHexadecimal s =
+    record s { was_refused = if is_question s.messages then s.was_refused else true }
 after_entry _ s = record s { was_refused = true }
 
 abbrev pub after_entries : List Entry → SessionView → SessionView

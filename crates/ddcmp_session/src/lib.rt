@@ -5,9 +5,11 @@
 mod datagram;
 mod errors;
 mod messages;
+mod options;
 mod pacing;
 mod patience;
 mod queue;
+mod report;
 mod retry;
 mod session;
 mod skipped;
@@ -15,4 +17,5 @@ mod text;
 mod trace;
 
 pub use messages::Form;
-pub use session::{End, Options, Session};
+pub use options::{LineKind, Options};
+pub use session::{End, Session};

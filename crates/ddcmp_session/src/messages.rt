@@ -2,7 +2,7 @@
 ghost use Rattle.std.specs.Prelude.{◌≡◌, ◌+◌, ◌≤◌, ℕ, [], IfOk, None, Some, length, take, option_to_list};
 ghost use Rattle.ddcmp_session.specs.Messages.{messages_begun, message_in, after_input};
 ghost use Rattle.ddcmp_session.specs.Messages.{entries_of_input, is_message_unfinished};
-ghost use Rattle.ddcmp_session.specs.Messages.{after_last, entry_of_last};
+ghost use Rattle.ddcmp_session.specs.Messages.{after_last, entry_of_last, is_question};
 
 use ddcmp_input::{Entry, HexLines, Lengths, Pushed};
 use std::alloc::{AllocError, Global};
@@ -87,6 +87,16 @@ impl Messages {
         match self {
             Messages::Digits(_lines) => false,
             Messages::Binary(lengths) => lengths.is_unfinished(),
+        }
+    }
+
+    /// Whether the line of the input that was read last is `?`, which asks for a report.
+    pub(crate) fn is_question(&self) -> bool
+        ensures { result ≡ is_question self.now }
+    {
+        match self {
+            Messages::Digits(lines) => lines.is_question(),
+            Messages::Binary(_lengths) => false,
         }
     }
 

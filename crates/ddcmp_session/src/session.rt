@@ -7,14 +7,16 @@ mod timing;
 
 use crate::datagram::Framing;
 use crate::errors::Errors;
-use crate::messages::{Form, Messages};
+use crate::messages::Messages;
+use crate::options::{LineKind, Options};
 use crate::pacing::Pacing;
 use crate::patience::Patience;
 use crate::queue::Queue;
+use crate::report::Reports;
 use crate::retry::Retry;
 use crate::text;
 use crate::trace::Trace;
-use ddcmp_station::{Config, ConfigRefusal, Link};
+use ddcmp_station::{ConfigRefusal, Link};
 use std::alloc::Global;
 use std::marker::Model;
 
@@ -23,37 +25,6 @@ const OUTPUT_ROOM: usize = 65536;
 
 /// The bytes of lines that are queued for standard error, and eight times as many with a trace.
 const ERRORS_ROOM: usize = 65536;
-
-/// How a session runs.
-#[derive(Clone, Copy, Debug, PartialEq, Eq)]
-pub struct Options {
-    pub config: Config,
-    /// How long the station waits for an answer, in milliseconds.
-    pub timer_ms: u32,
-    /// After how many tries without progress a line is left; 0 is never, and `u32::MAX` is 7 until
-    /// the station runs and never from then on.
-    pub attempts: u32,
-    /// For how long it stays once all of the input was delivered, since a message came, in
-    /// milliseconds.
-    pub linger_ms: u32,
-    pub form: Form,
-    /// Whether it goes on once all of the input was delivered.
-    pub stay: bool,
-    /// Whether the line is opened again if it ends or can't be opened.
-    pub again: bool,
-    /// After how many seconds it ends.
-    pub seconds: u32,
-    /// Whether counters are written before the last line.
-    pub counters: bool,
-    /// Whether the frames of both ways are logged on standard error.
-    pub trace: bool,
-    /// Whether the line is of whoever calls.
-    pub listens: bool,
-    /// Whether the line is of datagrams.
-    pub datagrams: bool,
-    /// Whether the line is a connection, so that a peer is there once it is open.
-    pub connects: bool,
-}
 
 /// Why a session leaves its line.
 #[derive(Clone, Copy, Debug, PartialEq, Eq)]
@@ -81,10 +52,12 @@ pub enum End {
 /// `new` allocates, but `line_ended` with a trace.
 pub struct Session {
     options: Options,
+    kind: LineKind,
     link: Link,
     messages: Messages,
     output: Queue,
     errors: Errors,
+    reports: Reports,
     mail: Vec<u8>,
     framing: Option<Framing>,
     trace: Option<Trace>,
@@ -134,10 +107,12 @@ impl Drop for Session {
     fn drop(self) {
         let Session {
             options: _,
+            kind: _,
             link: _link,
             messages: _messages,
             output: _output,
             errors: _errors,
+            reports: _reports,
             mail: _mail,
             framing: _framing,
             trace: _trace,
@@ -175,31 +150,34 @@ fn trace_of(alloc: Global, options: &Options) -> Result<Option<Trace>, ConfigRef
 }
 
 /// Makes what finds the ends of frames in datagrams, if the line is of these.
-fn framing_of(alloc: Global, options: &Options) -> Result<Option<Framing>, ConfigRefusal> {
-    if !options.datagrams {
+fn framing_of(alloc: Global, max: u16, kind: LineKind) -> Result<Option<Framing>, ConfigRefusal> {
+    if !kind.is_of_datagrams() {
         return Ok(None);
     }
-    match Framing::new(alloc, options.config.max.max(1)) {
+    match Framing::new(alloc, max.max(1)) {
         Ok(framing) => Ok(Some(framing)),
         Err(_refused) => Err(ConfigRefusal::Memory),
     }
 }
 
 impl Session {
-    ghost use Rattle.std.specs.Prelude.{◌≡◌, [], IfOk};
+    ghost use Rattle.std.specs.Prelude.{◌≡◌, [], IfOk, Some, Err};
     ghost use Rattle.ddcmp_frame.specs.Reader.{StandsFor};
+    ghost use Rattle.ddcmp_proto.specs.Config.{first_refusal};
     ghost use Rattle.ddcmp_session.specs.Session.{session_made};
 
     /// Makes a session that has no line yet. It takes all the memory that it will need.
-    pub fn new(alloc: Global, options: Options) -> Result<Session, ConfigRefusal>
+    pub fn new(alloc: Global, options: Options, kind: LineKind) -> Result<Session, ConfigRefusal>
         ensures made { IfOk result (λ s. s ≡ session_made options.form options.config
             options.timer_ms s.link.station.line) }
         ensures stands { IfOk result (λ s. StandsFor s.link.station.line []) }
+        ensures refused { (refusal : ConfigRefusal) → first_refusal options.config ≡ Some refusal
+            → result ≡ Err refusal }
     {
         let max = options.config.max;
         let link = Link::new(alloc, options.config, options.timer_ms)?;
         let trace = trace_of(alloc, &options)?;
-        let framing = framing_of(alloc, &options)?;
+        let framing = framing_of(alloc, max, kind)?;
         let errors_room = if options.trace {
             8 * ERRORS_ROOM
         } else {
@@ -214,16 +192,21 @@ impl Session {
         let Ok(errors) = Errors::new(alloc, errors_room) else {
             return Err(ConfigRefusal::Memory);
         };
+        let Ok(reports) = Reports::new(alloc, options.report, options.json) else {
+            return Err(ConfigRefusal::Memory);
+        };
         let Ok(mail) = Vec::from_elem(alloc, 0u8, max as usize) else {
             return Err(ConfigRefusal::Memory);
         };
         let pacing = Pacing::new(options.timer_ms, &link);
         Ok(Session {
             options,
+            kind,
             link,
             messages,
             output,
             errors,
+            reports,
             mail,
             framing,
             trace,

@@ -92,13 +92,32 @@ fn put_lost<W: Sink>(page: &mut Page, out: &mut W, lost: u8)
     page.write(out, b"\n");
 }
 
+/// Writes the counters of a link.
+pub(crate) fn write_counters_line(out: &mut Queue, link: &Link) {
+    let mut page = Page::new();
+    write_counters(&mut page, out, b"", link.counters());
+    let _is_whole = page.flush(out);
+}
+
 /// Writes the state and the totals of a link, after its counters if these are asked for.
 pub(crate) fn write_end(out: &mut Queue, link: &Link, counters: bool) {
-    let mut page = Page::new();
     if counters {
-        write_counters(&mut page, out, b"", link.counters());
+        write_counters_line(out, link);
     }
+    let mut page = Page::new();
     write_totals(&mut page, out, link);
+    page.write(out, b"\n");
+    let _is_whole = page.flush(out);
+}
+
+/// Writes the state, the totals, the lost messages and the counters of a link in one line.
+pub(crate) fn write_report(out: &mut Queue, link: &Link, lost: u64) {
+    let mut page = Page::new();
+    page.write(out, b"report ");
+    write_totals(&mut page, out, link);
+    page.write(out, b" lost=");
+    write_number(&mut page, out, lost);
+    write_counters(&mut page, out, b" ", link.counters());
     let _is_whole = page.flush(out);
 }
 
@@ -117,5 +136,4 @@ fn write_totals<W: Sink>(page: &mut Page, out: &mut W, link: &Link) {
         page.write(out, name);
         write_number(page, out, number);
     }
-    page.write(out, b"\n");
 }

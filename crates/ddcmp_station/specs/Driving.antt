@@ -23,14 +23,14 @@ use Rattle.ddcmp_proto.specs.Bytes.{after_piece, notices_of_piece, frame_on_line
 use Rattle.ddcmp_station.specs.UserCalls.{UserCall, calls_of_offer, calls_of_notices, calls_of_mail}
 use Rattle.ddcmp_proto.specs.Station.{StationView}
 
--- One turn: the moment that the clock told, the message that the user offered (no bytes where it
--- offered none or wasn't asked), and the bytes that the read gave.
+-- One turn: the moment that the clock returned, the message that the user offered (no bytes if
+-- it offered none or wasn't asked), and the bytes that the read gave.
 pub record DriveTurn : Type 0 where
   pub now : ℕ
   pub offered : List ℕ
   pub came : List ℕ
 
--- A driven station: the station itself, the text of its line, the deadline of its timer, where
+-- A driven station: the station itself, the text of its line, the deadline of its timer, if
 -- this call has set one, and the bytes that this call has written.
 pub record Driving : Type 0 where
   pub core : CoreView
@@ -44,11 +44,11 @@ driving_from k text = record { core = k; text = text; deadline = None; written =
 
 -- ---- the timer
 
--- a moment so many milliseconds later, which a clock can tell
+-- a moment this many milliseconds later, which a clock can return
 abbrev pub later : ℕ → ℕ → ℕ
 later now milliseconds = min (now + milliseconds) 18446744073709551615
 
--- The deadline is set where the timer was started since it was last asked, or is on while this
+-- The deadline is set if the timer was started since it was last asked, or is on while this
 -- call has set none.
 abbrev pub deadline_at : ℕ → ℕ → Timer → Option ℕ → Option ℕ
 deadline_at milliseconds now Off deadline = deadline
@@ -60,7 +60,7 @@ abbrev pub is_due : ℕ → Option ℕ → Bool
 is_due now None = false
 is_due now (Some moment) = nat_le moment now
 
--- the timer has run out
+-- the timer has expired
 abbrev pub core_after_expire : CoreView → CoreView
 core_after_expire k =
     record k {
@@ -76,12 +76,12 @@ abbrev pub expires_at : ℕ → ℕ → Timer → Option ℕ → Bool
 expires_at milliseconds now timer deadline =
     is_on timer && is_due now (deadline_at milliseconds now timer deadline)
 
--- where the timer is on and its deadline has come, it runs out
+-- if the timer is on and its deadline has come, it expires
 abbrev pub core_at_deadline : ℕ → Option ℕ → CoreView → CoreView
 core_at_deadline now deadline k =
     if is_on k.station.timer && is_due now deadline then core_after_expire k else k
 
--- ---- the message of the user, the frame, and the mail
+-- ---- the message of the user, the frame, and the received messages
 
 abbrev pub core_after_message : List ℕ → CoreView → CoreView
 core_after_message message k = record k {
@@ -93,7 +93,7 @@ abbrev pub frame_bytes : ℕ → Option Frame → List ℕ
 frame_bytes syn None = []
 frame_bytes syn (Some f) = frame_on_line syn f
 
--- all mail goes to the user
+-- all received messages go to the user
 abbrev pub core_after_mail : CoreView → CoreView
 core_after_mail k = record k { station = record k.station { inbox = [] } }
 
@@ -122,7 +122,7 @@ before_read milliseconds syn turn d = record d {
   seen = d.seen ++ calls_of_offer (before_offer milliseconds turn d) turn.offered;
 }
 
--- and the read: what came is taken, and all mail is handed up
+-- and the read: what came is taken, and all received messages are delivered
 abbrev pub after_read : List ℕ → Driving → Driving
 after_read came d = record d {
   core = core_after_mail (after_piece d.text came d.core);
@@ -162,7 +162,7 @@ last_read_answer Write = []
 last_read_answer Ended = Bytes 0 ∷ []
 last_read_answer Memory = []
 
--- A read gives at most 256 bytes, and where the source was never idle since its making at least
+-- A read returns at most 256 bytes, and if the source was never idle since its making at least
 -- one: at the end of its input `drive` ends.
 unfoldable pub ReadsInTurns : Worst → List DriveTurn → Type 0
 ReadsInTurns worst [] = Unit {0}

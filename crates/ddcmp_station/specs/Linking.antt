@@ -33,7 +33,7 @@ pub record OutboxView : Type 0 where
 abbrev pub no_bytes : OutboxView
 no_bytes = record { waiting = []; room = ROOM }
 
--- where nothing waits any more there is all the room again
+-- if nothing waits any more there is all the room again
 abbrev pub after_taken : ℕ → OutboxView → OutboxView
 after_taken n o =
     record {
@@ -44,7 +44,7 @@ after_taken n o =
 abbrev pub after_put : List ℕ → OutboxView → OutboxView
 after_put bytes o = record { waiting = o.waiting ++ bytes; room = o.room - length bytes }
 
--- A link: its station, the bytes on their way to the line, when the timer runs out, where that is
+-- A link: its station, the bytes pending for the line, when the timer expires, if that is
 -- set, how many milliseconds after its start that is, and what was counted.
 pub record LinkView : Type 0 where
   pub station : StationView
@@ -118,7 +118,7 @@ abbrev pub answer_to_offered : List ℕ → LinkView → Result (Unit {0}) SendR
 answer_to_offered message d =
     answer_unless (send_refusal d.station.core.limits d.station.core.station message) tt
 
--- ---- frames on their way to the line
+-- ---- frames pending for the line
 
 -- the frame that the station would send
 abbrev pub frame_of_link : LinkView → Option Frame
@@ -132,7 +132,7 @@ abbrev pub is_nak_for_buffer : Header → Bool
 is_nak_for_buffer (header.Control h) = is_nak h.kind && (h.sub == NO_BUFFER_REASON)
 is_nak_for_buffer _ = false
 
--- A NAK for want of a buffer isn't sent before there is one: while the inbox is full it is held
+-- A NAK 8 (no buffer) isn't sent before there is a buffer: while the inbox is full it is held
 -- back, and with it what would be sent after it.
 abbrev pub is_held_back : Option Frame → Limits → StationState → Bool
 is_held_back None l s = false
@@ -176,12 +176,12 @@ after_polled d = record (with_core (after_poll d.station.core) d) {
 abbrev pub after_frame : LinkView → LinkView
 after_frame d = if polls d then after_polled d else d
 
--- so many times one after another
+-- this many times one after another
 unfoldable pub after_frames : ℕ → LinkView → LinkView
 after_frames zero d = d
 after_frames (suc n) d = after_frame (after_frames n d)
 
--- the line took so many bytes
+-- the line took this many bytes
 abbrev pub after_sent : ℕ → LinkView → LinkView
 after_sent n d = record d {
   outbox = after_taken n d.outbox;
@@ -194,7 +194,7 @@ after_sent n d = record d {
 abbrev pub countable : StationView → ℕ
 countable v = 18446744073709551615 - v.line.offset
 
--- so many bytes were used, with this notice
+-- this many bytes were used, with this notice
 abbrev pub totals_after_feed : ℕ → Option Notice → Totals → Totals
 totals_after_feed used notice t =
     record t {
@@ -202,7 +202,7 @@ totals_after_feed used notice t =
       acknowledged = total_plus t.acknowledged (acknowledged_by notice);
     }
 
--- the first mail is taken
+-- the first received message is taken
 abbrev pub totals_after_take : List (List ℕ) → Totals → Totals
 totals_after_take [] t = t
 totals_after_take (message ∷ rest) t = record t { handed = total_plus t.handed 1 }
@@ -220,7 +220,7 @@ delivered d =
     length d.station.core.station.out == 0 && length d.outbox.waiting == 0
     && is_none (frame_of_link d)
 
--- halted, with nothing on the way to the line, and started, where all mail was taken
+-- halted, with nothing pending for the line, and started, if all received messages were taken
 abbrev pub anew : ReaderView → LinkView → LinkView
 anew line d = record d {
   station = record {

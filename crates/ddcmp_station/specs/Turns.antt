@@ -105,7 +105,7 @@ TurnEnds milliseconds old new before after worst devices saw (Ok u) =
 TurnEnds milliseconds old new before after worst devices saw (Err fault) =
     BreaksTurn milliseconds old new before worst devices saw fault
 
--- so many turns were taken, as the tally tells
+-- this many turns were taken, as the tally has it
 pub record TurnsSoFar (milliseconds count : ℕ) (old new : StationView) (tally : Tally)
     (devices : Devices) (saw : List UserCall → Type 0) : Type 0 where
   pub turns : List DriveTurn

@@ -8,8 +8,8 @@ use Rattle.ddcmp_core.specs.declared.notice.Notice.{Notice}
 use Rattle.ddcmp_core.specs.Table.{is_running}
 use Rattle.ddcmp_core.specs.Core.{CoreView}
 
--- It was asked for a message, with a slice of so many bytes, and gave this one; it was told a
--- notice; it was handed a message.
+-- It was asked for a message, with a slice of this many bytes, and offered this one; it got a
+-- notice; it got a message.
 pub data UserCall : Type 0 where
   Asked : (room : ℕ) → List ℕ → UserCall
   Told : Notice → UserCall
@@ -21,7 +21,7 @@ Calls becomes old new [] = old ≡ new
 Calls {U} becomes old new (call ∷ calls) =
     (mid : U) × becomes old call mid × Calls becomes mid new calls
 
--- a user is asked where the station runs and has room
+-- a user is asked if the station runs and has room
 abbrev pub is_user_asked : CoreView → Bool
 is_user_asked k = is_running k.station.state && nat_lt (length k.station.out) k.limits.window
 
@@ -31,18 +31,18 @@ calls_of_offer k offered = if is_user_asked k then Asked k.limits.longest offere
 abbrev pub calls_of_notices : List Notice → List UserCall
 calls_of_notices notices = map Told notices
 
--- all mail
+-- all received messages
 abbrev pub calls_of_mail : CoreView → List UserCall
 calls_of_mail k = map Handed k.station.inbox
 
--- the user was told the notices of a piece of the line, in their order
+-- the user got the notices of a piece of the line, in their order
 abbrev pub TellsNotices : {U : Type 0} → (U → UserCall → U → Type 0) → StationView → List ℕ
     → U → U → Type 0
 TellsNotices becomes old piece before after =
     (notices : List Notice) × Calls becomes before after (calls_of_notices notices)
     × ((text : List ℕ) → StandsFor old.line text → notices_of_piece text piece old.core ≡ notices)
 
--- the user was told the notices of a piece, and then handed all mail
+-- the user got the notices of a piece, and then passed all received messages
 abbrev pub TellsPiece : {U : Type 0} → (U → UserCall → U → Type 0) → StationView → List ℕ
     → U → U → Type 0
 TellsPiece becomes old came before after =

@@ -36,15 +36,16 @@ pub struct Driven {
 /// What the turns so far have left.
 #[derive(Drop)]
 struct Tally {
-    /// When the timer runs out, where this call has set that.
+    /// When the timer expires, if this call has set that.
     deadline: Option<u64>,
     read: u64,
     written: u64,
 }
 
 /// Runs a station over a line for a number of turns. In a turn the timer is looked after, a message
-/// of the user is taken, a frame is written, and what came is taken: its notices and then all mail
-/// go to the user. An idle read is no fault. After a fault of the line the station is halted.
+/// of the user is taken, a frame is written, and a read is handled: its notices and then all
+/// received messages go to the user. An idle read is no fault. After a fault of the line the
+/// station is halted.
 pub fn drive<R: Source, W: Sink, U: User, C: Clock>(
     alloc: Global,
     station: &mut Station,
@@ -73,7 +74,7 @@ pub fn drive<R: Source, W: Sink, U: User, C: Clock>(
     let Ok(mut frame) = Vec::from_elem(alloc, 0u8, station.frame_room()) else {
         return Err(LineFault::Memory);
     };
-    // For a frame, for the message of the user, and for mail.
+    // For a frame, for the message of the user, and for a received one.
     let frame = frame.as_mut_slice();
     let mut piece = [0; READ_ROOM];
     let mut tally = Tally {
@@ -137,7 +138,7 @@ fn turn<R: Source, W: Sink, U: User, C: Clock>(
     Ok(())
 }
 
-/// Asks the user for a message where the station takes one, and sends it: its length. It stands at
+/// Asks the user for a message if the station takes one, and sends it; returns its length. It is at
 /// the front of the buffer.
 #[tactic(auto, unfolding(crate::specs::UserCalls::Calls))]
 fn offer_message<U: User>(station: &mut Station, user: &mut U, buffer: &mut [u8]) -> usize
@@ -161,7 +162,7 @@ fn offer_message<U: User>(station: &mut Station, user: &mut U, buffer: &mut [u8]
     }
 }
 
-/// Writes the next frame, where there is one: how many bytes were written.
+/// Writes the next frame, if there is one; returns how many bytes were written.
 fn send_frame<W: Sink>(
     station: &mut Station,
     writer: &mut W,
@@ -184,7 +185,8 @@ fn send_frame<W: Sink>(
     }
 }
 
-/// Reads once, and takes what came: how many bytes were read. They stand at the front of `piece`.
+/// Reads once, and handles what was read; returns how many bytes that is. They are at the front of
+/// `piece`.
 #[tactic(auto, unfolding(crate::specs::Driving::read_answer))]
 fn receive<R: Source, U: User>(
     station: &mut Station,
@@ -253,7 +255,7 @@ fn feed_all<U: User>(station: &mut Station, user: &mut U, piece: &[u8])
     }
 }
 
-/// Takes all mail and gives it to the user.
+/// Takes all received messages and passes them to the user.
 fn hand_up<U: User>(station: &mut Station, user: &mut U, buffer: &mut [u8])
     requires { station.old.core.limits.longest ≤ length buffer.old }
     ensures state { station.new ≡ record station.old { core = core_after_mail station.old.core } }

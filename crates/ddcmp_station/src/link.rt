@@ -28,8 +28,12 @@ pub struct Totals {
     pub handed: u64,
 }
 
-/// A station, the bytes on their way to its line, and the deadline of its timer. After it is made
-/// no call takes memory.
+/// A station, the bytes pending for its line, and the deadline of its timer, for an event loop.
+/// After `new` no call allocates.
+///
+/// Call `start`. In each turn call `wake`; pass received bytes to `feed` while `wants_line` returns
+/// true, and what it didn't use again; `take` and `offer` messages; call `fill`, write `unsent` to
+/// the line and report it by `sent`; then call `wake` again, and wait until `deadline` at most.
 pub struct Link {
     station: Station,
     outbox: Outbox,
@@ -38,7 +42,7 @@ pub struct Link {
     totals: Totals,
 }
 
-// By hand, so that a link is let go by a call: a derived one is written out at each such place.
+// Manual, since a derived `Drop` is expanded wherever a link is dropped.
 impl Drop for Link {
     fn drop(self) {
         let Link {
@@ -82,12 +86,12 @@ impl Link {
     ghost use Rattle.ddcmp_station.specs.Linking.{holds_back, carries_message};
     ghost use Rattle.ddcmp_station.specs.Driving.{expires_at};
 
-    /// A halted link, whose timer runs out `timer_ms` milliseconds after it was started.
+    /// Makes a halted link, whose timer expires `timer_ms` milliseconds after it was started.
     pub fn new(alloc: Global, config: Config, timer_ms: u32) -> Result<Link, ConfigRefusal>
         ensures made { IfOk result (λ l. l ≡ link_made config timer_ms l.station.line) }
         ensures stands { IfOk result (λ l. StandsFor l.station.line []) }
 
-        // The first size that is out of range is refused; where none is, want of memory alone.
+        // The first size that is out of range is refused; if none is, only an allocation failure.
         ensures refused { (refusal : ConfigRefusal) → first_refusal config ≡ Some refusal → result
             ≡ Err refusal }
         ensures only { first_refusal config ≡ None → IsOk result
@@ -115,8 +119,8 @@ impl Link {
         })
     }
 
-    /// Asks the peer to start: how many messages that weren't acknowledged were dropped. Refused
-    /// where the station isn't halted, or its mail isn't taken.
+    /// Asks the peer to start; returns how many messages that weren't acknowledged were dropped.
+    /// Refused if the station isn't halted, or received messages weren't taken.
     pub fn start(&mut self) -> Result<u8, StartRefusal>
         ensures state { self.new ≡ with_state (started self.old.station.core.station) self.old }
         ensures answer { result ≡ answer_to_start self.old.station.core.station }
@@ -124,16 +128,17 @@ impl Link {
         self.station.start()
     }
 
-    /// Sends and takes nothing more. What waits for the line stays.
+    /// Sends and takes nothing more. What is pending for the line stays.
     pub fn halt(&mut self)
         ensures { self.new ≡ with_state (after_halt self.old.station.core.station) self.old }
     {
         self.station.halt();
     }
 
-    /// Halts the station, forgets what waits for the line and the bytes that came from it, and
-    /// starts: how many messages that weren't acknowledged were dropped. Where mail isn't taken it
-    /// is refused, halted and cleared all the same: take the mail, then start.
+    /// Halts the station, drops what is pending for the line and the bytes received from it, and
+    /// starts; returns how many messages that weren't acknowledged were dropped. If received
+    /// messages weren't taken it is refused, halted and cleared all the same: take them, then
+    /// start.
     pub fn begin_anew(&mut self) -> Result<u8, StartRefusal>
         ensures state { self.new ≡ anew self.new.station.line self.old }
         ensures cleared { StandsFor self.new.station.line [] }
@@ -155,8 +160,8 @@ impl Link {
         keep_time(&mut self.station, now, self.timer_ms, &mut self.deadline)
     }
 
-    /// The moment in milliseconds when `wake` is to be called at the latest; none while the timer
-    /// is off.
+    /// Returns the moment in milliseconds when `wake` is to be called at the latest; none while the
+    /// timer is off.
     pub fn deadline(&self) -> Option<u64>
         ensures { result ≡ wakes_at self.now }
     {
@@ -169,7 +174,7 @@ impl Link {
         }
     }
 
-    /// Whether `offer` would accept a message of 1 to `max` bytes.
+    /// Returns whether `offer` would accept a message of 1 to `max` bytes.
     pub fn has_room(&self) -> bool
         ensures { result ≡ takes_message self.now }
     {
@@ -190,8 +195,8 @@ impl Link {
         }
     }
 
-    /// Puts the next frame behind what waits for the line: whether there was one and room for it. A
-    /// NAK for want of a buffer isn't put there while the inbox is full.
+    /// Puts the next frame after what is pending for the line; returns whether there was one and
+    /// room for it. A NAK 8 (no buffer) isn't put there while the inbox is full.
     pub fn fill_one(&mut self) -> bool
         ensures state { self.new ≡ after_frame self.old }
         ensures answer { result ≡ puts_frame self.old }
@@ -203,7 +208,7 @@ impl Link {
         self.outbox.put_frame(&mut self.station)
     }
 
-    /// Puts frames behind what waits for the line, as long as `fill_one` puts one.
+    /// Puts frames after what is pending for the line, as long as `fill_one` puts one.
     pub fn fill(&mut self)
         ensures frames { (n : ℕ) × (self.new ≡ after_frames n self.old) }
         ensures all { puts_frame self.new ≡ false }
@@ -211,31 +216,36 @@ impl Link {
         while self.fill_one() {}
     }
 
-    /// Whether the next frame is a NAK for want of a buffer, and there is none yet.
+    /// Returns whether the next frame is a NAK 8 (no buffer), and there is no buffer yet.
     fn holds_back(&self) -> bool
         ensures { result ≡ holds_back self.now }
     {
+        // With room in the inbox, as most often, what is next is decided by `poll` alone.
+        if self.wants_line() {
+            return false;
+        }
         match self.station.next_header() {
-            Some(header) => asks_for_buffer(&header) && !self.wants_line(),
+            Some(header) => asks_for_buffer(&header),
             None => false,
         }
     }
 
-    /// Whether the next frame carries a message: one that is new, or one to be retransmitted.
+    /// Returns whether the next frame carries a message: one that is new, or one to be
+    /// retransmitted.
     pub fn sends_message(&self) -> bool
         ensures { result ≡ carries_message self.now }
     {
         matches!(self.station.next_header(), Some(Header::Data(_)))
     }
 
-    /// What waits for the line.
+    /// Returns the bytes pending for the line.
     pub fn unsent(&self) -> &[u8]
         ensures { result.now ≡ self.now.outbox.waiting }
     {
         self.outbox.waiting()
     }
 
-    /// The line took the first `n` bytes of what waits.
+    /// Takes note that the line took the first `n` bytes of `unsent`.
     pub fn sent(&mut self, n: usize)
         requires { n ≤ length self.old.outbox.waiting }
         ensures { self.new ≡ after_sent n self.old }
@@ -244,14 +254,14 @@ impl Link {
         self.totals.written = self.totals.written.saturating_add(n as u64);
     }
 
-    /// Whether the line is to be read: the inbox isn't full.
+    /// Returns whether the line is to be read: the inbox isn't full.
     pub fn wants_line(&self) -> bool
         ensures { result ≡ has_room self.now.station.core.limits self.now.station.core.station }
     {
         (self.station.waiting() as u16) < self.station.config().inbox
     }
 
-    /// Takes bytes of the line, up to the first that gives a notice. With that notice the inbox may
+    /// Handles received bytes, up to the first that yields a notice. With that notice the inbox may
     /// be full: ask `wants_line` before the rest.
     pub fn feed(&mut self, piece: &[u8]) -> Fed
         ensures stands { (text : List ℕ) → StandsFor self.old.station.line text
@@ -259,7 +269,7 @@ impl Link {
         ensures state { (text : List ℕ) → StandsFor self.old.station.line text
             → self.new.station.core
             ≡ after_piece text (take result.used piece.now) self.old.station.core }
-        // The last byte used gave the notice, and no byte before it gave one.
+        // The last byte used yielded the notice, and no byte before it yielded one.
         ensures told { (text : List ℕ) → StandsFor self.old.station.line text
             → notices_of_piece text (take result.used piece.now) self.old.station.core
             ≡ option_to_list result.notice }
@@ -288,7 +298,7 @@ impl Link {
         fed
     }
 
-    /// How many of so many bytes can be counted.
+    /// Returns how many of `length` bytes can be counted.
     fn countable(&self, length: usize) -> usize
         ensures value { result ≡ min length (countable self.now.station) }
         ensures fits { self.now.station.line.offset + result < 2 ^ 64 }
@@ -301,8 +311,8 @@ impl Link {
         }
     }
 
-    /// Moves the first mail to the front of `out`, which has room for a message of `max` bytes, and
-    /// answers its length.
+    /// Moves the first received message to the front of `out`, which has room for `max` bytes, and
+    /// returns its length.
     pub fn take(&mut self, out: &mut [u8]) -> Option<usize>
         requires { self.old.station.core.limits.longest ≤ length out.old }
         ensures state { self.new ≡ after_taking self.old }
@@ -320,22 +330,22 @@ impl Link {
         }
     }
 
-    /// How many messages were accepted and aren't acknowledged.
+    /// Returns how many messages were accepted and aren't acknowledged.
     pub fn lost(&self) -> u8
         ensures { result ≡ length self.now.station.core.station.out }
     {
         self.station.outgoing()
     }
 
-    /// Whether all that was accepted is acknowledged, nothing waits for the line and no frame is to
-    /// be sent.
+    /// Returns whether all that was accepted is acknowledged, nothing is pending for the line and
+    /// no frame is to be sent.
     pub fn is_delivered(&self) -> bool
         ensures { result ≡ delivered self.now }
     {
         self.lost() == 0 && self.unsent().is_empty() && self.station.next_header().is_none()
     }
 
-    /// The state of the station.
+    /// Returns the state of the station.
     pub fn state(&self) -> State
         ensures { result ≡ self.now.station.core.station.state }
     {
@@ -356,7 +366,7 @@ impl Link {
         self.totals
     }
 
-    /// The sizes that it was made with.
+    /// Returns the sizes that it was made with.
     pub fn config(&self) -> Config
         ensures { result ≡ config_of self.now.station.core.limits self.now.station.syn }
     {
@@ -364,7 +374,7 @@ impl Link {
     }
 }
 
-/// Whether a header is that of a NAK for want of a buffer.
+/// Returns whether a header is that of a NAK 8 (no buffer).
 fn asks_for_buffer(header: &Header) -> bool
     ensures { result ≡ is_nak_for_buffer header.now }
 {
@@ -376,7 +386,7 @@ fn asks_for_buffer(header: &Header) -> bool
     }
 }
 
-/// How many messages a notice tells acknowledged.
+/// Returns how many messages a notice reports acknowledged.
 fn acknowledged(notice: Option<Notice>) -> u8
     ensures { result ≡ acknowledged_by notice }
 {

@@ -1,4 +1,4 @@
-//! The bytes on their way to the line.
+//! The bytes pending for the line.
 ghost use Rattle.std.specs.Prelude.{◌≡◌, ◌+◌, ◌≤◌, ◌++◌, IfOk, IfSome, drop, take, length, is_some};
 ghost use Rattle.std.specs.Prelude.{option_map, vec_len};
 ghost use Rattle.ddcmp_station.specs.Linking.{no_bytes, after_taken, after_put, bytes_of};
@@ -17,7 +17,7 @@ pub const ROOM: usize = 65536;
 #[derive(Drop)]
 pub(crate) struct Outbox {
     bytes: Vec<u8>,
-    /// Where those that wait begin and end.
+    /// Where the pending ones begin and end.
     start: usize,
     end: usize,
 }
@@ -50,7 +50,7 @@ impl Outbox {
         })
     }
 
-    /// How many bytes more it has room for.
+    /// Returns how many bytes more it has room for.
     pub(crate) fn room(&self) -> usize
         ensures value { result ≡ self.now.room }
         ensures most { result + length self.now.waiting ≤ ROOM }
@@ -58,7 +58,7 @@ impl Outbox {
         ROOM - self.end
     }
 
-    /// Puts the next frame of a station behind what waits: whether there was one.
+    /// Puts the next frame of a station after what is pending; returns whether there was one.
     pub(crate) fn put_frame(&mut self, station: &mut Station) -> bool
         requires { station.old.syn + station.old.core.limits.longest + 10 ≤ self.old.room }
         ensures station { station.new ≡ record station.old { core = after_poll station.old.core } }
@@ -75,14 +75,15 @@ impl Outbox {
         }
     }
 
-    /// What waits.
+    /// Returns the pending bytes.
     pub(crate) fn waiting(&self) -> &[u8]
         ensures { result.now ≡ self.now.waiting }
     {
         &self.bytes[self.start..self.end]
     }
 
-    /// The line took the first `n` of what waits. Where nothing waits it begins anew.
+    /// Takes note that the line took the first `n` of them. If none is pending all the room is free
+    /// again.
     pub(crate) fn took(&mut self, n: usize)
         requires { n ≤ length self.old.waiting }
         ensures { self.new ≡ after_taken n self.old }
@@ -94,7 +95,7 @@ impl Outbox {
         }
     }
 
-    /// Nothing waits.
+    /// Drops all.
     pub(crate) fn clear(&mut self)
         ensures { self.new ≡ no_bytes }
     {
@@ -103,7 +104,7 @@ impl Outbox {
     }
 }
 
-/// Polls a station for bytes that stand behind the first `end`: how many they are.
+/// Polls a station for bytes after the first `end`; returns how many they are.
 fn poll_behind(station: &mut Station, bytes: &mut [u8], end: usize) -> Option<usize>
     requires { end + (station.old.syn + station.old.core.limits.longest + 10) ≤ length bytes.old }
     ensures station { station.new ≡ record station.old { core = after_poll station.old.core } }

@@ -5,8 +5,8 @@ ghost use Rattle.ddcmp_station.specs.Driving.{expires_at};
 
 use ddcmp_proto::Station;
 
-/// Sets the deadline of a timer that was started, or that was on before this call, and tells the
-/// station if it has come. Returns whether it has.
+/// Sets the deadline of a timer that was started, or that was on before this call, and lets it
+/// expire if that has come. Returns whether it has.
 pub(crate) fn keep_time(
     station: &mut Station,
     now: u64,

@@ -3,12 +3,12 @@ ghost use Rattle.std.specs.Prelude.{◌≤◌, length};
 
 use ddcmp_proto::Notice;
 
-/// What tells a driven station the time.
+/// The clock of a driven station.
 pub trait Clock {
     ghost use Rattle.std.specs.Prelude.{ℕ, List, [], ◌∷◌, Option, None};
     ghost use Rattle.std.specs.Io.KnownBytes.{Appends};
 
-    // The moments that it has told, where these are known.
+    // The moments that it has returned, if these are known.
     ghost told: { Self → Option (List ℕ) } = { λ _. None };
 
     /// The time in milliseconds.
@@ -21,15 +21,15 @@ pub trait User {
     ghost use Rattle.std.specs.Prelude.{◌≤◌, length, take};
     ghost use Rattle.ddcmp_station.specs.UserCalls.{UserCall, Asked, Told, Handed};
 
-    // What becomes of it by a call, where that is said.
+    // What becomes of it by a call, if that is known.
     ghost becomes: { Self → UserCall → Self → Type 0 } = { λ _ _ _. Unit {0} };
 
-    /// Writes a message to be sent at the front of `out`, and answers its length: 0 for none.
+    /// Writes a message to be sent at the front of `out`; returns its length, 0 for none.
     fn message(&mut self, out: &mut [u8]) -> usize
         ensures within { result ≤ length out.new }
         ensures asked { becomes self.old (Asked (length out.new) (take result out.new)) self.new };
 
-    /// Is told what happened.
+    /// Takes a notice.
     fn notice(&mut self, notice: Notice)
         ensures { becomes self.old (Told notice) self.new };
 

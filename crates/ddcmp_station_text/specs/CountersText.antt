@@ -3,7 +3,7 @@ use Rattle.std.specs.Prelude.{ℕ, List, ◌++◌, codes, decimal}
 use Rattle.ddcmp_core.specs.declared.counters.NakCounts.{NakCounts}
 use Rattle.ddcmp_core.specs.declared.counters.Counters.{Counters}
 
--- one counter, behind a blank: its name and its value
+-- one counter, after a blank: its name and its value
 abbrev pub counter_text : List ℕ → ℕ → List ℕ
 counter_text name n = codes " " ++ name ++ codes "=" ++ decimal n
 

@@ -1,4 +1,4 @@
--- The words for what a station tells.
+-- The words for what a station reports.
 use Rattle.std.specs.Prelude.{ℕ, List, [], ◌++◌, codes, decimal, Option, Some, None}
 use Rattle.ddcmp_core.specs.declared.notice.Notice.{Notice}
 use Rattle.ddcmp_core.specs.declared.notice.Notice.TheVariants as notice
@@ -6,7 +6,7 @@ use Rattle.ddcmp_core.specs.declared.state.State.{State}
 use Rattle.ddcmp_core.specs.declared.state.State.TheVariants.{Halted, IStart, AStart, Running}
 use Rattle.ddcmp_core.specs.declared.state.State.TheVariants.{Maintenance}
 
--- the name of a notice, and its number where it has one
+-- the name of a notice, and its number if it has one
 abbrev pub notice_word : Notice → List ℕ
 notice_word notice.Running = codes "Running"
 notice_word notice.RunningAndHandedUp = codes "RunningAndHandedUp"

@@ -71,7 +71,7 @@ fn write_fault_counts<W: Sink>(page: &mut Page, writer: &mut W, counts: &Counter
     write_counter(page, writer, b"formats", counts.formats);
 }
 
-/// The line of all counters of a station, behind the words for who has it.
+/// Writes the line of all counters of a station, after the words for who has it.
 pub fn write_counters<W: Sink>(page: &mut Page, writer: &mut W, who: &[u8], counts: &Counters)
     ensures { HandsOver (output_of W.broken W.contents writer.old page.old)
         (output_of W.broken W.contents writer.new page.new) (counters_line who.now counts.now) }

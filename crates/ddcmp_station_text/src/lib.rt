@@ -1,4 +1,4 @@
-//! The words for what a station tells: its state, its notices and its counters. Scripts and the
+//! The words for what a station reports: its state, its notices and its counters. Scripts and the
 //! report of a served station write them.
 #![tactic(auto)]
 

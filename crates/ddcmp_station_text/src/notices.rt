@@ -8,7 +8,7 @@ use ddcmp_io::text::write_number;
 use ddcmp_io::{Page, Sink};
 use ddcmp_proto::Notice;
 
-/// The name of a notice; a blank ends it where a number follows.
+/// Returns the name of a notice; a blank ends it if a number follows.
 pub fn notice_name(notice: Notice) -> &'static [u8]
     ensures { result.now ≡ notice_word notice }
 {
@@ -27,7 +27,7 @@ pub fn notice_name(notice: Notice) -> &'static [u8]
     }
 }
 
-/// The number of a notice, where it has one.
+/// Returns the number of a notice, if it has one.
 pub fn notice_number(notice: Notice) -> Option<u8>
     ensures { result ≡ notice_number_of notice }
 {
@@ -39,7 +39,7 @@ pub fn notice_number(notice: Notice) -> Option<u8>
     }
 }
 
-/// The line of a notice, behind the words for who has it.
+/// Writes the line of a notice, after the words for who has it.
 pub fn write_notice<W: Sink>(page: &mut Page, writer: &mut W, who: &[u8], notice: Notice)
     ensures { HandsOver (output_of W.broken W.contents writer.old page.old)
         (output_of W.broken W.contents writer.new page.new) (notice_line who.now notice) }

@@ -4,7 +4,7 @@ ghost use Rattle.ddcmp_station_text.specs.StationText.{state_text};
 
 use ddcmp_proto::State;
 
-/// The name of a state.
+/// Returns the name of a state.
 pub fn state_name(state: State) -> &'static [u8]
     ensures { result.now ≡ state_text state }
 {

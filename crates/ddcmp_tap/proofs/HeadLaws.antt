@@ -30,7 +30,12 @@ unsaid
     → WritesText old new (Err fault) (head ++ tap_text notation max (moment timed) [])
     → Says head notation timed max old new (Err fault)
 unsaid head notation timed max old new fault wrote =
-    record { pieces = []; stamp = moment timed; stamped = (All-nil (λ p. is_some p.stamp ≡ timed), asked timed); wrote = wrote }
+    record {
+      pieces = [];
+      stamp = moment timed;
+      stamped = (All-nil (λ p. is_some p.stamp ≡ timed), asked timed);
+      wrote = wrote;
+    }
 
 pub no-memory : (head : List ℕ) (notation : Notation) (timed : Bool) (max : ℕ) (old : Known)
     → Says head notation timed max old old (Err Memory)

@@ -9,7 +9,7 @@ use Rattle.ddcmp_explain.specs.Label.{item_label}
 use Rattle.ddcmp_tap.specs.declared.side.Side.{Side}
 use Rattle.ddcmp_tap.specs.declared.side.Side.TheVariants.{Caller, Called}
 
--- the milliseconds, where they are asked for
+-- the milliseconds, if they are asked for
 abbrev pub ladder_front : Option ℕ → List ℕ
 ladder_front None = []
 ladder_front (Some ms) = decimal ms ++ codes " "

@@ -48,7 +48,7 @@ pub record Passes (d : DirectionView) (came handed told : List ℕ) : Type 0 whe
   pub explained : came ≡ told ++ d.queue.untold
   pub has_told : HasTold d.frames d.items told
 
--- Of more bytes after those that were told the lines of the items that they add were put behind a
+-- Of more bytes after those that were logged the lines of the items that they add were put after a
 -- text.
 pub record Tells (notation : Notation) (side : Side) (max : ℕ) (stamp : Option ℕ)
     (told more was text : List ℕ) : Type 0 where

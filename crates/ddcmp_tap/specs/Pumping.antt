@@ -15,13 +15,13 @@ use Rattle.ddcmp_tap.specs.declared.tap_fault.TapFault.{TapFault}
 use Rattle.ddcmp_tap.specs.declared.tap_fault.TapFault.TheVariants.{Carrier, Read, Write, Report}
 use Rattle.ddcmp_tap.specs.declared.tap_fault.TapFault.TheVariants.{Memory}
 
--- bytes of a side that were told together, and the moment, where it is told
+-- bytes of a side that were logged together, and the moment, if it is logged
 pub record Piece : Type 0 where
   pub side : Side
   pub stamp : Option ℕ
   pub bytes : List ℕ
 
--- the bytes of a piece, where it is of this side
+-- the bytes of a piece, if it is of this side
 abbrev pub of_side : Side → Side → List ℕ → List ℕ
 of_side Caller Caller bytes = bytes
 of_side Caller Called bytes = []
@@ -51,7 +51,7 @@ tap_text notation max stamp pieces =
     ++ (tapped_last notation stamp Caller max (said Caller pieces)
     ++ tapped_last notation stamp Called max (said Called pieces))
 
--- the moments stand where they are asked for
+-- the moments stand if they are asked for
 abbrev pub AreStamped : Bool → List Piece → Type 0
 AreStamped timed pieces = All (λ (p : Piece). is_some p.stamp ≡ timed) pieces
 
@@ -97,7 +97,7 @@ pub record Says (head : List ℕ) (notation : Notation) (timed : Bool) (max : �
   pub wrote : WritesText old new result (head ++ tap_text notation max stamp pieces)
 
 -- One direction with its devices: its bytes, what its reader has left and what its outlet took,
--- where these are known, and whether the end was handed on.
+-- if these are known, and whether the end was handed on.
 pub record FlowView : Type 0 where
   pub direction : DirectionView
   pub left : Known
@@ -149,7 +149,7 @@ pub record HasFlown (start now : FlowView) (told : List ℕ) : Type 0 where
   pub taken : Appends start.sent now.sent handed
   pub passes : Passes now.direction told handed told
 
--- the same where not all that came was told
+-- the same if not all that came was reported
 pub record HasMoved (start now : FlowView) : Type 0 where
   pub came : List ℕ
   pub handed : List ℕ
@@ -158,7 +158,7 @@ pub record HasMoved (start now : FlowView) : Type 0 where
   pub taken : Appends start.sent now.sent handed
   pub in_order : came ≡ handed ++ waiting
 
--- a direction from this side, told like this
+-- a direction from this side, logged like this
 abbrev pub IsOf : Side → Notation → ℕ → DirectionView → Type 0
 IsOf side notation max d =
     (d.side ≡ side) × (d.notation ≡ notation) × (d.frames.max ≡ max)
@@ -170,7 +170,7 @@ pub record Begins (side : Side) (notation : Notation) (max : ℕ) (flow : FlowVi
   pub not_closed : flow.closed ≡ false
   pub not_ended : flow.direction.ended ≡ false
 
--- A tap that runs: all that came was told.
+-- A tap that runs: all that came was reported.
 pub record Runs (notation : Notation) (timed : Bool) (max : ℕ) (up0 up down0 down : FlowView)
     (old new : Known) : Type 0 where
   pub pieces : List Piece
@@ -185,7 +185,7 @@ pub record Runs (notation : Notation) (timed : Bool) (max : ℕ) (up0 up down0 d
 abbrev pub Both : {F : Type 0} → (F → Type 0) → F → F → Type 0
 Both Holds up down = Holds up × Holds down
 
--- A tap that stopped in the middle: not all that came was told.
+-- A tap that stopped in the middle: not all that came was reported.
 pub record Stopped (notation : Notation) (timed : Bool) (max : ℕ) (up0 up down0 down : FlowView)
     (old new : Known) : Type 0 where
   pub pieces : List Piece

@@ -1,5 +1,5 @@
 -- What a tap writes of each direction: the lines that `explain` writes of its bytes, and in front
--- of each the milliseconds, where they are asked for, and from which side it is.
+-- of each the milliseconds, if they are asked for, and from which side it is.
 use Rattle.std.specs.Prelude.{ℕ, List, ◌++◌, codes, decimal, drop, Option, Some, None}
 use Rattle.std.specs.List.{flat_map}
 use Rattle.ddcmp_frame.specs.Reading.{ReadItem}
@@ -20,7 +20,7 @@ abbrev pub plain_front : Option ℕ → Side → List ℕ
 plain_front None side = mark_of side ++ codes " "
 plain_front (Some ms) side = decimal ms ++ codes " " ++ mark_of side ++ codes " "
 
--- the first members of an object, without the comma behind them
+-- the first members of an object, without the comma after them
 abbrev pub json_front : Option ℕ → Side → List ℕ
 json_front None side = codes "{\"from\":\"" ++ mark_of side ++ codes "\""
 json_front (Some ms) side =

@@ -24,7 +24,7 @@ pub struct Direction {
     ended: bool,
 }
 
-// By hand, so that it is let go by a call: a derived one is written out at each such place.
+// Manual, since a derived `Drop` is expanded wherever it is dropped.
 impl Drop for Direction {
     fn drop(self) {
         let Direction {
@@ -56,7 +56,8 @@ impl Model for Direction {
 }
 
 impl Direction {
-    /// A direction that no bytes have come from. Of its memory only that for text isn't taken yet.
+    /// Makes a direction that no bytes have come from. Of its memory only that for text isn't taken
+    /// yet.
     pub fn new(
         alloc: Global,
         side: Side,
@@ -90,8 +91,8 @@ impl Direction {
         })
     }
 
-    /// How many bytes may come now. A direction whose bytes were all handed on and explained takes
-    /// 65,536, and one that has had 2^64 - 1 bytes none.
+    /// Returns how many bytes may come now. A direction whose bytes were all handed on and
+    /// explained takes 65,536, and one that has had 2^64 - 1 bytes none.
     pub fn room(&self) -> usize
         ensures value { result ≡ room_of self.now }
         ensures most { result + length self.now.queue.waiting ≤ 65536 }
@@ -147,7 +148,7 @@ impl Direction {
         self.ended = true;
     }
 
-    /// Whether the side sends no more.
+    /// Returns whether the side sends no more.
     pub fn has_ended(&self) -> bool
         ensures { result ≡ self.now.ended }
     {
@@ -162,7 +163,7 @@ impl Direction {
             self.old.queue.untold [] self.new.text }
         ensures waiting { self.new.queue.waiting ≡ self.old.queue.waiting }
 
-        // Where memory was refused too: no byte is read twice.
+        // If an allocation failed too: no byte is read twice.
         ensures untold { self.new.queue.untold ≡ [] }
         ensures room { self.old.queue.room ≤ self.new.queue.room }
         ensures side { self.new.side ≡ self.old.side }
@@ -190,7 +191,7 @@ impl Direction {
         self.telling.finish(&mut self.text, stamp)
     }
 
-    /// The text that was made last.
+    /// Returns the text that was made last.
     pub fn text(&self) -> &[u8]
         ensures { result.now ≡ self.now.text }
     {

@@ -13,14 +13,14 @@ use crate::tap_fault::TapFault;
 use ddcmp_io::input::read_within;
 use ddcmp_io::{Got, Sink, Source, Worst, write_all};
 
-/// What comes from one side, and the way to the other.
+/// The bytes received from one side, and the way to the other.
 pub struct Flow<R, O> {
     direction: Direction,
     reader: R,
     outlet: O,
 }
 
-// By hand, so that it is let go by a call: a derived one is written out at each such place.
+// Manual, since a derived `Drop` is expanded wherever it is dropped.
 impl<R: Drop, O: Drop> Drop for Flow<R, O> {
     fn drop(self) {
         let Flow {
@@ -44,15 +44,15 @@ impl<R: Source, O: Outlet> Flow<R, O> {
         }
     }
 
-    /// Whether the side has ended, and the other was handed all and told so.
+    /// Returns whether the side has ended, and all and the end were forwarded to the other.
     pub(crate) fn is_over(&self) -> bool
         ensures { result ≡ O.closed self.now.outlet }
     {
         self.outlet.is_closed()
     }
 
-    /// Reads what has come, as far as there is room: whether anything came, an end included. More
-    /// bytes than can be counted are a read that failed.
+    /// Reads what has come, as far as there is room; returns whether anything came, an end
+    /// included. More bytes than can be counted are a read that failed.
     fn take_in(&mut self, buffer: &mut [u8]) -> Result<bool, TapFault>
         requires fine { R.state self.old.reader ≢ Worst.Failed }
         requires buffer { 0 < length buffer.old }
@@ -86,7 +86,7 @@ impl<R: Source, O: Outlet> Flow<R, O> {
         Ok(true)
     }
 
-    /// Hands on what the other side has room for: whether it took anything.
+    /// Hands on what the other side has room for; returns whether it took anything.
     fn hand_on(&mut self) -> Result<bool, TapFault>
         requires open { O.closed self.old.outlet ≡ false }
         requires ends { Ends (flow_of R.left O.contents O.closed self.old) }
@@ -111,7 +111,7 @@ impl<R: Source, O: Outlet> Flow<R, O> {
         }
     }
 
-    /// Tells the other side of the end, once it was handed all.
+    /// Forwards the end to the other side, once all was forwarded.
     fn hand_end_on(&mut self)
         requires open { O.closed self.old.outlet ≡ false }
         requires ends { Ends (flow_of R.left O.contents O.closed self.old) }
@@ -125,7 +125,7 @@ impl<R: Source, O: Outlet> Flow<R, O> {
         }
     }
 
-    /// Reads once and hands on at once, as far as neither waits: whether anything moved.
+    /// Reads once and forwards at once, as far as neither blocks; returns whether anything moved.
     pub(crate) fn pass(&mut self, buffer: &mut [u8]) -> Result<bool, TapFault>
         requires fine { R.state self.old.reader ≢ Worst.Failed }
         requires buffer { 0 < length buffer.old }

@@ -1,4 +1,4 @@
-//! What stands in front of a line of a tap.
+//! What comes before a line of a tap.
 ghost use Rattle.ddcmp_io.specs.Written.{HandsOver, output_of};
 ghost use Rattle.ddcmp_tap.specs.Tapped.{json_front, plain_front};
 
@@ -6,7 +6,7 @@ use crate::side::Side;
 use ddcmp_io::text::write_number;
 use ddcmp_io::{Page, Sink};
 
-/// The milliseconds, where they are asked for, and the mark of the side.
+/// Writes the milliseconds, if they are asked for, and the mark of the side.
 pub(crate) fn write_plain_front<W: Sink>(
     page: &mut Page,
     writer: &mut W,
@@ -30,7 +30,7 @@ pub(crate) fn write_plain_front<W: Sink>(
     }
 }
 
-/// The first members of an object, without the comma behind them.
+/// Writes the first members of an object, without the comma after them.
 pub(crate) fn write_json_front<W: Sink>(
     page: &mut Page,
     writer: &mut W,

@@ -1,5 +1,5 @@
-//! A tap between the two ends of a line over TCP. `Direction` takes in what comes from one side,
-//! hands it on as it is, and says of it what `explain` says of its bytes; `pump` does so both ways
+//! A tap between the two ends of a line over TCP. `Direction` takes the bytes received from one
+//! side, forwards them as they are, and explains them as `explain` does; `pump` does so both ways
 //! between two connections; `tap` listens at one address, connects to another, and pumps.
 #![tactic(auto)]
 

@@ -1,6 +1,6 @@
-//! How a tap tells what passes.
+//! How a tap logs what passes.
 
-/// How a tap tells what passes.
+/// How a tap logs what passes.
 #[derive(Clone, Copy, Debug, PartialEq, Eq)]
 pub enum Notation {
     /// Words for people, as `explain` has them.

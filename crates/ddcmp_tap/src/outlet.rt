@@ -1,31 +1,31 @@
 //! Where the bytes of one direction go.
 ghost use Rattle.std.specs.Prelude.{◌≡◌, Bool, List, Option, false, true, ℕ};
 
-/// A way to a peer that may be slow. A write takes what has room now, and waits for nothing.
+/// A way to a peer that may be slow. A write takes what has room now, and doesn't block.
 pub trait Outlet {
     ghost use Rattle.std.specs.Io.KnownBytes.{Keeps};
     ghost use Rattle.ddcmp_tap.specs.Outlets.{Takes};
 
-    // The bytes that it took, where they are known.
+    // The bytes that it took, if they are known.
     ghost contents: { Self → Option (List ℕ) };
 
-    // Whether the peer was told that no more comes.
+    // Whether the end was forwarded to the peer.
     ghost closed: { Self → Bool };
 
-    /// Takes bytes from the front of `bytes`, and says how many: 0 where there is no room now. None
+    /// Takes bytes from the front of `bytes`, and returns how many: 0 if there is no room now. None
     /// is a write that failed.
     fn write(&mut self, bytes: &[u8]) -> Option<usize>
         requires open { closed self.old ≡ false }
         ensures bytes { Takes (contents self.old) (contents self.new) result bytes.now }
         ensures open { closed self.new ≡ false };
 
-    /// Tells the peer that no more comes.
+    /// Forwards the end to the peer.
     fn close(&mut self)
         requires open { closed self.old ≡ false }
         ensures kept { Keeps (contents self.old) (contents self.new) }
         ensures closed { closed self.new ≡ true };
 
-    /// Whether the peer was told that no more comes.
+    /// Returns whether the end was forwarded to the peer.
     fn is_closed(&self) -> bool
         ensures { result ≡ closed self.now };
 }

@@ -16,20 +16,20 @@ use crate::tap_fault::TapFault;
 use ddcmp_io::{Sink, Source, Worst};
 use ddcmp_station::Clock;
 
-/// Tells when it is worth trying again.
+/// Waits until it is worth trying again.
 pub trait Readiness {
-    /// Waits until a side may have bytes or room: whether that can be told.
+    /// Waits until a side may have bytes or room; returns whether it could.
     fn wait(&mut self) -> bool;
 }
 
-/// The milliseconds, where they are asked for.
+/// The milliseconds, if they are asked for.
 fn stamp<C: Clock>(clock: &mut C, timed: bool) -> Option<u64>
     ensures { is_some result ≡ timed }
 {
     if timed { Some(clock.now()) } else { None }
 }
 
-/// Moves bytes in both directions: whether any moved.
+/// Moves bytes in both directions; returns whether any moved.
 fn pass_both<R: Source, O: Outlet>(
     up: &mut Flow<R, O>,
     down: &mut Flow<R, O>,
@@ -52,8 +52,8 @@ fn pass_both<R: Source, O: Outlet>(
     Ok(went_up || went_down)
 }
 
-/// Moves bytes in both directions, and then says what came: whether any moved. A side that failed
-/// is told once that was said.
+/// Moves bytes in both directions, and then logs what came; returns whether any moved. A side that
+/// failed is reported after that.
 fn turn<R: Source, O: Outlet, W: Sink>(
     up: &mut Flow<R, O>,
     down: &mut Flow<R, O>,
@@ -89,7 +89,7 @@ fn turn<R: Source, O: Outlet, W: Sink>(
     }
 }
 
-/// Moves bytes and says what came, until both directions have ended.
+/// Moves bytes and logs what came, until both directions have ended.
 fn until_over<R: Source, O: Outlet, K: Readiness, C: Clock, W: Sink>(
     up: &mut Flow<R, O>,
     down: &mut Flow<R, O>,
@@ -130,7 +130,7 @@ fn until_over<R: Source, O: Outlet, K: Readiness, C: Clock, W: Sink>(
     Err(TapFault::Read)
 }
 
-/// Whether a tap went on until both sides had ended or one had failed.
+/// Returns whether a tap went on until both sides had ended or one had failed.
 fn has_said(ended: &Result<(), TapFault>) -> bool
     ensures { IsTrue result ↔ HasSaid ended.now }
 {
@@ -173,7 +173,7 @@ fn conclude<R: Source, O: Outlet, C: Clock, W: Sink>(
     }
 }
 
-/// Hands on what comes from each side to the other and says what it is, until both have ended or
+/// Forwards what comes from each side to the other and logs what it is, until both have ended or
 /// one has failed; then come the two last lines.
 pub fn pump<R: Source, O: Outlet, K: Readiness, C: Clock, W: Sink>(
     up: &mut Flow<R, O>,

@@ -49,7 +49,7 @@ impl Queue {
         })
     }
 
-    /// How many bytes more it has room for.
+    /// Returns how many bytes more it has room for.
     pub(crate) fn room(&self) -> usize
         ensures room { result ≡ self.now.room }
         ensures most { result + length self.now.waiting ≤ ROOM }
@@ -71,14 +71,14 @@ impl Queue {
         }
     }
 
-    /// What waits to be handed on.
+    /// Returns what is to be forwarded.
     pub(crate) fn waiting(&self) -> &[u8]
         ensures { result.now ≡ self.now.waiting }
     {
         &self.bytes[self.sent..]
     }
 
-    /// What waits to be explained.
+    /// Returns what is to be explained.
     pub(crate) fn untold(&self) -> &[u8]
         ensures { result.now ≡ self.now.untold }
     {
@@ -107,7 +107,7 @@ impl Queue {
     }
 }
 
-/// Begins anew where no byte waits.
+/// If it is empty all the room is free again.
 #[tactic(auto, using(crate::proofs::QueueLaws::dropped))]
 fn free(bytes: &mut Vec<u8>, sent: &mut usize, told: &mut usize)
     requires { (sent.old ≤ vec_len bytes.old) × (told.old ≤ vec_len bytes.old) }

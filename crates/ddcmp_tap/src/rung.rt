@@ -24,7 +24,7 @@ fn stroke_of(item: &Item) -> u8
     }
 }
 
-/// So many strokes.
+/// Puts this many strokes.
 fn write_strokes<W: Sink>(page: &mut Page, writer: &mut W, stroke: u8, count: usize)
     requires { count ≤ REACH }
     ensures { HandsOver (output_of W.broken W.contents writer.old page.old)
@@ -76,7 +76,7 @@ pub(crate) fn write_rung<W: Sink>(
     write_arrow(page, writer, side, stroke_of(item), &label[..end]);
 }
 
-/// The milliseconds, where they are asked for.
+/// Puts the milliseconds, if they are asked for.
 fn write_stamp<W: Sink>(page: &mut Page, writer: &mut W, stamp: Option<u64>)
     ensures { HandsOver (output_of W.broken W.contents writer.old page.old)
         (output_of W.broken W.contents writer.new page.new) (ladder_front stamp) }

@@ -12,7 +12,7 @@ pub enum Side {
 }
 
 impl Side {
-    /// The mark of what comes from this side.
+    /// Returns the mark of the bytes from this side.
     pub(crate) fn mark(self) -> &'static [u8]
         ensures { result.now ≡ mark_of self }
     {
@@ -22,7 +22,7 @@ impl Side {
         }
     }
 
-    /// The side to which goes what comes from this one.
+    /// Returns the side to which the bytes from this one go.
     pub fn other(self) -> Side
         ensures caller { self ≡ Side.Caller → result ≡ Side.Called }
         ensures called { self ≡ Side.Called → result ≡ Side.Caller }

@@ -6,11 +6,11 @@ use std::fmt;
 pub enum TapFault {
     /// A connection can't be made.
     Carrier,
-    /// A side failed where it was read.
+    /// Reading from a side failed.
     Read,
-    /// A side failed where it was written to.
+    /// Writing to a side failed.
     Write,
-    /// What the sides say can't be written.
+    /// The log can't be written.
     Report,
     Memory,
 }

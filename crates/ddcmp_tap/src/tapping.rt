@@ -19,11 +19,11 @@ use std::alloc::Global;
 use std::net::{self, Net, OpenListener, TcpListener};
 use std::{io, time};
 
-/// The head of a ladder, which says who stands on which side.
+/// The head of a ladder, with who stands on which side.
 const LADDER_HEAD: &[u8] =
     b"> who connected to the tap                         whom the tap connected to <\n";
 
-/// Writes what stands above all that passes.
+/// Writes what is above all that passes.
 fn write_head<W: Sink>(writer: &mut W, notation: Notation) -> Result<(), WriteFailed>
     requires whole { W.broken writer.old ≡ false }
     ensures written { Writes (W.contents writer.old) (W.contents writer.new) result
@@ -36,14 +36,14 @@ fn write_head<W: Sink>(writer: &mut W, notation: Notation) -> Result<(), WriteFa
     }
 }
 
-/// A connection that neither waits nor holds bytes back to fill a packet.
+/// Makes a connection that neither blocks nor holds bytes back to fill a packet.
 fn prompt(stream: net::TcpStream) -> io::Result<TcpStream> {
     stream.set_nodelay(true)?;
     stream.set_nonblocking(true)?;
     Ok(TcpStream::from_std(stream))
 }
 
-/// The first connection to one address, and then one to the other.
+/// Returns the first connection to one address, and then one to the other.
 fn open<N: Net<Stream = net::TcpStream>>(
     net: &N,
     listen: &str,
@@ -54,8 +54,8 @@ fn open<N: Net<Stream = net::TcpStream>>(
     Ok((prompt(caller)?, prompt(called)?))
 }
 
-/// Waits at one address until someone connects, connects to the other, and stands between the two
-/// until both have ended. What each side says goes to the writer, line by line, as it comes.
+/// Waits at one address until someone connects, connects to the other, and forwards between the two
+/// until both have ended. The log goes to the writer, line by line, as bytes come.
 pub fn tap<S: Net<Stream = net::TcpStream> + time::Clock, W: Sink>(
     system: &S,
     alloc: Global,
@@ -93,7 +93,7 @@ pub fn tap<S: Net<Stream = net::TcpStream> + time::Clock, W: Sink>(
     )
 }
 
-/// Stands between two sockets.
+/// Forwards between two sockets.
 fn between<C: time::Clock, W: Sink>(
     clock: &C,
     alloc: Global,

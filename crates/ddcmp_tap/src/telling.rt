@@ -15,7 +15,7 @@ use ddcmp_explain::{self as explain, write_item, write_last};
 use ddcmp_frame::{Item, Pushed, Reader};
 use ddcmp_io::{MemorySink, Page};
 
-/// What was read of the bytes of one direction, and how it is told.
+/// What was read of the bytes of one direction, and how it is logged.
 #[derive(Drop)]
 pub(crate) struct Telling {
     pub(crate) side: Side,
@@ -25,7 +25,7 @@ pub(crate) struct Telling {
     ghost counted: { items ≤ frames.offset },
 }
 
-/// Puts what waits in a page behind a text.
+/// Appends what is buffered in a page to a text.
 fn put_page(page: &mut Page, text: &mut MemorySink) -> Result<(), NoMemory>
     ensures puts { HandsOver (output_in text.old page.old) (output_in text.new page.new) [] }
     ensures empty { page.new ≡ [] }
@@ -37,7 +37,7 @@ fn put_page(page: &mut Page, text: &mut MemorySink) -> Result<(), NoMemory>
     }
 }
 
-/// Puts the line of an item behind a text.
+/// Appends the line of an item to a text.
 fn put_item(
     page: &mut Page,
     text: &mut MemorySink,
@@ -76,7 +76,7 @@ fn put_item(
     }
 }
 
-/// Puts the last line behind a text.
+/// Appends the last line to a text.
 fn put_last(
     page: &mut Page,
     text: &mut MemorySink,
@@ -135,7 +135,7 @@ fn put_last(
 impl Telling {
     ghost use Rattle.ddcmp_tap.specs.Passing.{HasTold, Tells};
 
-    /// Takes bytes up to the first that completes an item, and puts its line. It tells how many.
+    /// Takes bytes up to the first that completes an item, and puts its line. Returns how many.
     fn push(
         &mut self,
         page: &mut Page,
@@ -173,7 +173,7 @@ impl Telling {
         Ok(used)
     }
 
-    /// Takes bytes, and puts the lines of the items that they complete behind a text.
+    /// Takes bytes, and appends the lines of the items that they complete to a text.
     pub(crate) fn tell(
         &mut self,
         text: &mut MemorySink,
@@ -200,7 +200,7 @@ impl Telling {
         Ok(())
     }
 
-    /// Puts the last line behind a text.
+    /// Appends the last line to a text.
     pub(crate) fn finish(&self, text: &mut MemorySink, stamp: Option<u64>) -> Result<(), NoMemory>
         requires whole { text.old.refused ≡ false }
         ensures puts { IsOk result → (told : List ℕ)

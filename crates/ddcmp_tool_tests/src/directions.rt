@@ -80,7 +80,8 @@ fn what_stands_in_front(rt: HostRuntime) {
     );
     assert!(&rt;
         objects.as_slice().starts_with(
-            b"{\"from\":\"<\",\"offset\":0,\"item\":\"header check\"}\n{\"from\":\"<\",\"offset\":1,"
+            b"{\"from\":\"<\",\"offset\":0,\"item\":\"header check\"}\n\
+            {\"from\":\"<\",\"offset\":1,"
         )
     );
     assert!(&rt;

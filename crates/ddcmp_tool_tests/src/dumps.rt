@@ -4,7 +4,7 @@ use ddcmp_explain::{DumpFault, NotDumped, Notation, Style, explain_dump};
 use ddcmp_frame::failing::{Pieces, Taken};
 use std::process::Abort;
 
-/// An ACK as `hexdump -C` writes it, and the bytes behind it as `xxd` does.
+/// An ACK as `hexdump -C` writes it, and the bytes after it as `xxd` does.
 const BOTH: &[u8] = b"00000000  05 01 00 00 00 01 fc 55                           |.......U|
 00000008
 00000008: 8103 0000 0101 9a41 6162 6338 97         .......Aabc8.
@@ -15,7 +15,7 @@ const SAID: &[u8] = b"0 ACK sub=0 q=0 s=0 resp=0 num=0 addr=1
 items=2 bytes=21 open=0
 ";
 
-/// A dump in pieces of at most so many bytes has this answer, and this is written.
+/// A dump in pieces of at most this many bytes has this answer, and this is written.
 fn row(
     rt: &(impl Abort + AllocGlobal),
     input: &[u8],

@@ -51,7 +51,7 @@ struct Told {
     worst: Worst,
 }
 
-// By hand, so that an answer is let go by a call: a derived one is written out at each such place.
+// Manual, since a derived `Drop` is expanded wherever an answer is dropped.
 impl Drop for Told {
     fn drop(self) {
         let Told {
@@ -93,7 +93,7 @@ fn tells(
     is(rt, told.writer.bytes(), text);
 }
 
-/// What a call answers and writes as JSON.
+/// What a call returns and writes as JSON.
 fn explains_as_json(
     rt: &(impl Abort + AllocGlobal),
     call: Call<'_>,
@@ -350,7 +350,7 @@ fn ack() -> &'static [u8; 8] {
     &[5, 1, 0, 0, 0, 1, 0xFC, 0x55]
 }
 
-/// A too long frame is passed over unchecked, and what follows is read.
+/// A too long frame is skipped unchecked, and what follows is read.
 #[test]
 fn after_a_too_long_frame(rt: HostRuntime) {
     let input = too_long();

@@ -132,14 +132,14 @@ fn raw_bytes_are_explained(rt: HostRuntime) {
     writes(&rt, &words, long(), long_text());
 }
 
-/// Blanks, and behind them a byte that is no digit.
+/// Blanks, and after them a byte that is no digit.
 fn far() -> [u8; 70_000] {
     let mut far = [b' '; 70_000];
     far[69_999] = b'x';
     far
 }
 
-/// The first byte that is no digit is told far after blanks too.
+/// The first byte that is no digit is reported far after blanks too.
 #[test]
 fn a_far_byte_is_told(rt: HostRuntime) {
     let (ending, text) = ran(&rt, &["ddcmp", "explain"], &far(), 0);
@@ -198,7 +198,7 @@ fn text_of(alloc: Global, words: &[&str]) -> Option<(bool, String)> {
     }
 }
 
-/// The text of words that ask for nothing is told whole.
+/// The text of words that ask for nothing is reported whole.
 fn is_whole(rt: &impl System, words: &[&str]) -> Result<(), Fail> {
     let (ending, written) = ran(rt, words, b"", 0);
     let (usage, text) = text_of(rt.alloc(), words).ok_or("no text")?;
@@ -213,7 +213,7 @@ fn is_whole(rt: &impl System, words: &[&str]) -> Result<(), Fail> {
     Ok(())
 }
 
-/// Help, the version and usage are told whole, as the parser of the words gives them.
+/// Help, the version and usage are reported whole, as the parser of the words gives them.
 #[test]
 fn texts_are_told_whole(rt: HostRuntime) -> Result<(), Fail> {
     is_whole(&rt, &["ddcmp", "--help"])?;

@@ -19,7 +19,7 @@ where
     S: Abort + AllocGlobal + Net<Stream = TcpStream> + Clock + Inputs + Connections + Lines,
 {}
 
-/// What was told is what was wanted.
+/// What was reported is what was expected.
 pub fn is<T: PartialEq + Debug + Drop>(rt: &impl Abort, told: T, wanted: T) {
     assert_eq!(rt; told, wanted);
 }

@@ -1,6 +1,6 @@
 //! Sessions without devices, by a clock of the test's own: two over lines that lose, damage and
 //! cut, and one through days of silence.
-use ddcmp_session::{End, Form, Options, Session};
+use ddcmp_session::{End, Form, LineKind, Options, Session};
 use ddcmp_station::Config;
 use std::process::Abort;
 use test_kit::Draws;
@@ -18,20 +18,20 @@ fn options(linger_ms: u32, seconds: u32) -> Options {
         timer_ms: 3000,
         attempts: 0,
         linger_ms,
+        seconds,
+        report: 0,
         form: Form::Binary,
         stay: false,
         again: false,
-        seconds,
         counters: false,
         trace: false,
-        listens: false,
-        datagrams: false,
-        connects: true,
+        clock: false,
+        json: false,
     }
 }
 
 fn session(rt: &(impl Abort + AllocGlobal), options: Options) -> Session {
-    let Ok(mut session) = Session::new(rt.alloc(), options) else {
+    let Ok(mut session) = Session::new(rt.alloc(), options, LineKind::Connect) else {
         panic!(rt; "no memory");
     };
     assert!(rt; session.connected());
@@ -54,7 +54,7 @@ fn append(rt: &impl Abort, to: &mut Vec<u8>, bytes: &[u8]) {
     assert!(rt; to.extend_from_slice(bytes).is_ok());
 }
 
-/// So many messages of drawn lengths, each after its length.
+/// This many messages of drawn lengths, each after its length.
 fn messages(rt: &(impl Abort + AllocGlobal), draws: &mut Draws, count: u32) -> Vec<u8> {
     let mut input = Vec::new(rt.alloc());
     for _message in 0..count {
@@ -204,7 +204,7 @@ fn a_day_of_silence(rt: HostRuntime) {
     assert!(&rt; sleeps(&rt, 86_400) == (28_800, 86_400_000));
 }
 
-/// Moments don't wrap where 32 bits of milliseconds end, after 49 days.
+/// Moments don't wrap if 32 bits of milliseconds end, after 49 days.
 #[test]
 fn sixty_days_of_silence(rt: HostRuntime) {
     assert!(&rt; sleeps(&rt, 60 * 86_400) == (1_728_000, 5_184_000_000));

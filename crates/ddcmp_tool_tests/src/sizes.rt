@@ -4,7 +4,7 @@ use ddcmp_explain::{ExplainFault, Form, explain};
 use ddcmp_frame::failing::{Pieces, Taken};
 use std::process::Abort;
 
-/// What explain answers and writes of an input in this form.
+/// What explain returns and writes of an input in this form.
 fn explains(
     rt: &(impl Abort + AllocGlobal),
     input: &[u8],
@@ -25,7 +25,7 @@ fn is_zeros(digits: Option<&[u8]>) -> bool {
     }
 }
 
-/// Whether a text is these bytes, so many digits 0, and these.
+/// Whether a text is these bytes, this many digits 0, and these.
 fn is_text(text: &[u8], front: &[u8], zeros: usize, end: &[u8]) -> bool {
     let after = front.len().saturating_add(zeros);
     text.get(..front.len()) == Some(front)
@@ -33,7 +33,7 @@ fn is_text(text: &[u8], front: &[u8], zeros: usize, end: &[u8]) -> bool {
         && text.get(after..) == Some(end)
 }
 
-/// What explain writes of an input in this form: these bytes, so many digits 0, and these.
+/// What explain writes of an input in this form: these bytes, this many digits 0, and these.
 fn writes(
     rt: &(impl Abort + AllocGlobal),
     input: &[u8],
@@ -61,12 +61,12 @@ fn hex(digits: &[u8; 16]) -> [u8; 32786] {
     text
 }
 
-/// The first so many bytes.
+/// The first this many bytes.
 fn front_of(bytes: &[u8], length: usize) -> &[u8] {
     bytes.get(..length).unwrap_or(&[])
 }
 
-/// A frame of so many zeros, which are as many as a frame may have.
+/// A frame of this many zeros, which are as many as a frame may have.
 fn fills(
     rt: &(impl Abort + AllocGlobal),
     max: u16,
@@ -118,7 +118,7 @@ fn data_up_to_the_maximum(rt: HostRuntime) {
     );
 }
 
-/// One byte more is too long; it is passed over.
+/// One byte more is too long; it is skipped.
 #[test]
 fn data_above_the_maximum(rt: HostRuntime) {
     let line = b"0 too long DATA count=2 q=0 s=0 resp=0 num=1 addr=1\n";

@@ -1,4 +1,4 @@
-//! Each fault has its text, also those that the program tells by another's.
+//! Each fault has its text, also those that the program reports by another's.
 use crate::same::is;
 use ddcmp_cli::{DumpFault, ExplainFault, Fault, NotDumped, ServeFault, TapFault};
 use ddcmp_io::cause::words_of;

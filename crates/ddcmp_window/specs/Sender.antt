@@ -26,7 +26,7 @@ pub record SenderView : Type 0 where
 abbrev pub nothing_sent : Outgoing
 nothing_sent = record { a = 0; n = 0; t = 1; out = [] }
 
--- How many of the messages kept come before t. It is the distance from a to t - 1: where 255 are
+-- How many of the messages kept come before t. It is the distance from a to t - 1: if 255 are
 -- kept and all are sent, t is a again.
 abbrev pub outgoing_before_next : Outgoing → ℕ
 outgoing_before_next s = (s.t + 511 - s.a) % 256
@@ -80,7 +80,7 @@ outgoing_after_ack s q =
       out = drop (count_acknowledged s q) s.out;
     }
 
--- a NAK with q: an acknowledgement of q, and all that is kept then is sent again
+-- a NAK with q: an acknowledgement of q, and all that is kept then is retransmitted
 abbrev pub outgoing_after_nak : Outgoing → ℕ → Outgoing
 outgoing_after_nak s q =
     record (outgoing_after_ack s q) {

@@ -14,12 +14,12 @@ pub record IsStored (limit longest : ℕ) (messages : List (List ℕ)) : Type 0 
       → (1 ≤ length (slice_index_or messages i []))
       × (length (slice_index_or messages i []) ≤ longest)
 
--- the first message, where there is one
+-- the first message, if there is one
 abbrev pub first_message : List (List ℕ) → Option (List ℕ)
 first_message [] = None
 first_message (message ∷ rest) = Some message
 
--- a slice after a message, where there is one, was written at its front
+-- a slice after a message, if there is one, was written at its front
 abbrev pub with_front : Option (List ℕ) → List ℕ → List ℕ
 with_front None slice = slice
 with_front (Some message) slice = message ++ drop (length message) slice

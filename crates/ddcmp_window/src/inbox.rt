@@ -64,7 +64,7 @@ impl<S: Store> Inbox<S> {
         }
     }
 
-    /// Begins anew: all messages are dropped.
+    /// Restarts: all messages are dropped.
     pub fn reset(&mut self)
         ensures state { self.new ≡ record self.old { incoming = nothing_received } }
         ensures sound { IsSoundInbox self.new }
@@ -73,7 +73,7 @@ impl<S: Store> Inbox<S> {
         self.last = Seq(0);
     }
 
-    /// Takes a message where its number follows the last one and there is room.
+    /// Takes a message if its number follows the last one and there is room.
     pub fn offer(&mut self, number: Seq, message: &[u8]) -> Offer
         requires not_empty { 1 ≤ length message.now }
         requires not_too_long { length message.now ≤ self.old.longest }
@@ -100,7 +100,7 @@ impl<S: Store> Inbox<S> {
         Offer::Accepted
     }
 
-    /// Takes a message that has no number, where there is room.
+    /// Takes a message that has no number, if there is room.
     pub fn put(&mut self, message: &[u8]) -> bool
         requires not_empty { 1 ≤ length message.now }
         requires not_too_long { length message.now ≤ self.old.longest }
@@ -117,7 +117,7 @@ impl<S: Store> Inbox<S> {
         true
     }
 
-    /// Moves the first message to the front of `out`, and answers its length.
+    /// Moves the first message to the front of `out` and returns its length.
     pub fn take(&mut self, out: &mut [u8]) -> Option<usize>
         requires { self.old.longest ≤ length out.old }
         ensures state { self.new
@@ -136,14 +136,14 @@ impl<S: Store> Inbox<S> {
         self.last
     }
 
-    /// The number of messages.
+    /// Returns the number of messages.
     pub fn len(&self) -> u8
         ensures { result ≡ length self.now.incoming.inbox }
     {
         self.store.len()
     }
 
-    /// The length of message `i`, counted from 0.
+    /// Returns the length of message `i`, counted from 0.
     pub fn length(&self, i: u8) -> usize
         requires { i < length self.now.incoming.inbox }
         ensures { result ≡ length (slice_index_or self.now.incoming.inbox i []) }
@@ -151,7 +151,7 @@ impl<S: Store> Inbox<S> {
         self.store.length(i)
     }
 
-    /// Copies message `i`, counted from 0, to the front of `out`, and answers its length.
+    /// Copies message `i`, counted from 0, to the front of `out` and returns its length.
     pub fn copy(&self, i: u8, out: &mut [u8]) -> usize
         requires there { i < length self.now.incoming.inbox }
         requires fits { length (slice_index_or self.now.incoming.inbox i []) ≤ length out.old }
@@ -162,7 +162,7 @@ impl<S: Store> Inbox<S> {
         self.store.copy(i, out)
     }
 
-    /// The length of all messages.
+    /// Returns the length of all messages.
     pub fn bytes(&self) -> usize
         ensures { result ≡ sum_by length self.now.incoming.inbox }
     {
@@ -173,7 +173,7 @@ impl<S: Store> Inbox<S> {
     pub fn holds(&self)
         ensures { IsSoundInbox self.now }
     {
-        // Where a field is looked at, the proof knows what holds of all of them.
+        // If a field is looked at, the proof knows what holds of all of them.
         let _ = &self.store;
     }
 }

@@ -27,7 +27,7 @@ pub struct RingStore {
 }
 
 impl RingStore {
-    /// A store that holds no message. All memory is taken here.
+    /// Makes a store that holds no message. All memory is taken here.
     pub fn new(alloc: Global, limit: u8, longest: u16) -> Result<RingStore, Memory>
         requires limit { 1 ≤ limit }
         requires longest { (1 ≤ longest) × (longest ≤ MAX_COUNT) }
@@ -45,7 +45,7 @@ impl RingStore {
         })
     }
 
-    /// The length of message `i`, counted from 0.
+    /// Returns the length of message `i`, counted from 0.
     fn length_of(&self, i: u8) -> usize
         requires { i < length self.now.lengths.items }
         ensures { result ≡ slice_index self.now.lengths.items i }
@@ -56,7 +56,7 @@ impl RingStore {
         }
     }
 
-    /// The length of the first `n` messages together.
+    /// Returns the length of the first `n` messages together.
     fn bytes_before(&self, n: u8) -> usize
         requires { n ≤ length self.now.lengths.items }
         ensures { result ≡ sum (take n self.now.lengths.items) }

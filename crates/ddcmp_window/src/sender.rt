@@ -6,10 +6,10 @@ use crate::store::{Store, take_first};
 use ddcmp_num::Seq;
 use std::marker::Model;
 
-/// Why a message to be sent isn't accepted. The first that fits is answered.
+/// Why a message to be sent isn't accepted: the first that fits.
 #[derive(Clone, Copy, Debug, PartialEq, Eq)]
 pub enum SendRefusal {
-    /// The station is in another state. Only a station answers this.
+    /// The station is in another state. Only a station returns this.
     WrongState,
     /// The message has no bytes.
     Empty,
@@ -19,8 +19,8 @@ pub enum SendRefusal {
     WindowFull,
 }
 
-/// Keeps messages until they are acknowledged, and gives them in order, each with its number, to
-/// be sent. A message that is refused is given again, with all that follow it.
+/// Queues messages until they are acknowledged, and yields them in order, each with its number, to
+/// be sent. A message that is refused is retransmitted, with all that follow it.
 #[derive(Drop)]
 pub struct Sender<S: Store> {
     store: S,
@@ -67,7 +67,7 @@ impl<S: Store> Sender<S> {
     ghost use Rattle.ddcmp_window.specs.Numbers.{is_within, next_number};
     ghost use Rattle.ddcmp_num.specs.Sequence.{distance};
 
-    /// A sender that has sent nothing.
+    /// Makes a sender that has sent nothing.
     pub fn new(store: S) -> Self
         requires { S.messages store ≡ [] }
         ensures value { result
@@ -82,7 +82,7 @@ impl<S: Store> Sender<S> {
         }
     }
 
-    /// Begins anew: how many messages were dropped.
+    /// Restarts; returns how many messages were dropped.
     pub fn reset(&mut self) -> u8
         ensures state { self.new ≡ record self.old { outgoing = nothing_sent } }
         ensures dropped { result ≡ length self.old.outgoing.out }
@@ -96,7 +96,7 @@ impl<S: Store> Sender<S> {
         dropped
     }
 
-    /// Why a message isn't accepted: None where it is.
+    /// Returns why a message isn't accepted, or None if it is.
     pub fn refusal(&self, message: &[u8]) -> Option<SendRefusal>
         ensures { result
             ≡ accept_refusal self.now.limit self.now.longest self.now.outgoing message.now }
@@ -113,7 +113,7 @@ impl<S: Store> Sender<S> {
         None
     }
 
-    /// Keeps a message to be sent, and answers its number.
+    /// Queues a message and returns its number.
     pub fn accept(&mut self, message: &[u8]) -> Result<Seq, SendRefusal>
         ensures state { self.new ≡ record self.old {
           outgoing = outgoing_after_accept
@@ -140,7 +140,8 @@ impl<S: Store> Sender<S> {
         Ok(Seq(self.acknowledged.0.wrapping_add(self.store.len())))
     }
 
-    /// The peer has all messages up to `number`: how many of them it hadn't acknowledged before.
+    /// The peer has all messages up to `number`; returns how many of them it hadn't acknowledged
+    /// before.
     pub fn acknowledged(&mut self, number: Seq) -> u8
         ensures state { self.new
             ≡ record self.old { outgoing = outgoing_after_ack self.old.outgoing number.0 } }
@@ -159,8 +160,8 @@ impl<S: Store> Sender<S> {
         newly
     }
 
-    /// The peer has all messages up to `number` and wants those after it again: how many it
-    /// hadn't acknowledged before, or None where `number` isn't one that it can have.
+    /// The peer has all messages up to `number` and asks for those after it; returns how many it
+    /// hadn't acknowledged before, or None if `number` isn't one that it can have.
     pub fn refused(&mut self, number: Seq) -> Option<u8>
         ensures state { self.new
             ≡ record self.old { outgoing = outgoing_after_nak self.old.outgoing number.0 } }
@@ -177,7 +178,7 @@ impl<S: Store> Sender<S> {
         Some(newly)
     }
 
-    /// The number and the length of the next message to send, which stays the next.
+    /// Returns the number and the length of the next message to send, which stays the next.
     pub fn peek(&self) -> Option<(Seq, usize)>
         ensures { result
             ≡ option_map (λ message. (record { 0 = self.now.outgoing.t }, length message))
@@ -210,8 +211,7 @@ impl<S: Store> Sender<S> {
         Some((number, length))
     }
 
-    /// Moves the first message, which gets no number, to the front of `out`, and answers its
-    /// length.
+    /// Moves the first message, which gets no number, to the front of `out` and returns its length.
     pub fn pop(&mut self, out: &mut [u8]) -> Option<usize>
         requires longest { self.old.longest ≤ length out.old }
         requires all_acknowledged { self.old.outgoing.a ≡ self.old.outgoing.n }
@@ -225,7 +225,7 @@ impl<S: Store> Sender<S> {
         take_first(&mut self.store, out)
     }
 
-    /// The length of the first message, sent or not.
+    /// Returns the length of the first message, sent or not.
     pub fn first_length(&self) -> Option<usize>
         ensures { result ≡ option_map length (first_message self.now.outgoing.out) }
     {
@@ -235,7 +235,7 @@ impl<S: Store> Sender<S> {
         Some(self.store.length(0))
     }
 
-    /// How many messages were sent and aren't acknowledged.
+    /// Returns how many messages were sent and aren't acknowledged.
     pub fn outstanding(&self) -> u8
         ensures { result ≡ distance self.now.outgoing.a self.now.outgoing.n }
     {
@@ -256,28 +256,28 @@ impl<S: Store> Sender<S> {
         self.acknowledged
     }
 
-    /// The next number to send.
+    /// Returns the next number to send.
     pub fn next_number(&self) -> Seq
         ensures { result.0 ≡ self.now.outgoing.t }
     {
         self.next
     }
 
-    /// The number of messages kept.
+    /// Returns the number of messages kept.
     pub fn len(&self) -> u8
         ensures { result ≡ length self.now.outgoing.out }
     {
         self.store.len()
     }
 
-    /// Whether one more message may be kept.
+    /// Returns whether one more message may be kept.
     pub fn room(&self) -> bool
         ensures { IsTrue result ↔ (length self.now.outgoing.out < self.now.limit) }
     {
         self.store.room()
     }
 
-    /// The length of all messages kept.
+    /// Returns the length of all messages kept.
     pub fn bytes(&self) -> usize
         ensures { result ≡ sum_by length self.now.outgoing.out }
     {
@@ -288,7 +288,7 @@ impl<S: Store> Sender<S> {
     pub fn holds(&self)
         ensures { IsSoundSender self.now }
     {
-        // Where a field is looked at, the proof knows what holds of all of them.
+        // If a field is looked at, the proof knows what holds of all of them.
         let _ = &self.store;
     }
 

@@ -27,7 +27,7 @@ pub struct SlotStore {
 }
 
 impl SlotStore {
-    /// A store that holds no message. All memory is taken here.
+    /// Makes a store that holds no message. All memory is taken here.
     pub fn new(alloc: Global, limit: u8, longest: u16) -> Result<SlotStore, Memory>
         requires limit { 1 ≤ limit }
         requires longest { (1 ≤ longest) × (longest ≤ MAX_COUNT) }

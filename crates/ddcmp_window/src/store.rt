@@ -26,19 +26,19 @@ pub trait Store {
 
     ghost longest: { Self → ℕ };
 
-    /// The number of messages.
+    /// Returns the number of messages.
     fn len(&self) -> u8
         ensures { result ≡ length (messages self.now) };
 
-    /// The largest number of messages.
+    /// Returns the largest number of messages.
     fn limit(&self) -> u8
         ensures { result ≡ limit self.now };
 
-    /// The largest length of a message.
+    /// Returns the largest length of a message.
     fn longest(&self) -> u16
         ensures { result ≡ longest self.now };
 
-    /// Whether one more message fits.
+    /// Returns whether one more message fits.
     fn room(&self) -> bool
         ensures { IsTrue result ↔ (length (messages self.now) < limit self.now) };
 
@@ -58,12 +58,12 @@ pub trait Store {
         ensures limit { limit self.new ≡ limit self.old }
         ensures longest { longest self.new ≡ longest self.old };
 
-    /// The length of message `i`, counted from 0.
+    /// Returns the length of message `i`, counted from 0.
     fn length(&self, i: u8) -> usize
         requires { i < length (messages self.now) }
         ensures { result ≡ length (slice_index_or (messages self.now) i []) };
 
-    /// Copies message `i`, counted from 0, to the front of `out`, and answers its length.
+    /// Copies message `i`, counted from 0, to the front of `out` and returns its length.
     fn copy(&self, i: u8, out: &mut [u8]) -> usize
         requires there { i < length (messages self.now) }
         requires fits { length (slice_index_or (messages self.now) i []) ≤ length out.old }
@@ -71,7 +71,7 @@ pub trait Store {
         ensures out { out.new
             ≡ with_front (Some (slice_index_or (messages self.now) i [])) out.old };
 
-    /// The length of all messages together.
+    /// Returns the length of all messages together.
     fn bytes(&self) -> usize
         ensures { result ≡ sum_by length (messages self.now) };
 
@@ -93,7 +93,7 @@ pub trait Store {
         × (length (slice_index_or (messages s) i []) ≤ longest s) };
 }
 
-/// Moves the first message to the front of `out`, and answers its length.
+/// Moves the first message to the front of `out` and returns its length.
 pub(crate) fn take_first<S: Store>(store: &mut S, out: &mut [u8]) -> Option<usize>
     requires { S.longest store.old ≤ length out.old }
     ensures length { result ≡ option_map length (first_message (S.messages store.old)) }

@@ -20,7 +20,8 @@ use Rattle.clap.specs.declared.parser.matches.ArgMatches.TheViews.{out-ArgMatche
 use Rattle.clap.proofs.OnLiterals.{clap_on_literals}
 use Rattle.ddcmp_words.specs.Words.{program, named_by, option_in, text_in, file_of, role_of}
 use Rattle.ddcmp_words.specs.Words.{usual_syn_of, MOST, HasFlag, HasForm, HasNotation, HasNumber}
-use Rattle.ddcmp_words.specs.Words.{HasOptions, HasSizes, HasView, IsAsked}
+use Rattle.ddcmp_words.specs.Words.{HasLinkOptions, HasMessages, HasOptions, HasSizes, HasView, IsAsked}
+use Rattle.ddcmp_session.specs.declared.options.Options.{Options}
 use Rattle.ddcmp_core.specs.Limits.{MAX_COUNT, MAX_WINDOW}
 use Rattle.ddcmp_proto.specs.declared.config.Config.{Config}
 use Rattle.ddcmp_proto.specs.declared.config.TheConstants.{MAX_INBOX, MAX_SYN}
@@ -102,6 +103,25 @@ view_as o p view e h = record {
   counters = subst (λ t. HasFlag t view.counters) (e (codes "counters")) h.counters;
 }
 
+link_as : (line : Text) (o p : Text → Option Text) (made : Options) → ((id : Text) → o id ≡ p id)
+    → HasLinkOptions line o made → HasLinkOptions line p made
+link_as line o p made e h = record {
+  sizes = sizes_as (usual_syn_of line) o p made.config e h.sizes;
+  timer_ms = subst (λ t. HasNumber 1 MOST 3000 t made.timer_ms) (e (codes "timer-ms")) h.timer_ms;
+  attempts = subst (λ t. HasNumber 0 MOST MOST t made.attempts) (e (codes "attempts")) h.attempts;
+  linger_ms =
+      subst (λ t. HasNumber 0 MOST 500 t made.linger_ms) (e (codes "linger-ms")) h.linger_ms;
+  seconds = subst (λ t. HasNumber 1 MOST MOST t made.seconds) (e (codes "seconds")) h.seconds;
+  report = subst (λ t. HasNumber 0 MOST 0 t made.report) (e (codes "report")) h.report;
+  form = subst (λ t. HasMessages t made.form) (e (codes "binary")) h.form;
+  stay = subst (λ t. HasFlag t made.stay) (e (codes "stay")) h.stay;
+  again = subst (λ t. HasFlag t made.again) (e (codes "again")) h.again;
+  counters = subst (λ t. HasFlag t made.counters) (e (codes "counters")) h.counters;
+  trace = subst (λ t. HasFlag t made.trace) (e (codes "trace")) h.trace;
+  clock = subst (λ t. HasFlag t made.clock) (e (codes "clock")) h.clock;
+  json = subst (λ t. HasFlag t made.json) (e (codes "json")) h.json;
+}
+
 pub has_options_as : (o p t u : Text → Option Text) (made : Command) → ((id : Text) → o id ≡ p id)
     → ((id : Text) → t id ≡ u id)
     → HasOptions o t made → HasOptions p u made
@@ -140,17 +160,7 @@ has_options_as o p t u (Tap tapped) e w h = record {
 }
 has_options_as o p t u (Link linked) e w h = record {
   line = h.line ∙ ap (λ x. unwrap_or x []) (w (codes "line"));
-  sizes = sizes_as (usual_syn_of linked.line.now) o p linked.config e h.sizes;
-  timer_ms = subst (λ t. HasNumber 1 MOST 3000 t linked.timer_ms) (e (codes "timer-ms")) h.timer_ms;
-  attempts = subst (λ t. HasNumber 0 MOST MOST t linked.attempts) (e (codes "attempts")) h.attempts;
-  linger_ms =
-      subst (λ t. HasNumber 0 MOST 500 t linked.linger_ms) (e (codes "linger-ms")) h.linger_ms;
-  seconds = subst (λ t. HasNumber 1 MOST MOST t linked.seconds) (e (codes "seconds")) h.seconds;
-  binary = subst (λ t. HasFlag t linked.binary) (e (codes "binary")) h.binary;
-  stay = subst (λ t. HasFlag t linked.stay) (e (codes "stay")) h.stay;
-  again = subst (λ t. HasFlag t linked.again) (e (codes "again")) h.again;
-  counters = subst (λ t. HasFlag t linked.counters) (e (codes "counters")) h.counters;
-  trace = subst (λ t. HasFlag t linked.trace) (e (codes "trace")) h.trace;
+  options = link_as linked.line.now o p linked.options e h.options;
 }
 
 -- a command has the options that the words give

@@ -20,6 +20,9 @@ use Rattle.ddcmp_words.specs.declared.served.Role.TheVariants.{Connect, Listen}
 use Rattle.ddcmp_words.specs.declared.served.Served.{Served}
 use Rattle.ddcmp_words.specs.declared.tapped.Tapped.{Tapped}
 use Rattle.ddcmp_words.specs.declared.linked.Linked.{Linked}
+use Rattle.ddcmp_session.specs.declared.messages.Form.{Form as MessageForm}
+use Rattle.ddcmp_session.specs.declared.messages.Form.TheVariants.{Digits, Binary}
+use Rattle.ddcmp_session.specs.declared.options.Options.{Options}
 use Rattle.ddcmp_words.specs.declared.view.View.{View}
 use Rattle.ddcmp_words.specs.declared.declined.Declined.{Declined}
 use Rattle.ddcmp_words.specs.declared.declined.Declined.TheVariants.{Help, Version, Usage, Memory}
@@ -125,16 +128,19 @@ line_app = with_rule (new_app (codes "link")) (required (text_rule (codes "line"
 abbrev pub link_app : App
 link_app =
     with_rule (with_rule (with_rule (with_rule (with_rule (with_rule (with_rule (with_rule (with_rule
-    (with_sizes line_app)
+    (with_rule (with_rule (with_rule (with_sizes line_app)
     (number_rule (codes "timer-ms") 1 MOST))
     (number_rule (codes "attempts") 0 MOST))
     (number_rule (codes "linger-ms") 0 MOST))
     (number_rule (codes "seconds") 1 MOST))
+    (number_rule (codes "report") 0 MOST))
     (flag_rule (codes "binary")))
     (flag_rule (codes "stay")))
     (flag_rule (codes "again")))
     (flag_rule (codes "counters")))
-    (flag_rule (codes "trace"))
+    (flag_rule (codes "trace")))
+    (flag_rule (codes "clock")))
+    (flag_rule (codes "json"))
 
 -- `ddcmp`, which wants a command
 abbrev pub bare_app : App
@@ -272,19 +278,32 @@ pub record HasTap (option text : Text → Option Text) (tapped : Tapped) : Type 
 abbrev pub usual_syn_of : Text → ℕ
 usual_syn_of line = if starts_with eqb line (codes "device:") then 4 else 0
 
+-- messages as bytes after their length where `--binary` was given, else as digits
+pub record HasMessages (binary : Option Text) (form : MessageForm) : Type 0 where
+  pub given : binary ≡ Some (codes "true") → form ≡ Binary
+  pub left_out : binary ≡ Some (codes "false") → form ≡ Digits
+  pub absent : binary ≡ None → form ≡ Digits
+
+-- how a link runs over a line of this name
+pub record HasLinkOptions (line : Text) (option : Text → Option Text) (options : Options) : Type 0 where
+  pub sizes : HasSizes (usual_syn_of line) option options.config
+  pub timer_ms : HasNumber 1 MOST 3000 (option (codes "timer-ms")) options.timer_ms
+  pub attempts : HasNumber 0 MOST MOST (option (codes "attempts")) options.attempts
+  pub linger_ms : HasNumber 0 MOST 500 (option (codes "linger-ms")) options.linger_ms
+  pub seconds : HasNumber 1 MOST MOST (option (codes "seconds")) options.seconds
+  pub report : HasNumber 0 MOST 0 (option (codes "report")) options.report
+  pub form : HasMessages (option (codes "binary")) options.form
+  pub stay : HasFlag (option (codes "stay")) options.stay
+  pub again : HasFlag (option (codes "again")) options.again
+  pub counters : HasFlag (option (codes "counters")) options.counters
+  pub trace : HasFlag (option (codes "trace")) options.trace
+  pub clock : HasFlag (option (codes "clock")) options.clock
+  pub json : HasFlag (option (codes "json")) options.json
+
 -- The options of a link. Its line is always there.
 pub record HasLink (option text : Text → Option Text) (linked : Linked) : Type 0 where
   pub line : linked.line.now ≡ unwrap_or (text (codes "line")) []
-  pub sizes : HasSizes (usual_syn_of linked.line.now) option linked.config
-  pub timer_ms : HasNumber 1 MOST 3000 (option (codes "timer-ms")) linked.timer_ms
-  pub attempts : HasNumber 0 MOST MOST (option (codes "attempts")) linked.attempts
-  pub linger_ms : HasNumber 0 MOST 500 (option (codes "linger-ms")) linked.linger_ms
-  pub seconds : HasNumber 1 MOST MOST (option (codes "seconds")) linked.seconds
-  pub binary : HasFlag (option (codes "binary")) linked.binary
-  pub stay : HasFlag (option (codes "stay")) linked.stay
-  pub again : HasFlag (option (codes "again")) linked.again
-  pub counters : HasFlag (option (codes "counters")) linked.counters
-  pub trace : HasFlag (option (codes "trace")) linked.trace
+  pub options : HasLinkOptions linked.line.now option linked.options
 
 -- a command with the options that were given: as they are read, and as they were written
 abbrev pub HasOptions : (option text : Text → Option Text) → Command → Type 0

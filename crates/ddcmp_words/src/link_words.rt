@@ -3,7 +3,7 @@ ghost use Rattle.std.specs.Prelude.{◌≡◌, ◌≤◌, codes, false};
 ghost use Rattle.clap.specs.Words.{app_of, first_value, found_of, new_app, one_text};
 ghost use Rattle.clap.specs.declared.builder.command.Command.TheViews.{out-Command as fields_of};
 ghost use Rattle.ddcmp_words.specs.Making.{Makes};
-ghost use Rattle.ddcmp_words.specs.Words.{HasLink, link_app, line_app, usual_syn_of};
+ghost use Rattle.ddcmp_words.specs.Words.{HasLink, HasMessages, link_app, line_app, usual_syn_of};
 ghost use Rattle.ddcmp_proto.specs.declared.config.TheConstants.{MAX_SYN};
 
 use crate::command::{flag_given, number_given, sizes_given, text_given, with_sizes};
@@ -11,6 +11,7 @@ use crate::linked::Linked;
 use crate::options::{CommandOption, Takes};
 use crate::parser::Parser;
 use clap::ArgMatches;
+use ddcmp_session::{Form, Options};
 use std::alloc::Global;
 
 /// What a link reads and writes, for a newcomer.
@@ -22,7 +23,7 @@ LINE is one of:
   udp:LOCAL,REMOTE       datagrams between two addresses
   device:PATH            a serial device that is set up already, as by stty;
                          the default of --syn is 4
-Input: one message per line, in hexadecimal digits.
+Input: one message per line, in hexadecimal digits; a line ? asks for a report.
 Output, as it happens:
   notice N               a notice of the station, as Running or Acknowledged 1
   mail HEX               a received message
@@ -59,7 +60,7 @@ fn bare_command<'a>(alloc: Global) -> clap::Command<'a>
 }
 
 /// The options of a link beside its line and its sizes.
-static LINK_OPTIONS: [CommandOption; 9] = [
+static LINK_OPTIONS: [CommandOption; 12] = [
     CommandOption {
         name: "timer-ms",
         takes: Takes::Number {
@@ -97,6 +98,15 @@ static LINK_OPTIONS: [CommandOption; 9] = [
         help: "End after N seconds, whatever the state",
     },
     CommandOption {
+        name: "report",
+        takes: Takes::Number {
+            low: 0,
+            high: u32::MAX,
+        },
+        is_required: false,
+        help: "Report the counters on standard error every N seconds",
+    },
+    CommandOption {
         name: "binary",
         takes: Takes::Nothing,
         is_required: false,
@@ -126,6 +136,18 @@ static LINK_OPTIONS: [CommandOption; 9] = [
         is_required: false,
         help: "Log each frame both ways on standard error",
     },
+    CommandOption {
+        name: "clock",
+        takes: Takes::Nothing,
+        is_required: false,
+        help: "Begin each line on standard error with the time of day (UTC)",
+    },
+    CommandOption {
+        name: "json",
+        takes: Takes::Nothing,
+        is_required: false,
+        help: "Write reports as JSON objects",
+    },
 ];
 
 /// `link` with its options.
@@ -144,23 +166,37 @@ fn usual_syn(line: &str) -> u8
     if line.starts_with("device:") { 4 } else { 0 }
 }
 
+/// The form of messages.
+fn messages_given(options: &ArgMatches<'_>) -> Form
+    ensures { HasMessages (one_text (found_of options.now) (codes "binary")) result }
+{
+    if flag_given(options, "binary") {
+        Form::Binary
+    } else {
+        Form::Digits
+    }
+}
+
 /// The link that was asked for.
 pub(crate) fn link_given<'a>(options: &ArgMatches<'a>) -> Linked<'a>
     ensures { HasLink (one_text (found_of options.now)) (first_value (found_of options.now))
         result }
 {
     let line = text_given(options, "line");
-    Linked {
-        line,
+    let options = Options {
         config: sizes_given(options, usual_syn(line)),
         timer_ms: number_given(options, "timer-ms", 1, u32::MAX, 3000),
         attempts: number_given(options, "attempts", 0, u32::MAX, u32::MAX),
         linger_ms: number_given(options, "linger-ms", 0, u32::MAX, 500),
         seconds: number_given(options, "seconds", 1, u32::MAX, u32::MAX),
-        binary: flag_given(options, "binary"),
+        report: number_given(options, "report", 0, u32::MAX, 0),
+        form: messages_given(options),
         stay: flag_given(options, "stay"),
         again: flag_given(options, "again"),
         counters: flag_given(options, "counters"),
         trace: flag_given(options, "trace"),
-    }
+        clock: flag_given(options, "clock"),
+        json: flag_given(options, "json"),
+    };
+    Linked { line, options }
 }

@@ -1,5 +1,5 @@
 //! A station is driven over a line in memory. In each turn `drive` looks after the timer, asks the
-//! user for a message, writes a frame, reads, and tells the user what came.
+//! user for a message, writes a frame, reads, and passes the user what came.
 use crate::driving::Site;
 use ddcmp_station::Config;
 use std::io;

@@ -33,7 +33,7 @@ impl End {
         println!(rt; "{} sends: {answer:?}", self.name)
     }
 
-    /// Takes the first message of its mail.
+    /// Takes its first received message.
     fn take(&mut self, rt: &(impl Print + AllocGlobal)) -> io::Result<()> {
         let most = self.station.config().max as usize;
         let Ok(mut message) = Vec::from_elem(rt.alloc(), 0, most) else {

@@ -1,6 +1,6 @@
 //! Two stations, each started once, are driven over a connection that gives the bytes that it took
 //! in their order, in pieces. Each user is handed the first of the messages that the other gave, in
-//! order, once, unchanged, and is told acknowledged no more than the other was handed.
+//! order, once, unchanged, and no more is reported acknowledged to it than the other received.
 use crate::driving::Site;
 use ddcmp_station::{Config, Driven, LineFault};
 use std::io;

@@ -9,12 +9,12 @@ pub enum Seen {
     Told(Notice),
     /// A message of this length, beginning with this byte.
     Mail(usize, u8),
-    /// It was asked for a message, with room for so many bytes.
+    /// It was asked for a message, with room for this many bytes.
     Asked(usize),
 }
 
 /// A user that offers these messages one after another, and then none. It keeps what it saw, and
-/// the bytes of all mail one after another.
+/// the bytes of all received messages one after another.
 #[derive(Drop)]
 pub struct Recorder<'a> {
     offers: &'a [&'a [u8]],
@@ -84,7 +84,7 @@ impl User for Recorder<'_> {
     }
 }
 
-/// A clock that tells these moments, and then the last of them.
+/// A clock that returns these moments, and then the last of them.
 #[derive(Drop)]
 pub struct Moments<'a> {
     pub moments: &'a [u64],

@@ -35,7 +35,7 @@ impl Draws {
         (self.next() & 0xFF) as u8
     }
 
-    /// Once in so many times.
+    /// Once in this many times.
     pub fn once_in(&mut self, times: u64) -> bool
         requires { 0 < times }
     {

@@ -13,7 +13,7 @@ fn size(words: &mut Split<'_, char>) -> Option<u16> {
     words.next()?.parse::<u16>().ok()
 }
 
-/// The sizes in a line `WINDOW INBOX MAX SYN RESTART`, behind which more may stand.
+/// The sizes in a line `WINDOW INBOX MAX SYN RESTART`, after which more may stand.
 pub fn config_of(line: &str) -> Option<Config> {
     let mut words = line.split(' ');
     let window = size(&mut words)?;

@@ -1,6 +1,6 @@
 //! Worked examples of what stands below the commands: what comes of them is stored, and compared.
-//! The input has parts, each behind a line with the name of its matter, and in a part examples,
-//! each behind a line that says what it is of.
+//! The input has parts, each after a line with the name of its matter, and in a part examples,
+//! each after a line that says what it is of.
 #![tactic(auto)]
 
 mod devices;

@@ -39,7 +39,7 @@ fn event_at(alloc: Global, word: &str, end: End, bytes: &str) -> Option<Event> {
     }
 }
 
-/// Does what a line says, and tells what is answered.
+/// Does what a line says, and returns what is answered.
 fn perform(rt: &HostRuntime, table: &mut Table, line: &str) -> io::Result<()> {
     let mut words = line.split(' ');
     let word = words.next().unwrap_or("");

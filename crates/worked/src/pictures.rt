@@ -25,7 +25,7 @@ fn wanted_in(head: &str) -> Option<Wanted> {
     Some(Wanted { picture, counted })
 }
 
-/// The sizes of both ends: small ones, and those of a larger SYN fill are told by their word.
+/// The sizes of both ends: small ones, and those of a larger SYN fill are named by their word.
 fn config_of(head: &str) -> Config {
     let syn = if head.ends_with("syn") { 4 } else { 0 };
     Config {

@@ -28,7 +28,7 @@ fn play<C: Carrier>(
 }
 
 /// Plays a script over a carrier that gives what goes in, and then over a connection, whose text is
-/// told where it is another.
+/// printed if it is another.
 pub fn run(rt: &HostRuntime, head: &str, lines: &str) -> io::Result<()> {
     let Some(config) = config_of(head) else {
         return println!(rt; "no sizes");

@@ -1,6 +1,6 @@
-//! Worked words of the command line. The input has them one after another, each in a line behind a
+//! Worked words of the command line. The input has them one after another, each in a line after a
 //! mark; the lines up to the next mark are what the program reads when it is run with these words.
-//! What it writes and how it ends goes to the output. Behind `? ` stand words that are only read.
+//! What it writes and how it ends goes to the output. After `? ` stand words that are only read.
 #![tactic(auto)]
 
 use ddcmp_cli::{Declined, read_words, run};
@@ -29,7 +29,7 @@ fn tell(rt: &HostRuntime, line: &str) -> io::Result<()> {
         Ok(command) => println!(rt; "{command:?}"),
         Err(Declined::Help(_)) => println!(rt; "help"),
         Err(Declined::Version(_)) => println!(rt; "version"),
-        Err(Declined::Usage(_)) => println!(rt; "usage"),
+        Err(Declined::Usage(text)) => print!(rt; "{text}"),
         Err(Declined::Memory) => println!(rt; "memory"),
     }
 }

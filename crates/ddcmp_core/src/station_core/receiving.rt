@@ -1,4 +1,4 @@
-//! What a station does on what comes.
+//! What a station does on input.
 ghost use Rattle.std.specs.Prelude.{◌≡◌};
 ghost use Rattle.ddcmp_core.specs.Table.{acknowledged_notice as notice_told};
 ghost use Rattle.ddcmp_core.specs.Frames.{is_data_header};
@@ -46,7 +46,7 @@ impl<S: Store> Core<S> {
     ghost use Rattle.ddcmp_core.specs.Receiving.{core_on_running, told_in_running};
     ghost use Rattle.ddcmp_core.specs.Receiving.{core_on_maintenance, told_in_maintenance};
 
-    /// What comes from the line: what the user is told.
+    /// Handles one input from the line; returns the notice for the user, if any.
     #[tactic(auto, unfolding(crate::specs::Table::on, crate::specs::Table::notice_of, crate::specs::Counting::counters_on))]
     pub fn on(&mut self, input: &Input<'_>) -> Option<Notice>
         requires { FitsHeader self.old.limits.longest input.now }
@@ -56,7 +56,7 @@ impl<S: Store> Core<S> {
               (received input.now) self.old.counters;
         } }
         ensures told { result ≡ notice_of self.old.limits self.old.station (received input.now) }
-        // What is told acknowledged has left.
+        // What is reported acknowledged has left.
         ensures leaves { acknowledged_by result + length self.new.station.out
             ≤ length self.old.station.out }
     {
@@ -255,7 +255,7 @@ impl<S: Store> Core<S> {
         Notice::PeerRestarted
     }
 
-    /// The peer has all messages up to a number: how many it hadn't acknowledged before.
+    /// The peer has all messages up to a number; returns how many it hadn't acknowledged before.
     fn acknowledging(&mut self, resp: Seq) -> u8
         requires { self.old.station.state ≡ State.Running }
         ensures state { self.new ≡ record self.old { station = after_ack self.old.station resp.0 } }
@@ -273,7 +273,7 @@ impl<S: Store> Core<S> {
         messages
     }
 
-    /// The peer has all messages up to a number, and wants those after it again.
+    /// The peer has all messages up to a number, and asks for those after it.
     fn on_nak(&mut self, resp: Seq) -> Option<Notice>
         requires { self.old.station.state ≡ State.Running }
         ensures state { self.new ≡ record self.old { station = on_nak self.old.station resp.0 } }
@@ -312,7 +312,7 @@ impl<S: Store> Core<S> {
         }
     }
 
-    /// Offers a data message to the inbox: whether it is there now.
+    /// Offers a data message to the inbox; returns whether it is there now.
     fn offer(&mut self, header: Counted, message: &[u8]) -> bool
         requires running { self.old.station.state ≡ State.Running }
         requires count { header.count ≡ length message.now }

@@ -82,7 +82,8 @@ impl<S: Store> Core<S> {
     ghost use Rattle.ddcmp_core.specs.Counting.{counters_after_next};
     ghost use Rattle.ddcmp_core.specs.Core.{IsSound};
 
-    /// The next frame: its header, and the length of its data, which stand at the front of `out`.
+    /// Returns the next frame: its header, and the length of its data, which it copies to the front
+    /// of `out`.
     pub fn next(&mut self, out: &mut [u8]) -> Option<(Header, usize)>
         requires { self.old.limits.longest ≤ length out.old }
         ensures state { self.new ≡ record self.old {
@@ -100,7 +101,7 @@ impl<S: Store> Core<S> {
         header.map(|header| (header, length))
     }
 
-    /// The header of the frame that `next` would give.
+    /// Returns the header of the frame that `next` would return.
     pub fn next_header(&self) -> Option<Header>
         ensures header { result ≡ option_map header_of (next_frame (next self.now.station)) }
         ensures sound { IsSound self.now.limits self.now.station }
@@ -145,7 +146,7 @@ impl<S: Store> Core<S> {
         }
     }
 
-    /// The header of what is sent.
+    /// Returns the header of what is sent.
     fn header(&self, sending: Sending) -> Option<Header>
         requires { FitsSending sending self.now.station }
         ensures header { result
@@ -166,8 +167,8 @@ impl<S: Store> Core<S> {
         }
     }
 
-    /// Goes on as after what is sent: its data are at the front of `out`, and their length is
-    /// answered, 0 where there are none.
+    /// Updates the state as for a sent frame, copies its data to the front of `out` and returns
+    /// their length, 0 if there are none.
     #[tactic(auto, unfolding(crate::specs::Counting::counters_after_next))]
     fn advance(&mut self, sending: Sending, out: &mut [u8]) -> usize
         requires fits { FitsSending sending self.old.station }

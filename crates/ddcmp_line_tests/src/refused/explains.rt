@@ -15,7 +15,7 @@ fn startup_text() -> &'static [u8] {
     items=2 bytes=19 open=0\n"
 }
 
-/// What explain answers and writes.
+/// What explain returns and writes.
 fn explains(alloc: Global) -> (Result<(), ExplainFault>, Taken<256>) {
     let mut reader = Pieces::of(startup());
     let mut writer = Taken::<256>::new();

@@ -10,7 +10,7 @@ use ddcmp_pair::{
 use ddcmp_station::{Counters, Header, Numbers, State};
 use std::process::Abort;
 
-/// What an end of a pair tells.
+/// What an end of a pair reports.
 #[derive(Clone, Copy, PartialEq, Eq)]
 struct ToldByEnd {
     given: usize,
@@ -28,7 +28,7 @@ struct ToldByEnd {
     offset: u64,
 }
 
-/// What a pair tells.
+/// What a pair reports.
 #[derive(Clone, Copy, PartialEq, Eq)]
 struct Told {
     honest: bool,
@@ -102,18 +102,18 @@ fn round() -> [Step; 4] {
     ]
 }
 
-/// Whether a pair tells this.
+/// Whether a pair reports this.
 fn is_told(pair: &Pair, seen: &Told) -> bool {
     tells(pair) == *seen
 }
 
-/// A pair that does again what was refused for want of memory, and whether any was.
+/// A pair that does again what was refused by an allocation failure, and whether any was.
 struct Patient {
     bench: Bench,
     refused: bool,
 }
 
-// By hand, so that a pair is let go by a call: a derived one is written out at each such place.
+// Manual, since a derived `Drop` is expanded wherever a pair is dropped.
 impl Drop for Patient {
     fn drop(self) {
         let Patient {
@@ -173,7 +173,7 @@ impl Patient {
     }
 
     /// The settle is done, or some of its steps are. A frame that was polled then and didn't arrive
-    /// is lost, so the line settles again, and twice more when the timers have run out.
+    /// is lost, so the line settles again, and twice more when the timers have expired.
     fn settles(&mut self, rt: &(impl Abort + AllocGlobal)) {
         match self.bench.settle() {
             Ok(settled) => assert!(rt; is_settled_at_once(settled)),
@@ -244,7 +244,7 @@ fn is_recovered_at_once(recovered: Recovered) -> bool {
         }
 }
 
-/// Whether a pair tells this before one of these steps, which it does until then.
+/// Whether a pair reports this before one of these steps, which it does until then.
 fn is_before(
     rt: &(impl Abort + AllocGlobal),
     bench: &mut Bench,
@@ -260,7 +260,7 @@ fn is_before(
     false
 }
 
-/// Whether a pair that was to do these steps tells this between two of them.
+/// Whether a pair that was to do these steps reports this between two of them.
 fn is_among(rt: &(impl Abort + AllocGlobal), parts: &[&[Step]], seen: &Told) -> bool {
     let mut bench = Bench::running(rt, USUAL);
     bench.plays(rt, &to_settle());
@@ -300,7 +300,7 @@ fn is_refused_to_a_recovery(rt: &(impl Abort + AllocGlobal)) -> bool {
     patient.refused
 }
 
-/// The pair tells what one tells after these steps.
+/// The pair reports what one reports after these steps.
 fn is_after(rt: &(impl Abort + AllocGlobal), pair: &Pair, steps: &[Step]) {
     let mut bench = Bench::ample(rt, USUAL, USUAL);
     bench.plays(rt, steps);
@@ -324,7 +324,7 @@ fn is_refused_to_a_run(rt: &(impl Abort + AllocGlobal)) -> bool {
     }
 }
 
-/// A run without memory was not begun, or is as far as it tells.
+/// A run without memory was not begun, or is as far as it reports.
 fn is_as_far(rt: &(impl Abort + AllocGlobal), refused: RunRefusal, path: &[Step]) {
     match refused {
         RunRefusal::First(refusal) => assert!(rt; refusal == ConfigRefusal::Memory),

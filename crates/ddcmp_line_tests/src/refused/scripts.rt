@@ -54,7 +54,7 @@ fn premises(pair: &Pair) -> (bool, bool) {
     (pair.honest(), pair.clean())
 }
 
-/// Whether a text is a beginning of the whole, and not all of it.
+/// Whether a text is a prefix of the whole, and not all of it.
 fn is_beginning(text: &[u8], whole: &[u8]) -> bool {
     text.len() < whole.len() && whole.get(..text.len()) == Some(text)
 }

@@ -59,7 +59,7 @@ fn serves(alloc: Global) -> Told {
     }
 }
 
-/// Whether it is the answer to want of memory.
+/// Whether it is the answer to an allocation failure.
 fn is_want(answer: &Result<(), ServeFault>) -> bool {
     *answer == Err(ServeFault::Config) || *answer == Err(ServeFault::Line(LineFault::Memory))
 }

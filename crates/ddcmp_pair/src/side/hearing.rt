@@ -17,7 +17,7 @@ use ddcmp_frame::{Header, Item, Reader};
 use ddcmp_proto::{Memory, Station};
 use ddcmp_run::{Notices, Reply};
 
-/// What was told, and what of it is counted.
+/// What was reported, and what of it is counted.
 #[derive(Drop)]
 struct Heard {
     notices: Vec<Notice>,
@@ -67,10 +67,10 @@ fn feed_all(station: &mut Station, arrived: &[u8], from: usize, heard: &mut Hear
         (notices_of_piece (take from arrived.now) (drop from arrived.now) station.old.core) }
     ensures starts { heard.new.starts ≡ count_plus heard.old.starts (restarts_in
         (notices_of_piece (take from arrived.now) (drop from arrived.now) station.old.core)) }
-    // What was told acknowledged has left.
+    // What was reported acknowledged has left.
     ensures leaves { heard.new.acknowledged + length station.new.core.station.out
         ≤ heard.old.acknowledged + length station.old.core.station.out }
-    // A halted station stays halted, and tells nothing acknowledged.
+    // A halted station stays halted, and reports nothing acknowledged.
     ensures halted { is_halted station.old.core.station.state ≡ true
         → (is_halted station.new.core.station.state ≡ true)
         × (heard.new.acknowledged ≡ heard.old.acknowledged) }
@@ -99,7 +99,8 @@ fn place_after(sent: &Frames, place: usize, header: &Header, data: &[u8]) -> Opt
     None
 }
 
-/// The place after what a byte gave: a good frame is looked for behind the one before it.
+/// Returns the place after what a byte completed: a good frame is looked for after the one before
+/// it.
 fn next_place(item: Option<Item>, data: &[u8], sent: &Frames, place: Option<usize>) -> Option<usize>
     requires { IfSome place (λ n. n ≤ length sent.now.all) }
     ensures value { result ≡ place_next item «data».now sent.now.all place }

@@ -18,7 +18,7 @@ use ddcmp_frame::codes::HEADER_BYTES;
 use ddcmp_proto::{Memory, Station};
 use ddcmp_run::{Bytes, Reply};
 
-/// The number of bytes of data that a header tells.
+/// Returns the number of bytes of data that a header counts.
 fn data_length(header: &Header) -> usize
     ensures { (message : List ℕ) → IsFrame header.now message → result ≡ length message }
 {
@@ -29,7 +29,7 @@ fn data_length(header: &Header) -> usize
     }
 }
 
-/// The data of a frame with this header, which stands on a line behind its fill.
+/// Returns the data of a frame with this header, which is on a line after its fill.
 fn data_of<'a>(line: &'a [u8], syn: u8, header: &Header) -> &'a [u8]
     requires { (message : List ℕ) × IsFrame header.now message
         × (line.now ≡ replicate syn SYN ++ wire header.now message) }

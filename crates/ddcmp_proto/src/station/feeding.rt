@@ -10,7 +10,7 @@ use ddcmp_frame::{Item, Pushed};
 pub struct Fed {
     /// How many bytes were used. The caller feeds the rest.
     pub used: usize,
-    /// The notice that the last of these bytes gave. Without one all bytes were used.
+    /// The notice that the last of these bytes gave rise to. Without one all bytes were used.
     pub notice: Option<Notice>,
 }
 
@@ -23,7 +23,7 @@ impl Station {
     ghost use Rattle.ddcmp_proto.specs.Bytes.{notices_of_item};
     ghost use Rattle.ddcmp_proto.specs.OnePart.{TakesPart};
 
-    /// Takes bytes of the line, up to the first that gives a notice.
+    /// Handles received bytes, up to the first that yields a notice.
     pub fn feed(&mut self, piece: &[u8]) -> Fed
         requires { self.old.line.offset + length piece.now < 2 ^ 64 }
         // The station stands for the text with the bytes used, however the text was cut before.
@@ -31,7 +31,7 @@ impl Station {
             → StandsFor self.new.line (text ++ take result.used piece.now) }
         ensures state { (text : List ℕ) → StandsFor self.old.line text
             → self.new.core ≡ after_piece text (take result.used piece.now) self.old.core }
-        // The last byte used gave the notice, and no byte before it gave one.
+        // The last byte used yielded the notice, and no byte before it yielded one.
         ensures told { (text : List ℕ) → StandsFor self.old.line text
             → notices_of_piece text (take result.used piece.now) self.old.core
             ≡ option_to_list result.notice }
@@ -40,7 +40,7 @@ impl Station {
         ensures used { result.used ≤ length piece.now }
         ensures whole { result.notice ≡ None → result.used ≡ length piece.now }
         ensures some { 0 < length piece.now → 0 < result.used }
-        // What is told acknowledged has left.
+        // What is reported acknowledged has left.
         ensures leaves { acknowledged_by result.notice + length self.new.core.station.out
             ≤ length self.old.core.station.out }
         // Without a text.
@@ -60,8 +60,8 @@ impl Station {
         Fed { used, notice: None }
     }
 
-    /// Takes bytes of the line up to the first that completes an item: how many they are, and the
-    /// notice that the item gives.
+    /// Takes bytes of the line up to the first that completes an item; returns how many they are,
+    /// and the notice of the item.
     fn take_part(&mut self, piece: &[u8]) -> (usize, Option<Notice>)
         requires some { 0 < length piece.now }
         requires fits { self.old.line.offset + length piece.now < 2 ^ 64 }
@@ -76,7 +76,7 @@ impl Station {
         }
     }
 
-    /// Takes an item of the line, whose data the reader lends: the notice that it gives.
+    /// Takes an item of the line, whose data the reader lends; returns its notice.
     fn take_item(&mut self, item: Item) -> Option<Notice>
         requires lent { LentBeside (Some item) self.old.line.lent }
         requires within { length self.old.line.lent ≤ self.old.core.limits.longest }

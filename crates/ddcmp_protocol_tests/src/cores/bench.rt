@@ -31,7 +31,7 @@ pub enum Frame {
     Maintenance,
 }
 
-/// A call of a core, what it is given, and what it answers.
+/// A call of a core, what it is given, and what it returns.
 #[derive(Clone, Copy)]
 pub enum Row {
     Start(Result<u8, StartRefusal>),
@@ -101,7 +101,7 @@ fn counted(count: u16, flags: Flags, resp: u8, num: u8) -> Counted
     }
 }
 
-/// A frame's header; None where the reason of a NAK is out of range.
+/// A frame's header; None if the reason of a NAK is out of range.
 fn header_of(frame: Frame) -> Option<Header> {
     let header = match frame {
         Frame::Ack(resp) => control(ControlType::Ack, 0, NO_FLAGS, resp, 0),
@@ -136,7 +136,7 @@ pub struct Bench {
     ghost longest: { core.limits.longest ≡ 4 },
 }
 
-// By hand, so that a core is let go by a call: a derived one is written out at each such place.
+// Manual, since a derived `Drop` is expanded wherever a core is dropped.
 impl Drop for Bench {
     fn drop(self) {
         let Bench {
@@ -169,7 +169,7 @@ impl Bench {
         }
     }
 
-    /// A fault arrives, of a data message where it has a header.
+    /// A fault arrives, of a data message if it has a header.
     fn receives_fault(&mut self, row: Row) -> Option<Notice> {
         let data = Header::Data(counted(1, NO_FLAGS, 0, 1));
         match row {
@@ -254,7 +254,7 @@ impl Bench {
         self.core.numbers() == numbers
     }
 
-    /// Whether the counters tell what the row has.
+    /// Whether the counters has what the row has.
     fn is_counted(&self, row: Row) -> bool {
         let counters = self.counters();
         match row {
@@ -265,7 +265,7 @@ impl Bench {
         }
     }
 
-    /// Whether the core, or the buffer, tells what the row has.
+    /// Whether the core, or the buffer, has what the row has.
     fn is_told(&self, row: Row) -> bool {
         match row {
             Row::NextHeader(frame) => is_header(self.next_header(), frame),

@@ -54,8 +54,8 @@ pub struct Outcome<const N: usize> {
     pub moments: usize,
 }
 
-/// Makes a call with a timer of 1000 ms and a clock that stands still. A read brings so many bytes
-/// at most.
+/// Makes a call with a timer of 1000 ms and a clock that stands still. A read brings this many
+/// bytes at most.
 pub fn drives<const N: usize>(
     rt: &(impl Abort + AllocGlobal),
     station: &mut Station,

@@ -44,7 +44,7 @@ impl Watcher {
     }
 }
 
-/// Whether a message was kept behind the others.
+/// Whether a message was kept after the others.
 fn keeps(alloc: Global, kept: &mut Vec<Vec<u8>>, message: &[u8]) -> bool {
     match Vec::from_slice(alloc, message) {
         Ok(copied) => kept.push(copied).is_ok(),
@@ -99,7 +99,7 @@ impl Clock for Drifting {
 }
 
 /// What one user was handed is the first of what the other gave, in order, once, unchanged; and the
-/// other was told acknowledged no more than that.
+/// no more than that was reported acknowledged to the other.
 fn reaches(rt: &impl Abort, giver: &Watcher, taker: &Watcher) {
     assert!(rt; taker.handed.len() <= giver.given.len());
     for (handed, given) in taker.handed.iter().zip(giver.given.iter()) {
@@ -165,7 +165,7 @@ impl End {
         )
     }
 
-    /// A call over a line. What it wrote stands behind what was written before.
+    /// A call over a line. What it wrote stands after what was written before.
     fn drives(&mut self, rt: &impl Abort, line: Line<'_>) {
         let mut writer = Taken::<512>::new().at_most(11).failing_at(line.breaks_at);
         let answer = self.is_driven(line, &mut writer);
@@ -278,8 +278,8 @@ fn drawn(rt: &(impl Abort + AllocGlobal), seed: u64, has_faults: bool) -> (End, 
     (a, b, Cuts { draws, has_faults })
 }
 
-/// Whatever the sizes, the cuts, the clocks and the faults, and also where one end takes shorter
-/// messages than the other sends. Enough is handed up for this to say something.
+/// Whatever the sizes, the cuts, the clocks and the faults, and also if one end takes shorter
+/// messages than the other sends. Enough is delivered for this to say something.
 #[test]
 fn users_see_the_first_in_order(rt: HostRuntime) {
     let mut handed = 0usize;

@@ -8,7 +8,7 @@ use std::fmt::Debug;
 use std::process::Abort;
 use std::test::Fail;
 
-/// What was told is what was wanted.
+/// What was reported is what was expected.
 pub fn is<T: PartialEq + Debug + Drop>(rt: &impl Abort, told: T, wanted: T) {
     assert_eq!(rt; told, wanted);
 }

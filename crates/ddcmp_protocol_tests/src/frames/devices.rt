@@ -1,4 +1,4 @@
-//! `FromRead` and `ToWrite` tell std's faults and no others, with one call for each of theirs.
+//! `FromRead` and `ToWrite` report std's faults and no others, with one call for each of theirs.
 use crate::frames::calls::{is, read};
 use ddcmp_frame::{FromRead, Got, Sink, Source, ToWrite, Worst};
 use std::io::{self, ErrorKind, Read, Write};
@@ -53,7 +53,7 @@ const FAILURES: [ErrorKind; 39] = [
     ErrorKind::Uncategorized,
 ];
 
-/// A reader of sevens and a writer: each call moves at most so many bytes, or has a fault of this
+/// A reader of sevens and a writer: each call moves at most this many bytes, or has a fault of this
 /// kind, and is counted.
 #[derive(Drop)]
 struct Counting {
@@ -95,7 +95,8 @@ impl Write for Counting {
     }
 }
 
-/// What one read into this buffer tells, and how often the reader was called; no fault came before.
+/// What one read into this buffer returns, and how often the reader was called; no fault came
+/// before.
 fn read_once(
     rt: &impl Abort,
     answer: Result<usize, ErrorKind>,
@@ -153,7 +154,7 @@ fn is_all(bytes: Option<&[u8]>, wanted: u8) -> bool {
     }
 }
 
-/// Whether a buffer has so many sevens, and zeros behind them.
+/// Whether a buffer has this many sevens, and zeros after them.
 fn is_filled(buf: &[u8], n: usize) -> bool {
     is_all(buf.get(..n), 7) && is_all(buf.get(n..), 0)
 }
@@ -168,7 +169,7 @@ fn reads_into(rt: &impl Abort, most: usize, room: usize, n: usize) {
     assert!(rt; is_filled(&buf, n));
 }
 
-/// A reader that gives its answers in order: a byte, an interruption, a byte, a failure.
+/// A reader that returns these in order: a byte, an interruption, a byte, a failure.
 #[derive(Drop)]
 struct InTurn(u8);
 
@@ -207,8 +208,8 @@ fn in_turn() -> FromRead<InTurn> {
     FromRead::new(InTurn(0))
 }
 
-/// What one write of these bytes tells, whether the sink has failed then, and how often the writer
-/// was called; no fault came before.
+/// What one write of these bytes returns, whether the sink has failed then, and how often the
+/// writer was called; no fault came before.
 fn write_once(
     rt: &impl Abort,
     answer: Result<usize, ErrorKind>,
@@ -254,7 +255,7 @@ fn writes_of(rt: &impl Abort, most: usize, len: usize, taken: Option<usize>) {
     writes(rt, Ok(most), &bytes[..len], taken);
 }
 
-/// No fault of a write is passed over.
+/// No fault of a write is skipped.
 #[test]
 fn failed_writes_are_told(rt: HostRuntime) {
     for kind in FAILURES {

@@ -1,4 +1,4 @@
-//! The devices of the tests do what they are told.
+//! The devices of the tests do what they are reported.
 use crate::frames::calls::{is, read, write};
 use ddcmp_frame::failing::{Pieces, Taken};
 use ddcmp_frame::{Got, Worst};
@@ -39,7 +39,7 @@ fn pieces_come_in_order(rt: HostRuntime) {
     );
 }
 
-/// A sink of eight bytes, and no more than `room`, that takes at most so many at a time; which
+/// A sink of eight bytes, and no more than `room`, that takes at most this many at a time; which
 /// write fails, 0 is none.
 fn sink_of(rt: &impl Abort, room: usize, most: usize, fails_at: usize) -> Taken<8> {
     assert!(rt; room <= 8 && 0 < most);

@@ -31,7 +31,7 @@ fn same_state(rt: &impl Abort, reader: &Reader, plain: &PlainReader) {
     is(rt, counts(reader), counts_plain(plain));
 }
 
-/// The same answers of every call after every byte.
+/// The same results of every call after every byte.
 fn same_by_bytes(rt: &impl Abort, alloc: Global, max: u16, text: &[u8]) -> Result<(), Fail> {
     let mut reader = reader_of(alloc, max)?;
     let mut plain = plain_of(alloc, max)?;
@@ -72,7 +72,7 @@ impl Both {
     }
 
     /// One reader takes bytes up to an item, and the plain one as many: how many. It gives the same
-    /// item, and their other answers are the same then.
+    /// item, and their other calls return the same then.
     fn takes_some(&mut self, rt: &impl Abort, rest: &[u8]) -> usize {
         let (used, item) = push_all(rt, &mut self.reader, rest);
         let wanted = item_of(rt, &mut self.plain, rest.get(..used).unwrap_or(&[]));
@@ -93,7 +93,7 @@ impl Both {
     }
 }
 
-/// The same items where one reader takes pieces of a length, and the same answers behind each item
+/// The same items if one reader takes pieces of a length, and the same results after each item
 /// and each piece.
 fn same_in_pieces(
     rt: &impl Abort,

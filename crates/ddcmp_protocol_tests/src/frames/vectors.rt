@@ -122,7 +122,7 @@ fn frame_in(out: &mut [u8; 20], header: &Header, data: &[u8]) -> usize
     write_frame(header, data, out)
 }
 
-/// A frame is written as these bytes, and nothing behind them.
+/// A frame is written as these bytes, and nothing after them.
 fn writes(rt: &impl Abort, header: &Header, data: &[u8], bytes: &[u8])
     requires frame { IsFrame header.now «data».now }
     requires room { frame_length header.now ≤ 20 }
@@ -338,7 +338,7 @@ fn control(kind: ControlType, flags: Flags) -> Result<Header, Fail> {
     Ok(Header::Control(short))
 }
 
-/// Data message 1 of so many bytes.
+/// Data message 1 of this many bytes.
 fn data_1(count: u16) -> Result<Header, Fail> {
     let fields = Counted::new(count, NO_FLAGS, 0, 1, 1).ok_or("no header")?;
     Ok(Header::Data(fields))

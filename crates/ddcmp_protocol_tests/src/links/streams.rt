@@ -55,7 +55,7 @@ impl End {
         }
     }
 
-    /// Takes a mail now and then: it is the next of the other end.
+    /// Takes a received message now and then: it is the next of the other end.
     fn take(&mut self, rt: &(impl Abort + AllocGlobal)) {
         if self.draw() % 3 != 0 {
             return;
@@ -96,7 +96,7 @@ fn carry(from: &mut End, to: &mut End) {
     from.link.sent(fed.used);
 }
 
-/// Both ends send so many messages.
+/// Both ends send this many messages.
 fn exchange(rt: &(impl Abort + AllocGlobal), window: u16, inbox: u16, total: u32) {
     let mut a = End::new(rt, window, inbox);
     let mut b = End::new(rt, window, inbox);
@@ -133,7 +133,7 @@ fn large_window(rt: HostRuntime) {
     exchange(&rt, 127, 3, 1000);
 }
 
-/// A link that begins anew in the middle of a frame.
+/// A link that restarts in the middle of a frame.
 #[test]
 fn begins_anew(rt: HostRuntime) {
     let mut a = End::new(&rt, 7, 8);

@@ -68,7 +68,7 @@ fn counted() -> &'static [u8] {
         turns=1 state=Running read=21 written=8\n"
 }
 
-/// A served station: what comes, what it sends, for how many turns and whether it begins anew; how
+/// A served station: what comes, what it sends, for how many turns and whether it restarts; how
 /// many bytes a write takes at most, and which read, write and write of the report fails, 0 is
 /// none.
 #[derive(Clone, Copy)]
@@ -128,7 +128,7 @@ struct Told {
     report: Taken<256>,
 }
 
-// By hand, so that an answer is let go by a call: a derived one is written out at each such place.
+// Manual, since a derived `Drop` is expanded wherever an answer is dropped.
 impl Drop for Told {
     fn drop(self) {
         let Told {
@@ -170,7 +170,7 @@ fn serves(rt: &(impl Abort + AllocGlobal), call: Call<'_>) -> Told {
     }
 }
 
-/// A call answers, reports and writes this.
+/// A call returns, reports and writes this.
 fn is_told(
     rt: &(impl Abort + AllocGlobal),
     call: Call<'_>,
@@ -204,7 +204,7 @@ fn mail_is_reported(rt: HostRuntime) {
     row(&rt, Call::of(&[], 0), &Ok(()), report, b"");
 }
 
-/// The counters stand in front of the last line, where they are asked for.
+/// The counters stand in front of the last line, if they are asked for.
 #[test]
 fn counters_are_reported(rt: HostRuntime) {
     let mut report = Taken::<1024>::new();
@@ -234,7 +234,7 @@ fn one_message_is_sent(rt: HostRuntime) {
     row(&rt, call, &Ok(()), report, strt_and_data());
 }
 
-/// The peer begins anew: the station halts, or begins anew itself.
+/// The peer restarts: the station halts, or restarts itself.
 #[test]
 fn a_restart_is_reported(rt: HostRuntime) {
     let came = [stack(), strt()];
@@ -268,8 +268,8 @@ fn keeps(rt: &(impl Abort + AllocGlobal), at: usize, kept: usize) {
     is(rt, Some(told.report.bytes()), reported().get(..kept));
 }
 
-/// Each line of the report is one write here. A report that failed is told when the turns are over,
-/// and has nothing after the write that failed.
+/// Each line of the report is one write here. A report that failed is reported when the turns are
+/// over, and has nothing after the write that failed.
 #[test]
 fn a_report_fails(rt: HostRuntime) {
     keeps(&rt, 1, 0);
@@ -291,7 +291,7 @@ fn answers(rt: &(impl Abort + AllocGlobal), fails_at: [usize; 3], fault: LineFau
     is(rt, &told.answer, &Err(ServeFault::Line(fault)));
 }
 
-/// A fault of the line is told, also where the report failed.
+/// A fault of the line is reported, also if the report failed.
 #[test]
 fn a_line_fails(rt: HostRuntime) {
     answers(&rt, [1, 0, 0], LineFault::Read);

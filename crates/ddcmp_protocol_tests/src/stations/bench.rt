@@ -9,7 +9,7 @@ use ddcmp_station::{
 use std::alloc::Global;
 use std::process::Abort;
 
-/// A call of a station, what it is given, and what it answers.
+/// A call of a station, what it is given, and what it returns.
 #[derive(Clone, Copy)]
 pub enum Row {
     Start(Result<u8, StartRefusal>),
@@ -18,9 +18,9 @@ pub enum Row {
     ClearLine(bool),
     Send(&'static [u8], Result<Seq, SendRefusal>),
     SendMaintenance(&'static [u8], Result<(), SendRefusal>),
-    /// A piece that comes, how many of its bytes are used, and what is told.
+    /// A piece that comes, how many of its bytes are used, and what is reported.
     Feed(&'static [u8], usize, Option<Notice>),
-    /// The next frame; no bytes where there is none.
+    /// The next frame; no bytes if there is none.
     Poll(&'static [u8]),
     /// The first message of the inbox, which leaves it.
     Take(&'static [u8]),
@@ -59,7 +59,7 @@ fn header() -> Header {
     })
 }
 
-/// Whether these bytes are at the front, and what was behind them stays.
+/// Whether these bytes are at the front, and what was after them stays.
 fn begins(out: &[u8], bytes: &[u8]) -> bool {
     out.starts_with(bytes) && out.get(bytes.len()) == Some(&0xAA)
 }
@@ -71,7 +71,7 @@ pub struct Bench {
     ghost syn: { station.syn ≤ 16 },
 }
 
-// By hand, so that a station is let go by a call: a derived one is written out at each such place.
+// Manual, since a derived `Drop` is expanded wherever a station is dropped.
 impl Drop for Bench {
     fn drop(self) {
         let Bench { station: _station } = self;
@@ -154,7 +154,7 @@ impl Bench {
         self.station.clear_line()
     }
 
-    /// What it makes of a piece; None where that is too long, or too much came before.
+    /// What it makes of a piece; None if that is too long, or too much came before.
     fn feed(&mut self, piece: &[u8]) -> Option<Fed> {
         if self.station.offset() >= 1000 || piece.len() >= 1000 {
             return None;
@@ -170,8 +170,8 @@ impl Bench {
         self.station.take(out)
     }
 
-    /// Copies the first message of the inbox, if there is one: its length as it is told, and as it
-    /// is copied.
+    /// Copies the first message of the inbox, if there is one: its length as it is reported, and as
+    /// it is copied.
     fn copy_first(&self, out: &mut [u8; 1500]) -> Option<(usize, usize)> {
         if self.station.waiting() == 0 {
             return None;
@@ -210,7 +210,7 @@ impl Bench {
         self.copy_first(&mut out) == Some((length, length)) && begins(&out, message)
     }
 
-    /// Whether the station tells what the row has.
+    /// Whether the station has what the row has.
     fn is_told(&self, row: Row) -> bool {
         match row {
             Row::Shows(message) => self.is_shown(message),

@@ -6,7 +6,7 @@ use std::process::Abort;
 const STACK: &[u8] = &[0x05, 0x07, 0xC0, 0x00, 0x00, 0x01, 0x48, 0x55];
 
 const STRT: &[u8] = &[0x05, 0x06, 0xC0, 0x00, 0x00, 0x01, 0x75, 0x95];
-/// STRT behind two bytes of fill.
+/// STRT after two bytes of fill.
 const FILLED_STRT: &[u8] = &[0x96, 0x96, 0x05, 0x06, 0xC0, 0x00, 0x00, 0x01, 0x75, 0x95];
 
 const ACK_0: &[u8] = &[0x05, 0x01, 0x00, 0x00, 0x00, 0x01, 0xFC, 0x55];
@@ -117,7 +117,7 @@ const KEPT: &[Row] = &[
     Row::DataNext,
     Row::Poll(DATA),
     Row::Numbers([0, 1, 0, 2]),
-    // The line is cleared where the station is halted, and not before.
+    // The line is cleared if the station is halted, and not before.
     Row::Feed(FRONT_OF_DATA, 5, None),
     Row::ClearLine(false),
     Row::Open(5),

@@ -28,7 +28,7 @@ fn makes(rt: &(impl Abort + AllocGlobal), config: Config) {
 /// Window, inbox, longest message and fill, and why no station has these sizes.
 type Sizes = (u16, u16, u16, u8, Option<ConfigRefusal>);
 
-/// What is told of sizes that are wrong in several ways, and stations of unusual sizes.
+/// What is reported of sizes that are wrong in several ways, and stations of unusual sizes.
 const TESTED_IN_ORDER: &[Sizes] = &[
     (0, 0, 0, 17, Some(ConfigRefusal::Window)),
     (7, 0, 0, 17, Some(ConfigRefusal::Inbox)),

@@ -5,7 +5,7 @@ ghost use Rattle.std.specs.Prelude.{◌≡◌, []};
 use ddcmp_window::{Inbox, Offer, Seq, Store};
 use std::process::Abort;
 
-/// A call of an inbox, what it is given, and what it answers.
+/// A call of an inbox, what it is given, and what it returns.
 #[derive(Clone, Copy)]
 enum Row {
     Offer(Seq, &'static [u8], Offer),
@@ -32,7 +32,7 @@ const IN_SEQUENCE: &[Row] = &[
     Row::Put(b"d", false),
     Row::Last(Seq(1)),
     Row::Bytes(2),
-    // It gives mail.
+    // It yields received messages.
     Row::Holds,
     Row::Len(1),
     Row::Length(0, 2),
@@ -42,7 +42,7 @@ const IN_SEQUENCE: &[Row] = &[
     Row::Take(None),
     Row::Offer(Seq(2), b"c", Offer::Accepted),
     Row::Last(Seq(2)),
-    // It begins anew.
+    // It restarts.
     Row::Reset,
     Row::Last(Seq(0)),
     Row::Put(b"e", true),
@@ -55,7 +55,7 @@ fn in_sequence() -> &'static [Row] {
     IN_SEQUENCE
 }
 
-/// Whether an inbox, or the buffer, tells what the row has.
+/// Whether an inbox, or the buffer, has what the row has.
 fn is_told<S: Store>(inbox: &Inbox<S>, out: &[u8; 4], row: Row) -> bool {
     match row {
         Row::Last(answer) => inbox.last() == answer,

@@ -5,7 +5,7 @@ ghost use Rattle.std.specs.Prelude.{◌≡◌, []};
 use ddcmp_window::{SendRefusal, Sender, Seq, Store};
 use std::process::Abort;
 
-/// A call of a sender, what it is given, and what it answers.
+/// A call of a sender, what it is given, and what it returns.
 #[derive(Clone, Copy)]
 enum Row {
     Refusal(&'static [u8], Option<SendRefusal>),
@@ -112,7 +112,7 @@ fn full() -> &'static [Row] {
     FULL
 }
 
-/// Whether a sender, or the buffer, tells what the row has.
+/// Whether a sender, or the buffer, has what the row has.
 fn is_told<S: Store>(sender: &Sender<S>, out: &[u8; 4], row: Row) -> bool {
     match row {
         Row::Refusal(message, answer) => sender.refusal(message) == answer,
@@ -146,7 +146,7 @@ fn is_done<S: Store>(sender: &mut Sender<S>, out: &mut [u8; 4], row: Row) -> boo
     }
 }
 
-/// The length of a message that leaves with no number; None where messages were sent.
+/// The length of a message that leaves with no number; None if messages were sent.
 fn pops<S: Store>(sender: &mut Sender<S>, out: &mut [u8; 4]) -> Option<Option<usize>>
     requires { sender.old.longest ≡ 4 }
     ensures { sender.new.longest ≡ sender.old.longest }

@@ -9,7 +9,7 @@ use std::alloc::Global;
 use std::process::Abort;
 use std::test::Fail;
 
-/// A call of a store, what it is given, and what it answers.
+/// A call of a store, what it is given, and what it returns.
 #[derive(Clone, Copy)]
 enum Row {
     Push(&'static [u8]),
@@ -54,7 +54,7 @@ fn in_order() -> &'static [Row] {
     IN_ORDER
 }
 
-/// Whether a store, or the buffer, tells what the row has.
+/// Whether a store, or the buffer, has what the row has.
 fn is_told<S: Store>(store: &S, out: &[u8; 4], row: Row) -> bool {
     match row {
         Row::Limit(answer) => store.limit() == answer,
@@ -77,7 +77,7 @@ fn is_pushed<S: Store>(store: &mut S, message: &[u8]) -> bool {
     true
 }
 
-/// Whether there are so many messages, which are removed.
+/// Whether there are this many messages, which are removed.
 fn is_dropped<S: Store>(store: &mut S, count: u8) -> bool {
     if store.len() < count {
         return false;
@@ -173,7 +173,7 @@ fn refused_memory_for_a_ring_is_told(rt: HostRuntime) {
     }
 }
 
-/// Where no memory is refused, a run under refusals answers as any other.
+/// If no memory is refused, a run under refusals returns what any other does.
 #[test]
 fn ample_memory_is_enough(rt: HostRuntime) {
     assert!(rt; SlotStore::new(rt.alloc(), 3, 4).is_ok());

@@ -4,11 +4,28 @@ use crate::session::Session;
 use crate::text;
 
 impl Session {
-    ghost use Rattle.std.specs.Prelude.{◌≡◌};
+    ghost use Rattle.std.specs.Prelude.{◌≡◌, true, length};
+    ghost use Rattle.ddcmp_core.specs.Table.{after_halt};
+    ghost use Rattle.ddcmp_station.specs.Linking.{with_state};
+    ghost use Rattle.ddcmp_session.specs.Session.{form_of};
+    ghost use Rattle.ddcmp_session.specs.Text.{Wrote, lost_text};
 
     /// Ends the run: halts the station. What was read of the input, and what was sent and isn't
     /// acknowledged, is lost.
-    pub fn close(&mut self, input: &[u8], input_is_at_end: bool) {
+    pub fn close(&mut self, input: &[u8], input_is_at_end: bool)
+        ensures link { self.new.link
+            ≡ with_state (after_halt self.old.link.station.core.station) self.old.link }
+        ensures wrote { Wrote (lost_text (form_of self.old.messages)
+            (length self.old.link.station.core.station.out)) self.old.output self.new.output }
+        ensures form { form_of self.new.messages ≡ form_of self.old.messages }
+        ensures stays { self.new ≡ record self.old {
+          link = self.new.link;
+          messages = self.new.messages;
+          is_read = true;
+          was_refused = self.new.was_refused;
+          output = self.new.output;
+        } }
+    {
         self.drop_input(input, input_is_at_end);
         let lost = self.link.lost();
         self.report_lost(lost);
@@ -30,11 +47,17 @@ impl Session {
         let counters = self.options.counters;
         match self.options.form {
             Form::Digits => text::write_end(&mut self.output, &self.link, counters),
-            Form::Binary => {
-                if let Some(lines) = self.errors.long_line(text::END_ROOM) {
-                    text::write_end(lines, &self.link, counters);
-                }
-            }
+            Form::Binary => self.report_end(counters),
+        }
+    }
+
+    /// Writes the last lines to standard error.
+    fn report_end(&mut self, counters: bool) {
+        if counters && let Some(lines) = self.errors.last_line(text::END_ROOM) {
+            text::write_counters_line(lines, &self.link);
+        }
+        if let Some(lines) = self.errors.last_line(text::END_ROOM) {
+            text::write_end(lines, &self.link, false);
         }
     }
 

@@ -19,7 +19,7 @@ impl Session {
     ghost use Rattle.std.specs.Prelude.{option_to_list};
     ghost use Rattle.ddcmp_session.specs.Messages.{entries_of_input};
     ghost use Rattle.ddcmp_session.specs.Session.{wants_input, after_typed, after_input_end};
-    ghost use Rattle.ddcmp_session.specs.Session.{after_entries, after_unfinished};
+    ghost use Rattle.ddcmp_session.specs.Session.{after_entries, after_unfinished, form_of};
 
     /// Whether bytes of the input are wanted: the station runs and takes a message.
     pub fn wants_input(&self) -> bool
@@ -76,6 +76,7 @@ impl Session {
                 self.count_entry();
                 let _sent = self.link.offer(self.messages.message());
             }
+            Some(Entry::NotHexadecimal) if self.messages.is_question() => self.report_counters(),
             Some(refused) => {
                 self.count_entry();
                 self.refuse(reason_of(refused));
@@ -91,7 +92,30 @@ impl Session {
 
     /// Takes what was read of the input after the run is over: its messages are lost, and a message
     /// whose end hasn't come is reported.
-    pub(super) fn drop_input(&mut self, bytes: &[u8], is_at_end: bool) {
+    pub(super) fn drop_input(&mut self, bytes: &[u8], is_at_end: bool)
+        ensures form { form_of self.new.messages ≡ form_of self.old.messages }
+        ensures stays { self.new ≡ record self.old {
+          messages = self.new.messages;
+          is_read = true;
+          was_refused = self.new.was_refused;
+        } }
+    {
+        self.drop_bytes(bytes);
+        if self.input_is_read {
+            return;
+        }
+        self.input_is_read = true;
+        self.drop_last(is_at_end);
+    }
+
+    /// Takes bytes of the input, of which all messages are lost.
+    fn drop_bytes(&mut self, bytes: &[u8])
+        ensures form { form_of self.new.messages ≡ form_of self.old.messages }
+        ensures stays { self.new ≡ record self.old {
+          messages = self.new.messages;
+          was_refused = self.new.was_refused;
+        } }
+    {
         let mut at = 0usize;
         for _part in 0..u64::MAX {
             let rest = bytes.get(at..).unwrap_or(&[]);
@@ -102,10 +126,16 @@ impl Session {
             at = at.saturating_add(pushed.used);
             self.drop_entry(pushed.entry);
         }
-        if self.input_is_read {
-            return;
-        }
-        self.input_is_read = true;
+    }
+
+    /// Takes the end of the input: a last message is lost, or reported if its end hasn't come.
+    fn drop_last(&mut self, is_at_end: bool)
+        ensures form { form_of self.new.messages ≡ form_of self.old.messages }
+        ensures stays { self.new ≡ record self.old {
+          messages = self.new.messages;
+          was_refused = self.new.was_refused;
+        } }
+    {
         match self.messages.end() {
             Some(_cut) if !is_at_end => self.refuse(UNFINISHED),
             entry => self.drop_entry(entry),
@@ -113,13 +143,16 @@ impl Session {
         self.refuse_unfinished();
     }
 
-    fn drop_entry(&mut self, entry: Option<Entry>) {
+    fn drop_entry(&mut self, entry: Option<Entry>)
+        ensures { self.new ≡ record self.old { was_refused = self.new.was_refused } }
+    {
         match entry {
             None => {}
             Some(Entry::Message) => {
                 self.count_entry();
                 self.lost = self.lost.saturating_add(1);
             }
+            Some(Entry::NotHexadecimal) if self.messages.is_question() => {}
             Some(refused) => {
                 self.count_entry();
                 self.refuse(reason_of(refused));

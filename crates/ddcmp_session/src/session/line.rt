@@ -171,11 +171,11 @@ impl Session {
         ensures { (n : ℕ) × (self.new
             ≡ record self.old { link = after_frames n self.old.link }) }
     {
-        if self.options.datagrams && !self.link.unsent().is_empty() {
+        if self.kind.is_of_datagrams() && !self.link.unsent().is_empty() {
             return;
         }
         while self.fill_one() {
-            if self.options.datagrams {
+            if self.kind.is_of_datagrams() {
                 break;
             }
         }

@@ -81,6 +81,25 @@ impl Session {
         }
     }
 
+    /// Reports why the line is down, unless all is delivered that was to be.
+    pub fn report_down<E: fmt::Display>(&mut self, reason: &E)
+        ensures { self.new ≡ self.old }
+    {
+        if self.is_delivered() && !self.stays() {
+            return;
+        }
+        if let Some(lines) = self.errors.line() {
+            let _is_whole = write!(lines, "line down: {reason}\n");
+        }
+    }
+
+    /// Reports all that the link has counted on standard error.
+    pub(super) fn report_counters(&mut self)
+        ensures { self.new ≡ self.old }
+    {
+        self.reports.write(&self.link, self.lost, &mut self.errors);
+    }
+
     /// Reports how many accepted messages were dropped, if any.
     #[tactic(auto, using(crate::proofs::TextLaws::nothing))]
     pub(super) fn report_lost(&mut self, lost: u8)

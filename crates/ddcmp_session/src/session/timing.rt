@@ -1,4 +1,5 @@
 //! The moments of a session.
+use crate::options::LineKind;
 use crate::retry::Retry;
 use crate::session::{End, Session};
 use ddcmp_io::Page;
@@ -14,11 +15,44 @@ impl Session {
         1000 * self.options.seconds as u64
     }
 
+    /// Has each line for standard error begin with the time of day, if that is asked for. The
+    /// moment 0 is so many milliseconds after 1970.
+    pub fn began_at(&mut self, milliseconds: u64)
+        ensures { self.new ≡ self.old }
+    {
+        if self.options.clock {
+            self.errors.show_time(milliseconds);
+        }
+    }
+
+    /// Takes note of the moment, and writes a report if one is due. Call it while there is no line.
+    pub fn pass_time(&mut self, now: u64)
+        ensures { self.new ≡ self.old }
+    {
+        self.moment = now;
+        self.errors.pass_time(now);
+        if self.reports.falls_due(now) {
+            self.report_counters();
+        }
+    }
+
+    /// Returns the moment in milliseconds when a wait without a line is to end at the latest, after
+    /// this moment: when the line is to be opened, a report is due, or the run ends.
+    pub fn wakes_without_line_at(&self, now: u64) -> u64 {
+        let first = self.run_ends_at().min(self.reports.due_at());
+        let opens_at = self.retry.opens_at();
+        if now < opens_at {
+            first.min(opens_at)
+        } else {
+            first
+        }
+    }
+
     /// Handles all timers that have expired at this moment.
     pub fn handle_timeout(&mut self, now: u64)
         ensures { self.new ≡ record self.old { link = after_wake now self.old.link } }
     {
-        self.moment = now;
+        self.pass_time(now);
         self.pacing.wake(now);
         let has_expired = self.link.wake(now);
         if has_expired && !self.awaits_peer() {
@@ -40,7 +74,8 @@ impl Session {
     {
         let timer = self.link.deadline().unwrap_or(u64::MAX);
         let pause = self.pacing.until().unwrap_or(u64::MAX);
-        let first = self.run_ends_at().min(timer).min(pause);
+        let report = self.reports.due_at();
+        let first = self.run_ends_at().min(timer).min(pause).min(report);
         if self.is_delivered() && !self.stays() {
             return first.min(self.lingers_until());
         }
@@ -75,7 +110,7 @@ impl Session {
 
     /// Whether a peer isn't there yet: on a line that is no connection it may begin at any time.
     fn awaits_peer(&self) -> bool {
-        !self.options.connects && !self.peer_has_started
+        !self.kind.is_connection() && !self.peer_has_started
     }
 
     fn is_given_up(&self) -> bool {
@@ -96,7 +131,7 @@ impl Session {
         }
     }
 
-    fn is_delivered(&self) -> bool
+    pub(super) fn is_delivered(&self) -> bool
         ensures { result ≡ is_delivered self.now }
     {
         self.input_is_read && self.link.is_delivered()
@@ -104,14 +139,14 @@ impl Session {
 
     /// Whether it goes on once all of the input was delivered: so does whoever listens and has no
     /// input.
-    fn stays(&self) -> bool {
+    pub(super) fn stays(&self) -> bool {
         let had_input = self.link.totals().sent > 0 || self.was_refused;
-        self.options.stay || self.options.listens && !had_input
+        self.options.stay || self.kind == LineKind::Listen && !had_input
     }
 
     /// Whether a line that has ended is opened again.
     pub fn reopens(&self) -> bool {
-        self.options.again || self.options.listens && !self.peer_has_started
+        self.options.again || self.kind == LineKind::Listen && !self.peer_has_started
     }
 
     /// Whether a line that can't be opened is tried again.
@@ -129,6 +164,7 @@ impl Session {
     pub fn open_failed(&mut self, now: u64) -> u64
         ensures { self.new ≡ self.old }
     {
+        self.pass_time(now);
         self.retry.grow(now)
     }
 
@@ -137,11 +173,12 @@ impl Session {
     pub fn pause_after_line(&mut self, now: u64) -> Option<u64>
         ensures { self.new ≡ self.old }
     {
+        self.pass_time(now);
         if self.has_run_here {
             self.retry = Retry::at_once();
             return None;
         }
-        if self.options.listens {
+        if self.kind == LineKind::Listen {
             return None;
         }
         Some(self.retry.grow(now))

@@ -3,7 +3,7 @@ ghost use Rattle.std.specs.Prelude.{◌≡◌, false};
 
 use ddcmp_line::{Carrier, End, LineFault};
 
-/// Gives at most so many bytes, the first changed by exclusive or, and fails at one carry.
+/// Gives at most this many bytes, the first changed by exclusive or, and fails at one carry.
 pub struct Bad {
     most: usize,
     by: u8,
@@ -12,7 +12,7 @@ pub struct Bad {
     broken: bool,
 }
 
-// By hand, so that a carrier is let go by a call: a derived one is written out at each such place.
+// Manual, since a derived `Drop` is expanded wherever a carrier is dropped.
 impl Drop for Bad {
     fn drop(self) {
         let Bad {

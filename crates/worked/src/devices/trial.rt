@@ -27,7 +27,7 @@ struct Told {
     writer: Taken<512>,
 }
 
-// By hand, so that an answer is let go by a call: a derived one is written out at each such place.
+// Manual, since a derived `Drop` is expanded wherever an answer is dropped.
 impl Drop for Told {
     fn drop(self) {
         let Told {
@@ -77,7 +77,7 @@ fn plays(alloc: Global, pair: &mut Pair, lines: &str, trial: Trial) -> Option<To
     Some(Told { answer, writer })
 }
 
-/// Tries the script as a line says, and tells what it wrote and its answer.
+/// Tries the script as a line says, and returns what it wrote and its answer.
 pub fn perform(rt: &HostRuntime, lines: &str, line: &str) -> io::Result<()> {
     let Some(trial) = trial_of(line) else {
         return println!(rt; "no trial");

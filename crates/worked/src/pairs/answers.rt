@@ -1,4 +1,4 @@
-//! What is answered, as text.
+//! Replies, as text.
 use ddcmp_pair::{Memory, Recovered, Reply, Settled, Station};
 use std::io;
 

@@ -4,7 +4,7 @@ use crate::pairs::table::{LONGEST, Table};
 use ddcmp_pair::{End, Event};
 use std::io;
 
-/// Does what a word says, and tells what is answered.
+/// Does what a word says, and returns what is answered.
 pub fn perform(rt: &HostRuntime, table: &mut Table, word: &str) -> io::Result<()> {
     match word {
         "clear" => answers::replied(rt, table.step(Event::Clear)),
@@ -19,7 +19,8 @@ pub fn perform(rt: &HostRuntime, table: &mut Table, word: &str) -> io::Result<()
     }
 }
 
-/// The messages that each end accepted, those handed up at it, and how many it told acknowledged.
+/// The messages that each end accepted, those delivered at it, and how many it reported
+/// acknowledged.
 fn histories(rt: &HostRuntime, table: &Table) -> io::Result<()> {
     for end in [End::A, End::B] {
         println!(rt; "{end:?} acknowledged={}", table.acknowledged(end))?;

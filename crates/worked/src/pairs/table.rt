@@ -11,7 +11,7 @@ pub struct Table {
     pair: Pair,
 }
 
-// By hand, so that a pair is let go by a call: a derived one is written out at each such place.
+// Manual, since a derived `Drop` is expanded wherever a pair is dropped.
 impl Drop for Table {
     fn drop(self) {
         let Table { pair: _pair } = self;
@@ -66,7 +66,7 @@ impl Table {
         self.pair.acknowledged(end)
     }
 
-    /// Message `i` of those that an end accepted, if there are so many.
+    /// Message `i` of those that an end accepted, if there are this many.
     pub fn given_at(&self, end: End, i: usize) -> Option<&[u8]> {
         if i < self.pair.given(end) {
             Some(self.pair.given_at(end, i))
@@ -75,7 +75,7 @@ impl Table {
         }
     }
 
-    /// Message `i` of those handed up at an end, in `out`, if there are so many.
+    /// Message `i` of those delivered at an end, in `out`, if there are this many.
     pub fn handed_up_at<'a>(
         &self,
         end: End,

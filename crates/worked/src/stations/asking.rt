@@ -1,4 +1,4 @@
-//! What a station is asked, and what it answers.
+//! What a station is asked, and what it returns.
 use ddcmp_station::Station;
 use std::io;
 use test_kit::bytes_of;
@@ -12,7 +12,7 @@ pub fn perform(rt: &HostRuntime, station: &mut Station, word: &str) -> io::Resul
     }
 }
 
-/// Tells what a word asks for, and changes nothing.
+/// Returns what a word asks for, and changes nothing.
 fn tell(rt: &HostRuntime, station: &Station, word: &str) -> io::Result<()> {
     match word {
         "outgoing" => println!(rt; "{}", station.outgoing()),
@@ -22,7 +22,7 @@ fn tell(rt: &HostRuntime, station: &Station, word: &str) -> io::Result<()> {
     }
 }
 
-/// Tells what was counted.
+/// Returns what was counted.
 fn count(rt: &HostRuntime, station: &Station, word: &str) -> io::Result<()> {
     let counters = *station.counters();
     match word {
@@ -50,7 +50,7 @@ pub fn with_bytes(
     }
 }
 
-/// Tells how many bytes it used.
+/// Returns how many bytes it used.
 fn feed(rt: &HostRuntime, station: &mut Station, piece: &[u8]) -> io::Result<()> {
     if station.offset() >= 1_000_000 || piece.len() >= 1_000_000 {
         return println!(rt; "too many bytes");

@@ -76,7 +76,7 @@ fn drives<'a>(
     })
 }
 
-/// Makes the call of a line, and tells what came of it.
+/// Makes the call of a line, and returns what came of it.
 pub fn perform(rt: &HostRuntime, station: &mut Station, rest: &str) -> io::Result<()> {
     match performed(rt, station, rest)? {
         Some(()) => println!(rt; "{:?}", station.state()),

@@ -1,6 +1,11 @@
+use Rattle.std.proofs.Common.{ap, sym, inr, ◌∙◌, false, None}
+use Rattle.std.specs.Io.KnownBytes.{Appends}
 use Rattle.ddcmp_io.specs.Change.{source_change}
+use Rattle.ddcmp_io.specs.Written.{AppendsPart}
+use Rattle.ddcmp_cli.specs.declared.ending.Ending.TheVariants.{Fault as Faulted}
+use Rattle.ddcmp_cli.specs.Endings.{ending_of, script_fault}
 use Rattle.ddcmp_script_text.specs.declared.script_fault.ScriptFault.TheVariants.{Carrier}
-use Rattle.ddcmp_cli.proofs.ScriptLaws.{tells, told-back}
+use Rattle.ddcmp_cli.proofs.ScriptLaws.{tells, told-back, untold}
 use Rattle.ddcmp_cli.proofs.script_command.draw_over.Goals as goal
 
 pub returns-clause-devices : goal.returns-clause-devices
@@ -14,3 +19,27 @@ pub returns-clause-carried : goal.returns-clause-carried
 returns-clause-carried g c =
     λ h. c.draw.ensures.carried
     (told-back c.draw.result c.in-Err.fault Carrier c.from.result c.in-Err.is c.from.ensures h)
+
+pub returns-in-Ok-draw-clause-draws : goal.returns-in-Ok-draw-clause-draws
+returns-in-Ok-draw-clause-draws g c = λ input e. inr (
+  c.draw.result,
+  c.draw.new.pair,
+  sym (ap (ending_of script_fault) c.in-Ok-draw.is),
+  untold false input _ _ c.draw.new.pair (g.C.Carrier.direct c.args.carrier.now)
+      (g.C.Carrier.told c.args.carrier.now) (g.C.Carrier.told c.draw.new.carrier)
+      (Appends None None) (AppendsPart None None) c.draw.result c.in-Ok.ensures.made
+      (c.requires.silent c.args.carrier.now) (c.requires.silent c.draw.new.carrier)
+      (c.draw.ensures.draws input e),
+)
+
+pub returns-clause-draws : goal.returns-clause-draws
+returns-clause-draws g c = λ input e. inr (
+  c.draw.result,
+  c.draw.new.pair,
+  ap Faulted c.from.ensures ∙ sym (ap (ending_of script_fault) c.in-Err.is),
+  untold false input _ _ c.draw.new.pair (g.C.Carrier.direct c.args.carrier.now)
+      (g.C.Carrier.told c.args.carrier.now) (g.C.Carrier.told c.draw.new.carrier)
+      (Appends None None) (AppendsPart None None) c.draw.result c.in-Ok.ensures.made
+      (c.requires.silent c.args.carrier.now) (c.requires.silent c.draw.new.carrier)
+      (c.draw.ensures.draws input e),
+)

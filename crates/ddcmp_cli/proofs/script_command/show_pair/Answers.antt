@@ -1,5 +1,6 @@
 use Rattle.std.proofs.Common.{◌≡◌, false, true, inr}
-use Rattle.ddcmp_cli.specs.Endings.{Pairs, PlaysBetween, is_refusal, Untouched, streams}
+use Rattle.ddcmp_cli.specs.Endings.{DrawsBetween, DrawsPaired, Pairs, PlaysBetween, is_refusal}
+use Rattle.ddcmp_cli.specs.Endings.{Untouched, streams}
 use Rattle.ddcmp_cli.proofs.ScriptLaws.{shows-as}
 use borrow.Author.Rules.{rules}
 use Rattle.ddcmp_cli.proofs.script_command.show_pair.Goals as goal
@@ -11,9 +12,11 @@ returns-clause-shows g c = λ input e.
     (g.W.Sink.contents c.show_over.new.writer) in
     let view = c.args.view in
     shows-as view.svg view.ladder ((is_refusal c.show_over.result ≡ true) × Untouched s)
+    (DrawsBetween false c.args.config s c.show_over.result)
+    (DrawsPaired c.args.config s c.show_over.result)
     (PlaysBetween false c.args.config view.counters s c.show_over.result)
     (Pairs c.args.config view.counters s c.show_over.result)
-    (λ plays. inr plays) (c.show_over.ensures.shows input e)
+    (λ draws. inr draws) (λ plays. inr plays) (c.show_over.ensures.shows input e)
 
 pub returns-then-view-2-clause-shows : goal.returns-then-view-2-clause-shows
 returns-then-view-2-clause-shows g c = search rules

@@ -1,5 +1,6 @@
 use Rattle.std.proofs.Common.{◌≡◌, rules, true}
-use Rattle.ddcmp_cli.specs.Endings.{PlaysBetween, Simulates, is_refusal, Untouched, streams}
+use Rattle.ddcmp_cli.specs.Endings.{DrawsBetween, DrawsSimulated, PlaysBetween, Simulates, is_refusal}
+use Rattle.ddcmp_cli.specs.Endings.{Untouched, streams}
 use Rattle.ddcmp_cli.proofs.ScriptLaws.{shows-as}
 use Rattle.ddcmp_cli.proofs.script_command.show_simulation.Goals as goal
 
@@ -10,6 +11,8 @@ returns-clause-shows g c = λ input e.
     (g.W.Sink.contents c.show_over.new.writer) in
     let view = c.args.view in
     shows-as view.svg view.ladder ((is_refusal c.show_over.result ≡ true) × Untouched s)
+    (DrawsBetween true c.args.config s c.show_over.result)
+    (DrawsSimulated c.args.config s c.show_over.result)
     (PlaysBetween true c.args.config view.counters s c.show_over.result)
     (Simulates c.args.config view.counters s c.show_over.result)
-    (λ plays. (plays, search rules)) (c.show_over.ensures.shows input e)
+    (λ draws. (draws, search rules)) (λ plays. (plays, search rules)) (c.show_over.ensures.shows input e)

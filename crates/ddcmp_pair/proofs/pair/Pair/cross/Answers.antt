@@ -61,7 +61,8 @@ returns-in_err-take_mail-clause-memory g c =
     let some = polled-some from p bytes (sym c.in_ok-bytes.ensures.reply ∙ c.in-Wrote.is) in
     let arrived =
     c.in_ok-_notices.ensures.state refl
-    ∙ ap (λ (e : End). after_event (event.Arrive e bytes) c.step_watched.new.self) c.other-to.ensures in
+    ∙ ap (λ (e : End). after_event (event.Arrive e bytes) c.step_watched.new.self)
+    c.other-to.ensures in
     let carried =
     run-carried from bytes p c.step_watched.new.self c.step_watched-2.new.self
     (c.in_ok-bytes.ensures.state refl) arrived in
@@ -84,7 +85,8 @@ returns-clause-state g c = λ ok.
     let some = polled-some from p bytes (sym c.in_ok-bytes.ensures.reply ∙ c.in-Wrote.is) in
     let arrived =
     c.in_ok-_notices.ensures.state refl
-    ∙ ap (λ (e : End). after_event (event.Arrive e bytes) c.step_watched.new.self) c.other-to.ensures in
+    ∙ ap (λ (e : End). after_event (event.Arrive e bytes) c.step_watched.new.self)
+    c.other-to.ensures in
     let through =
     run-carried from bytes p c.step_watched.new.self c.step_watched-2.new.self
     (c.in_ok-bytes.ensures.state refl) arrived in

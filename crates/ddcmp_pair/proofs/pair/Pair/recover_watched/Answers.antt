@@ -11,7 +11,8 @@ use Rattle.ddcmp_pair.proofs.pair.Pair.recover_watched.Goals as goal
 
 pub returns-in_err-first-clause-memory : goal.returns-in_err-first-clause-memory
 returns-in_err-first-clause-memory g c =
-    on-err _ (wanted-in-first c.args.self.now c.settle_watched.new.self c.in_err-first.ensures.memory)
+    on-err _
+    (wanted-in-first c.args.self.now c.settle_watched.new.self c.in_err-first.ensures.memory)
 
 pub returns-in_err-second-clause-memory : goal.returns-in_err-second-clause-memory
 returns-in_err-second-clause-memory g c =
@@ -22,13 +23,15 @@ returns-in_err-second-clause-memory g c =
 pub returns-in_err-third-clause-memory : goal.returns-in_err-third-clause-memory
 returns-in_err-third-clause-memory g c =
     on-err _
-    (wanted-in-third c.args.self.now c.settle_watched.new.self c.round_watched.new.self c.round_watched-2.new.self
+    (wanted-in-third c.args.self.now c.settle_watched.new.self c.round_watched.new.self
+    c.round_watched-2.new.self
     (c.in_ok-first.ensures.state refl) (c.in_ok-second.ensures.state refl)
     c.in_err-third.ensures.memory)
 
 pub returns-clause-state : goal.returns-clause-state
 returns-clause-state g c = λ ok.
-    recovered-is c.args.self.now c.settle_watched.new.self c.round_watched.new.self c.round_watched-2.new.self
+    recovered-is c.args.self.now c.settle_watched.new.self c.round_watched.new.self
+    c.round_watched-2.new.self
     (c.in_ok-first.ensures.state refl) (c.in_ok-second.ensures.state refl)
     (c.in_ok-third.ensures.state refl)
 
@@ -48,7 +51,8 @@ returns-clause-quiet g c =
     c.in_ok-first.ensures.quiet c.in_ok-second.ensures.quiet c.in_ok-third.ensures.quiet
 
 pub returns-clause-repaired : goal.returns-clause-repaired
-returns-clause-repaired g c = λ ready. returns-clause-quiet g c ∙ (c.is_repaired.ensures ready).quiet
+returns-clause-repaired g c = λ ready. returns-clause-quiet g c
+    ∙ (c.is_repaired.ensures ready).quiet
 
 pub returns-clause-within : goal.returns-clause-within
 returns-clause-within g c = λ ready.

@@ -26,7 +26,8 @@ pub returns-clause-state : goal.returns-clause-state
 returns-clause-state g c = λ ok.
     let p = c.args.self.now in
     let e =
-    both-expired p c.step_watched.new.self c.step_watched-2.new.self (c.in_ok-_first.ensures.state refl)
+    both-expired p c.step_watched.new.self c.step_watched-2.new.self
+    (c.in_ok-_first.ensures.state refl)
     (c.in_ok-_second.ensures.state refl) in
     c.settle_watched.ensures.state ok ∙ ap (λ (q : PairState). settled q) e ∙ sym (rounded-is p)
 
@@ -34,7 +35,8 @@ pub returns-clause-exchanges : goal.returns-clause-exchanges
 returns-clause-exchanges g c =
     let p = c.args.self.now in
     let e =
-    both-expired p c.step_watched.new.self c.step_watched-2.new.self (c.in_ok-_first.ensures.state refl)
+    both-expired p c.step_watched.new.self c.step_watched-2.new.self
+    (c.in_ok-_first.ensures.state refl)
     (c.in_ok-_second.ensures.state refl) in
     subst (λ (n : ℕ). IfOk c.settle_watched.result (λ s. s.exchanges ≡ n))
     (ap (λ (q : PairState). (settling q).exchanges) e ∙ sym (rounding-exchanges p))
@@ -44,7 +46,8 @@ pub returns-clause-quiet : goal.returns-clause-quiet
 returns-clause-quiet g c =
     let p = c.args.self.now in
     let e =
-    both-expired p c.step_watched.new.self c.step_watched-2.new.self (c.in_ok-_first.ensures.state refl)
+    both-expired p c.step_watched.new.self c.step_watched-2.new.self
+    (c.in_ok-_first.ensures.state refl)
     (c.in_ok-_second.ensures.state refl) in
     subst (λ (b : Bool). IfOk c.settle_watched.result (λ s. s.quiet ≡ b))
     (ap (λ (q : PairState). (settling q).quiet) e ∙ sym (rounding-quiet p))
@@ -54,7 +57,8 @@ pub returns-clause-memory : goal.returns-clause-memory
 returns-clause-memory g c =
     let p = c.args.self.now in
     let e =
-    both-expired p c.step_watched.new.self c.step_watched-2.new.self (c.in_ok-_first.ensures.state refl)
+    both-expired p c.step_watched.new.self c.step_watched-2.new.self
+    (c.in_ok-_first.ensures.state refl)
     (c.in_ok-_second.ensures.state refl) in
     on-err-by c.settle_watched.result
     (λ s. wanted-in-round p c.settle_watched.new.self

@@ -2,7 +2,7 @@ use Rattle.std.proofs.Common.{◌≡◌, ◌∙◌, ap, sym, subst, take}
 use Rattle.std.proofs.lemmas.List.{with_items_is}
 use Rattle.ddcmp_session.specs.Session.{form_of}
 use Rattle.ddcmp_session.specs.Text.{Wrote, mail_text}
-use Rattle.ddcmp_session.proofs.DeliverLaws.{delivers}
+use Rattle.ddcmp_session.proofs.DeliverLaws.{delivers, takes-nothing}
 use Rattle.ddcmp_session.proofs.session.Session.deliver.Goals as goal
 
 pub returns-in-Some-clause-wrote : goal.returns-in-Some-clause-wrote
@@ -19,3 +19,9 @@ returns-in-Some-clause-wrote c =
     (subst (λ form. Wrote (mail_text form (take c.in-Some.n c.deref.result.now))
     c.settle.new.self c.write_mail.new.out) c.self.invariant.0
     (record { whole = c.write_mail.ensures.whole })))
+
+pub returns-in-None-clause-link : goal.returns-in-None-clause-link
+returns-in-None-clause-link c =
+    rw (sym c.self.view_is)
+    (c.take.ensures.state
+    ∙ takes-nothing c.self.inside.link (sym c.in-None.is ∙ c.take.ensures.length))

@@ -17,7 +17,7 @@ returns-after-loop-self c =
     puts-then c.args.self.now c.loop-self.self c.fill_one.new.self c.loop-self.invariant
     c.fill_one.ensures.state
 
-pub returns-then-self-2 : goal.returns-then-self-2
-returns-then-self-2 c =
+pub returns-then-is_of_datagrams-2 : goal.returns-then-is_of_datagrams-2
+returns-then-is_of_datagrams-2 c =
     puts-then c.args.self.now c.loop-self.self c.fill_one.new.self c.loop-self.invariant
     c.fill_one.ensures.state

@@ -1,0 +1,41 @@
+# completion/generate made this file from the texts of `ddcmp COMMAND --help`.
+_ddcmp() {
+  local word=${COMP_WORDS[COMP_CWORD]} before=${COMP_WORDS[COMP_CWORD - 1]} words='' files=''
+  local command=${COMP_WORDS[1]}
+  [ "$COMP_CWORD" -gt 1 ] || command=
+  # A colon is a word of its own for bash.
+  if [ "$word" = : ]; then
+    word='' command=$before before=:
+  elif [ "$before" = : ]; then
+    command=${COMP_WORDS[COMP_CWORD - 2]}
+  fi
+  case $command:$before in
+    device::) files=yes ;;
+    *::) ;;
+    :*) words='explain simulate pair station tap link help -h --help -V --version' ;;
+    help:help) words='explain simulate pair station tap link' ;;
+    explain:--max) ;;
+    explain:--from) words='hexdump' ;;
+    explain:*) words='--raw --from --json --discarded --max -h --help' files=yes ;;
+    simulate:--window | simulate:--inbox | simulate:--max | simulate:--syn) ;;
+    simulate:*) words='--window --inbox --max --syn --restart --svg --ladder --counters -h --help' ;;
+    pair:--window | pair:--inbox | pair:--max | pair:--syn) ;;
+    pair:*) words='--window --inbox --max --syn --restart --svg --ladder --counters -h --help' ;;
+    station:--addr | station:--turns | station:--timer-ms | station:--send) ;;
+    station:--role) words='connect listen' ;;
+    station:*) words='--role --addr --turns --timer-ms --send --restart --counters -h --help' ;;
+    tap:--listen | tap:--connect | tap:--max) ;;
+    tap:*) words='--listen --connect --json --ladder --time --max -h --help' ;;
+    link:--window | link:--inbox | link:--max | link:--syn | link:--timer-ms | link:--attempts | link:--linger-ms | link:--seconds | link:--report) ;;
+    link:--line) words='connect: listen: udp: device:' ;;
+    link:*) words='--line --window --inbox --max --syn --restart --timer-ms --attempts --linger-ms --seconds --report --binary --stay --again --counters --trace --clock --json -h --help' ;;
+  esac
+  mapfile -t COMPREPLY < <(compgen -W "$words" -- "$word")
+  if [ -n "$files" ] && [[ $word != -* ]]; then
+    mapfile -t -O ${#COMPREPLY[@]} COMPREPLY < <(compgen -f -- "$word")
+    compopt -o filenames 2> /dev/null
+  fi
+  [[ ${COMPREPLY[*]} != *: ]] || compopt -o nospace 2> /dev/null
+  return 0
+}
+complete -F _ddcmp ddcmp

@@ -1,0 +1,14 @@
+use Rattle.ddcmp_callers.proofs.LinkRestarts.{anew-to-b, anew-to-a, again-a, again-b}
+use Rattle.ddcmp_callers.proofs.link_restarts.links_begin_anew.Goals as goal
+
+pub returns-clause-to_b : goal.returns-clause-to_b
+returns-clause-to_b c = anew-to-b
+
+pub returns-clause-to_a : goal.returns-clause-to_a
+returns-clause-to_a c = anew-to-a
+
+pub returns-clause-again_a : goal.returns-clause-again_a
+returns-clause-again_a c = again-a
+
+pub returns-clause-again_b : goal.returns-clause-again_b
+returns-clause-again_b c = again-b

@@ -1,5 +1,0 @@
-use Rattle.ddcmp_core.proofs.ToldLaws.{told_and_left}
-use Rattle.ddcmp_core.proofs.laws.tells_what_leaves.Goals as goal
-
-pub returns : goal.returns
-returns c = told_and_left

@@ -1,8 +1,0 @@
-use Rattle.ddcmp_laws.proofs.StationLaws.{restarting, halting}
-use Rattle.ddcmp_laws.proofs.station.tells_of_each_strt.Goals as goal
-
-pub returns-clause-restarts : goal.returns-clause-restarts
-returns-clause-restarts c = restarting
-
-pub returns-clause-halts : goal.returns-clause-halts
-returns-clause-halts c = halting

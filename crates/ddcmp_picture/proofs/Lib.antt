@@ -1,0 +1,4 @@
+pub mod ShortTextLaws
+pub mod LabelLaws
+pub mod NoteLaws
+pub mod EndLaws

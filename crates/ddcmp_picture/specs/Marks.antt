@@ -1,0 +1,303 @@
+-- The marks that the steps of a run put into a picture.
+use Rattle.std.specs.Prelude.{ℕ, Bool, true, false, ◌||◌, ◌==◌, if◌then◌else◌, nat_lt, List, []}
+use Rattle.std.specs.Prelude.{◌∷◌}
+use Rattle.std.specs.Prelude.{◌++◌, length, map, drop, min, codes, decimal, Option, Some, None}
+use Rattle.ddcmp_core.specs.Table.{StationState}
+use Rattle.ddcmp_core.specs.declared.notice.Notice.{Notice}
+use Rattle.ddcmp_core.specs.declared.notice.Notice.TheVariants as notice
+use Rattle.ddcmp_core.specs.declared.state.State.{State}
+use Rattle.ddcmp_core.specs.declared.state.State.TheVariants.{Halted, IStart, AStart, Running}
+use Rattle.ddcmp_core.specs.declared.state.State.TheVariants.{Maintenance}
+use Rattle.ddcmp_run.specs.Run.{PairState, at}
+use Rattle.ddcmp_run.specs.Settle.{other}
+use Rattle.ddcmp_run.specs.declared.event.End.{End}
+use Rattle.ddcmp_run.specs.declared.event.End.TheVariants.{A, B}
+use Rattle.ddcmp_run.specs.declared.event.Event.{Event}
+use Rattle.ddcmp_run.specs.declared.event.Event.TheVariants as event
+use Rattle.ddcmp_run.specs.declared.event.Reply.{Reply}
+use Rattle.ddcmp_run.specs.declared.event.Reply.TheVariants as reply
+use Rattle.ddcmp_script_text.specs.ScriptText.{damage_text}
+use Rattle.ddcmp_script_text.specs.declared.command.ScriptCommand.{ScriptCommand}
+use Rattle.ddcmp_script_text.specs.declared.command.ScriptCommand.TheVariants.{Happens, Carry, Lose}
+use Rattle.ddcmp_script_text.specs.declared.command.ScriptCommand.TheVariants.{Damage, Raw, Settle}
+use Rattle.ddcmp_script_text.specs.declared.command.ScriptCommand.TheVariants.{Recover}
+use Rattle.ddcmp_script_text.specs.declared.command.ScriptCommand.TheVariants.{State as StateOf}
+use Rattle.ddcmp_station_text.specs.StationText.{state_text}
+use Rattle.ddcmp_picture.specs.declared.asked.Asked.{Asked}
+use Rattle.ddcmp_picture.specs.declared.asked.Asked.TheVariants as asked
+use Rattle.ddcmp_picture.specs.declared.mark.Fate.{Fate}
+use Rattle.ddcmp_picture.specs.declared.mark.Fate.TheVariants.{Arrived, Cut, Lost}
+use Rattle.ddcmp_picture.specs.declared.mark.Mark.{Mark}
+use Rattle.ddcmp_picture.specs.declared.mark.Mark.TheVariants.{Note, Across, Departs, Ends, Appears}
+use Rattle.ddcmp_picture.specs.declared.mark.Trip.{Trip}
+use Rattle.ddcmp_picture.specs.declared.states.States.{States}
+use Rattle.ddcmp_picture.specs.declared.short_text.ShortText.{ShortText}
+use Rattle.ddcmp_picture.specs.Labels.{words, label_of, line_of, notice_label, reply_label}
+use Rattle.ddcmp_picture.specs.Labels.{numbers_label, holding_label}
+use Rattle.ddcmp_picture.specs.ShortTexts.{with_text, bytes_shown}
+use Rattle.ddcmp_picture.specs.Trips.{Trips, no_trips, trips_of, with_trips, with_first, rest_of}
+use Rattle.ddcmp_picture.specs.Trips.{damaged_by}
+
+-- ---- states
+
+abbrev pub same_state : State → State → Bool
+same_state Halted Halted = true
+same_state IStart IStart = true
+same_state AStart AStart = true
+same_state Running Running = true
+same_state Maintenance Maintenance = true
+same_state _ _ = false
+
+-- a notice says that this is the state now
+abbrev pub names_state : Notice → State → Bool
+names_state notice.Running Running = true
+names_state notice.RunningAndHandedUp Running = true
+names_state notice.MaintenanceSeen Maintenance = true
+names_state notice.MaintenanceHandedUp Maintenance = true
+names_state notice.MaintenanceDropped Maintenance = true
+names_state _ _ = false
+
+unfoldable pub name_state : List Notice → State → Bool
+name_state [] now = false
+name_state (it ∷ rest) now = names_state it now || name_state rest now
+
+abbrev pub state_of : End → PairState → State
+state_of e p = (at e p).core.station.state
+
+-- the states of both ends
+abbrev pub states_in : PairState → States
+states_in p = record { a = p.a.core.station.state; b = p.b.core.station.state }
+
+abbrev pub state_at : End → States → State
+state_at A states = states.a
+state_at B states = states.b
+
+-- ---- notes
+
+-- what was replied at an end, and its state if that is another
+abbrev pub answer_label : ShortText → State → State → ShortText
+answer_label text before now =
+    if same_state before now then text
+    else with_text (with_text text (codes ", now ")) (state_text now)
+
+-- the notices of an arrival: the first is in its row
+unfoldable pub notice_marks : End → Bool → List Notice → List Mark
+notice_marks to is_beside [] = []
+notice_marks to is_beside (it ∷ rest) =
+    Note to (notice_label it) is_beside ∷ notice_marks to false rest
+
+-- and the state, if it is another and no notice says so
+abbrev pub now_marks : End → List Notice → State → State → List Mark
+now_marks to notices before now =
+    if same_state before now || name_state notices now then []
+    else Note to (with_text (words (codes "now ")) (state_text now)) (length notices == 0) ∷ []
+
+abbrev pub told_marks : End → List Notice → State → State → List Mark
+told_marks to notices before now =
+    notice_marks to true notices ++ now_marks to notices before now
+
+abbrev pub sent_label : List ℕ → Reply → ShortText
+sent_label message (reply.Accepted number) =
+    with_text (with_text (reply_label (reply.Accepted number)) (codes ": ")) (bytes_shown message)
+sent_label message r = reply_label r
+
+-- ---- frames
+
+-- a frame leaves in this row
+abbrev pub trip_of : End → ℕ → List ℕ → Trip
+trip_of from row bytes = record {
+  from = from;
+  row = row;
+  label = label_of bytes;
+  is_whole = true;
+  is_damaged = false;
+}
+
+-- so many bytes of the first frame arrived, of those that hadn't
+abbrev pub landed_marks : ℕ → ℕ → List Trip → List Mark
+landed_marks part of [] = []
+landed_marks part of (trip ∷ rest) =
+    if nat_lt part of then Ends trip (Cut part of) ∷ [] else Ends trip Arrived ∷ []
+
+abbrev pub landed_trips : ℕ → ℕ → ℕ → List Trip → List Trip
+landed_trips row part of trips =
+    if nat_lt part of then with_first (rest_of row) trips else drop 1 trips
+
+abbrev pub lost_marks : End → List Trip → List Mark
+lost_marks from [] = Note from (words (codes "nothing to lose")) false ∷ []
+lost_marks from (trip ∷ rest) = Ends trip Lost ∷ []
+
+abbrev pub ends_by : Fate → Trip → Mark
+ends_by fate trip = Ends trip fate
+
+-- all frames leave the lines, those of A first
+abbrev pub all_end : Fate → Trips → List Mark
+all_end fate trips = map (ends_by fate) trips.a ++ map (ends_by fate) trips.b
+
+-- ---- a step
+
+abbrev pub is_settle : Asked → Bool
+is_settle asked.Event = false
+is_settle (asked.Carry part of) = false
+is_settle asked.Settle = true
+
+-- an end wrote a frame, or had none, which isn't drawn of a settle
+abbrev pub polled_marks : End → ℕ → Bool → Reply → List Mark
+polled_marks from row settles (reply.Wrote bytes) = Departs (trip_of from row bytes) ∷ []
+polled_marks from row settles r = if settles then [] else Note from (reply_label r) false ∷ []
+
+abbrev pub polled_trips : End → ℕ → Reply → Trips → Trips
+polled_trips from row (reply.Wrote bytes) trips =
+    with_trips from (trips_of from trips ++ trip_of from row bytes ∷ []) trips
+polled_trips from row r trips = trips
+
+-- a timer that was off isn't drawn of a settle
+abbrev pub expired_marks : End → Bool → Reply → State → State → List Mark
+expired_marks at settles (reply.Expired false) before now =
+    if settles then []
+    else Note at (answer_label (reply_label (reply.Expired false)) before now) false ∷ []
+expired_marks at settles r before now =
+    Note at (answer_label (reply_label r) before now) false ∷ []
+
+abbrev pub cleared_marks : Reply → Trips → List Mark
+cleared_marks reply.Cleared trips = all_end Lost trips ++ Across (reply_label reply.Cleared) ∷ []
+cleared_marks r trips = Across (reply_label r) ∷ []
+
+abbrev pub cleared_trips : Reply → Trips → Trips
+cleared_trips reply.Cleared trips = no_trips
+cleared_trips r trips = trips
+
+-- bytes arrived at an end, as a line asked
+abbrev pub arrived_marks : Asked → End → List ℕ → Trips → List Mark
+arrived_marks asked.Event to bytes trips = Appears to (label_of bytes) ∷ []
+arrived_marks (asked.Carry part of) to bytes trips =
+    landed_marks part of (trips_of (other to) trips)
+arrived_marks asked.Settle to bytes trips =
+    landed_marks (length bytes) (length bytes) (trips_of (other to) trips)
+
+abbrev pub arrived_trips : Asked → End → ℕ → List ℕ → Trips → Trips
+arrived_trips asked.Event to row bytes trips = trips
+arrived_trips (asked.Carry part of) to row bytes trips =
+    with_trips (other to) (landed_trips row part of (trips_of (other to) trips)) trips
+arrived_trips asked.Settle to row bytes trips =
+    with_trips (other to)
+    (landed_trips row (length bytes) (length bytes) (trips_of (other to) trips)) trips
+
+abbrev pub notices_in : Reply → List Notice
+notices_in (reply.Notices notices) = notices
+notices_in r = []
+
+-- what a picture has before a step: what the line asks for, the row of the next mark, the states of
+-- both ends, and the frames in flight
+pub record Sight : Type 0 where
+  pub asked : Asked
+  pub row : ℕ
+  pub states : States
+  pub trips : Trips
+
+-- the marks of a step
+abbrev pub step_marks : Event → Reply → PairState → Sight → List Mark
+step_marks (event.Poll e) r now s = polled_marks e s.row (is_settle s.asked) r
+step_marks (event.Take e) r now s = Note e (reply_label r) false ∷ []
+step_marks (event.Send e message) r now s = Note e (sent_label message r) false ∷ []
+step_marks event.Clear r now s = cleared_marks r s.trips
+step_marks (event.Start e) r now s =
+    Note e (answer_label (reply_label r) (state_at e s.states) (state_of e now)) false ∷ []
+step_marks (event.Halt e) r now s =
+    Note e (answer_label (reply_label r) (state_at e s.states) (state_of e now)) false ∷ []
+step_marks (event.Expire e) r now s =
+    expired_marks e (is_settle s.asked) r (state_at e s.states) (state_of e now)
+step_marks (event.Arrive to bytes) r now s =
+    arrived_marks s.asked to bytes s.trips
+    ++ told_marks to (notices_in r) (state_at to s.states) (state_of to now)
+
+-- and the frames in flight after it
+abbrev pub step_trips : Event → Reply → Sight → Trips
+step_trips (event.Poll e) r s = polled_trips e s.row r s.trips
+step_trips event.Clear r s = cleared_trips r s.trips
+step_trips (event.Arrive to bytes) r s = arrived_trips s.asked to s.row bytes s.trips
+step_trips _ r s = s.trips
+
+-- ---- a line
+
+-- a byte that isn't there is not damaged
+abbrev pub has_byte : ℕ → Option ℕ → Bool
+has_byte at None = false
+has_byte at (Some length) = nat_lt at length
+
+abbrev pub is_none : Option ℕ → Bool
+is_none None = true
+is_none (Some n) = false
+
+abbrev pub damage_marks : End → ℕ → Option ℕ → List Mark
+damage_marks from at front =
+    if has_byte at front then []
+    else Note from (with_text (words (codes "damage: "))
+    (line_of (damage_text (is_none front) false))) false ∷ []
+
+abbrev pub damage_trips : End → ℕ → ℕ → Option ℕ → Trips → Trips
+damage_trips from at by front trips =
+    if has_byte at front
+    then with_trips from (with_first (damaged_by by) (trips_of from trips)) trips else trips
+
+-- the two notes of a station
+abbrev pub look_marks : End → StationState → List Mark
+look_marks e s = Note e (numbers_label s) false ∷ Note e (holding_label s) false ∷ []
+
+-- settle and recover lose all frames first
+abbrev pub settle_marks : List ℕ → Trips → List Mark
+settle_marks name trips = all_end Lost trips ++ Across (words name) ∷ []
+
+-- at most so many bytes of a frame are to arrive, or all
+abbrev pub part_of : Option ℕ → ℕ → ℕ
+part_of None of = of
+part_of (Some n) of = min of n
+
+abbrev pub carry_marks : End → Option ℕ → List Mark
+carry_marks from None = Note from (words (codes "nothing to pass")) false ∷ []
+carry_marks from (Some of) = []
+
+abbrev pub carry_asked : Option ℕ → Option ℕ → Asked
+carry_asked most None = asked.Event
+carry_asked most (Some of) = asked.Carry (part_of most of) of
+
+-- The marks before anything of a line is done. Of the first frame on the line between the ends that
+-- it names, `front` is how many bytes haven't arrived.
+abbrev pub line_marks : ScriptCommand → Option ℕ → PairState → Trips → List Mark
+line_marks (Happens happened) front p trips = []
+line_marks (Raw to bytes) front p trips = []
+line_marks (Carry from most) front p trips = carry_marks from front
+line_marks (Lose from) front p trips = lost_marks from (trips_of from trips)
+line_marks (Damage from at by) front p trips = damage_marks from at front
+line_marks Settle front p trips = settle_marks (codes "settle") trips
+line_marks Recover front p trips = settle_marks (codes "recover") trips
+line_marks (StateOf e) front p trips = look_marks e (at e p).core.station
+
+abbrev pub line_trips : ScriptCommand → Option ℕ → Trips → Trips
+line_trips (Lose from) front trips = with_trips from (drop 1 (trips_of from trips)) trips
+line_trips (Damage from at by) front trips = damage_trips from at by front trips
+line_trips Settle front trips = no_trips
+line_trips Recover front trips = no_trips
+line_trips _ front trips = trips
+
+abbrev pub line_asked : ScriptCommand → Option ℕ → Asked
+line_asked (Carry from most) front = carry_asked most front
+line_asked Settle front = asked.Settle
+line_asked Recover front = asked.Settle
+line_asked _ front = asked.Event
+
+-- how a settle ended, and a recovery
+abbrev pub settled_label : ℕ → Bool → ShortText
+settled_label exchanges quiet =
+    with_text (with_text (words (codes "settled ")) (decimal exchanges))
+    (if quiet then codes " quiet" else codes " busy")
+
+unfoldable pub counts_label : ShortText → List ℕ → ShortText
+counts_label text [] = text
+counts_label text (n ∷ rest) =
+    counts_label (with_text (with_text text (codes " ")) (decimal n)) rest
+
+abbrev pub recovered_label : List ℕ → Bool → ShortText
+recovered_label exchanges done =
+    with_text (counts_label (words (codes "recovered")) exchanges)
+    (if done then codes " done" else codes " unfinished")

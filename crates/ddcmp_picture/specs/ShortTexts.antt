@@ -1,0 +1,26 @@
+-- Short texts: what labels and notes are made of.
+use Rattle.std.specs.Prelude.{ℕ, ◌+◌, if◌then◌else◌, nat_lt, List, [], ◌∷◌, ◌++◌, length, take}
+use Rattle.std.specs.Prelude.{slice_set, codes, decimal, replicate}
+use Rattle.hex.specs.Hex.{encode_lower}
+use Rattle.ddcmp_picture.specs.declared.short_text.ShortText.{ShortText}
+
+-- no text
+abbrev pub no_text : ShortText
+no_text = record { bytes = replicate 96 32; len = 0 }
+
+-- a byte goes after the others, if there is room for it
+abbrev pub with_byte : ShortText → ℕ → ShortText
+with_byte t byte =
+    if nat_lt t.len 96 then record { bytes = slice_set t.bytes t.len byte; len = t.len + 1 } else t
+
+-- and so the bytes of a text, one after another
+unfoldable pub with_text : ShortText → List ℕ → ShortText
+with_text t [] = t
+with_text t (byte ∷ rest) = with_text (with_byte t byte) rest
+
+-- up to ten bytes are shown in digits; of more the first six, and how many there are
+abbrev pub bytes_shown : List ℕ → List ℕ
+bytes_shown bytes =
+    if nat_lt 10 (length bytes)
+    then encode_lower (take 6 bytes) ++ codes ".. (" ++ decimal (length bytes) ++ codes " bytes)"
+    else encode_lower bytes

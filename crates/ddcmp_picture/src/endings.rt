@@ -1,0 +1,106 @@
+//! How frames in flight end.
+ghost use Rattle.std.specs.Prelude.{◌≡◌, ◌++◌, [], ◌∷◌, drop, map, length};
+ghost use Rattle.ddcmp_io.specs.Device.{Logs};
+ghost use Rattle.ddcmp_picture.specs.Marks.{all_end, damage_marks, damage_trips, ends_by};
+ghost use Rattle.ddcmp_picture.specs.Marks.{landed_marks, landed_trips, lost_marks};
+ghost use Rattle.ddcmp_picture.specs.Trips.{no_trips, trips_of, with_trips};
+
+use crate::flights::Flights;
+use crate::labels::without_lf;
+use crate::mark::{Fate, Mark};
+use crate::notes::note;
+use crate::paper::Paper;
+use crate::replies::words;
+use ddcmp_pair::End;
+use ddcmp_script_text::damage_name;
+
+/// So many bytes of the first frame of an end arrived, of those that hadn't. The rest begins its
+/// way in the row of this arrival.
+#[tactic(auto, using(crate::proofs::NoteLaws::logs_none))]
+pub(crate) fn land<P: Paper>(
+    paper: &mut P,
+    flights: &mut Flights,
+    from: End,
+    part: usize,
+    of: usize,
+)
+    ensures marks { Logs (P.drawn paper.old) (P.drawn paper.new)
+        (landed_marks part of (trips_of from flights.old)) }
+    ensures trips { flights.new ≡ with_trips from
+        (landed_trips (P.next_row paper.old) part of (trips_of from flights.old)) flights.old }
+{
+    let row = paper.row();
+    let Some(trip) = flights.front(from) else {
+        return;
+    };
+    if part < of {
+        flights.leave_rest(from, row);
+        paper.put(&Mark::Ends(trip, Fate::Cut { part, of }));
+    } else {
+        let _arrived = flights.pop(from);
+        paper.put(&Mark::Ends(trip, Fate::Arrived));
+    }
+}
+
+/// The first frame of an end is lost.
+pub(crate) fn lose<P: Paper>(paper: &mut P, flights: &mut Flights, from: End)
+    ensures marks { Logs (P.drawn paper.old) (P.drawn paper.new)
+        (lost_marks from (trips_of from flights.old)) }
+    ensures trips { flights.new
+        ≡ with_trips from (drop 1 (trips_of from flights.old)) flights.old }
+{
+    match flights.pop(from) {
+        Some(trip) => paper.put(&Mark::Ends(trip, Fate::Lost)),
+        None => note(paper, from, words(b"nothing to lose"), false),
+    }
+}
+
+/// A byte of the first frame of an end is changed by exclusive or, if it has so many.
+#[tactic(auto, using(crate::proofs::NoteLaws::logs_none))]
+pub(crate) fn damage<P: Paper>(
+    paper: &mut P,
+    flights: &mut Flights,
+    from: End,
+    at: usize,
+    by: u8,
+    front: Option<usize>,
+)
+    ensures marks { Logs (P.drawn paper.old) (P.drawn paper.new) (damage_marks from at front) }
+    ensures trips { flights.new ≡ damage_trips from at by front flights.old }
+{
+    let is_there = match front {
+        Some(length) => at < length,
+        None => false,
+    };
+    if is_there {
+        flights.damage(from, by);
+    } else {
+        let why = without_lf(damage_name(front.is_none(), false));
+        note(paper, from, words(b"damage: ").with(why), false);
+    }
+}
+
+/// All frames of an end leave its line.
+#[tactic(auto, using(crate::proofs::EndLaws::ends_none, crate::proofs::EndLaws::ends_all, crate::proofs::NoteLaws::logs_none))]
+fn end_of<P: Paper>(paper: &mut P, flights: &mut Flights, end: End, fate: Fate)
+    ensures marks { Logs (P.drawn paper.old) (P.drawn paper.new)
+        (map (ends_by fate) (trips_of end flights.old)) }
+    ensures trips { flights.new ≡ with_trips end [] flights.old }
+{
+    for _trip in 0..flights.len(end) {
+        let Some(trip) = flights.pop(end) else {
+            return;
+        };
+        paper.put(&Mark::Ends(trip, fate));
+    }
+}
+
+/// All frames leave the lines, and each is drawn with this end.
+#[tactic(auto, using(crate::proofs::NoteLaws::logs_then))]
+pub(crate) fn end_all<P: Paper>(paper: &mut P, flights: &mut Flights, fate: Fate)
+    ensures marks { Logs (P.drawn paper.old) (P.drawn paper.new) (all_end fate flights.old) }
+    ensures trips { flights.new ≡ no_trips }
+{
+    end_of(paper, flights, End::A, fate);
+    end_of(paper, flights, End::B, fate);
+}

@@ -1,0 +1,131 @@
+//! Notes beside the lines of the ends.
+ghost use Rattle.std.specs.Prelude.{◌≡◌, [], ◌∷◌, true, false};
+ghost use Rattle.ddcmp_io.specs.Device.{Logs};
+ghost use Rattle.ddcmp_picture.specs.Labels.{reply_label};
+ghost use Rattle.ddcmp_picture.specs.Marks.{answer_label, look_marks, name_state, names_state};
+ghost use Rattle.ddcmp_picture.specs.Marks.{notice_marks, same_state, sent_label, told_marks};
+
+use crate::labels::{holding_text, notice_text, numbers_text};
+use crate::mark::Mark;
+use crate::paper::Paper;
+use crate::replies::{answer_text, words};
+use crate::short_text::ShortText;
+use ddcmp_pair::{End, Notice, Reply, State, Station};
+use ddcmp_station_text::state_name;
+
+/// Whether it is the same state.
+fn is_same(before: State, now: State) -> bool
+    ensures { result ≡ same_state before now }
+{
+    match (before, now) {
+        (State::Halted, State::Halted) => true,
+        (State::IStart, State::IStart) => true,
+        (State::AStart, State::AStart) => true,
+        (State::Running, State::Running) => true,
+        (State::Maintenance, State::Maintenance) => true,
+        _ => false,
+    }
+}
+
+/// Whether a notice says what state it is now.
+fn names(notice: Notice, now: State) -> bool
+    ensures { result ≡ names_state notice now }
+{
+    match (notice, now) {
+        (Notice::Running | Notice::RunningAndHandedUp, State::Running) => true,
+        (Notice::MaintenanceSeen, State::Maintenance) => true,
+        (Notice::MaintenanceHandedUp, State::Maintenance) => true,
+        (Notice::MaintenanceDropped, State::Maintenance) => true,
+        _ => false,
+    }
+}
+
+/// Whether one of some notices does.
+fn name(notices: &[Notice], now: State) -> bool
+    ensures { result ≡ name_state notices.now now }
+{
+    for i in 0..notices.len() {
+        if names(notices[i], now) {
+            return true;
+        }
+    }
+    false
+}
+
+/// Words beside the line of an end.
+pub(crate) fn note<P: Paper>(paper: &mut P, at: End, text: ShortText, is_beside: bool)
+    ensures { Logs (P.drawn paper.old) (P.drawn paper.new) (Mark.Note at text is_beside ∷ []) }
+{
+    paper.put(&Mark::Note {
+        at,
+        text,
+        is_beside,
+    });
+}
+
+/// Words that concern both ends.
+pub(crate) fn across<P: Paper>(paper: &mut P, text: ShortText)
+    ensures { Logs (P.drawn paper.old) (P.drawn paper.new) (Mark.Across text ∷ []) }
+{
+    paper.put(&Mark::Across(text));
+}
+
+/// What was replied at an end, and its state if that is another.
+pub(crate) fn answer<P: Paper>(paper: &mut P, at: End, reply: &Reply, before: State, now: State)
+    ensures { Logs (P.drawn paper.old) (P.drawn paper.new)
+        (Mark.Note at (answer_label (reply_label reply.now) before now) false ∷ []) }
+{
+    let text = answer_text(reply);
+    if is_same(before, now) {
+        note(paper, at, text, false);
+    } else {
+        note(paper, at, text.with(b", now ").with(state_name(now)), false);
+    }
+}
+
+/// A message was passed to an end.
+pub(crate) fn sent<P: Paper>(paper: &mut P, at: End, message: &[u8], reply: &Reply)
+    ensures { Logs (P.drawn paper.old) (P.drawn paper.new)
+        (Mark.Note at (sent_label message.now reply.now) false ∷ []) }
+{
+    let text = match reply {
+        Reply::Accepted(_) => answer_text(reply).with(b": ").with_bytes(message),
+        _ => answer_text(reply),
+    };
+    note(paper, at, text, false);
+}
+
+fn tell_notices<P: Paper>(paper: &mut P, to: End, notices: &[Notice])
+    ensures { Logs (P.drawn paper.old) (P.drawn paper.new) (notice_marks to true notices.now) }
+{
+    for i in 0..notices.len() {
+        note(paper, to, notice_text(notices[i]), i == 0);
+    }
+}
+
+/// The notices of an arrival, in its row and below, and the state if no notice says it.
+#[tactic(auto, using(crate::proofs::NoteLaws::logs_then, crate::proofs::NoteLaws::logs_only))]
+pub(crate) fn tell<P: Paper>(paper: &mut P, to: End, notices: &[Notice], before: State, now: State)
+    ensures { Logs (P.drawn paper.old) (P.drawn paper.new)
+        (told_marks to notices.now before now) }
+{
+    tell_notices(paper, to, notices);
+    if !is_same(before, now) && !name(notices, now) {
+        note(
+            paper,
+            to,
+            words(b"now ").with(state_name(now)),
+            notices.is_empty(),
+        );
+    }
+}
+
+/// The state of a station and its numbers, and what it holds.
+#[tactic(auto, using(crate::proofs::NoteLaws::logs_then))]
+pub(crate) fn look<P: Paper>(paper: &mut P, at: End, station: &Station)
+    ensures { Logs (P.drawn paper.old) (P.drawn paper.new)
+        (look_marks at station.now.core.station) }
+{
+    note(paper, at, numbers_text(station), false);
+    note(paper, at, holding_text(station), false);
+}

@@ -1,0 +1,49 @@
+//! A drawing as the view of a script.
+use crate::canvas::Canvas;
+use crate::drawing::Drawing;
+use crate::endings::end_all;
+use crate::mark::Fate;
+use ddcmp_io::Sink;
+use ddcmp_line::{Recovered, Settled, View};
+use ddcmp_pair::{Event, Pair, Reply, Watch};
+use ddcmp_script_text::ScriptCommand;
+use std::alloc::Global;
+
+impl Watch for Drawing<Canvas> {
+    fn did(&mut self, pair: &Pair, event: &Event, reply: &Reply) {
+        self.step(pair, event, reply);
+    }
+}
+
+impl View for Drawing<Canvas> {
+    fn begins(&mut self, pair: &Pair, command: &ScriptCommand, front: Option<usize>) {
+        self.begin(pair, command, front);
+    }
+
+    fn settled(&mut self, settled: &Settled) {
+        self.put_settled(settled);
+    }
+
+    fn recovered(&mut self, recovered: &Recovered, done: bool) {
+        self.put_recovered(recovered, done);
+    }
+
+    fn show<W: Sink>(&mut self, writer: &mut W) -> bool {
+        self.paper.show(writer) && self.is_whole
+    }
+}
+
+impl Drawing<Canvas> {
+    /// Ends the picture: whether there was memory for all of it. After it comes what has been done,
+    /// if there is a pair to ask.
+    pub(crate) fn end<W: Sink>(
+        &mut self,
+        alloc: Global,
+        writer: &mut W,
+        closing: Option<&Pair>,
+        counted: bool,
+    ) -> bool {
+        end_all(&mut self.paper, &mut self.flights, Fate::OnItsWay);
+        self.paper.end(alloc, writer, closing, counted) && self.is_whole
+    }
+}

@@ -1,0 +1,11 @@
+pub mod Histories
+pub mod Holding
+pub mod Inputs
+pub mod Limits
+pub mod LinkSteps
+pub mod Outcomes
+pub mod Pipes
+pub mod Reading
+pub mod Story
+pub mod Streaming
+pub mod Texts

@@ -1,0 +1,314 @@
+-- What comes out of two sessions.
+use Rattle.std.proofs.Common.{◌≡◌, ℕ, Bool, true, false, List, [], ◌∷◌}
+use Rattle.std.proofs.Common.{◌++◌, map, refl, sym, ◌∙◌, ap, subst, arith, append_assoc}
+use Rattle.std.proofs.Common.{append-nil, None}
+use Rattle.std.specs.Prelude.{◌&&◌}
+use Rattle.std.specs.List.{All}
+use Rattle.ddcmp_input.specs.InBinary.{in_binary, behind_length, told_in, Fits}
+use Rattle.ddcmp_input.specs.Lengths as lengths
+use Rattle.ddcmp_input.specs.Told.{Got}
+use Rattle.ddcmp_input.proofs.BinaryLaws as in_binary_laws
+use Rattle.ddcmp_proto.specs.Config.{first_refusal}
+use Rattle.ddcmp_station.specs.Linking.{delivered}
+use Rattle.ddcmp_run.specs.declared.event.End.{End}
+use Rattle.ddcmp_run.specs.Prefix.{IsPrefixOf}
+use Rattle.ddcmp_run.specs.Run.{new_pair}
+use Rattle.ddcmp_session.specs.declared.messages.Form.{Form}
+use Rattle.ddcmp_session.specs.declared.messages.Form.TheVariants as form
+use Rattle.ddcmp_callers.specs.Calls.{run_calls}
+use Rattle.ddcmp_callers.specs.Links.{LinkOverStreams}
+use Rattle.ddcmp_callers.specs.Links.{Links, after_steps}
+use Rattle.ddcmp_callers.specs.Links.{AreStartedOnce, received, LinkReaches}
+use Rattle.ddcmp_callers.specs.LinkLines.{AreLinkCalls, calls_of_steps}
+use Rattle.ddcmp_callers.proofs.TwoLinks.{reaches_a, reaches_b, all_to_a, all_to_b, kept}
+use Rattle.ddcmp_pipe.specs.Sessions.{SessionHistory, SessionStep, messages_of}
+use Rattle.ddcmp_pipe.specs.Sessions.{mail_in, got_in}
+use Rattle.ddcmp_pipe.specs.Sessions.{texts_of}
+use Rattle.ddcmp_pipe.specs.Pipe.{Made, Sessions, new_sessions, links_made}
+use Rattle.ddcmp_pipe.specs.Pipe.{after_session_at, AreSessionCalls, after_sessions}
+use Rattle.ddcmp_pipe.specs.Pipe.{link_steps_at, AreConnectedOnce}
+use Rattle.ddcmp_pipe.specs.Pipe.{undelivered, Pipes, PipesAll, PipesBytes, PipesWhole}
+use Rattle.ddcmp_pipe.specs.Pipe.{IsKeptByPipes, SessionsOverStreams}
+use Rattle.ddcmp_pipe.specs.Pipe.{IsKeptOverConnections}
+use Rattle.ddcmp_pipe.proofs.Inputs.{got_more}
+use Rattle.ddcmp_pipe.proofs.Texts.{only_mail}
+use Rattle.ddcmp_pipe.proofs.Holding.{Holds, link_history}
+use Rattle.ddcmp_pipe.proofs.LinkSteps.{begins}
+use Rattle.ddcmp_pipe.proofs.Pipes.{BothHold, Keeps, keeps_steps, links_of, starts_a, starts_b}
+use Rattle.ddcmp_pipe.proofs.Streaming.{stream_steps}
+
+-- ---- what comes out
+
+pub last_true : (a b : Bool) → a && b ≡ true → b ≡ true
+last_true true b e = e
+last_true false b e = cc
+
+-- what is received begins what is accepted
+pub delivers_first : (f : Form) (max : ℕ) (g : Form) (other : ℕ) (giver taker : SessionHistory)
+    (j k : ℕ) → LinkReaches (link_history f max giver j) (link_history g other taker k)
+    → IsPrefixOf (mail_in taker.shown) (messages_of f max giver.input)
+delivers_first f max g other giver taker j k r = (
+  undelivered taker ++ r.order.0,
+  sym (append_assoc (mail_in taker.shown) (undelivered taker) r.order.0) ∙ r.order.1,
+)
+
+pub binary_more : (xs ys : List (List ℕ)) → in_binary (xs ++ ys) ≡ in_binary xs ++ in_binary ys
+unfolding in_binary
+binary_more [] ys = refl
+binary_more (x ∷ xs) ys =
+    ap (λ t. behind_length x ++ t) (binary_more xs ys)
+    ∙ sym (append_assoc (behind_length x) (in_binary xs) (in_binary ys))
+
+pub got_all : (messages : List (List ℕ)) → got_in (map Got messages) ≡ messages
+unfolding got_in
+got_all [] = refl
+got_all (m ∷ rest) = ap (λ ms. m ∷ ms) (got_all rest)
+
+pub read_all : (max : ℕ) (messages : List (List ℕ)) → All (Fits max) messages
+    → messages_of form.Binary max (in_binary messages) ≡ messages
+read_all max messages fit =
+    ap got_in (in_binary_laws.all_messages messages (lengths.begun max) refl fit).0
+    ∙ got_all messages
+
+-- what is read of a file's beginning begins what is read of the file
+pub read_first : (max : ℕ) (input rest : List ℕ) (messages : List (List ℕ))
+    → All (Fits max) messages
+    → input ++ rest ≡ in_binary messages
+    → IsPrefixOf (messages_of form.Binary max input) messages
+read_first max input rest messages fit e =
+    let begun = lengths.begun max in
+    let more = told_in rest (lengths.after_bytes input begun) in (
+      got_in more,
+      sym (got_more (told_in input begun) more)
+          ∙ ap got_in (sym (in_binary_laws.told_more input rest begun))
+          ∙ ap (messages_of form.Binary max) e
+          ∙ read_all max messages fit,
+    )
+
+-- the output of one that writes binary
+pub output_is : (made other : Made) (taker : SessionHistory) → other.form ≡ form.Binary
+    → Holds other.form other.config.max taker → taker.session.output.is_cut ≡ false
+    → taker.written ++ taker.session.output.waiting ≡ in_binary (mail_in taker.shown)
+output_is made other taker is holds whole =
+    holds.text whole ∙ ap (λ f. texts_of f taker.shown) is ∙ only_mail taker.shown
+
+pub bytes_first : (made other : Made) (giver taker : SessionHistory)
+    → Holds other.form other.config.max taker
+    → IsPrefixOf (mail_in taker.shown) (messages_of made.form made.config.max giver.input)
+    → PipesBytes made other giver taker
+bytes_first made other giver taker holds order is other_is whole messages fit begins_file =
+    let max = made.config.max in
+    let r = read_first max giver.input begins_file.0 messages fit begins_file.1 in
+    let o = output_is made other taker other_is holds whole in
+    let waiting = taker.session.output.waiting in
+    let mail = mail_in taker.shown in
+    let all : mail ++ (order.0 ++ r.0) ≡ messages =
+    sym (append_assoc mail order.0 r.0)
+    ∙ ap (λ ms. ms ++ r.0)
+    (order.1 ∙ ap (λ f. messages_of f max giver.input) is)
+    ∙ r.1 in (
+      waiting ++ in_binary (order.0 ++ r.0),
+      sym (append_assoc taker.written waiting (in_binary (order.0 ++ r.0)))
+          ∙ ap (λ t. t ++ in_binary (order.0 ++ r.0)) o
+          ∙ sym (binary_more mail (order.0 ++ r.0))
+          ∙ ap in_binary all,
+    )
+
+pub bytes_whole : (made other : Made) (giver taker : SessionHistory)
+    → Holds other.form other.config.max taker → PipesAll made giver taker
+    → PipesWhole made other giver taker
+bytes_whole made other giver taker holds all is other_is whole messages fit file over none still =
+    let max = made.config.max in
+    let mail = mail_in taker.shown in
+    let o = output_is made other taker other_is holds whole in
+    let given : mail ≡ messages =
+    sym (append-nil mail)
+    ∙ ap (λ ms. mail ++ ms) (sym none)
+    ∙ all over
+    ∙ ap (λ f. messages_of f max giver.input) is
+    ∙ ap (messages_of form.Binary max) file
+    ∙ read_all max messages fit in
+    sym (append-nil taker.written)
+    ∙ ap (λ t. taker.written ++ t) (sym still)
+    ∙ o
+    ∙ ap in_binary given
+
+-- ---- from two new sessions
+
+-- what two links do
+pub record LinksDo (q : Links) : Type 0 where
+  pub to_b : LinkReaches q.a q.b
+  pub to_a : LinkReaches q.b q.a
+  pub all_b : delivered q.a.link ≡ true → received q.b ≡ q.a.accepted
+  pub all_a : delivered q.b.link ≡ true → received q.a ≡ q.b.accepted
+
+-- the links of two sessions after their calls
+abbrev pub links_after : Made → Made → List (End × SessionStep) → Links
+links_after first second steps =
+    after_steps (link_steps_at steps (new_sessions first second)) (links_made first second)
+
+module _ (first second : Made) (steps : List (End × SessionStep)) where
+  made_links : links_made first second ≡ links_of first second (new_sessions first second) 0 0
+  made_links =
+      λ i. record {
+        a = (begins first.form first.config first.milliseconds first.line).1 i;
+        b = (begins second.form second.config second.milliseconds second.line).1 i;
+      }
+
+  new_hold : BothHold first second (new_sessions first second)
+  new_hold = (
+    (begins first.form first.config first.milliseconds first.line).0,
+    (begins second.form second.config second.milliseconds second.line).0,
+  )
+
+  are_once : AreConnectedOnce steps
+      → AreStartedOnce (link_steps_at steps (new_sessions first second))
+  are_once once = record {
+    at_a =
+        let e = starts_a steps (new_sessions first second) in let h = once.at_a in
+        omega (arith, e, h);
+    at_b =
+        let e = starts_b steps (new_sessions first second) in let h = once.at_b in
+        omega (arith, e, h);
+  }
+
+  pub honest_links : first_refusal first.config ≡ None → first_refusal second.config ≡ None
+      → AreSessionCalls steps (new_sessions first second)
+      → (run_calls
+      (calls_of_steps (link_steps_at steps (new_sessions first second)) (links_made first second))
+      (new_pair first.config second.config)).honest ≡ true
+      → AreConnectedOnce steps → LinksDo (links_after first second steps)
+  honest_links f g does honest once =
+      let calls = link_steps_at steps (new_sessions first second) in
+      let keeps = keeps_steps first second steps (new_sessions first second) 0 0 does new_hold in
+      let are = subst (AreLinkCalls calls) (sym made_links) keeps.0 in
+      let started = are_once once in
+      record {
+        to_b =
+            reaches_b first.config second.config first.milliseconds second.milliseconds first.line
+            second.line calls f g are honest started;
+        to_a =
+            reaches_a first.config second.config first.milliseconds second.milliseconds first.line
+            second.line calls f g are honest started;
+        all_b =
+            all_to_b first.config second.config first.milliseconds second.milliseconds first.line
+            second.line calls f g are honest started;
+        all_a =
+            all_to_a first.config second.config first.milliseconds second.milliseconds first.line
+            second.line calls f g are honest started;
+      }
+
+  pub stream_links : first_refusal first.config ≡ None → first_refusal second.config ≡ None
+      → SessionsOverStreams steps (new_sessions first second) → AreConnectedOnce steps
+      → LinksDo (links_after first second steps)
+  stream_links f g over once =
+      let calls = link_steps_at steps (new_sessions first second) in
+      let are =
+      subst (LinkOverStreams calls) (sym made_links)
+      (stream_steps first second steps (new_sessions first second) 0 0 over new_hold
+      (record { to_a = ([], refl); to_b = ([], refl) })) in
+      let started = are_once once in
+      record {
+        to_b =
+            kept (λ q. LinkReaches q.a q.b) reaches_b first.config second.config first.milliseconds
+            second.milliseconds first.line second.line calls f g are started;
+        to_a =
+            kept (λ q. LinkReaches q.b q.a) reaches_a first.config second.config first.milliseconds
+            second.milliseconds first.line second.line calls f g are started;
+        all_b =
+            kept (λ q. delivered q.a.link ≡ true → received q.b ≡ q.a.accepted) all_to_b
+            first.config second.config first.milliseconds second.milliseconds first.line
+            second.line calls f g are started;
+        all_a =
+            kept (λ q. delivered q.b.link ≡ true → received q.a ≡ q.b.accepted) all_to_a
+            first.config second.config first.milliseconds second.milliseconds first.line
+            second.line calls f g are started;
+      }
+
+  module _ (does : AreSessionCalls steps (new_sessions first second))
+      (links : LinksDo (links_after first second steps)) where
+    keeps : Keeps first second steps (new_sessions first second) 0 0
+    keeps = keeps_steps first second steps (new_sessions first second) 0 0 does new_hold
+
+    done : LinksDo
+        (links_of first second (after_sessions steps (new_sessions first second)) keeps.1.0
+        keeps.1.1)
+    done =
+        subst LinksDo
+        (ap (after_steps (link_steps_at steps (new_sessions first second))) made_links
+        ∙ keeps.1.2) links
+
+    pub pipes_b : Pipes first (after_sessions steps (new_sessions first second)).a
+        (after_sessions steps (new_sessions first second)).b
+    pipes_b =
+        delivers_first first.form first.config.max second.form second.config.max
+        (after_sessions steps (new_sessions first second)).a
+        (after_sessions steps (new_sessions first second)).b keeps.1.0 keeps.1.1 done.to_b
+
+    pub pipes_a : Pipes second (after_sessions steps (new_sessions first second)).b
+        (after_sessions steps (new_sessions first second)).a
+    pipes_a =
+        delivers_first second.form second.config.max first.form first.config.max
+        (after_sessions steps (new_sessions first second)).b
+        (after_sessions steps (new_sessions first second)).a keeps.1.1 keeps.1.0 done.to_a
+
+    pub all_b : PipesAll first (after_sessions steps (new_sessions first second)).a
+        (after_sessions steps (new_sessions first second)).b
+    all_b over =
+        let s = (after_sessions steps (new_sessions first second)).a.session in
+        done.all_b (last_true s.is_read (delivered s.link) over)
+
+    pub all_a : PipesAll second (after_sessions steps (new_sessions first second)).b
+        (after_sessions steps (new_sessions first second)).a
+    all_a over =
+        let s = (after_sessions steps (new_sessions first second)).b.session in
+        done.all_a (last_true s.is_read (delivered s.link) over)
+
+    pub bytes_b : PipesBytes first second (after_sessions steps (new_sessions first second)).a
+        (after_sessions steps (new_sessions first second)).b
+    bytes_b =
+        bytes_first first second (after_sessions steps (new_sessions first second)).a
+        (after_sessions steps (new_sessions first second)).b keeps.2.1 pipes_b
+
+    pub bytes_a : PipesBytes second first (after_sessions steps (new_sessions first second)).b
+        (after_sessions steps (new_sessions first second)).a
+    bytes_a =
+        bytes_first second first (after_sessions steps (new_sessions first second)).b
+        (after_sessions steps (new_sessions first second)).a keeps.2.0 pipes_a
+
+    pub whole_b : PipesWhole first second (after_sessions steps (new_sessions first second)).a
+        (after_sessions steps (new_sessions first second)).b
+    whole_b =
+        bytes_whole first second (after_sessions steps (new_sessions first second)).a
+        (after_sessions steps (new_sessions first second)).b keeps.2.1 all_b
+
+    pub whole_a : PipesWhole second first (after_sessions steps (new_sessions first second)).b
+        (after_sessions steps (new_sessions first second)).a
+    whole_a =
+        bytes_whole second first (after_sessions steps (new_sessions first second)).b
+        (after_sessions steps (new_sessions first second)).a keeps.2.0 all_a
+
+-- ---- over honest lines, and over streams
+
+abbrev pub Outcome : (Made → Made → Sessions → Type 0) → Type 0
+Outcome Promise = (first second : Made) (steps : List (End × SessionStep))
+    → AreSessionCalls steps (new_sessions first second)
+    → LinksDo (links_after first second steps)
+    → Promise first second (after_sessions steps (new_sessions first second))
+
+pub over_honest : (Promise : Made → Made → Sessions → Type 0) → Outcome Promise
+    → IsKeptByPipes Promise
+over_honest Promise outcome first second steps f g does honest once =
+    outcome first second steps does (honest_links first second steps f g does honest once)
+
+pub stream_session_calls : (steps : List (End × SessionStep)) (p : Sessions)
+    → SessionsOverStreams steps p → AreSessionCalls steps p
+stream_session_calls [] p o = tt
+stream_session_calls (step ∷ rest) p o =
+    (o.0, stream_session_calls rest (after_session_at step.0 step.1 p) o.2)
+
+pub over_streams : (Promise : Made → Made → Sessions → Type 0) → Outcome Promise
+    → IsKeptOverConnections Promise
+over_streams Promise outcome first second steps f g over once =
+    outcome first second steps (stream_session_calls steps (new_sessions first second) over)
+    (stream_links first second steps f g over once)

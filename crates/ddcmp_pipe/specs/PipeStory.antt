@@ -1,0 +1,105 @@
+-- One run of two sessions, written out: both are connected, and one message comes through.
+use Rattle.std.specs.Prelude.{◌≡◌, ℕ, true, false, List, [], ◌∷◌, ◌++◌}
+use Rattle.ddcmp_frame.specs.Reader.{ReaderView}
+use Rattle.ddcmp_input.specs.InBinary.{behind_length}
+use Rattle.ddcmp_core.specs.Table.{after_halt}
+use Rattle.ddcmp_proto.specs.Bytes.{after_piece}
+use Rattle.ddcmp_station.specs.Linking.{with_state, anew, after_frames, after_sent, after_wake}
+use Rattle.ddcmp_station.specs.Linking.{after_taking}
+use Rattle.ddcmp_run.specs.declared.event.End.{End}
+use Rattle.ddcmp_run.specs.declared.event.End.TheVariants.{A, B}
+use Rattle.ddcmp_session.specs.declared.messages.Form.TheVariants as form
+use Rattle.ddcmp_session.specs.Queue.{after_pushed, after_taken}
+use Rattle.ddcmp_session.specs.Session.{SessionView, form_of, after_typed, after_input_end}
+use Rattle.ddcmp_session.specs.Session.{is_delivered}
+use Rattle.ddcmp_laws.specs.Story.{strt_bytes, stack_bytes, first_bytes, ack_1_bytes}
+use Rattle.ddcmp_laws.specs.Vectors.{abc}
+use Rattle.ddcmp_callers.specs.LinkStory.{small}
+use Rattle.ddcmp_pipe.specs.Sessions.{SessionCall, Typed, InputEnded, Connected, LineEnded}
+use Rattle.ddcmp_pipe.specs.Sessions.{Received}
+use Rattle.ddcmp_pipe.specs.Sessions.{Filled, LineTook, TimedOut, Delivered, OutputTook, Closed}
+use Rattle.ddcmp_pipe.specs.Sessions.{SessionHistory, SessionStep, shown_in, texts_of}
+use Rattle.ddcmp_pipe.specs.Pipe.{Made, Sessions, new_sessions, session_at, after_session_at}
+
+-- what is written of a call
+abbrev pub after_shown : SessionCall → SessionHistory → SessionView → SessionView
+after_shown call h s = record s {
+  output = after_pushed (texts_of (form_of h.session.messages) (shown_in call h.used h.session))
+      s.output;
+}
+
+-- a session after a call, whose text has room
+abbrev pub session_after : SessionCall → SessionHistory → SessionView
+session_after (Typed used) h = after_typed used h.session
+session_after InputEnded h = after_input_end h.session
+session_after Connected h =
+    record h.session { link = anew h.session.link.station.line h.session.link }
+session_after LineEnded h = after_shown LineEnded h h.session
+session_after (Received used) h = after_shown (Received used) h
+    (record h.session {
+      link = record h.session.link {
+        station = record h.session.link.station {
+          core = after_piece h.used used h.session.link.station.core;
+        };
+      };
+    })
+session_after (Filled frames) h =
+    record h.session { link = after_frames frames h.session.link }
+session_after (LineTook n) h = record h.session { link = after_sent n h.session.link }
+session_after (TimedOut now) h = record h.session { link = after_wake now h.session.link }
+session_after (Delivered true) h = after_shown (Delivered true) h
+    (record h.session { link = after_taking h.session.link })
+session_after (Delivered false) h = h.session
+session_after (OutputTook n) h = record h.session { output = after_taken n h.session.output }
+session_after Closed h = after_shown Closed h
+    (record h.session {
+      link = with_state (after_halt h.session.link.station.core.station) h.session.link;
+      is_read = true;
+    })
+
+abbrev pub step_by : SessionCall → SessionHistory → SessionStep
+step_by call h = record { call = call; session = session_after call h }
+
+unfoldable pub steps_by : List (End × SessionCall) → Sessions → List (End × SessionStep)
+steps_by [] p = []
+steps_by (one ∷ rest) p =
+    (one.0, step_by one.1 (session_at one.0 p))
+    ∷ steps_by rest (after_session_at one.0 (step_by one.1 (session_at one.0 p)) p)
+
+-- ---- the story
+
+-- messages in binary, of at most 5 bytes, one at a time
+abbrev pub small_made : ReaderView → Made
+small_made line = record { form = form.Binary; config = small; milliseconds = 1000; line = line }
+
+abbrev pub small_sessions : ReaderView → ReaderView → Sessions
+small_sessions line other_line = new_sessions (small_made line) (small_made other_line)
+
+-- A frame is put, the line takes it, and the other session receives it.
+abbrev pub carried_from_a : ℕ → List ℕ → List (End × SessionCall)
+carried_from_a n bytes = (A, Filled 1) ∷ (A, LineTook n) ∷ (B, Received bytes) ∷ []
+
+abbrev pub carried_from_b : ℕ → List ℕ → List (End × SessionCall)
+carried_from_b n bytes = (B, Filled 1) ∷ (B, LineTook n) ∷ (A, Received bytes) ∷ []
+
+-- A has one message in its input, which comes through, and its acknowledgement comes back.
+abbrev pub pipe_calls : List (End × SessionCall)
+pipe_calls =
+    (A, Connected) ∷ (B, Connected) ∷ []
+    ++ carried_from_a 8 strt_bytes
+    ++ carried_from_b 8 stack_bytes
+    ++ (A, Typed (behind_length abc)) ∷ []
+    ++ carried_from_a 13 first_bytes
+    ++ carried_from_b 8 ack_1_bytes
+    ++ (A, InputEnded) ∷ (B, Delivered true) ∷ (B, OutputTook 5) ∷ []
+
+abbrev pub pipe_steps : ReaderView → ReaderView → List (End × SessionStep)
+pipe_steps line other_line = steps_by pipe_calls (small_sessions line other_line)
+
+-- How it ends: all of A's input was read, B's output took the same bytes, and A may end as
+-- delivered.
+pub record HasComeThrough (p : Sessions) : Type 0 where
+  pub input : p.a.input ≡ behind_length abc
+  pub written : p.b.written ≡ behind_length abc
+  pub over : is_delivered p.a.session ≡ true
+  pub whole : p.b.session.output.is_cut ≡ false

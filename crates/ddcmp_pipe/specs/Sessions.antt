@@ -1,0 +1,289 @@
+-- Sessions as callers of their links: what each call of a session does, which calls of its link it
+-- makes, and the history of a session.
+use Rattle.std.specs.Prelude.{◌≡◌, ℕ, zero, suc, Bool, true, false, if◌then◌else◌, List, [], ◌∷◌}
+use Rattle.std.specs.Prelude.{◌++◌, length, map, take, Some, option_to_list}
+use Rattle.ddcmp_window.specs.Store.{first_message}
+use Rattle.ddcmp_core.specs.Table.{after_halt}
+use Rattle.ddcmp_core.specs.declared.notice.Notice.{Notice}
+use Rattle.ddcmp_frame.specs.Reader.{ReaderView}
+use Rattle.ddcmp_input.specs.declared.entry.Entry.{Entry}
+use Rattle.ddcmp_input.specs.declared.entry.Entry.TheVariants.{Message}
+use Rattle.ddcmp_input.specs.HexLines as hex
+use Rattle.ddcmp_input.specs.InBinary as binary
+use Rattle.ddcmp_input.specs.InLines as lines
+use Rattle.ddcmp_input.specs.Lengths as lengths
+use Rattle.ddcmp_input.specs.Told.{Told, Got, Refused}
+use Rattle.ddcmp_proto.specs.Bytes.{notices_of_piece}
+use Rattle.ddcmp_proto.specs.declared.config.Config.{Config}
+use Rattle.ddcmp_station.specs.Linking.{LinkView, anew, after_frame, after_frames, after_sent}
+use Rattle.ddcmp_station.specs.Linking.{after_taking, after_wake, with_state}
+use Rattle.ddcmp_session.specs.declared.messages.Form.{Form}
+use Rattle.ddcmp_session.specs.declared.messages.Form.TheVariants.{Digits, Binary}
+use Rattle.ddcmp_session.specs.declared.messages.Messages.{Messages}
+use Rattle.ddcmp_session.specs.Messages.{message_in, after_input, entries_of_input, after_last}
+use Rattle.ddcmp_session.specs.Messages.{entry_of_last}
+use Rattle.ddcmp_session.specs.Queue.{after_taken}
+use Rattle.ddcmp_session.specs.Session.{SessionView, session_made, form_of, wants_input}
+use Rattle.ddcmp_session.specs.Session.{after_typed}
+use Rattle.ddcmp_session.specs.Session.{after_input_end}
+use Rattle.ddcmp_session.specs.Text.{Wrote, mail_text, notice_text, notices_text, lost_text}
+use Rattle.ddcmp_callers.specs.Links.{LinkCall, BeginsAnew, Halts, Wakes, Offers, FillsOne, IsSent}
+use Rattle.ddcmp_callers.specs.Links.{Feeds, Takes, HasFed, LinkStep, LinkHistory}
+
+-- A call of a session, by its name: with the bytes of its input or of its line that it used, how
+-- many frames it put, how many bytes a device took, the moment that it was passed, or whether it
+-- delivered a message. Other calls change nothing of a session's view.
+pub data SessionCall : Type 0 where
+  Typed : (used : List ℕ) → SessionCall
+  InputEnded : SessionCall
+  Connected : SessionCall
+  LineEnded : SessionCall
+  Received : (used : List ℕ) → SessionCall
+  Filled : (frames : ℕ) → SessionCall
+  LineTook : (n : ℕ) → SessionCall
+  TimedOut : (now : ℕ) → SessionCall
+  Delivered : (has_mail : Bool) → SessionCall
+  OutputTook : (n : ℕ) → SessionCall
+  Closed : SessionCall
+
+-- ---- what the contract of each call says that it does
+
+-- bytes of the input, of which only the last may complete something
+abbrev pub CompletesLast : List ℕ → Messages → Type 0
+CompletesLast used m = (front : List ℕ) (byte : ℕ) → used ≡ front ++ byte ∷ []
+    → entries_of_input front m ≡ []
+
+pub record HasTyped (used : List ℕ) (old new : SessionView) : Type 0 where
+  pub state : new ≡ after_typed used old
+  pub wanted : wants_input old ≡ false → used ≡ []
+  pub part : CompletesLast used old.messages
+
+-- a text was written, and nothing else done
+pub record HasWritten (text : List ℕ) (old new : SessionView) : Type 0 where
+  pub wrote : Wrote text old.output new.output
+  pub stays : new ≡ record old { output = new.output }
+
+-- bytes of the line were used, where this text came before, and their notices written
+pub record HasReceived (text used : List ℕ) (old new : SessionView) : Type 0 where
+  pub fed : HasFed text used old.link new.link
+  pub wrote : Wrote (notices_text (form_of old.messages)
+      (notices_of_piece text used old.link.station.core)) old.output new.output
+  pub stays : new ≡ record old { link = new.link; output = new.output }
+
+-- the first received message was taken and written
+pub record HasDelivered (old new : SessionView) : Type 0 where
+  pub link : new.link ≡ after_taking old.link
+  pub wrote : (message : List ℕ)
+      × (first_message old.link.station.core.station.inbox ≡ Some message)
+      × Wrote (mail_text (form_of old.messages) message) old.output new.output
+  pub stays : new ≡ record old { link = new.link; output = new.output }
+
+-- none was: what waits for standard output stays
+pub record HasWaited (old new : SessionView) : Type 0 where
+  pub waiting : new.output.waiting ≡ old.output.waiting
+  pub cut : new.output.is_cut ≡ old.output.is_cut
+  pub stays : new ≡ record old { output = new.output }
+
+-- the station was halted, and what is left of the input was dropped
+pub record HasClosed (old new : SessionView) : Type 0 where
+  pub link : new.link ≡ with_state (after_halt old.link.station.core.station) old.link
+  pub wrote : Wrote (lost_text (form_of old.messages)
+      (length old.link.station.core.station.out)) old.output new.output
+  pub form : form_of new.messages ≡ form_of old.messages
+  pub stays : new ≡ record old {
+    link = new.link;
+    messages = new.messages;
+    is_read = true;
+    was_refused = new.was_refused;
+    output = new.output;
+  }
+
+-- `connected` clears the line: here it begins on a line that is clear.
+abbrev pub SessionDoes : SessionCall → List ℕ → SessionView → SessionView → Type 0
+SessionDoes (Typed used) text old new = HasTyped used old new
+SessionDoes InputEnded text old new = new ≡ after_input_end old
+SessionDoes Connected text old new =
+    (new ≡ record old { link = anew new.link.station.line old.link })
+    × (text ≡ [])
+    × (old.link.outbox.waiting ≡ [])
+SessionDoes LineEnded text old new =
+    HasWritten (lost_text (form_of old.messages) (length old.link.station.core.station.out)) old new
+SessionDoes (Received used) text old new = HasReceived text used old new
+SessionDoes (Filled frames) text old new =
+    new ≡ record old { link = after_frames frames old.link }
+SessionDoes (LineTook n) text old new = new ≡ record old { link = after_sent n old.link }
+SessionDoes (TimedOut now) text old new = new ≡ record old { link = after_wake now old.link }
+SessionDoes (Delivered true) text old new = HasDelivered old new
+SessionDoes (Delivered false) text old new = HasWaited old new
+SessionDoes (OutputTook n) text old new = new ≡ record old { output = after_taken n old.output }
+SessionDoes Closed text old new = HasClosed old new
+
+-- ---- the history of a session
+
+-- what a session has for standard output: a received message, a notice, or how many accepted
+-- messages were left unacknowledged when a line ended, or the run
+pub data Shown : Type 0 where
+  Mail : (message : List ℕ) → Shown
+  Reports : (notice : Notice) → Shown
+  Loses : (count : ℕ) → Shown
+
+-- A session, and what has been since it was made: the bytes of its line that it used, those that
+-- its line took, the bytes of its input that it took, those that its output took, and what it
+-- delivered and reported.
+pub record SessionHistory : Type 0 where
+  pub session : SessionView
+  pub used : List ℕ
+  pub gone : List ℕ
+  pub input : List ℕ
+  pub written : List ℕ
+  pub shown : List Shown
+
+abbrev pub new_session : Form → Config → ℕ → ReaderView → SessionHistory
+new_session form config milliseconds line = record {
+  session = session_made form config milliseconds line;
+  used = [];
+  gone = [];
+  input = [];
+  written = [];
+  shown = [];
+}
+
+-- a call, and the session after it
+pub record SessionStep : Type 0 where
+  pub call : SessionCall
+  pub session : SessionView
+
+abbrev pub used_in : SessionCall → List ℕ
+used_in (Received used) = used
+used_in _ = []
+
+abbrev pub gone_in : SessionCall → SessionView → List ℕ
+gone_in (LineTook n) s = take n s.link.outbox.waiting
+gone_in _ s = []
+
+-- the end of an input of lines is that of its last line
+abbrev pub end_in : Form → List ℕ
+end_in Digits = 10 ∷ []
+end_in Binary = []
+
+abbrev pub input_in : SessionCall → SessionView → List ℕ
+input_in (Typed used) s = used
+input_in InputEnded s = if wants_input s then end_in (form_of s.messages) else []
+input_in _ s = []
+
+abbrev pub written_in : SessionCall → SessionView → List ℕ
+written_in (OutputTook n) s = take n s.output.waiting
+written_in _ s = []
+
+abbrev pub shown_in : SessionCall → List ℕ → SessionView → List Shown
+shown_in LineEnded text s = Loses (length s.link.station.core.station.out) ∷ []
+shown_in Closed text s = Loses (length s.link.station.core.station.out) ∷ []
+shown_in (Received used) text s =
+    map Reports (notices_of_piece text used s.link.station.core)
+shown_in (Delivered true) text s =
+    map Mail (option_to_list (first_message s.link.station.core.station.inbox))
+shown_in _ text s = []
+
+abbrev pub after_session_step : SessionStep → SessionHistory → SessionHistory
+after_session_step step h = record {
+  session = step.session;
+  used = h.used ++ used_in step.call;
+  gone = h.gone ++ gone_in step.call h.session;
+  input = h.input ++ input_in step.call h.session;
+  written = h.written ++ written_in step.call h.session;
+  shown = h.shown ++ shown_in step.call h.used h.session;
+}
+
+-- Each step is a call, as its contract says.
+abbrev pub IsSessionHistory : List SessionStep → SessionHistory → Type 0
+IsSessionHistory [] h = Unit {0}
+IsSessionHistory (step ∷ rest) h =
+    SessionDoes step.call h.used h.session step.session
+    × IsSessionHistory rest (after_session_step step h)
+
+unfoldable pub after_session_steps : List SessionStep → SessionHistory → SessionHistory
+after_session_steps [] h = h
+after_session_steps (step ∷ rest) h = after_session_steps rest (after_session_step step h)
+
+-- ---- the messages of an input, and the text of an output
+
+abbrev pub got : Told → List (List ℕ)
+got (Got message) = message ∷ []
+got (Refused why) = []
+
+unfoldable pub got_in : List Told → List (List ℕ)
+got_in [] = []
+got_in (told ∷ rest) = got told ++ got_in rest
+
+-- the messages of at most `max` bytes that an input has
+abbrev pub messages_of : Form → ℕ → List ℕ → List (List ℕ)
+messages_of Digits max input =
+    got_in (map (λ (told : ℕ × Told). told.1) (lines.told_in input (hex.begun max)))
+messages_of Binary max input = got_in (binary.told_in input (lengths.begun max))
+
+abbrev pub mail_of : Shown → List (List ℕ)
+mail_of (Mail message) = message ∷ []
+mail_of _ = []
+
+-- the messages that were delivered
+unfoldable pub mail_in : List Shown → List (List ℕ)
+mail_in [] = []
+mail_in (one ∷ rest) = mail_of one ++ mail_in rest
+
+abbrev pub text_of : Form → Shown → List ℕ
+text_of form (Mail message) = mail_text form message
+text_of form (Reports notice) = notice_text form notice
+text_of form (Loses count) = lost_text form count
+
+unfoldable pub texts_of : Form → List Shown → List ℕ
+texts_of form [] = []
+texts_of form (one ∷ rest) = text_of form one ++ texts_of form rest
+
+-- ---- its link
+
+abbrev pub link_step : LinkCall → LinkView → LinkStep
+link_step call new = record { call = call; link = new }
+
+-- a message that was read is offered, and nothing else is
+abbrev pub offers_of : List Entry → List ℕ → LinkView → List LinkStep
+offers_of (Message ∷ rest) message new = link_step (Offers message) new ∷ []
+offers_of _ message new = []
+
+unfoldable pub frames_put : ℕ → LinkView → List LinkStep
+frames_put zero d = []
+frames_put (suc n) d = link_step FillsOne (after_frame d) ∷ frames_put n (after_frame d)
+
+-- the calls of its link that a call makes of a session, whose link is this one then
+abbrev pub link_steps_of : SessionCall → SessionView → LinkView → List LinkStep
+link_steps_of (Typed used) s new =
+    offers_of (entries_of_input used s.messages) (message_in (after_input used s.messages)) new
+link_steps_of InputEnded s new =
+    if wants_input s
+    then offers_of (option_to_list (entry_of_last s.messages)) (message_in (after_last s.messages))
+    new
+    else []
+link_steps_of Connected s new = link_step BeginsAnew new ∷ []
+link_steps_of LineEnded s new = []
+link_steps_of (Received used) s new = link_step (Feeds used) new ∷ []
+link_steps_of (Filled frames) s new = frames_put frames s.link
+link_steps_of (LineTook n) s new = link_step (IsSent n) new ∷ []
+link_steps_of (TimedOut now) s new = link_step (Wakes now) new ∷ []
+link_steps_of (Delivered true) s new = link_step Takes new ∷ []
+link_steps_of (Delivered false) s new = []
+link_steps_of (OutputTook n) s new = []
+link_steps_of Closed s new = link_step Halts new ∷ []
+
+unfoldable pub link_steps_in : List SessionStep → SessionHistory → List LinkStep
+link_steps_in [] h = []
+link_steps_in (step ∷ rest) h =
+    link_steps_of step.call h.session step.session.link
+    ++ link_steps_in rest (after_session_step step h)
+
+-- The history of a session and that of its link are the same: it used these bytes of the line, and
+-- its line took those; it accepted the messages of the input, and gave those that were delivered.
+pub record IsOfLink (form : Form) (max : ℕ) (h : SessionHistory) (l : LinkHistory) : Type 0 where
+  pub link : l.link ≡ h.session.link
+  pub used : l.used ≡ h.used
+  pub gone : l.gone ≡ h.gone
+  pub accepted : l.accepted ≡ messages_of form max h.input
+  pub taken : l.taken ≡ mail_in h.shown

@@ -1,0 +1,79 @@
+//! Two sessions as pipes, over a line that may lose, cut and damage what it carries.
+ghost use Rattle.std.specs.Prelude.{◌≡◌, true};
+ghost use Rattle.ddcmp_frame.specs.Reader.{ReaderView};
+ghost use Rattle.ddcmp_run.specs.Run.{new_pair};
+ghost use Rattle.ddcmp_callers.specs.Calls.{run_calls};
+ghost use Rattle.ddcmp_callers.specs.LinkLines.{calls_of_steps};
+ghost use Rattle.ddcmp_callers.specs.LinkStory.{small};
+ghost use Rattle.ddcmp_pipe.specs.Pipe.{IsKeptByPipes, Pipes, PipesAll, PipesBytes, PipesWhole};
+ghost use Rattle.ddcmp_pipe.specs.Pipe.{IsKeptOverConnections, SessionsOverStreams};
+ghost use Rattle.ddcmp_pipe.specs.Pipe.{AreConnectedOnce, link_steps_at, links_made};
+ghost use Rattle.ddcmp_pipe.specs.Pipe.{after_sessions};
+ghost use Rattle.ddcmp_pipe.specs.PipeStory.{small_made, small_sessions, pipe_steps};
+ghost use Rattle.ddcmp_pipe.specs.PipeStory.{HasComeThrough};
+
+/// Two new sessions of any sizes in range, each connected at most once, over an honest line: the
+/// good frames that each received are, in their order, among those that the other sent. Whatever
+/// else the line did, as lose, cut or damage what it carries, whatever the calls, the moments and
+/// the cuts: the messages that each delivered are the first of those that the other's input has, in
+/// their order, each once and unchanged.
+pub fn pipe()
+    ensures to_b { IsKeptByPipes (λ first second p. Pipes first p.a p.b) }
+    ensures to_a { IsKeptByPipes (λ first second p. Pipes second p.b p.a) }
+{}
+
+/// If one of two such sessions may end as delivered, the other has received all messages that its
+/// input has: these, in their order, each once and unchanged, and no others.
+pub fn pipe_is_whole()
+    ensures to_b { IsKeptByPipes (λ first second p. PipesAll first p.a p.b) }
+    ensures to_a { IsKeptByPipes (λ first second p. PipesAll second p.b p.a) }
+{}
+
+/// The same in bytes, if both have their messages in binary and no text found no room: if what was
+/// read of one's input is the beginning of a file of messages that fit, each after its length, then
+/// what the other's standard output took is a beginning of that file; and it is the whole file if
+/// all of it was read, the one may end as delivered, and nothing waits to be delivered or written
+/// at the other.
+pub fn pipe_in_bytes()
+    ensures to_b { IsKeptByPipes (λ first second p. PipesBytes first second p.a p.b) }
+    ensures to_a { IsKeptByPipes (λ first second p. PipesBytes second first p.b p.a) }
+    ensures whole_to_b { IsKeptByPipes (λ first second p. PipesWhole first second p.a p.b) }
+    ensures whole_to_a { IsKeptByPipes (λ first second p. PipesWhole second first p.b p.a) }
+{}
+
+/// The same over connections, which give their bytes in order, and so without a word of frames: if
+/// what each session used is, after each call, a beginning of what the line of the other took.
+pub fn pipe_over_connections()
+    ensures to_b { IsKeptOverConnections (λ first second p. Pipes first p.a p.b) }
+    ensures to_a { IsKeptOverConnections (λ first second p. Pipes second p.b p.a) }
+    ensures all_to_b { IsKeptOverConnections (λ first second p. PipesAll first p.a p.b) }
+    ensures all_to_a { IsKeptOverConnections (λ first second p. PipesAll second p.b p.a) }
+    ensures bytes_to_b { IsKeptOverConnections
+        (λ first second p. PipesBytes first second p.a p.b) }
+    ensures bytes_to_a { IsKeptOverConnections
+        (λ first second p. PipesBytes second first p.b p.a) }
+    ensures whole_to_b { IsKeptOverConnections
+        (λ first second p. PipesWhole first second p.a p.b) }
+    ensures whole_to_a { IsKeptOverConnections
+        (λ first second p. PipesWhole second first p.b p.a) }
+{}
+
+/// Two sessions through which a message comes, so that no law above holds because nothing can
+/// happen: a list of calls over connections, each end connected once, after which one has read a
+/// message and the end of its input, the other's output took its bytes, and the first may end as
+/// delivered.
+pub fn a_message_comes_through()
+    ensures streams { (line other_line : ReaderView)
+        → SessionsOverStreams (pipe_steps line other_line) (small_sessions line other_line) }
+    ensures once { (line other_line : ReaderView)
+        → AreConnectedOnce (pipe_steps line other_line) }
+    ensures honest { (line other_line : ReaderView)
+        → (run_calls
+        (calls_of_steps
+        (link_steps_at (pipe_steps line other_line) (small_sessions line other_line))
+        (links_made (small_made line) (small_made other_line)))
+        (new_pair small small)).honest ≡ true }
+    ensures ends { (line other_line : ReaderView)
+        → HasComeThrough
+        (after_sessions (pipe_steps line other_line) (small_sessions line other_line)) }
+{}

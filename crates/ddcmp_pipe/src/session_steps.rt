@@ -1,0 +1,135 @@
+//! What joins the laws of sessions to the code: for each call of a session a function that makes
+//! it, whose contract says that it is that call of a history.
+ghost use Rattle.std.specs.Prelude.{◌≡◌, ◌<◌, ◌≤◌, ◌++◌, ℕ, true, List, [], min, length, take};
+ghost use Rattle.std.specs.Prelude.{is_ok, is_some, IfOk, None};
+ghost use Rattle.ddcmp_frame.specs.Reader.{StandsFor};
+ghost use Rattle.ddcmp_window.specs.Store.{first_message};
+ghost use Rattle.ddcmp_core.specs.Table.{after_halt, answer_to_start};
+ghost use Rattle.ddcmp_proto.specs.Config.{first_refusal};
+ghost use Rattle.ddcmp_station.specs.Linking.{countable};
+ghost use Rattle.ddcmp_session.specs.Messages.{entries_of_input};
+ghost use Rattle.ddcmp_session.specs.Session.{wants_input, wants_line, room_for_mail};
+ghost use Rattle.ddcmp_pipe.specs.Sessions.{SessionDoes, Typed, InputEnded, Connected, LineEnded};
+ghost use Rattle.ddcmp_pipe.specs.Sessions.{Received, Filled, LineTook, TimedOut, Delivered};
+ghost use Rattle.ddcmp_pipe.specs.Sessions.{OutputTook, Closed, new_session};
+
+use ddcmp_session::{LineKind, Options, Session};
+use ddcmp_station::ConfigRefusal;
+use std::alloc::Global;
+
+/// Makes a session of sizes in range, with which a history begins.
+pub fn makes(alloc: Global, options: Options, kind: LineKind) -> Result<Session, ConfigRefusal>
+    ensures begins { IfOk result (λ s. s ≡ (new_session options.form options.config
+        options.timer_ms s.link.station.line).session) }
+    ensures line { IfOk result (λ s. StandsFor s.link.station.line []) }
+    ensures in_range { IfOk result (λ s. first_refusal options.config ≡ None) }
+{
+    Session::new(alloc, options, kind)
+}
+
+/// Takes bytes of the input, as many as are returned: all, if they complete nothing.
+pub fn types(session: &mut Session, bytes: &[u8]) -> usize
+    ensures done { (text : List ℕ)
+        → SessionDoes (Typed (take result bytes.now)) text session.old session.new }
+    ensures whole { wants_input session.old ≡ true
+        → entries_of_input (take result bytes.now) session.old.messages ≡ []
+        → result ≡ length bytes.now }
+    ensures line { session.new.link.station.line ≡ session.old.link.station.line }
+{
+    session.typed(bytes)
+}
+
+/// Takes the end of the input.
+pub fn ends_input(session: &mut Session)
+    ensures done { (text : List ℕ) → SessionDoes InputEnded text session.old session.new }
+    ensures line { session.new.link.station.line ≡ session.old.link.station.line }
+{
+    session.input_ended();
+}
+
+/// Starts a session whose line is clear and to which nothing waits to be sent.
+pub fn connects(session: &mut Session) -> bool
+    ensures done { session.old.link.outbox.waiting ≡ []
+        → SessionDoes Connected [] session.old session.new }
+    ensures answer { result
+        ≡ is_ok (answer_to_start (after_halt session.old.link.station.core.station)) }
+    ensures line { StandsFor session.new.link.station.line [] }
+{
+    session.connected()
+}
+
+/// Takes the end of the line.
+pub fn ends_line(session: &mut Session)
+    ensures done { (text : List ℕ) → SessionDoes LineEnded text session.old session.new }
+    ensures line { session.new.link.station.line ≡ session.old.link.station.line }
+{
+    session.line_ended();
+}
+
+/// Takes bytes of the line, as many as are returned.
+pub fn receives(session: &mut Session, bytes: &[u8]) -> usize
+    ensures done { (text : List ℕ) → StandsFor session.old.link.station.line text
+        → SessionDoes (Received (take result bytes.now)) text session.old session.new }
+    ensures some { 0 < length bytes.now → 0 < countable session.old.link.station
+        → wants_line session.old ≡ true → 0 < result }
+    ensures line { (text : List ℕ) → StandsFor session.old.link.station.line text
+        → StandsFor session.new.link.station.line (text ++ take result bytes.now) }
+{
+    session.received(bytes)
+}
+
+/// Puts frames after what waits for the line.
+pub fn fills(session: &mut Session)
+    ensures done { (text : List ℕ)
+        → (frames : ℕ) × SessionDoes (Filled frames) text session.old session.new }
+    ensures line { session.new.link.station.line ≡ session.old.link.station.line }
+{
+    session.fill();
+}
+
+/// Takes note that the line took bytes.
+pub fn line_takes(session: &mut Session, n: usize)
+    ensures done { (text : List ℕ)
+        → SessionDoes (LineTook (min n (length session.old.link.outbox.waiting))) text session.old
+        session.new }
+    ensures line { session.new.link.station.line ≡ session.old.link.station.line }
+{
+    session.line_took(n);
+}
+
+/// Handles the timers.
+pub fn times_out(session: &mut Session, now: u64)
+    ensures done { (text : List ℕ) → SessionDoes (TimedOut now) text session.old session.new }
+    ensures line { session.new.link.station.line ≡ session.old.link.station.line }
+{
+    session.handle_timeout(now);
+}
+
+/// Writes the first received message, if it is there and has room.
+pub fn delivers(session: &mut Session) -> bool
+    ensures done { (text : List ℕ)
+        → SessionDoes (Delivered result) text session.old session.new }
+    ensures when { room_for_mail session.old ≤ session.old.output.room → result
+        ≡ is_some (first_message session.old.link.station.core.station.inbox) }
+    ensures line { session.new.link.station.line ≡ session.old.link.station.line }
+{
+    session.deliver()
+}
+
+/// Takes note that standard output took bytes.
+pub fn output_takes(session: &mut Session, n: usize)
+    ensures done { (text : List ℕ)
+        → SessionDoes (OutputTook (min n (length session.old.output.waiting))) text session.old
+        session.new }
+    ensures line { session.new.link.station.line ≡ session.old.link.station.line }
+{
+    session.output_took(n);
+}
+
+/// Ends the run.
+pub fn closes(session: &mut Session, input: &[u8], input_is_at_end: bool)
+    ensures done { (text : List ℕ) → SessionDoes Closed text session.old session.new }
+    ensures line { session.new.link.station.line ≡ session.old.link.station.line }
+{
+    session.close(input, input_is_at_end);
+}

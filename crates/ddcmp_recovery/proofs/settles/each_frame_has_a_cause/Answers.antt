@@ -1,5 +1,0 @@
-use Rattle.ddcmp_recovery.proofs.Settling.{from_new}
-use Rattle.ddcmp_recovery.proofs.settles.each_frame_has_a_cause.Goals as goal
-
-pub returns : goal.returns
-returns c = from_new

@@ -1,0 +1,59 @@
+//! How a session runs.
+use crate::messages::Form;
+use ddcmp_station::Config;
+
+/// How a session runs.
+#[derive(Clone, Copy, Debug, PartialEq, Eq)]
+pub struct Options {
+    pub config: Config,
+    /// How long the station waits for an answer, in milliseconds.
+    pub timer_ms: u32,
+    /// After how many tries without progress a line is left; 0 is never, and `u32::MAX` is 7 until
+    /// the station runs and never from then on.
+    pub attempts: u32,
+    /// For how long it stays once all of the input was delivered, since a message came, in
+    /// milliseconds.
+    pub linger_ms: u32,
+    /// After how many seconds it ends.
+    pub seconds: u32,
+    /// After how many seconds each report of the counters is written; 0 is never.
+    pub report: u32,
+    pub form: Form,
+    /// Whether it goes on once all of the input was delivered.
+    pub stay: bool,
+    /// Whether the line is opened again if it ends or can't be opened.
+    pub again: bool,
+    /// Whether counters are written before the last line.
+    pub counters: bool,
+    /// Whether the frames of both ways are logged on standard error.
+    pub trace: bool,
+    /// Whether lines on standard error begin with the time of day.
+    pub clock: bool,
+    /// Whether reports are JSON objects.
+    pub json: bool,
+}
+
+/// What a line is, as far as that makes a difference.
+#[derive(Clone, Copy, Debug, PartialEq, Eq)]
+pub enum LineKind {
+    /// A connection to a peer.
+    Connect,
+    /// A connection from whoever calls.
+    Listen,
+    /// Datagrams, one frame each.
+    Datagrams,
+    /// A serial line.
+    Device,
+}
+
+impl LineKind {
+    /// Whether each write is a frame of its own.
+    pub(crate) fn is_of_datagrams(self) -> bool {
+        matches!(self, LineKind::Datagrams)
+    }
+
+    /// Whether a peer is there once it is open.
+    pub(crate) fn is_connection(self) -> bool {
+        matches!(self, LineKind::Connect | LineKind::Listen)
+    }
+}
