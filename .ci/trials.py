@@ -66,15 +66,26 @@ class Running:
         return self.output.read().decode(errors="replace").splitlines()
 
 
-def run(script, trials, limit, workers=4, times=False):
-    """Runs trials, several at a time, and prints their faults in the order of the trials: the script's status."""
+def run_all(trials, limit, workers):
+    """Runs trials, several at a time."""
     waiting, runs = list(trials), []
     while waiting or not all([it.has_ended() for it in runs]):
         while waiting and sum(not it.has_ended() for it in runs) < workers:
             sys.stdout.flush()
             runs.append(Running(waiting.pop(0), limit))
         time.sleep(0.01)
-    for it in runs:
+    return runs
+
+
+def run(script, trials, limit, workers=4, times=False, strict=False):
+    """Runs trials and prints their faults in the order of the trials: the script's status. What fails beside others
+    is tried once more alone, since a busy machine is late, unless it is strict; its faults go to standard error then."""
+    runs = run_all(trials, limit, workers)
+    for at, it in enumerate(runs):
+        if it.status and not strict:
+            for line in it.said():
+                print(f"{script}: at first {line}", file=sys.stderr)
+            runs[at] = it = run_all([trials[at]], limit, 1)[0]
         for line in it.said():
             print(f"{script}: {line}")
         if times:

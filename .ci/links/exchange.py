@@ -8,7 +8,7 @@ import threading
 from links.kit import Link, binary, connected, listening, wrong
 
 LOSS = 0.1
-OPTIONS = ("--binary", "--timer-ms", "60", "--attempts", "0", "--linger-ms", "1500", "--seconds", "40")
+OPTIONS = ("--binary", "--timer-ms", "60", "--attempts", "0", "--linger-ms", "3000", "--seconds", "50")
 WORKERS = 8
 
 
@@ -114,7 +114,7 @@ def judge(seed, one, two, files, loss):
     """What is wrong with how two links end that were given a file each."""
     one.give(binary(files[0]))
     two.give(binary(files[1]))
-    statuses = one.ended(45), two.ended(45)
+    statuses = one.ended(55), two.ended(55)
     whole = one.said == binary(files[1]) and two.said == binary(files[0])
     if statuses == (0, 0) and whole and loss.lost:
         return None

@@ -92,6 +92,8 @@ def junk():
                 before = one.memory()
     if one.run.poll() is not None:
         wrong(f"ended: {one.told}")
+    elif before is None:
+        wrong(f"takes no more after {moved} bytes")
     elif one.memory() > before + 512:
         wrong(f"memory grew from {before} to {one.memory()} kB")
     one.run.send_signal(signal.SIGTERM)
