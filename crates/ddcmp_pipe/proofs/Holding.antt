@@ -142,8 +142,7 @@ pub text_on : (f : Form) (max : ℕ) (h : SessionHistory) (new : SessionView) �
     → new.output ≡ h.session.output → IsText f (h.written ++ []) new.output (h.shown ++ [])
 text_on f max h new k same =
     writes f h.written h.shown [] h.session.output new.output [] k.text
-    (keeps h.session.output new.output (ap (λ (q : QueueView). q.waiting) same)
-    (ap (λ (q : QueueView). q.is_cut) same)) (no_text f)
+    (keeps h.session.output new.output same) (no_text f)
 
 -- one call of the link, of a call that reads nothing
 pub one_call : (f : Form) (max : ℕ) (h : SessionHistory) (new : SessionView) (k : ℕ) (call :

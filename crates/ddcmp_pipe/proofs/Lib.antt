@@ -1,3 +1,4 @@
+pub mod Anew
 pub mod Histories
 pub mod Holding
 pub mod Inputs

@@ -22,7 +22,7 @@ use Rattle.ddcmp_session.specs.Messages.{message_in, after_input, entries_of_inp
 use Rattle.ddcmp_session.specs.Messages.{after_last, entry_of_last}
 use Rattle.ddcmp_session.specs.Session.{SessionView, form_of, wants_input}
 use Rattle.ddcmp_session.specs.Session.{after_last_line, after_unfinished, after_input_end}
-use Rattle.ddcmp_session.specs.Text.{lost_text, mail_text, notices_text}
+use Rattle.ddcmp_session.specs.Text.{reported_lost, mail_text, notices_text}
 use Rattle.ddcmp_callers.specs.Links.{LinkCall, BeginsAnew, Halts, Wakes, IsSent, Feeds}
 use Rattle.ddcmp_callers.specs.Links.{Takes, HasDone, new_history}
 use Rattle.ddcmp_callers.specs.Links.{after_step, after_history}
@@ -31,8 +31,8 @@ use Rattle.ddcmp_pipe.specs.Sessions.{SessionCall, Typed, InputEnded, Connected,
 use Rattle.ddcmp_pipe.specs.Sessions.{Received}
 use Rattle.ddcmp_pipe.specs.Sessions.{Filled, LineTook, TimedOut, Delivered, OutputTook, Closed}
 use Rattle.ddcmp_pipe.specs.Sessions.{HasReceived, HasDelivered, HasClosed}
-use Rattle.ddcmp_pipe.specs.Sessions.{SessionDoes, Shown, Mail, Reports, Loses, SessionHistory}
-use Rattle.ddcmp_pipe.specs.Sessions.{new_session, SessionStep, end_in}
+use Rattle.ddcmp_pipe.specs.Sessions.{SessionDoes, Shown, Mail, Reports, SessionHistory}
+use Rattle.ddcmp_pipe.specs.Sessions.{new_session, SessionStep, end_in, losses}
 use Rattle.ddcmp_pipe.specs.Sessions.{messages_of, got_in}
 use Rattle.ddcmp_pipe.specs.Sessions.{mail_in, texts_of, link_step, offers_of, frames_put}
 use Rattle.ddcmp_pipe.proofs.Texts.{mail_more, no_mail, mail_is, nothing_lost, notices_are}
@@ -230,15 +230,16 @@ output_step f max h new k written shown holds is mail text = (
   no_offer f max h.input [] refl,
 )
 
-pub closed_step : (f : Form) (max : ℕ) (h : SessionHistory) (new : SessionView) (k : ℕ)
-    → Holds f max h → HasClosed h.session new
-    → StepLeads f max (record { call = Closed; session = new }) h k
+pub closed_step : (f : Form) (max : ℕ) (h : SessionHistory) (r : Bool) (new : SessionView) (k : ℕ)
+    → Holds f max h → HasClosed r h.session new
+    → StepLeads f max (record { call = Closed r; session = new }) h k
 unfolding after_history offered_in
-closed_step f max h new k holds d =
+closed_step f max h r new k holds d =
     let count = length h.session.link.station.core.station.out in
-    let shown = h.shown ++ Loses count ∷ [] in
+    let lost = losses r h.session in
+    let shown = h.shown ++ lost in
     let mail : mail_in shown ≡ mail_in h.shown ++ [] =
-    mail_more h.shown (Loses count ∷ []) ∙ ap (λ ms. mail_in h.shown ++ ms) (nothing_lost count)
+    mail_more h.shown lost ∙ ap (λ ms. mail_in h.shown ++ ms) (nothing_lost r h.session)
     in (
       one_call f max h new k Halts (h.used ++ []) (h.gone ++ []) (h.written ++ []) shown [] d.link
           refl mail,
@@ -247,9 +248,9 @@ closed_step f max h new k holds d =
         longest = ap longest_of d.link ∙ holds.longest;
         reads = λ going. no (sym (ap (λ (x : SessionView). x.is_read) d.stays) ∙ going);
         text =
-            writes f h.written h.shown (Loses count ∷ []) h.session.output new.output
-            (lost_text (form_of h.session.messages) count) holds.text d.wrote
-            (ap (λ g. lost_text g count) holds.kind ∙ lost_text_is f count);
+            writes f h.written h.shown lost h.session.output new.output
+            (reported_lost r (form_of h.session.messages) count) holds.text d.wrote
+            (ap (λ g. reported_lost r g count) holds.kind ∙ lost_text_is r f h.session);
       },
       no_offer f max h.input (link_step Halts new.link ∷ []) refl,
     )
@@ -274,15 +275,16 @@ step_leads f max step h k does holds = by step.call step.session does
         link_step_leads f max h new k BeginsAnew (h.used ++ []) (h.gone ++ [])
         (anew new.link.station.line h.session.link) holds d.0
         (ap (λ (x : SessionView). x.link) d.0, d.1, d.2) refl refl refl
-    by LineEnded new d =
+    by (LineEnded r) new d =
         let count = length h.session.link.station.core.station.out in
-        output_step f max h new k (h.written ++ []) (h.shown ++ Loses count ∷ []) holds d.stays
-        (mail_more h.shown (Loses count ∷ [])
-        ∙ ap (λ ms. mail_in h.shown ++ ms) (nothing_lost count)
+        let lost = losses r h.session in
+        output_step f max h new k (h.written ++ []) (h.shown ++ lost) holds d.stays
+        (mail_more h.shown lost
+        ∙ ap (λ ms. mail_in h.shown ++ ms) (nothing_lost r h.session)
         ∙ append-nil (mail_in h.shown))
-        (writes f h.written h.shown (Loses count ∷ []) h.session.output new.output
-        (lost_text (form_of h.session.messages) count) holds.text d.wrote
-        (ap (λ g. lost_text g count) holds.kind ∙ lost_text_is f count))
+        (writes f h.written h.shown lost h.session.output new.output
+        (reported_lost r (form_of h.session.messages) count) holds.text d.wrote
+        (ap (λ g. reported_lost r g count) holds.kind ∙ lost_text_is r f h.session))
     by (Received used) new d = received_step f max h new k used holds d
     by (Filled frames) new d = filled_step f max h new k frames holds d
     by (LineTook n) new d =
@@ -297,8 +299,7 @@ step_leads f max step h k does holds = by step.call step.session does
     by (Delivered false) new d =
         output_step f max h new k (h.written ++ []) (h.shown ++ []) holds d.stays
         (quiet_mail h.shown)
-        (writes f h.written h.shown [] h.session.output new.output [] holds.text
-        (keeps h.session.output new.output d.waiting d.cut) (no_text f))
+        (writes f h.written h.shown [] h.session.output new.output [] holds.text d.wrote (no_text f))
     by (OutputTook n) new d =
         output_step f max h new k (h.written ++ take n h.session.output.waiting) (h.shown ++ [])
         holds
@@ -307,9 +308,8 @@ step_leads f max step h k does holds = by step.call step.session does
         (sym (ap (λ (x : SessionView). x.output) d)))
         (quiet_mail h.shown)
         (took f h.written n h.shown h.session.output new.output holds.text
-        (ap (λ (x : SessionView). x.output.waiting) d)
-        (ap (λ (x : SessionView). x.output.is_cut) d))
-    by Closed new d = closed_step f max h new k holds d
+        (ap (λ (x : SessionView). x.output.waiting) d))
+    by (Closed r) new d = closed_step f max h r new k holds d
 
 -- ---- a new session
 
@@ -319,6 +319,6 @@ pub begins : (f : Form) (config : Config) (milliseconds : ℕ) (line : ReaderVie
     ≡ link_history f config.max (new_session f config milliseconds line) 0)
 unfolding got_in mail_in texts_of binary.told_in lines.told_in lengths.after_bytes hex.after_bytes
 begins form.Digits config milliseconds line =
-    (record { kind = refl; longest = refl; reads = λ going. refl; text = λ whole. refl }, refl)
+    (record { kind = refl; longest = refl; reads = λ going. refl; text = refl }, refl)
 begins form.Binary config milliseconds line =
-    (record { kind = refl; longest = refl; reads = λ going. refl; text = λ whole. refl }, refl)
+    (record { kind = refl; longest = refl; reads = λ going. refl; text = refl }, refl)

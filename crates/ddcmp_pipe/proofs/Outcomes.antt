@@ -87,19 +87,19 @@ read_first max input rest messages fit e =
 
 -- the output of one that writes binary
 pub output_is : (made other : Made) (taker : SessionHistory) → other.form ≡ form.Binary
-    → Holds other.form other.config.max taker → taker.session.output.is_cut ≡ false
+    → Holds other.form other.config.max taker
     → taker.written ++ taker.session.output.waiting ≡ in_binary (mail_in taker.shown)
-output_is made other taker is holds whole =
-    holds.text whole ∙ ap (λ f. texts_of f taker.shown) is ∙ only_mail taker.shown
+output_is made other taker is holds =
+    holds.text ∙ ap (λ f. texts_of f taker.shown) is ∙ only_mail taker.shown
 
 pub bytes_first : (made other : Made) (giver taker : SessionHistory)
     → Holds other.form other.config.max taker
     → IsPrefixOf (mail_in taker.shown) (messages_of made.form made.config.max giver.input)
     → PipesBytes made other giver taker
-bytes_first made other giver taker holds order is other_is whole messages fit begins_file =
+bytes_first made other giver taker holds order is other_is messages fit begins_file =
     let max = made.config.max in
     let r = read_first max giver.input begins_file.0 messages fit begins_file.1 in
-    let o = output_is made other taker other_is holds whole in
+    let o = output_is made other taker other_is holds in
     let waiting = taker.session.output.waiting in
     let mail = mail_in taker.shown in
     let all : mail ++ (order.0 ++ r.0) ≡ messages =
@@ -117,10 +117,10 @@ bytes_first made other giver taker holds order is other_is whole messages fit be
 pub bytes_whole : (made other : Made) (giver taker : SessionHistory)
     → Holds other.form other.config.max taker → PipesAll made giver taker
     → PipesWhole made other giver taker
-bytes_whole made other giver taker holds all is other_is whole messages fit file over none still =
+bytes_whole made other giver taker holds all is other_is messages fit file over none still =
     let max = made.config.max in
     let mail = mail_in taker.shown in
-    let o = output_is made other taker other_is holds whole in
+    let o = output_is made other taker other_is holds in
     let given : mail ≡ messages =
     sym (append-nil mail)
     ∙ ap (λ ms. mail ++ ms) (sym none)

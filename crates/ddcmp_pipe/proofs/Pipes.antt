@@ -168,7 +168,7 @@ call_starts InputEnded s new = by (wants_input s)
         (message_in (after_last s.messages)) new
     by false = refl
 call_starts Connected s new = refl
-call_starts LineEnded s new = refl
+call_starts (LineEnded r) s new = refl
 call_starts (Received used) s new = refl
 call_starts (Filled frames) s new = frames_start_none frames s.link
 call_starts (LineTook n) s new = refl
@@ -176,7 +176,7 @@ call_starts (TimedOut now) s new = refl
 call_starts (Delivered true) s new = refl
 call_starts (Delivered false) s new = refl
 call_starts (OutputTook n) s new = refl
-call_starts Closed s new = refl
+call_starts (Closed r) s new = refl
 
 pub own_a : (xs : List LinkStep) (rest : List (End × LinkStep))
     → link_starts A (steps_at_end A xs ++ rest) ≡ starts_in_steps xs + link_starts A rest

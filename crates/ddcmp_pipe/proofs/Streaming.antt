@@ -126,7 +126,7 @@ shape InputEnded s new = by (wants_input s)
         (message_in (after_last s.messages)) new)
     by false = inl tt
 shape Connected s new = inl (tt, tt)
-shape LineEnded s new = inl tt
+shape (LineEnded r) s new = inl tt
 shape (Received used) s new = inr (link_step (Feeds used) new, refl)
 shape (Filled frames) s new = inl (frames_still frames s.link)
 shape (LineTook n) s new = inr (link_step (IsSent n) new, refl)
@@ -134,7 +134,7 @@ shape (TimedOut now) s new = inl (tt, tt)
 shape (Delivered true) s new = inl (tt, tt)
 shape (Delivered false) s new = inl tt
 shape (OutputTook n) s new = inl tt
-shape Closed s new = inl (tt, tt)
+shape (Closed r) s new = inl (tt, tt)
 
 pub steps_a : (xs : List LinkStep) (ys : List (End × LinkStep)) (q : Links) → Shape xs
     → IsHistory xs q.a → Flows q.a q.b → Flows (after_history xs q.a) q.b

@@ -1,5 +1,5 @@
 -- The text of what a session delivered and reported.
-use Rattle.std.proofs.Common.{◌≡◌, ℕ, false, List, [], ◌∷◌, ◌++◌, map, take, drop}
+use Rattle.std.proofs.Common.{◌≡◌, ℕ, Bool, true, false, length, arith, List, [], ◌∷◌, ◌++◌, map, take, drop}
 use Rattle.std.proofs.Common.{refl, sym, ◌∙◌, ap, append_assoc, append-nil, Option, Some}
 use Rattle.std.proofs.Common.{option_to_list}
 use Rattle.std.proofs.lemmas.List.{take-append-drop}
@@ -8,9 +8,11 @@ use Rattle.ddcmp_input.specs.InBinary.{in_binary}
 use Rattle.ddcmp_session.specs.declared.messages.Form.{Form}
 use Rattle.ddcmp_session.specs.declared.messages.Form.TheVariants as form
 use Rattle.ddcmp_session.specs.Queue.{QueueView}
+use Rattle.ddcmp_session.specs.Session.{SessionView}
 use Rattle.ddcmp_session.specs.Text.{Wrote, notice_text, notices_text, mail_text, lost_text}
+use Rattle.ddcmp_session.specs.Text.{reported_lost}
 use Rattle.ddcmp_pipe.specs.Sessions.{Shown, Mail, Reports, Loses, mail_of, mail_in, text_of}
-use Rattle.ddcmp_pipe.specs.Sessions.{texts_of}
+use Rattle.ddcmp_pipe.specs.Sessions.{texts_of, losses}
 
 pub mail_more : (xs ys : List Shown) → mail_in (xs ++ ys) ≡ mail_in xs ++ mail_in ys
 unfolding mail_in
@@ -29,9 +31,10 @@ unfolding mail_in
 mail_is [] = refl
 mail_is (m ∷ rest) = ap (λ ms. m ∷ ms) (mail_is rest)
 
-pub nothing_lost : (count : ℕ) → mail_in (Loses count ∷ []) ≡ []
+pub nothing_lost : (r : Bool) (s : SessionView) → mail_in (losses r s) ≡ []
 unfolding mail_in
-nothing_lost count = refl
+nothing_lost true s = refl
+nothing_lost false s = refl
 
 texts_more : (f : Form) (xs ys : List Shown)
     → texts_of f (xs ++ ys) ≡ texts_of f xs ++ texts_of f ys
@@ -54,44 +57,45 @@ mail_text_is f first message is =
     sym (append-nil (mail_text f message))
     ∙ ap (λ o. texts_of f (map Mail (option_to_list o))) (sym is)
 
-pub lost_text_is : (f : Form) (count : ℕ) → lost_text f count ≡ texts_of f (Loses count ∷ [])
+pub lost_text_is : (r : Bool) (f : Form) (s : SessionView)
+    → reported_lost r f (length s.link.station.core.station.out) ≡ texts_of f (losses r s)
 unfolding texts_of
-lost_text_is f count = sym (append-nil (lost_text f count))
+lost_text_is true f s = sym (append-nil (lost_text f (length s.link.station.core.station.out)))
+lost_text_is false f s = refl
 
 pub no_text : (f : Form) → [] ≡ texts_of f []
 unfolding texts_of
 no_text f = refl
 
--- what was written, and what waits, is the text of what was shown, if the queue was never cut
+-- what was written, and what waits, is the text of what was shown
 abbrev pub IsText : Form → List ℕ → QueueView → List Shown → Type 0
-IsText f written q shown = q.is_cut ≡ false → written ++ q.waiting ≡ texts_of f shown
+IsText f written q shown = written ++ q.waiting ≡ texts_of f shown
 
 pub writes : (f : Form) (written : List ℕ) (shown more : List Shown) (old new : QueueView)
     (text : List ℕ) → IsText f written old shown → Wrote text old new → text ≡ texts_of f more
     → IsText f (written ++ []) new (shown ++ more)
-writes f written shown more old new text was wrote is whole =
-    let w = wrote.whole whole in
+writes f written shown more old new text was wrote is =
     ap (λ ys. ys ++ new.waiting) (append-nil written)
-    ∙ ap (λ ys. written ++ ys) w.1
+    ∙ ap (λ ys. written ++ ys) wrote.waiting
     ∙ sym (append_assoc written old.waiting text)
-    ∙ ap (λ ys. ys ++ text) (was w.0)
+    ∙ ap (λ ys. ys ++ text) was
     ∙ ap (λ ys. texts_of f shown ++ ys) is
     ∙ sym (texts_more f shown more)
 
-pub keeps : (old new : QueueView) → new.waiting ≡ old.waiting → new.is_cut ≡ old.is_cut
-    → Wrote [] old new
-keeps old new waiting cut = record {
-  whole = λ whole. (sym cut ∙ whole, waiting ∙ sym (append-nil old.waiting));
+pub keeps : (old new : QueueView) → new ≡ old → Wrote [] old new
+keeps old new same = record {
+  waiting = ap (λ (q : QueueView). q.waiting) same ∙ sym (append-nil old.waiting);
+  room = omega (arith, ap (λ (q : QueueView). q.room) same);
 }
 
 pub took : (f : Form) (written : List ℕ) (n : ℕ) (shown : List Shown) (old new : QueueView)
-    → IsText f written old shown → new.waiting ≡ drop n old.waiting → new.is_cut ≡ old.is_cut
+    → IsText f written old shown → new.waiting ≡ drop n old.waiting
     → IsText f (written ++ take n old.waiting) new (shown ++ [])
-took f written n shown old new was left cut whole =
+took f written n shown old new was left =
     ap (λ ys. (written ++ take n old.waiting) ++ ys) left
     ∙ append_assoc written (take n old.waiting) (drop n old.waiting)
     ∙ ap (λ ys. written ++ ys) (take-append-drop n old.waiting)
-    ∙ was (sym cut ∙ whole)
+    ∙ was
     ∙ ap (texts_of f) (sym (append-nil shown))
 
 -- in binary a text is its messages, each behind its length

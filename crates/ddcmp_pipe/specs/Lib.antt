@@ -1,3 +1,4 @@
 pub mod Sessions
 pub mod Pipe
 pub mod PipeStory
+pub mod Connections

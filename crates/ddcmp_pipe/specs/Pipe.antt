@@ -143,15 +143,15 @@ PipesAll made giver taker = is_delivered giver.session ≡ true
 -- other's output took begins that file too.
 abbrev pub PipesBytes : Made → Made → SessionHistory → SessionHistory → Type 0
 PipesBytes made other giver taker = made.form ≡ form.Binary → other.form ≡ form.Binary
-    → taker.session.output.is_cut ≡ false → (messages : List (List ℕ))
-    → All (Fits made.config.max) messages → Begins giver.input (in_binary messages)
+    → (messages : List (List ℕ)) → All (Fits made.config.max) messages
+    → Begins giver.input (in_binary messages)
     → Begins taker.written (in_binary messages)
 
 -- And if all of the file was read, and the one may end as delivered, then the other's output has
 -- all of it, once nothing waits there.
 abbrev pub PipesWhole : Made → Made → SessionHistory → SessionHistory → Type 0
 PipesWhole made other giver taker = made.form ≡ form.Binary → other.form ≡ form.Binary
-    → taker.session.output.is_cut ≡ false → (messages : List (List ℕ))
-    → All (Fits made.config.max) messages → giver.input ≡ in_binary messages
+    → (messages : List (List ℕ)) → All (Fits made.config.max) messages
+    → giver.input ≡ in_binary messages
     → is_delivered giver.session ≡ true → undelivered taker ≡ [] → taker.session.output.waiting ≡ []
     → taker.written ≡ in_binary messages

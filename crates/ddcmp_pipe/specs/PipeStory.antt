@@ -34,7 +34,7 @@ session_after (Typed used) h = after_typed used h.session
 session_after InputEnded h = after_input_end h.session
 session_after Connected h =
     record h.session { link = anew h.session.link.station.line h.session.link }
-session_after LineEnded h = after_shown LineEnded h h.session
+session_after (LineEnded r) h = after_shown (LineEnded r) h h.session
 session_after (Received used) h = after_shown (Received used) h
     (record h.session {
       link = record h.session.link {
@@ -51,7 +51,7 @@ session_after (Delivered true) h = after_shown (Delivered true) h
     (record h.session { link = after_taking h.session.link })
 session_after (Delivered false) h = h.session
 session_after (OutputTook n) h = record h.session { output = after_taken n h.session.output }
-session_after Closed h = after_shown Closed h
+session_after (Closed r) h = after_shown (Closed r) h
     (record h.session {
       link = with_state (after_halt h.session.link.station.core.station) h.session.link;
       is_read = true;
@@ -102,4 +102,3 @@ pub record HasComeThrough (p : Sessions) : Type 0 where
   pub input : p.a.input ≡ behind_length abc
   pub written : p.b.written ≡ behind_length abc
   pub over : is_delivered p.a.session ≡ true
-  pub whole : p.b.session.output.is_cut ≡ false

@@ -27,6 +27,7 @@ use Rattle.ddcmp_session.specs.Session.{SessionView, session_made, form_of, want
 use Rattle.ddcmp_session.specs.Session.{after_typed}
 use Rattle.ddcmp_session.specs.Session.{after_input_end}
 use Rattle.ddcmp_session.specs.Text.{Wrote, mail_text, notice_text, notices_text, lost_text}
+use Rattle.ddcmp_session.specs.Text.{reported_lost}
 use Rattle.ddcmp_callers.specs.Links.{LinkCall, BeginsAnew, Halts, Wakes, Offers, FillsOne, IsSent}
 use Rattle.ddcmp_callers.specs.Links.{Feeds, Takes, HasFed, LinkStep, LinkHistory}
 
@@ -37,14 +38,14 @@ pub data SessionCall : Type 0 where
   Typed : (used : List ℕ) → SessionCall
   InputEnded : SessionCall
   Connected : SessionCall
-  LineEnded : SessionCall
+  LineEnded : (is_reported : Bool) → SessionCall
   Received : (used : List ℕ) → SessionCall
   Filled : (frames : ℕ) → SessionCall
   LineTook : (n : ℕ) → SessionCall
   TimedOut : (now : ℕ) → SessionCall
   Delivered : (has_mail : Bool) → SessionCall
   OutputTook : (n : ℕ) → SessionCall
-  Closed : SessionCall
+  Closed : (is_reported : Bool) → SessionCall
 
 -- ---- what the contract of each call says that it does
 
@@ -78,16 +79,10 @@ pub record HasDelivered (old new : SessionView) : Type 0 where
       × Wrote (mail_text (form_of old.messages) message) old.output new.output
   pub stays : new ≡ record old { link = new.link; output = new.output }
 
--- none was: what waits for standard output stays
-pub record HasWaited (old new : SessionView) : Type 0 where
-  pub waiting : new.output.waiting ≡ old.output.waiting
-  pub cut : new.output.is_cut ≡ old.output.is_cut
-  pub stays : new ≡ record old { output = new.output }
-
 -- the station was halted, and what is left of the input was dropped
-pub record HasClosed (old new : SessionView) : Type 0 where
+pub record HasClosed (is_reported : Bool) (old new : SessionView) : Type 0 where
   pub link : new.link ≡ with_state (after_halt old.link.station.core.station) old.link
-  pub wrote : Wrote (lost_text (form_of old.messages)
+  pub wrote : Wrote (reported_lost is_reported (form_of old.messages)
       (length old.link.station.core.station.out)) old.output new.output
   pub form : form_of new.messages ≡ form_of old.messages
   pub stays : new ≡ record old {
@@ -106,17 +101,19 @@ SessionDoes Connected text old new =
     (new ≡ record old { link = anew new.link.station.line old.link })
     × (text ≡ [])
     × (old.link.outbox.waiting ≡ [])
-SessionDoes LineEnded text old new =
-    HasWritten (lost_text (form_of old.messages) (length old.link.station.core.station.out)) old new
+SessionDoes (LineEnded is_reported) text old new =
+    HasWritten
+    (reported_lost is_reported (form_of old.messages) (length old.link.station.core.station.out))
+    old new
 SessionDoes (Received used) text old new = HasReceived text used old new
 SessionDoes (Filled frames) text old new =
     new ≡ record old { link = after_frames frames old.link }
 SessionDoes (LineTook n) text old new = new ≡ record old { link = after_sent n old.link }
 SessionDoes (TimedOut now) text old new = new ≡ record old { link = after_wake now old.link }
 SessionDoes (Delivered true) text old new = HasDelivered old new
-SessionDoes (Delivered false) text old new = HasWaited old new
+SessionDoes (Delivered false) text old new = HasWritten [] old new
 SessionDoes (OutputTook n) text old new = new ≡ record old { output = after_taken n old.output }
-SessionDoes Closed text old new = HasClosed old new
+SessionDoes (Closed is_reported) text old new = HasClosed is_reported old new
 
 -- ---- the history of a session
 
@@ -175,9 +172,14 @@ abbrev pub written_in : SessionCall → SessionView → List ℕ
 written_in (OutputTook n) s = take n s.output.waiting
 written_in _ s = []
 
+-- what is lost, if there was room to report that
+abbrev pub losses : Bool → SessionView → List Shown
+losses is_reported s =
+    if is_reported then Loses (length s.link.station.core.station.out) ∷ [] else []
+
 abbrev pub shown_in : SessionCall → List ℕ → SessionView → List Shown
-shown_in LineEnded text s = Loses (length s.link.station.core.station.out) ∷ []
-shown_in Closed text s = Loses (length s.link.station.core.station.out) ∷ []
+shown_in (LineEnded is_reported) text s = losses is_reported s
+shown_in (Closed is_reported) text s = losses is_reported s
 shown_in (Received used) text s =
     map Reports (notices_of_piece text used s.link.station.core)
 shown_in (Delivered true) text s =
@@ -263,7 +265,7 @@ link_steps_of InputEnded s new =
     new
     else []
 link_steps_of Connected s new = link_step BeginsAnew new ∷ []
-link_steps_of LineEnded s new = []
+link_steps_of (LineEnded is_reported) s new = []
 link_steps_of (Received used) s new = link_step (Feeds used) new ∷ []
 link_steps_of (Filled frames) s new = frames_put frames s.link
 link_steps_of (LineTook n) s new = link_step (IsSent n) new ∷ []
@@ -271,7 +273,7 @@ link_steps_of (TimedOut now) s new = link_step (Wakes now) new ∷ []
 link_steps_of (Delivered true) s new = link_step Takes new ∷ []
 link_steps_of (Delivered false) s new = []
 link_steps_of (OutputTook n) s new = []
-link_steps_of Closed s new = link_step Halts new ∷ []
+link_steps_of (Closed is_reported) s new = link_step Halts new ∷ []
 
 unfoldable pub link_steps_in : List SessionStep → SessionHistory → List LinkStep
 link_steps_in [] h = []

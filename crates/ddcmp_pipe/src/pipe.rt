@@ -9,6 +9,7 @@ ghost use Rattle.ddcmp_pipe.specs.Pipe.{IsKeptByPipes, Pipes, PipesAll, PipesByt
 ghost use Rattle.ddcmp_pipe.specs.Pipe.{IsKeptOverConnections, SessionsOverStreams};
 ghost use Rattle.ddcmp_pipe.specs.Pipe.{AreConnectedOnce, link_steps_at, links_made};
 ghost use Rattle.ddcmp_pipe.specs.Pipe.{after_sessions};
+ghost use Rattle.ddcmp_pipe.specs.Connections.{IsKeptAnew, PipesAnew};
 ghost use Rattle.ddcmp_pipe.specs.PipeStory.{small_made, small_sessions, pipe_steps};
 ghost use Rattle.ddcmp_pipe.specs.PipeStory.{HasComeThrough};
 
@@ -29,7 +30,7 @@ pub fn pipe_is_whole()
     ensures to_a { IsKeptByPipes (λ first second p. PipesAll second p.b p.a) }
 {}
 
-/// The same in bytes, if both have their messages in binary and no text found no room: if what was
+/// The same in bytes, if both have their messages in binary: if what was
 /// read of one's input is the beginning of a file of messages that fit, each after its length, then
 /// what the other's standard output took is a beginning of that file; and it is the whole file if
 /// all of it was read, the one may end as delivered, and nothing waits to be delivered or written
@@ -56,6 +57,16 @@ pub fn pipe_over_connections()
         (λ first second p. PipesWhole first second p.a p.b) }
     ensures whole_to_a { IsKeptOverConnections
         (λ first second p. PipesWhole second first p.b p.a) }
+{}
+
+/// Two new sessions that are connected as often as their users like, over an honest line, in a
+/// clean run: the messages that each has delivered since it was connected last are the first of
+/// those that the other's input has had since that one was, in their order, each once and
+/// unchanged. When a session that is connected again keeps the line honest and the run clean is
+/// said by `ddcmp_callers::link_restarts`.
+pub fn pipe_anew()
+    ensures to_b { IsKeptAnew (λ first second p. PipesAnew first p.a p.b) }
+    ensures to_a { IsKeptAnew (λ first second p. PipesAnew second p.b p.a) }
 {}
 
 /// Two sessions through which a message comes, so that no law above holds because nothing can

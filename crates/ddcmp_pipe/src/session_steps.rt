@@ -9,9 +9,11 @@ ghost use Rattle.ddcmp_proto.specs.Config.{first_refusal};
 ghost use Rattle.ddcmp_station.specs.Linking.{countable};
 ghost use Rattle.ddcmp_session.specs.Messages.{entries_of_input};
 ghost use Rattle.ddcmp_session.specs.Session.{wants_input, wants_line, room_for_mail};
+ghost use Rattle.ddcmp_session.specs.Session.{reports_loss};
 ghost use Rattle.ddcmp_pipe.specs.Sessions.{SessionDoes, Typed, InputEnded, Connected, LineEnded};
 ghost use Rattle.ddcmp_pipe.specs.Sessions.{Received, Filled, LineTook, TimedOut, Delivered};
 ghost use Rattle.ddcmp_pipe.specs.Sessions.{OutputTook, Closed, new_session};
+ghost use Rattle.ddcmp_pipe.specs.Connections.{Does};
 
 use ddcmp_session::{LineKind, Options, Session};
 use ddcmp_station::ConfigRefusal;
@@ -47,10 +49,11 @@ pub fn ends_input(session: &mut Session)
     session.input_ended();
 }
 
-/// Starts a session whose line is clear and to which nothing waits to be sent.
+/// Starts a session: on a line that is clear, if nothing waits to be sent, and on any line again.
 pub fn connects(session: &mut Session) -> bool
     ensures done { session.old.link.outbox.waiting ≡ []
         → SessionDoes Connected [] session.old session.new }
+    ensures again { (text : List ℕ) → Does Connected text session.old session.new }
     ensures answer { result
         ≡ is_ok (answer_to_start (after_halt session.old.link.station.core.station)) }
     ensures line { StandsFor session.new.link.station.line [] }
@@ -58,12 +61,14 @@ pub fn connects(session: &mut Session) -> bool
     session.connected()
 }
 
-/// Takes the end of the line.
-pub fn ends_line(session: &mut Session)
-    ensures done { (text : List ℕ) → SessionDoes LineEnded text session.old session.new }
+/// Takes the end of the line; returns whether there was room to report what is lost.
+pub fn ends_line(session: &mut Session) -> bool
+    ensures done { (text : List ℕ)
+        → SessionDoes (LineEnded result) text session.old session.new }
+    ensures when { result ≡ reports_loss session.old }
     ensures line { session.new.link.station.line ≡ session.old.link.station.line }
 {
-    session.line_ended();
+    session.line_ended()
 }
 
 /// Takes bytes of the line, as many as are returned.
@@ -126,10 +131,11 @@ pub fn output_takes(session: &mut Session, n: usize)
     session.output_took(n);
 }
 
-/// Ends the run.
-pub fn closes(session: &mut Session, input: &[u8], input_is_at_end: bool)
-    ensures done { (text : List ℕ) → SessionDoes Closed text session.old session.new }
+/// Ends the run; returns whether there was room to report what is lost.
+pub fn closes(session: &mut Session, input: &[u8], input_is_at_end: bool) -> bool
+    ensures done { (text : List ℕ) → SessionDoes (Closed result) text session.old session.new }
+    ensures when { result ≡ reports_loss session.old }
     ensures line { session.new.link.station.line ≡ session.old.link.station.line }
 {
-    session.close(input, input_is_at_end);
+    session.close(input, input_is_at_end)
 }

@@ -1,5 +1,5 @@
 //! What a session does is what its link does, and what it writes is the text of that.
-ghost use Rattle.std.specs.Prelude.{◌≡◌, ◌++◌, ℕ, List, false};
+ghost use Rattle.std.specs.Prelude.{◌≡◌, ◌++◌, ℕ, List};
 ghost use Rattle.ddcmp_frame.specs.Reader.{ReaderView};
 ghost use Rattle.ddcmp_input.specs.InBinary.{in_binary};
 ghost use Rattle.ddcmp_proto.specs.declared.config.Config.{Config as ConfigValue};
@@ -36,14 +36,11 @@ pub fn session_calls_are_link_calls()
 {}
 
 /// What standard output took of a new session, and after it what waits for it, is the text of the
-/// messages that were delivered and of what was reported, in their order, unless some of that found
-/// no room. In binary it is the messages alone, each after its length.
+/// messages that were delivered and of what was reported, in their order. In binary it is the messages alone, each after its length.
 pub fn output_is_text_of()
     ensures text { (form : FormValue) (config : ConfigValue) (milliseconds : ℕ)
         (line : ReaderView) (steps : List SessionStep)
         → IsSessionHistory steps (new_session form config milliseconds line)
-        → (after_session_steps steps
-        (new_session form config milliseconds line)).session.output.is_cut ≡ false
         → (after_session_steps steps (new_session form config milliseconds line)).written
         ++ (after_session_steps steps
         (new_session form config milliseconds line)).session.output.waiting

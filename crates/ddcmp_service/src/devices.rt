@@ -169,7 +169,7 @@ impl Devices {
 
     /// Passes to a session whose run is over what was read of the input.
     pub(crate) fn close(&mut self, session: &mut Session) {
-        session.close(self.input.rest(), self.input_is_over);
+        let _has_room = session.close(self.input.rest(), self.input_is_over);
     }
 
     /// Writes frames to the line, as far as it has room.

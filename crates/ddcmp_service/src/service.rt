@@ -269,8 +269,9 @@ fn leave_line<E: Eprint, W: Sink, C: Clock>(
     clock: &mut C,
     writer: &mut W,
 ) -> Result<(), Ended> {
-    session.line_ended();
     devices.forget_line();
+    devices.drain_output(session, writer, clock)?;
+    let _has_room = session.line_ended();
     devices.drain_output(session, writer, clock)?;
     devices.drain_errors(session, system, clock, LINE_END_MS);
     if let Some(seconds) = session.pause_after_line(clock.now()) {

@@ -1,12 +1,13 @@
 -- A received message that was taken.
 use Rattle.std.proofs.Common.{◌≡◌, ap, sym, subst, ◌∙◌, ℕ, List, ◌++◌, length, take, drop, Option}
-use Rattle.std.proofs.Common.{Some, None, option_map, false, [], ◌∷◌, refl}
+use Rattle.std.proofs.Common.{Some, None, option_map, [], ◌∷◌, refl, ◌+◌, ◌≤◌, arith}
 use Rattle.std.proofs.Math.Seq.{take-append_seam}
 use Rattle.ddcmp_station.specs.Linking.{LinkView, after_taking, totals_after_take, with_state}
 use Rattle.ddcmp_window.specs.Store.{with_front, first_message}
 use Rattle.ddcmp_session.specs.declared.messages.Form.{Form}
 use Rattle.ddcmp_session.specs.Queue.{QueueView}
-use Rattle.ddcmp_session.specs.Text.{Wrote, mail_text}
+use Rattle.ddcmp_session.specs.Text.{Puts, Wrote, mail_text}
+use Rattle.ddcmp_session.proofs.TextLaws.{writes}
 
 -- the first bytes of a slice that it was put at the front of
 taken : (f : Option (List ℕ)) (n : ℕ) (old new : List ℕ) → Some n ≡ option_map length f
@@ -25,20 +26,21 @@ taken (Some message) n old new is put = (
 -- The text of what was taken, written after room was made.
 pub delivers : (form : Form) (f : Option (List ℕ)) (n : ℕ) (mail out : List ℕ)
     (old settled new : QueueView) → Some n ≡ option_map length f → out ≡ with_front f mail
-    → settled.waiting ≡ old.waiting → settled.is_cut ≡ old.is_cut
-    → Wrote (mail_text form (take n out)) settled new
+    → settled.waiting ≡ old.waiting → old.room ≤ settled.room
+    → length (mail_text form (take n out)) ≤ settled.room
+    → Puts (mail_text form (take n out)) settled new
     → (message : List ℕ) × (f ≡ Some message) × Wrote (mail_text form message) old new
-delivers form f n mail out old settled new is put same cut wrote =
-    let t = taken f n mail out is put in (
+delivers form f n mail out old settled new is put same more fits puts =
+    let t = taken f n mail out is put in
+    let w = writes (mail_text form (take n out)) settled new fits puts in
+    let text = ap (mail_text form) t.2 in (
       t.0,
       t.1,
       record {
-        whole = λ whole.
-            let w = wrote.whole whole in (
-              sym cut ∙ w.0,
-              w.1 ∙ ap (λ q. q ++ mail_text form (take n out)) same
-                  ∙ ap (λ m. old.waiting ++ mail_text form m) t.2,
-            );
+        waiting =
+            w.waiting ∙ ap (λ q. q ++ mail_text form (take n out)) same
+            ∙ ap (λ m. old.waiting ++ m) text;
+        room = omega (arith, w.room, more, ap length text);
       },
     )
 

@@ -1,58 +1,70 @@
--- A text by way of a page to a queue.
+-- Texts that are appended to a queue, piece by piece, and how long they are.
 use Rattle.std.proofs.Common.{◌≡◌, ◌∙◌, ap, sym, subst, refl, Bool, true, false, List, [], ℕ, ◌++◌}
-use Rattle.std.proofs.Common.{append-nil, append_assoc, Some}
-use Rattle.ddcmp_io.specs.Written.{Output, HoldsBy, HandsOver, output_of}
-use Rattle.ddcmp_io.proofs.WrittenLaws.{sends-then}
-use Rattle.ddcmp_io.proofs.TextLaws.{sends-as}
-use Rattle.ddcmp_session.specs.Queue.{QueueView}
-use Rattle.ddcmp_session.specs.Text.{Wrote}
+use Rattle.std.proofs.Common.{◌∷◌, append-nil, append_assoc, Some, None, ◌+◌, ◌-◌, ◌*◌, ◌≤◌, ◌<◌}
+use Rattle.std.proofs.Common.{length, arith, codes, decimal, length-append}
+use Rattle.hex.specs.Hex.{encode_lower, lower_digits}
+use Rattle.hex.proofs.HexLemmas.{length-encode_with}
+use Rattle.ddcmp_session.specs.declared.messages.Form.{Form}
+use Rattle.ddcmp_session.specs.declared.messages.Form.TheVariants.{Digits, Binary}
+use Rattle.ddcmp_session.specs.Queue.{QueueView, after_pushed}
+use Rattle.ddcmp_session.specs.Text.{Puts, Wrote, mail_text}
+use Rattle.ddcmp_session.specs.declared.text.TheConstants.{LINE_ROOM}
 
-abbrev page_of : QueueView → List ℕ → Output
-page_of q waiting = output_of (λ (v : QueueView). v.is_cut) (λ (v : QueueView). Some v.waiting) q waiting
+pub puts-as : (s t : List ℕ) (a b : QueueView) → s ≡ t → Puts s a b → Puts t a b
+puts-as s t a b e p = subst (λ u. Puts u a b) e p
 
--- a page before a queue that is whole
-pub wrote : (old new : QueueView) (text : List ℕ) → HandsOver (page_of old []) (page_of new []) text
-    → old.is_cut ≡ false → Wrote text old new
-wrote old new text h is_whole = record {
-  whole = λ whole.
-      let start : HoldsBy old.is_cut (Some old.waiting) (Some old.waiting) [] [] =
-      subst (λ b. HoldsBy b (Some old.waiting) (Some old.waiting) [] []) (sym is_whole)
-      ([], sym (append-nil old.waiting), refl) in
-      let held =
-      subst (λ b. HoldsBy b (Some old.waiting) (Some new.waiting) [] text) whole
-      (h.holds (Some old.waiting) [] start) in
-      (is_whole, held.1 ∙ ap (λ t. old.waiting ++ t) (sym (held.2 ∙ append-nil held.0)));
-}
-
--- a text that was handed to an empty page, which was flushed then
-pub wrote-flushed : (old mid new : QueueView) (empty waiting last text : List ℕ) → empty ≡ []
-    → last ≡ [] → HandsOver (page_of old empty) (page_of mid waiting) text
-    → HandsOver (page_of mid waiting) (page_of new last) [] → old.is_cut ≡ false
-    → Wrote text old new
-wrote-flushed old mid new empty waiting last text e l h f is_whole =
-    wrote old new text
-    (sends-as (append-nil text)
-    (sends-then (subst (λ w. HandsOver (page_of old w) (page_of mid waiting) text) e h)
-    (subst (λ w. HandsOver (page_of mid waiting) (page_of new w) []) l f)))
-    is_whole
-
--- a queue that was cut before stays as it is
-pub cut : (old new : QueueView) (text : List ℕ) → old.is_cut ≡ true → new ≡ old → Wrote text old new
-cut old new text was same = record {
-  whole = λ whole. no (sym was ∙ (ap (λ (v : QueueView). v.is_cut) (sym same) ∙ whole));
+pushed_none : (q : QueueView) → q ≡ after_pushed [] q
+pushed_none q = λ i. record q {
+  waiting = sym (append-nil q.waiting) i;
+  room = rest i;
 }
   where
-    no : {A : Type 0} → true ≡ false → A
-    no e = cc
+    rest : q.room ≡ q.room - 0
+    rest = omega arith
 
--- one text after another
-pub then : (a b c : QueueView) (s t : List ℕ) → Wrote s a b → Wrote t b c → Wrote (s ++ t) a c
-then a b c s t first second = record {
-  whole = λ whole.
-      let later = second.whole whole in
-      let before = first.whole later.0 in
-      (before.0, later.1 ∙ ap (λ w. w ++ t) before.1 ∙ append_assoc a.waiting s t);
+pub puts-nothing : (a : QueueView) → Puts [] a a
+puts-nothing a fits = pushed_none a
+
+pushed_more : (s t : List ℕ) (q : QueueView)
+    → after_pushed t (after_pushed s q) ≡ after_pushed (s ++ t) q
+pushed_more s t q = λ i. record q {
+  waiting = append_assoc q.waiting s t i;
+  room = rest i;
 }
+  where
+    rest : q.room - length s - length t ≡ q.room - length (s ++ t)
+    rest = omega (arith, length-append s t)
+
+pub puts-then : (s t : List ℕ) (a b c : QueueView) → Puts s a b → Puts t b c → Puts (s ++ t) a c
+puts-then s t a b c first second fits =
+    let e = first (omega (arith, length-append s t, fits)) in
+    second (subst (λ q. length t ≤ q.room) (sym e) (omega (arith, length-append s t, fits)))
+    ∙ ap (after_pushed t) e
+    ∙ pushed_more s t a
+
+-- what had room was written
+pub writes : (text : List ℕ) (a b : QueueView) → length text ≤ a.room → Puts text a b
+    → Wrote text a b
+writes text a b fits puts =
+    let e = puts fits in record {
+      waiting = ap (λ (q : QueueView). q.waiting) e;
+      room =
+          omega (arith, ap (λ (q : QueueView). q.room) e, fits);
+    }
 
 pub nothing : (q : QueueView) → Wrote [] q q
-nothing q = record { whole = λ whole. (whole, sym (append-nil q.waiting)) }
+nothing q = record { waiting = sym (append-nil q.waiting); room = omega arith }
+
+pub hex-short : (bytes : List ℕ) → length (encode_lower bytes) ≡ 2 * length bytes
+hex-short bytes = length-encode_with lower_digits bytes
+
+-- a message in digits, or in binary
+pub mail-short : (form : Form) (message : List ℕ)
+    → length (mail_text form message) ≤ 2 * length message + LINE_ROOM
+mail-short Digits message =
+    omega (
+      arith,
+      hex-short message,
+      length-append (encode_lower message) (codes "\n"),
+    )
+mail-short Binary message = omega arith

@@ -11,7 +11,7 @@ use Rattle.ddcmp_session.specs.declared.messages.Form.{Form}
 use Rattle.ddcmp_session.specs.declared.messages.Form.TheVariants as form
 use Rattle.ddcmp_session.specs.declared.messages.Messages.{Messages}
 use Rattle.ddcmp_session.specs.declared.messages.Messages.TheVariants.{Digits, Binary}
-use Rattle.ddcmp_session.specs.declared.text.TheConstants.{LINE_ROOM}
+use Rattle.ddcmp_session.specs.declared.text.TheConstants.{LINE_ROOM, LOST_ROOM}
 use Rattle.ddcmp_session.specs.Messages.{messages_begun, message_in, after_input, entries_of_input, after_last}
 use Rattle.ddcmp_session.specs.Messages.{entry_of_last, is_message_unfinished, is_question}
 use Rattle.ddcmp_session.specs.declared.session.TheConstants.{OUTPUT_ROOM}
@@ -84,6 +84,10 @@ wants_line s =
 -- a message of any length has room
 abbrev pub room_for_mail : SessionView → ℕ
 room_for_mail s = 2 * s.link.station.core.limits.longest + LINE_ROOM
+
+-- the line of a loss has room
+abbrev pub reports_loss : SessionView → Bool
+reports_loss s = nat_le LOST_ROOM s.output.room
 
 -- ---- the end
 

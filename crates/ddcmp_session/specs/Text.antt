@@ -1,6 +1,6 @@
 -- The text that a session writes to standard output.
-use Rattle.std.specs.Prelude.{◌≡◌, ℕ, Bool, false, ◌==◌, if◌then◌else◌, List, [], ◌∷◌, ◌++◌, codes}
-use Rattle.std.specs.Prelude.{decimal}
+use Rattle.std.specs.Prelude.{◌≡◌, ℕ, ◌+◌, ◌≤◌, Bool, ◌==◌, if◌then◌else◌, List, [], ◌∷◌, ◌++◌, codes}
+use Rattle.std.specs.Prelude.{decimal, length}
 use Rattle.hex.specs.Hex.{encode_lower}
 use Rattle.ddcmp_core.specs.declared.notice.Notice.{Notice}
 use Rattle.ddcmp_core.specs.declared.notice.Notice.TheVariants as notice
@@ -8,7 +8,7 @@ use Rattle.ddcmp_input.specs.InBinary.{behind_length}
 use Rattle.ddcmp_station_text.specs.StationText.{notice_line}
 use Rattle.ddcmp_session.specs.declared.messages.Form.{Form}
 use Rattle.ddcmp_session.specs.declared.messages.Form.TheVariants.{Digits, Binary}
-use Rattle.ddcmp_session.specs.Queue.{QueueView}
+use Rattle.ddcmp_session.specs.Queue.{QueueView, after_pushed}
 
 -- a received message
 abbrev pub mail_text : Form → List ℕ → List ℕ
@@ -36,6 +36,15 @@ unfoldable pub notices_text : Form → List Notice → List ℕ
 notices_text form [] = []
 notices_text form (n ∷ rest) = notice_text form n ++ notices_text form rest
 
--- A text was appended to a queue, if none ever found no room.
+-- what is reported of it, if there was room
+abbrev pub reported_lost : Bool → Form → ℕ → List ℕ
+reported_lost has_room form count = if has_room then lost_text form count else []
+
+-- A text is appended if it has room.
+abbrev pub Puts : List ℕ → QueueView → QueueView → Type 0
+Puts text old new = length text ≤ old.room → new ≡ after_pushed text old
+
+-- A text was appended, all of it; room may have been made before.
 pub record Wrote (text : List ℕ) (old new : QueueView) : Type 0 where
-  pub whole : new.is_cut ≡ false → (old.is_cut ≡ false) × (new.waiting ≡ old.waiting ++ text)
+  pub waiting : new.waiting ≡ old.waiting ++ text
+  pub room : old.room ≤ new.room + length text

@@ -99,7 +99,7 @@ impl Model for Session {
     } };
 
     ghost invariant = { λ s. (s.options.form ≡ form_of s.messages)
-        × (s.link.station.core.limits.longest ≤ vec_len s.mail) × (vec_len s.mail < 65536) };
+        × (s.link.station.core.limits.longest ≡ vec_len s.mail) × (vec_len s.mail < 65536) };
 }
 
 // By hand, so that a session is dropped by a call: a derived one is written out at each such place.

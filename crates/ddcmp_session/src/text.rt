@@ -1,18 +1,25 @@
 //! The text that a session writes.
-ghost use Rattle.std.specs.Prelude.{◌≡◌, ◌+◌, ◌*◌, ◌<◌, [], length};
-ghost use Rattle.ddcmp_io.specs.Written.{HandsOver, output_of};
-ghost use Rattle.ddcmp_session.specs.Text.{Wrote, mail_text, lost_line};
-ghost use Rattle.ddcmp_station_text.specs.StationText.{notice_line};
+ghost use Rattle.std.specs.Prelude.{◌≡◌, ◌+◌, ◌*◌, ◌<◌, ◌≤◌, [], length};
+ghost use Rattle.hex.specs.Hex.{encode_lower};
+ghost use Rattle.ddcmp_session.specs.Text.{Puts, mail_text, lost_line};
+ghost use Rattle.ddcmp_station_text.specs.StationText.{notice_line, number_text};
 
 use crate::messages::Form;
 use crate::queue::Queue;
-use ddcmp_io::text::{write_hex, write_number};
+use ddcmp_io::text::write_number;
 use ddcmp_io::{Page, Sink};
 use ddcmp_station::{Link, Notice};
-use ddcmp_station_text::{state_name, write_counters, write_notice};
+use ddcmp_station_text::{notice_name, notice_number, state_name, write_counters};
+use itoa::Buffer;
 
-/// The most bytes of a notice or of the line of a loss.
-pub(crate) const LINE_ROOM: usize = 64;
+/// The most bytes of the line of a notice.
+pub(crate) const NOTICE_ROOM: usize = 48;
+
+/// The most bytes of the line of a loss.
+pub(crate) const LOST_ROOM: usize = 16;
+
+/// The room for a notice, for what it drops, and for what is lost if the line ends then.
+pub(crate) const LINE_ROOM: usize = NOTICE_ROOM + 2 * LOST_ROOM;
 
 /// The room for the last lines, with all counters.
 pub(crate) const END_ROOM: usize = 4096;
@@ -24,72 +31,93 @@ pub(crate) fn mail_room(max: u16) -> usize
     2 * max as usize + LINE_ROOM
 }
 
-/// Writes a received message: a line of its digits, or its bytes after its length.
-#[tactic(auto, using(crate::proofs::TextLaws::wrote, crate::proofs::TextLaws::cut))]
-pub(crate) fn write_mail(out: &mut Queue, form: Form, message: &[u8])
-    requires { length message.now < 65536 }
-    ensures { Wrote (mail_text form message.now) out.old out.new }
+/// Appends bytes that have room.
+fn put(out: &mut Queue, bytes: &[u8])
+    ensures { Puts bytes.now out.old out.new }
 {
-    if out.is_cut() {
-        return;
+    if bytes.len() <= out.room() {
+        out.push(bytes);
     }
-    let mut page = Page::new();
-    put_mail(&mut page, out, form, message);
-    let _is_whole = page.flush(out);
 }
 
-fn put_mail<W: Sink>(page: &mut Page, out: &mut W, form: Form, message: &[u8])
+/// How many bytes are put into digits at once.
+const CHUNK: usize = 512;
+
+/// Appends the digits of some bytes.
+fn put_chunk(out: &mut Queue, bytes: &[u8])
+    requires { length bytes.now ≤ CHUNK }
+    ensures { Puts (encode_lower bytes.now) out.old out.new }
+{
+    let mut chunk = [0; 2 * CHUNK];
+    let digits = &mut chunk[..2 * bytes.len()];
+    match hex::encode_to_slice(bytes, digits) {
+        Ok(()) => put(out, digits),
+        Err(_other_length) => unreachable!(),
+    }
+}
+
+/// Appends the digits of bytes.
+fn put_hex(out: &mut Queue, bytes: &[u8])
+    ensures { Puts (encode_lower bytes.now) out.old out.new }
+{
+    let mut at = 0;
+    while at < bytes.len() {
+        let end = at + CHUNK.min(bytes.len() - at);
+        put_chunk(out, &bytes[at..end]);
+        at = end;
+    }
+}
+
+/// Writes a received message: a line of its digits, or its bytes after its length.
+pub(crate) fn write_mail(out: &mut Queue, form: Form, message: &[u8])
     requires { length message.now < 65536 }
-    ensures { HandsOver (output_of W.broken W.contents out.old page.old)
-        (output_of W.broken W.contents out.new page.new) (mail_text form message.now) }
+    ensures puts { Puts (mail_text form message.now) out.old out.new }
+    ensures short { length (mail_text form message.now) ≤ 2 * length message.now + LINE_ROOM }
 {
     match form {
         Form::Digits => {
-            page.write(out, b"mail ");
-            write_hex(page, out, message);
-            page.write(out, b"\n");
+            put(out, b"mail ");
+            put_hex(out, message);
+            put(out, b"\n");
         }
         Form::Binary => {
             let length = u16::try_from(message.len()).unwrap_or(u16::MAX);
-            page.write(out, &length.to_be_bytes());
-            page.write(out, message);
+            put(out, &length.to_be_bytes());
+            put(out, message);
         }
+    }
+}
+
+/// Appends a number, if there is one.
+fn put_number(out: &mut Queue, number: Option<u8>)
+    ensures puts { Puts (number_text number) out.old out.new }
+    ensures short { length (number_text number) ≤ 3 }
+{
+    if let Some(number) = number {
+        let mut digits = Buffer::new();
+        put(out, digits.format(number).as_bytes());
     }
 }
 
 /// Writes the line of a notice.
-#[tactic(auto, using(crate::proofs::TextLaws::wrote, crate::proofs::TextLaws::cut))]
 pub(crate) fn write_notice_line(out: &mut Queue, notice: Notice)
-    ensures { Wrote (notice_line [] notice) out.old out.new }
+    ensures puts { Puts (notice_line [] notice) out.old out.new }
+    ensures short { length (notice_line [] notice) ≤ NOTICE_ROOM }
 {
-    if out.is_cut() {
-        return;
-    }
-    let mut page = Page::new();
-    write_notice(&mut page, out, b"", notice);
-    let _is_whole = page.flush(out);
+    put(out, b"notice ");
+    put(out, notice_name(notice));
+    put_number(out, notice_number(notice));
+    put(out, b"\n");
 }
 
 /// Writes how many accepted messages were dropped.
-#[tactic(auto, using(crate::proofs::TextLaws::wrote, crate::proofs::TextLaws::cut))]
 pub(crate) fn write_lost(out: &mut Queue, lost: u8)
-    ensures { Wrote (lost_line lost) out.old out.new }
+    ensures puts { Puts (lost_line lost) out.old out.new }
+    ensures short { length (lost_line lost) ≤ LOST_ROOM }
 {
-    if out.is_cut() {
-        return;
-    }
-    let mut page = Page::new();
-    put_lost(&mut page, out, lost);
-    let _is_whole = page.flush(out);
-}
-
-fn put_lost<W: Sink>(page: &mut Page, out: &mut W, lost: u8)
-    ensures { HandsOver (output_of W.broken W.contents out.old page.old)
-        (output_of W.broken W.contents out.new page.new) (lost_line lost) }
-{
-    page.write(out, b"lost ");
-    write_number(page, out, lost);
-    page.write(out, b"\n");
+    put(out, b"lost ");
+    put_number(out, Some(lost));
+    put(out, b"\n");
 }
 
 /// Writes the counters of a link.

@@ -7,16 +7,17 @@ impl Session {
     ghost use Rattle.std.specs.Prelude.{◌≡◌, true, length};
     ghost use Rattle.ddcmp_core.specs.Table.{after_halt};
     ghost use Rattle.ddcmp_station.specs.Linking.{with_state};
-    ghost use Rattle.ddcmp_session.specs.Session.{form_of};
-    ghost use Rattle.ddcmp_session.specs.Text.{Wrote, lost_text};
+    ghost use Rattle.ddcmp_session.specs.Session.{form_of, reports_loss};
+    ghost use Rattle.ddcmp_session.specs.Text.{Wrote, reported_lost};
 
     /// Ends the run: halts the station. What was read of the input, and what was sent and isn't
-    /// acknowledged, is lost.
-    pub fn close(&mut self, input: &[u8], input_is_at_end: bool)
+    /// acknowledged, is lost: returns whether standard output had room to report that.
+    pub fn close(&mut self, input: &[u8], input_is_at_end: bool) -> bool
         ensures link { self.new.link
             ≡ with_state (after_halt self.old.link.station.core.station) self.old.link }
-        ensures wrote { Wrote (lost_text (form_of self.old.messages)
+        ensures wrote { Wrote (reported_lost result (form_of self.old.messages)
             (length self.old.link.station.core.station.out)) self.old.output self.new.output }
+        ensures when { result ≡ reports_loss self.old }
         ensures form { form_of self.new.messages ≡ form_of self.old.messages }
         ensures stays { self.new ≡ record self.old {
           link = self.new.link;
@@ -28,8 +29,9 @@ impl Session {
     {
         self.drop_input(input, input_is_at_end);
         let lost = self.link.lost();
-        self.report_lost(lost);
+        let has_room = self.report_lost(lost);
         self.link.halt();
+        has_room
     }
 
     /// Writes the last lines, once all received messages are delivered.

@@ -13,8 +13,9 @@ impl Session {
     ghost use Rattle.ddcmp_proto.specs.Bytes.{after_piece, notices_of_piece};
     ghost use Rattle.ddcmp_station.specs.Linking.{anew, after_frame, after_frames, after_sent};
     ghost use Rattle.ddcmp_station.specs.Linking.{countable};
-    ghost use Rattle.ddcmp_session.specs.Session.{form_of, wants_line};
-    ghost use Rattle.ddcmp_session.specs.Text.{Wrote, notice_text, notices_text, lost_text};
+    ghost use Rattle.ddcmp_session.specs.Session.{form_of, reports_loss, wants_line};
+    ghost use Rattle.ddcmp_session.specs.Text.{Wrote, notice_text, notices_text, reported_lost};
+    ghost use Rattle.ddcmp_session.specs.declared.text.TheConstants.{LINE_ROOM};
 
     /// Starts the station on a line that was opened. Returns false if received messages weren't
     /// delivered before: `deliver` them, then call it again.
@@ -33,17 +34,20 @@ impl Session {
         self.link.begin_anew().is_ok()
     }
 
-    /// Takes the end of the line: reports what was sent and not acknowledged as lost.
-    pub fn line_ended(&mut self)
-        ensures wrote { Wrote (lost_text (form_of self.old.messages)
+    /// Takes the end of the line: what was sent and not acknowledged is lost. Returns whether
+    /// standard output had room to report that: an output that takes all that waits makes room.
+    pub fn line_ended(&mut self) -> bool
+        ensures wrote { Wrote (reported_lost result (form_of self.old.messages)
             (length self.old.link.station.core.station.out)) self.old.output self.new.output }
+        ensures when { result ≡ reports_loss self.old }
         ensures stays { self.new ≡ record self.old { output = self.new.output } }
     {
         let lost = self.link.lost();
-        self.report_lost(lost);
+        let has_room = self.report_lost(lost);
         if let Some(trace) = &mut self.trace {
             trace.begin_anew(&mut self.errors);
         }
+        has_room
     }
 
     /// Whether bytes of the line are wanted: a received message and its notice have room.
@@ -146,6 +150,7 @@ impl Session {
 
     /// Writes a notice: with messages in binary to standard error.
     fn report_notice(&mut self, notice: Notice)
+        requires { LINE_ROOM ≤ self.old.output.room }
         ensures wrote { Wrote (notice_text (form_of self.old.messages) notice) self.old.output
             self.new.output }
         ensures stays { self.new ≡ record self.old { output = self.new.output } }
@@ -159,7 +164,9 @@ impl Session {
             }
         }
         match notice {
-            Notice::Restarted(lost) => self.report_lost(lost),
+            Notice::Restarted(lost) => {
+                let _has_room = self.report_lost(lost);
+            }
             Notice::PeerRestarted => self.peer_restarted = true,
             _ => {}
         }

@@ -7,12 +7,12 @@ use std::fmt::Write;
 
 impl Session {
     ghost use Rattle.std.specs.Prelude.{◌≡◌, ◌≤◌, ℕ, List, Some, true, false, min, length, is_some};
-    ghost use Rattle.std.specs.Prelude.{if◌then◌else◌};
+    ghost use Rattle.std.specs.Prelude.{if◌then◌else◌, []};
     ghost use Rattle.ddcmp_station.specs.Linking.{after_taking};
     ghost use Rattle.ddcmp_window.specs.Store.{first_message};
-    ghost use Rattle.ddcmp_session.specs.Queue.{after_taken};
-    ghost use Rattle.ddcmp_session.specs.Session.{form_of, room_for_mail};
-    ghost use Rattle.ddcmp_session.specs.Text.{Wrote, mail_text, lost_text};
+    ghost use Rattle.ddcmp_session.specs.Queue.{after_pushed, after_taken};
+    ghost use Rattle.ddcmp_session.specs.Session.{form_of, reports_loss, room_for_mail};
+    ghost use Rattle.ddcmp_session.specs.Text.{Wrote, mail_text, reported_lost};
 
     /// Writes the first received message, if there is one and the output has room for it: returns
     /// whether it did.
@@ -23,8 +23,7 @@ impl Session {
             × (first_message self.old.link.station.core.station.inbox ≡ Some message)
             × Wrote (mail_text (form_of self.old.messages) message) self.old.output
             self.new.output }
-        ensures waits { result ≡ false → (self.new.output.waiting ≡ self.old.output.waiting)
-            × (self.new.output.is_cut ≡ self.old.output.is_cut) }
+        ensures waits { result ≡ false → Wrote [] self.old.output self.new.output }
         ensures when { room_for_mail self.old ≤ self.old.output.room → result
             ≡ is_some (first_message self.old.link.station.core.station.inbox) }
         ensures stays { self.new
@@ -100,24 +99,29 @@ impl Session {
         self.reports.write(&self.link, self.lost, &mut self.errors);
     }
 
-    /// Reports how many accepted messages were dropped, if any.
-    #[tactic(auto, using(crate::proofs::TextLaws::nothing))]
-    pub(super) fn report_lost(&mut self, lost: u8)
-        ensures wrote { Wrote (lost_text (form_of self.old.messages) lost) self.old.output
-            self.new.output }
-        ensures stays { self.new ≡ record self.old { output = self.new.output } }
+    /// Reports how many accepted messages were dropped, if any: returns whether standard output had
+    /// room for that.
+    pub(super) fn report_lost(&mut self, lost: u8) -> bool
+        ensures wrote { self.new ≡ record self.old {
+          output = after_pushed
+              (reported_lost result (form_of self.old.messages) lost) self.old.output;
+        } }
+        ensures when { result ≡ reports_loss self.old }
     {
+        let has_room = self.output.room() >= text::LOST_ROOM;
         if lost == 0 {
-            return;
+            return has_room;
         }
         self.lost = self.lost.saturating_add(lost as u64);
         match self.options.form {
-            Form::Digits => text::write_lost(&mut self.output, lost),
+            Form::Digits if has_room => text::write_lost(&mut self.output, lost),
+            Form::Digits => {}
             Form::Binary => {
                 if let Some(lines) = self.errors.line() {
                     text::write_lost(lines, lost);
                 }
             }
         }
+        has_room
     }
 }

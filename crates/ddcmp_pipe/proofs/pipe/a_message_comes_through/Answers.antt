@@ -45,7 +45,6 @@ returns-clause-ends c = λ line other_line. record {
   input = refl;
   written = refl;
   over = refl;
-  whole = refl;
 }
 
 pub returns-clause-streams : goal.returns-clause-streams
@@ -68,7 +67,7 @@ returns-clause-streams c = λ line other_line. (
         (
           record {
             fed = record { core = refl; syn = refl; stays = refl };
-            wrote = record { whole = λ w. (refl, refl) };
+            wrote = record { waiting = refl; room = omega arith };
             stays = refl;
           },
           record { to_a = ([], refl); to_b = ([], refl) },
@@ -81,7 +80,7 @@ returns-clause-streams c = λ line other_line. (
               (
                 record {
                   fed = record { core = refl; syn = refl; stays = refl };
-                  wrote = record { whole = λ w. (refl, refl) };
+                  wrote = record { waiting = refl; room = omega arith };
                   stays = refl;
                 },
                 record { to_a = ([], refl); to_b = ([], refl) },
@@ -97,7 +96,7 @@ returns-clause-streams c = λ line other_line. (
                       (
                         record {
                           fed = record { core = refl; syn = refl; stays = refl };
-                          wrote = record { whole = λ w. (refl, refl) };
+                          wrote = record { waiting = refl; room = omega arith };
                           stays = refl;
                         },
                         record { to_a = ([], refl); to_b = ([], refl) },
@@ -110,7 +109,7 @@ returns-clause-streams c = λ line other_line. (
                             (
                               record {
                                 fed = record { core = refl; syn = refl; stays = refl };
-                                wrote = record { whole = λ w. (refl, refl) };
+                                wrote = record { waiting = refl; room = omega arith };
                                 stays = refl;
                               },
                               record { to_a = ([], refl); to_b = ([], refl) },
@@ -120,7 +119,7 @@ returns-clause-streams c = λ line other_line. (
                                 (
                                   record {
                                     link = refl;
-                                    wrote = (abc, refl, record { whole = λ w. (refl, refl) });
+                                    wrote = (abc, refl, record { waiting = refl; room = omega arith });
                                     stays = refl;
                                   },
                                   record { to_a = ([], refl); to_b = ([], refl) },

@@ -1,12 +1,5 @@
-use Rattle.std.proofs.Common.{◌≡◌, sym, ◌∙◌, [], false}
-use Rattle.ddcmp_session.specs.Text.{Wrote, mail_text, lost_line}
-use Rattle.ddcmp_station_text.specs.StationText.{notice_line}
-use Rattle.ddcmp_session.proofs.TextLaws.{wrote-flushed}
+use Rattle.ddcmp_session.proofs.TextLaws.{mail-short}
 use Rattle.ddcmp_session.proofs.text.write_mail.Goals as goal
 
-pub returns : goal.returns
-returns c =
-    wrote-flushed c.args.out.now c.put_mail.new.out c.flush-is_whole.new.writer c.new-page.result
-    c.put_mail.new.page c.flush-is_whole.new.self (mail_text c.args.form c.args.message.now) c.new-page.ensures c.flush-is_whole.ensures.empty
-    (record { holds = c.put_mail.ensures.holds }) c.flush-is_whole.ensures.sends
-    (sym c.is_cut.ensures ∙ c.if-is_cut.false)
+pub returns-in-Digits-clause-short : goal.returns-in-Digits-clause-short
+returns-in-Digits-clause-short c = mail-short c.args.form c.args.message.now

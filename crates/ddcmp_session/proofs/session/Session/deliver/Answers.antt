@@ -1,7 +1,10 @@
-use Rattle.std.proofs.Common.{◌≡◌, ◌∙◌, ap, sym, subst, take}
+use Rattle.std.proofs.Common.{◌≡◌, ◌∙◌, ap, sym, subst, take, length, arith}
+use Rattle.std.proofs.lemmas.List.{length-take}
+use Rattle.ddcmp_proto.specs.declared.config.Config.{Config}
+use Rattle.ddcmp_session.proofs.TextLaws.{mail-short}
 use Rattle.std.proofs.lemmas.List.{with_items_is}
 use Rattle.ddcmp_session.specs.Session.{form_of}
-use Rattle.ddcmp_session.specs.Text.{Wrote, mail_text}
+use Rattle.ddcmp_session.specs.Text.{Puts, mail_text}
 use Rattle.ddcmp_session.proofs.DeliverLaws.{delivers, takes-nothing}
 use Rattle.ddcmp_session.proofs.session.Session.deliver.Goals as goal
 
@@ -15,10 +18,23 @@ returns-in-Some-clause-wrote c =
     c.self.inside.output c.settle.new.self c.write_mail.new.out
     (sym c.in-Some.is ∙ c.take.ensures.length)
     (c.deref.ensures.value ∙ items ∙ c.take.ensures.out)
-    c.settle.ensures.waiting c.settle.ensures.cut
-    (subst (λ form. Wrote (mail_text form (take c.in-Some.n c.deref.result.now))
+    c.settle.ensures.waiting c.settle.ensures.room
+    (omega (
+      arith,
+      mail-short (form_of c.self.inside.messages) (take c.in-Some.n c.deref.result.now),
+      length-take c.in-Some.n c.deref.result.now,
+      ap length (c.deref.ensures.value ∙ items),
+      c.take.auto.out,
+      c.deref_mut.ensures.len,
+      c.self.invariant.1,
+      c.if-room-mail_room.false,
+      c.room.ensures,
+      c.mail_room.ensures,
+      ap (λ (x : Config). x.max) c.config.ensures,
+    ))
+    (subst (λ form. Puts (mail_text form (take c.in-Some.n c.deref.result.now))
     c.settle.new.self c.write_mail.new.out) c.self.invariant.0
-    (record { whole = c.write_mail.ensures.whole })))
+    c.write_mail.ensures.puts))
 
 pub returns-in-None-clause-link : goal.returns-in-None-clause-link
 returns-in-None-clause-link c =

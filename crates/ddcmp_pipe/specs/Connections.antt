@@ -1,0 +1,114 @@
+-- Two sessions that are connected as often as their users like: what is promised since each was
+-- connected last.
+use Rattle.std.specs.Prelude.{◌≡◌, ℕ, true, List, [], ◌∷◌, ◌++◌, length, drop, None}
+use Rattle.ddcmp_proto.specs.Config.{first_refusal}
+use Rattle.ddcmp_station.specs.Linking.{anew}
+use Rattle.ddcmp_run.specs.declared.event.End.{End}
+use Rattle.ddcmp_run.specs.declared.event.End.TheVariants.{A, B}
+use Rattle.ddcmp_run.specs.Prefix.{IsPrefixOf}
+use Rattle.ddcmp_run.specs.Run.{new_pair, is_clean}
+use Rattle.ddcmp_session.specs.Session.{SessionView}
+use Rattle.ddcmp_callers.specs.Links.{LinkStep}
+use Rattle.ddcmp_callers.specs.LinkRestarts.{calls_of_links}
+use Rattle.ddcmp_callers.specs.StationRuns.{run_station_calls}
+use Rattle.ddcmp_pipe.specs.Sessions.{SessionCall, Connected as ConnectedCall, SessionDoes}
+use Rattle.ddcmp_pipe.specs.Sessions.{SessionHistory, SessionStep, after_session_step, Shown}
+use Rattle.ddcmp_pipe.specs.Sessions.{messages_of, mail_in, link_steps_of}
+use Rattle.ddcmp_pipe.specs.Pipe.{Made, session_of, links_made, steps_at_end}
+
+-- The history of a session, in which the bytes of the line are those of its last connection; and
+-- the input and the output that it had had before that.
+pub record Connection : Type 0 where
+  pub history : SessionHistory
+  pub input_before : List ℕ
+  pub shown_before : List Shown
+
+abbrev pub first_connection : Made → Connection
+first_connection made =
+    record { history = session_of made; input_before = []; shown_before = [] }
+
+abbrev pub begun_anew : SessionHistory → Connection
+begun_anew h = record {
+  history = record h { used = []; gone = [] };
+  input_before = h.input;
+  shown_before = h.shown;
+}
+
+abbrev pub after_call : SessionCall → SessionHistory → Connection → Connection
+after_call ConnectedCall h c = begun_anew h
+after_call call h c = record c { history = h }
+
+abbrev pub after_step : SessionStep → Connection → Connection
+after_step step c = after_call step.call (after_session_step step c.history) c
+
+-- What the contract of each call says that it does; `connected` does it on any line.
+abbrev pub Does : SessionCall → List ℕ → SessionView → SessionView → Type 0
+Does ConnectedCall text old new =
+    new ≡ record old { link = anew new.link.station.line old.link }
+Does call text old new = SessionDoes call text old new
+
+-- both ends
+pub record Connections : Type 0 where
+  pub a : Connection
+  pub b : Connection
+
+abbrev pub first_connections : Made → Made → Connections
+first_connections first second =
+    record { a = first_connection first; b = first_connection second }
+
+abbrev pub at : End → Connections → Connection
+at A p = p.a
+at B p = p.b
+
+abbrev pub after_step_at : End → SessionStep → Connections → Connections
+after_step_at A step p = record { a = after_step step p.a; b = p.b }
+after_step_at B step p = record { a = p.a; b = after_step step p.b }
+
+-- Each step is a call of one of two sessions.
+abbrev pub AreCalls : List (End × SessionStep) → Connections → Type 0
+AreCalls [] p = Unit {0}
+AreCalls (step ∷ rest) p =
+    Does step.1.call (at step.0 p).history.used (at step.0 p).history.session step.1.session
+    × AreCalls rest (after_step_at step.0 step.1 p)
+
+unfoldable pub after_steps : List (End × SessionStep) → Connections → Connections
+after_steps [] p = p
+after_steps (step ∷ rest) p = after_steps rest (after_step_at step.0 step.1 p)
+
+unfoldable pub link_steps : List (End × SessionStep) → Connections → List (End × LinkStep)
+link_steps [] p = []
+link_steps (step ∷ rest) p =
+    steps_at_end step.0
+    (link_steps_of step.1.call (at step.0 p).history.session step.1.session.link)
+    ++ link_steps rest (after_step_at step.0 step.1 p)
+
+-- the messages that its input has had since
+abbrev pub read_since : Made → Connection → List (List ℕ)
+read_since made c =
+    drop (length (messages_of made.form made.config.max c.input_before))
+    (messages_of made.form made.config.max c.history.input)
+
+-- the messages that it has delivered since
+abbrev pub delivered_since : Connection → List (List ℕ)
+delivered_since c = drop (length (mail_in c.shown_before)) (mail_in c.history.shown)
+
+-- What one session has delivered since it was connected are the first of the messages that the
+-- input of the other has had since that one was, in their order, each once and unchanged.
+abbrev pub PipesAnew : Made → Connection → Connection → Type 0
+PipesAnew made giver taker = IsPrefixOf (delivered_since taker) (read_since made giver)
+
+-- A promise about two sessions is kept however often they are connected: it holds for two new
+-- sessions of any sizes in range, whatever the calls, the moments and the cuts, if the line is
+-- honest and the run clean since the lines were cleared.
+abbrev pub IsKeptAnew : (Made → Made → Connections → Type 0) → Type 0
+IsKeptAnew Promise = (first second : Made) (steps : List (End × SessionStep))
+    → first_refusal first.config ≡ None → first_refusal second.config ≡ None
+    → AreCalls steps (first_connections first second)
+    → (run_station_calls
+    (calls_of_links (link_steps steps (first_connections first second)) (links_made first second))
+    (new_pair first.config second.config)).honest ≡ true
+    → is_clean
+    (run_station_calls
+    (calls_of_links (link_steps steps (first_connections first second)) (links_made first second))
+    (new_pair first.config second.config)) ≡ true
+    → Promise first second (after_steps steps (first_connections first second))
