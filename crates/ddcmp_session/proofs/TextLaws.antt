@@ -4,11 +4,12 @@ use Rattle.std.proofs.Common.{append-nil, append_assoc, Some}
 use Rattle.ddcmp_io.specs.Written.{Output, HoldsBy, HandsOver, output_of}
 use Rattle.ddcmp_io.proofs.WrittenLaws.{sends-then}
 use Rattle.ddcmp_io.proofs.TextLaws.{sends-as}
-use Rattle.ddcmp_session.specs.Queue.{QueueView}
+use Rattle.ddcmp_io.specs.Queue.{QueueView}
 use Rattle.ddcmp_session.specs.Text.{Wrote}
 
 abbrev page_of : QueueView → List ℕ → Output
-page_of q waiting = output_of (λ (v : QueueView). v.is_cut) (λ (v : QueueView). Some v.waiting) q waiting
+page_of q waiting =
+    output_of (λ (v : QueueView). v.is_cut) (λ (v : QueueView). Some v.waiting) q waiting
 
 -- a page before a queue that is whole
 pub wrote : (old new : QueueView) (text : List ℕ) → HandsOver (page_of old []) (page_of new []) text

@@ -5,9 +5,8 @@ ghost use Rattle.ddcmp_session.specs.Text.{Wrote, mail_text, lost_line};
 ghost use Rattle.ddcmp_station_text.specs.StationText.{notice_line};
 
 use crate::messages::Form;
-use crate::queue::Queue;
 use ddcmp_io::text::{write_hex, write_number};
-use ddcmp_io::{Page, Sink};
+use ddcmp_io::{ByteQueue, Page, Sink};
 use ddcmp_station::{Link, Notice};
 use ddcmp_station_text::{state_name, write_counters, write_notice};
 
@@ -26,7 +25,7 @@ pub(crate) fn mail_room(max: u16) -> usize
 
 /// Writes a received message: a line of its digits, or its bytes after its length.
 #[tactic(auto, using(crate::proofs::TextLaws::wrote, crate::proofs::TextLaws::cut))]
-pub(crate) fn write_mail(out: &mut Queue, form: Form, message: &[u8])
+pub(crate) fn write_mail(out: &mut ByteQueue, form: Form, message: &[u8])
     requires { length message.now < 65536 }
     ensures { Wrote (mail_text form message.now) out.old out.new }
 {
@@ -59,7 +58,7 @@ fn put_mail<W: Sink>(page: &mut Page, out: &mut W, form: Form, message: &[u8])
 
 /// Writes the line of a notice.
 #[tactic(auto, using(crate::proofs::TextLaws::wrote, crate::proofs::TextLaws::cut))]
-pub(crate) fn write_notice_line(out: &mut Queue, notice: Notice)
+pub(crate) fn write_notice_line(out: &mut ByteQueue, notice: Notice)
     ensures { Wrote (notice_line [] notice) out.old out.new }
 {
     if out.is_cut() {
@@ -72,7 +71,7 @@ pub(crate) fn write_notice_line(out: &mut Queue, notice: Notice)
 
 /// Writes how many accepted messages were dropped.
 #[tactic(auto, using(crate::proofs::TextLaws::wrote, crate::proofs::TextLaws::cut))]
-pub(crate) fn write_lost(out: &mut Queue, lost: u8)
+pub(crate) fn write_lost(out: &mut ByteQueue, lost: u8)
     ensures { Wrote (lost_line lost) out.old out.new }
 {
     if out.is_cut() {
@@ -93,14 +92,14 @@ fn put_lost<W: Sink>(page: &mut Page, out: &mut W, lost: u8)
 }
 
 /// Writes the counters of a link.
-pub(crate) fn write_counters_line(out: &mut Queue, link: &Link) {
+pub(crate) fn write_counters_line(out: &mut ByteQueue, link: &Link) {
     let mut page = Page::new();
     write_counters(&mut page, out, b"", link.counters());
     let _is_whole = page.flush(out);
 }
 
 /// Writes the state and the totals of a link, after its counters if these are asked for.
-pub(crate) fn write_end(out: &mut Queue, link: &Link, counters: bool) {
+pub(crate) fn write_end(out: &mut ByteQueue, link: &Link, counters: bool) {
     if counters {
         write_counters_line(out, link);
     }
@@ -111,7 +110,7 @@ pub(crate) fn write_end(out: &mut Queue, link: &Link, counters: bool) {
 }
 
 /// Writes the state, the totals, the lost messages and the counters of a link in one line.
-pub(crate) fn write_report(out: &mut Queue, link: &Link, lost: u64) {
+pub(crate) fn write_report(out: &mut ByteQueue, link: &Link, lost: u64) {
     let mut page = Page::new();
     page.write(out, b"report ");
     write_totals(&mut page, out, link);
