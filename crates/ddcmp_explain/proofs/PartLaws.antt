@@ -1,15 +1,16 @@
 -- Parts of items that come behind others, and their lines.
-use Rattle.std.proofs.Common.{◌≡◌, ℕ, ◌+◌, ◌-◌, ◌<◌, ◌≤◌, arith, length, Bool, true, false, List}
-use Rattle.std.proofs.Common.{[], ◌∷◌, ◌++◌, refl, sym, ◌∙◌, ap, append_assoc}
+use Rattle.std.proofs.Common.{◌≡◌, ℕ, ◌<◌, arith, length, Bool, true, false, List}
+use Rattle.std.proofs.Common.{[], ◌∷◌, ◌++◌, refl, sym, ◌∙◌, ap, append_assoc, Some, None}
 use Rattle.std.specs.List.{flat_map}
 use Rattle.std.proofs.lemmas.Grind.{flat_map-append}
 use Rattle.ddcmp_frame.specs.Reading.{ReadItem, Place, items}
 use Rattle.ddcmp_frame.specs.Step.{item_offset}
 use Rattle.ddcmp_explain.specs.declared.notation.Notation.{Notation}
+use Rattle.ddcmp_explain.specs.declared.skipped.Skipped.{Skipped}
 use Rattle.ddcmp_explain.specs.Output.{lines, line_in}
 use Rattle.ddcmp_explain.specs.Discarded.{Part, Told, behind, passed, parts_from, reached}
 use Rattle.ddcmp_explain.specs.Discarded.{part_line, part_lines, lines_by, open_header, open_text}
-use Rattle.ddcmp_explain.specs.Discarded.{opened, passed_text}
+use Rattle.ddcmp_explain.specs.Discarded.{opened, passed_text, skipped_parts}
 use Rattle.std.proofs.lemmas.List.{append-nil}
 use Rattle.ddcmp_frame.proofs.Tests.{ltb-is, ltb-isnt}
 
@@ -60,16 +61,14 @@ lines_by-nothing true notation max text e = ap (λ t. part_lines notation (parts
 
 -- ---- single parts
 
-pub passed-some : (notation : Notation) (from to : ℕ) → from < to
-    → part_lines notation (passed from to) ≡ passed_text notation from (to - from)
+pub skipped-some : (notation : Notation) (it : Skipped)
+    → part_lines notation (skipped_parts (Some it)) ≡ passed_text notation it.from it.count
 unfolding part_lines
-passed-some notation from to l =
-    rw (ltb-is from to l) (append-nil (passed_text notation from (to - from)))
+skipped-some notation it = append-nil (passed_text notation it.from it.count)
 
-pub passed-none : (notation : Notation) (from to : ℕ) → to ≤ from
-    → part_lines notation (passed from to) ≡ []
+pub skipped-none : (notation : Notation) → part_lines notation (skipped_parts None) ≡ []
 unfolding part_lines
-passed-none notation from to l = rw (ltb-isnt from to l) refl
+skipped-none notation = refl
 
 pub opened-some : (notation : Notation) (p : Place) → 0 < length p.rest
     → part_lines notation (opened p)

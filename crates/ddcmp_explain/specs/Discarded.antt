@@ -13,6 +13,7 @@ use Rattle.ddcmp_frame.specs.Spelling.{parsed}
 use Rattle.ddcmp_frame.specs.Step.{item_offset}
 use Rattle.ddcmp_explain.specs.declared.notation.Notation.{Notation}
 use Rattle.ddcmp_explain.specs.declared.notation.Notation.TheVariants.{Plain, Json}
+use Rattle.ddcmp_explain.specs.declared.skipped.Skipped.{Skipped}
 use Rattle.ddcmp_explain.specs.declared.style.Style.{Style}
 use Rattle.ddcmp_explain.specs.Text.{header_text}
 use Rattle.ddcmp_explain.specs.Json.{json_header, json_start, member, quoted}
@@ -42,6 +43,10 @@ pub data Part : Type 0 where
 
 abbrev pub passed : ℕ → ℕ → List Part
 passed from to = if nat_lt from to then Passed from (to - from) ∷ [] else []
+
+abbrev pub skipped_parts : Option Skipped → List Part
+skipped_parts None = []
+skipped_parts (Some it) = Passed it.from it.count ∷ []
 
 -- items, and what was skipped before each, from an offset on
 unfoldable pub parts_from : ℕ → List ReadItem → List Part

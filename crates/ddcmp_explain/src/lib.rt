@@ -21,6 +21,7 @@ mod lines;
 pub mod notation;
 mod put;
 mod reasons;
+mod skipped;
 pub mod style;
 mod text;
 
@@ -32,7 +33,7 @@ pub use explain_fault::ExplainFault;
 pub use explaining::{explain, explain_as, explain_with};
 pub use form::Form;
 pub use label::{LABEL_ROOM, label_frame, label_item};
-pub use lines::{Reached, reached_by};
 pub use notation::{Notation, write_item, write_last};
 pub use reasons::reason_name;
+pub use skipped::{Reached, Skipped, reached_by};
 pub use style::Style;

@@ -7,38 +7,16 @@ ghost use Rattle.ddcmp_frame.specs.Step.{item_offset};
 ghost use Rattle.ddcmp_io.specs.Written.{HandsOver, Writes, output_of};
 ghost use Rattle.ddcmp_explain.specs.Discarded.{behind, end_in, lines_in, opened, part_lines};
 ghost use Rattle.ddcmp_explain.specs.Discarded.{rest_by};
-ghost use Rattle.ddcmp_explain.specs.Discarded.{passed, taken_by};
+ghost use Rattle.ddcmp_explain.specs.Discarded.{passed};
 ghost use Rattle.ddcmp_explain.specs.Heads.{Heads};
 
-use crate::discarded::{frame_length, write_discarded, write_open};
+use crate::discarded::{write_discarded, write_open};
 use crate::head::Head;
 use crate::notation::{write_item, write_last};
+use crate::skipped::{Reached, reached_by};
 use crate::style::Style;
 use ddcmp_frame::{Item, Pushed, Reader};
 use ddcmp_io::{Page, Sink, WriteFailed};
-
-/// An item: its offset, and how many bytes it takes.
-#[derive(Clone, Copy)]
-pub struct Reached {
-    pub offset: u64,
-    pub taken: u64,
-}
-
-/// Returns the offset of an item, and how many bytes it takes: a header that is damaged takes none,
-/// since only its start byte is skipped.
-pub fn reached_by(item: &Item) -> Reached
-    ensures offset { result.offset ≡ item_offset item.now }
-    ensures taken { result.taken ≡ taken_by item.now }
-{
-    let (offset, taken) = match item {
-        Item::Good(offset, header)
-        | Item::DataCheck(offset, header)
-        | Item::TooLong(offset, header) => (*offset, frame_length(header)),
-        Item::HeaderCheck(offset) => (*offset, 0),
-        Item::Format(offset, _) => (*offset, 8),
-    };
-    Reached { offset, taken }
-}
 
 /// The lines of the bytes so far, in order, for a sink.
 #[derive(Drop)]
@@ -71,10 +49,7 @@ impl Lines {
             style,
             items: 0,
             page: Page::new(),
-            reached: Reached {
-                offset: 0,
-                taken: 0,
-            },
+            reached: Reached::at(0),
             head: Head::new(),
         }
     }
@@ -165,10 +140,17 @@ impl Lines {
             (part_lines self.old.style.notation
             (passed (self.old.reached.offset + self.old.reached.taken) to)) }
     {
-        let Reached { offset, taken } = self.reached;
-        if offset < to && taken < to - offset {
-            let from = offset + taken;
-            write_discarded(&mut self.page, writer, self.style.notation, from, to - from);
+        match self.reached.skipped_to(to) {
+            Some(it) => {
+                write_discarded(
+                    &mut self.page,
+                    writer,
+                    self.style.notation,
+                    it.from,
+                    it.count,
+                );
+            }
+            None => {}
         }
     }
 

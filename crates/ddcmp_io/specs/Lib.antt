@@ -1,5 +1,6 @@
 pub mod Change
 pub mod Device
 pub mod Failing
+pub mod Queue
 pub mod Written
 pub mod Input

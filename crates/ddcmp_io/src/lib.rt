@@ -1,7 +1,8 @@
-//! What a program needs of the world: sources of bytes and sinks for them, buffered text, and
-//! devices over memory for tests. It knows nothing of the protocol.
+//! What a program needs of the world: sources of bytes and sinks for them, queued bytes, buffered
+//! text, and devices over memory for tests. It knows nothing of the protocol.
 #![tactic(auto)]
 
+mod byte_queue;
 pub mod cause;
 pub mod device;
 pub mod failing;
@@ -10,6 +11,7 @@ pub mod memory;
 pub mod page;
 pub mod text;
 
+pub use byte_queue::ByteQueue;
 pub use device::{FromRead, Got, LineFault, Sink, Source, ToWrite, Worst, WriteFailed, write_all};
 pub use memory::MemorySink;
 pub use page::Page;

@@ -6,7 +6,7 @@ use Rattle.ddcmp_station.specs.Linking.{LinkView}
 use Rattle.ddcmp_station.specs.Linking.{after_frame, after_frames}
 use Rattle.ddcmp_session.specs.declared.messages.Form.{Form}
 use Rattle.ddcmp_session.specs.Messages.{messages_begun, after_input}
-use Rattle.ddcmp_session.specs.Queue.{QueueView}
+use Rattle.ddcmp_io.specs.Queue.{QueueView}
 use Rattle.ddcmp_session.specs.Session.{SessionView, form_of}
 use Rattle.ddcmp_callers.specs.Links.{LinkCall, FillsOne}
 use Rattle.ddcmp_callers.specs.Links.{HasDone, LinkHistory, LinkStep}

@@ -22,7 +22,7 @@ use Rattle.ddcmp_session.specs.declared.messages.Form.TheVariants.{Digits, Binar
 use Rattle.ddcmp_session.specs.declared.messages.Messages.{Messages}
 use Rattle.ddcmp_session.specs.Messages.{message_in, after_input, entries_of_input, after_last}
 use Rattle.ddcmp_session.specs.Messages.{entry_of_last}
-use Rattle.ddcmp_session.specs.Queue.{after_taken}
+use Rattle.ddcmp_io.specs.Queue.{after_taken}
 use Rattle.ddcmp_session.specs.Session.{SessionView, session_made, form_of, wants_input}
 use Rattle.ddcmp_session.specs.Session.{after_typed}
 use Rattle.ddcmp_session.specs.Session.{after_input_end}

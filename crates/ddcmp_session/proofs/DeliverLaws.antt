@@ -5,7 +5,7 @@ use Rattle.std.proofs.Math.Seq.{take-append_seam}
 use Rattle.ddcmp_station.specs.Linking.{LinkView, after_taking, totals_after_take, with_state}
 use Rattle.ddcmp_window.specs.Store.{with_front, first_message}
 use Rattle.ddcmp_session.specs.declared.messages.Form.{Form}
-use Rattle.ddcmp_session.specs.Queue.{QueueView}
+use Rattle.ddcmp_io.specs.Queue.{QueueView}
 use Rattle.ddcmp_session.specs.Text.{Puts, Wrote, mail_text}
 use Rattle.ddcmp_session.proofs.TextLaws.{writes}
 

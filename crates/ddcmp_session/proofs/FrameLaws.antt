@@ -30,7 +30,8 @@ puts-one old new is = (
       (ap after_frame (sym (no-frames old.link)) ∙ sym (next-frame zero old.link)),
 )
 
-frames-add : (n m : ℕ) (d : LinkView) → (k : ℕ) × (after_frames m (after_frames n d) ≡ after_frames k d)
+frames-add : (n m : ℕ) (d : LinkView)
+    → (k : ℕ) × (after_frames m (after_frames n d) ≡ after_frames k d)
 frames-add n zero d = (n, no-frames (after_frames n d))
 frames-add n (suc m) d = let r = frames-add n m d in (
   suc r.0,

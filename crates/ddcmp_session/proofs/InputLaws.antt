@@ -1,6 +1,6 @@
 -- Bytes of an input, of which there are none, and what completes one entry.
-use Rattle.std.proofs.Common.{◌≡◌, ℕ, refl, ap, sym, ◌∙◌, List, [], ◌∷◌, Option, Some, None, length, ◌≤◌}
-use Rattle.std.proofs.Common.{arith}
+use Rattle.std.proofs.Common.{◌≡◌, ℕ, refl, ap, sym, ◌∙◌, List, [], ◌∷◌, Option, Some, None}
+use Rattle.std.proofs.Common.{length, ◌≤◌, arith}
 use Rattle.std.specs.Prelude.{option_to_list}
 use Rattle.ddcmp_input.specs.HexLines as lines
 use Rattle.ddcmp_input.specs.Lengths as lengths

@@ -4,7 +4,7 @@ use Rattle.std.proofs.Common.{Option, Some, None}
 use Rattle.std.specs.Prelude.{option_to_list}
 use Rattle.ddcmp_core.specs.declared.notice.Notice.{Notice}
 use Rattle.ddcmp_session.specs.declared.messages.Form.{Form}
-use Rattle.ddcmp_session.specs.Queue.{QueueView}
+use Rattle.ddcmp_io.specs.Queue.{QueueView}
 use Rattle.ddcmp_session.specs.Text.{Wrote, notice_text, notices_text}
 use Rattle.ddcmp_session.proofs.TextLaws.{nothing}
 

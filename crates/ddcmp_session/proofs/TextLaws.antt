@@ -6,7 +6,7 @@ use Rattle.hex.specs.Hex.{encode_lower, lower_digits}
 use Rattle.hex.proofs.HexLemmas.{length-encode_with}
 use Rattle.ddcmp_session.specs.declared.messages.Form.{Form}
 use Rattle.ddcmp_session.specs.declared.messages.Form.TheVariants.{Digits, Binary}
-use Rattle.ddcmp_session.specs.Queue.{QueueView, after_pushed}
+use Rattle.ddcmp_io.specs.Queue.{QueueView, after_pushed}
 use Rattle.ddcmp_session.specs.Text.{Puts, Wrote, mail_text}
 use Rattle.ddcmp_session.specs.declared.text.TheConstants.{LINE_ROOM}
 

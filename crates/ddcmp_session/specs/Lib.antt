@@ -1,4 +1,4 @@
 pub mod Messages
-pub mod Queue
 pub mod Session
 pub mod Text
+pub use Rattle.ddcmp_io.specs.Queue

@@ -12,10 +12,11 @@ use Rattle.ddcmp_session.specs.declared.messages.Form.TheVariants as form
 use Rattle.ddcmp_session.specs.declared.messages.Messages.{Messages}
 use Rattle.ddcmp_session.specs.declared.messages.Messages.TheVariants.{Digits, Binary}
 use Rattle.ddcmp_session.specs.declared.text.TheConstants.{LINE_ROOM, LOST_ROOM}
-use Rattle.ddcmp_session.specs.Messages.{messages_begun, message_in, after_input, entries_of_input, after_last}
-use Rattle.ddcmp_session.specs.Messages.{entry_of_last, is_message_unfinished, is_question}
+use Rattle.ddcmp_session.specs.Messages.{messages_begun, message_in, after_input}
+use Rattle.ddcmp_session.specs.Messages.{entries_of_input, after_last, entry_of_last}
+use Rattle.ddcmp_session.specs.Messages.{is_message_unfinished, is_question}
 use Rattle.ddcmp_session.specs.declared.session.TheConstants.{OUTPUT_ROOM}
-use Rattle.ddcmp_session.specs.Queue.{QueueView, no_bytes}
+use Rattle.ddcmp_io.specs.Queue.{QueueView, no_bytes}
 
 -- Its link; what was read of its input so far, whether all of it was, and whether a part of it was
 -- no message; and what waits for standard output.

@@ -8,7 +8,7 @@ use Rattle.ddcmp_input.specs.InBinary.{behind_length}
 use Rattle.ddcmp_station_text.specs.StationText.{notice_line}
 use Rattle.ddcmp_session.specs.declared.messages.Form.{Form}
 use Rattle.ddcmp_session.specs.declared.messages.Form.TheVariants.{Digits, Binary}
-use Rattle.ddcmp_session.specs.Queue.{QueueView, after_pushed}
+use Rattle.ddcmp_io.specs.Queue.{QueueView, after_pushed}
 
 -- a received message
 abbrev pub mail_text : Form → List ℕ → List ℕ

@@ -1,6 +1,5 @@
 //! Lines for standard error.
-use crate::queue::Queue;
-use ddcmp_io::Page;
+use ddcmp_io::{ByteQueue, Page};
 use ddcmp_io::text::write_number;
 use jiff::Timestamp;
 use std::alloc::{AllocError, Global};
@@ -21,7 +20,7 @@ const LAST_ROOM: usize = 8192;
 /// next line that finds room. Each begins with the time of day, if that is asked for.
 #[derive(Drop)]
 pub(crate) struct Errors {
-    queue: Queue,
+    queue: ByteQueue,
     left_out: u64,
     /// The milliseconds from 1970 to the moment 0, if lines begin with the time of day.
     began: Option<u64>,
@@ -33,7 +32,7 @@ impl Errors {
     /// Makes a queue with room for `size` bytes of lines.
     pub(crate) fn new(alloc: Global, size: usize) -> Result<Errors, AllocError> {
         Ok(Errors {
-            queue: Queue::new(alloc, size)?,
+            queue: ByteQueue::new(alloc, size)?,
             left_out: 0,
             began: None,
             now: 0,
@@ -52,18 +51,18 @@ impl Errors {
 
     /// Returns where a short line is to be written; none if there is no room, and then the line is
     /// counted as left out.
-    pub(crate) fn line(&mut self) -> Option<&mut Queue> {
+    pub(crate) fn line(&mut self) -> Option<&mut ByteQueue> {
         self.long_line(LINE_ROOM)
     }
 
     /// Returns where a line of at most `needed` bytes is to be written; none if there is no room,
     /// and then the line is counted as left out.
-    pub(crate) fn long_line(&mut self, needed: usize) -> Option<&mut Queue> {
+    pub(crate) fn long_line(&mut self, needed: usize) -> Option<&mut ByteQueue> {
         self.last_line(needed.saturating_add(LAST_ROOM))
     }
 
     /// Returns where one of the last lines is to be written, for which room was kept.
-    pub(crate) fn last_line(&mut self, needed: usize) -> Option<&mut Queue> {
+    pub(crate) fn last_line(&mut self, needed: usize) -> Option<&mut ByteQueue> {
         if !self.makes_room(needed) {
             return None;
         }
@@ -73,7 +72,7 @@ impl Errors {
 
     /// Returns where a JSON object of at most `needed` bytes is to be written, whose first members
     /// are there; none if there is no room, and then it is counted as left out.
-    pub(crate) fn object(&mut self, needed: usize) -> Option<&mut Queue> {
+    pub(crate) fn object(&mut self, needed: usize) -> Option<&mut ByteQueue> {
         if !self.makes_room(needed.saturating_add(LAST_ROOM)) {
             return None;
         }
@@ -148,7 +147,7 @@ impl Errors {
     pub(crate) fn took(&mut self, n: usize) {
         let n = n.min(self.queue.waiting().len());
         self.queue.took(n);
-        if self.queue.is_empty() {
+        if self.queue.waiting().is_empty() {
             self.report_left_out();
         }
     }

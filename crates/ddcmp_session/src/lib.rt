@@ -8,7 +8,6 @@ mod messages;
 mod options;
 mod pacing;
 mod patience;
-mod queue;
 mod report;
 mod retry;
 mod session;

@@ -1,5 +1,6 @@
 //! Messages as text: a line of hexadecimal digits each, or bytes after their length.
-ghost use Rattle.std.specs.Prelude.{◌≡◌, ◌+◌, ◌≤◌, ℕ, [], IfOk, None, Some, length, take, option_to_list};
+ghost use Rattle.std.specs.Prelude.{◌≡◌, ◌+◌, ◌≤◌, ℕ, [], IfOk, None, Some, length, take};
+ghost use Rattle.std.specs.Prelude.{option_to_list};
 ghost use Rattle.ddcmp_session.specs.Messages.{messages_begun, message_in, after_input};
 ghost use Rattle.ddcmp_session.specs.Messages.{entries_of_input, is_message_unfinished};
 ghost use Rattle.ddcmp_session.specs.Messages.{after_last, entry_of_last, is_question};

@@ -1,8 +1,7 @@
 //! Reports of what a link has counted, while it runs.
 use crate::errors::Errors;
-use crate::queue::Queue;
 use crate::text;
-use ddcmp_io::Page;
+use ddcmp_io::{ByteQueue, Page};
 use ddcmp_station::Link;
 use std::alloc::{AllocError, Global};
 use std::fmt::Write;
@@ -15,7 +14,7 @@ pub(crate) struct Reports {
     due_at: u64,
     as_objects: bool,
     /// The line that is written.
-    line: Queue,
+    line: ByteQueue,
 }
 
 impl Reports {
@@ -30,7 +29,7 @@ impl Reports {
             every_ms,
             due_at: if every_ms == 0 { u64::MAX } else { every_ms },
             as_objects,
-            line: Queue::new(alloc, text::END_ROOM)?,
+            line: ByteQueue::new(alloc, text::END_ROOM)?,
         })
     }
 
@@ -51,8 +50,7 @@ impl Reports {
 
     /// Writes a report for standard error.
     pub(crate) fn write(&mut self, link: &Link, lost: u64, errors: &mut Errors) {
-        let unread = self.line.waiting().len();
-        self.line.took(unread);
+        self.line.clear();
         text::write_report(&mut self.line, link, lost);
         if self.as_objects {
             self.write_object(errors);
@@ -82,7 +80,7 @@ impl Reports {
 }
 
 /// Writes a member whose value is a number or a name.
-fn write_member(lines: &mut Queue, name: &str, value: &str) {
+fn write_member(lines: &mut ByteQueue, name: &str, value: &str) {
     let is_number = value.as_bytes().first().is_some_and(u8::is_ascii_digit);
     let quote = if is_number { "" } else { "\"" };
     let _is_whole = write!(lines, ",\"{name}\":{quote}{value}{quote}");

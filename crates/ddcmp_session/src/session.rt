@@ -11,11 +11,11 @@ use crate::messages::Messages;
 use crate::options::{LineKind, Options};
 use crate::pacing::Pacing;
 use crate::patience::Patience;
-use crate::queue::Queue;
 use crate::report::Reports;
 use crate::retry::Retry;
 use crate::text;
 use crate::trace::Trace;
+use ddcmp_io::ByteQueue;
 use ddcmp_station::{ConfigRefusal, Link};
 use std::alloc::Global;
 use std::marker::Model;
@@ -55,7 +55,7 @@ pub struct Session {
     kind: LineKind,
     link: Link,
     messages: Messages,
-    output: Queue,
+    output: ByteQueue,
     errors: Errors,
     reports: Reports,
     mail: Vec<u8>,
@@ -186,7 +186,7 @@ impl Session {
         let Ok(messages) = Messages::new(alloc, options.form, max) else {
             return Err(ConfigRefusal::Memory);
         };
-        let Ok(output) = Queue::new(alloc, OUTPUT_ROOM + 2 * text::mail_room(max)) else {
+        let Ok(output) = ByteQueue::new(alloc, OUTPUT_ROOM + 2 * text::mail_room(max)) else {
             return Err(ConfigRefusal::Memory);
         };
         let Ok(errors) = Errors::new(alloc, errors_room) else {

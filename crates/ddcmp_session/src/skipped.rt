@@ -1,15 +1,8 @@
 //! The bytes that went one way over a line: their frames, and what was discarded between them.
-use ddcmp_explain::reached_by;
+use ddcmp_explain::{Reached, Skipped, reached_by};
 use ddcmp_frame::codes::SYN;
 use ddcmp_frame::{Item, Reader, ReaderRefusal};
 use std::alloc::Global;
-
-/// Bytes that were passed over: the offset of the first, and how many.
-#[derive(Clone, Copy)]
-pub(crate) struct Discarded {
-    pub(crate) from: u64,
-    pub(crate) count: u64,
-}
 
 /// The byte that some stations pad their frames with.
 const DEL: u8 = 0xff;
@@ -22,8 +15,8 @@ fn is_fill(byte: u8) -> bool {
 /// What was heard of one way.
 pub(crate) struct Heard {
     frames: Reader,
-    /// The offset of the first byte that no frame and no line has taken.
-    reached: u64,
+    /// The last item, or where the bytes end that were reported since.
+    reached: Reached,
     /// The offset of the first of those that is no fill. Fill alone isn't reported.
     junk: Option<u64>,
 }
@@ -48,7 +41,7 @@ impl Heard {
     pub(crate) fn new(alloc: Global, max: u16) -> Result<Heard, ReaderRefusal> {
         Ok(Heard {
             frames: Reader::new(alloc, max)?,
-            reached: 0,
+            reached: Reached::at(0),
             junk: None,
         })
     }
@@ -59,7 +52,7 @@ impl Heard {
         if offset >= u64::MAX - 1 {
             return None;
         }
-        if !is_fill(byte) && self.junk.is_none() && self.reached <= offset {
+        if !is_fill(byte) && self.junk.is_none() && self.reached.skipped_to(offset + 1).is_some() {
             self.junk = Some(offset);
         }
         self.frames.push(byte)
@@ -71,48 +64,36 @@ impl Heard {
     }
 
     /// An item was completed: what was discarded before it.
-    pub(crate) fn reach(&mut self, item: &Item) -> Option<Discarded> {
+    pub(crate) fn reach(&mut self, item: &Item) -> Option<Skipped> {
         let reached = reached_by(item);
-        let discarded = self.passed_to(reached.offset);
-        self.reached = reached.offset.saturating_add(reached.taken);
+        let skipped = self.skipped_to(reached.offset);
+        self.reached = reached;
         // The start byte of a header that is damaged is passed over itself.
-        self.junk = if reached.taken == 0 {
-            Some(reached.offset)
-        } else {
-            None
-        };
-        discarded
+        self.junk = (reached.taken == 0).then_some(reached.offset);
+        skipped
     }
 
     /// What was discarded behind the last frame, where so many bytes were.
-    pub(crate) fn discard(&mut self, least: u64) -> Option<Discarded> {
+    pub(crate) fn discard(&mut self, least: u64) -> Option<Skipped> {
         let end = self
             .frames
             .offset()
             .saturating_sub(self.frames.open() as u64);
-        let discarded = self.passed_to(end)?;
-        if discarded.count < least {
+        let skipped = self.skipped_to(end)?;
+        if skipped.count < least {
             return None;
         }
-        self.reached = end;
+        self.reached = Reached::at(end);
         // The frame that isn't finished may turn out to be none.
-        self.junk = if self.frames.open() > 0 {
-            Some(end)
-        } else {
-            None
-        };
-        Some(discarded)
+        self.junk = (self.frames.open() > 0).then_some(end);
+        Some(skipped)
     }
 
-    /// What was discarded up to an offset.
-    fn passed_to(&self, to: u64) -> Option<Discarded> {
-        let is_fill = to <= self.junk.unwrap_or(u64::MAX);
-        if is_fill || to <= self.reached {
+    /// What was discarded up to an offset, if it isn't fill alone.
+    fn skipped_to(&self, to: u64) -> Option<Skipped> {
+        if to <= self.junk? {
             return None;
         }
-        Some(Discarded {
-            from: self.reached,
-            count: to - self.reached,
-        })
+        self.reached.skipped_to(to)
     }
 }

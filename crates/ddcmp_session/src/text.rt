@@ -5,9 +5,8 @@ ghost use Rattle.ddcmp_session.specs.Text.{Puts, mail_text, lost_line};
 ghost use Rattle.ddcmp_station_text.specs.StationText.{notice_line, number_text};
 
 use crate::messages::Form;
-use crate::queue::Queue;
 use ddcmp_io::text::write_number;
-use ddcmp_io::{Page, Sink};
+use ddcmp_io::{ByteQueue, Page, Sink};
 use ddcmp_station::{Link, Notice};
 use ddcmp_station_text::{notice_name, notice_number, state_name, write_counters};
 use itoa::Buffer;
@@ -32,7 +31,7 @@ pub(crate) fn mail_room(max: u16) -> usize
 }
 
 /// Appends bytes that have room.
-fn put(out: &mut Queue, bytes: &[u8])
+fn put(out: &mut ByteQueue, bytes: &[u8])
     ensures { Puts bytes.now out.old out.new }
 {
     if bytes.len() <= out.room() {
@@ -44,7 +43,7 @@ fn put(out: &mut Queue, bytes: &[u8])
 const CHUNK: usize = 512;
 
 /// Appends the digits of some bytes.
-fn put_chunk(out: &mut Queue, bytes: &[u8])
+fn put_chunk(out: &mut ByteQueue, bytes: &[u8])
     requires { length bytes.now ≤ CHUNK }
     ensures { Puts (encode_lower bytes.now) out.old out.new }
 {
@@ -57,7 +56,7 @@ fn put_chunk(out: &mut Queue, bytes: &[u8])
 }
 
 /// Appends the digits of bytes.
-fn put_hex(out: &mut Queue, bytes: &[u8])
+fn put_hex(out: &mut ByteQueue, bytes: &[u8])
     ensures { Puts (encode_lower bytes.now) out.old out.new }
 {
     let mut at = 0;
@@ -69,7 +68,7 @@ fn put_hex(out: &mut Queue, bytes: &[u8])
 }
 
 /// Writes a received message: a line of its digits, or its bytes after its length.
-pub(crate) fn write_mail(out: &mut Queue, form: Form, message: &[u8])
+pub(crate) fn write_mail(out: &mut ByteQueue, form: Form, message: &[u8])
     requires { length message.now < 65536 }
     ensures puts { Puts (mail_text form message.now) out.old out.new }
     ensures short { length (mail_text form message.now) ≤ 2 * length message.now + LINE_ROOM }
@@ -89,7 +88,7 @@ pub(crate) fn write_mail(out: &mut Queue, form: Form, message: &[u8])
 }
 
 /// Appends a number, if there is one.
-fn put_number(out: &mut Queue, number: Option<u8>)
+fn put_number(out: &mut ByteQueue, number: Option<u8>)
     ensures puts { Puts (number_text number) out.old out.new }
     ensures short { length (number_text number) ≤ 3 }
 {
@@ -100,7 +99,7 @@ fn put_number(out: &mut Queue, number: Option<u8>)
 }
 
 /// Writes the line of a notice.
-pub(crate) fn write_notice_line(out: &mut Queue, notice: Notice)
+pub(crate) fn write_notice_line(out: &mut ByteQueue, notice: Notice)
     ensures puts { Puts (notice_line [] notice) out.old out.new }
     ensures short { length (notice_line [] notice) ≤ NOTICE_ROOM }
 {
@@ -111,7 +110,7 @@ pub(crate) fn write_notice_line(out: &mut Queue, notice: Notice)
 }
 
 /// Writes how many accepted messages were dropped.
-pub(crate) fn write_lost(out: &mut Queue, lost: u8)
+pub(crate) fn write_lost(out: &mut ByteQueue, lost: u8)
     ensures puts { Puts (lost_line lost) out.old out.new }
     ensures short { length (lost_line lost) ≤ LOST_ROOM }
 {
@@ -121,14 +120,14 @@ pub(crate) fn write_lost(out: &mut Queue, lost: u8)
 }
 
 /// Writes the counters of a link.
-pub(crate) fn write_counters_line(out: &mut Queue, link: &Link) {
+pub(crate) fn write_counters_line(out: &mut ByteQueue, link: &Link) {
     let mut page = Page::new();
     write_counters(&mut page, out, b"", link.counters());
     let _is_whole = page.flush(out);
 }
 
 /// Writes the state and the totals of a link, after its counters if these are asked for.
-pub(crate) fn write_end(out: &mut Queue, link: &Link, counters: bool) {
+pub(crate) fn write_end(out: &mut ByteQueue, link: &Link, counters: bool) {
     if counters {
         write_counters_line(out, link);
     }
@@ -139,7 +138,7 @@ pub(crate) fn write_end(out: &mut Queue, link: &Link, counters: bool) {
 }
 
 /// Writes the state, the totals, the lost messages and the counters of a link in one line.
-pub(crate) fn write_report(out: &mut Queue, link: &Link, lost: u64) {
+pub(crate) fn write_report(out: &mut ByteQueue, link: &Link, lost: u64) {
     let mut page = Page::new();
     page.write(out, b"report ");
     write_totals(&mut page, out, link);

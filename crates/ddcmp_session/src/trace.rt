@@ -1,11 +1,10 @@
 //! A trace: the frames that went to the line and those that came from it, discarded bytes, and
 //! expiries of the reply timer.
 use crate::errors::Errors;
-use crate::queue::Queue;
 use crate::skipped::Heard;
 use ddcmp_explain::{Notation, reason_name, write_discarded, write_item};
 use ddcmp_frame::{ControlType, Header, Item, MAX_COUNT, Nak, ReaderRefusal};
-use ddcmp_io::Page;
+use ddcmp_io::{ByteQueue, Page};
 use ddcmp_io::text::write_number;
 use std::alloc::Global;
 
@@ -137,7 +136,7 @@ impl Trace {
 
     /// Returns where a line of at most `needed` bytes is to be written, if there is room for it and
     /// for what else is reported.
-    fn line<'a>(&self, needed: usize, errors: &'a mut Errors) -> Option<&'a mut Queue> {
+    fn line<'a>(&self, needed: usize, errors: &'a mut Errors) -> Option<&'a mut ByteQueue> {
         errors.long_line(self.spared.saturating_add(needed))
     }
 
@@ -157,7 +156,7 @@ impl Trace {
 }
 
 /// Puts the line of an item with the data that it lends; that of a NAK has its reason in words.
-fn put_item(now: u64, way: Way, item: &Item, data: &[u8], text: &mut Queue) {
+fn put_item(now: u64, way: Way, item: &Item, data: &[u8], text: &mut ByteQueue) {
     let mut page = Page::new();
     write_number(&mut page, text, now);
     page.write(text, way.mark());

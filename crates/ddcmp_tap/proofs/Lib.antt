@@ -1,4 +1,3 @@
-pub mod QueueLaws
 pub mod TextLaws
 pub mod TellLaws
 pub mod MoveLaws

@@ -5,13 +5,12 @@ use Rattle.std.proofs.Common.{arith, append_assoc, length-append, Some, Result, 
 use Rattle.std.specs.Prelude.{IsOk, is_err}
 use Rattle.ddcmp_tap.specs.declared.no_memory.NoMemory.{NoMemory}
 use Rattle.std.proofs.KnownBytes.{Appends-nil}
-use Rattle.std.proofs.lemmas.List.{append-nil, set-append_right}
+use Rattle.std.proofs.lemmas.List.{append-nil, drop_all, set-append_right}
 use Rattle.ddcmp_frame.specs.declared.item.Item.{Item}
 use Rattle.ddcmp_frame.specs.declared.item.Item.TheVariants.{Good, HeaderCheck, DataCheck, TooLong}
 use Rattle.ddcmp_frame.specs.declared.item.Item.TheVariants.{Format}
 use Rattle.ddcmp_io.specs.Written.{Output, HandsOver, Holds}
 use Rattle.ddcmp_explain.specs.Json.{json_line_of, json_item}
-use Rattle.ddcmp_tap.proofs.QueueLaws.{dropped}
 
 plainly : (was now text : List ℕ) (mid : Output)
     → HandsOver (record { broken = false; sink = Some was; waiting = [] }) mid text
@@ -71,7 +70,7 @@ pub written-back : (n i : ℕ) (s items : List ℕ) → s ≡ items → length s
 written-back n i s items e l =
     let long : length (set s i 44) ≡ n = length-set s i 44 ∙ l in
     ap (λ t. take n (set s i 44 ++ t))
-    (dropped (length (set s i 44)) items (length-set s i 44 ∙ ap length e))
+    (drop_all (length (set s i 44)) items (omega (arith, length-set s i 44, ap length e)))
     ∙ ap (take n) (append-nil (set s i 44))
     ∙ take_all n (set s i 44) (omega (arith, long))
     ∙ ap (λ t. set t i 44) e

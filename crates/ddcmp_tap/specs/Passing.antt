@@ -1,11 +1,10 @@
 -- What contracts see of a direction of a tap, and what holds of it.
-use Rattle.std.specs.Prelude.{◌≡◌, ℕ, ◌+◌, ◌-◌, ◌^◌, Bool, List, [], ◌++◌, length, min, Option}
+use Rattle.std.specs.Prelude.{◌≡◌, ℕ, ◌+◌, ◌-◌, ◌^◌, Bool, List, ◌++◌, length, min, Option}
 use Rattle.ddcmp_frame.specs.Reader.{ReaderView, StandsFor}
 use Rattle.ddcmp_frame.specs.Reading.{ReadItem, items}
 use Rattle.ddcmp_tap.specs.declared.notation.Notation.{Notation}
 use Rattle.ddcmp_tap.specs.Tapped.{tapped_lines}
 use Rattle.ddcmp_tap.specs.declared.side.Side.{Side}
-use Rattle.ddcmp_tap.specs.declared.queue.TheConstants.{ROOM}
 
 -- bytes that came: those that weren't handed on, those that weren't explained, and how many more
 -- there is room for
@@ -13,9 +12,6 @@ pub record QueueView : Type 0 where
   pub waiting : List ℕ
   pub untold : List ℕ
   pub room : ℕ
-
-abbrev pub no_bytes : QueueView
-no_bytes = record { waiting = []; untold = []; room = ROOM }
 
 -- A direction: the side that its bytes come from and how its lines are written; its bytes; whether
 -- that side has ended; what was read of the bytes that were explained and how many items they have;

@@ -7,18 +7,21 @@ ghost use Rattle.ddcmp_tap.specs.Tapped.{tapped_last};
 
 use crate::no_memory::NoMemory;
 use crate::notation::Notation;
-use crate::queue::Queue;
 use crate::side::Side;
 use crate::telling::Telling;
 use ddcmp_frame::Reader;
-use ddcmp_io::MemorySink;
+use ddcmp_io::{ByteQueue, MemorySink};
 use std::alloc::Global;
 use std::marker::Model;
 
-/// What came from one side. Bytes wait here until they were handed on to the other side and
-/// explained.
+/// The most bytes of a direction that wait.
+pub const ROOM: usize = 65536;
+
+/// What came from one side. Bytes wait here until they were handed on to the other side, and until
+/// they were explained: in two queues, so that neither waits for the other.
 pub struct Direction {
-    queue: Queue,
+    waiting: ByteQueue,
+    untold: ByteQueue,
     telling: Telling,
     text: MemorySink,
     ended: bool,
@@ -28,7 +31,8 @@ pub struct Direction {
 impl Drop for Direction {
     fn drop(self) {
         let Direction {
-            queue: _queue,
+            waiting: _waiting,
+            untold: _untold,
             telling: _telling,
             text: _text,
             ended: _,
@@ -37,22 +41,28 @@ impl Drop for Direction {
 }
 
 impl Model for Direction {
-    ghost use Rattle.std.specs.Prelude.{◌+◌, ◌<◌, ◌^◌, length};
+    ghost use Rattle.std.specs.Prelude.{◌≡◌, ◌+◌, ◌<◌, ◌^◌, length, min};
     ghost use Rattle.ddcmp_tap.specs.Passing.{DirectionView};
+    ghost use Rattle.ddcmp_tap.specs.declared.direction.TheConstants.{ROOM};
 
     ghost Value = { DirectionView };
 
     ghost view = { λ d. record {
       side = d.telling.side;
       notation = d.telling.notation;
-      queue = d.queue;
+      queue = record {
+        waiting = d.waiting.waiting;
+        untold = d.untold.waiting;
+        room = min d.waiting.room d.untold.room;
+      };
       ended = d.ended;
       frames = d.telling.frames;
       items = d.telling.items;
       text = d.text.bytes.items;
     } };
 
-    ghost invariant = { λ d. d.telling.frames.offset + length d.queue.untold < 2 ^ 64 };
+    ghost invariant = { λ d. (d.telling.frames.offset + length d.untold.waiting < 2 ^ 64)
+        × (d.waiting.size ≡ ROOM) × (d.untold.size ≡ ROOM) };
 }
 
 impl Direction {
@@ -72,14 +82,18 @@ impl Direction {
         ensures max { IfOk result (λ made. made.frames.max ≡ max) }
         ensures ended { IfOk result (λ made. made.ended ≡ false) }
     {
-        let Ok(queue) = Queue::new(alloc) else {
+        let Ok(waiting) = ByteQueue::new(alloc, ROOM) else {
+            return Err(NoMemory);
+        };
+        let Ok(untold) = ByteQueue::new(alloc, ROOM) else {
             return Err(NoMemory);
         };
         let Ok(frames) = Reader::new(alloc, max) else {
             return Err(NoMemory);
         };
         Ok(Direction {
-            queue,
+            waiting,
+            untold,
             telling: Telling {
                 side,
                 notation,
@@ -99,8 +113,9 @@ impl Direction {
         ensures whole { self.now.queue.waiting ≡ [] → self.now.queue.untold ≡ []
             → self.now.queue.room ≡ 65536 }
     {
-        let room = self.queue.room();
-        let countable = u64::MAX - self.telling.frames.offset() - self.queue.untold().len() as u64;
+        let room = self.waiting.room().min(self.untold.room());
+        let untold = self.untold.waiting().len() as u64;
+        let countable = u64::MAX - self.telling.frames.offset() - untold;
         if countable < room as u64 {
             countable as usize
         } else {
@@ -118,14 +133,15 @@ impl Direction {
         ensures room { self.new.queue.room + length bytes.now ≡ self.old.queue.room }
         ensures stays { self.new ≡ record self.old { queue = self.new.queue } }
     {
-        self.queue.push(bytes);
+        self.waiting.push(bytes);
+        self.untold.push(bytes);
     }
 
     /// What is to be handed on to the other side.
     pub fn waiting(&self) -> &[u8]
         ensures { result.now ≡ self.now.queue.waiting }
     {
-        self.queue.waiting()
+        self.waiting.waiting()
     }
 
     /// The other side took the first `n` of what waited.
@@ -138,7 +154,7 @@ impl Direction {
         ensures room { self.old.queue.room ≤ self.new.queue.room }
         ensures stays { self.new ≡ record self.old { queue = self.new.queue } }
     {
-        self.queue.took(n);
+        self.waiting.took(n);
     }
 
     /// The side sends no more.
@@ -174,8 +190,8 @@ impl Direction {
         self.text.clear();
         let told = self
             .telling
-            .tell(&mut self.text, stamp, self.queue.untold());
-        self.queue.told();
+            .tell(&mut self.text, stamp, self.untold.waiting());
+        self.untold.clear();
         told
     }
 

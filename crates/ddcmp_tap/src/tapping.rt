@@ -4,11 +4,10 @@ ghost use Rattle.ddcmp_io.specs.Written.{Writes};
 ghost use Rattle.ddcmp_frame.specs.Limits.{MAX_COUNT};
 ghost use Rattle.ddcmp_tap.specs.Pumping.{Says, head_of};
 
-use crate::direction::Direction;
+use crate::direction::{Direction, ROOM};
 use crate::flow::Flow;
 use crate::notation::Notation;
 use crate::pumping::pump;
-use crate::queue::ROOM;
 use crate::side::Side;
 use crate::sockets::{Sockets, ToSocket};
 use crate::tap_fault::TapFault;

@@ -6,8 +6,8 @@ use crate::trace::Way;
 use ddcmp_station::{Notice, State};
 
 impl Session {
-    ghost use Rattle.std.specs.Prelude.{◌≡◌, ◌+◌, ◌<◌, ◌≤◌, ℕ, List, [], ◌++◌, true, false, min, length};
-    ghost use Rattle.std.specs.Prelude.{take, is_ok, option_to_list};
+    ghost use Rattle.std.specs.Prelude.{◌≡◌, ◌+◌, ◌<◌, ◌≤◌, ℕ, List, [], ◌++◌, true, false, min};
+    ghost use Rattle.std.specs.Prelude.{length, take, is_ok, option_to_list};
     ghost use Rattle.ddcmp_frame.specs.Reader.{StandsFor};
     ghost use Rattle.ddcmp_core.specs.Table.{after_halt, answer_to_start};
     ghost use Rattle.ddcmp_proto.specs.Bytes.{after_piece, notices_of_piece};

@@ -10,7 +10,7 @@ impl Session {
     ghost use Rattle.std.specs.Prelude.{if◌then◌else◌, []};
     ghost use Rattle.ddcmp_station.specs.Linking.{after_taking};
     ghost use Rattle.ddcmp_window.specs.Store.{first_message};
-    ghost use Rattle.ddcmp_session.specs.Queue.{after_pushed, after_taken};
+    ghost use Rattle.ddcmp_io.specs.Queue.{after_pushed, after_taken};
     ghost use Rattle.ddcmp_session.specs.Session.{form_of, reports_loss, room_for_mail};
     ghost use Rattle.ddcmp_session.specs.Text.{Wrote, mail_text, reported_lost};
 

@@ -1,30 +1,21 @@
-use Rattle.std.proofs.Common.{◌+◌, ◌≤◌, arith, sym}
+use Rattle.std.proofs.Common.{◌∙◌, ap, sym}
 use Rattle.ddcmp_io.proofs.TextLaws.{sends-as, sends-nothing}
-use Rattle.ddcmp_explain.proofs.PartLaws.{passed-some, passed-none}
+use Rattle.ddcmp_explain.specs.Discarded.{part_lines, skipped_parts}
+use Rattle.ddcmp_explain.proofs.PartLaws.{skipped-some, skipped-none}
 use Rattle.ddcmp_explain.proofs.lines.Lines.pass_to.Goals as goal
-use Rattle.ddcmp_explain.proofs.lines.Lines.pass_to.Goals.{else-offset-to-via-then-offset-to+else-taken-to}
-use Rattle.ddcmp_explain.proofs.lines.Lines.pass_to.Goals.{else-offset-to-via-else-offset-to}
 
-pub returns-then-taken-to-clause-passed : goal.returns-then-taken-to-clause-passed
-returns-then-taken-to-clause-passed g c =
-    let was = c.args.self.now in
-    sends-as (sym
-    (passed-some was.style.notation (was.reached.offset + was.reached.taken) c.args.to
-    (omega (arith, c.if-taken-to.true))))
+pub returns-in-Some-clause-passed : goal.returns-in-Some-clause-passed
+returns-in-Some-clause-passed g c =
+    let notation = c.args.self.now.style.notation in
+    sends-as
+    (sym (skipped-some notation c.in-Some.it)
+    ∙ ap (part_lines notation) (ap skipped_parts (sym c.in-Some.is) ∙ c.skipped_to.ensures))
     c.write_discarded.ensures
 
-below : (g : _) (c : goal.Joined-else-offset-to g)
-    → c.args.to ≤ c.args.self.now.reached.offset + c.args.self.now.reached.taken
-below g c = elim c.else-offset-to.branch [
-  | else-offset-to-via-then-offset-to+else-taken-to w
-      ↦ omega (arith, w.if-offset-to.true, w.if-taken-to.false)
-  | else-offset-to-via-else-offset-to w ↦ omega (arith, w.if-offset-to.false)
-]
-
-pub returns-else-offset-to-clause-passed : goal.returns-else-offset-to-clause-passed
-returns-else-offset-to-clause-passed g c =
-    let was = c.args.self.now in
-    sends-as (sym
-    (passed-none was.style.notation (was.reached.offset + was.reached.taken) c.args.to
-    (below g c)))
+pub returns-in-None-clause-passed : goal.returns-in-None-clause-passed
+returns-in-None-clause-passed g c =
+    let notation = c.args.self.now.style.notation in
+    sends-as
+    (sym (skipped-none notation)
+    ∙ ap (part_lines notation) (ap skipped_parts (sym c.in-None.is) ∙ c.skipped_to.ensures))
     (sends-nothing _)

@@ -1,4 +1,4 @@
-use Rattle.std.proofs.Common.{◌≡◌, ◌+◌, ◌++◌, true, false, ap, arith, sym, subst, ◌∙◌}
+use Rattle.std.proofs.Common.{◌≡◌, ◌++◌, true, ap, arith, sym, subst, ◌∙◌}
 use Rattle.ddcmp_io.proofs.TextLaws.{sends-as, sends-nothing}
 use Rattle.ddcmp_frame.proofs.ReadingLaws.{ending-offset}
 use Rattle.ddcmp_frame.specs.Reading.{ending, items}

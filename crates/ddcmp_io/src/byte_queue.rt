@@ -1,15 +1,16 @@
 //! Bytes on their way to a device.
-ghost use Rattle.std.specs.Prelude.{◌≡◌, ◌-◌, ◌≤◌, ◌++◌, [], IfOk, drop, length, vec_len, vec_capacity};
-ghost use Rattle.ddcmp_session.specs.Queue.{no_bytes, after_pushed, after_taken};
+ghost use Rattle.std.specs.Prelude.{◌≡◌, ◌+◌, ◌≤◌, [], IfOk, length};
+ghost use Rattle.ddcmp_io.specs.Queue.{no_bytes, after_pushed, after_taken, after_taken_back};
+ghost use Rattle.ddcmp_io.specs.Queue.{cleared, room_settled};
 
-use ddcmp_io::Sink;
+use crate::device::Sink;
 use std::alloc::{AllocError, Global};
 use std::fmt;
 use std::marker::Model;
 
 /// A queue of bytes: they are appended at its end and taken from its front, in one piece. It has a
 /// fixed size, and doesn't allocate once it is made.
-pub(crate) struct Queue {
+pub struct ByteQueue {
     bytes: Vec<u8>,
     /// How many of them were taken.
     start: usize,
@@ -19,9 +20,9 @@ pub(crate) struct Queue {
 }
 
 // By hand, so that a queue is dropped by a call: a derived one is written out at each such place.
-impl Drop for Queue {
+impl Drop for ByteQueue {
     fn drop(self) {
-        let Queue {
+        let ByteQueue {
             bytes: _bytes,
             start: _,
             size: _,
@@ -30,9 +31,9 @@ impl Drop for Queue {
     }
 }
 
-impl Model for Queue {
+impl Model for ByteQueue {
     ghost use Rattle.std.specs.Prelude.{◌≡◌, ◌-◌, ◌≤◌, drop, vec_len, vec_capacity};
-    ghost use Rattle.ddcmp_session.specs.Queue.{QueueView};
+    ghost use Rattle.ddcmp_io.specs.Queue.{QueueView};
 
     ghost Value = { QueueView };
 
@@ -47,12 +48,12 @@ impl Model for Queue {
         × (q.size ≤ vec_capacity q.bytes) × (q.start ≡ vec_len q.bytes → q.start ≡ 0) };
 }
 
-impl Queue {
+impl ByteQueue {
     /// Makes an empty queue with room for `size` bytes.
-    pub(crate) fn new(alloc: Global, size: usize) -> Result<Queue, AllocError>
+    pub fn new(alloc: Global, size: usize) -> Result<ByteQueue, AllocError>
         ensures { IfOk result (λ made. made ≡ no_bytes size) }
     {
-        Ok(Queue {
+        Ok(ByteQueue {
             bytes: Vec::with_capacity(alloc, size)?,
             start: 0,
             size,
@@ -61,32 +62,30 @@ impl Queue {
     }
 
     /// Returns the queued bytes.
-    pub(crate) fn waiting(&self) -> &[u8]
+    pub fn waiting(&self) -> &[u8]
         ensures { result.now ≡ self.now.waiting }
     {
         &self.bytes[self.start..]
     }
 
-    pub(crate) fn is_empty(&self) -> bool {
-        self.waiting().is_empty()
-    }
-
     /// Returns for how many more bytes there is room.
-    pub(crate) fn room(&self) -> usize
-        ensures { result ≡ self.now.room }
+    pub fn room(&self) -> usize
+        ensures value { result ≡ self.now.room }
+        ensures most { result + length self.now.waiting ≤ self.now.size }
+        ensures whole { self.now.waiting ≡ [] → result ≡ self.now.size }
     {
         self.size - self.bytes.len()
     }
 
     /// Whether some text was dropped because it found no room.
-    pub(crate) fn is_cut(&self) -> bool
+    pub fn is_cut(&self) -> bool
         ensures { result ≡ self.now.is_cut }
     {
         self.is_cut
     }
 
     /// Appends bytes.
-    pub(crate) fn push(&mut self, bytes: &[u8])
+    pub fn push(&mut self, bytes: &[u8])
         requires { length bytes.now ≤ self.old.room }
         ensures { self.new ≡ after_pushed bytes.now self.old }
     {
@@ -97,36 +96,48 @@ impl Queue {
     }
 
     /// Removes the first `n` bytes.
-    pub(crate) fn took(&mut self, n: usize)
+    pub fn took(&mut self, n: usize)
         requires { n ≤ length self.old.waiting }
-        ensures { self.new ≡ after_taken n self.old }
+        ensures taken { self.new ≡ after_taken n self.old }
+        ensures room { self.old.room ≤ self.new.room }
     {
         if n == self.waiting().len() {
-            self.bytes.clear();
-            self.start = 0;
+            self.clear();
         } else {
             self.start += n;
         }
     }
 
+    /// Removes all bytes.
+    pub fn clear(&mut self)
+        ensures cleared { self.new ≡ cleared self.old }
+        ensures room { self.old.room ≤ self.new.room }
+    {
+        self.bytes.clear();
+        self.start = 0;
+    }
+
     /// Drops the last `n` bytes that were appended.
-    pub(crate) fn take_back(&mut self, n: usize) {
-        let kept = self.bytes.len().saturating_sub(n).max(self.start);
-        self.bytes.truncate(kept);
-        if self.start == kept {
-            self.bytes.clear();
-            self.start = 0;
+    pub fn take_back(&mut self, n: usize)
+        ensures { self.new ≡ after_taken_back n self.old }
+    {
+        let waiting = self.waiting().len();
+        if waiting <= n {
+            self.clear();
+        } else {
+            self.bytes.truncate(self.start + (waiting - n));
         }
     }
 
     /// Makes room if the first half is of bytes that were taken.
-    pub(crate) fn settle(&mut self)
-        ensures waiting { self.new.waiting ≡ self.old.waiting }
-        ensures room { self.old.room ≤ self.new.room }
-        ensures cut { self.new.is_cut ≡ self.old.is_cut }
+    pub fn settle(&mut self)
         ensures size { self.new.size ≡ self.old.size }
+        ensures waiting { self.new.waiting ≡ self.old.waiting }
+        ensures room { self.new.room ≡ room_settled self.old }
+        ensures more { self.old.room ≤ self.new.room }
+        ensures cut { self.new.is_cut ≡ self.old.is_cut }
     {
-        if self.start < self.size / 2 || self.start == 0 {
+        if self.start < self.size / 2 {
             return;
         }
         let left = self.bytes.len() - self.start;
@@ -137,7 +148,7 @@ impl Queue {
 }
 
 /// Appends formatted text; what finds no room is dropped.
-impl fmt::Write for Queue {
+impl fmt::Write for ByteQueue {
     fn write_str(&mut self, text: &str) -> fmt::Result {
         let n = text.len().min(self.room());
         self.push(&text.as_bytes()[..n]);
@@ -146,7 +157,7 @@ impl fmt::Write for Queue {
 }
 
 /// Takes text as far as there is room. A queue that had none has failed.
-impl Sink for Queue {
+impl Sink for ByteQueue {
     ghost use Rattle.std.specs.Prelude.{Some};
 
     ghost contents = { λ queue. Some queue.waiting };

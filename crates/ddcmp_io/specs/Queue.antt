@@ -1,5 +1,6 @@
 -- A queue of bytes as its users see it.
-use Rattle.std.specs.Prelude.{ℕ, ◌-◌, Bool, false, ◌==◌, if◌then◌else◌, List, [], ◌++◌, length, drop}
+use Rattle.std.specs.Prelude.{ℕ, ◌+◌, ◌-◌, ◌/◌, Bool, false, ◌==◌, nat_le, nat_lt}
+use Rattle.std.specs.Prelude.{if◌then◌else◌, List, [], ◌++◌, length, take, drop}
 
 -- How many bytes it has room for when it is empty, the queued bytes, for how many more there is
 -- room, and whether some text found none.
@@ -17,8 +18,23 @@ after_pushed bytes q =
     record q { waiting = q.waiting ++ bytes; room = q.room - length bytes }
 
 -- an empty queue has all of its room
+abbrev pub cleared : QueueView → QueueView
+cleared q = record q { waiting = []; room = q.size }
+
 abbrev pub after_taken : ℕ → QueueView → QueueView
 after_taken n q = record q {
   waiting = drop n q.waiting;
   room = if n == length q.waiting then q.size else q.room;
 }
+
+abbrev pub after_taken_back : ℕ → QueueView → QueueView
+after_taken_back n q = record q {
+  waiting = take (length q.waiting - n) q.waiting;
+  room = if nat_le (length q.waiting) n then q.size else q.room + n;
+}
+
+-- what was taken is half of the size or more, and makes room
+abbrev pub room_settled : QueueView → ℕ
+room_settled q =
+    if nat_lt (q.size - (q.room + length q.waiting)) (q.size / 2) then q.room
+    else q.size - length q.waiting

@@ -1,0 +1,60 @@
+//! The bytes between items.
+ghost use Rattle.std.specs.Prelude.{◌≡◌, ◌+◌};
+ghost use Rattle.ddcmp_frame.specs.Step.{item_offset};
+ghost use Rattle.ddcmp_explain.specs.Discarded.{passed, skipped_parts, taken_by};
+
+use crate::discarded::frame_length;
+use ddcmp_frame::Item;
+
+/// An item: its offset, and how many bytes it takes.
+#[derive(Clone, Copy)]
+pub struct Reached {
+    pub offset: u64,
+    pub taken: u64,
+}
+
+/// Returns the offset of an item, and how many bytes it takes: a header that is damaged takes none,
+/// since only its start byte is skipped.
+pub fn reached_by(item: &Item) -> Reached
+    ensures offset { result.offset ≡ item_offset item.now }
+    ensures taken { result.taken ≡ taken_by item.now }
+{
+    let (offset, taken) = match item {
+        Item::Good(offset, header)
+        | Item::DataCheck(offset, header)
+        | Item::TooLong(offset, header) => (*offset, frame_length(header)),
+        Item::HeaderCheck(offset) => (*offset, 0),
+        Item::Format(offset, _) => (*offset, 8),
+    };
+    Reached { offset, taken }
+}
+
+/// Skipped bytes: the offset of the first, and how many.
+#[derive(Clone, Copy)]
+pub struct Skipped {
+    pub from: u64,
+    pub count: u64,
+}
+
+impl Reached {
+    /// Makes one at an offset, of no bytes.
+    pub fn at(offset: u64) -> Reached
+        ensures { result ≡ record { offset = offset; taken = 0 } }
+    {
+        Reached { offset, taken: 0 }
+    }
+
+    /// Returns what was skipped behind the item, up to an offset.
+    pub fn skipped_to(&self, to: u64) -> Option<Skipped>
+        ensures { skipped_parts result ≡ passed (self.now.offset + self.now.taken) to }
+    {
+        if self.offset < to && self.taken < to - self.offset {
+            let from = self.offset + self.taken;
+            return Some(Skipped {
+                from,
+                count: to - from,
+            });
+        }
+        None
+    }
+}
