@@ -13,6 +13,8 @@ mod explains;
 #[cfg(test)]
 mod programs;
 #[cfg(test)]
+mod reports;
+#[cfg(test)]
 mod same;
 #[cfg(test)]
 mod sessions;
