@@ -184,22 +184,23 @@ def trace_of_device():
     with terminals() as ends:
         if not ends:
             return
-        link = Link(f"device:{ends[0]}", "--trace", "--timer-ms", "60000")
+        link = Link(f"device:{ends[0]}", "--trace", "--timer-ms", "60000", "--max", "16383")
         end = os.open(ends[1], os.O_RDWR | os.O_NOCTTY)
-        got = []
+        got, sent = [], [drawn.randbytes(16383) for _ in range(3)]
 
         def read():
             with contextlib.suppress(OSError):
                 while piece := os.read(end, 4096):
                     got.append(piece)
 
-        threading.Thread(target=read, daemon=True).start()
         os.write(end, STACK)
         link.waits(lambda it: b"Running" in it.said, 5)
-        link.give(kit.digits([drawn.randbytes(500) for _ in range(3)]), close=False)
-        kit.holds_within(5, lambda: len(b"".join(got)) >= 3 * 510)
+        link.give(kit.digits(sent), close=False)
+        time.sleep(0.5)  # nobody reads, so that the line takes a part of what waits
+        threading.Thread(target=read, daemon=True).start()
+        kit.holds_within(5, lambda: len(b"".join(got)) >= 3 * 16393)
         time.sleep(0.3)
-        told, wanted = of_way(link.errors(), ">"), explained(b"".join(got), "--max", "1500")
+        told, wanted = of_way(link.errors(), ">"), explained(b"".join(got), "--max", "16383")
         if told != wanted:
             wrong(f"{[it[:60] for it in told]} and {[it[:60] for it in wanted]}")
         link.kill()

@@ -1,6 +1,6 @@
-//! Tests of two ends from outside: of `ddcmp_pair` on events, of refused memory to all that plays
-//! or serves, and of hostile use: damage, cuts, junk and loss, over finished calls. Worked rows are
-//! in `worked`.
+//! Tests of two ends from outside: of `ddcmp_pair` on events, of a picture on a paper of their own,
+//! of refused memory to all that plays or serves, and of hostile use: damage, cuts, junk and loss,
+//! over finished calls. Worked rows are in `worked`.
 #![tactic(auto)]
 
 #[cfg(test)]
@@ -11,6 +11,8 @@ mod calls;
 mod damage;
 #[cfg(test)]
 mod link;
+#[cfg(test)]
+mod marks;
 #[cfg(test)]
 mod order;
 #[cfg(test)]

@@ -1,5 +1,5 @@
 -- Short texts: what labels and notes are made of.
-use Rattle.std.specs.Prelude.{ℕ, ◌+◌, if◌then◌else◌, nat_lt, List, [], ◌∷◌, ◌++◌, length, take}
+use Rattle.std.specs.Prelude.{ℕ, ◌+◌, if◌then◌else◌, nat_lt, List, [], ◌∷◌, ◌++◌, length, take, min}
 use Rattle.std.specs.Prelude.{slice_set, codes, decimal, replicate}
 use Rattle.hex.specs.Hex.{encode_lower}
 use Rattle.ddcmp_picture.specs.declared.short_text.ShortText.{ShortText}
@@ -7,6 +7,10 @@ use Rattle.ddcmp_picture.specs.declared.short_text.ShortText.{ShortText}
 -- no text
 abbrev pub no_text : ShortText
 no_text = record { bytes = replicate 96 32; len = 0 }
+
+-- the bytes that are in it
+abbrev pub text_in : ShortText → List ℕ
+text_in t = take (min t.len 96) t.bytes
 
 -- a byte goes after the others, if there is room for it
 abbrev pub with_byte : ShortText → ℕ → ShortText

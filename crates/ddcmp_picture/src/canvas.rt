@@ -65,25 +65,6 @@ impl Canvas {
         canvas
     }
 
-    /// Writes the lines that were drawn: whether there was memory for them and all went out. A
-    /// document waits for its end.
-    pub(crate) fn show<W: Sink>(&mut self, writer: &mut W) -> bool
-        requires { W.broken writer.old ≡ false }
-        ensures { IsTrue result → W.broken writer.new ≡ false }
-    {
-        if self.draft.flush(&mut self.sheet).is_err() {
-            return false;
-        }
-        match self.picture {
-            Picture::Ladder => {
-                let shown = write_all(writer, self.sheet.bytes.as_slice());
-                self.sheet.clear();
-                shown.is_ok()
-            }
-            Picture::Svg => true,
-        }
-    }
-
     /// Ends the picture: whether there was memory for all of it. After it comes what has been done,
     /// if there is a pair to ask.
     pub(crate) fn end<W: Sink>(
@@ -131,5 +112,21 @@ impl Paper for Canvas {
             Picture::Svg => write_element(&mut self.draft, &mut self.sheet, self.rows, mark),
         }
         self.rows = self.rows.saturating_add(rows_of(mark));
+    }
+
+    /// Writes the lines that were drawn: whether there was memory for them and all went out. A
+    /// document waits for its end.
+    fn show<W: Sink>(&mut self, writer: &mut W) -> bool {
+        if self.draft.flush(&mut self.sheet).is_err() {
+            return false;
+        }
+        match self.picture {
+            Picture::Ladder => {
+                let shown = write_all(writer, self.sheet.bytes.as_slice());
+                self.sheet.clear();
+                shown.is_ok()
+            }
+            Picture::Svg => true,
+        }
     }
 }

@@ -1,7 +1,7 @@
 //! A run, drawn step by step.
 ghost use Rattle.std.specs.Prelude.{◌≡◌, [], ◌∷◌, true};
 ghost use Rattle.ddcmp_io.specs.Device.{Logs};
-ghost use Rattle.ddcmp_picture.specs.Marks.{line_asked, line_marks, line_trips};
+ghost use Rattle.ddcmp_picture.specs.Marks.{all_end, line_asked, line_marks, line_trips};
 ghost use Rattle.ddcmp_picture.specs.Marks.{part_of as part_of_them};
 ghost use Rattle.ddcmp_picture.specs.Marks.{is_settle, polled_marks, polled_trips, recovered_label};
 ghost use Rattle.ddcmp_picture.specs.Marks.{arrived_marks, arrived_trips, carry_asked, carry_marks};
@@ -24,10 +24,11 @@ use ddcmp_pair::{End, Event, Pair, Recovered, Reply, Settled};
 use ddcmp_script_text::ScriptCommand;
 use std::alloc::Global;
 
-/// Draws the steps of a run.
-pub(crate) struct Drawing<P> {
+/// A drawing of a run on a paper. As the view of a script (`ddcmp_line::script_viewed`) it puts there
+/// what each line and each step gives; after the script call `end_flights`.
+pub struct Drawing<P> {
     pub(crate) flights: Flights,
-    pub(crate) paper: P,
+    pub paper: P,
     /// The states before the next step.
     pub(crate) states: States,
     pub(crate) asked: Asked,
@@ -59,8 +60,14 @@ fn part_of(most: Option<u32>, of: usize) -> usize
 }
 
 impl<P: Paper + Drop> Drawing<P> {
-    /// Nothing drawn yet of a run that begins with this pair.
-    pub(crate) fn new(alloc: Global, paper: P, pair: &Pair) -> Self {
+    /// Makes one of a run that begins with this pair, with nothing drawn yet.
+    pub fn new(alloc: Global, paper: P, pair: &Pair) -> Self
+        ensures paper { result.paper ≡ paper }
+        ensures trips { result.flights ≡ no_trips }
+        ensures whole { result.is_whole ≡ true }
+        ensures states { result.states ≡ states_in pair.now }
+        ensures asked { result.asked ≡ Asked.Event }
+    {
         Drawing {
             flights: Flights::new(alloc),
             paper,
@@ -187,7 +194,7 @@ impl<P: Paper + Drop> Drawing<P> {
 
     /// Draws a step of the run, which left the pair so.
     #[tactic(auto, using(crate::proofs::NoteLaws::logs_then))]
-    pub(crate) fn step(&mut self, pair: &Pair, event: &Event, reply: &Reply)
+    pub fn step(&mut self, pair: &Pair, event: &Event, reply: &Reply)
         ensures marks { Logs (P.drawn self.old.paper) (P.drawn self.new.paper)
             (step_marks event.now reply.now pair.now (record {
               asked = self.old.asked;
@@ -265,7 +272,7 @@ impl<P: Paper + Drop> Drawing<P> {
 
     /// Draws what a line asks for, before anything of it is done.
     #[tactic(auto, using(crate::proofs::NoteLaws::logs_none))]
-    pub(crate) fn begin(&mut self, pair: &Pair, command: &ScriptCommand, front: Option<usize>)
+    pub fn begin(&mut self, pair: &Pair, command: &ScriptCommand, front: Option<usize>)
         ensures marks { Logs (P.drawn self.old.paper) (P.drawn self.new.paper)
             (line_marks command.now front pair.now self.old.flights) }
         ensures trips { self.new.flights ≡ line_trips command.now front self.old.flights }
@@ -288,8 +295,20 @@ impl<P: Paper + Drop> Drawing<P> {
         }
     }
 
-    /// Both ends settled.
-    pub(crate) fn put_settled(&mut self, settled: &Settled)
+    /// Draws the frames that are still on their way when the run is over.
+    pub fn end_flights(&mut self)
+        ensures marks { Logs (P.drawn self.old.paper) (P.drawn self.new.paper)
+            (all_end Fate.OnItsWay self.old.flights) }
+        ensures trips { self.new.flights ≡ no_trips }
+        ensures whole { self.new.is_whole ≡ self.old.is_whole }
+        ensures states { self.new.states ≡ self.old.states }
+        ensures asked { self.new.asked ≡ self.old.asked }
+    {
+        end_all(&mut self.paper, &mut self.flights, Fate::OnItsWay);
+    }
+
+    /// Draws how both ends settled.
+    pub fn put_settled(&mut self, settled: &Settled)
         ensures { Logs (P.drawn self.old.paper) (P.drawn self.new.paper)
             (Mark.Across (settled_label settled.now.exchanges settled.now.quiet) ∷ []) }
     {
@@ -298,9 +317,9 @@ impl<P: Paper + Drop> Drawing<P> {
         across(&mut self.paper, text.with(how));
     }
 
-    /// The line recovered: whether nothing was left to be done.
+    /// Draws how the line recovered; `done` is whether nothing was left to be done.
     #[tactic(auto, unfolding(crate::specs::Marks::counts_label))]
-    pub(crate) fn put_recovered(&mut self, recovered: &Recovered, done: bool)
+    pub fn put_recovered(&mut self, recovered: &Recovered, done: bool)
         ensures { Logs (P.drawn self.old.paper) (P.drawn self.new.paper)
             (Mark.Across (recovered_label recovered.now.exchanges done) ∷ []) }
     {

@@ -25,4 +25,8 @@ mod svg;
 mod viewing;
 
 pub use canvas::Picture;
+pub use drawing::Drawing;
+pub use mark::{Fate, Mark, Trip};
+pub use paper::Paper;
 pub use playing::draw;
+pub use short_text::ShortText;

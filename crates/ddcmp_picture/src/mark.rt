@@ -7,14 +7,14 @@ use ddcmp_pair::End;
 
 /// A frame on its way.
 #[derive(Clone, Copy, Drop)]
-pub(crate) struct Trip {
-    pub(crate) from: End,
+pub struct Trip {
+    pub from: End,
     /// The row in which it left.
-    pub(crate) row: u64,
-    pub(crate) label: ShortText,
+    pub row: u64,
+    pub label: ShortText,
     /// Whether none of its bytes have arrived.
-    pub(crate) is_whole: bool,
-    pub(crate) is_damaged: bool,
+    pub is_whole: bool,
+    pub is_damaged: bool,
 }
 
 impl Trip {
@@ -39,7 +39,7 @@ impl Trip {
 
 /// How a trip ends.
 #[derive(Clone, Copy)]
-pub(crate) enum Fate {
+pub enum Fate {
     /// It arrived, or the last part of it did.
     Arrived,
     /// Only so many bytes of those that were left have arrived.
@@ -51,7 +51,7 @@ pub(crate) enum Fate {
 
 /// What a step of a run puts into a picture.
 #[derive(Clone, Copy, Drop)]
-pub(crate) enum Mark {
+pub enum Mark {
     /// Words beside the line of an end; or in the row of what arrived there just before.
     Note {
         at: End,
@@ -70,8 +70,8 @@ pub(crate) enum Mark {
 }
 
 impl Fate {
-    /// The label of a trip with this end.
-    pub(crate) fn label(self, trip: &Trip) -> ShortText
+    /// Returns the label of a trip with this end.
+    pub fn label(self, trip: &Trip) -> ShortText
         ensures { result ≡ end_label self trip.now }
     {
         let label = if trip.is_damaged {

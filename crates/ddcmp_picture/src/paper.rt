@@ -1,9 +1,10 @@
 //! What marks are put on.
 use crate::mark::Mark;
+use ddcmp_io::Sink;
 
-/// What marks are put on, one after another.
-pub(crate) trait Paper {
-    ghost use Rattle.std.specs.Prelude.{◌≡◌, ℕ, Option, List, None, [], ◌∷◌};
+/// What marks are put on, one after another: a picture, or what else is made of them.
+pub trait Paper {
+    ghost use Rattle.std.specs.Prelude.{◌≡◌, ℕ, Option, List, None, [], ◌∷◌, false, IsTrue};
     ghost use Rattle.ddcmp_io.specs.Device.{Logs};
     ghost use Rattle.ddcmp_picture.specs.declared.mark.Mark.{Mark as MarkValue};
 
@@ -13,9 +14,17 @@ pub(crate) trait Paper {
     // The row of the next mark.
     ghost next_row: { Self → ℕ };
 
+    /// Returns the row of the next mark.
     fn row(&self) -> u64
         ensures { result ≡ next_row self.now };
 
+    /// Puts a mark after the others.
     fn put(&mut self, mark: &Mark)
         ensures { Logs (drawn self.old) (drawn self.new) (mark.now ∷ []) };
+
+    /// Writes what it has to show; returns whether it goes on.
+    fn show<W: Sink>(&mut self, writer: &mut W) -> bool
+        requires whole { W.broken writer.old ≡ false }
+        ensures whole { IsTrue result → W.broken writer.new ≡ false }
+        ensures drawn { Logs (drawn self.old) (drawn self.new) [] };
 }

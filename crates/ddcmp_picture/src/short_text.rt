@@ -1,7 +1,7 @@
 //! Short texts: labels and notes.
 ghost use Rattle.std.specs.Prelude.{◌≡◌, ◌<◌, decimal, slice_index};
 ghost use Rattle.hex.specs.Hex.{lower_digits};
-ghost use Rattle.ddcmp_picture.specs.ShortTexts.{no_text, with_byte, with_text, bytes_shown};
+ghost use Rattle.ddcmp_picture.specs.ShortTexts.{no_text, text_in, with_byte, with_text, bytes_shown};
 
 use itoa::Buffer;
 
@@ -10,7 +10,7 @@ const ROOM: usize = 96;
 
 /// A text of ASCII that is short.
 #[derive(Clone, Copy, Drop)]
-pub(crate) struct ShortText {
+pub struct ShortText {
     bytes: [u8; ROOM],
     len: usize,
 }
@@ -37,7 +37,9 @@ impl ShortText {
         }
     }
 
-    pub(crate) fn as_slice(&self) -> &[u8] {
+    pub fn as_slice(&self) -> &[u8]
+        ensures { result.now ≡ text_in self.now }
+    {
         &self.bytes[..self.len.min(ROOM)]
     }
 

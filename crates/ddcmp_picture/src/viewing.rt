@@ -1,21 +1,20 @@
 //! A drawing as the view of a script.
 use crate::canvas::Canvas;
 use crate::drawing::Drawing;
-use crate::endings::end_all;
-use crate::mark::Fate;
+use crate::paper::Paper;
 use ddcmp_io::Sink;
 use ddcmp_line::{Recovered, Settled, View};
 use ddcmp_pair::{Event, Pair, Reply, Watch};
 use ddcmp_script_text::ScriptCommand;
 use std::alloc::Global;
 
-impl Watch for Drawing<Canvas> {
+impl<P: Paper + Drop> Watch for Drawing<P> {
     fn did(&mut self, pair: &Pair, event: &Event, reply: &Reply) {
         self.step(pair, event, reply);
     }
 }
 
-impl View for Drawing<Canvas> {
+impl<P: Paper + Drop> View for Drawing<P> {
     fn begins(&mut self, pair: &Pair, command: &ScriptCommand, front: Option<usize>) {
         self.begin(pair, command, front);
     }
@@ -43,7 +42,7 @@ impl Drawing<Canvas> {
         closing: Option<&Pair>,
         counted: bool,
     ) -> bool {
-        end_all(&mut self.paper, &mut self.flights, Fate::OnItsWay);
+        self.end_flights();
         self.paper.end(alloc, writer, closing, counted) && self.is_whole
     }
 }

@@ -1,6 +1,7 @@
 //! Tests of the tools from outside. Of `ddcmp_explain`: its text at every cut, size and fault, over
 //! streams and of dumps. Of `ddcmp_tap`, which explains a direction of a line: what that hands on,
-//! its room and its text. Of `ddcmp_session`: two over bad lines, and one through days of silence.
+//! its room and its text. Of `ddcmp_session`: two over bad lines, one through days of silence, and
+//! what it reports.
 //! Of the program: its words, its texts and its ends.
 #![tactic(auto)]
 
@@ -12,6 +13,8 @@ mod dumps;
 mod explains;
 #[cfg(test)]
 mod programs;
+#[cfg(test)]
+mod reports;
 #[cfg(test)]
 mod same;
 #[cfg(test)]
