@@ -1,13 +1,15 @@
 """What a link reports of itself while it runs: events of its line, counters, and the time of day."""
 import json
+import os
 import re
 import socket
 import struct
 import subprocess
+import tempfile
 import time
 
 from links.kit import EVENT, Link, binary, connected, free_port, listening, server, tcp_pair, wants, wrong
-from links.peer import Peer, good, no_ack
+from links.peer import Peer, data, good, no_ack
 
 STAMP = re.compile(r"\d{4}-\d\d-\d\dT\d\d:\d\d:\d\d\.\d{3}Z ")
 REPORT = re.compile(r"report state=\w+( [a-z]+=\d+)+ counters( [a-z_]+=\d+)+$")
@@ -117,5 +119,28 @@ def line_down():
             wrong(f"delivered: {link.errors()}")
 
 
-TRIALS = [periodic, questions, questions_in_binary, time_of_day, line_down]
+def flood():
+    """A peer is answered although the input is nothing but lines `?`, or lines that are no messages: from a file, which
+    always has more, and from a pipe."""
+    for line, size in ((b"?\n", 1 << 22), (b"x\n", 1 << 26)):
+        for is_file in (True, False):
+            with tempfile.TemporaryFile() as given, server() as it:
+                given.write(line * (size // 2))
+                given.seek(0)
+                link = Link(f"connect:127.0.0.1:{it.getsockname()[1]}", stdin=given if is_file else subprocess.PIPE,
+                            stderr=subprocess.DEVNULL)
+                writer = None if is_file else link.give(line * (size // 2), close=False)
+                peer = Peer(it.accept()[0], good)
+                peer.runs()
+                for num in range(1, 11):
+                    peer.send(data(b"a", num))
+                    if not peer.waits(lambda it, num=num: any(f.resp == num for f in it.named("ACK")), 1):
+                        wrong(f"{line}, file {is_file}: message {num} is answered after a second, or not at all")
+                        break
+                if not (os.lseek(given.fileno(), 0, os.SEEK_CUR) < size if is_file else writer.is_alive()):
+                    wrong(f"{line}, file {is_file}: the flood was over")
+                link.kill()
+
+
+TRIALS = [periodic, questions, questions_in_binary, flood, time_of_day, line_down]
 LONG_TRIALS = []

@@ -19,6 +19,10 @@ pub(crate) const LINE_END_MS: u64 = 80;
 /// How long an output may take nothing at the end of a run, in milliseconds.
 pub(crate) const END_MS: u64 = 1000;
 
+/// How many parts of the input are passed on before the line has its turn. Reports for so many
+/// lines `?` have room in the queue for standard error.
+const INPUT_PARTS: u8 = 64;
+
 /// Standard input, output and error, and the bytes that were read.
 pub(crate) struct Devices {
     pub(crate) waiting: Waiting,
@@ -101,7 +105,7 @@ impl Devices {
         writer: &mut W,
     ) -> Result<bool, Ended> {
         let read = self.read_input(session, reader)?;
-        let typed = self.pass_input(session);
+        let typed = self.pass_input(session)?;
         let sent = self.write_line(session, line);
         let came = self.read_line(session, line)?;
         let fed = self.pass_received(session);
@@ -136,10 +140,12 @@ impl Devices {
         Ok(true)
     }
 
-    /// Passes what was read of the input to the session, as far as it takes that.
-    fn pass_input(&mut self, session: &mut Session) -> bool {
+    /// Passes what was read of the input to the session, as far as it takes that: so many parts at
+    /// most. Where more are left it finds out what else is ready, as no wait will before they are
+    /// used.
+    fn pass_input(&mut self, session: &mut Session) -> Result<bool, Ended> {
         let mut moved = false;
-        for _part in 0..u64::MAX {
+        for _part in 0..INPUT_PARTS {
             if self.input.is_empty() || !session.wants_input() {
                 break;
             }
@@ -147,11 +153,22 @@ impl Devices {
             self.input.used(used);
             moved = true;
         }
-        if self.input_is_over && self.input.is_empty() && session.wants_input() {
+        if !session.wants_input() {
+            return Ok(moved);
+        }
+        if !self.input.is_empty() {
+            let wanted = self.wanted(session);
+            return self
+                .waiting
+                .wait(wanted, 0)
+                .then_some(true)
+                .ok_or(Ended::Read);
+        }
+        if self.input_is_over {
             session.input_ended();
             moved = true;
         }
-        moved
+        Ok(moved)
     }
 
     /// Reads what standard input has at this moment, for a line that has ended: it is the beginning

@@ -1,4 +1,6 @@
 //! A link with its messages as text, without a device.
+ghost use Rattle.std.specs.Prelude.{◌≡◌, ◌⊎◌, Err, IsOk};
+
 mod closing;
 mod input;
 mod line;
@@ -135,7 +137,9 @@ impl Drop for Session {
 }
 
 /// Makes the trace that is asked for, if one is.
-fn trace_of(alloc: Global, options: &Options) -> Result<Option<Trace>, ConfigRefusal> {
+fn trace_of(alloc: Global, options: &Options) -> Result<Option<Trace>, ConfigRefusal>
+    ensures { IsOk result ⊎ (result ≡ Err ConfigRefusal.Memory) }
+{
     if !options.trace {
         return Ok(None);
     }
@@ -150,7 +154,9 @@ fn trace_of(alloc: Global, options: &Options) -> Result<Option<Trace>, ConfigRef
 }
 
 /// Makes what finds the ends of frames in datagrams, if the line is of these.
-fn framing_of(alloc: Global, max: u16, kind: LineKind) -> Result<Option<Framing>, ConfigRefusal> {
+fn framing_of(alloc: Global, max: u16, kind: LineKind) -> Result<Option<Framing>, ConfigRefusal>
+    ensures { IsOk result ⊎ (result ≡ Err ConfigRefusal.Memory) }
+{
     if !kind.is_of_datagrams() {
         return Ok(None);
     }
@@ -161,7 +167,7 @@ fn framing_of(alloc: Global, max: u16, kind: LineKind) -> Result<Option<Framing>
 }
 
 impl Session {
-    ghost use Rattle.std.specs.Prelude.{◌≡◌, [], IfOk, Some, Err};
+    ghost use Rattle.std.specs.Prelude.{◌≡◌, ◌⊎◌, [], IfOk, IsOk, None, Some, Err};
     ghost use Rattle.ddcmp_frame.specs.Reader.{StandsFor};
     ghost use Rattle.ddcmp_proto.specs.Config.{first_refusal};
     ghost use Rattle.ddcmp_session.specs.Session.{session_made};
@@ -171,13 +177,26 @@ impl Session {
         ensures made { IfOk result (λ s. s ≡ session_made options.form options.config
             options.timer_ms s.link.station.line) }
         ensures stands { IfOk result (λ s. StandsFor s.link.station.line []) }
+
+        // The first size that is out of range is refused; if none is, only an allocation failure.
         ensures refused { (refusal : ConfigRefusal) → first_refusal options.config ≡ Some refusal
             → result ≡ Err refusal }
+        ensures only { first_refusal options.config ≡ None → IsOk result
+            ⊎ (result ≡ Err ConfigRefusal.Memory) }
     {
         let max = options.config.max;
-        let link = Link::new(alloc, options.config, options.timer_ms)?;
-        let trace = trace_of(alloc, &options)?;
-        let framing = framing_of(alloc, max, kind)?;
+        let link = match Link::new(alloc, options.config, options.timer_ms) {
+            Ok(link) => link,
+            Err(refusal) => return Err(refusal),
+        };
+        let trace = match trace_of(alloc, &options) {
+            Ok(trace) => trace,
+            Err(refusal) => return Err(refusal),
+        };
+        let framing = match framing_of(alloc, max, kind) {
+            Ok(framing) => framing,
+            Err(refusal) => return Err(refusal),
+        };
         let errors_room = if options.trace {
             8 * ERRORS_ROOM
         } else {
