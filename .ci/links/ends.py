@@ -55,6 +55,20 @@ def lost_on_each_line():
         it.close()
 
 
+def lost_once():
+    """With --again, a message lost on a line is counted once, though the run ends before there is another line."""
+    with server() as it:
+        link = Link(f"connect:127.0.0.1:{it.getsockname()[1]}", "--again", "--timer-ms", "200", "--seconds", "3")
+        peer = Peer(it.accept()[0], no_ack)
+    peer.runs()
+    link.give(b"61\n", close=False)
+    peer.waits(lambda it: it.named("DATA"), 10)
+    peer.close()
+    wants("once", link, 3, "ddcmp: 1 message lost")
+    if link.lines().count("lost 1") != 1:
+        wrong(f"{link.lines()}")
+
+
 def lost_at_a_restart():
     """With --restart, two messages lost as the peer restarts, and then one that is delivered."""
     with server() as it:
@@ -417,7 +431,7 @@ def line_is_reset():
         wrong(f"{link.lines()}")
 
 
-TRIALS = [lost, lost_on_each_line, lost_at_a_restart, peer_restarts, bytes_of_an_old_line, failed_input, peer_closes,
+TRIALS = [lost, lost_on_each_line, lost_once, lost_at_a_restart, peer_restarts, bytes_of_an_old_line, failed_input, peer_closes,
           pending_input, stay, again_ends, examples, one_example, serial_example, seconds, seconds_unfinished,
           seconds_in_each_state, no_line, timer_of_nothing, callers, listener_without_input, listener_refuses,
           line_is_reset]

@@ -36,7 +36,8 @@ use Rattle.ddcmp_pipe.specs.Connections.{after_step, Does, Connections, first_co
 use Rattle.ddcmp_pipe.specs.Connections.{after_step_at, AreCalls, after_steps, link_steps}
 use Rattle.ddcmp_pipe.specs.Connections.{read_since, delivered_since, PipesAnew, IsKeptAnew}
 use Rattle.ddcmp_pipe.proofs.Holding.{Holds, link_history, parts, session_parts}
-use Rattle.ddcmp_pipe.proofs.LinkSteps.{begins, step_leads, link_only, same_link}
+use Rattle.ddcmp_pipe.proofs.LinkSteps.{begins, step_leads, link_only, same_link, with_line}
+use Rattle.ddcmp_pipe.proofs.LinkSteps.{holds_with_line}
 
 -- ---- calls of a link that don't begin it anew
 
@@ -235,7 +236,11 @@ none_since a = sym (append-nil a) ∙ ap (λ x. a ++ x) (sym (all_left_out a))
 
 -- a call that does
 begins_anew : (made : Made) (new : SessionView) (c : Connection) (k : ℕ)
-    → new ≡ record c.history.session { link = anew new.link.station.line c.history.session.link }
+    → new
+    ≡ record c.history.session {
+      link = anew new.link.station.line c.history.session.link;
+      has_line = true;
+    }
     → Stays made c
     → Follows made (link_steps_of Connected c.history.session new.link) c k
     (after_step (record { call = Connected; session = new }) c)
@@ -253,8 +258,8 @@ begins_anew made new c k is stays =
       ),
       record {
         holds =
-            link_only f max h new [] [] stays.holds
-            (same_link h.session new (anew new.link.station.line h.session.link) is)
+            link_only f max (with_line h) new [] [] (holds_with_line f max h stays.holds)
+            (same_link (with_line h).session new (anew new.link.station.line h.session.link) is)
             (ap (λ (x : SessionView). x.link.station.core.limits.longest) is);
         read = none_since input;
         delivered = none_since mail;
@@ -290,7 +295,7 @@ follows made one c k does stays = by one.call one.session does
         (ended (wants_input c.history.session) new)
     by Connected new d = begins_anew made new c k d stays
     by (LineEnded r) new d =
-        goes_on made (record { call = LineEnded r; session = new }) c k d stays tt
+        goes_on made (record { call = LineEnded r; session = new }) c k d stays (tt, tt)
     by (Received used) new d =
         goes_on made (record { call = Received used; session = new }) c k d stays (tt, tt)
     by (Filled n) new d =

@@ -22,6 +22,7 @@ use Rattle.ddcmp_session.specs.Messages.{message_in, after_input, entries_of_inp
 use Rattle.ddcmp_session.specs.Messages.{after_last, entry_of_last}
 use Rattle.ddcmp_session.specs.Session.{SessionView, form_of, wants_input}
 use Rattle.ddcmp_session.specs.Session.{after_last_line, after_unfinished, after_input_end}
+use Rattle.ddcmp_session.specs.Session.{lost_by_end}
 use Rattle.ddcmp_session.specs.Text.{reported_lost, mail_text, notices_text}
 use Rattle.ddcmp_callers.specs.Links.{LinkCall, BeginsAnew, Halts, Wakes, IsSent, Feeds}
 use Rattle.ddcmp_callers.specs.Links.{Takes, HasDone, new_history}
@@ -30,7 +31,7 @@ use Rattle.ddcmp_callers.specs.Links.{offered_in}
 use Rattle.ddcmp_pipe.specs.Sessions.{SessionCall, Typed, InputEnded, Connected, LineEnded}
 use Rattle.ddcmp_pipe.specs.Sessions.{Received}
 use Rattle.ddcmp_pipe.specs.Sessions.{Filled, LineTook, TimedOut, Delivered, OutputTook, Closed}
-use Rattle.ddcmp_pipe.specs.Sessions.{HasReceived, HasDelivered, HasClosed}
+use Rattle.ddcmp_pipe.specs.Sessions.{HasReceived, HasDelivered, HasLeft, HasClosed}
 use Rattle.ddcmp_pipe.specs.Sessions.{SessionDoes, Shown, Mail, Reports, SessionHistory}
 use Rattle.ddcmp_pipe.specs.Sessions.{new_session, SessionStep, end_in, losses}
 use Rattle.ddcmp_pipe.specs.Sessions.{messages_of, got_in}
@@ -230,12 +231,35 @@ output_step f max h new k written shown holds is mail text = (
   no_offer f max h.input [] refl,
 )
 
+pub left_step : (f : Form) (max : ℕ) (h : SessionHistory) (r : Bool) (new : SessionView) (k : ℕ)
+    → Holds f max h → HasLeft r h.session new
+    → StepLeads f max (record { call = LineEnded r; session = new }) h k
+unfolding after_history offered_in
+left_step f max h r new k holds d =
+    let count = lost_by_end h.session in
+    let lost = losses r h.session in
+    let shown = h.shown ++ lost in
+    let mail : mail_in shown ≡ mail_in h.shown ++ [] =
+    mail_more h.shown lost ∙ ap (λ ms. mail_in h.shown ++ ms) (nothing_lost r h.session)
+    in (
+      one_call f max h new k Halts (h.used ++ []) (h.gone ++ []) (h.written ++ []) shown [] d.link
+          refl mail,
+      holds_on f max h new (h.used ++ []) (h.gone ++ []) (h.written ++ []) shown holds
+          (ap (λ (x : SessionView). x.messages) d.stays) (ap (λ (x : SessionView). x.is_read)
+          d.stays)
+          (ap longest_of d.link)
+          (writes f h.written h.shown lost h.session.output new.output
+          (reported_lost r (form_of h.session.messages) count) holds.text d.wrote
+          (ap (λ g. reported_lost r g count) holds.kind ∙ lost_text_is r f h.session)),
+      no_offer f max h.input (link_step Halts new.link ∷ []) refl,
+    )
+
 pub closed_step : (f : Form) (max : ℕ) (h : SessionHistory) (r : Bool) (new : SessionView) (k : ℕ)
     → Holds f max h → HasClosed r h.session new
     → StepLeads f max (record { call = Closed r; session = new }) h k
 unfolding after_history offered_in
 closed_step f max h r new k holds d =
-    let count = length h.session.link.station.core.station.out in
+    let count = lost_by_end h.session in
     let lost = losses r h.session in
     let shown = h.shown ++ lost in
     let mail : mail_in shown ≡ mail_in h.shown ++ [] =
@@ -258,6 +282,15 @@ closed_step f max h r new k holds d =
     no : {P : Type 0} → true ≡ false → P
     no e = cc
 
+-- a session that has a line
+abbrev pub with_line : SessionHistory → SessionHistory
+with_line h = record h { session = record h.session { has_line = true } }
+
+pub holds_with_line : (f : Form) (max : ℕ) (h : SessionHistory) → Holds f max h
+    → Holds f max (with_line h)
+holds_with_line f max h k =
+    record { kind = k.kind; longest = k.longest; reads = k.reads; text = k.text }
+
 pub step_leads : (f : Form) (max : ℕ) (step : SessionStep) (h : SessionHistory) (k : ℕ)
     → SessionDoes step.call h.used h.session step.session → Holds f max h
     → StepLeads f max step h k
@@ -272,19 +305,10 @@ step_leads f max step h k does holds = by step.call step.session does
         (typed_reads f max h used new holds d)
     by InputEnded new d = ended_step f max h new k holds d
     by Connected new d =
-        link_step_leads f max h new k BeginsAnew (h.used ++ []) (h.gone ++ [])
-        (anew new.link.station.line h.session.link) holds d.0
+        link_step_leads f max (with_line h) new k BeginsAnew (h.used ++ []) (h.gone ++ [])
+        (anew new.link.station.line h.session.link) (holds_with_line f max h holds) d.0
         (ap (λ (x : SessionView). x.link) d.0, d.1, d.2) refl refl refl
-    by (LineEnded r) new d =
-        let count = length h.session.link.station.core.station.out in
-        let lost = losses r h.session in
-        output_step f max h new k (h.written ++ []) (h.shown ++ lost) holds d.stays
-        (mail_more h.shown lost
-        ∙ ap (λ ms. mail_in h.shown ++ ms) (nothing_lost r h.session)
-        ∙ append-nil (mail_in h.shown))
-        (writes f h.written h.shown lost h.session.output new.output
-        (reported_lost r (form_of h.session.messages) count) holds.text d.wrote
-        (ap (λ g. reported_lost r g count) holds.kind ∙ lost_text_is r f h.session))
+    by (LineEnded r) new d = left_step f max h r new k holds d
     by (Received used) new d = received_step f max h new k used holds d
     by (Filled frames) new d = filled_step f max h new k frames holds d
     by (LineTook n) new d =

@@ -8,7 +8,7 @@ use Rattle.ddcmp_input.specs.InBinary.{in_binary}
 use Rattle.ddcmp_session.specs.declared.messages.Form.{Form}
 use Rattle.ddcmp_session.specs.declared.messages.Form.TheVariants as form
 use Rattle.ddcmp_io.specs.Queue.{QueueView}
-use Rattle.ddcmp_session.specs.Session.{SessionView}
+use Rattle.ddcmp_session.specs.Session.{SessionView, lost_by_end}
 use Rattle.ddcmp_session.specs.Text.{Wrote, notice_text, notices_text, mail_text, lost_text}
 use Rattle.ddcmp_session.specs.Text.{reported_lost}
 use Rattle.ddcmp_pipe.specs.Sessions.{Shown, Mail, Reports, Loses, mail_of, mail_in, text_of}
@@ -58,9 +58,9 @@ mail_text_is f first message is =
     ∙ ap (λ o. texts_of f (map Mail (option_to_list o))) (sym is)
 
 pub lost_text_is : (r : Bool) (f : Form) (s : SessionView)
-    → reported_lost r f (length s.link.station.core.station.out) ≡ texts_of f (losses r s)
+    → reported_lost r f (lost_by_end s) ≡ texts_of f (losses r s)
 unfolding texts_of
-lost_text_is true f s = sym (append-nil (lost_text f (length s.link.station.core.station.out)))
+lost_text_is true f s = sym (append-nil (lost_text f (lost_by_end s)))
 lost_text_is false f s = refl
 
 pub no_text : (f : Form) → [] ≡ texts_of f []

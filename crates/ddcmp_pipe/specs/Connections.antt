@@ -44,7 +44,7 @@ after_step step c = after_call step.call (after_session_step step c.history) c
 -- What the contract of each call says that it does; `connected` does it on any line.
 abbrev pub Does : SessionCall → List ℕ → SessionView → SessionView → Type 0
 Does ConnectedCall text old new =
-    new ≡ record old { link = anew new.link.station.line old.link }
+    new ≡ record old { link = anew new.link.station.line old.link; has_line = true }
 Does call text old new = SessionDoes call text old new
 
 -- both ends

@@ -33,8 +33,12 @@ abbrev pub session_after : SessionCall → SessionHistory → SessionView
 session_after (Typed used) h = after_typed used h.session
 session_after InputEnded h = after_input_end h.session
 session_after Connected h =
-    record h.session { link = anew h.session.link.station.line h.session.link }
-session_after (LineEnded r) h = after_shown (LineEnded r) h h.session
+    record h.session { link = anew h.session.link.station.line h.session.link; has_line = true }
+session_after (LineEnded r) h = after_shown (LineEnded r) h
+    (record h.session {
+      link = with_state (after_halt h.session.link.station.core.station) h.session.link;
+      has_line = false;
+    })
 session_after (Received used) h = after_shown (Received used) h
     (record h.session {
       link = record h.session.link {
@@ -54,6 +58,7 @@ session_after (OutputTook n) h = record h.session { output = after_taken n h.ses
 session_after (Closed r) h = after_shown (Closed r) h
     (record h.session {
       link = with_state (after_halt h.session.link.station.core.station) h.session.link;
+      has_line = false;
       is_read = true;
     })
 

@@ -24,7 +24,7 @@ use Rattle.ddcmp_session.specs.Messages.{message_in, after_input, entries_of_inp
 use Rattle.ddcmp_session.specs.Messages.{entry_of_last}
 use Rattle.ddcmp_io.specs.Queue.{after_taken}
 use Rattle.ddcmp_session.specs.Session.{SessionView, session_made, form_of, wants_input}
-use Rattle.ddcmp_session.specs.Session.{after_typed}
+use Rattle.ddcmp_session.specs.Session.{after_typed, lost_by_end}
 use Rattle.ddcmp_session.specs.Session.{after_input_end}
 use Rattle.ddcmp_session.specs.Text.{Wrote, mail_text, notice_text, notices_text, lost_text}
 use Rattle.ddcmp_session.specs.Text.{reported_lost}
@@ -79,14 +79,22 @@ pub record HasDelivered (old new : SessionView) : Type 0 where
       × Wrote (mail_text (form_of old.messages) message) old.output new.output
   pub stays : new ≡ record old { link = new.link; output = new.output }
 
--- the station was halted, and what is left of the input was dropped
+-- the station was halted, and what is lost by that reported if there was room
+pub record HasLeft (is_reported : Bool) (old new : SessionView) : Type 0 where
+  pub link : new.link ≡ with_state (after_halt old.link.station.core.station) old.link
+  pub wrote : Wrote (reported_lost is_reported (form_of old.messages) (lost_by_end old)) old.output
+      new.output
+  pub stays : new ≡ record old { link = new.link; has_line = false; output = new.output }
+
+-- the same, and what is left of the input was dropped
 pub record HasClosed (is_reported : Bool) (old new : SessionView) : Type 0 where
   pub link : new.link ≡ with_state (after_halt old.link.station.core.station) old.link
-  pub wrote : Wrote (reported_lost is_reported (form_of old.messages)
-      (length old.link.station.core.station.out)) old.output new.output
+  pub wrote : Wrote (reported_lost is_reported (form_of old.messages) (lost_by_end old)) old.output
+      new.output
   pub form : form_of new.messages ≡ form_of old.messages
   pub stays : new ≡ record old {
     link = new.link;
+    has_line = false;
     messages = new.messages;
     is_read = true;
     was_refused = new.was_refused;
@@ -98,13 +106,10 @@ abbrev pub SessionDoes : SessionCall → List ℕ → SessionView → SessionVie
 SessionDoes (Typed used) text old new = HasTyped used old new
 SessionDoes InputEnded text old new = new ≡ after_input_end old
 SessionDoes Connected text old new =
-    (new ≡ record old { link = anew new.link.station.line old.link })
+    (new ≡ record old { link = anew new.link.station.line old.link; has_line = true })
     × (text ≡ [])
     × (old.link.outbox.waiting ≡ [])
-SessionDoes (LineEnded is_reported) text old new =
-    HasWritten
-    (reported_lost is_reported (form_of old.messages) (length old.link.station.core.station.out))
-    old new
+SessionDoes (LineEnded is_reported) text old new = HasLeft is_reported old new
 SessionDoes (Received used) text old new = HasReceived text used old new
 SessionDoes (Filled frames) text old new =
     new ≡ record old { link = after_frames frames old.link }
@@ -175,7 +180,7 @@ written_in _ s = []
 -- what is lost, if there was room to report that
 abbrev pub losses : Bool → SessionView → List Shown
 losses is_reported s =
-    if is_reported then Loses (length s.link.station.core.station.out) ∷ [] else []
+    if is_reported then Loses (lost_by_end s) ∷ [] else []
 
 abbrev pub shown_in : SessionCall → List ℕ → SessionView → List Shown
 shown_in (LineEnded is_reported) text s = losses is_reported s
@@ -265,7 +270,7 @@ link_steps_of InputEnded s new =
     new
     else []
 link_steps_of Connected s new = link_step BeginsAnew new ∷ []
-link_steps_of (LineEnded is_reported) s new = []
+link_steps_of (LineEnded is_reported) s new = link_step Halts new ∷ []
 link_steps_of (Received used) s new = link_step (Feeds used) new ∷ []
 link_steps_of (Filled frames) s new = frames_put frames s.link
 link_steps_of (LineTook n) s new = link_step (IsSent n) new ∷ []

@@ -1,6 +1,6 @@
 -- A session as its users see it, and what each call does.
 use Rattle.std.specs.Prelude.{ℕ, ◌+◌, ◌*◌, Bool, true, false, ◌&&◌, not, nat_le, if◌then◌else◌}
-use Rattle.std.specs.Prelude.{List, [], ◌∷◌, option_to_list}
+use Rattle.std.specs.Prelude.{List, [], ◌∷◌, length, option_to_list}
 use Rattle.ddcmp_core.specs.Table.{has_room}
 use Rattle.ddcmp_input.specs.declared.entry.Entry.{Entry}
 use Rattle.ddcmp_input.specs.declared.entry.Entry.TheVariants.{Message, NotHexadecimal}
@@ -18,10 +18,11 @@ use Rattle.ddcmp_session.specs.Messages.{is_message_unfinished, is_question}
 use Rattle.ddcmp_session.specs.declared.session.TheConstants.{OUTPUT_ROOM}
 use Rattle.ddcmp_io.specs.Queue.{QueueView, no_bytes}
 
--- Its link; what was read of its input so far, whether all of it was, and whether a part of it was
--- no message; and what waits for standard output.
+-- Its link, and whether that has a line; what was read of its input so far, whether all of it was,
+-- and whether a part of it was no message; and what waits for standard output.
 pub record SessionView : Type 0 where
   pub link : LinkView
+  pub has_line : Bool
   pub messages : Messages
   pub is_read : Bool
   pub was_refused : Bool
@@ -35,6 +36,7 @@ form_of (Binary v) = form.Binary
 abbrev pub session_made : Form → Config → ℕ → ReaderView → SessionView
 session_made form config milliseconds line = record {
   link = link_made config milliseconds line;
+  has_line = false;
   messages = messages_begun form config.max;
   is_read = false;
   was_refused = false;
@@ -85,6 +87,10 @@ wants_line s =
 -- a message of any length has room
 abbrev pub room_for_mail : SessionView → ℕ
 room_for_mail s = 2 * s.link.station.core.limits.longest + LINE_ROOM
+
+-- how many accepted messages are lost if the line ends
+abbrev pub lost_by_end : SessionView → ℕ
+lost_by_end s = if s.has_line then length s.link.station.core.station.out else 0
 
 -- the line of a loss has room
 abbrev pub reports_loss : SessionView → Bool

@@ -78,6 +78,8 @@ pub struct Session {
     was_refused: bool,
     /// How many messages were read and will never be acknowledged.
     lost: u64,
+    /// Whether a line is open, whose end loses what isn't acknowledged.
+    has_line: bool,
     /// Whether the peer has begun to start, over the line that is open.
     peer_has_started: bool,
     /// Whether the station has run over the line that is open, and over any line.
@@ -94,6 +96,7 @@ impl Model for Session {
 
     ghost view = { λ s. record {
       link = s.link;
+      has_line = s.has_line;
       messages = s.messages;
       is_read = s.input_is_read;
       was_refused = s.was_refused;
@@ -128,6 +131,7 @@ impl Drop for Session {
             input_is_read: _,
             was_refused: _,
             lost: _,
+            has_line: _,
             peer_has_started: _,
             has_run_here: _,
             has_run: _,
@@ -239,6 +243,7 @@ impl Session {
             input_is_read: false,
             was_refused: false,
             lost: 0,
+            has_line: false,
             peer_has_started: false,
             has_run_here: false,
             has_run: false,

@@ -4,10 +4,10 @@ use crate::session::Session;
 use crate::text;
 
 impl Session {
-    ghost use Rattle.std.specs.Prelude.{◌≡◌, true, length};
+    ghost use Rattle.std.specs.Prelude.{◌≡◌, true, false};
     ghost use Rattle.ddcmp_core.specs.Table.{after_halt};
     ghost use Rattle.ddcmp_station.specs.Linking.{with_state};
-    ghost use Rattle.ddcmp_session.specs.Session.{form_of, reports_loss};
+    ghost use Rattle.ddcmp_session.specs.Session.{form_of, lost_by_end, reports_loss};
     ghost use Rattle.ddcmp_session.specs.Text.{Wrote, reported_lost};
 
     /// Ends the run: halts the station. What was read of the input, and what was sent and isn't
@@ -16,11 +16,12 @@ impl Session {
         ensures link { self.new.link
             ≡ with_state (after_halt self.old.link.station.core.station) self.old.link }
         ensures wrote { Wrote (reported_lost result (form_of self.old.messages)
-            (length self.old.link.station.core.station.out)) self.old.output self.new.output }
+            (lost_by_end self.old)) self.old.output self.new.output }
         ensures when { result ≡ reports_loss self.old }
         ensures form { form_of self.new.messages ≡ form_of self.old.messages }
         ensures stays { self.new ≡ record self.old {
           link = self.new.link;
+          has_line = false;
           messages = self.new.messages;
           is_read = true;
           was_refused = self.new.was_refused;
@@ -28,10 +29,7 @@ impl Session {
         } }
     {
         self.drop_input(input, input_is_at_end);
-        let lost = self.link.lost();
-        let has_room = self.report_lost(lost);
-        self.link.halt();
-        has_room
+        self.lose_line()
     }
 
     /// Writes the last lines, once all received messages are delivered.

@@ -12,8 +12,8 @@ impl Session {
     ghost use Rattle.ddcmp_core.specs.Table.{after_halt, answer_to_start};
     ghost use Rattle.ddcmp_proto.specs.Bytes.{after_piece, notices_of_piece};
     ghost use Rattle.ddcmp_station.specs.Linking.{anew, after_frame, after_frames, after_sent};
-    ghost use Rattle.ddcmp_station.specs.Linking.{countable};
-    ghost use Rattle.ddcmp_session.specs.Session.{form_of, reports_loss, wants_line};
+    ghost use Rattle.ddcmp_station.specs.Linking.{countable, with_state};
+    ghost use Rattle.ddcmp_session.specs.Session.{form_of, lost_by_end, reports_loss, wants_line};
     ghost use Rattle.ddcmp_session.specs.Text.{Wrote, notice_text, notices_text, reported_lost};
     ghost use Rattle.ddcmp_session.specs.declared.text.TheConstants.{LINE_ROOM};
 
@@ -21,11 +21,15 @@ impl Session {
     /// delivered before: `deliver` them, then call it again.
     pub fn connected(&mut self) -> bool
         ensures state { self.new
-            ≡ record self.old { link = anew self.new.link.station.line self.old.link } }
+            ≡ record self.old {
+              link = anew self.new.link.station.line self.old.link;
+              has_line = true;
+            } }
         ensures cleared { StandsFor self.new.link.station.line [] }
         ensures answer { result
             ≡ is_ok (answer_to_start (after_halt self.old.link.station.core.station)) }
     {
+        self.has_line = true;
         self.peer_has_started = false;
         self.has_run_here = false;
         self.peer_restarted = false;
@@ -34,19 +38,46 @@ impl Session {
         self.link.begin_anew().is_ok()
     }
 
-    /// Takes the end of the line: what was sent and not acknowledged is lost. Returns whether
-    /// standard output had room to report that: an output that takes all that waits makes room.
+    /// Takes the end of the line and halts the station: what was sent and not acknowledged is lost.
+    /// Returns whether standard output had room to report that: an output that takes all that
+    /// waits makes room.
     pub fn line_ended(&mut self) -> bool
+        ensures link { self.new.link
+            ≡ with_state (after_halt self.old.link.station.core.station) self.old.link }
         ensures wrote { Wrote (reported_lost result (form_of self.old.messages)
-            (length self.old.link.station.core.station.out)) self.old.output self.new.output }
+            (lost_by_end self.old)) self.old.output self.new.output }
         ensures when { result ≡ reports_loss self.old }
-        ensures stays { self.new ≡ record self.old { output = self.new.output } }
+        ensures stays { self.new ≡ record self.old {
+          link = self.new.link;
+          has_line = false;
+          output = self.new.output;
+        } }
     {
-        let lost = self.link.lost();
-        let has_room = self.report_lost(lost);
+        let has_room = self.lose_line();
         if let Some(trace) = &mut self.trace {
             trace.begin_anew(&mut self.errors);
         }
+        has_room
+    }
+
+    /// Halts the station, and reports what is lost with the line, if there is one: returns whether
+    /// standard output had room for that.
+    pub(super) fn lose_line(&mut self) -> bool
+        ensures link { self.new.link
+            ≡ with_state (after_halt self.old.link.station.core.station) self.old.link }
+        ensures wrote { Wrote (reported_lost result (form_of self.old.messages)
+            (lost_by_end self.old)) self.old.output self.new.output }
+        ensures when { result ≡ reports_loss self.old }
+        ensures stays { self.new ≡ record self.old {
+          link = self.new.link;
+          has_line = false;
+          output = self.new.output;
+        } }
+    {
+        let lost = if self.has_line { self.link.lost() } else { 0 };
+        self.has_line = false;
+        let has_room = self.report_lost(lost);
+        self.link.halt();
         has_room
     }
 

@@ -12,6 +12,7 @@ returns-clause-state c =
     (rw (sym c.self.view_is)
     (ap (λ d. record {
       link = d;
+      has_line = c.self.inside.has_line;
       messages = c.self.inside.messages;
       is_read = c.self.inside.input_is_read;
       was_refused = c.self.inside.was_refused;
