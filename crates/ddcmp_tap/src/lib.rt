@@ -26,5 +26,5 @@ pub use outlet::Outlet;
 pub use pumping::{Readiness, pump};
 pub use queue::ROOM;
 pub use side::Side;
-pub use tap_fault::TapFault;
+pub use tap_fault::{NotMade, Stage, TapFault};
 pub use tapping::tap;
