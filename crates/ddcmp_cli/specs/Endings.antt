@@ -56,7 +56,7 @@ use Rattle.ddcmp_explain.specs.Dumps.{ExplainsDump}
 use Rattle.ddcmp_explain.specs.Explains.{Explains}
 use Rattle.ddcmp_net.specs.Serving.{Serves}
 use Rattle.ddcmp_station.specs.Driving.{Devices}
-use Rattle.ddcmp_cli.specs.TapEndings.{tap_fault, told_as}
+use Rattle.ddcmp_cli.specs.TapEndings.{TapEnds, told_as}
 use Rattle.ddcmp_tap.specs.Pumping.{Says, head_of}
 use Rattle.ddcmp_tap.specs.declared.tap_fault.TapFault.{TapFault}
 use Rattle.ddcmp_cli.specs.LinkEndings.{IsLinkEnding}
@@ -376,7 +376,7 @@ is_json Json = true
 -- the answer
 abbrev pub Taps : Tapped → Known → Known → Ending → Type 0
 Taps tapped old new ending =
-    (result : Result (Unit {0}) TapFault) × (ending ≡ ending_of tap_fault result)
+    (result : Result (Unit {0}) TapFault) × TapEnds result ending
     × Says (head_of (told_as tapped)) (told_as tapped) tapped.time tapped.max old new result
 
 -- what became of a tap that was asked for: JSON and a ladder at once are usage

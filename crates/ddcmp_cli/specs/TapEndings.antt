@@ -1,5 +1,5 @@
--- How a tap of the command line tells what passes, and what its faults are called.
-use Rattle.std.specs.Prelude.{if◌then◌else◌}
+-- How a tap of the command line tells what passes, and how it ends.
+use Rattle.std.specs.Prelude.{◌≡◌, ◌⊎◌, if◌then◌else◌, Result, Ok, Err, String}
 use Rattle.ddcmp_explain.specs.declared.notation.Notation.{Notation}
 use Rattle.ddcmp_explain.specs.declared.notation.Notation.TheVariants.{Plain, Json}
 use Rattle.ddcmp_tap.specs.declared.notation.Notation.{Notation as TapNotation}
@@ -7,17 +7,32 @@ use Rattle.ddcmp_tap.specs.declared.notation.Notation.TheVariants as told
 use Rattle.ddcmp_words.specs.declared.tapped.Tapped.{Tapped}
 use Rattle.ddcmp_tap.specs.declared.tap_fault.TapFault.{TapFault}
 use Rattle.ddcmp_tap.specs.declared.tap_fault.TapFault.TheVariants as tapping
-use Rattle.ddcmp_cli.specs.declared.fault.Fault.{Fault}
+use Rattle.ddcmp_tap.specs.declared.tap_fault.Stage.{Stage}
+use Rattle.ddcmp_tap.specs.declared.tap_fault.Stage.TheVariants as stage
+use Rattle.ddcmp_service.specs.declared.fault.Attempt.{Attempt}
+use Rattle.ddcmp_service.specs.declared.fault.Attempt.TheVariants as attempt
 use Rattle.ddcmp_cli.specs.declared.fault.Fault.TheVariants.{Read, Write, Memory as NoMemory}
-use Rattle.ddcmp_cli.specs.declared.fault.Fault.TheVariants.{Carrier}
+use Rattle.ddcmp_cli.specs.declared.ending.Ending.{Ending}
+use Rattle.ddcmp_cli.specs.declared.ending.Ending.TheVariants.{Done, NoLine, Fault as Faulted}
 
--- what the program calls a fault of a tap
-abbrev pub tap_fault : TapFault → Fault
-tap_fault tapping.Carrier = Carrier
-tap_fault tapping.Read = Read
-tap_fault tapping.Write = Write
-tap_fault tapping.Report = Write
-tap_fault tapping.Memory = NoMemory
+-- a line that can't be opened is reported with its reason, or there is no memory for that
+abbrev pub IsUnopened : Ending → Type 0
+IsUnopened ending = ((why : String) × (ending ≡ NoLine why)) ⊎ (ending ≡ Faulted NoMemory)
+
+-- how a tap ends
+abbrev pub TapEnds : Result (Unit {0}) TapFault → Ending → Type 0
+TapEnds (Ok u) ending = ending ≡ Done
+TapEnds (Err (tapping.Carrier why)) ending = IsUnopened ending
+TapEnds (Err tapping.Read) ending = ending ≡ Faulted Read
+TapEnds (Err tapping.Write) ending = ending ≡ Faulted Write
+TapEnds (Err tapping.Report) ending = ending ≡ Faulted Write
+TapEnds (Err tapping.Memory) ending = ending ≡ Faulted NoMemory
+
+-- what a link calls what a tap tried
+abbrev pub attempt_of : Stage → Attempt
+attempt_of stage.Listen = attempt.Listen
+attempt_of stage.Connect = attempt.Connect
+attempt_of stage.Wait = attempt.Open
 
 -- a tap writes lines of `explain` in this notation
 abbrev pub lines_in : Notation → TapNotation

@@ -1,6 +1,7 @@
 //! `link`: messages between a line and the program's streams.
 ghost use Rattle.std.specs.Prelude.{◌≡◌, ◌≢◌, ◌↔◌, IsTrue, false};
 ghost use Rattle.ddcmp_cli.specs.LinkEndings.{IsLinkEnding};
+ghost use Rattle.ddcmp_cli.specs.TapEndings.{IsUnopened};
 
 use crate::ending::Ending;
 use crate::fault::Fault;
@@ -15,9 +16,10 @@ const NO_LINE: &str =
     "'--line' is connect:HOST:PORT, listen:HOST:PORT, udp:LOCAL,REMOTE or device:PATH";
 
 /// The ending if the line can't be opened.
-fn no_line(alloc: Global, fault: &NotOpened<'_>) -> Ending
+pub(crate) fn no_line(alloc: Global, fault: &NotOpened<'_>) -> Ending
     ensures ending { IsLinkEnding result }
     ensures told { result ≢ Ending.Fault Fault.Write }
+    ensures unopened { IsUnopened result }
 {
     match fault.to_string(alloc) {
         Ok(text) => Ending::NoLine(text),

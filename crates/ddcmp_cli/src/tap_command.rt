@@ -1,30 +1,51 @@
 //! `tap`: a proxy between two addresses that logs the traffic.
-ghost use Rattle.std.specs.Prelude.{◌≡◌, ◌≤◌, IsTrue, false};
+ghost use Rattle.std.specs.Prelude.{◌≡◌, ◌≤◌, Err, IsTrue, false};
 ghost use Rattle.ddcmp_core.specs.Limits.{MAX_COUNT};
 ghost use Rattle.ddcmp_cli.specs.Endings.{Taps, TapsAsked, is_json as is_json_notation};
-ghost use Rattle.ddcmp_cli.specs.TapEndings.{tap_fault, told_as as notation_of};
+ghost use Rattle.ddcmp_cli.specs.TapEndings.{TapEnds, attempt_of, told_as as notation_of};
 
 use crate::ending::Ending;
 use crate::fault::Fault;
+use crate::link_command::no_line;
 use crate::usage::usage;
 use ddcmp_explain::Notation;
 use ddcmp_io::Sink;
-use ddcmp_tap::{Notation as TapNotation, TapFault};
+use ddcmp_service::{Attempt, Cause, NotOpened};
+use ddcmp_tap::{NotMade, Notation as TapNotation, Stage, TapFault};
 use ddcmp_words::Tapped;
 use std::alloc::Global;
 use std::net::{Net, TcpStream};
 use std::time;
 
-impl From<TapFault> for Fault {
-    ghost from_gives = { λ fault made. made ≡ tap_fault fault };
+/// The connection that a tap can't make, as a link's line is called.
+fn not_opened<'a>(tapped: &Tapped<'a>, why: NotMade) -> NotOpened<'a>
+    ensures { result.attempt ≡ attempt_of why.stage }
+{
+    let (attempt, name) = match why.stage {
+        Stage::Listen => (Attempt::Listen, tapped.listen),
+        Stage::Connect => (Attempt::Connect, tapped.connect),
+        Stage::Wait => (Attempt::Open, "epoll"),
+    };
+    NotOpened {
+        attempt,
+        name,
+        cause: match why.cause {
+            Some(kind) => Cause::System(kind),
+            None => Cause::UnknownHost,
+        },
+    }
+}
 
-    fn from(fault: TapFault) -> Fault {
-        match fault {
-            TapFault::Carrier => Fault::Carrier,
-            TapFault::Read => Fault::Read,
-            TapFault::Write | TapFault::Report => Fault::Write,
-            TapFault::Memory => Fault::Memory,
-        }
+/// How the program ends if a tap ended so.
+fn ending_of_fault(alloc: Global, tapped: &Tapped<'_>, fault: TapFault) -> Ending
+    ensures ends { TapEnds (Err fault) result }
+    ensures write { fault ≡ TapFault.Report → result ≡ Ending.Fault Fault.Write }
+{
+    match fault {
+        TapFault::Carrier(why) => no_line(alloc, &not_opened(tapped, why)),
+        TapFault::Read => Ending::Fault(Fault::Read),
+        TapFault::Write | TapFault::Report => Ending::Fault(Fault::Write),
+        TapFault::Memory => Ending::Fault(Fault::Memory),
     }
 }
 
@@ -75,7 +96,7 @@ fn tap_between<S: Net<Stream = TcpStream> + time::Clock, W: Sink>(
         writer,
     ) {
         Ok(()) => Ending::Done,
-        Err(fault) => Ending::Fault(Fault::from(fault)),
+        Err(fault) => ending_of_fault(alloc, tapped, fault),
     }
 }
 

@@ -15,7 +15,7 @@ use ddcmp_session::{End, Options, Session};
 use ddcmp_station::{Clock, Elapsed};
 use std::alloc::Global;
 use std::fs::{File, Files};
-use std::io::Eprint;
+use std::io::{Eprint, ErrorKind};
 use std::net::{self, Net};
 use std::time;
 
@@ -80,7 +80,7 @@ fn serve<S: System, R: Source, W: Sink>(
     };
     let waiting = match Waiting::new(system, alloc) {
         Ok(waiting) => waiting,
-        Err(error) => return Err(Ended::CannotWait(error.kind())),
+        Err(error) => return Err(no_waiting(error.kind())),
     };
     let Ok(mut devices) = Devices::new(system, alloc, waiting) else {
         return Err(Ended::Memory);
@@ -108,6 +108,14 @@ fn serve<S: System, R: Source, W: Sink>(
         return Ok(Served::SomeRefused);
     }
     Ok(Served::Delivered)
+}
+
+/// Why it can't wait for several devices.
+fn no_waiting(kind: ErrorKind) -> Ended {
+    match kind {
+        ErrorKind::OutOfMemory => Ended::Memory,
+        kind => Ended::CannotWait(kind),
+    }
 }
 
 /// Runs the link over one line after the other, until all is delivered or a line ends for good.

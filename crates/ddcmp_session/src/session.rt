@@ -51,7 +51,7 @@ pub enum End {
 /// `to_output` and `to_errors`; `deliver` after each of these, until it returns false. Call
 /// `handle_timeout` before and after each wait, and wait until `wakes_at` at most. If `end` returns
 /// something, or the line ends, call `line_ended`. `close` and `finish` end the run. No call after
-/// `new` allocates, but `line_ended` with a trace.
+/// `new` allocates.
 pub struct Session {
     options: Options,
     kind: LineKind,

@@ -46,6 +46,13 @@ impl Heard {
         })
     }
 
+    /// Restarts on another line.
+    pub(crate) fn begin_anew(&mut self) {
+        self.frames.reset();
+        self.reached = 0;
+        self.junk = None;
+    }
+
     /// Takes a byte: the item that it completes.
     pub(crate) fn push(&mut self, byte: u8) -> Option<Item> {
         let offset = self.frames.offset();

@@ -31,8 +31,6 @@ impl Way {
 /// A trace of a line. What standard error has no room for is left out, so that no trace holds a
 /// link up.
 pub(crate) struct Trace {
-    alloc: Global,
-    max: u16,
     /// How much room is left to what else is told.
     spared: usize,
     sent: Heard,
@@ -45,8 +43,6 @@ pub(crate) struct Trace {
 impl Drop for Trace {
     fn drop(self) {
         let Trace {
-            alloc: _,
-            max: _,
             spared: _,
             sent: _sent,
             came: _came,
@@ -60,8 +56,6 @@ impl Trace {
     pub(crate) fn new(alloc: Global, max: u16, spared: usize) -> Result<Trace, ReaderRefusal> {
         let max = max.max(1).min(MAX_COUNT);
         Ok(Trace {
-            alloc,
-            max,
             spared,
             sent: Heard::new(alloc, max)?,
             came: Heard::new(alloc, max)?,
@@ -72,12 +66,8 @@ impl Trace {
     /// The line is another from now on.
     pub(crate) fn begin_anew(&mut self, errors: &mut Errors) {
         self.end(errors);
-        let sent = Heard::new(self.alloc, self.max);
-        let came = Heard::new(self.alloc, self.max);
-        if let (Ok(sent), Ok(came)) = (sent, came) {
-            self.sent = sent;
-            self.came = came;
-        }
+        self.sent.begin_anew();
+        self.came.begin_anew();
     }
 
     /// The line has ended: what was discarded behind the last frames is told.

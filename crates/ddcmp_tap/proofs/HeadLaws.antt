@@ -1,6 +1,6 @@
 -- What a tap says below a head.
 use Rattle.std.proofs.Common.{◌≡◌, ◌≢◌, ℕ, List, [], ◌++◌, refl, Bool, true, false, Option, Some, None}
-use Rattle.std.proofs.Common.{Result, Ok, Err, is_err, is_some}
+use Rattle.std.proofs.Common.{Result, Ok, Err, is_err, is_some, inl, inr, ◌⊎◌, subst, sym}
 use Rattle.std.specs.Io.KnownBytes.{Appends}
 use Rattle.std.proofs.KnownBytes.{Appends-nil, Appends-trans, Keeps-refl}
 use Rattle.std.proofs.lemmas.List.Elements.{All-nil}
@@ -8,6 +8,7 @@ use Rattle.ddcmp_io.specs.declared.device.WriteFailed.{WriteFailed}
 use Rattle.ddcmp_io.specs.Written.{Known, Writes}
 use Rattle.ddcmp_io.proofs.WrittenLaws.{part-append}
 use Rattle.ddcmp_tap.specs.declared.notation.Notation.{Notation}
+use Rattle.ddcmp_tap.specs.declared.tap_fault.NotMade.{NotMade}
 use Rattle.ddcmp_tap.specs.declared.tap_fault.TapFault.{TapFault}
 use Rattle.ddcmp_tap.specs.declared.tap_fault.TapFault.TheVariants.{Carrier, Read, Write, Report}
 use Rattle.ddcmp_tap.specs.declared.tap_fault.TapFault.TheVariants.{Memory}
@@ -42,10 +43,23 @@ pub no-memory : (head : List ℕ) (notation : Notation) (timed : Bool) (max : �
 no-memory head notation timed max old =
     unsaid head notation timed max old old Memory (0, Appends-nil old)
 
-pub no-carrier : (head : List ℕ) (notation : Notation) (timed : Bool) (max : ℕ) (old : Known)
-    → Says head notation timed max old old (Err Carrier)
-no-carrier head notation timed max old =
-    unsaid head notation timed max old old Carrier (Keeps-refl old)
+pub no-carrier
+    : (head : List ℕ) (notation : Notation) (timed : Bool) (max : ℕ) (old : Known) (why : NotMade)
+    → Says head notation timed max old old (Err (Carrier why))
+no-carrier head notation timed max old why =
+    unsaid head notation timed max old old (Carrier why) (Keeps-refl old)
+
+-- nothing has begun, for one reason or the other
+pub not-begun
+    : (head : List ℕ) (notation : Notation) (timed : Bool) (max : ℕ) (old : Known) (fault : TapFault)
+    → (fault ≡ Memory) ⊎ ((why : NotMade) × (fault ≡ Carrier why))
+    → Says head notation timed max old old (Err fault)
+not-begun head notation timed max old fault (inl e) =
+    subst (λ f. Says head notation timed max old old (Err f)) (sym e)
+    (no-memory head notation timed max old)
+not-begun head notation timed max old fault (inr (why, e)) =
+    subst (λ f. Says head notation timed max old old (Err f)) (sym e)
+    (no-carrier head notation timed max old why)
 
 -- the head wasn't written whole
 pub no-head
@@ -58,12 +72,13 @@ no-head head notation timed max old new (Err f) e w =
     (part-append old new head (tap_text notation max (moment timed) []) w)
 
 behind : (old mid new : Known) (head text : List ℕ) (result : Result (Unit {0}) TapFault)
-    → result ≢ Err Carrier → Appends old mid head → WritesText mid new result text
+    → ((why : NotMade) → result ≢ Err (Carrier why)) → Appends old mid head
+    → WritesText mid new result text
     → WritesText old new result (head ++ text)
 behind old mid new head text (Ok u) met a w = Appends-trans old mid new head text a w
 behind old mid new head text (Err Read) met a w = Appends-trans old mid new head text a w
 behind old mid new head text (Err Write) met a w = Appends-trans old mid new head text a w
-behind old mid new head text (Err Carrier) met a w = absurd (met refl)
+behind old mid new head text (Err (Carrier why)) met a w = absurd (met why refl)
 behind old mid new head text (Err Report) met a w = part-behind old mid new head text a w
 behind old mid new head text (Err Memory) met a w = part-behind old mid new head text a w
 
@@ -71,7 +86,8 @@ behind old mid new head text (Err Memory) met a w = part-behind old mid new head
 pub said-below
     : (head : List ℕ) (notation : Notation) (timed : Bool) (max : ℕ) (old mid new : Known)
     (wrote : Result (Unit {0}) WriteFailed) (result : Result (Unit {0}) TapFault)
-    → result ≢ Err Carrier → is_err wrote ≡ false → Writes old mid wrote head
+    → ((why : NotMade) → result ≢ Err (Carrier why)) → is_err wrote ≡ false
+    → Writes old mid wrote head
     → Says [] notation timed max mid new result → Says head notation timed max old new result
 said-below head notation timed max old mid new (Ok u) result met e w s = record {
   pieces = s.pieces;

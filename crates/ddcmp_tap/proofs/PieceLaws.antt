@@ -14,6 +14,7 @@ use Rattle.ddcmp_tap.specs.declared.side.Side.{Side}
 use Rattle.ddcmp_tap.specs.declared.side.Side.TheVariants.{Caller, Called}
 use Rattle.ddcmp_tap.specs.Passing.{DirectionView, HasTold, Passes, Tells}
 use Rattle.ddcmp_tap.specs.Tapped.{tapped_last, tapped_lines}
+use Rattle.ddcmp_tap.specs.declared.tap_fault.NotMade.{NotMade}
 use Rattle.ddcmp_tap.specs.declared.tap_fault.TapFault.{TapFault}
 use Rattle.ddcmp_tap.specs.declared.tap_fault.TapFault.TheVariants.{Carrier, Read, Write, Report}
 use Rattle.ddcmp_tap.specs.declared.tap_fault.TapFault.TheVariants.{Memory}
@@ -94,8 +95,8 @@ part-behind a b c text more one two = (
 
 pub part-of : (old new : Known) (fault : TapFault) (text : List ℕ) → IsOfReport fault
     → WritesText old new (Err fault) text → AppendsPart old new text
-part-of old new Carrier text (inl e) w = cc
-part-of old new Carrier text (inr e) w = cc
+part-of old new (Carrier why) text (inl e) w = cc
+part-of old new (Carrier why) text (inr e) w = cc
 part-of old new Read text (inl e) w = cc
 part-of old new Read text (inr e) w = cc
 part-of old new Write text (inl e) w = cc
@@ -168,19 +169,21 @@ pub record Tells-by (was now : FlowView) (stamp : Option ℕ) (old new : Known)
   pub sent : now.sent ≡ was.sent
   pub same : IsSame was.direction now.direction
 
-not-side : {A : Type 0} (fault : TapFault) → (fault ≡ Carrier) ⊎ (fault ≡ Report) ⊎ (fault ≡ Memory)
+not-side : {A : Type 0} (fault : TapFault)
+    → ((why : NotMade) × (fault ≡ Carrier why)) ⊎ (fault ≡ Report) ⊎ (fault ≡ Memory)
     → IsOfSide fault → A
-not-side fault (inl e) (inl o) = let bad : Carrier ≡ Read = sym e ∙ o in cc
-not-side fault (inl e) (inr o) = let bad : Carrier ≡ Write = sym e ∙ o in cc
+not-side fault (inl (why, e)) (inl o) = let bad : Carrier why ≡ Read = sym e ∙ o in cc
+not-side fault (inl (why, e)) (inr o) = let bad : Carrier why ≡ Write = sym e ∙ o in cc
 not-side fault (inr (inl e)) (inl o) = let bad : Report ≡ Read = sym e ∙ o in cc
 not-side fault (inr (inl e)) (inr o) = let bad : Report ≡ Write = sym e ∙ o in cc
 not-side fault (inr (inr e)) (inl o) = let bad : Memory ≡ Read = sym e ∙ o in cc
 not-side fault (inr (inr e)) (inr o) = let bad : Memory ≡ Write = sym e ∙ o in cc
 
-not-report : {A : Type 0} (fault : TapFault) → (fault ≡ Carrier) ⊎ (fault ≡ Read) ⊎ (fault ≡ Write)
+not-report : {A : Type 0} (fault : TapFault)
+    → ((why : NotMade) × (fault ≡ Carrier why)) ⊎ (fault ≡ Read) ⊎ (fault ≡ Write)
     → IsOfReport fault → A
-not-report fault (inl e) (inl o) = let bad : Carrier ≡ Report = sym e ∙ o in cc
-not-report fault (inl e) (inr o) = let bad : Carrier ≡ Memory = sym e ∙ o in cc
+not-report fault (inl (why, e)) (inl o) = let bad : Carrier why ≡ Report = sym e ∙ o in cc
+not-report fault (inl (why, e)) (inr o) = let bad : Carrier why ≡ Memory = sym e ∙ o in cc
 not-report fault (inr (inl e)) (inl o) = let bad : Read ≡ Report = sym e ∙ o in cc
 not-report fault (inr (inl e)) (inr o) = let bad : Read ≡ Memory = sym e ∙ o in cc
 not-report fault (inr (inr e)) (inl o) = let bad : Write ≡ Report = sym e ∙ o in cc
@@ -191,7 +194,7 @@ written : (old new : Known) (text : List ℕ) (result : Result (Unit {0}) TapFau
 written old new text (Ok u) h a = a
 written old new text (Err Read) h a = a
 written old new text (Err Write) h a = a
-written old new text (Err Carrier) h a = absurd h
+written old new text (Err (Carrier why)) h a = absurd h
 written old new text (Err Report) h a = absurd h
 written old new text (Err Memory) h a = absurd h
 
@@ -372,7 +375,8 @@ module _ (notation : Notation) (timed : Bool) (max : ℕ) (stamp : Option ℕ)
       → Runs notation timed max up0 up down0 down start now
       → Turns notation timed max up0 up down0 down start now result
   turned up down now (Ok moved) f r = r
-  turned up down now (Err Carrier) f r = not-side Carrier (inl refl) (f Carrier refl)
+  turned up down now (Err (Carrier why)) f r =
+      not-side (Carrier why) (inl (why, refl)) (f (Carrier why) refl)
   turned up down now (Err Read) f r = r
   turned up down now (Err Write) f r = r
   turned up down now (Err Report) f r = not-side Report (inr (inl refl)) (f Report refl)
@@ -381,7 +385,7 @@ module _ (notation : Notation) (timed : Bool) (max : ℕ) (stamp : Option ℕ)
   pub stopped : (up down : FlowView) (now : Known) (fault : TapFault) → IsOfReport fault
       → Stopped notation timed max up0 up down0 down start now
       → Turns notation timed max up0 up down0 down start now (Err fault)
-  stopped up down now Carrier f r = not-report Carrier (inl refl) f
+  stopped up down now (Carrier why) f r = not-report (Carrier why) (inl (why, refl)) f
   stopped up down now Read f r = not-report Read (inr (inl refl)) f
   stopped up down now Write f r = not-report Write (inr (inr refl)) f
   stopped up down now Report f r = r
@@ -390,7 +394,7 @@ module _ (notation : Notation) (timed : Bool) (max : ℕ) (stamp : Option ℕ)
   pub stops-err : (up down : FlowView) (now : Known) (fault : TapFault)
       → Turns notation timed max up0 up down0 down start now (Err fault)
       → Stops notation timed max up0 up down0 down start now (Err fault)
-  stops-err up down now Carrier t = t
+  stops-err up down now (Carrier why) t = t
   stops-err up down now Read t = t
   stops-err up down now Write t = t
   stops-err up down now Report t = t
@@ -428,7 +432,8 @@ module _ (notation : Notation) (timed : Bool) (max : ℕ) (stamp : Option ℕ)
     said_all = λ h. absurd h;
     done = λ e. (let bad : ◌≡◌ {A = Result (Unit {0}) TapFault} (Err Memory) (Ok tt) = e in cc);
   }
-  pumps-part up down now Carrier pieces f m w u d = not-report Carrier (inl refl) f
+  pumps-part up down now (Carrier why) pieces f m w u d =
+      not-report (Carrier why) (inl (why, refl)) f
   pumps-part up down now Read pieces f m w u d = not-report Read (inr (inl refl)) f
   pumps-part up down now Write pieces f m w u d = not-report Write (inr (inr refl)) f
 

@@ -17,7 +17,7 @@ pub runs-said
 runs-said notation timed max up0 up down0 down old new (Ok u) h s = s
 runs-said notation timed max up0 up down0 down old new (Err Read) h s = s
 runs-said notation timed max up0 up down0 down old new (Err Write) h s = s
-runs-said notation timed max up0 up down0 down old new (Err Carrier) h s = absurd h
+runs-said notation timed max up0 up down0 down old new (Err (Carrier why)) h s = absurd h
 runs-said notation timed max up0 up down0 down old new (Err Report) h s = absurd h
 runs-said notation timed max up0 up down0 down old new (Err Memory) h s = absurd h
 
@@ -30,7 +30,7 @@ pub pumps-unsaid
 pumps-unsaid notation timed max up0 up down0 down old new (Ok u) h s = absurd (h tt)
 pumps-unsaid notation timed max up0 up down0 down old new (Err Read) h s = absurd (h tt)
 pumps-unsaid notation timed max up0 up down0 down old new (Err Write) h s = absurd (h tt)
-pumps-unsaid notation timed max up0 up down0 down old new (Err Carrier) h s = absurd s
+pumps-unsaid notation timed max up0 up down0 down old new (Err (Carrier why)) h s = absurd s
 pumps-unsaid notation timed max up0 up down0 down old new (Err Report) h s =
     pumps-stopped notation timed max (moment timed) (moment-timed timed) up0 down0 old up down new
     Report (inl refl) s

@@ -60,7 +60,7 @@ abbrev pub HasSaid : Result (Unit {0}) TapFault → Type 0
 HasSaid (Ok u) = ⊤
 HasSaid (Err Read) = ⊤
 HasSaid (Err Write) = ⊤
-HasSaid (Err Carrier) = ⊥
+HasSaid (Err (Carrier why)) = ⊥
 HasSaid (Err Report) = ⊥
 HasSaid (Err Memory) = ⊥
 
@@ -76,7 +76,7 @@ abbrev pub WritesText : Known → Known → Result (Unit {0}) TapFault → List 
 WritesText old new (Ok u) text = Appends old new text
 WritesText old new (Err Read) text = Appends old new text
 WritesText old new (Err Write) text = Appends old new text
-WritesText old new (Err Carrier) text = Keeps old new
+WritesText old new (Err (Carrier why)) text = Keeps old new
 WritesText old new (Err Report) text = AppendsPart old new text
 WritesText old new (Err Memory) text = AppendsPart old new text
 
@@ -203,7 +203,7 @@ Turns notation timed max up0 up down0 down old new (Err Read) =
     Runs notation timed max up0 up down0 down old new
 Turns notation timed max up0 up down0 down old new (Err Write) =
     Runs notation timed max up0 up down0 down old new
-Turns notation timed max up0 up down0 down old new (Err Carrier) = ⊥
+Turns notation timed max up0 up down0 down old new (Err (Carrier why)) = ⊥
 Turns notation timed max up0 up down0 down old new (Err Report) =
     Stopped notation timed max up0 up down0 down old new
 Turns notation timed max up0 up down0 down old new (Err Memory) =
@@ -218,7 +218,7 @@ Stops notation timed max up0 up down0 down old new (Err Read) =
     Runs notation timed max up0 up down0 down old new
 Stops notation timed max up0 up down0 down old new (Err Write) =
     Runs notation timed max up0 up down0 down old new
-Stops notation timed max up0 up down0 down old new (Err Carrier) = ⊥
+Stops notation timed max up0 up down0 down old new (Err (Carrier why)) = ⊥
 Stops notation timed max up0 up down0 down old new (Err Report) =
     Stopped notation timed max up0 up down0 down old new
 Stops notation timed max up0 up down0 down old new (Err Memory) =

@@ -24,5 +24,5 @@ pub use notation::Notation;
 pub use outlet::Outlet;
 pub use pumping::{Readiness, pump};
 pub use side::Side;
-pub use tap_fault::TapFault;
+pub use tap_fault::{NotMade, Stage, TapFault};
 pub use tapping::tap;

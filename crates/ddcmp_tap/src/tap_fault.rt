@@ -1,11 +1,45 @@
 //! Why a tap ended early.
+use ddcmp_io::cause::words_of;
 use std::fmt;
+use std::io::ErrorKind;
+
+/// What a tap does before it stands between two connections.
+#[derive(Clone, Copy, Debug, PartialEq, Eq)]
+pub enum Stage {
+    /// It listens, and takes the first who connects.
+    Listen,
+    Connect,
+    /// It has the system report what comes of both.
+    Wait,
+}
+
+/// A connection that can't be made, or can't be waited for.
+#[derive(Clone, Copy, Debug, PartialEq, Eq)]
+pub struct NotMade {
+    pub stage: Stage,
+    /// The reason of the system; none if no host has the name.
+    pub cause: Option<ErrorKind>,
+}
+
+impl fmt::Display for NotMade {
+    fn fmt<W: fmt::Write>(&self, f: &mut fmt::Formatter<W>) -> fmt::Result {
+        f.write_str(match self.stage {
+            Stage::Listen => "listen: ",
+            Stage::Connect => "connect: ",
+            Stage::Wait => "epoll: ",
+        })?;
+        f.write_str(match self.cause {
+            Some(kind) => words_of(kind),
+            None => "no such host",
+        })
+    }
+}
 
 /// Why a tap that was to go on until both sides end isn't done.
 #[derive(Clone, Copy, Debug, PartialEq, Eq)]
 pub enum TapFault {
     /// A connection can't be made.
-    Carrier,
+    Carrier(NotMade),
     /// Reading from a side failed.
     Read,
     /// Writing to a side failed.
@@ -17,11 +51,11 @@ pub enum TapFault {
 
 impl fmt::Display for TapFault {
     fn fmt<W: fmt::Write>(&self, f: &mut fmt::Formatter<W>) -> fmt::Result {
-        f.write_str(match self {
-            TapFault::Carrier => "carrier",
-            TapFault::Read => "read",
-            TapFault::Write | TapFault::Report => "write",
-            TapFault::Memory => "memory",
-        })
+        match self {
+            TapFault::Carrier(not_made) => not_made.fmt(f),
+            TapFault::Read => f.write_str("read"),
+            TapFault::Write | TapFault::Report => f.write_str("write"),
+            TapFault::Memory => f.write_str("memory"),
+        }
     }
 }

@@ -1,5 +1,5 @@
 //! A tap between two addresses.
-ghost use Rattle.std.specs.Prelude.{◌≡◌, ◌≢◌, ◌<◌, ◌≤◌, ◌↔◌, Err, IsTrue, false, is_err};
+ghost use Rattle.std.specs.Prelude.{◌≡◌, ◌≢◌, ◌<◌, ◌≤◌, ◌↔◌, ◌⊎◌, Err, IsTrue, false, is_err};
 ghost use Rattle.ddcmp_io.specs.Written.{Writes};
 ghost use Rattle.ddcmp_frame.specs.Limits.{MAX_COUNT};
 ghost use Rattle.ddcmp_tap.specs.Pumping.{Says, head_of};
@@ -10,13 +10,14 @@ use crate::notation::Notation;
 use crate::pumping::pump;
 use crate::side::Side;
 use crate::sockets::{Sockets, ToSocket};
-use crate::tap_fault::TapFault;
+use crate::tap_fault::{NotMade, Stage, TapFault};
 use ddcmp_io::{FromRead, Sink, WriteFailed, write_all};
 use ddcmp_station::Elapsed;
 use mio::net::TcpStream;
 use std::alloc::Global;
-use std::net::{self, Net, OpenListener, TcpListener};
-use std::{io, time};
+use std::io::{self, ErrorKind};
+use std::net::{self, Net, OpenListener, TcpListener, ToSocketAddrs};
+use std::time;
 
 /// The head of a ladder, with who stands on which side.
 const LADDER_HEAD: &[u8] =
@@ -42,15 +43,57 @@ fn prompt(stream: net::TcpStream) -> io::Result<TcpStream> {
     Ok(TcpStream::from_std(stream))
 }
 
+/// Returns the first connection to an address.
+fn accept_first<N: Net<Stream = net::TcpStream>>(net: &N, name: &str) -> io::Result<TcpStream> {
+    let (caller, _peer) = TcpListener::bind(net, name)?.accept()?;
+    prompt(caller)
+}
+
+/// Returns a connection to an address.
+fn connect_to<N: Net<Stream = net::TcpStream>>(net: &N, name: &str) -> io::Result<TcpStream> {
+    prompt(net::TcpStream::connect(net, name)?)
+}
+
+/// Says why there is no connection at an address, by this error: no host may have its name.
+fn not_made<N: Net>(net: &N, stage: Stage, name: &str, error: &io::Error) -> NotMade {
+    let is_unknown = match name.to_socket_addrs(net) {
+        Ok(_found) => false,
+        Err(unknown) => unknown.kind() != ErrorKind::InvalidInput,
+    };
+    NotMade {
+        stage,
+        cause: if is_unknown { None } else { Some(error.kind()) },
+    }
+}
+
 /// Returns the first connection to one address, and then one to the other.
 fn open<N: Net<Stream = net::TcpStream>>(
     net: &N,
     listen: &str,
     connect: &str,
-) -> io::Result<(TcpStream, TcpStream)> {
-    let (caller, _peer) = TcpListener::bind(net, listen)?.accept()?;
-    let called = net::TcpStream::connect(net, connect)?;
-    Ok((prompt(caller)?, prompt(called)?))
+) -> Result<(TcpStream, TcpStream), NotMade> {
+    let caller = match accept_first(net, listen) {
+        Ok(caller) => caller,
+        Err(error) => return Err(not_made(net, Stage::Listen, listen, &error)),
+    };
+    match connect_to(net, connect) {
+        Ok(called) => Ok((caller, called)),
+        Err(error) => Err(not_made(net, Stage::Connect, connect, &error)),
+    }
+}
+
+/// What a tap ends with that can't have the system report what comes of both sides.
+fn no_waiting(error: &io::Error) -> TapFault
+    ensures { (result ≡ TapFault.Memory)
+        ⊎ ((why : NotMade) × (result ≡ TapFault.Carrier why)) }
+{
+    match error.kind() {
+        ErrorKind::OutOfMemory => TapFault::Memory,
+        kind => TapFault::Carrier(NotMade {
+            stage: Stage::Wait,
+            cause: Some(kind),
+        }),
+    }
 }
 
 /// Waits at one address until someone connects, connects to the other, and forwards between the two
@@ -70,14 +113,17 @@ pub fn tap<S: Net<Stream = net::TcpStream> + time::Clock, W: Sink>(
     requires high { max ≤ MAX_COUNT }
     ensures says { Says (head_of notation) notation timed max
         (W.contents writer.old) (W.contents writer.new) result }
-    ensures carrier { result ≡ Err TapFault.Carrier → writer.new ≡ writer.old }
+    ensures carrier { (why : NotMade) → result ≡ Err (TapFault.Carrier why)
+        → writer.new ≡ writer.old }
     ensures broken { (result ≡ Err TapFault.Report) ↔ IsTrue (W.broken writer.new) }
 {
-    let Ok((mut caller, mut called)) = open(system, listen, connect) else {
-        return Err(TapFault::Carrier);
+    let (mut caller, mut called) = match open(system, listen, connect) {
+        Ok(both) => both,
+        Err(not_made) => return Err(TapFault::Carrier(not_made)),
     };
-    let Ok(mut sockets) = Sockets::new(system, alloc, &mut caller, &mut called) else {
-        return Err(TapFault::Carrier);
+    let mut sockets = match Sockets::new(system, alloc, &mut caller, &mut called) {
+        Ok(sockets) => sockets,
+        Err(error) => return Err(no_waiting(&error)),
     };
     between(
         system,
@@ -109,7 +155,7 @@ fn between<C: time::Clock, W: Sink>(
     requires high { max ≤ MAX_COUNT }
     ensures says { Says (head_of notation) notation timed max
         (W.contents writer.old) (W.contents writer.new) result }
-    ensures met { result ≢ Err TapFault.Carrier }
+    ensures met { (why : NotMade) → result ≢ Err (TapFault.Carrier why) }
     ensures broken { (result ≡ Err TapFault.Report) ↔ IsTrue (W.broken writer.new) }
 {
     let Ok(up) = Direction::new(alloc, Side::Caller, notation, max) else {

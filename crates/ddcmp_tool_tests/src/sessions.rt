@@ -1,5 +1,4 @@
-//! Sessions without devices, by a clock of the test's own: two over lines that lose, damage and
-//! cut, and one through days of silence.
+//! Two sessions without devices over lines that lose, damage and cut, by a clock of the test's own.
 use ddcmp_session::{End, Form, LineKind, Options, Session};
 use ddcmp_station::Config;
 use std::process::Abort;
@@ -174,38 +173,4 @@ fn outputs_are_inputs(rt: HostRuntime) {
     for seed in 1..9u64 {
         exchanges(&rt, seed);
     }
-}
-
-/// Wakes a session at each of its moments until it ends: how often, and when it ended.
-fn sleeps(rt: &(impl Abort + AllocGlobal), seconds: u32) -> (u64, u64) {
-    let mut session = session(rt, options(500, seconds));
-    let mut wakes = 0u64;
-    let mut now = 0u64;
-    for _wake in 0..10_000_000u32 {
-        session.handle_timeout(now);
-        if session.end().is_some() {
-            break;
-        }
-        session.fill();
-        let n = session.to_line().len();
-        session.line_took(n);
-        session.handle_timeout(now);
-        assert!(rt; session.wakes_at() > now);
-        now = session.wakes_at();
-        wakes = wakes.saturating_add(1);
-    }
-    assert!(rt; session.end() == Some(End::Time));
-    (wakes, now)
-}
-
-/// A peer that never answers is asked to start every three seconds, and the run ends in time.
-#[test]
-fn a_day_of_silence(rt: HostRuntime) {
-    assert!(&rt; sleeps(&rt, 86_400) == (28_800, 86_400_000));
-}
-
-/// Moments don't wrap if 32 bits of milliseconds end, after 49 days.
-#[test]
-fn sixty_days_of_silence(rt: HostRuntime) {
-    assert!(&rt; sleeps(&rt, 60 * 86_400) == (1_728_000, 5_184_000_000));
 }

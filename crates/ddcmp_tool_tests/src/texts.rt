@@ -5,6 +5,7 @@ use ddcmp_io::cause::words_of;
 use ddcmp_line::ScriptFault;
 use ddcmp_service::{Attempt, Cause, NotOpened};
 use ddcmp_station::LineFault;
+use ddcmp_tap::{NotMade, Stage};
 use std::fmt::Display;
 use std::io::ErrorKind;
 use std::process::Abort;
@@ -65,7 +66,27 @@ fn stations(rt: HostRuntime) -> Result<(), Fail> {
 
 #[test]
 fn taps(rt: HostRuntime) -> Result<(), Fail> {
-    reads(&rt, &TapFault::Carrier, "carrier")?;
+    let rows = [
+        (
+            Stage::Listen,
+            Some(ErrorKind::AddrInUse),
+            "listen: address in use",
+        ),
+        (
+            Stage::Connect,
+            Some(ErrorKind::ConnectionRefused),
+            "connect: connection refused",
+        ),
+        (Stage::Connect, None, "connect: no such host"),
+        (
+            Stage::Wait,
+            Some(ErrorKind::PermissionDenied),
+            "epoll: permission denied",
+        ),
+    ];
+    for (stage, cause, text) in rows {
+        reads(&rt, &TapFault::Carrier(NotMade { stage, cause }), text)?;
+    }
     reads(&rt, &TapFault::Read, "read")?;
     reads(&rt, &TapFault::Write, "write")?;
     reads(&rt, &TapFault::Report, "write")?;

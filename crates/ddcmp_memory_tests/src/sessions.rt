@@ -1,0 +1,160 @@
+//! A session takes all its memory when it is made: it is refused there, or it does all.
+use ddcmp_session::{End, Form, LineKind, Options, Session};
+use ddcmp_station::{Config, ConfigRefusal};
+use std::process::Abort;
+
+fn options(form: Form) -> Options {
+    Options {
+        config: Config {
+            window: 7,
+            inbox: 8,
+            max: 16_383,
+            syn: 0,
+            restart: false,
+        },
+        timer_ms: 1000,
+        attempts: 0,
+        linger_ms: 0,
+        seconds: 100,
+        report: 1,
+        form,
+        stay: false,
+        again: true,
+        counters: true,
+        trace: true,
+        clock: true,
+        json: true,
+    }
+}
+
+/// A session; none if memory was refused.
+fn session(rt: &(impl Abort + AllocGlobal), form: Form, kind: LineKind) -> Option<Session> {
+    match Session::new(rt.alloc(), options(form), kind) {
+        Ok(mut session) => {
+            session.began_at(0);
+            Some(session)
+        }
+        Err(refusal) => {
+            assert!(rt; refusal == ConfigRefusal::Memory);
+            None
+        }
+    }
+}
+
+/// Passes what waits for the line to the other end, and takes what both write: whether anything
+/// moved.
+fn passes(from: &mut Session, to: &mut Session) -> bool {
+    from.fill();
+    let sent = from.to_line();
+    let whole = to.whole_frames(sent);
+    to.log_received(&sent[..whole.min(sent.len())]);
+    let used = to.received(sent);
+    from.line_took(used);
+    let _delivered = to.deliver();
+    let told = from.to_errors().len();
+    from.errors_took(told);
+    used > 0
+}
+
+fn settles(a: &mut Session, b: &mut Session) {
+    for _turn in 0..10_000u32 {
+        let there = passes(a, b);
+        let back = passes(b, a);
+        if !there && !back {
+            break;
+        }
+    }
+}
+
+/// The text of the longest message in this form.
+fn longest(rt: &(impl Abort + AllocGlobal), form: Form) -> Option<Vec<u8>> {
+    let (front, byte, count, back): (&[u8], &[u8], u32, &[u8]) = match form {
+        Form::Digits => (b"", b"61", 16_383, b"\n"),
+        Form::Binary => (b"\x3f\xff", b"a", 16_383, b""),
+    };
+    let mut text = Vec::with_capacity(rt.alloc(), 40_000).ok()?;
+    text.extend_from_slice(front).ok()?;
+    for _byte in 0..count {
+        text.extend_from_slice(byte).ok()?;
+    }
+    text.extend_from_slice(back).ok()?;
+    Some(text)
+}
+
+/// Runs two ends over one line after another, with a longest message on each: whether memory was
+/// refused before.
+fn is_refused(rt: &(impl Abort + AllocGlobal), form: Form, kind: LineKind) -> bool {
+    let Some(text) = longest(rt, form) else {
+        return true;
+    };
+    let Some(mut a) = session(rt, form, kind) else {
+        return true;
+    };
+    let Some(mut b) = session(rt, form, kind) else {
+        return true;
+    };
+    for line in 0..4u64 {
+        let now = 1 + 1000 * line;
+        assert!(rt; a.connected() && b.connected());
+        a.handle_timeout(now);
+        b.handle_timeout(now);
+        settles(&mut a, &mut b);
+        assert!(rt; a.typed(text.as_slice()) == text.len());
+        settles(&mut a, &mut b);
+        is_written(rt, &mut b, text.as_slice());
+        a.line_ended();
+        b.line_ended();
+    }
+    ends(rt, &mut a, &mut b);
+    false
+}
+
+/// The end of what a session wrote is a message, with its mark if it is of digits.
+fn is_written(rt: &impl Abort, session: &mut Session, text: &[u8]) {
+    let told = session.to_output();
+    let n = told.len();
+    assert!(rt; told.ends_with(text));
+    session.output_took(n);
+}
+
+fn ends(rt: &impl Abort, a: &mut Session, b: &mut Session) {
+    assert!(rt; a.connected() && b.connected());
+    settles(a, b);
+    a.input_ended();
+    a.handle_timeout(5000);
+    assert!(rt; a.end() == Some(End::Delivered));
+    a.close(b"", true);
+    a.finish();
+    a.write_end();
+    assert!(rt; (a.lost(), a.has_run()) == (0, true));
+}
+
+/// Whether memory is refused to two ends of a connection with messages of digits.
+fn is_refused_digits(rt: &(impl Abort + AllocGlobal)) -> bool {
+    is_refused(rt, Form::Digits, LineKind::Connect)
+}
+
+/// Whether memory is refused to two ends of a line of datagrams with messages in binary.
+fn is_refused_binary(rt: &(impl Abort + AllocGlobal)) -> bool {
+    is_refused(rt, Form::Binary, LineKind::Datagrams)
+}
+
+#[test]
+fn refused_memory_makes_no_session(rt: HostRuntime) {
+    let _either = is_refused_digits(&rt);
+}
+
+#[test]
+fn refused_memory_makes_no_session_in_binary(rt: HostRuntime) {
+    let _either = is_refused_binary(&rt);
+}
+
+#[test]
+fn ample_memory_exchanges(rt: HostRuntime) {
+    assert!(&rt; !is_refused_digits(&rt));
+}
+
+#[test]
+fn ample_memory_exchanges_in_binary(rt: HostRuntime) {
+    assert!(&rt; !is_refused_binary(&rt));
+}

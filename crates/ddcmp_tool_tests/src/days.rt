@@ -1,0 +1,320 @@
+//! Sessions through days, by a clock of the test's own, which passes the moment at which 32 bits of
+//! milliseconds end: each wakes for its timers, its reports and its end, and never in between.
+use ddcmp_session::{End, Form, LineKind, Options, Session};
+use ddcmp_station::Config;
+use std::process::Abort;
+
+const DAY: u32 = 86_400;
+
+const DAY_MS: u64 = 86_400_000;
+
+/// Sixty days, in seconds and milliseconds.
+const SIXTY: u32 = 60 * DAY;
+
+const SIXTY_MS: u64 = 60 * DAY_MS;
+
+/// When 32 bits of milliseconds end, after 49 days.
+const WRAP_MS: u64 = 1 << 32;
+
+/// A reply timer of a minute.
+const MINUTE_MS: u32 = 60_000;
+
+const TIMER_MS: u64 = 60_000;
+
+/// Messages of digits over a connection.
+fn options(timer_ms: u32, seconds: u32, report: u32) -> Options {
+    Options {
+        config: Config {
+            window: 7,
+            inbox: 8,
+            max: 1500,
+            syn: 0,
+            restart: false,
+        },
+        timer_ms,
+        attempts: 0,
+        linger_ms: 500,
+        seconds,
+        report,
+        form: Form::Digits,
+        stay: false,
+        again: true,
+        counters: false,
+        trace: false,
+        clock: false,
+        json: false,
+    }
+}
+
+fn session(rt: &(impl Abort + AllocGlobal), options: Options) -> Session {
+    let Ok(session) = Session::new(rt.alloc(), options, LineKind::Connect) else {
+        panic!(rt; "no memory");
+    };
+    session
+}
+
+fn begun(rt: &(impl Abort + AllocGlobal), options: Options) -> Session {
+    let mut session = session(rt, options);
+    assert!(rt; session.connected());
+    session
+}
+
+/// Whether a moment is a whole number of periods after the beginning.
+fn is_due(now: u64, period_ms: u64) -> bool {
+    now > 0 && now.checked_rem(period_ms) == Some(0)
+}
+
+/// Takes what a session has for standard error: whether that is one report. It has nothing else.
+fn takes_report(rt: &impl Abort, session: &mut Session) -> bool {
+    let told = session.to_errors();
+    let n = told.len();
+    let is_report = told.starts_with(b"report state=");
+    let lines = told.iter().filter(|byte| **byte == b'\n').count();
+    assert!(rt; n == 0 || is_report && lines == 1);
+    session.errors_took(n);
+    is_report
+}
+
+/// Wakes a session whose peer never answers at each of its moments until it ends: how often it woke
+/// and reported, and when it ended. It sends when its timer expires, and reports in its periods.
+fn sleeps(rt: &(impl Abort + AllocGlobal), options: Options) -> (u64, u64, u64) {
+    let mut session = begun(rt, options);
+    let (mut wakes, mut reports, mut now) = (0u64, 0u64, 0u64);
+    let period_ms = (options.report as u64).saturating_mul(1000);
+    let timer_ms = options.timer_ms as u64;
+    for _wake in 0..1_000_000u32 {
+        session.handle_timeout(now);
+        let has_reported = takes_report(rt, &mut session);
+        assert!(rt; has_reported == is_due(now, period_ms));
+        reports = reports.saturating_add(has_reported as u64);
+        if session.end().is_some() {
+            break;
+        }
+        session.fill();
+        let n = session.to_line().len();
+        assert!(rt; (n > 0) == (now.checked_rem(timer_ms) == Some(0)));
+        session.line_took(n);
+        session.handle_timeout(now);
+        assert!(rt; session.wakes_at() > now);
+        now = session.wakes_at();
+        wakes = wakes.saturating_add(1);
+    }
+    assert!(rt; session.end() == Some(End::Time));
+    (wakes, reports, now)
+}
+
+/// A peer that never answers is asked to start every three seconds, and the run ends in time.
+#[test]
+fn a_day_of_silence(rt: HostRuntime) {
+    assert!(&rt; sleeps(&rt, options(3000, DAY, 0)) == (28_800, 0, DAY_MS));
+    assert!(&rt; sleeps(&rt, options(3000, DAY, 3600)) == (28_800, 24, DAY_MS));
+    // Each third report comes together with an expiry.
+    assert!(&rt; sleeps(&rt, options(3000, DAY, 7)) == (37_028, 12_342, DAY_MS));
+}
+
+#[test]
+fn sixty_days_of_silence(rt: HostRuntime) {
+    assert!(&rt; sleeps(&rt, options(MINUTE_MS, SIXTY, DAY)) == (86_400, 60, SIXTY_MS));
+}
+
+/// When a line that never opens is tried for the time of this number, in milliseconds: with pauses
+/// of 1, 2, 4, 8, 16 and from then on 30 seconds.
+fn tried_at(number: u64) -> u64 {
+    let first = [0u64, 1000, 3000, 7000, 15_000];
+    let at = usize::try_from(number).unwrap_or(usize::MAX);
+    let later = number.saturating_sub(5).saturating_mul(30_000);
+    first
+        .get(at)
+        .copied()
+        .unwrap_or(later.saturating_add(31_000))
+}
+
+/// A line that never opens is tried at its moments, and reports come meanwhile.
+#[test]
+fn sixty_days_without_a_line(rt: HostRuntime) {
+    let rt = &rt;
+    let mut session = session(rt, options(MINUTE_MS, SIXTY, 3600));
+    let (mut wakes, mut reports, mut tries, mut now) = (0u64, 0u64, 0u64, 0u64);
+    for _wake in 0..1_000_000u32 {
+        session.pass_time(now);
+        let has_reported = takes_report(rt, &mut session);
+        assert!(rt; has_reported == is_due(now, 3_600_000));
+        reports = reports.saturating_add(has_reported as u64);
+        if session.run_ends_at() <= now {
+            break;
+        }
+        assert!(rt; (session.opens_at() <= now) == (tried_at(tries) == now));
+        if session.opens_at() <= now {
+            let _seconds = session.open_failed(now);
+            tries = tries.saturating_add(1);
+        }
+        assert!(rt; session.wakes_without_line_at(now) > now);
+        now = session.wakes_without_line_at(now);
+        wakes = wakes.saturating_add(1);
+    }
+    assert!(rt; (tries, reports, now) == (172_804, 1440, SIXTY_MS));
+    // The last report comes with the end.
+    assert!(rt; wakes == 172_804 + 1439);
+}
+
+/// Passes what waits for the line to the other end, which writes what it has received: whether
+/// anything moved.
+fn passes(from: &mut Session, to: &mut Session) -> bool {
+    from.fill();
+    let used = to.received(from.to_line());
+    from.line_took(used);
+    let _delivered = to.deliver();
+    used > 0
+}
+
+/// Passes all both ways.
+fn settles(a: &mut Session, b: &mut Session) {
+    for _turn in 0..10_000u32 {
+        let there = passes(a, b);
+        let back = passes(b, a);
+        if !there && !back {
+            break;
+        }
+    }
+}
+
+/// Takes what a session has for standard output: how many messages that has.
+fn takes_mails(session: &mut Session) -> u64 {
+    let told = session.to_output();
+    let n = told.len();
+    let mails = told.iter().filter(|byte| **byte == b'm').count();
+    session.output_took(n);
+    mails as u64
+}
+
+/// Two ends of a line that loses nothing.
+#[derive(Drop)]
+struct Two {
+    a: Session,
+    b: Session,
+    /// How many messages `b` has written.
+    mails: u64,
+}
+
+impl Two {
+    fn new(rt: &(impl Abort + AllocGlobal), of_a: Options, of_b: Options) -> Two {
+        let mut two = Two {
+            a: begun(rt, of_a),
+            b: begun(rt, of_b),
+            mails: 0,
+        };
+        two.wake(0);
+        two
+    }
+
+    /// It is this moment at both ends: what that has them do passes.
+    fn wake(&mut self, now: u64) {
+        self.a.handle_timeout(now);
+        self.b.handle_timeout(now);
+        settles(&mut self.a, &mut self.b);
+        self.a.handle_timeout(now);
+        self.b.handle_timeout(now);
+        self.mails = self.mails.saturating_add(takes_mails(&mut self.b));
+    }
+
+    /// The next moment at which one of them wakes.
+    fn wakes_at(&self) -> u64 {
+        self.a.wakes_at().min(self.b.wakes_at())
+    }
+
+    /// Both report at this moment, or neither does.
+    fn report_if(&mut self, rt: &impl Abort, is_due: bool) {
+        assert!(rt; takes_report(rt, &mut self.a) == is_due);
+        assert!(rt; takes_report(rt, &mut self.b) == is_due);
+    }
+}
+
+/// Two ends with a message every six hours wake only for their reports. One message is lost just
+/// before 32 bits of milliseconds end: its timer expires just after that. The last one is
+/// acknowledged, and then its sender ends at once, who has heard no message, and the other one once
+/// it has lingered.
+#[test]
+fn sixty_days_of_little_traffic(rt: HostRuntime) {
+    let rt = &rt;
+    let both = options(MINUTE_MS, SIXTY, DAY);
+    let mut two = Two::new(rt, both, both);
+    let every_ms = DAY_MS / 4;
+    let (mut sent, mut next) = (0u64, 1u64);
+    for _wake in 0..10_000u32 {
+        let now = two.wakes_at().min(next);
+        assert!(rt; now == next || is_due(now, DAY_MS));
+        if now > 59 * DAY_MS {
+            break;
+        }
+        two.wake(now);
+        two.report_if(rt, is_due(now, DAY_MS));
+        if now == next {
+            assert!(rt; two.a.typed(b"6162\n") == 5);
+            next = next.saturating_add(every_ms);
+            sent = sent.saturating_add(1);
+            two.wake(now);
+        }
+        if now < WRAP_MS && next >= WRAP_MS && now.saturating_add(every_ms) == next {
+            loses_one(rt, &mut two);
+            sent = sent.saturating_add(1);
+        }
+        assert!(rt; two.mails == sent);
+    }
+    assert!(rt; sent == 59 * 4 + 1);
+    ends(rt, &mut two, next);
+    assert!(rt; two.mails == sent.saturating_add(1));
+}
+
+/// A message is lost a second before 32 bits of milliseconds end, and its timer mends that.
+fn loses_one(rt: &impl Abort, two: &mut Two) {
+    let before = WRAP_MS - 1000;
+    assert!(rt; before < two.wakes_at());
+    two.wake(before);
+    assert!(rt; two.a.typed(b"63\n") == 3);
+    two.a.fill();
+    let n = two.a.to_line().len();
+    assert!(rt; n > 0);
+    two.a.line_took(n);
+    two.wake(before);
+    assert!(rt; two.wakes_at() == before + TIMER_MS);
+    two.wake(before + TIMER_MS);
+}
+
+/// Both inputs end behind a last message.
+fn ends(rt: &impl Abort, two: &mut Two, now: u64) {
+    assert!(rt; two.a.typed(b"64\n") == 3);
+    two.wake(now);
+    two.a.input_ended();
+    two.b.input_ended();
+    two.wake(now);
+    assert!(rt; two.a.end() == Some(End::Delivered));
+    assert!(rt; (two.b.end(), two.b.wakes_at()) == (None, now.saturating_add(500)));
+    two.b.handle_timeout(now.saturating_add(499));
+    assert!(rt; two.b.end().is_none());
+    two.b.handle_timeout(now.saturating_add(500));
+    assert!(rt; two.b.end() == Some(End::Delivered));
+}
+
+/// A peer that refuses a message gets it once in the time of the reply timer.
+#[test]
+fn sixty_days_of_refusals(rt: HostRuntime) {
+    let rt = &rt;
+    let long = options(MINUTE_MS, SIXTY, 0);
+    let mut short = long;
+    short.config.max = 1;
+    let mut two = Two::new(rt, long, short);
+    assert!(rt; two.a.typed(b"6162\n") == 5);
+    let (mut wakes, mut now) = (0u64, 0u64);
+    for _wake in 0..1_000_000u32 {
+        two.wake(now);
+        if two.a.end().is_some() {
+            break;
+        }
+        assert!(rt; two.b.wakes_at() == SIXTY_MS);
+        now = now.saturating_add(TIMER_MS);
+        assert!(rt; two.a.wakes_at() == now);
+        wakes = wakes.saturating_add(1);
+    }
+    assert!(rt; (wakes, now, two.mails) == (86_400, SIXTY_MS, 0));
+    assert!(rt; (two.a.end(), two.b.end()) == (Some(End::Time), Some(End::Time)));
+}
