@@ -49,7 +49,7 @@ impl Heard {
     /// Restarts on another line.
     pub(crate) fn begin_anew(&mut self) {
         self.frames.reset();
-        self.reached = 0;
+        self.reached = Reached::at(0);
         self.junk = None;
     }
 
