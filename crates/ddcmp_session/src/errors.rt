@@ -1,6 +1,6 @@
 //! Lines for standard error.
-use ddcmp_io::{ByteQueue, Page};
 use ddcmp_io::text::write_number;
+use ddcmp_io::{ByteQueue, Page};
 use jiff::Timestamp;
 use std::alloc::{AllocError, Global};
 use std::fmt::Write;

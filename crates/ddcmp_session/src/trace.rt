@@ -4,8 +4,8 @@ use crate::errors::Errors;
 use crate::skipped::Heard;
 use ddcmp_explain::{Notation, reason_name, write_discarded, write_item};
 use ddcmp_frame::{ControlType, Header, Item, MAX_COUNT, Nak, ReaderRefusal};
-use ddcmp_io::{ByteQueue, Page};
 use ddcmp_io::text::write_number;
+use ddcmp_io::{ByteQueue, Page};
 use std::alloc::Global;
 
 /// The most bytes of text beside the digits of the data that a frame carries.
