@@ -85,7 +85,7 @@ def run(script, trials, limit, workers=4, times=False, strict=False):
         if it.status and not strict:
             for line in it.said():
                 print(f"{script}: at first {line}", file=sys.stderr)
-            runs[at] = it = run_all([trials[at]], limit, 1)[0]
+            runs[at] = it = run_all([trials[at]], 2 * limit, 1)[0]
         for line in it.said():
             print(f"{script}: {line}")
         if times:

@@ -306,9 +306,10 @@ def seconds_unread():
             os.close(writing)
             peer = Peer(it.accept()[0], good)
         peer.runs()
-        for number in range(1, 60):
-            peer.send(data(b"x" * 1500, number))
-            time.sleep(0.004)
+        with contextlib.suppress(OSError):  # a link that has ended
+            for number in range(1, 60):
+                peer.send(data(b"x" * 1500, number))
+                time.sleep(0.004)
         if options:
             time.sleep(0.3)
             peer.close()
