@@ -262,7 +262,8 @@ def stopped_device():
 
 
 def full_output():
-    """Four longest messages that were acknowledged, an output of a page, and the peer ends: all are written."""
+    """Longest messages that were acknowledged, an output of a page, and the peer ends while one of them waits in the
+    inbox: all are written."""
     for options in ((), ("--again",)):
         reading, writing = os.pipe()
         fcntl.fcntl(writing, fcntl.F_SETPIPE_SZ, 4096)
@@ -271,26 +272,26 @@ def full_output():
         os.close(writing)
         peer = Peer(it.accept()[0], good)
         peer.runs()
-        sent = [drawn.randbytes(16383) for _ in range(4)]
+        sent = [b"x"] + [drawn.randbytes(16383) for _ in range(4)]  # the last has no room in the queue
         for number, message in enumerate(sent, 1):
             peer.send(data(message, number))
-        if not peer.waits(lambda it: any(f.resp == 4 for f in list(it.frames)), 10):
+        if not peer.waits(lambda it: any(f.resp == 5 for f in list(it.frames)), 10):
             wrong(f"{options}: not acknowledged")
         peer.close()
         if options:
             it.settimeout(5)
             got = []
-            threading.Thread(target=lambda: got.append(it.accept()), daemon=True).start()
+            threading.Thread(target=lambda: got.append(Peer(it.accept()[0], good)), daemon=True).start()
         time.sleep(0.3)
         out = b""
-        while out.count(b"mail ") < 4 or not out.endswith(b"\n"):
+        while out.count(b"mail ") < 5 or not out.endswith(b"\n"):
             if not (piece := os.read(reading, 1 << 16)):
                 break
             out += piece
         mails = [bytes.fromhex(it[5:].decode()) for it in out.split(b"\n")[:-1] if it.startswith(b"mail ")]
         if mails != sent:
-            wrong(f"{options}: {len(mails)} of 4 messages")
-        if options and not kit.holds_within(5, lambda: got):
+            wrong(f"{options}: {len(mails)} of 5 messages")
+        if options and not (kit.holds_within(5, lambda: got) and got[0].runs()):
             wrong("no second line")
         link.kill()
         os.close(reading)
