@@ -1,5 +1,5 @@
 -- How a tap of the command line tells what passes, and how it ends.
-use Rattle.std.specs.Prelude.{◌≡◌, ◌⊎◌, if◌then◌else◌, Result, Ok, Err, String}
+use Rattle.std.specs.Prelude.{◌≡◌, ⊤, if◌then◌else◌, Result, Ok, Err}
 use Rattle.ddcmp_explain.specs.declared.notation.Notation.{Notation}
 use Rattle.ddcmp_explain.specs.declared.notation.Notation.TheVariants.{Plain, Json}
 use Rattle.ddcmp_tap.specs.declared.notation.Notation.{Notation as TapNotation}
@@ -17,7 +17,9 @@ use Rattle.ddcmp_cli.specs.declared.ending.Ending.TheVariants.{Done, NoLine, Fau
 
 -- a line that can't be opened is reported with its reason, or there is no memory for that
 abbrev pub IsUnopened : Ending → Type 0
-IsUnopened ending = ((why : String) × (ending ≡ NoLine why)) ⊎ (ending ≡ Faulted NoMemory)
+IsUnopened (NoLine why) = ⊤
+IsUnopened (Faulted NoMemory) = ⊤
+IsUnopened _ = ⊥
 
 -- how a tap ends
 abbrev pub TapEnds : Result (Unit {0}) TapFault → Ending → Type 0
