@@ -1,16 +1,16 @@
 /* A station of DDCMP, and a reader of frames alone, from the library libddcmp.
 
-   A ddcmp_station is a handle. Begin it as DDCMP_NO_STATION, hand it to every call by its address,
+   A ddcmp_station is a handle. Begin it as DDCMP_NO_STATION, pass it to every call by its address,
    and never copy it: a copy would free the same station twice. One call at a time has a handle, and
-   a handle stays on the thread that made it. The same holds of a ddcmp_reader, which begins as
+   a handle stays on the thread that made it. The same holds for a ddcmp_reader, which begins as
    DDCMP_NO_READER.
 
-   No pointer that is handed over may be null: a slice of no bytes has some address too. What a
-   pointer leads to is the callee's alone until the call returns, so no two may overlap. Where
-   DDCMP_CHECKED is defined before this header is read, each call first tests its pointers: it then
-   answers DDCMP_NULL, or what it answers for a handle without a station, and does nothing.
+   No pointer may be null: a slice of no bytes has some address too. What a pointer leads to is the
+   callee's alone until the call returns, so no two may overlap. If DDCMP_CHECKED is defined before
+   this header is read, each call first tests its pointers: it then returns DDCMP_NULL, or what it
+   returns for a handle without a station, and does nothing.
 
-   But for ddcmp_new and ddcmp_reader_new no call asks for memory. */
+   But for ddcmp_new and ddcmp_reader_new no call allocates. */
 #ifndef DDCMP_H
 #define DDCMP_H
 
@@ -28,14 +28,14 @@ typedef struct ddcmp_station { void *at; } ddcmp_station;
 typedef struct ddcmp_reader { void *at; } ddcmp_reader;
 #define DDCMP_NO_READER { NULL }
 
-/* What a call answers. But for DDCMP_OK nothing was done. */
+/* What a call returns. But for DDCMP_OK nothing was done. */
 enum ddcmp_code {
     DDCMP_OK = 0,
     DDCMP_WINDOW = 1,       /* not 1 to 255 */
     DDCMP_INBOX = 2,        /* not 1 to 255 */
     DDCMP_MAX = 3,          /* not 1 to 16383 */
     DDCMP_SYN = 4,          /* above 16 */
-    DDCMP_MEMORY = 5,       /* memory was refused */
+    DDCMP_MEMORY = 5,       /* an allocation failed */
     DDCMP_CLOSED = 6,       /* the handle has no station, or no reader */
     DDCMP_OPEN = 7,         /* the handle has one already */
     DDCMP_NOT_HALTED = 8,
@@ -47,7 +47,7 @@ enum ddcmp_code {
     DDCMP_ROOM = 14,        /* the room is too short */
     DDCMP_LONG_LINE = 15,   /* 2^64 bytes of one line: halt and ddcmp_clear_line, or reset */
     DDCMP_ABSENT = 16,      /* there is no such message */
-    DDCMP_NULL = 17,        /* a pointer is null; only where DDCMP_CHECKED is defined */
+    DDCMP_NULL = 17,        /* a pointer is null; only if DDCMP_CHECKED is defined */
     DDCMP_BAD_HEADER = 18,  /* a header's kind is none, or a number is out of range */
     DDCMP_BAD_COUNT = 19    /* the data aren't as many as the header says */
 };
@@ -110,13 +110,13 @@ enum ddcmp_fault {
 /* The sizes of a station. */
 struct ddcmp_config {
     uint16_t window;    /* messages sent and not acknowledged: 1 to 255 */
-    uint16_t inbox;     /* messages that came and weren't taken: 1 to 255 */
+    uint16_t inbox;     /* messages received and not taken: 1 to 255 */
     uint16_t max;       /* bytes of a message: 1 to 16383 */
     uint8_t syn;        /* SYN bytes before each frame: 0 to 16 */
-    uint8_t restart;    /* not 0: where the peer begins anew, so does a station with no mail */
+    uint8_t restart;    /* not 0: restart when the peer restarts, if the inbox is empty */
 };
 
-/* The usual sizes. */
+/* The default sizes. */
 #define DDCMP_USUAL { 7, 8, 1500, 0, 0 }
 
 struct ddcmp_notice {
@@ -163,7 +163,7 @@ struct ddcmp_counters {
     uint32_t formats;
 };
 
-/* A header. What its kind doesn't have is 0 where it was read, and isn't looked at where it is
+/* A header. What its kind doesn't have is 0 if it was read, and isn't looked at if it is
    written. */
 struct ddcmp_header {
     uint16_t count;     /* of data and maintenance: bytes of data, 1 to 16383 */
@@ -176,7 +176,7 @@ struct ddcmp_header {
     uint8_t addr;
 };
 
-/* An item. Its header stands beside the kinds good, data check and too long. */
+/* An item. It has a header if its kind is good, data check or too long. */
 struct ddcmp_item {
     uint64_t offset;    /* of its start byte */
     struct ddcmp_header header;
@@ -191,49 +191,49 @@ struct ddcmp_item {
 #define DDCMP_CALL extern
 #endif
 
-/* An answer of uint32_t is of enum ddcmp_code, but for ddcmp_state. */
+/* A uint32_t that is returned is of enum ddcmp_code, but for ddcmp_state. */
 
 /* Makes a halted station in a handle that has none. */
 DDCMP_CALL uint32_t ddcmp_new(const struct ddcmp_config *config, ddcmp_station *station);
-/* Frees the station of a handle; where there is none, does nothing. */
+/* Frees the station of a handle; if there is none, does nothing. */
 DDCMP_CALL void ddcmp_free(ddcmp_station *station);
 DDCMP_CALL uint32_t ddcmp_config(ddcmp_station *station, struct ddcmp_config *config);
 
-/* Both say how many messages that waited to be sent were dropped. */
+/* Both report how many queued messages were dropped. */
 DDCMP_CALL uint32_t ddcmp_start(ddcmp_station *station, uint8_t *dropped);
 DDCMP_CALL uint32_t ddcmp_enter_maintenance(ddcmp_station *station, uint8_t *dropped);
 DDCMP_CALL uint32_t ddcmp_halt(ddcmp_station *station);
-/* Forgets the bytes of the line so far, where the station is halted: whether it is. */
+/* Forgets the bytes of the line so far, if the station is halted; returns whether it is. */
 DDCMP_CALL bool ddcmp_clear_line(ddcmp_station *station);
 DDCMP_CALL uint32_t ddcmp_state(ddcmp_station *station); /* enum ddcmp_state */
 
-/* Keeps a message to be sent, and says its number. */
+/* Queues a message, and reports its number. */
 DDCMP_CALL uint32_t ddcmp_send(ddcmp_station *station, const uint8_t *message, size_t length,
                                uint8_t *number);
 DDCMP_CALL uint32_t ddcmp_send_maintenance(ddcmp_station *station, const uint8_t *message,
                                            size_t length);
-/* Why ddcmp_send would refuse a message; DDCMP_OK where it wouldn't. */
+/* Why ddcmp_send would refuse a message; DDCMP_OK if it wouldn't. */
 DDCMP_CALL uint32_t ddcmp_send_refusal(ddcmp_station *station, const uint8_t *message,
                                        size_t length);
-/* Whether fewer messages are kept than the window allows, and how many are kept. */
+/* Whether fewer messages are queued than the window allows, and how many are queued. */
 DDCMP_CALL bool ddcmp_room(ddcmp_station *station);
 DDCMP_CALL uint8_t ddcmp_outgoing(ddcmp_station *station);
 
-/* Takes the first message of the inbox. It wants room of config.max bytes. No mail: taken is 0. */
+/* Takes the first message of the inbox; needs room for config.max bytes. Without one taken is 0. */
 DDCMP_CALL uint32_t ddcmp_take(ddcmp_station *station, uint8_t *out, size_t room, size_t *taken);
 /* How many messages wait in the inbox. */
 DDCMP_CALL uint8_t ddcmp_waiting(ddcmp_station *station);
-/* The length of message i of the inbox, counted from 0: 0 where there is none. */
+/* The length of message i of the inbox, counted from 0: 0 if there is none. */
 DDCMP_CALL size_t ddcmp_waiting_length(ddcmp_station *station, uint8_t i);
-/* Copies message i, which stays in the inbox. It wants room of config.max bytes. */
+/* Copies message i, which stays in the inbox; needs room for config.max bytes. */
 DDCMP_CALL uint32_t ddcmp_waiting_at(ddcmp_station *station, uint8_t i, uint8_t *out, size_t room,
                                      size_t *written);
 
-/* Takes bytes of the line, up to the first that gives a notice: feed the rest again. */
+/* Takes bytes of the line, up to the first that yields a notice: feed the rest again. */
 DDCMP_CALL uint32_t ddcmp_feed(ddcmp_station *station, const uint8_t *piece, size_t length,
                                size_t *used, struct ddcmp_notice *notice);
-/* Writes the next frame. It wants room of ddcmp_frame_room bytes, whatever the frame has. Nothing
-   to send: written is 0. */
+/* Writes the next frame; needs room for ddcmp_frame_room bytes, whatever the frame has. If there is
+   nothing to send, written is 0. */
 DDCMP_CALL uint32_t ddcmp_poll(ddcmp_station *station, uint8_t *out, size_t room, size_t *written);
 DDCMP_CALL size_t ddcmp_frame_room(ddcmp_station *station);
 /* How many bytes ddcmp_poll would write now. */
@@ -246,7 +246,7 @@ DDCMP_CALL size_t ddcmp_held(ddcmp_station *station);
 /* Whether the timer was started since this was last asked: set its deadline. */
 DDCMP_CALL bool ddcmp_take_arm(ddcmp_station *station);
 DDCMP_CALL bool ddcmp_timer_on(ddcmp_station *station);
-/* The timer has run out: whether it was on. */
+/* Handles an expiry of the timer; returns whether it was on. */
 DDCMP_CALL bool ddcmp_expire(ddcmp_station *station);
 
 DDCMP_CALL uint32_t ddcmp_numbers(ddcmp_station *station, struct ddcmp_numbers *numbers);
@@ -256,25 +256,25 @@ DDCMP_CALL uint32_t ddcmp_counters(ddcmp_station *station, struct ddcmp_counters
 
 /* Makes a reader of frames with at most max bytes of data, in a handle that has none. */
 DDCMP_CALL uint32_t ddcmp_reader_new(uint16_t max, ddcmp_reader *reader);
-/* Frees the reader of a handle; where there is none, does nothing. */
+/* Frees the reader of a handle; if there is none, does nothing. */
 DDCMP_CALL void ddcmp_reader_free(ddcmp_reader *reader);
-/* Takes bytes of a line, up to the first that gives an item: push the rest again. The data of a
-   good item are copied to out, and written says how many; it wants room of max bytes. No item: its
-   kind is DDCMP_NO_ITEM. */
+/* Takes bytes of a line, up to the first that yields an item: push the rest again. The data of a
+   good item are copied to out, which needs room for max bytes, and written is how many. Without an
+   item its kind is DDCMP_NO_ITEM. */
 DDCMP_CALL uint32_t ddcmp_reader_push(ddcmp_reader *reader, const uint8_t *piece, size_t length,
                                       size_t *used, struct ddcmp_item *item, uint8_t *out,
                                       size_t room, size_t *written);
 /* Bytes of the unfinished frame. */
 DDCMP_CALL size_t ddcmp_reader_open(ddcmp_reader *reader);
-/* Begins anew, with the bytes of another line. */
+/* Restarts, with the bytes of another line. */
 DDCMP_CALL uint32_t ddcmp_reader_reset(ddcmp_reader *reader);
 
-/* Writes a frame as it goes on the line: a header with its check, and data with theirs. It wants
-   room of 8 bytes for a control message, else of count + 10. */
+/* Writes a frame as it goes on the line: a header with its CRC, and data with theirs. It needs
+   room for 8 bytes for a control message, else for count + 10. */
 DDCMP_CALL uint32_t ddcmp_write_frame(const struct ddcmp_header *header, const uint8_t *message,
                                       size_t length, uint8_t *out, size_t room, size_t *written);
 
-/* The block check of a text (CRC-16). */
+/* The CRC-16 of a text. */
 DDCMP_CALL uint16_t ddcmp_check(const uint8_t *text, size_t length);
 
 #ifdef __cplusplus
