@@ -61,7 +61,7 @@ pub fn turns_are_in_time()
 /// Two driven stations recover. Under way over lines that lose nothing from now on, whatever was
 /// lost before: after enough sweeps of their turns, and two rounds, in each of which the timer of
 /// each expires, unless it is off, and enough sweeps follow, both run, and each message that was
-/// accepted from one user, also meanwhile, is handed to the other and reported acknowledged.
+/// accepted from one user, also meanwhile, is delivered to the other and reported acknowledged.
 pub fn driven_recover()
     ensures { IsKeptWhileDriven (λ line l. (parts : List (EndValue × TurnPart))
         → TurnsLoseNothing parts l → IsRecoveryBySweeps (events_of_parts parts l) line

@@ -113,8 +113,8 @@ fn misuse(form: Form) -> &'static str {
     }
 }
 
-/// Explains what the words ask for: a file, or standard input where they name none. Who types it is
-/// told what is read.
+/// Explains what the words ask for: a file, or standard input if they name none; for a terminal
+/// standard error has what is read.
 pub(crate) fn explain_asked<I: Inputs, R: Source, W: Sink>(
     inputs: &I,
     alloc: Global,

@@ -10,7 +10,7 @@ pub trait Inputs {
 
     type Opened: Source + Drop;
 
-    // What the file of a name holds, where that is known.
+    // What the file of a name holds, if that is known.
     ghost held: { Self → List ℕ → Option (List ℕ) };
 
     /// Opens the file of this name, to be read from its front, or returns the system's reason.

@@ -1,4 +1,4 @@
-//! The program's standard streams, where one of them is closed or isn't read.
+//! The program's standard streams, if one of them is closed or isn't read.
 use crate::ending::Ending;
 use ddcmp_service::errors_take;
 use std::alloc::Global;

@@ -61,7 +61,7 @@ fn is_json(notation: Notation) -> bool
     }
 }
 
-/// How the tap tells what passes.
+/// How the tap logs the traffic.
 fn told_as(tapped: &Tapped<'_>) -> TapNotation
     ensures { result ≡ notation_of tapped.now }
 {
@@ -72,7 +72,7 @@ fn told_as(tapped: &Tapped<'_>) -> TapNotation
     }
 }
 
-/// Opens both connections, and stands between them until both sides have ended.
+/// Opens both connections, and forwards between them until both sides have ended.
 fn tap_between<S: Net<Stream = TcpStream> + time::Clock, W: Sink>(
     system: &S,
     alloc: Global,

@@ -69,7 +69,7 @@ pub fn leaves_istart_for_good()
     ensures arms { (s : StationState) → (after_take_arm s).state ≡ s.state }
 {}
 
-/// A station begins to run by a STACK, or, if it answered a STRT, by an ACK or data with RESP 0,
+/// A station begins to run by a STACK, or, if it replied to a STRT, by an ACK or data with RESP 0,
 /// and by nothing else.
 pub fn runs_after_startup()
     ensures { (l : Limits) (s : StationState) (h : Received)

@@ -11,7 +11,7 @@ pub enum State {
     Halted,
     /// It asks its peer to start.
     IStart,
-    /// It answers a peer that asks it to start.
+    /// It replies to a peer that asks it to start.
     AStart,
     /// Messages go both ways.
     Running,
@@ -40,7 +40,7 @@ pub enum Timer {
 }
 
 impl Timer {
-    /// Returns the timer after a frame that is to be answered was sent: it goes on, or starts.
+    /// Returns the timer after a frame that needs a reply was sent: it goes on, or starts.
     pub(crate) fn started(self) -> Timer
         ensures { result ≡ timer_started self }
     {

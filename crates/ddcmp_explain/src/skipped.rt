@@ -44,7 +44,7 @@ impl Reached {
         Reached { offset, taken: 0 }
     }
 
-    /// Returns what was skipped behind the item, up to an offset.
+    /// Returns what was skipped after the item, up to an offset.
     pub fn skipped_to(&self, to: u64) -> Option<Skipped>
         ensures { skipped_parts result ≡ passed (self.now.offset + self.now.taken) to }
     {

@@ -1,4 +1,4 @@
-//! What a user hands a program, read without a device, cut in any way. `HexLines` and `Lengths`
+//! The input of a program, read without a device, cut in any way. `HexLines` and `Lengths`
 //! read messages: a line of hexadecimal digits each, or each after its length as two bytes. `Dump`
 //! reads dumps of bytes, as `hexdump -C`, `xxd` and `od -A x -t x1` write them: it makes all blank
 //! but the digits of the data, piece by piece, and reports lines in another form by their numbers.

@@ -12,7 +12,7 @@ pub enum Place {
     Start,
     /// In the address.
     Address,
-    /// In the blanks in front of a byte.
+    /// In the blanks before a byte.
     Blanks,
     /// At the first digit of a byte.
     High,
@@ -20,7 +20,7 @@ pub enum Place {
     Low,
     /// At the colon after an address of `xxd`.
     Colon,
-    /// At the one blank in front of a group of `xxd`.
+    /// At the one blank before a group of `xxd`.
     Gap,
     /// At the first digit of a group, which has one byte or two.
     First,

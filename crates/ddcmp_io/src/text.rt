@@ -1,4 +1,4 @@
-//! Parts of text, handed to a page piece by piece: numbers, and bytes in hexadecimal digits,
+//! Parts of text, passed to a page piece by piece: numbers, and bytes in hexadecimal digits,
 //! sixteen at a time.
 ghost use Rattle.std.specs.Prelude.{◌≡◌, ◌+◌, ◌*◌, ◌/◌, ◌%◌, ◌<◌, ◌≤◌, ◌++◌, length, map};
 ghost use Rattle.std.specs.Prelude.{slice_index, take};

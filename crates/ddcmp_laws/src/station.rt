@@ -183,7 +183,7 @@ pub fn refuses_for_the_first_reason()
 
 /// A station that starts answers a STRT by a STACK. A STACK makes it run and owe an ACK, and an ACK
 /// with RESP 0 makes one run that answered a STRT. Nothing else but data with RESP 0 changes it, so
-/// no fault, NAK or REP of that time is answered once it runs.
+/// no fault, NAK or REP of that time has a reply once it runs.
 pub fn starts_by_what_answers_it()
     ensures strt { (l : Limits) (s : StationState) → is_starting s.state ≡ true
         → next_frame (next (on l s (Good Strt))) ≡ Some Stack }

@@ -1,4 +1,4 @@
-//! Stations over a network: `serve` drives one of the usual sizes over a line and reports what
+//! Stations over a network: `serve` drives one of the default sizes over a line and reports what
 //! happens to it, `connect` and `accept` open its connection, and `Sockets` is a carrier over a
 //! connection of the program with itself.
 #![tactic(auto)]

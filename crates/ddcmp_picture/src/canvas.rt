@@ -19,7 +19,7 @@ pub enum Picture {
     Svg,
 }
 
-/// A picture on its way.
+/// A picture that is being drawn.
 pub(crate) struct Canvas {
     picture: Picture,
     /// What goes to the sheet.

@@ -49,7 +49,7 @@ impl<P: Drop> Drop for Drawing<P> {
     }
 }
 
-/// How many bytes of a frame are to arrive: at most so many, or all.
+/// How many bytes of a frame are to arrive: at most n, or all.
 fn part_of(most: Option<u32>, of: usize) -> usize
     ensures { result ≡ part_of_them most of }
 {

@@ -55,7 +55,7 @@ pub(crate) fn lose<P: Paper>(paper: &mut P, flights: &mut Flights, from: End)
     }
 }
 
-/// A byte of the first frame of an end is changed by exclusive or, if it has so many.
+/// A byte of the first frame of an end is changed by exclusive or, if it has that byte.
 #[tactic(auto, using(crate::proofs::NoteLaws::logs_none))]
 pub(crate) fn damage<P: Paper>(
     paper: &mut P,

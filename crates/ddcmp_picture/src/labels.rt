@@ -26,7 +26,7 @@ fn fill_before(bytes: &[u8]) -> usize
     bytes.len()
 }
 
-/// The eight bytes behind the SYN fill.
+/// The eight bytes after the SYN fill.
 fn header_bytes(bytes: &[u8]) -> Option<[u8; 8]>
     ensures { MatchOption result (length (after_fill bytes.now) < 8)
         (λ header. header ≡ take 8 (after_fill bytes.now)) }
@@ -40,7 +40,7 @@ fn header_bytes(bytes: &[u8]) -> Option<[u8; 8]>
     Some(header)
 }
 
-/// What the bytes of a line begin with, where that is a header.
+/// What the bytes of a line begin with, if that is a header.
 fn header_of(bytes: &[u8]) -> Option<Header>
     ensures { result ≡ header_in bytes.now }
 {

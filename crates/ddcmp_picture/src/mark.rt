@@ -5,7 +5,7 @@ ghost use Rattle.ddcmp_picture.specs.Trips.{damaged_by, end_label, rest_of};
 use crate::short_text::ShortText;
 use ddcmp_pair::End;
 
-/// A frame on its way.
+/// A frame in flight.
 #[derive(Clone, Copy, Drop)]
 pub struct Trip {
     pub from: End,
@@ -42,7 +42,7 @@ impl Trip {
 pub enum Fate {
     /// It arrived, or the last part of it did.
     Arrived,
-    /// Only so many bytes of those that were left have arrived.
+    /// Only this many of the bytes that were left have arrived.
     Cut { part: usize, of: usize },
     Lost,
     /// The run was over before.

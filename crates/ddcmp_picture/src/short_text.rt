@@ -5,7 +5,7 @@ ghost use Rattle.ddcmp_picture.specs.ShortTexts.{no_text, text_in, with_byte, wi
 
 use itoa::Buffer;
 
-/// The most bytes that a short text has; what is behind them is left out.
+/// The most bytes that a short text has; what comes after them is left out.
 const ROOM: usize = 96;
 
 /// A text of ASCII that is short.
@@ -52,7 +52,7 @@ impl ShortText {
         }
     }
 
-    /// The same, and this text behind it.
+    /// The same, followed by this text.
     #[tactic(auto, using(crate::proofs::ShortTextLaws::with_step, crate::proofs::ShortTextLaws::with_none))]
     pub(crate) fn with(mut self, text: &[u8]) -> Self
         ensures { result ≡ with_text self text.now }
@@ -63,7 +63,7 @@ impl ShortText {
         self
     }
 
-    /// The same, and a number behind it.
+    /// The same, followed by a number.
     pub(crate) fn with_number(self, number: u64) -> Self
         ensures { result ≡ with_text self (decimal number) }
     {
@@ -71,7 +71,7 @@ impl ShortText {
         self.with(buffer.format(number).as_bytes())
     }
 
-    /// The same, and bytes in hexadecimal digits behind it; of many the first alone.
+    /// The same, followed by bytes in hexadecimal digits; of many the first alone.
     #[tactic(auto, using(crate::proofs::ShortTextLaws::digits_step, crate::proofs::ShortTextLaws::digits_none, crate::proofs::ShortTextLaws::with_append))]
     pub(crate) fn with_bytes(mut self, bytes: &[u8]) -> Self
         ensures { result ≡ with_text self (bytes_shown bytes.now) }

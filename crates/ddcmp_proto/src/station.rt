@@ -166,7 +166,7 @@ impl Station {
     ghost use Rattle.ddcmp_proto.specs.Station.{IsSoundStation, held_of, held_at_most};
     ghost use Rattle.ddcmp_proto.specs.Station.{message_bytes};
 
-    /// Asks the peer to start; returns how many messages that waited to be sent were dropped.
+    /// Asks the peer to start; returns how many queued messages were dropped.
     pub fn start(&mut self) -> Result<u8, StartRefusal>
         ensures state { self.new ≡ record self.old {
           core = record self.old.core {

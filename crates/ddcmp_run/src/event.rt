@@ -41,7 +41,7 @@ pub enum Event {
     Expire(End),
     /// The end's user takes a message.
     Take(End),
-    /// The line is emptied, and all histories begin again.
+    /// The line is emptied, and new histories begin.
     Clear,
 }
 

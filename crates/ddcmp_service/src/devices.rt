@@ -19,7 +19,7 @@ pub(crate) const LINE_END_MS: u64 = 80;
 /// How long an output may take nothing at the end of a run, in milliseconds.
 pub(crate) const END_MS: u64 = 1000;
 
-/// How many parts of the input are passed on before the line has its turn. Reports for so many
+/// How many parts of the input are passed on before the line has its turn. Reports for that many
 /// lines `?` have room in the queue for standard error.
 const INPUT_PARTS: u8 = 64;
 
@@ -140,9 +140,9 @@ impl Devices {
         Ok(true)
     }
 
-    /// Passes what was read of the input to the session, as far as it takes that: so many parts at
-    /// most. Where more are left it finds out what else is ready, as no wait will before they are
-    /// used.
+    /// Passes what was read of the input to the session, as far as it takes that: at most
+    /// `INPUT_PARTS` parts. If more are left it finds out what else is ready, as no wait will before
+    /// they are used.
     fn pass_input(&mut self, session: &mut Session) -> Result<bool, Ended> {
         let mut moved = false;
         for _part in 0..INPUT_PARTS {
@@ -336,7 +336,7 @@ impl Devices {
                 last = end.max(now);
                 continue;
             }
-            // Something else may end a wait, so the clock tells how long nothing was taken.
+            // Something else may end a wait, so the clock measures how long nothing was taken.
             let left = last.saturating_add(END_MS).saturating_sub(now);
             if left == 0 {
                 return Err(Ended::Time);

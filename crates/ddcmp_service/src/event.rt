@@ -11,9 +11,9 @@ pub(crate) enum Event<'a> {
     Listening(SocketAddr),
     Connecting(SocketAddr),
     Connected(SocketAddr),
-    /// The line couldn't be opened, and is tried again after so many seconds.
+    /// The line couldn't be opened, and is tried again after this many seconds.
     Retry(NotOpened<'a>, u64),
-    /// The line ended before its station ran, and is opened again after so many seconds.
+    /// The line ended before its station ran, and is opened again after this many seconds.
     Pause(u64),
     /// Standard output took nothing after the time of the run was over.
     Unread,

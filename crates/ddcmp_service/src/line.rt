@@ -15,7 +15,7 @@ pub(crate) enum Line {
     Device(File),
 }
 
-// By hand, so that a line is let go by a call: a derived one is written out at each such place.
+// By hand, so that a line is dropped by a call: a derived one is written out at each such place.
 impl Drop for Line {
     fn drop(self) {
         match self {

@@ -20,7 +20,7 @@ pub enum LineName<'a> {
 }
 
 impl<'a> LineName<'a> {
-    /// The line that a word names; none where it names no line.
+    /// The line that a word names; none if it names no line.
     pub fn read(word: &'a str) -> Option<LineName<'a>>
         ensures names { MatchOption result ((name : LineName) → word_of name ≢ word.now)
             (λ name. (word_of name ≡ word.now) × IsPlain name) }

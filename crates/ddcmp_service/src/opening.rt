@@ -24,7 +24,7 @@ pub(crate) struct Opener<'a> {
     failed: Option<ErrorKind>,
 }
 
-// By hand, so that it is let go by a call: a derived one is written out at each such place.
+// By hand, so that it is dropped by a call: a derived one is written out at each such place.
 impl Drop for Opener<'_> {
     fn drop(self) {
         let Opener {
@@ -45,7 +45,7 @@ pub(crate) enum Opened {
     Connected(Line, SocketAddr),
     /// A connection to there has been begun.
     Connecting(SocketAddr),
-    /// Nobody has come yet, or whom it connects to hasn't answered.
+    /// Nobody has connected yet, or the connection isn't made yet.
     NotYet,
 }
 
@@ -122,7 +122,7 @@ impl<'a> Opener<'a> {
         }
     }
 
-    /// Connects to the addresses of a name, one after the other, without waiting for an answer.
+    /// Connects to the addresses of a name, one after the other, without waiting for a result.
     fn connect<N: Net>(
         &mut self,
         net: &N,

@@ -19,7 +19,7 @@ use std::io::{Eprint, ErrorKind};
 use std::net::{self, Net};
 use std::time;
 
-/// How a service ended that wasn't told to stop by a fault.
+/// How a service ended that no fault stopped.
 #[derive(Clone, Copy, Debug, PartialEq, Eq)]
 pub enum Served {
     /// All of the input was delivered.

@@ -6,7 +6,7 @@ use mio::net::{TcpStream, UdpSocket};
 use std::os::fd::{AsRawFd, RawFd};
 
 /// After how many seconds of silence a connection is tested, then how often, and how many tests
-/// without an answer end it.
+/// without a reply end it.
 const QUIET_SECONDS: i32 = 60;
 
 const TEST_SECONDS: i32 = 10;

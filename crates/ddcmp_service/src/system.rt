@@ -4,7 +4,7 @@ use std::io::Eprint;
 use std::net::{Net, TcpListener, TcpStream};
 use std::time::Clock;
 
-/// All that a link asks of the system: connections, devices, a place for what it tells, and the
+/// All that a link asks of the system: connections, devices, a place for what it reports, and the
 /// time.
 pub(crate) trait System: Net<Stream = TcpStream, Listener = TcpListener>
     + Files<File = File>

@@ -46,18 +46,18 @@ impl Ready {
     }
 }
 
-/// A descriptor that waits where it isn't ready, and so is asked for anew before each wait.
+/// A descriptor that waits if it isn't ready, and so is asked for again before each wait.
 #[derive(Clone, Copy)]
 pub(crate) struct Descriptor {
     number: RawFd,
     token: Token,
-    /// Whether the system tells of it; of a file it doesn't, which is always ready.
+    /// Whether the system reports it; not of a file, which is always ready.
     is_told: bool,
     pub(crate) ready: Ready,
 }
 
 impl Descriptor {
-    /// Has it told of from now on, where the system tells of such a descriptor.
+    /// Has it reported from now on, if the system reports such a descriptor.
     fn new(poll: &Poll, number: RawFd, token: Token, interest: Interest) -> Descriptor {
         let is_told = poll
             .registry()
@@ -71,7 +71,7 @@ impl Descriptor {
         }
     }
 
-    /// A read gave what there was.
+    /// A read returned what there was.
     pub(crate) fn has_read(&mut self) {
         self.ready.to_read = !self.is_told;
     }
@@ -81,7 +81,7 @@ impl Descriptor {
         self.ready.to_write = !self.is_told;
     }
 
-    /// Has the next wait tell of it, where it is wanted and not known to be ready.
+    /// Has the next wait report it, if it is needed and not known to be ready.
     fn ask(&mut self, poll: &Poll, to_read: bool, to_write: bool) {
         let reads = to_read && !self.ready.to_read;
         let writes = to_write && !self.ready.to_write;
@@ -103,7 +103,7 @@ impl Descriptor {
     }
 }
 
-/// What is waited for besides the line's sockets, which tell of themselves.
+/// What is waited for besides the line's sockets, which are reported by themselves.
 #[derive(Clone, Copy)]
 pub(crate) struct Wanted {
     pub(crate) input: bool,
@@ -154,13 +154,13 @@ pub(crate) struct Waiting {
     pub(crate) input: Descriptor,
     pub(crate) output: Descriptor,
     pub(crate) errors: Descriptor,
-    /// The line, where it is a serial device.
+    /// The line, if it is a serial device.
     pub(crate) device: Option<Descriptor>,
-    /// The line, where it is a socket.
+    /// The line, if it is a socket.
     pub(crate) socket: Ready,
 }
 
-// By hand, so that what waits is let go by a call: a derived one is written out at
+// By hand, so that what waits is dropped by a call: a derived one is written out at
 // each such place.
 impl Drop for Waiting {
     fn drop(self) {
@@ -236,7 +236,7 @@ impl Waiting {
         }
     }
 
-    /// A read from the line gave something, or nothing, and then `is_dry`.
+    /// A read from the line returned something, or nothing, and then `is_dry`.
     pub(crate) fn line_was_read(&mut self, is_dry: bool) {
         match &mut self.device {
             Some(device) => device.has_read(),
@@ -252,7 +252,7 @@ impl Waiting {
         }
     }
 
-    /// Waits until something that is wanted is ready, or so many milliseconds have passed, or an
+    /// Waits until something that is needed is ready, or `most_ms` milliseconds have passed, or an
     /// hour: whether it could wait.
     pub(crate) fn wait(&mut self, wanted: Wanted, most_ms: u64) -> bool {
         self.input.ask(&self.poll, wanted.input, false);
@@ -283,7 +283,7 @@ impl Waiting {
             || wanted.to_line && self.may_write_line()
     }
 
-    /// Takes over what the wait told.
+    /// Takes over what the wait reported.
     fn note(&mut self) {
         for event in self.events.iter() {
             let told = Ready {
@@ -315,7 +315,7 @@ pub fn errors_take<N: Net>(net: &N, alloc: Global) -> bool {
     waiting.errors.ready.to_write
 }
 
-/// Takes over what the wait told of the line.
+/// Takes over what the wait reported of the line.
 fn add_to_line(device: &mut Option<Descriptor>, socket: &mut Ready, told: Ready) {
     match device {
         Some(device) => device.ready.add(told),

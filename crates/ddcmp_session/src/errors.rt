@@ -39,7 +39,7 @@ impl Errors {
         })
     }
 
-    /// Has each line begin with the time of day; the moment 0 is so many milliseconds after 1970.
+    /// Has each line begin with the time of day; the moment 0 is this many milliseconds after 1970.
     pub(crate) fn show_time(&mut self, began: u64) {
         self.began = Some(began);
     }

@@ -6,7 +6,7 @@ use ddcmp_station::Config;
 #[derive(Clone, Copy, Debug, PartialEq, Eq)]
 pub struct Options {
     pub config: Config,
-    /// How long the station waits for an answer, in milliseconds.
+    /// The reply timer, in milliseconds.
     pub timer_ms: u32,
     /// After how many tries without progress a line is left; 0 is never, and `u32::MAX` is 7 until
     /// the station runs and never from then on.

@@ -37,7 +37,7 @@ pub enum End {
     Time,
     /// The peer restarted, and the station was halted by that.
     Restarted,
-    /// The peer didn't answer, or refused what was sent, too many times in a row.
+    /// The peer didn't reply, or refused what was sent, too many times in a row.
     GivenUp,
 }
 

@@ -21,7 +21,7 @@ pub(crate) struct Heard {
     junk: Option<u64>,
 }
 
-// By hand, so that what was heard is let go by a call: a derived one is written out at
+// By hand, so that what was heard is dropped by a call: a derived one is written out at
 // each such place.
 impl Drop for Heard {
     fn drop(self) {
@@ -34,10 +34,10 @@ impl Drop for Heard {
 }
 
 impl Heard {
-    /// So many bytes that were discarded are told although no frame came behind them.
+    /// This many discarded bytes are reported although no frame came after them.
     pub(crate) const MOST_DISCARDED: u64 = 256;
 
-    /// Nothing, of frames of at most so many bytes of data.
+    /// Nothing, of frames of at most this many bytes of data.
     pub(crate) fn new(alloc: Global, max: u16) -> Result<Heard, ReaderRefusal> {
         Ok(Heard {
             frames: Reader::new(alloc, max)?,
@@ -75,12 +75,12 @@ impl Heard {
         let reached = reached_by(item);
         let skipped = self.skipped_to(reached.offset);
         self.reached = reached;
-        // The start byte of a header that is damaged is passed over itself.
+        // The start byte of a damaged header is skipped itself.
         self.junk = (reached.taken == 0).then_some(reached.offset);
         skipped
     }
 
-    /// What was discarded behind the last frame, where so many bytes were.
+    /// What was discarded after the last frame, if that many bytes were.
     pub(crate) fn discard(&mut self, least: u64) -> Option<Skipped> {
         let end = self
             .frames

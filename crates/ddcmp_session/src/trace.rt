@@ -19,7 +19,7 @@ pub(crate) enum Way {
 }
 
 impl Way {
-    /// What stands between the moment and the line of a frame.
+    /// What is between the moment and the line of a frame.
     fn mark(self) -> &'static [u8] {
         match self {
             Way::ToLine => b" > ",
@@ -31,7 +31,7 @@ impl Way {
 /// A trace of a line. What standard error has no room for is left out, so that no trace holds a
 /// link up.
 pub(crate) struct Trace {
-    /// How much room is left to what else is told.
+    /// How much room is left to other reports.
     spared: usize,
     sent: Heard,
     came: Heard,
@@ -39,7 +39,7 @@ pub(crate) struct Trace {
     now: u64,
 }
 
-// By hand, so that a trace is let go by a call: a derived one is written out at each such place.
+// By hand, so that a trace is dropped by a call: a derived one is written out at each such place.
 impl Drop for Trace {
     fn drop(self) {
         let Trace {
@@ -52,7 +52,7 @@ impl Drop for Trace {
 }
 
 impl Trace {
-    /// A trace of a line of messages of at most so many bytes.
+    /// A trace of a line of messages of at most this many bytes.
     pub(crate) fn new(alloc: Global, max: u16, spared: usize) -> Result<Trace, ReaderRefusal> {
         let max = max.max(1).min(MAX_COUNT);
         Ok(Trace {
@@ -70,13 +70,13 @@ impl Trace {
         self.came.begin_anew();
     }
 
-    /// The line has ended: what was discarded behind the last frames is told.
+    /// The line has ended: what was discarded after the last frames is reported.
     pub(crate) fn end(&mut self, errors: &mut Errors) {
         self.tell_discarded(Way::ToLine, 1, errors);
         self.tell_discarded(Way::FromLine, 1, errors);
     }
 
-    /// Puts the lines of the frames that bytes complete, which went this way, behind a text, and of
+    /// Puts the lines of the frames that bytes complete, which went this way, after a text, and of
     /// what was discarded before them.
     pub(crate) fn tell(&mut self, way: Way, bytes: &[u8], errors: &mut Errors) {
         for byte in bytes {
@@ -106,7 +106,7 @@ impl Trace {
         }
     }
 
-    /// Puts the line of what was discarded behind the last frame, where so many bytes were.
+    /// Puts the line of what was discarded after the last frame, if that many bytes were.
     fn tell_discarded(&mut self, way: Way, least: u64, errors: &mut Errors) {
         if let Some(discarded) = self.heard(way).discard(least) {
             self.put_discarded(way, discarded.from, discarded.count, errors);

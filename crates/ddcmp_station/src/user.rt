@@ -33,7 +33,7 @@ pub trait User {
     fn notice(&mut self, notice: Notice)
         ensures { becomes self.old (Told notice) self.new };
 
-    /// Is handed a message that came.
+    /// Takes a received message.
     fn mail(&mut self, message: &[u8])
         ensures { becomes self.old (Handed message.now) self.new };
 }

@@ -1,4 +1,4 @@
-//! One direction of a tap: bytes that came from a side, to be handed on as they are and explained.
+//! One direction of a tap: bytes that came from a side, to be forwarded as they are and explained.
 ghost use Rattle.std.specs.Prelude.{◌≡◌, ◌+◌, ◌<◌, ◌≤◌, ◌++◌, [], ℕ, List, IfOk, IsOk, drop, false};
 ghost use Rattle.std.specs.Prelude.{length, take, true};
 ghost use Rattle.ddcmp_frame.specs.Limits.{MAX_COUNT};
@@ -17,7 +17,7 @@ use std::marker::Model;
 /// The most bytes of a direction that wait.
 pub const ROOM: usize = 65536;
 
-/// What came from one side. Bytes wait here until they were handed on to the other side, and until
+/// What came from one side. Bytes wait here until they were forwarded to the other side, and until
 /// they were explained: in two queues, so that neither waits for the other.
 pub struct Direction {
     waiting: ByteQueue,
@@ -105,7 +105,7 @@ impl Direction {
         })
     }
 
-    /// Returns how many bytes may come now. A direction whose bytes were all handed on and
+    /// Returns how many bytes may come now. A direction whose bytes were all forwarded and
     /// explained takes 65,536, and one that has had 2^64 - 1 bytes none.
     pub fn room(&self) -> usize
         ensures value { result ≡ room_of self.now }
@@ -137,7 +137,7 @@ impl Direction {
         self.untold.push(bytes);
     }
 
-    /// What is to be handed on to the other side.
+    /// What is to be forwarded to the other side.
     pub fn waiting(&self) -> &[u8]
         ensures { result.now ≡ self.now.queue.waiting }
     {

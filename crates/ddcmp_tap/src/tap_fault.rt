@@ -3,7 +3,7 @@ use ddcmp_io::cause::words_of;
 use std::fmt;
 use std::io::ErrorKind;
 
-/// What a tap does before it stands between two connections.
+/// What a tap does before it has both connections.
 #[derive(Clone, Copy, Debug, PartialEq, Eq)]
 pub enum Stage {
     /// It listens, and takes the first who connects.

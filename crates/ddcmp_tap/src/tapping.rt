@@ -19,7 +19,7 @@ use std::io::{self, ErrorKind};
 use std::net::{self, Net, OpenListener, TcpListener, ToSocketAddrs};
 use std::time;
 
-/// The head of a ladder, with who stands on which side.
+/// The head of a ladder, with who is on which side.
 const LADDER_HEAD: &[u8] =
     b"> who connected to the tap                         whom the tap connected to <\n";
 

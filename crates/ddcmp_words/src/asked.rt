@@ -76,7 +76,7 @@ pub fn station_is_asked()
     ensures incomplete { takes program (codes "ddcmp" ∷ codes "station" ∷ []) ≡ false }
 {}
 
-/// The words `ddcmp tap` with the two addresses ask for the command that stands between two ends
+/// The words `ddcmp tap` with the two addresses ask for the command that is between two ends
 /// of a line; the addresses are read as they were written.
 pub fn tap_is_asked()
     ensures plain { IsAsked (codes "ddcmp" ∷ codes "tap" ∷ codes "--listen"

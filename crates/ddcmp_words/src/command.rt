@@ -336,7 +336,7 @@ fn program_parser<'a>(alloc: Global) -> Parser<'a>
         .subcommand(link_parser(alloc))
 }
 
-/// A fault of the words as this crate tells it.
+/// A usage error as this crate reports it.
 fn decline(alloc: Global, error: &Error) -> Declined
     ensures { Declines (kind_of error.now) result }
 {
@@ -471,7 +471,7 @@ fn view_given(options: &ArgMatches<'_>) -> View
     }
 }
 
-/// A text that was given; the empty one where none was.
+/// A text that was given; the empty one if none was.
 pub(crate) fn text_given<'a>(options: &ArgMatches<'a>, name: &str) -> &'a str
     ensures { result.now ≡ unwrap_or (first_value (found_of options.now) name.now) [] }
 {

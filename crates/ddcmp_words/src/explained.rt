@@ -5,12 +5,12 @@ use ddcmp_explain::{Form, Style};
 #[derive(Clone, Copy, Debug, PartialEq, Eq)]
 pub struct Explained<'a> {
     pub form: Form,
-    /// What the input comes from, where a word says so: it is a dump then. No word but `hexdump`
+    /// What the input comes from, if a word names that: it is a dump then. No word but `hexdump`
     /// does, and not beside bytes as they are.
     pub from: Option<&'a str>,
     pub style: Style,
     /// The most bytes of data of a frame that is read.
     pub max: u16,
-    /// The file that is read; standard input where there is none.
+    /// The file that is read; standard input if there is none.
     pub file: Option<&'a str>,
 }

@@ -157,7 +157,7 @@ pub(crate) fn link_parser<'a>(alloc: Global) -> Parser<'a>
     with_sizes(line_parser(alloc)).with(&LINK_OPTIONS)
 }
 
-/// How many SYN bytes a line has before each frame, where no option says how many: a serial line
+/// How many SYN bytes a line has before each frame, if no option sets that: a serial line
 /// finds its synchronism by them.
 fn usual_syn(line: &str) -> u8
     ensures value { result ≡ usual_syn_of line.now }

@@ -8,8 +8,8 @@ use crate::options::{CommandOption, argument};
 use clap::Arg;
 use std::alloc::{AllocError, Global};
 
-/// A command of `clap` to which options and subcommands are added, or the want of memory for one.
-/// So a want of memory is looked at once, when all is made.
+/// A command of `clap` to which options and subcommands are added, or an allocation failure.
+/// So that is looked at once, when all is made.
 #[derive(Drop)]
 pub(crate) struct Parser<'a> {
     alloc: Global,

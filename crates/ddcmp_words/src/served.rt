@@ -12,15 +12,15 @@ pub enum Role {
 /// A station over a connection, as the words ask for it.
 #[derive(Clone, Copy, Debug, PartialEq, Eq)]
 pub struct Served<'a> {
-    /// None where the word names no role; a station has one.
+    /// None if the word names no role; a station has one.
     pub role: Option<Role>,
     /// The address that is connected to or listened at, such as `127.0.0.1:7000`.
     pub addr: &'a str,
     pub turns: u32,
     pub timer_ms: u32,
-    /// The digits of a message that is sent once the station runs; none where it is empty.
+    /// The digits of a message that is sent once the station runs; none if it is empty.
     pub send: &'a str,
-    /// Whether it begins anew where its peer does.
+    /// Whether it restarts when its peer does.
     pub restart: bool,
     /// Whether the report ends with the counters too.
     pub counters: bool,

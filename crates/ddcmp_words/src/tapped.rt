@@ -11,7 +11,7 @@ pub struct Tapped<'a> {
     pub notation: Notation,
     /// Whether what passes is drawn as a ladder. Beside JSON it isn't.
     pub ladder: bool,
-    /// Whether the milliseconds stand in front of each line.
+    /// Whether the milliseconds come before each line.
     pub time: bool,
     /// The most bytes of data of a frame that is read.
     pub max: u16,

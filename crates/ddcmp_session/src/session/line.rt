@@ -112,7 +112,7 @@ impl Session {
         }
     }
 
-    /// Takes bytes of the line, up to the first that gives a notice, and writes that. Returns how
+    /// Takes bytes of the line, up to the first that yields a notice, and writes that. Returns how
     /// many; none while `wants_line` is false.
     pub fn received(&mut self, bytes: &[u8]) -> usize
         ensures used { result ≤ length bytes.now }
@@ -203,7 +203,7 @@ impl Session {
         }
     }
 
-    /// Puts frames behind what waits for the line, as far as there is room: one at a time for
+    /// Puts frames after what is pending for the line, as far as there is room: one at a time for
     /// datagrams, and while messages wait for the peer none that carries one.
     pub fn fill(&mut self)
         ensures { (n : ℕ) × (self.new
@@ -219,8 +219,8 @@ impl Session {
         }
     }
 
-    /// Puts the next frame behind what waits for the line, unless it is a message that waits for
-    /// the peer: returns whether it did.
+    /// Puts the next frame after what is pending for the line, unless it is a message that waits
+    /// for the peer: returns whether it did.
     fn fill_one(&mut self) -> bool
         ensures state { (n : ℕ) × (self.new
             ≡ record self.old { link = after_frames n self.old.link }) }

@@ -16,7 +16,7 @@ impl Session {
     }
 
     /// Has each line for standard error begin with the time of day, if that is asked for. The
-    /// moment 0 is so many milliseconds after 1970.
+    /// moment 0 is this many milliseconds after 1970.
     pub fn began_at(&mut self, milliseconds: u64)
         ensures { self.new ≡ self.old }
     {
