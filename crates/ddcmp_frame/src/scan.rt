@@ -6,9 +6,11 @@ ghost use Rattle.ddcmp_frame.specs.Reader.{open_of, kept_of};
 ghost use Rattle.ddcmp_frame.specs.Scan.{IsSoundScan, IsReady, IsCandidate, Takes, TakesAll};
 ghost use Rattle.ddcmp_frame.specs.Scan.{view_of};
 
+use crate::codes::{CONTROL_START, DATA_START, MAINT_START};
 use crate::header::{Header, HeaderFault, is_start};
 use crate::held::{count_of, data_right, loss, resume};
 use crate::item::{Item, Pushed};
+use memchr::memchr3;
 
 /// What the next byte belongs to.
 #[derive(Clone, Copy)]
@@ -298,11 +300,7 @@ fn before_start(piece: &[u8]) -> usize
     ensures start { result < length piece.now
         → is_start_byte (slice_index piece.now result) ≡ true }
 {
-    let mut n = 0;
-    while n < piece.len() && !is_start(piece[n]) {
-        n += 1;
-    }
-    n
+    memchr3(CONTROL_START, DATA_START, MAINT_START, piece).unwrap_or(piece.len())
 }
 
 /// Returns what the next byte belongs to if these are held, which begin with a start byte.
