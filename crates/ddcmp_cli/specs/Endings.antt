@@ -434,8 +434,8 @@ Ends held peers words before left old new ending =
     (read : Result Command Declined) × Reads words read
     × Answers held peers read before left old new ending
 
--- What a run of the program did, as these words ask. `Unread` and `Unwritten` say that its input and
--- its output are as they were.
+-- What a run of the program did, as these words ask. `Unread` and `Unwritten` say that its input
+-- and its output are as they were.
 pub record RunsAs (held : List ℕ → Known) (peers : Peers) (words : List Text)
     (source : SourceChange) (sink : SinkChange) (Unread Unwritten : Type 0) (ending : Ending)
     : Type 0 where

@@ -1,7 +1,8 @@
 -- How a link of the command line ends.
 use Rattle.std.specs.Prelude.{⊤}
 use Rattle.ddcmp_cli.specs.declared.fault.Fault.TheVariants.{Odd, NotHex, Dump, Line, Hex, Message}
-use Rattle.ddcmp_cli.specs.declared.fault.Fault.TheVariants.{Read, Write, Memory, Carrier, Ended, Lost}
+use Rattle.ddcmp_cli.specs.declared.fault.Fault.TheVariants.{Read, Write, Memory, Carrier, Ended}
+use Rattle.ddcmp_cli.specs.declared.fault.Fault.TheVariants.{Lost}
 use Rattle.ddcmp_cli.specs.declared.ending.Ending.{Ending}
 use Rattle.ddcmp_cli.specs.declared.ending.Ending.TheVariants.{Done, SomeRefused, NoLine, Unopened}
 use Rattle.ddcmp_cli.specs.declared.ending.Ending.TheVariants.{Usage, NotText, Fault as Faulted}

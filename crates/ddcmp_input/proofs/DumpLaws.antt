@@ -5,7 +5,8 @@ use Rattle.std.proofs.Math.ListN.{set}
 use Rattle.std.proofs.Math.Seq.{take-suc-set}
 use Rattle.std.proofs.lemmas.List.{drop-set-lt, append-nil, take_all, drop_all}
 use Rattle.ddcmp_input.specs.declared.place.Place.{Place}
-use Rattle.ddcmp_input.specs.Dump.{place_after, shown_at, shown_from, place_from, line_at, line_from}
+use Rattle.ddcmp_input.specs.Dump.{place_after, shown_at, shown_from, place_from, line_at}
+use Rattle.ddcmp_input.specs.Dump.{line_from}
 
 pub shown-more : (place : Place) (xs ys : List ℕ)
     → shown_from place (xs ++ ys) ≡ shown_from place xs ++ shown_from (place_from place xs) ys

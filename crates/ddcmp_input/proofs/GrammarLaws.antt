@@ -12,7 +12,8 @@ use Rattle.ddcmp_input.specs.declared.place.Place.TheVariants.{Colon, Gap, First
 use Rattle.ddcmp_input.specs.declared.place.Place.TheVariants.{Fourth, Text, Return}
 use Rattle.ddcmp_input.specs.Dump.{kind_of_byte, place_of_kind, place_after, shown_at, shown_from}
 use Rattle.ddcmp_input.specs.Dump.{place_from, text_then}
-use Rattle.ddcmp_input.specs.Grammar.{IsDigit, IsOneLine, Bytes, NoByte, Blank, Byte, Column, Groups}
+use Rattle.ddcmp_input.specs.Grammar.{IsDigit, IsOneLine, Bytes, NoByte, Blank, Byte, Column}
+use Rattle.ddcmp_input.specs.Grammar.{Groups}
 use Rattle.ddcmp_input.specs.Grammar.{NoGroup, LastBlank, One, Two, Behind, Line, Empty, Dumped}
 use Rattle.ddcmp_input.specs.Grammar.{Grouped, LineEnd, Feed, ReturnFeed, digits_in, Reads}
 

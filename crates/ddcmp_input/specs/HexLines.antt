@@ -1,5 +1,6 @@
 -- Messages in hexadecimal, one in a line.
-use Rattle.std.specs.Prelude.{ℕ, ◌+◌, Bool, true, false, ◌==◌, ◌&&◌, nat_le, min, if◌then◌else◌, List, []}
+use Rattle.std.specs.Prelude.{ℕ, ◌+◌, Bool, true, false, ◌==◌, ◌&&◌, nat_le, min, if◌then◌else◌}
+use Rattle.std.specs.Prelude.{List, []}
 use Rattle.std.specs.Prelude.{◌∷◌, ◌++◌, length, Option, Some, None, option_to_list, Result, Ok}
 use Rattle.std.specs.Prelude.{Err}
 use Rattle.hex.specs.Hex.{decode_sized}

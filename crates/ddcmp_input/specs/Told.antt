@@ -1,7 +1,8 @@
 -- What the bytes of an input are: its messages, and its parts that are none.
 use Rattle.std.specs.Prelude.{ℕ, List}
 use Rattle.ddcmp_input.specs.declared.entry.Entry.{Entry}
-use Rattle.ddcmp_input.specs.declared.entry.Entry.TheVariants.{Message, NotHexadecimal, TooLong, Empty}
+use Rattle.ddcmp_input.specs.declared.entry.Entry.TheVariants.{Message, NotHexadecimal, TooLong}
+use Rattle.ddcmp_input.specs.declared.entry.Entry.TheVariants.{Empty}
 
 -- a message, or why a part of the input is none
 pub data Told : Type 0 where

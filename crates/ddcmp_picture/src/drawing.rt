@@ -24,8 +24,8 @@ use ddcmp_pair::{End, Event, Pair, Recovered, Reply, Settled};
 use ddcmp_script_text::ScriptCommand;
 use std::alloc::Global;
 
-/// A drawing of a run on a paper. As the view of a script (`ddcmp_line::script_viewed`) it puts there
-/// what each line and each step gives; after the script call `end_flights`.
+/// A drawing of a run on a paper. As the view of a script (`ddcmp_line::script_viewed`) it puts
+/// there what each line and each step gives; after the script call `end_flights`.
 pub struct Drawing<P> {
     pub(crate) flights: Flights,
     pub paper: P,

@@ -1,7 +1,8 @@
 //! Short texts: labels and notes.
 ghost use Rattle.std.specs.Prelude.{◌≡◌, ◌<◌, decimal, slice_index};
 ghost use Rattle.hex.specs.Hex.{lower_digits};
-ghost use Rattle.ddcmp_picture.specs.ShortTexts.{no_text, text_in, with_byte, with_text, bytes_shown};
+ghost use Rattle.ddcmp_picture.specs.ShortTexts.{no_text, text_in, with_byte, with_text};
+ghost use Rattle.ddcmp_picture.specs.ShortTexts.{bytes_shown};
 
 use itoa::Buffer;
 

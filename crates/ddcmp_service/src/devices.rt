@@ -141,8 +141,8 @@ impl Devices {
     }
 
     /// Passes what was read of the input to the session, as far as it takes that: at most
-    /// `INPUT_PARTS` parts. If more are left it finds out what else is ready, as no wait will before
-    /// they are used.
+    /// `INPUT_PARTS` parts. If more are left it finds out what else is ready, as no wait will
+    /// before they are used.
     fn pass_input(&mut self, session: &mut Session) -> Result<bool, Ended> {
         let mut moved = false;
         for _part in 0..INPUT_PARTS {

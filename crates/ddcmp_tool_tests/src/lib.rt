@@ -1,6 +1,6 @@
 //! Tests of the tools from outside. Of `ddcmp_explain`: its text at every cut, size and fault, over
-//! streams and of dumps. Of `ddcmp_tap`, which explains a direction of a line: what that hands on,
-//! its room and its text. Of `ddcmp_session`: two over bad lines, through days, and what it reports.
+//! streams and of dumps. Of `ddcmp_tap`, which explains a direction of a line: what that forwards,
+//! its room and its text. Of `ddcmp_session`: two over bad lines, through days, and its reports.
 //! Of the program: its words, its texts and its ends.
 #![tactic(auto)]
 

@@ -20,7 +20,8 @@ use Rattle.clap.specs.declared.parser.matches.ArgMatches.TheViews.{out-ArgMatche
 use Rattle.clap.proofs.OnLiterals.{clap_on_literals}
 use Rattle.ddcmp_words.specs.Words.{program, named_by, option_in, text_in, file_of, role_of}
 use Rattle.ddcmp_words.specs.Words.{usual_syn_of, MOST, HasFlag, HasForm, HasNotation, HasNumber}
-use Rattle.ddcmp_words.specs.Words.{HasLinkOptions, HasMessages, HasOptions, HasSizes, HasView, IsAsked}
+use Rattle.ddcmp_words.specs.Words.{HasLinkOptions, HasMessages, HasOptions, HasSizes, HasView}
+use Rattle.ddcmp_words.specs.Words.{IsAsked}
 use Rattle.ddcmp_session.specs.declared.options.Options.{Options}
 use Rattle.ddcmp_core.specs.Limits.{MAX_COUNT, MAX_WINDOW}
 use Rattle.ddcmp_proto.specs.declared.config.Config.{Config}

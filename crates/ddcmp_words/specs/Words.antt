@@ -285,7 +285,8 @@ pub record HasMessages (binary : Option Text) (form : MessageForm) : Type 0 wher
   pub absent : binary ≡ None → form ≡ Digits
 
 -- how a link runs over a line of this name
-pub record HasLinkOptions (line : Text) (option : Text → Option Text) (options : Options) : Type 0 where
+pub record HasLinkOptions (line : Text) (option : Text → Option Text) (options : Options)
+    : Type 0 where
   pub sizes : HasSizes (usual_syn_of line) option options.config
   pub timer_ms : HasNumber 1 MOST 3000 (option (codes "timer-ms")) options.timer_ms
   pub attempts : HasNumber 0 MOST MOST (option (codes "attempts")) options.attempts

@@ -1,5 +1,6 @@
 use Rattle.std.proofs.Common.{◌≡◌, rules, true}
-use Rattle.ddcmp_cli.specs.Endings.{DrawsBetween, DrawsSimulated, PlaysBetween, Simulates, is_refusal}
+use Rattle.ddcmp_cli.specs.Endings.{DrawsBetween, DrawsSimulated, PlaysBetween, Simulates}
+use Rattle.ddcmp_cli.specs.Endings.{is_refusal}
 use Rattle.ddcmp_cli.specs.Endings.{Untouched, streams}
 use Rattle.ddcmp_cli.proofs.ScriptLaws.{shows-as}
 use Rattle.ddcmp_cli.proofs.script_command.show_simulation.Goals as goal
