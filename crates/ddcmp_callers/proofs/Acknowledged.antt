@@ -25,10 +25,10 @@ stands_all x sent next (begun z c f) e =
     let n = ap length c.out_is in let m = length-drop x.acknowledged x.given in
     omega (arith, e, n, m)
 
-linked_all : (x y : EndState) → Linked x y → IsAcknowledged x
+pub linked_all : (x y : EndState) → Linked x y → IsAcknowledged x
 linked_all x y l = stands_all (face x) l.related.fits.sent l.related.fits.next l.related.fits.stands
 
-abbrev AllAcknowledged : PairState → Type 0
+abbrev pub AllAcknowledged : PairState → Type 0
 AllAcknowledged p = IsAcknowledged p.a × IsAcknowledged p.b
 
 pub calls_acknowledged : (first second : Config) (calls : List (End × Call))

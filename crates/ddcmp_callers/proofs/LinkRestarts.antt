@@ -9,7 +9,7 @@ use Rattle.ddcmp_core.specs.Table.{after_halt, may_start}
 use Rattle.ddcmp_proto.specs.Config.{first_refusal}
 use Rattle.ddcmp_proto.specs.declared.config.Config.{Config}
 use Rattle.ddcmp_proto.specs.StationCalls.{StationCall}
-use Rattle.ddcmp_station.specs.Linking.{LinkView, started, anew}
+use Rattle.ddcmp_station.specs.Linking.{LinkView, started, anew, delivered}
 use Rattle.ddcmp_run.specs.declared.event.End.{End}
 use Rattle.ddcmp_run.specs.declared.event.End.TheVariants.{A, B}
 use Rattle.ddcmp_run.specs.Run.{EndState, PairState, new_pair, is_clean}
@@ -19,14 +19,15 @@ use Rattle.ddcmp_callers.specs.Calls.{after_call_here, after_calls_here}
 use Rattle.ddcmp_callers.specs.Links.{LinkCall, Starts, BeginsAnew, Halts, Wakes, Offers, FillsOne}
 use Rattle.ddcmp_callers.specs.Links.{IsSent, Feeds, Takes, station_calls, HasDone, LinkHistory}
 use Rattle.ddcmp_callers.specs.Links.{LinkStep, after_step, IsSameEnd, Links, new_links}
-use Rattle.ddcmp_callers.specs.Links.{LinkReaches}
+use Rattle.ddcmp_callers.specs.Links.{LinkReaches, received}
 use Rattle.ddcmp_callers.specs.LinkRestarts.{Does, all_calls, begun_with, history_by, history_at}
 use Rattle.ddcmp_callers.specs.LinkRestarts.{AreCallsOfLinks, at_end, calls_of_links, after_links}
 use Rattle.ddcmp_callers.specs.StationRuns.{after_station_call_here, after_station_call}
 use Rattle.ddcmp_callers.specs.StationRuns.{run_station_calls, station_call, has_heard_none}
 use Rattle.ddcmp_callers.proofs.LinkCalls.{step_same, new_same}
-use Rattle.ddcmp_callers.proofs.StationRuns.{station-calls-in-order}
-use Rattle.ddcmp_callers.proofs.TwoLinks.{AreSame, reaches}
+use Rattle.ddcmp_callers.proofs.Acknowledged.{IsAcknowledged}
+use Rattle.ddcmp_callers.proofs.StationRuns.{station-calls-acknowledged, station-calls-in-order}
+use Rattle.ddcmp_callers.proofs.TwoLinks.{AreSame, delivered_all, reaches}
 
 -- ---- calls at one end
 
@@ -167,6 +168,22 @@ module _ (first second : Config) (ms other_ms : ℕ) (line other_line : ReaderVi
   anew-to-a =
       reaches _ _ _ _ ends.b ends.a
       ((station-calls-in-order first second calls f g).where_clean honest clean).b_to_a
+
+  told : IsAcknowledged (run_station_calls calls (new_pair first second)).a
+      × IsAcknowledged (run_station_calls calls (new_pair first second)).b
+  told = station-calls-acknowledged first second calls f g honest clean
+
+  pub anew-all-to-b : delivered (after_links steps links).a.link ≡ true
+      → received (after_links steps links).b ≡ (after_links steps links).a.accepted
+  anew-all-to-b =
+      delivered_all _ _ _ _ ends.a ends.b
+      ((station-calls-in-order first second calls f g).where_clean honest clean).a_to_b told.0
+
+  pub anew-all-to-a : delivered (after_links steps links).b.link ≡ true
+      → received (after_links steps links).a ≡ (after_links steps links).b.accepted
+  anew-all-to-a =
+      delivered_all _ _ _ _ ends.b ends.a
+      ((station-calls-in-order first second calls f g).where_clean honest clean).b_to_a told.1
 
 -- ---- a link that begins anew on a line that the other end hasn't heard
 

@@ -20,7 +20,8 @@ use Rattle.ddcmp_core.specs.Table.{after_accept}
 use Rattle.ddcmp_station.specs.Driving.{DriveTurn, Driving, deadline_at, core_at_deadline}
 use Rattle.ddcmp_station.specs.Driving.{core_after_expire, before_offer, before_read}
 use Rattle.ddcmp_station.specs.Linking.{LinkView, puts_frame, polls, fits, holds_back, after_frame}
-use Rattle.ddcmp_station.specs.Linking.{after_polled, is_held_back, frame_of_link, is_nak_for_buffer}
+use Rattle.ddcmp_station.specs.Linking.{after_polled, is_held_back, frame_of_link}
+use Rattle.ddcmp_station.specs.Linking.{is_nak_for_buffer}
 use Rattle.ddcmp_station.specs.Linking.{bytes_of, takes_message, answer_to_offered, after_offered}
 use Rattle.ddcmp_station.specs.Linking.{delivered, wakes_at, moment_or_now, after_wake, with_state}
 use Rattle.ddcmp_station.specs.Linking.{total_plus}

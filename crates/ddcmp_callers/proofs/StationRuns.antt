@@ -54,12 +54,14 @@ use Rattle.ddcmp_callers.specs.StationRuns.{run_station_calls, station_call, sta
 use Rattle.ddcmp_callers.specs.StationRuns.{IsStationAt, StationHistory, begun_station, used_by}
 use Rattle.ddcmp_callers.specs.StationRuns.{accepted_by, taken_by, acknowledged_after, kept_by}
 use Rattle.ddcmp_callers.specs.StationRuns.{StationStep, after_station_step, IsSameStation}
-use Rattle.ddcmp_callers.specs.StationRuns.{Stations, after_step_at, AreStationCalls, after_station_steps}
+use Rattle.ddcmp_callers.specs.StationRuns.{Stations, after_step_at, AreStationCalls}
+use Rattle.ddcmp_callers.specs.StationRuns.{after_station_steps}
 use Rattle.ddcmp_callers.specs.StationRuns.{calls_of_stations, AreSameStations, StationReaches}
 use Rattle.ddcmp_callers.proofs.Stations.{again}
 use Rattle.ddcmp_callers.proofs.Calling.{end_again, station_is, accepted, pair_is}
 use Rattle.ddcmp_callers.proofs.Runs.{one_same, order_same, links_same, notices_same, honest_same}
 use Rattle.ddcmp_callers.proofs.Runs.{clean_same}
+use Rattle.ddcmp_callers.proofs.Acknowledged.{IsAcknowledged, AllAcknowledged, linked_all}
 
 -- ---- an end that has heard nothing
 
@@ -514,6 +516,22 @@ station-calls-linked first second calls f g h c =
     links_same p k.pair k.same
     (keeps-linked k.pair k.keeps (sym (honest_same p k.pair k.same) ∙ h)
     (sym (clean_same p k.pair k.same) ∙ c))
+
+pub station-calls-acknowledged : (first second : Config) (calls : List (End × StationCall))
+    → first_refusal first ≡ None → first_refusal second ≡ None
+    → (run_station_calls calls (new_pair first second)).honest ≡ true
+    → is_clean (run_station_calls calls (new_pair first second)) ≡ true
+    → IsAcknowledged (run_station_calls calls (new_pair first second)).a
+    × IsAcknowledged (run_station_calls calls (new_pair first second)).b
+station-calls-acknowledged first second calls f g h c =
+    let k = kept-calls first second calls f g in
+    let p = run_station_calls calls (new_pair first second) in
+    let q = k.pair in
+    let l = k.keeps.holds.linked (sym (honest_same p q k.same) ∙ h) (sym (clean_same p q k.same) ∙ c)
+    in
+    let both : AllAcknowledged (noted q) =
+    (linked_all q.a q.b l, linked_all q.b q.a (linked-turned q.a q.b l)) in
+    subst AllAcknowledged (sym k.same) both
 
 pub station-calls-quiet : (first second : Config) (calls : List (End × StationCall)) (end : End)
     (bytes : List ℕ) → first_refusal first ≡ None → first_refusal second ≡ None

@@ -217,7 +217,7 @@ starts_b (step ∷ rest) q = by step.0 step.1 (starts_b rest (after_step_at step
 
 -- ---- from two new links
 
-delivered_all : (x y : EndState) (h k : LinkHistory) → IsSameEnd x h → IsSameEnd y k → Delivers x y
+pub delivered_all : (x y : EndState) (h k : LinkHistory) → IsSameEnd x h → IsSameEnd y k → Delivers x y
     → IsAcknowledged x → delivered h.link ≡ true → received k ≡ h.accepted
 delivered_all x y h k s t d told e =
     let none : length x.core.station.out ≡ 0 =

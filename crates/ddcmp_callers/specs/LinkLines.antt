@@ -10,7 +10,8 @@ use Rattle.ddcmp_run.specs.declared.event.End.{End}
 use Rattle.ddcmp_run.specs.Run.{new_pair}
 use Rattle.ddcmp_callers.specs.Calls.{Call, run_calls}
 use Rattle.ddcmp_callers.specs.Links.{LinkStep, LinkHistory, Links, station_calls, HasDone, link_at}
-use Rattle.ddcmp_callers.specs.Links.{after_step_at, after_steps, AreStartedOnce, new_links, received}
+use Rattle.ddcmp_callers.specs.Links.{after_step_at, after_steps, AreStartedOnce, new_links}
+use Rattle.ddcmp_callers.specs.Links.{received}
 
 -- Each step is a call of one of two links, as its contract says.
 abbrev pub AreLinkCalls : List (End × LinkStep) → Links → Type 0

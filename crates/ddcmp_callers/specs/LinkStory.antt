@@ -4,7 +4,8 @@ use Rattle.ddcmp_frame.specs.Reader.{ReaderView}
 use Rattle.ddcmp_core.specs.Table.{after_halt}
 use Rattle.ddcmp_proto.specs.Bytes.{after_piece}
 use Rattle.ddcmp_proto.specs.declared.config.Config.{Config}
-use Rattle.ddcmp_station.specs.Linking.{LinkView, with_state, started, anew, after_wake, after_offered}
+use Rattle.ddcmp_station.specs.Linking.{LinkView, with_state, started, anew, after_wake}
+use Rattle.ddcmp_station.specs.Linking.{after_offered}
 use Rattle.ddcmp_station.specs.Linking.{after_frame, after_sent, after_taking, delivered}
 use Rattle.ddcmp_run.specs.declared.event.End.{End}
 use Rattle.ddcmp_run.specs.declared.event.End.TheVariants.{A, B}

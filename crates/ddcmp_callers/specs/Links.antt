@@ -9,7 +9,8 @@ use Rattle.ddcmp_proto.specs.Bytes.{after_piece, notices_of_piece}
 use Rattle.ddcmp_proto.specs.Config.{first_refusal}
 use Rattle.ddcmp_proto.specs.declared.config.Config.{Config}
 use Rattle.ddcmp_station.specs.Driving.{deadline_at, core_after_take_arm}
-use Rattle.ddcmp_station.specs.Linking.{LinkView, with_state, started, anew, after_wake, after_offered}
+use Rattle.ddcmp_station.specs.Linking.{LinkView, with_state, started, anew, after_wake}
+use Rattle.ddcmp_station.specs.Linking.{after_offered}
 use Rattle.ddcmp_station.specs.Linking.{polls, after_frame, after_sent, after_taking, link_made}
 use Rattle.ddcmp_run.specs.declared.event.End.{End}
 use Rattle.ddcmp_run.specs.declared.event.End.TheVariants.{A, B}

@@ -6,7 +6,8 @@ ghost use Rattle.ddcmp_core.specs.declared.state.Timer.TheVariants.{Off, Fresh, 
 ghost use Rattle.ddcmp_core.specs.Table.{Frame, next, next_frame, after_expire};
 ghost use Rattle.ddcmp_station.specs.Driving.{DriveTurn, Driving, before_offer, before_read};
 ghost use Rattle.ddcmp_station.specs.Linking.{LinkView, puts_frame, after_frame, takes_message};
-ghost use Rattle.ddcmp_station.specs.Linking.{answer_to_offered, after_offered, delivered, wakes_at};
+ghost use Rattle.ddcmp_station.specs.Linking.{answer_to_offered, after_offered, delivered};
+ghost use Rattle.ddcmp_station.specs.Linking.{wakes_at};
 ghost use Rattle.ddcmp_station.specs.Linking.{after_wake};
 ghost use Rattle.ddcmp_callers.specs.Links.{LinkCall, HasDone};
 ghost use Rattle.ddcmp_callers.specs.LinkRules.{AsksForABuffer, PutsFrame, IsNoWake};

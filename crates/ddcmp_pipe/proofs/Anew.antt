@@ -1,12 +1,16 @@
 -- Sessions that are connected again, and their links.
 use Rattle.std.proofs.Common.{◌≡◌, ℕ, zero, suc, ◌+◌, Bool, true, false, cond, List, [], ◌∷◌}
-use Rattle.std.proofs.Common.{◌++◌, length, drop, refl, sym, ◌∙◌, ap, subst, append_assoc, append-nil, None, option_to_list}
+use Rattle.std.proofs.Common.{◌++◌, length, drop, refl, sym, ◌∙◌, ap, subst, append_assoc}
+use Rattle.std.proofs.Common.{append-nil, None, option_to_list}
 use Rattle.std.proofs.Math.Seq.{drop-append_seam}
 use Rattle.ddcmp_input.specs.declared.entry.Entry.{Entry}
 use Rattle.ddcmp_input.specs.declared.entry.Entry.TheVariants.{Message, NotHexadecimal, TooLong}
 use Rattle.ddcmp_input.specs.declared.entry.Entry.TheVariants.{Empty}
+use Rattle.std.specs.Prelude.{is_ok}
+use Rattle.ddcmp_core.specs.Table.{after_halt, answer_to_start}
 use Rattle.ddcmp_proto.specs.Config.{first_refusal}
-use Rattle.ddcmp_station.specs.Linking.{LinkView, after_frame, anew}
+use Rattle.ddcmp_input.specs.InBinary.{in_binary}
+use Rattle.ddcmp_station.specs.Linking.{LinkView, after_frame, anew, delivered}
 use Rattle.ddcmp_run.specs.declared.event.End.{End}
 use Rattle.ddcmp_run.specs.declared.event.End.TheVariants.{A, B}
 use Rattle.ddcmp_run.specs.Prefix.{IsPrefixOf}
@@ -18,24 +22,28 @@ use Rattle.ddcmp_session.specs.Session.{SessionView, wants_input}
 use Rattle.ddcmp_callers.specs.Links.{LinkCall, Starts, BeginsAnew, Halts, Wakes, Offers, FillsOne}
 use Rattle.ddcmp_callers.specs.Links.{IsSent, Feeds, Takes, LinkHistory, LinkStep, Links, link_at}
 use Rattle.ddcmp_callers.specs.Links.{IsHistory, after_history, LinkReaches, HasDone, used_by}
-use Rattle.ddcmp_callers.specs.Links.{gone_by, accepted_by, taken_by, acknowledged_after}
+use Rattle.ddcmp_callers.specs.Links.{gone_by, accepted_by, taken_by, acknowledged_after, received}
 use Rattle.ddcmp_callers.specs.Links as links
 use Rattle.ddcmp_callers.specs.LinkRestarts.{history_by, AreCallsOfLinks, after_links}
 use Rattle.ddcmp_callers.specs.LinkRestarts.{calls_of_links, history_at}
 use Rattle.ddcmp_callers.specs.LinkRestarts as restarts
 use Rattle.ddcmp_callers.specs.StationRuns.{run_station_calls}
-use Rattle.ddcmp_callers.proofs.LinkRestarts.{anew-to-b, anew-to-a}
+use Rattle.ddcmp_callers.proofs.LinkRestarts.{anew-to-b, anew-to-a, anew-all-to-b, anew-all-to-a}
 use Rattle.ddcmp_pipe.specs.Sessions.{SessionCall, Typed, InputEnded, Connected, LineEnded}
 use Rattle.ddcmp_pipe.specs.Sessions.{Received, Filled, LineTook, TimedOut, Delivered, OutputTook}
 use Rattle.ddcmp_pipe.specs.Sessions.{Closed, SessionDoes, SessionHistory, SessionStep}
 use Rattle.ddcmp_pipe.specs.Sessions.{after_session_step, messages_of, mail_in, link_steps_of}
-use Rattle.ddcmp_pipe.specs.Sessions.{offers_of, frames_put}
+use Rattle.ddcmp_pipe.specs.Sessions.{after_connected}
+use Rattle.ddcmp_pipe.specs.Sessions.{offers_of, frames_put, texts_of}
 use Rattle.ddcmp_pipe.specs.Pipe.{Made, links_made, steps_at_end}
 use Rattle.ddcmp_pipe.specs.Connections.{Connection, first_connection, begun_anew, after_call}
 use Rattle.ddcmp_pipe.specs.Connections.{after_step, Does, Connections, first_connections, at}
 use Rattle.ddcmp_pipe.specs.Connections.{after_step_at, AreCalls, after_steps, link_steps}
-use Rattle.ddcmp_pipe.specs.Connections.{read_since, delivered_since, PipesAnew, IsKeptAnew}
+use Rattle.ddcmp_pipe.specs.Connections.{read_since, delivered_since, PipesAnew, PipesAllAnew}
+use Rattle.ddcmp_pipe.specs.Connections.{WritesAnew, IsKeptAnew}
 use Rattle.ddcmp_pipe.proofs.Holding.{Holds, link_history, parts, session_parts}
+use Rattle.ddcmp_pipe.proofs.Outcomes.{binary_more, last_true}
+use Rattle.ddcmp_pipe.proofs.Texts.{only_mail}
 use Rattle.ddcmp_pipe.proofs.LinkSteps.{begins, step_leads, link_only, same_link, with_line}
 use Rattle.ddcmp_pipe.proofs.LinkSteps.{holds_with_line}
 
@@ -236,11 +244,7 @@ none_since a = sym (append-nil a) ∙ ap (λ x. a ++ x) (sym (all_left_out a))
 
 -- a call that does
 begins_anew : (made : Made) (new : SessionView) (c : Connection) (k : ℕ)
-    → new
-    ≡ record c.history.session {
-      link = anew new.link.station.line c.history.session.link;
-      has_line = true;
-    }
+    → new ≡ after_connected new.link.station.line c.history.session
     → Stays made c
     → Follows made (link_steps_of Connected c.history.session new.link) c k
     (after_step (record { call = Connected; session = new }) c)
@@ -249,6 +253,7 @@ begins_anew made new c k is stays =
     let f = made.form in
     let max = made.config.max in
     let h = c.history in
+    let b = is_ok (answer_to_start (after_halt h.session.link.station.core.station)) in
     let input = messages_of f max (h.input ++ []) in
     let mail = mail_in (h.shown ++ []) in (
       (ap (λ (x : SessionView). x.link) is, tt),
@@ -258,8 +263,10 @@ begins_anew made new c k is stays =
       ),
       record {
         holds =
-            link_only f max (with_line h) new [] [] (holds_with_line f max h stays.holds)
-            (same_link (with_line h).session new (anew new.link.station.line h.session.link) is)
+            link_only f max (with_line b None h) new [] []
+            (holds_with_line f max b None h stays.holds)
+            (same_link (with_line b None h).session new
+            (anew new.link.station.line h.session.link) is)
             (ap (λ (x : SessionView). x.link.station.core.limits.longest) is);
         read = none_since input;
         delivered = none_since mail;
@@ -350,6 +357,8 @@ Keeps first second steps p j k =
     × ((m : ℕ) × (n : ℕ)
     × (after_links (link_steps steps p) (both first second p j k)
     ≡ both first second (after_steps steps p) m n))
+    × Stays first (after_steps steps p).a
+    × Stays second (after_steps steps p).b
 
 abbrev StepKeeps : Made → Made → End → SessionStep → List (End × SessionStep) → Connections → ℕ → ℕ
     → Type 0
@@ -364,11 +373,13 @@ StepKeeps first second end one rest p j k =
     (link_steps_of one.call (at end p).history.session one.session.link)
     ++ link_steps rest (after_step_at end one p)) (both first second p j k)
     ≡ both first second (after_steps rest (after_step_at end one p)) m n))
+    × Stays first (after_steps rest (after_step_at end one p)).a
+    × Stays second (after_steps rest (after_step_at end one p)).b
 
 keeps_steps : (first second : Made) (steps : List (End × SessionStep)) (p : Connections) (j k : ℕ)
     → AreCalls steps p → Stays first p.a → Stays second p.b → Keeps first second steps p j k
 unfolding link_steps after_links after_steps
-keeps_steps first second [] p j k does sa sb = (tt, (j, k, refl))
+keeps_steps first second [] p j k does sa sb = (tt, (j, k, refl), sa, sb)
 keeps_steps first second (step ∷ rest) p j k does sa sb =
     by step.0 step.1 does.0
     (λ m n. keeps_steps first second rest (after_step_at step.0 step.1 p) m n does.1)
@@ -393,6 +404,8 @@ keeps_steps first second (step ∷ rest) p j k does sa sb =
             r.1.1,
             t.1 ∙ ap (λ l. after_links ys (record { a = l; b = q.b })) s.1.1 ∙ r.1.2,
           ),
+          r.2,
+          r.3,
         )
     by B one d more =
         let s = follows second one p.b k d sb in
@@ -408,7 +421,19 @@ keeps_steps first second (step ∷ rest) p j k does sa sb =
             r.1.1,
             t.1 ∙ ap (λ l. after_links ys (record { a = q.a; b = l })) s.1.1 ∙ r.1.2,
           ),
+          r.2,
+          r.3,
         )
+
+-- ---- its output
+
+writes_anew : (made : Made) (c : Connection) → Stays made c → WritesAnew made c
+writes_anew made c s is =
+    s.holds.text
+    ∙ ap (λ f. texts_of f c.history.shown) is
+    ∙ only_mail c.history.shown
+    ∙ ap in_binary s.delivered
+    ∙ binary_more (mail_in c.shown_before) (delivered_since c)
 
 -- ---- from two new sessions
 
@@ -491,3 +516,31 @@ module _ (first second : Made) (steps : List (End × SessionStep))
       (subst (λ q. LinkReaches q.b q.a) done
       (anew-to-a first.config second.config first.milliseconds second.milliseconds first.line
       second.line (link_steps steps (first_connections first second)) f g are honest clean))
+
+  pub pipes_all_anew_b
+      : PipesAllAnew first (after_steps steps (first_connections first second)).a
+      (after_steps steps (first_connections first second)).b
+  pipes_all_anew_b over =
+      let s = (after_steps steps (first_connections first second)).a.history.session in
+      subst (λ (q : Links). delivered q.a.link ≡ true → received q.b ≡ q.a.accepted) done
+      (anew-all-to-b first.config second.config first.milliseconds second.milliseconds first.line
+      second.line (link_steps steps (first_connections first second)) f g are honest clean)
+      (last_true s.is_read (delivered s.link) over)
+
+  pub pipes_all_anew_a
+      : PipesAllAnew second (after_steps steps (first_connections first second)).b
+      (after_steps steps (first_connections first second)).a
+  pipes_all_anew_a over =
+      let s = (after_steps steps (first_connections first second)).b.history.session in
+      subst (λ (q : Links). delivered q.b.link ≡ true → received q.a ≡ q.b.accepted) done
+      (anew-all-to-a first.config second.config first.milliseconds second.milliseconds first.line
+      second.line (link_steps steps (first_connections first second)) f g are honest clean)
+      (last_true s.is_read (delivered s.link) over)
+
+  pub writes_anew_a : WritesAnew first (after_steps steps (first_connections first second)).a
+  writes_anew_a =
+      writes_anew first (after_steps steps (first_connections first second)).a keeps.2
+
+  pub writes_anew_b : WritesAnew second (after_steps steps (first_connections first second)).b
+  writes_anew_b =
+      writes_anew second (after_steps steps (first_connections first second)).b keeps.3

@@ -1,7 +1,9 @@
 -- The calls of a session are calls of its link, and the histories of both keep together.
 use Rattle.std.proofs.Common.{◌≡◌, ℕ, Bool, true, false, cond, List, [], ◌∷◌}
 use Rattle.std.proofs.Common.{◌++◌, length, map, take, refl, sym, ◌∙◌, ap}
-use Rattle.std.proofs.Common.{append-nil, option_to_list}
+use Rattle.std.proofs.Common.{append-nil, option_to_list, Option, None}
+use Rattle.std.specs.Prelude.{is_ok}
+use Rattle.ddcmp_core.specs.Table.{after_halt, answer_to_start}
 use Rattle.ddcmp_frame.specs.Reader.{ReaderView}
 use Rattle.ddcmp_window.specs.Store.{first_message}
 use Rattle.ddcmp_input.specs.declared.entry.Entry.{Entry}
@@ -22,7 +24,7 @@ use Rattle.ddcmp_session.specs.Messages.{message_in, after_input, entries_of_inp
 use Rattle.ddcmp_session.specs.Messages.{after_last, entry_of_last}
 use Rattle.ddcmp_session.specs.Session.{SessionView, form_of, wants_input}
 use Rattle.ddcmp_session.specs.Session.{after_last_line, after_unfinished, after_input_end}
-use Rattle.ddcmp_session.specs.Session.{lost_by_end}
+use Rattle.ddcmp_session.specs.Session.{lost_by_end, pause_at}
 use Rattle.ddcmp_session.specs.Text.{reported_lost, mail_text, notices_text}
 use Rattle.ddcmp_callers.specs.Links.{LinkCall, BeginsAnew, Halts, Wakes, IsSent, Feeds}
 use Rattle.ddcmp_callers.specs.Links.{Takes, HasDone, new_history}
@@ -282,13 +284,14 @@ closed_step f max h r new k holds d =
     no : {P : Type 0} → true ≡ false → P
     no e = cc
 
--- a session that has a line
-abbrev pub with_line : SessionHistory → SessionHistory
-with_line h = record h { session = record h.session { has_line = true } }
+-- a session that has a line, or none, and such a pause
+abbrev pub with_line : Bool → Option ℕ → SessionHistory → SessionHistory
+with_line has_line pause h =
+    record h { session = record h.session { has_line = has_line; pause = pause } }
 
-pub holds_with_line : (f : Form) (max : ℕ) (h : SessionHistory) → Holds f max h
-    → Holds f max (with_line h)
-holds_with_line f max h k =
+pub holds_with_line : (f : Form) (max : ℕ) (b : Bool) (p : Option ℕ) (h : SessionHistory)
+    → Holds f max h → Holds f max (with_line b p h)
+holds_with_line f max b p h k =
     record { kind = k.kind; longest = k.longest; reads = k.reads; text = k.text }
 
 pub step_leads : (f : Form) (max : ℕ) (step : SessionStep) (h : SessionHistory) (k : ℕ)
@@ -305,19 +308,23 @@ step_leads f max step h k does holds = by step.call step.session does
         (typed_reads f max h used new holds d)
     by InputEnded new d = ended_step f max h new k holds d
     by Connected new d =
-        link_step_leads f max (with_line h) new k BeginsAnew (h.used ++ []) (h.gone ++ [])
-        (anew new.link.station.line h.session.link) (holds_with_line f max h holds) d.0
+        let b = is_ok (answer_to_start (after_halt h.session.link.station.core.station)) in
+        link_step_leads f max (with_line b None h) new k BeginsAnew (h.used ++ []) (h.gone ++ [])
+        (anew new.link.station.line h.session.link) (holds_with_line f max b None h holds) d.0
         (ap (λ (x : SessionView). x.link) d.0, d.1, d.2) refl refl refl
     by (LineEnded r) new d = left_step f max h r new k holds d
     by (Received used) new d = received_step f max h new k used holds d
-    by (Filled frames) new d = filled_step f max h new k frames holds d
+    by (Filled frames) new d = filled_step f max h new k frames holds d.0
     by (LineTook n) new d =
         link_step_leads f max h new k (IsSent n) (h.used ++ [])
         (h.gone ++ take n h.session.link.outbox.waiting) (after_sent n h.session.link) holds d
         (ap (λ (x : SessionView). x.link) d) refl refl refl
     by (TimedOut now) new d =
-        link_step_leads f max h new k (Wakes now) (h.used ++ []) (h.gone ++ [])
-        (after_wake now h.session.link) holds d (ap (λ (x : SessionView). x.link) d)
+        let b = h.session.has_line in
+        let p = pause_at now h.session.pause in
+        link_step_leads f max (with_line b p h) new k (Wakes now) (h.used ++ []) (h.gone ++ [])
+        (after_wake now h.session.link) (holds_with_line f max b p h holds) d
+        (ap (λ (x : SessionView). x.link) d)
         (wake_longest now h.session.link) refl refl
     by (Delivered true) new d = delivered_step f max h new k holds d
     by (Delivered false) new d =

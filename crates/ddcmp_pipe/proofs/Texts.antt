@@ -1,5 +1,6 @@
 -- The text of what a session delivered and reported.
-use Rattle.std.proofs.Common.{◌≡◌, ℕ, Bool, true, false, length, arith, List, [], ◌∷◌, ◌++◌, map, take, drop}
+use Rattle.std.proofs.Common.{◌≡◌, ℕ, Bool, true, false, length, arith, List, [], ◌∷◌, ◌++◌, map}
+use Rattle.std.proofs.Common.{take, drop}
 use Rattle.std.proofs.Common.{refl, sym, ◌∙◌, ap, append_assoc, append-nil, Option, Some}
 use Rattle.std.proofs.Common.{option_to_list}
 use Rattle.std.proofs.lemmas.List.{take-append-drop}
@@ -86,6 +87,8 @@ pub keeps : (old new : QueueView) → new ≡ old → Wrote [] old new
 keeps old new same = record {
   waiting = ap (λ (q : QueueView). q.waiting) same ∙ sym (append-nil old.waiting);
   room = omega (arith, ap (λ (q : QueueView). q.room) same);
+  size = ap (λ (q : QueueView). q.size) same;
+  is_cut = ap (λ (q : QueueView). q.is_cut) same;
 }
 
 pub took : (f : Form) (written : List ℕ) (n : ℕ) (shown : List Shown) (old new : QueueView)

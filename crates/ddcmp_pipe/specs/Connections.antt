@@ -2,19 +2,20 @@
 -- connected last.
 use Rattle.std.specs.Prelude.{◌≡◌, ℕ, true, List, [], ◌∷◌, ◌++◌, length, drop, None}
 use Rattle.ddcmp_proto.specs.Config.{first_refusal}
-use Rattle.ddcmp_station.specs.Linking.{anew}
 use Rattle.ddcmp_run.specs.declared.event.End.{End}
 use Rattle.ddcmp_run.specs.declared.event.End.TheVariants.{A, B}
 use Rattle.ddcmp_run.specs.Prefix.{IsPrefixOf}
 use Rattle.ddcmp_run.specs.Run.{new_pair, is_clean}
-use Rattle.ddcmp_session.specs.Session.{SessionView}
+use Rattle.ddcmp_input.specs.InBinary.{in_binary}
+use Rattle.ddcmp_session.specs.declared.messages.Form.TheVariants as form
+use Rattle.ddcmp_session.specs.Session.{SessionView, is_delivered}
 use Rattle.ddcmp_callers.specs.Links.{LinkStep}
 use Rattle.ddcmp_callers.specs.LinkRestarts.{calls_of_links}
 use Rattle.ddcmp_callers.specs.StationRuns.{run_station_calls}
 use Rattle.ddcmp_pipe.specs.Sessions.{SessionCall, Connected as ConnectedCall, SessionDoes}
 use Rattle.ddcmp_pipe.specs.Sessions.{SessionHistory, SessionStep, after_session_step, Shown}
-use Rattle.ddcmp_pipe.specs.Sessions.{messages_of, mail_in, link_steps_of}
-use Rattle.ddcmp_pipe.specs.Pipe.{Made, session_of, links_made, steps_at_end}
+use Rattle.ddcmp_pipe.specs.Sessions.{after_connected, messages_of, mail_in, link_steps_of}
+use Rattle.ddcmp_pipe.specs.Pipe.{Made, session_of, links_made, steps_at_end, undelivered}
 
 -- The history of a session, in which the bytes of the line are those of its last connection; and
 -- the input and the output that it had had before that.
@@ -44,7 +45,7 @@ after_step step c = after_call step.call (after_session_step step c.history) c
 -- What the contract of each call says that it does; `connected` does it on any line.
 abbrev pub Does : SessionCall → List ℕ → SessionView → SessionView → Type 0
 Does ConnectedCall text old new =
-    new ≡ record old { link = anew new.link.station.line old.link; has_line = true }
+    new ≡ after_connected new.link.station.line old
 Does call text old new = SessionDoes call text old new
 
 -- both ends
@@ -96,6 +97,19 @@ delivered_since c = drop (length (mail_in c.shown_before)) (mail_in c.history.sh
 -- input of the other has had since that one was, in their order, each once and unchanged.
 abbrev pub PipesAnew : Made → Connection → Connection → Type 0
 PipesAnew made giver taker = IsPrefixOf (delivered_since taker) (read_since made giver)
+
+-- If one session may end as delivered, the other has received all of the messages that its input has
+-- had since: these, and no others.
+abbrev pub PipesAllAnew : Made → Connection → Connection → Type 0
+PipesAllAnew made giver taker = is_delivered giver.history.session ≡ true
+    → delivered_since taker ++ undelivered taker.history ≡ read_since made giver
+
+-- In binary, what the output took and what waits for it is what it had of messages before, and then
+-- those that were delivered since.
+abbrev pub WritesAnew : Made → Connection → Type 0
+WritesAnew made c = made.form ≡ form.Binary
+    → c.history.written ++ c.history.session.output.waiting
+    ≡ in_binary (mail_in c.shown_before) ++ in_binary (delivered_since c)
 
 -- A promise about two sessions is kept however often they are connected: it holds for two new
 -- sessions of any sizes in range, whatever the calls, the moments and the cuts, if the line is

@@ -2,3 +2,4 @@ pub mod Sessions
 pub mod Pipe
 pub mod PipeStory
 pub mod Connections
+pub mod AnewStory

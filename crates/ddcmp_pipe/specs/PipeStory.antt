@@ -4,21 +4,22 @@ use Rattle.ddcmp_frame.specs.Reader.{ReaderView}
 use Rattle.ddcmp_input.specs.InBinary.{behind_length}
 use Rattle.ddcmp_core.specs.Table.{after_halt}
 use Rattle.ddcmp_proto.specs.Bytes.{after_piece}
-use Rattle.ddcmp_station.specs.Linking.{with_state, anew, after_frames, after_sent, after_wake}
+use Rattle.ddcmp_station.specs.Linking.{with_state, after_frames, after_sent, after_wake}
 use Rattle.ddcmp_station.specs.Linking.{after_taking}
 use Rattle.ddcmp_run.specs.declared.event.End.{End}
 use Rattle.ddcmp_run.specs.declared.event.End.TheVariants.{A, B}
 use Rattle.ddcmp_session.specs.declared.messages.Form.TheVariants as form
 use Rattle.ddcmp_io.specs.Queue.{after_pushed, after_taken}
 use Rattle.ddcmp_session.specs.Session.{SessionView, form_of, after_typed, after_input_end}
-use Rattle.ddcmp_session.specs.Session.{is_delivered}
+use Rattle.ddcmp_session.specs.Session.{is_delivered, pause_at}
 use Rattle.ddcmp_laws.specs.Story.{strt_bytes, stack_bytes, first_bytes, ack_1_bytes}
 use Rattle.ddcmp_laws.specs.Vectors.{abc}
 use Rattle.ddcmp_callers.specs.LinkStory.{small}
 use Rattle.ddcmp_pipe.specs.Sessions.{SessionCall, Typed, InputEnded, Connected, LineEnded}
 use Rattle.ddcmp_pipe.specs.Sessions.{Received}
 use Rattle.ddcmp_pipe.specs.Sessions.{Filled, LineTook, TimedOut, Delivered, OutputTook, Closed}
-use Rattle.ddcmp_pipe.specs.Sessions.{SessionHistory, SessionStep, shown_in, texts_of}
+use Rattle.ddcmp_pipe.specs.Sessions.{SessionHistory, SessionStep, after_connected, shown_in}
+use Rattle.ddcmp_pipe.specs.Sessions.{texts_of}
 use Rattle.ddcmp_pipe.specs.Pipe.{Made, Sessions, new_sessions, session_at, after_session_at}
 
 -- what is written of a call
@@ -32,8 +33,7 @@ after_shown call h s = record s {
 abbrev pub session_after : SessionCall → SessionHistory → SessionView
 session_after (Typed used) h = after_typed used h.session
 session_after InputEnded h = after_input_end h.session
-session_after Connected h =
-    record h.session { link = anew h.session.link.station.line h.session.link; has_line = true }
+session_after Connected h = after_connected h.session.link.station.line h.session
 session_after (LineEnded r) h = after_shown (LineEnded r) h
     (record h.session {
       link = with_state (after_halt h.session.link.station.core.station) h.session.link;
@@ -50,7 +50,10 @@ session_after (Received used) h = after_shown (Received used) h
 session_after (Filled frames) h =
     record h.session { link = after_frames frames h.session.link }
 session_after (LineTook n) h = record h.session { link = after_sent n h.session.link }
-session_after (TimedOut now) h = record h.session { link = after_wake now h.session.link }
+session_after (TimedOut now) h = record h.session {
+  link = after_wake now h.session.link;
+  pause = pause_at now h.session.pause;
+}
 session_after (Delivered true) h = after_shown (Delivered true) h
     (record h.session { link = after_taking h.session.link })
 session_after (Delivered false) h = h.session

@@ -1,9 +1,9 @@
 -- Sessions as callers of their links: what each call of a session does, which calls of its link it
 -- makes, and the history of a session.
-use Rattle.std.specs.Prelude.{◌≡◌, ℕ, zero, suc, Bool, true, false, if◌then◌else◌, List, [], ◌∷◌}
-use Rattle.std.specs.Prelude.{◌++◌, length, map, take, Some, option_to_list}
+use Rattle.std.specs.Prelude.{◌≡◌, ◌⊎◌, ℕ, zero, suc, Bool, true, false, if◌then◌else◌, List, []}
+use Rattle.std.specs.Prelude.{◌∷◌, ◌++◌, length, map, take, None, Some, is_ok, option_to_list}
 use Rattle.ddcmp_window.specs.Store.{first_message}
-use Rattle.ddcmp_core.specs.Table.{after_halt}
+use Rattle.ddcmp_core.specs.Table.{after_halt, answer_to_start}
 use Rattle.ddcmp_core.specs.declared.notice.Notice.{Notice}
 use Rattle.ddcmp_frame.specs.Reader.{ReaderView}
 use Rattle.ddcmp_input.specs.declared.entry.Entry.{Entry}
@@ -24,8 +24,8 @@ use Rattle.ddcmp_session.specs.Messages.{message_in, after_input, entries_of_inp
 use Rattle.ddcmp_session.specs.Messages.{entry_of_last}
 use Rattle.ddcmp_io.specs.Queue.{after_taken}
 use Rattle.ddcmp_session.specs.Session.{SessionView, session_made, form_of, wants_input}
-use Rattle.ddcmp_session.specs.Session.{after_typed, lost_by_end}
-use Rattle.ddcmp_session.specs.Session.{after_input_end}
+use Rattle.ddcmp_session.specs.Session.{after_typed, after_input_end, lost_by_end, pause_at}
+use Rattle.ddcmp_session.specs.Session.{IsFilled}
 use Rattle.ddcmp_session.specs.Text.{Wrote, mail_text, notice_text, notices_text, lost_text}
 use Rattle.ddcmp_session.specs.Text.{reported_lost}
 use Rattle.ddcmp_callers.specs.Links.{LinkCall, BeginsAnew, Halts, Wakes, Offers, FillsOne, IsSent}
@@ -33,7 +33,8 @@ use Rattle.ddcmp_callers.specs.Links.{Feeds, Takes, HasFed, LinkStep, LinkHistor
 
 -- A call of a session, by its name: with the bytes of its input or of its line that it used, how
 -- many frames it put, how many bytes a device took, the moment that it was passed, or whether it
--- delivered a message. Other calls change nothing of a session's view.
+-- delivered a message. Of the other calls `write_end` appends the last lines of a run to an output of
+-- lines; they change nothing else of a session's view.
 pub data SessionCall : Type 0 where
   Typed : (used : List ℕ) → SessionCall
   InputEnded : SessionCall
@@ -64,12 +65,17 @@ pub record HasWritten (text : List ℕ) (old new : SessionView) : Type 0 where
   pub wrote : Wrote text old.output new.output
   pub stays : new ≡ record old { output = new.output }
 
--- bytes of the line were used, where this text came before, and their notices written
+-- Bytes of the line were used, where this text came before, and their notices written. No pause begins
+-- but by a NAK.
 pub record HasReceived (text used : List ℕ) (old new : SessionView) : Type 0 where
   pub fed : HasFed text used old.link new.link
   pub wrote : Wrote (notices_text (form_of old.messages)
       (notices_of_piece text used old.link.station.core)) old.output new.output
-  pub stays : new ≡ record old { link = new.link; output = new.output }
+  pub pauses : new.link.station.core.counters.nak_received
+      ≡ old.link.station.core.counters.nak_received
+      → (new.pause ≡ None) ⊎ (new.pause ≡ old.pause)
+  pub stays : new
+      ≡ record old { link = new.link; pause = new.pause; output = new.output }
 
 -- the first received message was taken and written
 pub record HasDelivered (old new : SessionView) : Type 0 where
@@ -101,20 +107,29 @@ pub record HasClosed (is_reported : Bool) (old new : SessionView) : Type 0 where
     output = new.output;
   }
 
+-- A session was connected, and starts if all received messages were delivered.
+abbrev pub after_connected : ReaderView → SessionView → SessionView
+after_connected line s = record s {
+  link = anew line s.link;
+  has_line = is_ok (answer_to_start (after_halt s.link.station.core.station));
+  pause = None;
+}
+
 -- `connected` clears the line: here it begins on a line that is clear.
 abbrev pub SessionDoes : SessionCall → List ℕ → SessionView → SessionView → Type 0
 SessionDoes (Typed used) text old new = HasTyped used old new
 SessionDoes InputEnded text old new = new ≡ after_input_end old
 SessionDoes Connected text old new =
-    (new ≡ record old { link = anew new.link.station.line old.link; has_line = true })
+    (new ≡ after_connected new.link.station.line old)
     × (text ≡ [])
     × (old.link.outbox.waiting ≡ [])
 SessionDoes (LineEnded is_reported) text old new = HasLeft is_reported old new
 SessionDoes (Received used) text old new = HasReceived text used old new
 SessionDoes (Filled frames) text old new =
-    new ≡ record old { link = after_frames frames old.link }
+    (new ≡ record old { link = after_frames frames old.link }) × IsFilled new
 SessionDoes (LineTook n) text old new = new ≡ record old { link = after_sent n old.link }
-SessionDoes (TimedOut now) text old new = new ≡ record old { link = after_wake now old.link }
+SessionDoes (TimedOut now) text old new =
+    new ≡ record old { link = after_wake now old.link; pause = pause_at now old.pause }
 SessionDoes (Delivered true) text old new = HasDelivered old new
 SessionDoes (Delivered false) text old new = HasWritten [] old new
 SessionDoes (OutputTook n) text old new = new ≡ record old { output = after_taken n old.output }

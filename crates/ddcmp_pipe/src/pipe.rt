@@ -1,15 +1,19 @@
 //! Two sessions as pipes, over a line that may lose, cut and damage what it carries.
 ghost use Rattle.std.specs.Prelude.{◌≡◌, true};
 ghost use Rattle.ddcmp_frame.specs.Reader.{ReaderView};
-ghost use Rattle.ddcmp_run.specs.Run.{new_pair};
+ghost use Rattle.ddcmp_run.specs.Run.{is_clean, new_pair};
 ghost use Rattle.ddcmp_callers.specs.Calls.{run_calls};
 ghost use Rattle.ddcmp_callers.specs.LinkLines.{calls_of_steps};
+ghost use Rattle.ddcmp_callers.specs.LinkRestarts.{calls_of_links};
 ghost use Rattle.ddcmp_callers.specs.LinkStory.{small};
+ghost use Rattle.ddcmp_callers.specs.StationRuns.{run_station_calls};
 ghost use Rattle.ddcmp_pipe.specs.Pipe.{IsKeptByPipes, Pipes, PipesAll, PipesBytes, PipesWhole};
 ghost use Rattle.ddcmp_pipe.specs.Pipe.{IsKeptOverConnections, SessionsOverStreams};
 ghost use Rattle.ddcmp_pipe.specs.Pipe.{AreConnectedOnce, link_steps_at, links_made};
 ghost use Rattle.ddcmp_pipe.specs.Pipe.{after_sessions};
-ghost use Rattle.ddcmp_pipe.specs.Connections.{IsKeptAnew, PipesAnew};
+ghost use Rattle.ddcmp_pipe.specs.AnewStory.{HasComeThroughAnew, small_connections, steps_anew};
+ghost use Rattle.ddcmp_pipe.specs.Connections.{AreCalls, after_steps, link_steps};
+ghost use Rattle.ddcmp_pipe.specs.Connections.{IsKeptAnew, PipesAllAnew, PipesAnew, WritesAnew};
 ghost use Rattle.ddcmp_pipe.specs.PipeStory.{small_made, small_sessions, pipe_steps};
 ghost use Rattle.ddcmp_pipe.specs.PipeStory.{HasComeThrough};
 
@@ -62,11 +66,16 @@ pub fn pipe_over_connections()
 /// Two new sessions that are connected as often as their users like, over an honest line, in a
 /// clean run: the messages that each has delivered since it was connected last are the first of
 /// those that the other's input has had since that one was, in their order, each once and
-/// unchanged. When a session that is connected again keeps the line honest and the run clean is
+/// unchanged; and if one may end as delivered, the other has received all of them. In binary they
+/// stand in its output after the messages that it had had before. When a session that is connected again keeps the line honest and the run clean is
 /// said by `ddcmp_callers::link_restarts`.
 pub fn pipe_anew()
     ensures to_b { IsKeptAnew (λ first second p. PipesAnew first p.a p.b) }
     ensures to_a { IsKeptAnew (λ first second p. PipesAnew second p.b p.a) }
+    ensures all_to_b { IsKeptAnew (λ first second p. PipesAllAnew first p.a p.b) }
+    ensures all_to_a { IsKeptAnew (λ first second p. PipesAllAnew second p.b p.a) }
+    ensures bytes_at_a { IsKeptAnew (λ first second p. WritesAnew first p.a) }
+    ensures bytes_at_b { IsKeptAnew (λ first second p. WritesAnew second p.b) }
 {}
 
 /// Two sessions through which a message comes, so that no law above holds because nothing can
@@ -87,4 +96,26 @@ pub fn a_message_comes_through()
     ensures ends { (line other_line : ReaderView)
         → HasComeThrough
         (after_sessions (pipe_steps line other_line) (small_sessions line other_line)) }
+{}
+
+/// Two sessions that are connected twice, and a message that comes through over their second line,
+/// so that the law of sessions that are connected again doesn't hold because nothing can happen.
+pub fn a_message_comes_through_anew()
+    ensures calls { (line other_line : ReaderView)
+        → AreCalls (steps_anew line other_line) (small_connections line other_line) }
+    ensures honest { (line other_line : ReaderView)
+        → (run_station_calls
+        (calls_of_links
+        (link_steps (steps_anew line other_line) (small_connections line other_line))
+        (links_made (small_made line) (small_made other_line)))
+        (new_pair small small)).honest ≡ true }
+    ensures clean { (line other_line : ReaderView)
+        → is_clean (run_station_calls
+        (calls_of_links
+        (link_steps (steps_anew line other_line) (small_connections line other_line))
+        (links_made (small_made line) (small_made other_line)))
+        (new_pair small small)) ≡ true }
+    ensures ends { (line other_line : ReaderView)
+        → HasComeThroughAnew line
+        (after_steps (steps_anew line other_line) (small_connections line other_line)) }
 {}

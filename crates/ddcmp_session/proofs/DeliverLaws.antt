@@ -26,11 +26,12 @@ taken (Some message) n old new is put = (
 -- The text of what was taken, written after room was made.
 pub delivers : (form : Form) (f : Option (List ℕ)) (n : ℕ) (mail out : List ℕ)
     (old settled new : QueueView) → Some n ≡ option_map length f → out ≡ with_front f mail
-    → settled.waiting ≡ old.waiting → old.room ≤ settled.room
+    → settled.waiting ≡ old.waiting → old.room ≤ settled.room → settled.size ≡ old.size
+    → settled.is_cut ≡ old.is_cut
     → length (mail_text form (take n out)) ≤ settled.room
     → Puts (mail_text form (take n out)) settled new
     → (message : List ℕ) × (f ≡ Some message) × Wrote (mail_text form message) old new
-delivers form f n mail out old settled new is put same more fits puts =
+delivers form f n mail out old settled new is put same more size cut fits puts =
     let t = taken f n mail out is put in
     let w = writes (mail_text form (take n out)) settled new fits puts in
     let text = ap (mail_text form) t.2 in (
@@ -41,6 +42,8 @@ delivers form f n mail out old settled new is put same more fits puts =
             w.waiting ∙ ap (λ q. q ++ mail_text form (take n out)) same
             ∙ ap (λ m. old.waiting ++ m) text;
         room = omega (arith, w.room, more, ap length text);
+        size = w.size ∙ size;
+        is_cut = w.is_cut ∙ cut;
       },
     )
 

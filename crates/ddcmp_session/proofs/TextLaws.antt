@@ -50,10 +50,17 @@ writes text a b fits puts =
       waiting = ap (λ (q : QueueView). q.waiting) e;
       room =
           omega (arith, ap (λ (q : QueueView). q.room) e, fits);
+      size = ap (λ (q : QueueView). q.size) e;
+      is_cut = ap (λ (q : QueueView). q.is_cut) e;
     }
 
 pub nothing : (q : QueueView) → Wrote [] q q
-nothing q = record { waiting = sym (append-nil q.waiting); room = omega arith }
+nothing q = record {
+  waiting = sym (append-nil q.waiting);
+  room = omega arith;
+  size = refl;
+  is_cut = refl;
+}
 
 pub hex-short : (bytes : List ℕ) → length (encode_lower bytes) ≡ 2 * length bytes
 hex-short bytes = length-encode_with lower_digits bytes

@@ -1,12 +1,15 @@
 -- A session as its users see it, and what each call does.
-use Rattle.std.specs.Prelude.{ℕ, ◌+◌, ◌*◌, Bool, true, false, ◌&&◌, not, nat_le, if◌then◌else◌}
-use Rattle.std.specs.Prelude.{List, [], ◌∷◌, length, option_to_list}
+use Rattle.std.specs.Prelude.{◌≡◌, ◌⊎◌, ℕ, ◌+◌, ◌*◌, ◌<◌, Bool, true, false, ◌&&◌, not, nat_le}
+use Rattle.std.specs.Prelude.{if◌then◌else◌, List, [], ◌∷◌, length, Option, None, is_some}
+use Rattle.std.specs.Prelude.{option_to_list}
 use Rattle.ddcmp_core.specs.Table.{has_room}
 use Rattle.ddcmp_input.specs.declared.entry.Entry.{Entry}
 use Rattle.ddcmp_input.specs.declared.entry.Entry.TheVariants.{Message, NotHexadecimal}
 use Rattle.ddcmp_frame.specs.Reader.{ReaderView}
 use Rattle.ddcmp_proto.specs.declared.config.Config.{Config}
-use Rattle.ddcmp_station.specs.Linking.{LinkView, link_made, takes_message, after_offered, delivered}
+use Rattle.ddcmp_station.specs.Driving.{is_due}
+use Rattle.ddcmp_station.specs.Linking.{LinkView, link_made, takes_message, after_offered}
+use Rattle.ddcmp_station.specs.Linking.{delivered, puts_frame, carries_message}
 use Rattle.ddcmp_session.specs.declared.messages.Form.{Form}
 use Rattle.ddcmp_session.specs.declared.messages.Form.TheVariants as form
 use Rattle.ddcmp_session.specs.declared.messages.Messages.{Messages}
@@ -18,11 +21,13 @@ use Rattle.ddcmp_session.specs.Messages.{is_message_unfinished, is_question}
 use Rattle.ddcmp_session.specs.declared.session.TheConstants.{OUTPUT_ROOM}
 use Rattle.ddcmp_io.specs.Queue.{QueueView, no_bytes}
 
--- Its link, and whether that has a line; what was read of its input so far, whether all of it was,
--- and whether a part of it was no message; and what waits for standard output.
+-- Its link, whether that has a line, and until when its messages wait for the peer, if they do; what
+-- was read of its input so far, whether all of it was, and whether a part of it was no message; and
+-- what waits for standard output.
 pub record SessionView : Type 0 where
   pub link : LinkView
   pub has_line : Bool
+  pub pause : Option ℕ
   pub messages : Messages
   pub is_read : Bool
   pub was_refused : Bool
@@ -37,6 +42,7 @@ abbrev pub session_made : Form → Config → ℕ → ReaderView → SessionView
 session_made form config milliseconds line = record {
   link = link_made config milliseconds line;
   has_line = false;
+  pause = None;
   messages = messages_begun form config.max;
   is_read = false;
   was_refused = false;
@@ -87,6 +93,19 @@ wants_line s =
 -- a message of any length has room
 abbrev pub room_for_mail : SessionView → ℕ
 room_for_mail s = 2 * s.link.station.core.limits.longest + LINE_ROOM
+
+-- a pause ends when its moment has come
+abbrev pub pause_at : ℕ → Option ℕ → Option ℕ
+pause_at now pause = if is_due now pause then None else pause
+
+-- the next frame carries a message, and these wait for the peer
+abbrev pub is_paused : SessionView → Bool
+is_paused s = is_some s.pause && carries_message s.link
+
+-- something waits for the line, or there is no frame to put there, or only a message that waits
+abbrev pub IsFilled : SessionView → Type 0
+IsFilled s =
+    (0 < length s.link.outbox.waiting) ⊎ (puts_frame s.link ≡ false) ⊎ (is_paused s ≡ true)
 
 -- how many accepted messages are lost if the line ends
 abbrev pub lost_by_end : SessionView → ℕ

@@ -1,4 +1,7 @@
 //! When messages that the peer refuses are retransmitted.
+ghost use Rattle.std.specs.Prelude.{◌≡◌, ◌⊎◌, None};
+ghost use Rattle.ddcmp_session.specs.Session.{pause_at};
+
 use ddcmp_frame::Nak;
 use ddcmp_station::{Link, NakCounts};
 
@@ -10,7 +13,6 @@ use ddcmp_station::{Link, NakCounts};
 #[derive(Clone, Copy)]
 pub(crate) struct Pacing {
     timer_ms: u32,
-    refused: NakCounts,
     acknowledged: u64,
     /// Whether a NAK came since the last message was acknowledged.
     is_refused: bool,
@@ -20,26 +22,29 @@ pub(crate) struct Pacing {
 
 impl Pacing {
     /// Makes one for a link that has counted nothing.
-    pub(crate) fn new(timer_ms: u32, link: &Link) -> Pacing {
+    pub(crate) fn new(timer_ms: u32) -> Pacing
+        ensures { result.until ≡ None }
+    {
         Pacing {
             timer_ms,
-            refused: link.counters().nak_received,
             acknowledged: 0,
             is_refused: false,
             until: None,
         }
     }
 
-    /// Looks at what the link has counted since the last look: returns why the peer refuses
-    /// messages if these are to wait from now on.
-    pub(crate) fn note(&mut self, now: u64, link: &Link) -> Option<Nak> {
+    /// Looks at what the link has counted since the last look, when it had received these NAKs:
+    /// returns why the peer refuses messages if these are to wait from now on.
+    pub(crate) fn note(&mut self, now: u64, before: &NakCounts, link: &Link) -> Option<Nak>
+        ensures { before.now ≡ link.now.station.core.counters.nak_received
+            → (self.new.until ≡ None) ⊎ (self.new.until ≡ self.old.until) }
+    {
         let acknowledged = link.totals().acknowledged;
         if acknowledged != self.acknowledged {
             self.acknowledged = acknowledged;
-            self.begin_anew();
+            self.restart();
         }
-        let reason = refusal(&self.refused, &link.counters().nak_received)?;
-        self.refused = link.counters().nak_received;
+        let reason = refusal(before, &link.counters().nak_received)?;
         let waits = self.is_refused;
         self.is_refused = true;
         if !waits {
@@ -51,27 +56,40 @@ impl Pacing {
     }
 
     /// Lets messages go once their time has come.
-    pub(crate) fn wake(&mut self, now: u64) {
-        if self.until.unwrap_or(u64::MAX) <= now {
+    pub(crate) fn wake(&mut self, now: u64)
+        ensures { self.new.until ≡ pause_at now self.old.until }
+    {
+        if let Some(until) = self.until
+            && until <= now
+        {
             self.until = None;
         }
     }
 
     /// Restarts, since the line is another, or a message was acknowledged.
-    pub(crate) fn begin_anew(&mut self) {
+    pub(crate) fn restart(&mut self)
+        ensures { self.new.until ≡ None }
+    {
         self.is_refused = false;
         self.until = None;
     }
 
     /// Returns the moment until which messages wait, if they do.
-    pub(crate) fn until(&self) -> Option<u64> {
+    pub(crate) fn until(&self) -> Option<u64>
+        ensures { result ≡ self.now.until }
+    {
         self.until
     }
 }
 
 /// Returns the reason of a NAK that isn't a reply to REP and came between these two counts, if one
 /// did.
-fn refusal(before: &NakCounts, now: &NakCounts) -> Option<Nak> {
+fn refusal(before: &NakCounts, now: &NakCounts) -> Option<Nak>
+    ensures { before.now ≡ now.now → result ≡ None }
+{
+    if before == now {
+        return None;
+    }
     let counts = [
         (Nak::TooLong, before.too_long, now.too_long),
         (Nak::NoBuffer, before.no_buffer, now.no_buffer),

@@ -97,6 +97,7 @@ impl Model for Session {
     ghost view = { λ s. record {
       link = s.link;
       has_line = s.has_line;
+      pause = s.pacing.until;
       messages = s.messages;
       is_read = s.input_is_read;
       was_refused = s.was_refused;
@@ -221,7 +222,7 @@ impl Session {
         let Ok(mail) = Vec::from_elem(alloc, 0u8, max as usize) else {
             return Err(ConfigRefusal::Memory);
         };
-        let pacing = Pacing::new(options.timer_ms, &link);
+        let pacing = Pacing::new(options.timer_ms);
         Ok(Session {
             options,
             kind,

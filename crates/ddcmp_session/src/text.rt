@@ -1,7 +1,10 @@
 //! The text that a session writes.
-ghost use Rattle.std.specs.Prelude.{◌≡◌, ◌+◌, ◌*◌, ◌<◌, ◌≤◌, [], length};
+ghost use Rattle.std.specs.Prelude.{◌≡◌, ◌+◌, ◌*◌, ◌<◌, ◌≤◌, [], ◌++◌, length, decimal};
 ghost use Rattle.hex.specs.Hex.{encode_lower};
-ghost use Rattle.ddcmp_session.specs.Text.{Puts, mail_text, lost_line};
+ghost use Rattle.ddcmp_io.specs.Written.{HandsOver, output_of};
+ghost use Rattle.ddcmp_session.specs.Text.{Puts, mail_text, lost_line, totals_text, end_line};
+ghost use Rattle.ddcmp_session.specs.Text.{end_text};
+ghost use Rattle.ddcmp_station_text.specs.CountersText.{counters_line};
 ghost use Rattle.ddcmp_station_text.specs.StationText.{notice_line, number_text};
 
 use crate::messages::Form;
@@ -126,14 +129,45 @@ pub(crate) fn write_counters_line(out: &mut ByteQueue, link: &Link) {
     let _is_whole = page.flush(out);
 }
 
-/// Writes the state and the totals of a link, after its counters if these are asked for.
-pub(crate) fn write_end(out: &mut ByteQueue, link: &Link, counters: bool) {
-    if counters {
-        write_counters_line(out, link);
-    }
-    let mut page = Page::new();
-    write_totals(&mut page, out, link);
+/// Writes the line of the state and the totals of a link.
+fn write_end_line<W: Sink>(page: &mut Page, out: &mut W, link: &Link)
+    ensures { HandsOver (output_of W.broken W.contents out.old page.old)
+        (output_of W.broken W.contents out.new page.new) (end_line link.now) }
+{
+    write_totals(page, out, link);
     page.write(out, b"\n");
+}
+
+/// Writes the counters of a link, and then that line.
+fn write_counted_end<W: Sink>(page: &mut Page, out: &mut W, link: &Link)
+    ensures { HandsOver (output_of W.broken W.contents out.old page.old)
+        (output_of W.broken W.contents out.new page.new)
+        (counters_line [] link.now.station.core.counters ++ end_line link.now) }
+{
+    write_counters(page, out, b"", link.counters());
+    write_end_line(page, out, link);
+}
+
+/// Writes the line of the state and the totals of a link, after its counters if these are asked
+/// for.
+fn write_end_lines<W: Sink>(page: &mut Page, out: &mut W, link: &Link, counted: bool)
+    ensures { HandsOver (output_of W.broken W.contents out.old page.old)
+        (output_of W.broken W.contents out.new page.new) (end_text counted link.now) }
+{
+    if counted {
+        write_counted_end(page, out, link);
+    } else {
+        write_end_line(page, out, link);
+    }
+}
+
+/// Writes the last lines of a run.
+pub(crate) fn write_end<W: Sink>(out: &mut W, link: &Link, counted: bool)
+    ensures { HandsOver (output_of W.broken W.contents out.old [])
+        (output_of W.broken W.contents out.new []) (end_text counted link.now) }
+{
+    let mut page = Page::new();
+    write_end_lines(&mut page, out, link, counted);
     let _is_whole = page.flush(out);
 }
 
@@ -148,19 +182,25 @@ pub(crate) fn write_report(out: &mut ByteQueue, link: &Link, lost: u64) {
     let _is_whole = page.flush(out);
 }
 
-fn write_totals<W: Sink>(page: &mut Page, out: &mut W, link: &Link) {
+/// Writes the state and the totals of a link.
+fn write_totals<W: Sink>(page: &mut Page, out: &mut W, link: &Link)
+    ensures { HandsOver (output_of W.broken W.contents out.old page.old)
+        (output_of W.broken W.contents out.new page.new) (totals_text link.now) }
+{
     let totals = link.totals();
     page.write(out, b"state=");
     page.write(out, state_name(link.state()));
-    let numbers: [(&[u8], u64); 5] = [
-        (b" read=", totals.read),
-        (b" written=", totals.written),
-        (b" sent=", totals.sent),
-        (b" acknowledged=", totals.acknowledged),
-        (b" handed=", totals.handed),
-    ];
-    for (name, number) in numbers {
-        page.write(out, name);
-        write_number(page, out, number);
-    }
+    write_total(page, out, b" read=", totals.read);
+    write_total(page, out, b" written=", totals.written);
+    write_total(page, out, b" sent=", totals.sent);
+    write_total(page, out, b" acknowledged=", totals.acknowledged);
+    write_total(page, out, b" handed=", totals.handed);
+}
+
+fn write_total<W: Sink>(page: &mut Page, out: &mut W, name: &[u8], total: u64)
+    ensures { HandsOver (output_of W.broken W.contents out.old page.old)
+        (output_of W.broken W.contents out.new page.new) (name.now ++ decimal total) }
+{
+    page.write(out, name);
+    write_number(page, out, total);
 }

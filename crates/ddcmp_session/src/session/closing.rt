@@ -4,11 +4,12 @@ use crate::session::Session;
 use crate::text;
 
 impl Session {
-    ghost use Rattle.std.specs.Prelude.{◌≡◌, true, false};
+    ghost use Rattle.std.specs.Prelude.{◌≡◌, Bool, true, false};
+    ghost use Rattle.ddcmp_io.specs.Written.{HandsOver};
     ghost use Rattle.ddcmp_core.specs.Table.{after_halt};
     ghost use Rattle.ddcmp_station.specs.Linking.{with_state};
     ghost use Rattle.ddcmp_session.specs.Session.{form_of, lost_by_end, reports_loss};
-    ghost use Rattle.ddcmp_session.specs.Text.{Wrote, reported_lost};
+    ghost use Rattle.ddcmp_session.specs.Text.{Wrote, end_text, queued, reported_lost};
 
     /// Ends the run: halts the station. What was read of the input, and what was sent and isn't
     /// acknowledged, is lost: returns whether standard output had room to report that.
@@ -43,7 +44,13 @@ impl Session {
 
     /// Writes the state and the totals, after the counters if these are asked for: with messages in
     /// binary to standard error.
-    pub fn write_end(&mut self) {
+    pub fn write_end(&mut self)
+        ensures stays { self.new ≡ record self.old { output = self.new.output } }
+        ensures lines { form_of self.old.messages ≡ Form.Digits → (counted : Bool)
+            × HandsOver (queued self.old.output) (queued self.new.output)
+            (end_text counted self.old.link) }
+        ensures binary { form_of self.old.messages ≡ Form.Binary → self.new ≡ self.old }
+    {
         let counters = self.options.counters;
         match self.options.form {
             Form::Digits => text::write_end(&mut self.output, &self.link, counters),
@@ -52,7 +59,9 @@ impl Session {
     }
 
     /// Writes the last lines to standard error.
-    fn report_end(&mut self, counters: bool) {
+    fn report_end(&mut self, counters: bool)
+        ensures { self.new ≡ self.old }
+    {
         if counters && let Some(lines) = self.errors.last_line(text::END_ROOM) {
             text::write_counters_line(lines, &self.link);
         }

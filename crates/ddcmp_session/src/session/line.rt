@@ -3,17 +3,18 @@ use crate::messages::Form;
 use crate::session::Session;
 use crate::text;
 use crate::trace::Way;
-use ddcmp_station::{Notice, State};
+use ddcmp_station::{NakCounts, Notice, State};
 
 impl Session {
     ghost use Rattle.std.specs.Prelude.{◌≡◌, ◌+◌, ◌<◌, ◌≤◌, ℕ, List, [], ◌++◌, true, false, min};
-    ghost use Rattle.std.specs.Prelude.{length, take, is_ok, option_to_list};
+    ghost use Rattle.std.specs.Prelude.{◌⊎◌, length, take, is_ok, option_to_list, None};
     ghost use Rattle.ddcmp_frame.specs.Reader.{StandsFor};
     ghost use Rattle.ddcmp_core.specs.Table.{after_halt, answer_to_start};
     ghost use Rattle.ddcmp_proto.specs.Bytes.{after_piece, notices_of_piece};
     ghost use Rattle.ddcmp_station.specs.Linking.{anew, after_frame, after_frames, after_sent};
-    ghost use Rattle.ddcmp_station.specs.Linking.{countable, with_state};
+    ghost use Rattle.ddcmp_station.specs.Linking.{countable, puts_frame, with_state};
     ghost use Rattle.ddcmp_session.specs.Session.{form_of, lost_by_end, reports_loss, wants_line};
+    ghost use Rattle.ddcmp_session.specs.Session.{IsFilled, is_paused};
     ghost use Rattle.ddcmp_session.specs.Text.{Wrote, notice_text, notices_text, reported_lost};
     ghost use Rattle.ddcmp_session.specs.declared.text.TheConstants.{LINE_ROOM};
 
@@ -23,19 +24,20 @@ impl Session {
         ensures state { self.new
             ≡ record self.old {
               link = anew self.new.link.station.line self.old.link;
-              has_line = true;
+              has_line = result;
+              pause = None;
             } }
         ensures cleared { StandsFor self.new.link.station.line [] }
         ensures answer { result
             ≡ is_ok (answer_to_start (after_halt self.old.link.station.core.station)) }
     {
-        self.has_line = true;
         self.peer_has_started = false;
         self.has_run_here = false;
         self.peer_restarted = false;
-        self.pacing.begin_anew();
+        self.pacing.restart();
         self.patience.restart();
-        self.link.begin_anew().is_ok()
+        self.has_line = self.link.begin_anew().is_ok();
+        self.has_line
     }
 
     /// Takes the end of the line and halts the station: what was sent and not acknowledged is lost.
@@ -128,30 +130,40 @@ impl Session {
             → Wrote (notices_text (form_of self.old.messages)
             (notices_of_piece text (take result bytes.now) self.old.link.station.core))
             self.old.output self.new.output }
+        // No pause begins but by a NAK.
+        ensures pauses { self.new.link.station.core.counters.nak_received
+            ≡ self.old.link.station.core.counters.nak_received
+            → (self.new.pause ≡ None) ⊎ (self.new.pause ≡ self.old.pause) }
         ensures syn { self.new.link.station.syn ≡ self.old.link.station.syn }
         ensures link { self.new.link ≡ record self.old.link {
           station = self.new.link.station;
           totals = self.new.link.totals;
         } }
-        ensures stays { self.new
-            ≡ record self.old { link = self.new.link; output = self.new.output } }
+        ensures stays { self.new ≡ record self.old {
+          link = self.new.link;
+          pause = self.new.pause;
+          output = self.new.output;
+        } }
     {
         if !self.wants_line() {
             return 0;
         }
+        let before = self.link.counters().nak_received;
         let fed = self.link.feed(bytes);
-        self.note();
+        self.note(&before);
         if let Some(notice) = fed.notice {
             self.report_notice(notice);
         }
         fed.used
     }
 
-    /// Looks at what the bytes that were fed have done.
-    fn note(&mut self)
-        ensures { self.new ≡ self.old }
+    /// Looks at what the bytes that were fed have done, before which these NAKs had come.
+    fn note(&mut self, before: &NakCounts)
+        ensures pauses { before.now ≡ self.old.link.station.core.counters.nak_received
+            → (self.new.pause ≡ None) ⊎ (self.new.pause ≡ self.old.pause) }
+        ensures stays { self.new ≡ record self.old { pause = self.new.pause } }
     {
-        if let Some(reason) = self.pacing.note(self.moment, &self.link) {
+        if let Some(reason) = self.pacing.note(self.moment, before, &self.link) {
             self.patience.refused(reason);
         }
         self.patience.note(&self.link);
@@ -206,8 +218,9 @@ impl Session {
     /// Puts frames after what is pending for the line, as far as there is room: one at a time for
     /// datagrams, and while messages wait for the peer none that carries one.
     pub fn fill(&mut self)
-        ensures { (n : ℕ) × (self.new
+        ensures frames { (n : ℕ) × (self.new
             ≡ record self.old { link = after_frames n self.old.link }) }
+        ensures filled { IsFilled self.new }
     {
         if self.kind.is_of_datagrams() && !self.link.unsent().is_empty() {
             return;
@@ -225,6 +238,9 @@ impl Session {
         ensures state { (n : ℕ) × (self.new
             ≡ record self.old { link = after_frames n self.old.link }) }
         ensures less { result ≡ true → self.new.link.outbox.room < self.old.link.outbox.room }
+        ensures some { result ≡ true → 0 < length self.new.link.outbox.waiting }
+        ensures none { result ≡ false → (puts_frame self.new.link ≡ false)
+            ⊎ (is_paused self.new ≡ true) }
     {
         if self.pacing.until().is_some() && self.link.sends_message() {
             return false;

@@ -8,7 +8,7 @@ use ddcmp_station::State;
 impl Session {
     ghost use Rattle.std.specs.Prelude.{◌≡◌, ◌≤◌, ℕ, Some, true};
     ghost use Rattle.ddcmp_station.specs.Linking.{after_wake, wakes_at};
-    ghost use Rattle.ddcmp_session.specs.Session.{is_delivered};
+    ghost use Rattle.ddcmp_session.specs.Session.{is_delivered, pause_at};
 
     /// Returns the moment in milliseconds when the run ends.
     pub fn run_ends_at(&self) -> u64 {
@@ -50,7 +50,10 @@ impl Session {
 
     /// Handles all timers that have expired at this moment.
     pub fn handle_timeout(&mut self, now: u64)
-        ensures { self.new ≡ record self.old { link = after_wake now self.old.link } }
+        ensures { self.new ≡ record self.old {
+          link = after_wake now self.old.link;
+          pause = pause_at now self.old.pause;
+        } }
     {
         self.pass_time(now);
         self.pacing.wake(now);
@@ -70,7 +73,8 @@ impl Session {
 
     /// Returns the moment in milliseconds when `handle_timeout` is to be called at the latest.
     pub fn wakes_at(&self) -> u64
-        ensures { (moment : ℕ) → wakes_at self.now.link ≡ Some moment → result ≤ moment }
+        ensures timer { (moment : ℕ) → wakes_at self.now.link ≡ Some moment → result ≤ moment }
+        ensures pause { (moment : ℕ) → self.now.pause ≡ Some moment → result ≤ moment }
     {
         let timer = self.link.deadline().unwrap_or(u64::MAX);
         let pause = self.pacing.until().unwrap_or(u64::MAX);

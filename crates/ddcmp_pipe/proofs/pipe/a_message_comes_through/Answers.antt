@@ -1,4 +1,4 @@
-use Rattle.std.proofs.Common.{refl, arith, []}
+use Rattle.std.proofs.Common.{inl, refl, arith, []}
 use Rattle.std.proofs.Math.Bool.{xor}
 use Rattle.ddcmp_num.specs.Check.{low_bits, bits, add, divisor_rest, remainder, number, check_of}
 use Rattle.ddcmp_frame.specs.Wire.{six_bytes, wire}
@@ -59,7 +59,7 @@ returns-clause-streams c = λ line other_line. (
     (refl, refl, refl),
     record { to_a = ([], refl); to_b = ([], refl) },
     (
-      refl,
+      (refl, inl (omega arith)),
       record { to_a = ([], refl); to_b = ([], refl) },
       (
         refl,
@@ -67,12 +67,13 @@ returns-clause-streams c = λ line other_line. (
         (
           record {
             fed = record { core = refl; syn = refl; stays = refl };
-            wrote = record { waiting = refl; room = omega arith };
+            wrote = record { waiting = refl; room = omega arith; size = refl; is_cut = refl };
+            pauses = λ e. inl refl;
             stays = refl;
           },
           record { to_a = ([], refl); to_b = ([], refl) },
           (
-            refl,
+            (refl, inl (omega arith)),
             record { to_a = ([], refl); to_b = ([], refl) },
             (
               refl,
@@ -80,7 +81,8 @@ returns-clause-streams c = λ line other_line. (
               (
                 record {
                   fed = record { core = refl; syn = refl; stays = refl };
-                  wrote = record { waiting = refl; room = omega arith };
+                  wrote = record { waiting = refl; room = omega arith; size = refl; is_cut = refl };
+                  pauses = λ e. inl refl;
                   stays = refl;
                 },
                 record { to_a = ([], refl); to_b = ([], refl) },
@@ -88,7 +90,7 @@ returns-clause-streams c = λ line other_line. (
                   record { state = refl; wanted = λ e. absurd (cc e); part = completes },
                   record { to_a = ([], refl); to_b = ([], refl) },
                   (
-                    refl,
+                    (refl, inl (omega arith)),
                     record { to_a = ([], refl); to_b = ([], refl) },
                     (
                       refl,
@@ -96,12 +98,13 @@ returns-clause-streams c = λ line other_line. (
                       (
                         record {
                           fed = record { core = refl; syn = refl; stays = refl };
-                          wrote = record { waiting = refl; room = omega arith };
+                          wrote = record { waiting = refl; room = omega arith; size = refl; is_cut = refl };
+                          pauses = λ e. inl refl;
                           stays = refl;
                         },
                         record { to_a = ([], refl); to_b = ([], refl) },
                         (
-                          refl,
+                          (refl, inl (omega arith)),
                           record { to_a = ([], refl); to_b = ([], refl) },
                           (
                             refl,
@@ -109,7 +112,8 @@ returns-clause-streams c = λ line other_line. (
                             (
                               record {
                                 fed = record { core = refl; syn = refl; stays = refl };
-                                wrote = record { waiting = refl; room = omega arith };
+                                wrote = record { waiting = refl; room = omega arith; size = refl; is_cut = refl };
+                                pauses = λ e. inl refl;
                                 stays = refl;
                               },
                               record { to_a = ([], refl); to_b = ([], refl) },
@@ -119,7 +123,11 @@ returns-clause-streams c = λ line other_line. (
                                 (
                                   record {
                                     link = refl;
-                                    wrote = (abc, refl, record { waiting = refl; room = omega arith });
+                                    wrote = (
+                                      abc,
+                                      refl,
+                                      record { waiting = refl; room = omega arith; size = refl; is_cut = refl },
+                                    );
                                     stays = refl;
                                   },
                                   record { to_a = ([], refl); to_b = ([], refl) },

@@ -5,5 +5,9 @@ use Rattle.ddcmp_pipe.proofs.session_steps.fills.Goals as goal
 
 pub returns-clause-line : goal.returns-clause-line
 returns-clause-line c =
-    ap (λ (s : SessionView). s.link.station.line) c.fill.ensures.1
-    ∙ frames_line c.fill.ensures.0 c.args.session.now.link
+    ap (λ (s : SessionView). s.link.station.line) c.fill.ensures.frames.1
+    ∙ frames_line c.fill.ensures.frames.0 c.args.session.now.link
+
+pub returns-clause-done : goal.returns-clause-done
+returns-clause-done c = λ text.
+    (c.fill.ensures.frames.0, (c.fill.ensures.frames.1, c.fill.ensures.filled))

@@ -18,7 +18,7 @@ returns-in-Some-clause-wrote c =
     c.self.inside.output c.settle.new.self c.write_mail.new.out
     (sym c.in-Some.is ∙ c.take.ensures.length)
     (c.deref.ensures.value ∙ items ∙ c.take.ensures.out)
-    c.settle.ensures.waiting c.settle.ensures.more
+    c.settle.ensures.waiting c.settle.ensures.more c.settle.ensures.size c.settle.ensures.cut
     (omega (
       arith,
       mail-short (form_of c.self.inside.messages) (take c.in-Some.n c.deref.result.now),

@@ -13,6 +13,7 @@ returns-clause-state c =
     (ap (λ d. record {
       link = d;
       has_line = c.self.inside.has_line;
+      pause = c.self.inside.pacing.until;
       messages = c.self.inside.messages;
       is_read = c.self.inside.input_is_read;
       was_refused = c.self.inside.was_refused;

@@ -22,13 +22,13 @@ returns-in-Some-clause-wrote c =
     wrote-one _ _ c.in-Some.notice _ _
     (c.feed-fed.ensures.told text s ∙ ap option_to_list c.in-Some.is)
     (subst (λ (v : SessionView). Wrote (notice_text (form_of v.messages) c.in-Some.notice) v.output
-    c.report_notice.new.self.output) c.note.ensures c.report_notice.ensures.wrote))
+    c.report_notice.new.self.output) c.note.ensures.stays c.report_notice.ensures.wrote))
 
 pub returns-in_default-clause-wrote : goal.returns-in_default-clause-wrote
 returns-in_default-clause-wrote c =
     rw (sym c.self.view_is) (λ text s.
     subst (λ (v : SessionView). Wrote (notices_text (form_of c.self.inside.messages)
     (notices_of_piece text (take c.feed-fed.result.used c.args.bytes.now)
-    c.self.inside.link.station.core)) c.self.inside.output v.output) (sym c.note.ensures)
+    c.self.inside.link.station.core)) c.self.inside.output v.output) (sym c.note.ensures.stays)
     (wrote-none _ _ c.self.inside.output
     (c.feed-fed.ensures.told text s ∙ ap option_to_list c.in_default.is)))
