@@ -65,7 +65,8 @@ import termios
 import threading
 import time
 from typing import (
-    Any, Callable, Dict, Iterator, List, NamedTuple, Optional, Protocol, Tuple, TypeVar, Union,
+    Any, Callable, Dict, Iterator, List, NamedTuple, Optional, Protocol, Tuple, Type, TypeVar,
+    Union,
 )
 
 Bytes = Union[bytes, bytearray, memoryview]
@@ -583,14 +584,15 @@ class Line:
     restarted, and OSError if the line failed. While the inbox is full nothing is read: then `send`
     and `flush` raise BlockingIOError, and messages must be received first.
 
+    As a context it flushes at its end, without a limit of time, unless an exception ends it.
+
     >>> import socket, threading
     >>> here, there = socket.socketpair()
     >>> def echo() -> None:
     ...     with Station() as station:
     ...         station.start()
-    ...         line = Line(station, there)
-    ...         line.send(line.receive(10)[::-1], 10)
-    ...         line.flush(10)
+    ...         with Line(station, there) as line:
+    ...             line.send(line.receive(10)[::-1], 10)
     >>> thread = threading.Thread(target=echo)
     >>> thread.start()
     >>> with Station() as station:
@@ -612,6 +614,13 @@ class Line:
         self._inbox = station.config.inbox
         self._read = self._frame = b""  # not fed yet, and not written yet
         self._expiry = time.monotonic() + timer
+
+    def __enter__(self) -> "Line":
+        return self
+
+    def __exit__(self, kind: Optional[Type[BaseException]], *_: object) -> None:
+        if kind is None:
+            self.flush()
 
     def send(self, message: Bytes, timeout: Optional[float] = None) -> int:
         """Queues a message once the station runs and the window has room; returns its number."""
