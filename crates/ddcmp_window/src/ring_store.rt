@@ -70,7 +70,8 @@ impl RingStore {
 /// Returns the sum of some lengths.
 fn sum_of(lengths: &[u16]) -> usize
     requires { length lengths.now ≤ MAX_WINDOW }
-    ensures { result ≡ sum lengths.now }
+    ensures value { result ≡ sum lengths.now }
+    ensures most { result ≤ MAX_WINDOW * 65535 }
 {
     let mut total = 0;
     for length in lengths {
