@@ -12,7 +12,8 @@ ghost use Rattle.ddcmp_explain.specs.Heads.{Heads};
 
 use crate::discarded::{write_discarded, write_open};
 use crate::head::Head;
-use crate::notation::{write_item, write_last};
+use crate::notation::{write_item_by, write_last};
+use crate::put::LINE;
 use crate::skipped::{Reached, reached_by};
 use crate::style::Style;
 use ddcmp_frame::{Item, Pushed, Reader};
@@ -25,6 +26,8 @@ pub(crate) struct Lines {
     pub(crate) style: Style,
     pub(crate) items: u64,
     pub(crate) page: Page,
+    // Where the front of a line is put together.
+    pub(crate) line: [u8; LINE],
     // If skipped bytes are reported: how far the items reach, and how the frame begins that is
     // still open.
     pub(crate) reached: Reached,
@@ -49,6 +52,7 @@ impl Lines {
             style,
             items: 0,
             page: Page::new(),
+            line: [0; LINE],
             reached: Reached::at(0),
             head: Head::new(),
         }
@@ -77,7 +81,8 @@ impl Lines {
             Some(item) => {
                 self.items += 1;
                 let data = self.frames.data();
-                write_item(&mut self.page, writer, self.style.notation, &item, data);
+                let notation = self.style.notation;
+                write_item_by(&mut self.line, &mut self.page, writer, notation, &item, data);
             }
             None => {}
         }
@@ -105,7 +110,8 @@ impl Lines {
                 self.items += 1;
                 self.reach(writer, &item);
                 let data = self.frames.data();
-                write_item(&mut self.page, writer, self.style.notation, &item, data);
+                let notation = self.style.notation;
+                write_item_by(&mut self.line, &mut self.page, writer, notation, &item, data);
             }
             None => {}
         }
