@@ -123,11 +123,11 @@ fits-at (suc n) j h e =
     elim (cases_lt j n) [
       | inl below ↦ fits-at n j below next.1
       | inr last ↦
-        subst (λ j. (10 ^ power_within j ≤ 2 ^ j) × (2 ^ suc j ≤ 10 ^ (power_within j + 2)))
-        (let same : n ≡ j = omega arith in same) (
-          omega (arith, ltb-less (10 ^ power_within n) (2 ^ n + 1) here.0),
-          omega (arith, ltb-less (2 ^ suc n) (10 ^ (power_within n + 2) + 1) next.0),
-        )
+          subst (λ j. (10 ^ power_within j ≤ 2 ^ j) × (2 ^ suc j ≤ 10 ^ (power_within j + 2)))
+          (let same : n ≡ j = omega arith in same) (
+            omega (arith, ltb-less (10 ^ power_within n) (2 ^ n + 1) here.0),
+            omega (arith, ltb-less (2 ^ suc n) (10 ^ (power_within n + 2) + 1) next.0),
+          )
     ]
 
 -- what is within the number decides between two counts of digits

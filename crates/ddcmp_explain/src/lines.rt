@@ -12,7 +12,7 @@ ghost use Rattle.ddcmp_explain.specs.Heads.{Heads};
 
 use crate::discarded::{write_discarded, write_open};
 use crate::head::Head;
-use crate::notation::{write_item_by, write_last};
+use crate::notation::{write_item, write_item_by, write_last};
 use crate::put::LINE;
 use crate::skipped::{Reached, reached_by};
 use crate::style::Style;
@@ -26,8 +26,6 @@ pub(crate) struct Lines {
     pub(crate) style: Style,
     pub(crate) items: u64,
     pub(crate) page: Page,
-    // Where the front of a line is put together.
-    pub(crate) line: [u8; LINE],
     // If skipped bytes are reported: how far the items reach, and how the frame begins that is
     // still open.
     pub(crate) reached: Reached,
@@ -52,15 +50,15 @@ impl Lines {
             style,
             items: 0,
             page: Page::new(),
-            line: [0; LINE],
             reached: Reached::at(0),
             head: Head::new(),
         }
     }
 
-    /// Takes bytes up to the first that completes an item, and writes its line. Returns how many.
+    /// Takes bytes up to the first that completes an item, and writes its line, which is put
+    /// together in `line`. Returns how many.
     #[inline(always)]
-    fn push<W: Sink>(&mut self, writer: &mut W, bytes: &[u8]) -> usize
+    fn push<W: Sink>(&mut self, writer: &mut W, line: &mut [u8; LINE], bytes: &[u8]) -> usize
         requires some { 0 < length bytes.now }
         requires fits { self.old.frames.offset + length bytes.now < 2 ^ 64 }
         ensures used { result ≤ length bytes.now }
@@ -82,7 +80,7 @@ impl Lines {
                 self.items += 1;
                 let data = self.frames.data();
                 let notation = self.style.notation;
-                write_item_by(&mut self.line, &mut self.page, writer, notation, &item, data);
+                write_item_by(line, &mut self.page, writer, notation, &item, data);
             }
             None => {}
         }
@@ -110,8 +108,7 @@ impl Lines {
                 self.items += 1;
                 self.reach(writer, &item);
                 let data = self.frames.data();
-                let notation = self.style.notation;
-                write_item_by(&mut self.line, &mut self.page, writer, notation, &item, data);
+                write_item(&mut self.page, writer, self.style.notation, &item, data);
             }
             None => {}
         }
@@ -214,9 +211,10 @@ impl Lines {
             → HasTold max start (text ++ bytes.now) self.new
             (W.broken writer.new) (W.contents writer.new) }
     {
+        let mut line = [0; LINE];
         let mut used = 0;
         while used < bytes.len() {
-            used += self.push(writer, &bytes[used..]);
+            used += self.push(writer, &mut line, &bytes[used..]);
         }
     }
 

@@ -30,7 +30,7 @@ returns-in-Some-clause-told g c = λ max start text h.
     (c.follow.ensures rest more k f
     (c.open.ensures.text now (p.ensures.stands text h.stands)
     ∙ ap (λ m. open_at_end m now) (p.ensures.max ∙ h.max_is) ∙ n)))
-    (sends-then c.reach.ensures.passed (sends-as line c.write_item_by.ensures))
+    (sends-then c.reach.ensures.passed (sends-as line c.write_item.ensures))
 
 pub returns-in-None-clause-told : goal.returns-in-None-clause-told
 returns-in-None-clause-told g c = λ max start text h.
