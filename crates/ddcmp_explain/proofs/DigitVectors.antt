@@ -9,9 +9,12 @@ use lib.Lanes.{zip2, sel_l, mask_l, top, pick_l, Each1}
 use Rattle.ddcmp_explain.specs.declared.hex_digits.TheConstants.{HEX_VALUES}
 use Rattle.ddcmp_explain.specs.Digits.{hex_value, pairs}
 use Rattle.ddcmp_explain.proofs.HexValues.{value-of-digit}
-use Rattle.ddcmp_io.proofs.VectorLaws.{add, sixteen}
+use Rattle.ddcmp_io.proofs.VectorLaws.{sixteen}
 
 -- ---- the value of a digit
+
+abbrev add : ℕ → ℕ → ℕ
+add a b = (a + b) % 2 ^ 8
 
 abbrev pub less : ℕ → ℕ → ℕ
 less a b = (a + (2 ^ 8 - b)) % 2 ^ 8

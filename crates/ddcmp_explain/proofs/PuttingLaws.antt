@@ -1,7 +1,12 @@
 -- Texts that are put one behind another, and the digits of numbers.
 use Rattle.std.proofs.Common.{◌≡◌, ℕ, zero, suc, ◌+◌, ◌-◌, ◌/◌, ◌%◌, ◌^◌, ◌<◌, ◌≤◌, List, [], ◌∷◌}
 use Rattle.std.proofs.Common.{◌++◌, length, take, map, get_or, refl, sym, ◌∙◌, ap, drop, subst}
-use Rattle.std.proofs.Common.{arith, append_assoc, length-append}
+use Rattle.std.proofs.Common.{arith, append_assoc, length-append, Bool, true, false, inl, inr}
+use Rattle.std.specs.Prelude.{◌*◌, ◌&&◌, nat_lt}
+use Rattle.std.proofs.lemmas.Bool.{cases_lt}
+use Rattle.std.proofs.lemmas.Nat.{leading_top}
+use lib.Count.{count_leading_zeros}
+use Rattle.ddcmp_frame.proofs.Tests.{ltb-less}
 use Rattle.std.proofs.Math.Seq.{take-add}
 use Rattle.std.proofs.lemmas.List.{take-take, take_at, drop_at, length-take}
 use Rattle.std.proofs.lemmas.Fmt.{decimal_digit, decimal_step}
@@ -86,3 +91,64 @@ unfolding power
 power-at k h =
     ap (λ t. get_or t k 0) powers-computed
     ∙ get_or-map-range_with_len power 0 20 k k 0 h (omega arith)
+
+-- ---- how many digits a number has, by its highest bit
+
+-- a power of ten that is within 2^j
+abbrev power_within : ℕ → ℕ
+power_within j = j * 1233 / 4096
+
+-- and the next power of two within the next but one of ten: for each j below n
+fits : ℕ → Bool
+fits zero = true
+fits (suc j) =
+    nat_lt (10 ^ power_within j) (2 ^ j + 1)
+    && (nat_lt (2 ^ suc j) (10 ^ (power_within j + 2) + 1) && fits j)
+
+fits-computed : fits 64 ≡ true
+unfolding fits
+fits-computed = refl
+
+both : (a b : Bool) → (a && b) ≡ true → (a ≡ true) × (b ≡ true)
+both true b e = (refl, e)
+both false b e = cc
+
+fits-at : (n j : ℕ) → j < n → fits n ≡ true
+    → (10 ^ power_within j ≤ 2 ^ j) × (2 ^ suc j ≤ 10 ^ (power_within j + 2))
+unfolding fits
+fits-at zero j h e = absurd (omega arith)
+fits-at (suc n) j h e =
+    let here = both (nat_lt (10 ^ power_within n) (2 ^ n + 1)) _ e in
+    let next = both (nat_lt (2 ^ suc n) (10 ^ (power_within n + 2) + 1)) (fits n) here.1 in
+    elim (cases_lt j n) [
+      | inl below ↦ fits-at n j below next.1
+      | inr last ↦
+          subst (λ j. (10 ^ power_within j ≤ 2 ^ j) × (2 ^ suc j ≤ 10 ^ (power_within j + 2)))
+          (let same : n ≡ j = omega arith in same) (
+            omega (arith, ltb-less (10 ^ power_within n) (2 ^ n + 1) here.0),
+            omega (arith, ltb-less (2 ^ suc n) (10 ^ (power_within n + 2) + 1) next.0),
+          )
+    ]
+
+-- what is within the number decides between two counts of digits
+pub digits-by-bit : (n : ℕ) → 10 ≤ n → n < 2 ^ 64
+    → (10 ^ (power_within (63 - count_leading_zeros 64 n) + 1) ≤ n
+    → power_within (63 - count_leading_zeros 64 n) + 1 + 1 ≡ length (decimal n))
+    × (n < 10 ^ (power_within (63 - count_leading_zeros 64 n) + 1)
+    → power_within (63 - count_leading_zeros 64 n) + 1 ≡ length (decimal n))
+digits-by-bit n least wide =
+    let top = leading_top 64 n (omega arith) wide in
+    let j = top.0 in
+    let is : 63 - count_leading_zeros 64 n ≡ j = omega (arith, top.1) in
+    let within = fits-at 64 j (omega (arith, top.1)) fits-computed in
+    let k = power_within j in
+    let more : k + 1 + 1 - 1 ≡ k + 1 = omega arith in
+    let two : k + 2 ≡ k + 1 + 1 = omega arith in
+    let same : k + 1 - 1 ≡ k = omega arith in
+    rw is (
+      λ high. decimal-digits (k + 1 + 1) n (omega arith)
+          (λ _. subst (λ d. 10 ^ d ≤ n) (sym more) high)
+          (subst (λ d. n < 10 ^ d) two (omega (arith, within.1, top.3))) wide,
+      λ low. decimal-digits (k + 1) n (omega arith)
+          (λ _. subst (λ d. 10 ^ d ≤ n) (sym same) (omega (arith, within.0, top.2))) low wide,
+    )

@@ -1,6 +1,6 @@
 //! The bytes that an input spells, piece by piece.
 ghost use Rattle.std.specs.Prelude.{◌≡◌, ◌≤◌, ◌<◌, IfSome, List, ℕ, None, Some, get_or, length};
-ghost use Rattle.std.specs.Prelude.{option_to_list};
+ghost use Rattle.std.specs.Prelude.{option_to_list, take};
 ghost use Rattle.std.specs.Option.{ForSome};
 ghost use Rattle.ddcmp_explain.specs.Digits.{is_blank as is_blank_byte};
 ghost use Rattle.ddcmp_explain.specs.Digits.{hex_value as hex_value_of, left_in, unexpected_in};
@@ -31,7 +31,7 @@ pub(crate) struct Decoded {
 }
 
 impl Decoder {
-    ghost use Rattle.ddcmp_explain.specs.Decoding.{Decodes};
+    ghost use Rattle.ddcmp_explain.specs.Decoding.{Decodes, place_of};
 
     /// Nothing so far.
     pub(crate) fn new(form: Form) -> Self
@@ -41,7 +41,7 @@ impl Decoder {
         Decoder { form, high: None }
     }
 
-    /// Decodes a piece into the front of `bytes`.
+    /// Decodes a piece: of digits, into the front of `bytes`. Raw bytes stay where they are.
     pub(crate) fn decode(&mut self, piece: &[u8], bytes: &mut [u8]) -> Decoded
         requires { length piece.now ≤ length bytes.old }
         ensures form { self.new.form ≡ self.old.form }
@@ -49,17 +49,27 @@ impl Decoder {
         ensures inside { IfSome result.unexpected (λ i. i < length piece.now) }
         ensures decodes { (seen : List ℕ) → unexpected_in self.old.form seen ≡ None
             → left_in self.old.form seen ≡ option_to_list self.old.high
-            → Decodes self.old.form seen piece.now result bytes.new self.new.high }
+            → Decodes self.old.form seen piece.now result
+            (place_of self.old.form piece.now bytes.new) self.new.high }
     {
         match self.form {
             Form::Hex => self.pair(piece, bytes),
-            Form::Raw => {
-                bytes[..piece.len()].copy_from_slice(piece);
-                Decoded {
-                    count: piece.len(),
-                    unexpected: None,
-                }
-            }
+            Form::Raw => Decoded {
+                count: piece.len(),
+                unexpected: None,
+            },
+        }
+    }
+
+    /// Returns the first `count` bytes of a piece that was decoded.
+    pub(crate) fn decoded<'a>(&self, piece: &'a [u8], bytes: &'a [u8], count: usize) -> &'a [u8]
+        requires piece { count ≤ length piece.now }
+        requires bytes { count ≤ length bytes.now }
+        ensures { result.now ≡ take count (place_of self.now.form piece.now bytes.now) }
+    {
+        match self.form {
+            Form::Hex => &bytes[..count],
+            Form::Raw => &piece[..count],
         }
     }
 

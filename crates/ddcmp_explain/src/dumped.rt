@@ -20,12 +20,14 @@ use ddcmp_io::input::read_within;
 use ddcmp_io::{Got, Sink, Source, Worst};
 use std::alloc::Global;
 
-/// Takes a piece of a dump as digits, with all blank but those of its data.
+/// Takes a piece of a dump as digits, with all blank but those of its data. `bytes` is room for what
+/// they spell.
 fn take_piece<W: Sink>(
     explainer: &mut Explainer,
     dump: &mut Dump,
     writer: &mut W,
     piece: &mut [u8],
+    bytes: &mut [u8; PIECE],
 ) -> Result<(), ExplainFault>
     requires size { length piece.old ≤ PIECE }
     requires room { explainer.old.seen + length piece.old < 2 ^ 64 }
@@ -41,7 +43,7 @@ fn take_piece<W: Sink>(
         (W.broken writer.new) (W.contents writer.new) result }
 {
     dump.blank(piece);
-    explainer.take(writer, piece)
+    explainer.take(writer, piece, bytes)
 }
 
 /// Takes a dump to its end.
@@ -68,10 +70,11 @@ fn take_dump<R: Source, W: Sink>(
         (W.contents writer.old) (W.contents writer.new) result }
 {
     let mut piece = [0; PIECE];
+    let mut bytes = [0; PIECE];
     while explainer.seen < u64::MAX {
         match read_within(reader, &mut piece, u64::MAX - explainer.seen) {
             Got::Bytes(0) => return explainer.finish(writer),
-            Got::Bytes(n) => take_piece(explainer, dump, writer, &mut piece[..n])?,
+            Got::Bytes(n) => take_piece(explainer, dump, writer, &mut piece[..n], &mut bytes)?,
             Got::Idle | Got::Failed => return Err(ExplainFault::Read),
         }
     }

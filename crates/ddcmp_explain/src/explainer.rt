@@ -45,8 +45,14 @@ impl Explainer {
         }
     }
 
-    /// Takes a piece of the input, and writes the lines of the items that it completes.
-    pub(crate) fn take<W: Sink>(&mut self, writer: &mut W, piece: &[u8]) -> Result<(), ExplainFault>
+    /// Takes a piece of the input, and writes the lines of the items that it completes. `bytes` is
+    /// room for what digits spell.
+    pub(crate) fn take<W: Sink>(
+        &mut self,
+        writer: &mut W,
+        piece: &[u8],
+        bytes: &mut [u8; PIECE],
+    ) -> Result<(), ExplainFault>
         requires size { length piece.now ≤ PIECE }
         requires room { self.old.seen + length piece.now < 2 ^ 64 }
         ensures form { self.new.decoder.form ≡ self.old.decoder.form }
@@ -60,10 +66,10 @@ impl Explainer {
             (W.broken writer.new) (W.contents writer.new) result }
     {
         let before = self.seen;
-        let mut bytes = [0; PIECE];
-        let decoded = self.decoder.decode(piece, &mut bytes);
+        let decoded = self.decoder.decode(piece, bytes);
         self.seen += piece.len() as u64;
-        self.lines.push_all(writer, &bytes[..decoded.count]);
+        let whole = self.decoder.decoded(piece, bytes, decoded.count);
+        self.lines.push_all(writer, whole);
         match self.lines.flush(writer) {
             Ok(()) => match decoded.unexpected {
                 None => Ok(()),
@@ -117,10 +123,11 @@ impl Explainer {
             (W.contents writer.old) (W.contents writer.new) result }
     {
         let mut piece = [0; PIECE];
+        let mut bytes = [0; PIECE];
         while self.seen < u64::MAX {
             match read_within(reader, &mut piece, u64::MAX - self.seen) {
                 Got::Bytes(0) => return self.finish(writer),
-                Got::Bytes(n) => self.take(writer, &piece[..n])?,
+                Got::Bytes(n) => self.take(writer, &piece[..n], &mut bytes)?,
                 Got::Idle | Got::Failed => return Err(ExplainFault::Read),
             }
         }

@@ -12,7 +12,8 @@ ghost use Rattle.ddcmp_explain.specs.Heads.{Heads};
 
 use crate::discarded::{write_discarded, write_open};
 use crate::head::Head;
-use crate::notation::{write_item, write_last};
+use crate::notation::{write_item, write_item_by, write_last};
+use crate::put::LINE;
 use crate::skipped::{Reached, reached_by};
 use crate::style::Style;
 use ddcmp_frame::{Item, Pushed, Reader};
@@ -54,9 +55,10 @@ impl Lines {
         }
     }
 
-    /// Takes bytes up to the first that completes an item, and writes its line. Returns how many.
+    /// Takes bytes up to the first that completes an item, and writes its line, which is put
+    /// together in `line`. Returns how many.
     #[inline(always)]
-    fn push<W: Sink>(&mut self, writer: &mut W, bytes: &[u8]) -> usize
+    fn push<W: Sink>(&mut self, writer: &mut W, line: &mut [u8; LINE], bytes: &[u8]) -> usize
         requires some { 0 < length bytes.now }
         requires fits { self.old.frames.offset + length bytes.now < 2 ^ 64 }
         ensures used { result ≤ length bytes.now }
@@ -77,7 +79,8 @@ impl Lines {
             Some(item) => {
                 self.items += 1;
                 let data = self.frames.data();
-                write_item(&mut self.page, writer, self.style.notation, &item, data);
+                let notation = self.style.notation;
+                write_item_by(line, &mut self.page, writer, notation, &item, data);
             }
             None => {}
         }
@@ -208,9 +211,10 @@ impl Lines {
             → HasTold max start (text ++ bytes.now) self.new
             (W.broken writer.new) (W.contents writer.new) }
     {
+        let mut line = [0; LINE];
         let mut used = 0;
         while used < bytes.len() {
-            used += self.push(writer, &bytes[used..]);
+            used += self.push(writer, &mut line, &bytes[used..]);
         }
     }
 

@@ -58,7 +58,6 @@ impl Notation {
 }
 
 /// Writes the line of an item, with the data that it lends.
-#[inline(always)]
 pub fn write_item<W: Sink>(
     page: &mut Page,
     writer: &mut W,
@@ -71,7 +70,24 @@ pub fn write_item<W: Sink>(
         (line_in notation (item.now, «data».now)) }
 {
     let mut line = [0; LINE];
-    let end = notation.put_front(&mut line, item);
+    write_item_by(&mut line, page, writer, notation, item, data);
+}
+
+/// The same by way of a line that it overwrites, which needn't be cleared for each item.
+#[inline(always)]
+pub(crate) fn write_item_by<W: Sink>(
+    line: &mut [u8; LINE],
+    page: &mut Page,
+    writer: &mut W,
+    notation: Notation,
+    item: &Item,
+    data: &[u8],
+)
+    ensures { HandsOver (output_of W.broken W.contents writer.old page.old)
+        (output_of W.broken W.contents writer.new page.new)
+        (line_in notation (item.now, «data».now)) }
+{
+    let end = notation.put_front(line, item);
     page.write(writer, &line[..end]);
     if lends(item) {
         write_hex(page, writer, data);

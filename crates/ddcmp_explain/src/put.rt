@@ -66,22 +66,6 @@ pub(crate) fn put_number(line: &mut [u8; LINE], at: usize, number: u64) -> usize
     end
 }
 
-/// A few digits that a number has at least: offsets are mostly long.
-#[inline(always)]
-fn fewest_digits(number: u64) -> usize
-    ensures some { 0 < result }
-    ensures most { result ≤ 9 }
-    ensures reached { 1 < result → 10 ^ (result - 1) ≤ number }
-{
-    if number < 100_000 {
-        1
-    } else if number < 100_000_000 {
-        6
-    } else {
-        9
-    }
-}
-
 /// The powers of ten that fit: entry `k` has `k + 1` digits.
 #[rattlefmt::skip]
 static POWERS: [u64; 20] = [
@@ -107,15 +91,21 @@ static POWERS: [u64; 20] = [
     10_000_000_000_000_000_000,
 ];
 
-/// Returns how many decimal digits a number has.
+/// Returns how many decimal digits a number has: those of the power of two in it, or one more. The
+/// logarithm of 2 is a little above 1233 / 4096.
 #[inline(always)]
 fn digits_in(number: u64) -> usize
     ensures value { result ≡ length (decimal number) }
     ensures within { result ≤ 20 }
 {
-    let mut digits = fewest_digits(number);
-    while digits < POWERS.len() && POWERS[digits] <= number {
-        digits += 1;
+    if number < 10 {
+        return 1;
     }
-    digits
+    let highest_bit = 63 - number.leading_zeros() as usize;
+    let fewest = highest_bit * 1233 / 4096 + 1;
+    if POWERS[fewest] <= number {
+        fewest + 1
+    } else {
+        fewest
+    }
 }

@@ -14,7 +14,7 @@ ghost use Rattle.ddcmp_frame.specs.declared.header.Header.{Header as HeaderValue
 use crate::codes::{
     ACK_TYPE, CONTROL_START, DATA_START, MAINT_START, NAK_TYPE, REP_TYPE, STACK_TYPE, STRT_TYPE,
 };
-use ddcmp_num::{MAX_COUNT, check, check_bytes};
+use ddcmp_num::{MAX_COUNT, check_bytes, check_six};
 use std::marker::Model;
 
 /// The two flags of a header, Q (quick sync) and S (select).
@@ -191,7 +191,10 @@ fn kind_of(code: u8) -> Option<ControlType>
 fn check_holds(bytes: &[u8; 8]) -> bool
     ensures { result ≡ check_holds_in bytes.now }
 {
-    let right = check_bytes(check(&bytes[..6]));
+    let Some(six) = bytes.first_chunk::<6>() else {
+        unreachable!()
+    };
+    let right = check_bytes(check_six(six));
     bytes[6] == right[0] && bytes[7] == right[1]
 }
 
@@ -315,7 +318,7 @@ impl Header {
         ensures exact { result ≡ eight_bytes self.now }
     {
         let six = self.write_six();
-        let [low, high] = check_bytes(check(&six));
+        let [low, high] = check_bytes(check_six(&six));
         [six[0], six[1], six[2], six[3], six[4], six[5], low, high]
     }
 

@@ -54,7 +54,7 @@ pub(crate) fn resume(buffer: &mut Vec<u8>)
         from += 1;
     }
     let kept = buffer.len() - from;
-    buffer.rotate_left(from);
+    buffer.copy_within(from.., 0);
     buffer.truncate(kept);
 }
 

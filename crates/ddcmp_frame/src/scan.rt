@@ -293,7 +293,9 @@ impl Scan {
     }
 }
 
-/// Returns how many bytes come before the first start byte.
+/// Returns how many bytes come before the first start byte. Inlined, it would have each item prepare
+/// for the loop, which few need.
+#[inline(never)]
 fn before_start(piece: &[u8]) -> usize
     ensures within { result ≤ length piece.now }
     ensures other { (i : ℕ) → i < result → is_start_byte (slice_index piece.now i) ≡ false }

@@ -1,108 +1,32 @@
 -- The digits of sixteen bytes, lane by lane.
-use Rattle.std.proofs.Common.{◌≡◌, ℕ, zero, suc, ◌+◌, ◌*◌, ◌/◌, ◌%◌, ◌^◌, ◌<◌, ◌≤◌, cond, ltb, List}
-use Rattle.std.proofs.Common.{[], ◌∷◌, ◌++◌, map, length, take, get_or, replicate, bit_and, refl}
-use Rattle.std.proofs.Common.{◌∙◌, ap, arith, append_assoc, w8, Fits}
-use Rattle.std.proofs.lemmas.Simd.{splat_is_map, zip2_splat, take_more_put_chunk, Each1-all}
+use Rattle.std.proofs.Common.{◌≡◌, ℕ, ◌+◌, ◌*◌, ◌/◌, ◌%◌, ◌^◌, ◌<◌, ◌≤◌, List, [], ◌∷◌, ◌++◌, map}
+use Rattle.std.proofs.Common.{length, take, get_or, replicate, bit_and, refl, sym, ◌∙◌, ap, arith}
+use Rattle.std.proofs.Common.{append_assoc, w8, Fits}
+use Rattle.std.proofs.lemmas.List.{ext_get_or, get_or-map, length-map}
+use Rattle.std.proofs.lemmas.Simd.{zip2_splat, take_more_put_chunk, Each1-all, Each1-get_or, swz_l}
+use Rattle.std.proofs.lemmas.Simd.{SwzOk, SwzOk-from_below, length-swz_l, get_or-swz_l_below}
 use Rattle.std.proofs.lemmas.Simd.{Each1-weaker, Each1-zip2, Each2-splat, below_from_Fits, map-map}
 use Rattle.std.proofs.lemmas.Nat.{and_le_r, and_mask}
-use lib.Lanes.{zip2, sel_l, top, put_chunk, pick_l, Each1}
+use lib.Lanes.{zip2, put_chunk, pick_l, Each1}
 use Rattle.hex.specs.Hex.{encode_lower, encode_with, lower_digits}
 
--- ---- the digit of a value
+-- ---- the digits of values
 
-abbrev pub add : ℕ → ℕ → ℕ
-add a b = (a + b) % 2 ^ 8
+pub digits-ok : (v : List ℕ) → length v ≡ 16 → Each1 (λ d. d < 16) v → SwzOk w8 16 16 0 v
+digits-ok v long small = SwzOk-from_below w8 16 1 16 0 v refl (omega (arith, long)) small
 
-abbrev pub above : ℕ → ℕ → ℕ
-above a b = cond (ltb a b) 255 0
-
--- a digit that is a letter stands 87 above its value, and another 48
-abbrev lane : ℕ → ℕ
-lane v = add v (cond (top 7 (above 9 v)) 87 48)
-
-below-sixteen : (P : ℕ → Type 0) → P 0 → P 1 → P 2 → P 3 → P 4 → P 5 → P 6 → P 7 → P 8 → P 9 → P 10
-    → P 11 → P 12 → P 13 → P 14 → P 15 → (n : ℕ) → n < 16 → P n
-below-sixteen P p0 p1 p2 p3 p4 p5 p6 p7 p8 p9 p10 p11 p12 p13 p14 p15 zero h = p0
-below-sixteen P p0 p1 p2 p3 p4 p5 p6 p7 p8 p9 p10 p11 p12 p13 p14 p15 (suc zero) h = p1
-below-sixteen P p0 p1 p2 p3 p4 p5 p6 p7 p8 p9 p10 p11 p12 p13 p14 p15 (suc (suc zero)) h = p2
-below-sixteen P p0 p1 p2 p3 p4 p5 p6 p7 p8 p9 p10 p11 p12 p13 p14 p15 (suc (suc (suc zero))) h = p3
-below-sixteen P p0 p1 p2 p3 p4 p5 p6 p7 p8 p9 p10 p11 p12 p13 p14 p15 (suc (suc (suc (suc zero))))
-    h =
-    p4
-below-sixteen P p0 p1 p2 p3 p4 p5 p6 p7 p8 p9 p10 p11 p12 p13 p14 p15
-    (suc (suc (suc (suc (suc zero))))) h =
-    p5
-below-sixteen P p0 p1 p2 p3 p4 p5 p6 p7 p8 p9 p10 p11 p12 p13 p14 p15
-    (suc (suc (suc (suc (suc (suc zero)))))) h =
-    p6
-below-sixteen P p0 p1 p2 p3 p4 p5 p6 p7 p8 p9 p10 p11 p12 p13 p14 p15
-    (suc (suc (suc (suc (suc (suc (suc zero))))))) h =
-    p7
-below-sixteen P p0 p1 p2 p3 p4 p5 p6 p7 p8 p9 p10 p11 p12 p13 p14 p15
-    (suc (suc (suc (suc (suc (suc (suc (suc zero)))))))) h =
-    p8
-below-sixteen P p0 p1 p2 p3 p4 p5 p6 p7 p8 p9 p10 p11 p12 p13 p14 p15
-    (suc (suc (suc (suc (suc (suc (suc (suc (suc zero))))))))) h =
-    p9
-below-sixteen P p0 p1 p2 p3 p4 p5 p6 p7 p8 p9 p10 p11 p12 p13 p14 p15
-    (suc (suc (suc (suc (suc (suc (suc (suc (suc (suc zero)))))))))) h =
-    p10
-below-sixteen P p0 p1 p2 p3 p4 p5 p6 p7 p8 p9 p10 p11 p12 p13 p14 p15
-    (suc (suc (suc (suc (suc (suc (suc (suc (suc (suc (suc zero))))))))))) h =
-    p11
-below-sixteen P p0 p1 p2 p3 p4 p5 p6 p7 p8 p9 p10 p11 p12 p13 p14 p15
-    (suc (suc (suc (suc (suc (suc (suc (suc (suc (suc (suc (suc zero)))))))))))) h =
-    p12
-below-sixteen P p0 p1 p2 p3 p4 p5 p6 p7 p8 p9 p10 p11 p12 p13 p14 p15
-    (suc (suc (suc (suc (suc (suc (suc (suc (suc (suc (suc (suc (suc zero))))))))))))) h =
-    p13
-below-sixteen P p0 p1 p2 p3 p4 p5 p6 p7 p8 p9 p10 p11 p12 p13 p14 p15
-    (suc (suc (suc (suc (suc (suc (suc (suc (suc (suc (suc (suc (suc (suc zero)))))))))))))) h =
-    p14
-below-sixteen P p0 p1 p2 p3 p4 p5 p6 p7 p8 p9 p10 p11 p12 p13 p14 p15
-    (suc (suc (suc (suc (suc (suc (suc (suc (suc (suc (suc (suc (suc (suc (suc zero)))))))))))))))
-    h =
-    p15
-below-sixteen P p0 p1 p2 p3 p4 p5 p6 p7 p8 p9 p10 p11 p12 p13 p14 p15
-    (suc
-    (suc (suc (suc (suc (suc (suc (suc (suc (suc (suc (suc (suc (suc (suc (suc n))))))))))))))))
-    h =
-    absurd (omega arith)
-
-lane-is : (v : ℕ) → v < 16 → lane v ≡ get_or lower_digits v 0
-lane-is v h =
-    below-sixteen (λ v. lane v ≡ get_or lower_digits v 0) refl refl refl refl refl refl refl refl
-    refl refl refl refl refl refl refl refl v h
-
-lanes-are : (xs : List ℕ) → Each1 (λ v. v < 16) xs
-    → zip2 add xs
-    (sel_l (map (top 7) (zip2 above (map (λ _. 9) xs) xs)) (map (λ _. 87) xs)
-    (map (λ _. 48) xs))
-    ≡ map (λ v. get_or lower_digits v 0) xs
-lanes-are [] h = refl
-lanes-are (x ∷ xs) h =
-    ap (λ d. d
-    ∷ zip2 add xs
-    (sel_l (map (top 7) (zip2 above (map (λ _. 9) xs) xs)) (map (λ _. 87) xs)
-    (map (λ _. 48) xs)))
-    (lane-is x h.0)
-    ∙ ap (λ t. get_or lower_digits x 0 ∷ t) (lanes-are xs h.1)
-
-pub digits-are : (xs : List ℕ) → length xs ≡ 16 → Each1 (λ v. v < 16) xs
-    → zip2 add xs
-    (sel_l (map (top 7) (zip2 above (replicate 16 9) xs)) (replicate 16 87) (replicate 16 48))
-    ≡ map (λ v. get_or lower_digits v 0) xs
-digits-are xs long small =
-    ap (λ n. zip2 add xs
-    (sel_l (map (top 7) (zip2 above n xs)) (replicate 16 87) (replicate 16 48)))
-    (splat_is_map xs 16 9 long)
-    ∙ ap (λ n. zip2 add xs
-    (sel_l (map (top 7) (zip2 above (map (λ _. 9) xs) xs)) n (replicate 16 48)))
-    (splat_is_map xs 16 87 long)
-    ∙ ap (λ n. zip2 add xs
-    (sel_l (map (top 7) (zip2 above (map (λ _. 9) xs) xs)) (map (λ _. 87) xs) n))
-    (splat_is_map xs 16 48 long)
-    ∙ lanes-are xs small
+pub digits-are : (v : List ℕ) → length v ≡ 16 → Each1 (λ d. d < 16) v
+    → swz_l w8 16 lower_digits 0 v ≡ map (λ d. get_or lower_digits d 0) v
+digits-are v long small =
+    let same = length-swz_l w8 16 lower_digits 0 v in
+    ext_get_or 0 (swz_l w8 16 lower_digits 0 v) (map (λ d. get_or lower_digits d 0) v)
+    (same ∙ sym (length-map v (λ d. get_or lower_digits d 0)))
+    (λ i inside.
+    let there : i < length v = omega (arith, same) in
+    let first : 16 * ((0 + i) / 16) + get_or v i 0 ≡ get_or v i 0 = omega (arith, long) in
+    get_or-swz_l_below w8 16 lower_digits 0 v i there (Each1-get_or (λ d. d < 16) v i 0 there small)
+    ∙ ap (λ k. get_or lower_digits k 0) first
+    ∙ sym (get_or-map (λ d. get_or lower_digits d 0) v i 0 0 there))
 
 -- ---- the halves of a byte
 

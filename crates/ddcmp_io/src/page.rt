@@ -1,8 +1,10 @@
 //! Text that is buffered before a sink, so that many short writes share a long one.
-ghost use Rattle.std.specs.Prelude.{◌≡◌, ◌+◌, ◌≤◌, ◌++◌, [], length, true, is_err};
+ghost use Rattle.std.specs.Prelude.{◌≡◌, ◌+◌, ◌*◌, ◌≤◌, ◌++◌, [], length, true, is_err};
+ghost use Rattle.hex.specs.Hex.{encode_lower};
 ghost use Rattle.ddcmp_io.specs.Written.{HandsOver, output_of};
 
 use crate::device::{Sink, WriteFailed, write_all};
+use crate::text::put_digits;
 use std::marker::Model;
 
 /// The bytes that a page has room for.
@@ -76,6 +78,29 @@ impl Page {
             return Err(WriteFailed);
         }
         write_all(writer, &self.bytes[..len])
+    }
+
+    /// Makes room for a text of `n` bytes, if need be by a flush.
+    #[inline(always)]
+    pub(crate) fn make_room<W: Sink>(&mut self, writer: &mut W, n: usize)
+        requires { n ≤ PAGE }
+        ensures sends { HandsOver (output_of W.broken W.contents writer.old self.old)
+            (output_of W.broken W.contents writer.new self.new) [] }
+        ensures room { length self.new + n ≤ PAGE }
+    {
+        if self.room() < n {
+            let _ = self.flush(writer);
+        }
+    }
+
+    /// Appends bytes in hexadecimal digits.
+    #[inline(always)]
+    pub(crate) fn append_hex(&mut self, bytes: &[u8])
+        requires { length self.old + 2 * length bytes.now ≤ PAGE }
+        ensures { self.new ≡ self.old ++ encode_lower bytes.now }
+    {
+        put_digits(bytes, &mut self.bytes[self.len..]);
+        self.len += 2 * bytes.len();
     }
 
     /// Returns how many bytes more it has room for.

@@ -20,7 +20,7 @@ pub fn write_number<W: Sink, I: Integer>(page: &mut Page, writer: &mut W, number
     page.write(writer, buffer.format(number).as_bytes());
 }
 
-/// How many bytes of data are put into digits at once.
+/// How many bytes of data are put into digits at once, at most.
 const CHUNK: usize = 512;
 
 /// The digits of sixteen values.
@@ -29,8 +29,7 @@ fn digits_of(values: u8x16) -> u8x16
     requires { Each1 (λ v. v < 16) values }
     ensures { result ≡ map (λ v. slice_index lower_digits v) values }
 {
-    let is_letter = values.simd_gt(u8x16::splat(9));
-    values + is_letter.select(u8x16::splat(87), u8x16::splat(48))
+    u8x16::from_array(*b"0123456789abcdef").swizzle_dyn(values)
 }
 
 /// Returns the first digit of each of sixteen bytes.
@@ -64,7 +63,7 @@ fn put_sixteen(bytes: &[u8], at: usize, digits: &mut [u8])
 }
 
 /// Puts the digits of bytes at the front of an array.
-fn put_digits(bytes: &[u8], digits: &mut [u8])
+pub(crate) fn put_digits(bytes: &[u8], digits: &mut [u8])
     requires { 2 * length bytes.now ≤ length digits.old }
     ensures { take (2 * length bytes.now) digits.new ≡ encode_lower bytes.now }
 {
@@ -85,9 +84,8 @@ fn write_chunk<W: Sink>(page: &mut Page, writer: &mut W, bytes: &[u8])
     ensures { HandsOver (output_of W.broken W.contents writer.old page.old)
         (output_of W.broken W.contents writer.new page.new) (encode_lower bytes.now) }
 {
-    let mut digits = [0; 2 * CHUNK];
-    put_digits(bytes, &mut digits);
-    page.write(writer, &digits[..2 * bytes.len()]);
+    page.make_room(writer, 2 * bytes.len());
+    page.append_hex(bytes);
 }
 
 /// All bytes in hexadecimal digits.

@@ -314,3 +314,55 @@ push_by_tables text bytes register fits l small is =
     ∙ ap (λ n. gathered bytes (zero_bytes n register)) (sym l)
     ∙ sym (absorbed-gathered bytes register)
     ∙ absorbed-check bytes text register (all_bytes bytes small) is)
+
+-- ---- six bytes at once
+
+-- six bytes by their places
+six_of : (bytes : List ℕ) → length bytes ≡ 6
+    → bytes
+    ≡ get_or bytes 0 0 ∷ get_or bytes 1 0 ∷ get_or bytes 2 0 ∷ get_or bytes 3 0
+    ∷ get_or bytes 4 0 ∷ get_or bytes 5 0 ∷ []
+six_of (a ∷ b ∷ c ∷ d ∷ e ∷ f ∷ []) l = refl
+six_of _ l = absurd (omega arith)
+
+-- no bytes and zero bytes after them
+zero_bytes-none : (k : ℕ) → zero_bytes k 0 ≡ 0
+unfolding zero_bytes turns next
+zero_bytes-none zero = refl
+zero_bytes-none (suc k) = zero_bytes-none k
+
+-- the sum of six bytes
+gathered-six : (a b c d e f : ℕ)
+    → gathered (a ∷ b ∷ c ∷ d ∷ e ∷ f ∷ []) 0
+    ≡ bit_xor
+    (bit_xor
+    (bit_xor (bit_xor (bit_xor (zero_bytes 6 a) (zero_bytes 5 b)) (zero_bytes 4 c))
+    (zero_bytes 3 d)) (zero_bytes 2 e))
+    (zero_bytes 1 f)
+unfolding gathered
+gathered-six a b c d e f = ap (gathered (b ∷ c ∷ d ∷ e ∷ f ∷ [])) (xor_zero_l (zero_bytes 6 a))
+
+-- six bytes, each by a table of its own
+pub six_by_tables : (bytes : List ℕ) → length bytes ≡ 6 → ((i : ℕ) → get_or bytes i 0 < 256)
+    → bit_xor
+    (bit_xor
+    (bit_xor
+    (bit_xor (bit_xor (entry 5 (get_or bytes 0 0)) (entry 4 (get_or bytes 1 0)))
+    (entry 3 (get_or bytes 2 0))) (entry 2 (get_or bytes 3 0))) (entry 1 (get_or bytes 4 0)))
+    (entry 0 (get_or bytes 5 0))
+    ≡ check_of bytes
+six_by_tables bytes l small =
+    let byte : ℕ → ℕ = λ i. get_or bytes i 0 in
+    rw (
+      ← entry-zero_bytes 5 (byte 0) (small 0),
+      ← entry-zero_bytes 4 (byte 1) (small 1),
+      ← entry-zero_bytes 3 (byte 2) (small 2),
+      ← entry-zero_bytes 2 (byte 3) (small 3),
+      ← entry-zero_bytes 1 (byte 4) (small 4),
+      ← entry-zero_bytes 0 (byte 5) (small 5),
+    )
+    (sym (gathered-six (byte 0) (byte 1) (byte 2) (byte 3) (byte 4) (byte 5))
+    ∙ ap (λ t. gathered t 0) (sym (six_of bytes l))
+    ∙ ap (gathered bytes) (sym (zero_bytes-none (length bytes)))
+    ∙ sym (absorbed-gathered bytes 0)
+    ∙ absorbed-check bytes [] 0 (all_bytes bytes small) (sym none_yet))

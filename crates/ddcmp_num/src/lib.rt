@@ -11,6 +11,7 @@ mod seq;
 
 pub use block_check::Check;
 use byteorder::{ByteOrder, LittleEndian};
+use check_tables::byte_check;
 pub use limits::{MAX_COUNT, MAX_WINDOW};
 pub use seq::Seq;
 
@@ -26,6 +27,21 @@ pub fn check(text: &[u8]) -> u16
     let mut check = Check::new();
     check.push_all(text);
     check.value()
+}
+
+/// Returns the CRC of six bytes, which are those of a header: each by a table of its own, so that no
+/// look-up waits for another.
+#[inline(always)]
+pub fn check_six(bytes: &[u8; 6]) -> u16
+    ensures { result ≡ check_of bytes.now }
+{
+    let [a, b, c, d, e, f] = *bytes;
+    byte_check(5, a)
+        ^ byte_check(4, b)
+        ^ byte_check(3, c)
+        ^ byte_check(2, d)
+        ^ byte_check(1, e)
+        ^ byte_check(0, f)
 }
 
 /// A check as it goes on the line: the low byte, then the high byte.

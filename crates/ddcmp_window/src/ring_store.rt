@@ -61,12 +61,23 @@ impl RingStore {
         requires { n ≤ length self.now.lengths.items }
         ensures { result ≡ sum (take n self.now.lengths.items) }
     {
-        let mut total = 0;
-        for i in 0..n {
-            total += self.length_of(i);
-        }
-        total
+        let (front, back) = self.lengths.as_slices();
+        let in_front = front.len().min(n as usize);
+        sum_of(&front[..in_front]) + sum_of(&back[..n as usize - in_front])
     }
+}
+
+/// Returns the sum of some lengths.
+fn sum_of(lengths: &[u16]) -> usize
+    requires { length lengths.now ≤ MAX_WINDOW }
+    ensures value { result ≡ sum lengths.now }
+    ensures most { result ≤ MAX_WINDOW * 65535 }
+{
+    let mut total = 0;
+    for length in lengths {
+        total += *length as u32;
+    }
+    total as usize
 }
 
 /// Drops the first `n` items.

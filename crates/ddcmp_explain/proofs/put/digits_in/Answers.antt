@@ -1,30 +1,24 @@
-use Rattle.std.proofs.Common.{◌≡◌, ◌+◌, ◌-◌, ◌<◌, ◌≤◌, ◌^◌, subst, sym, arith}
-use Rattle.ddcmp_explain.proofs.PuttingLaws.{power-at, decimal-digits}
+use Rattle.std.proofs.Common.{◌+◌, ◌-◌, ◌*◌, ◌/◌, ap, arith, sym}
+use Rattle.std.proofs.lemmas.Fmt.{decimal_digit}
+use Rattle.std.proofs.Common.{length}
+use lib.Count.{count_leading_zeros}
+use Rattle.ddcmp_explain.proofs.PuttingLaws.{power-at, digits-by-bit}
 use Rattle.ddcmp_explain.proofs.put.digits_in.Goals as goal
 
-pub loop-digits-preserved : goal.loop-digits-preserved
-loop-digits-preserved c =
-    let power = power-at c.loop-digits.digits c.loop-digits-test.true in
-    let same : c.loop-digits.digits + 1 - 1 ≡ c.loop-digits.digits = omega arith in
-    record {
-      some = omega arith;
-      most = omega arith;
-      reached =
-          λ _. subst (λ k. 10 ^ k ≤ c.args.number) (sym same)
-          (omega (arith, power, c.if-digits-number.true));
-    }
+pub returns-then-number-lt10-clause-value : goal.returns-then-number-lt10-clause-value
+returns-then-number-lt10-clause-value c =
+    sym (ap length (decimal_digit c.args.number c.if-number-lt10.true))
 
-pub returns-else-digits-number-clause-value : goal.returns-else-digits-number-clause-value
-returns-else-digits-number-clause-value c =
-    let power = power-at c.loop-digits.digits c.loop-digits-test.true in
-    decimal-digits c.loop-digits.digits c.args.number c.loop-digits.invariant.some
-    c.loop-digits.invariant.reached (omega (arith, power, c.if-digits-number.false))
-    (omega arith)
+pub returns-then-fewest-number-clause-value : goal.returns-then-fewest-number-clause-value
+returns-then-fewest-number-clause-value c =
+    let n = c.args.number in
+    let power = power-at ((63 - count_leading_zeros 64 n) * 1233 / 4096 + 1) (omega arith) in
+    (digits-by-bit n (omega (arith, c.if-number-lt10.false)) (omega arith)).0
+    (omega (arith, power, c.if-fewest-number.true))
 
-pub returns-after-loop-digits-clause-value : goal.returns-after-loop-digits-clause-value
-returns-after-loop-digits-clause-value c =
-    let most : c.loop-digits.digits ≡ 20 =
-    omega (arith, c.loop-digits.invariant.most, c.loop-digits-test.false) in
-    decimal-digits c.loop-digits.digits c.args.number c.loop-digits.invariant.some
-    c.loop-digits.invariant.reached
-    (subst (λ d. c.args.number < 10 ^ d) (sym most) (omega arith)) (omega arith)
+pub returns-else-fewest-number-clause-value : goal.returns-else-fewest-number-clause-value
+returns-else-fewest-number-clause-value c =
+    let n = c.args.number in
+    let power = power-at ((63 - count_leading_zeros 64 n) * 1233 / 4096 + 1) (omega arith) in
+    (digits-by-bit n (omega (arith, c.if-number-lt10.false)) (omega arith)).1
+    (omega (arith, power, c.if-fewest-number.false))

@@ -5,6 +5,7 @@ use Rattle.ddcmp_io.specs.Written.{AppendsPart}
 use Rattle.ddcmp_explain.specs.declared.explain_fault.ExplainFault.TheVariants.{NotHex, Write}
 use Rattle.ddcmp_explain.specs.Discarded.{lines_in}
 use Rattle.ddcmp_explain.specs.Explains.{Tells}
+use Rattle.ddcmp_explain.proofs.DecodingLaws.{spelled-by}
 use Rattle.ddcmp_explain.proofs.ExplainLaws.{tells-unexpected, tells-part}
 use Rattle.ddcmp_explain.proofs.explainer.Explainer.take.Goals as goal
 
@@ -14,6 +15,9 @@ returns-in-Some-2-clause-takes g c = λ max start seen p left.
     let style = c.push_all.new.self.style in
     let piece = c.args.piece.now in
     let decoded = c.decode-decoded.ensures.decodes seen p.expected p.left in
+    let whole =
+    spelled-by c.decode-decoded.new.bytes decoded c.decode-decoded.ensures.form
+    c.decoded-whole.ensures in
     let told = c.in-Ok.ensures.told max start _ (c.push_all.ensures.told max start _ p.told) in
     let here =
     decoded.unexpected ∙ ap (option_map _) c.in-Some-2.is
@@ -29,7 +33,7 @@ returns-in-Some-2-clause-takes g c = λ max start seen p left.
     (tells-unexpected form style max (seen ++ piece) start _ _ left here
     (omega (arith, p.long, c.if-self.false, c.requires.room))
     (subst (λ b. Appends start (g.W.Sink.contents c.flush.new.writer) (lines_in style max b))
-    (sym decoded.whole) told.1)))
+    (sym whole) told.1)))
 
 pub returns-in-Err-clause-takes : goal.returns-in-Err-clause-takes
 returns-in-Err-clause-takes g c = λ max start seen p left.
@@ -37,6 +41,9 @@ returns-in-Err-clause-takes g c = λ max start seen p left.
     let style = c.push_all.new.self.style in
     let piece = c.args.piece.now in
     let decoded = c.decode-decoded.ensures.decodes seen p.expected p.left in
+    let whole =
+    spelled-by c.decode-decoded.new.bytes decoded c.decode-decoded.ensures.form
+    c.decoded-whole.ensures in
     let told = c.in-Err.ensures.told max start _ (c.push_all.ensures.told max start _ p.told) in
     subst (λ n. Tells c.decode-decoded.new.self.form n max (seen ++ piece) left start
     (g.W.Sink.contents c.flush.new.writer) (Err Write))
@@ -47,11 +54,14 @@ returns-in-Err-clause-takes g c = λ max start seen p left.
     (tells-part form style max (seen ++ piece) start _
     (subst
     (λ b. AppendsPart start (g.W.Sink.contents c.flush.new.writer) (lines_in style max b))
-    (sym decoded.whole) told.1)))
+    (sym whole) told.1)))
 
 pub returns-in-None-clause-takes : goal.returns-in-None-clause-takes
 returns-in-None-clause-takes g c = λ max start seen p.
     let decoded = c.decode-decoded.ensures.decodes seen p.expected p.left in
+    let whole =
+    spelled-by c.decode-decoded.new.bytes decoded c.decode-decoded.ensures.form
+    c.decoded-whole.ensures in
     let told = c.in-Ok.ensures.told max start _ (c.push_all.ensures.told max start _ p.told) in
     record {
       expected = rw (c.decode-decoded.ensures.form) (
@@ -59,14 +69,17 @@ returns-in-None-clause-takes g c = λ max start seen p.
           );
       left = rw (c.decode-decoded.ensures.form) (decoded.left c.in-None.is);
       long = length-append seen c.args.piece.now ∙ omega (arith, p.long);
-      told = rw (c.decode-decoded.ensures.form, decoded.whole) told.0;
-      written = rw (c.flush.ensures.style, c.decode-decoded.ensures.form, decoded.whole) told.1;
+      told = rw (c.decode-decoded.ensures.form, whole) told.0;
+      written = rw (c.flush.ensures.style, c.decode-decoded.ensures.form, whole) told.1;
     }
 
 pub returns-in-Some-clause-takes : goal.returns-in-Some-clause-takes
 returns-in-Some-clause-takes g c = λ max start seen p left.
     let decoded = c.decode-decoded.ensures.decodes seen p.expected p.left in
+    let whole =
+    spelled-by c.decode-decoded.new.bytes decoded c.decode-decoded.ensures.form
+    c.decoded-whole.ensures in
     let told = c.in-Ok.ensures.told max start _ (c.push_all.ensures.told max start _ p.told) in (
       inr (length-append seen c.args.piece.now ∙ omega (arith, p.long, c.if-self.true)),
-      rw (c.flush.ensures.style, c.decode-decoded.ensures.form, decoded.whole) told.1,
+      rw (c.flush.ensures.style, c.decode-decoded.ensures.form, whole) told.1,
     )

@@ -20,7 +20,7 @@ returns-in-Some-clause-told g c = λ max start text h.
     c.if-self.false p.ensures.max refl (p.ensures.stands text h.stands)
     (p.ensures.item text h.stands
     ∙ ap (λ i. items was.frames.max text ++ items_given i lent) c.in-Some.is)
-    refl (sends-as line c.write_item.ensures)
+    refl (sends-as line c.write_item_by.ensures)
 
 pub returns-in-None-clause-told : goal.returns-in-None-clause-told
 returns-in-None-clause-told g c = λ max start text h.

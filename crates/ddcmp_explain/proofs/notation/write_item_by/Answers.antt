@@ -2,7 +2,7 @@ use Rattle.ddcmp_io.proofs.WrittenLaws.{sends-then}
 use Rattle.ddcmp_io.proofs.TextLaws.{sends-as}
 use Rattle.ddcmp_explain.proofs.PuttingLaws.{puts-whole}
 use Rattle.ddcmp_explain.proofs.LineLaws.{line-with-data, line-alone}
-use Rattle.ddcmp_explain.proofs.notation.write_item.Goals as goal
+use Rattle.ddcmp_explain.proofs.notation.write_item_by.Goals as goal
 
 pub returns-then-lends : goal.returns-then-lends
 returns-then-lends g c =
