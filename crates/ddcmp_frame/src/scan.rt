@@ -294,7 +294,7 @@ impl Scan {
 }
 
 /// Returns how many bytes come before the first start byte. Inlined, it would have each item prepare
-/// for the loop, which few need.
+/// for the search, which few need.
 #[inline(never)]
 fn before_start(piece: &[u8]) -> usize
     ensures within { result ≤ length piece.now }
