@@ -1,3 +1,4 @@
+pub mod EndText
 pub mod Messages
 pub mod Session
 pub mod Text

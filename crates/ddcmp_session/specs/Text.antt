@@ -1,15 +1,11 @@
 -- The text that a session writes to standard output.
 use Rattle.std.specs.Prelude.{◌≡◌, ℕ, ◌+◌, ◌≤◌, Bool, ◌==◌, if◌then◌else◌, List, [], ◌∷◌, ◌++◌}
-use Rattle.std.specs.Prelude.{codes}
-use Rattle.std.specs.Prelude.{decimal, length, Some}
+use Rattle.std.specs.Prelude.{codes, decimal, length}
 use Rattle.hex.specs.Hex.{encode_lower}
 use Rattle.ddcmp_core.specs.declared.notice.Notice.{Notice}
 use Rattle.ddcmp_core.specs.declared.notice.Notice.TheVariants as notice
 use Rattle.ddcmp_input.specs.InBinary.{behind_length}
-use Rattle.ddcmp_io.specs.Written.{Output}
-use Rattle.ddcmp_station.specs.Linking.{LinkView}
-use Rattle.ddcmp_station_text.specs.CountersText.{counters_line}
-use Rattle.ddcmp_station_text.specs.StationText.{notice_line, state_text}
+use Rattle.ddcmp_station_text.specs.StationText.{notice_line}
 use Rattle.ddcmp_session.specs.declared.messages.Form.{Form}
 use Rattle.ddcmp_session.specs.declared.messages.Form.TheVariants.{Digits, Binary}
 use Rattle.ddcmp_io.specs.Queue.{QueueView, after_pushed}
@@ -43,28 +39,6 @@ notices_text form (n ∷ rest) = notice_text form n ++ notices_text form rest
 -- what is reported of it, if there was room
 abbrev pub reported_lost : Bool → Form → ℕ → List ℕ
 reported_lost has_room form count = if has_room then lost_text form count else []
-
--- the state of a link and what it counted
-abbrev pub totals_text : LinkView → List ℕ
-totals_text d =
-    codes "state=" ++ state_text d.station.core.station.state
-    ++ (codes " read=" ++ decimal d.totals.read)
-    ++ (codes " written=" ++ decimal d.totals.written)
-    ++ (codes " sent=" ++ decimal d.totals.sent)
-    ++ (codes " acknowledged=" ++ decimal d.totals.acknowledged)
-    ++ (codes " handed=" ++ decimal d.totals.handed)
-
--- the last line of a run, and the counters before it, if they are asked for
-abbrev pub end_line : LinkView → List ℕ
-end_line d = totals_text d ++ codes "\n"
-
-abbrev pub end_text : Bool → LinkView → List ℕ
-end_text counted d =
-    if counted then counters_line [] d.station.core.counters ++ end_line d else end_line d
-
--- a queue as what a text is handed over to
-abbrev pub queued : QueueView → Output
-queued q = record { broken = q.is_cut; sink = Some q.waiting; waiting = [] }
 
 -- A text is appended if it has room.
 abbrev pub Puts : List ℕ → QueueView → QueueView → Type 0

@@ -2,8 +2,8 @@
 ghost use Rattle.std.specs.Prelude.{◌≡◌, ◌+◌, ◌*◌, ◌<◌, ◌≤◌, [], ◌++◌, length, decimal};
 ghost use Rattle.hex.specs.Hex.{encode_lower};
 ghost use Rattle.ddcmp_io.specs.Written.{HandsOver, output_of};
-ghost use Rattle.ddcmp_session.specs.Text.{Puts, mail_text, lost_line, totals_text, end_line};
-ghost use Rattle.ddcmp_session.specs.Text.{end_text};
+ghost use Rattle.ddcmp_session.specs.EndText.{totals_text, end_line, end_text};
+ghost use Rattle.ddcmp_session.specs.Text.{Puts, mail_text, lost_line};
 ghost use Rattle.ddcmp_station_text.specs.CountersText.{counters_line};
 ghost use Rattle.ddcmp_station_text.specs.StationText.{notice_line, number_text};
 

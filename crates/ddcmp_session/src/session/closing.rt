@@ -9,7 +9,8 @@ impl Session {
     ghost use Rattle.ddcmp_core.specs.Table.{after_halt};
     ghost use Rattle.ddcmp_station.specs.Linking.{with_state};
     ghost use Rattle.ddcmp_session.specs.Session.{form_of, lost_by_end, reports_loss};
-    ghost use Rattle.ddcmp_session.specs.Text.{Wrote, end_text, queued, reported_lost};
+    ghost use Rattle.ddcmp_session.specs.EndText.{end_text, queued};
+    ghost use Rattle.ddcmp_session.specs.Text.{Wrote, reported_lost};
 
     /// Ends the run: halts the station. What was read of the input, and what was sent and isn't
     /// acknowledged, is lost: returns whether standard output had room to report that.

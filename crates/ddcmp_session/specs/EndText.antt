@@ -1,0 +1,29 @@
+-- The last lines of a session's run.
+use Rattle.std.specs.Prelude.{Bool, if◌then◌else◌, List, [], ◌++◌, ℕ, codes, decimal, Some}
+use Rattle.ddcmp_io.specs.Queue.{QueueView}
+use Rattle.ddcmp_io.specs.Written.{Output}
+use Rattle.ddcmp_station.specs.Linking.{LinkView}
+use Rattle.ddcmp_station_text.specs.CountersText.{counters_line}
+use Rattle.ddcmp_station_text.specs.StationText.{state_text}
+
+-- the state of a link and what it counted
+abbrev pub totals_text : LinkView → List ℕ
+totals_text d =
+    codes "state=" ++ state_text d.station.core.station.state
+    ++ (codes " read=" ++ decimal d.totals.read)
+    ++ (codes " written=" ++ decimal d.totals.written)
+    ++ (codes " sent=" ++ decimal d.totals.sent)
+    ++ (codes " acknowledged=" ++ decimal d.totals.acknowledged)
+    ++ (codes " handed=" ++ decimal d.totals.handed)
+
+-- the last line of a run, and the counters before it, if they are asked for
+abbrev pub end_line : LinkView → List ℕ
+end_line d = totals_text d ++ codes "\n"
+
+abbrev pub end_text : Bool → LinkView → List ℕ
+end_text counted d =
+    if counted then counters_line [] d.station.core.counters ++ end_line d else end_line d
+
+-- a queue as what a text is handed over to
+abbrev pub queued : QueueView → Output
+queued q = record { broken = q.is_cut; sink = Some q.waiting; waiting = [] }
