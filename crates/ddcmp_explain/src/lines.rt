@@ -79,8 +79,7 @@ impl Lines {
             Some(item) => {
                 self.items += 1;
                 let data = self.frames.data();
-                let notation = self.style.notation;
-                write_item_by(line, &mut self.page, writer, notation, &item, data);
+                write_item_by(line, &mut self.page, writer, self.style.notation, &item, data);
             }
             None => {}
         }

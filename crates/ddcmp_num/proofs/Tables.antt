@@ -107,7 +107,7 @@ tables_from : ℕ → List ℕ → List (List ℕ)
 tables_from zero table = []
 tables_from (suc n) table = table ∷ tables_from n (map (turns 8) table)
 
-tables-computed : BYTE_CHECKS ≡ tables_from 8 (map (turns 8) (range_with_len 0 256))
+tables-computed : BYTE_CHECKS ≡ tables_from 16 (map (turns 8) (range_with_len 0 256))
 unfolding tables_from turns next
 tables-computed = refl
 
@@ -138,11 +138,11 @@ byte-check k b h =
     (ap (turns 8) (sym (xor_zero_l b)) ∙ turned [] 0 b (sym none_yet) (omega arith))
 
 -- entry b of table k is the check of the byte b and of k zero bytes behind it
-pub table-check : (k b : ℕ) → k < 8 → b < 256
+pub table-check : (k b : ℕ) → k < 16 → b < 256
     → get_or (get_or BYTE_CHECKS k []) b 0 ≡ check_of (b ∷ replicate k 0)
 table-check k b h l =
     ap (λ t. get_or (get_or t k []) b 0) tables-computed
-    ∙ tables_from-entry 8 k b (map (turns 8) (range_with_len 0 256)) h
+    ∙ tables_from-entry 16 k b (map (turns 8) (range_with_len 0 256)) h
     (omega (arith, length-map-range_with_len (turns 8) 0 256))
     ∙ ap (zero_bytes k) (get_or-map-range_with_len (turns 8) 0 256 b b 0 l (omega arith))
     ∙ byte-check k b l
@@ -232,62 +232,52 @@ entry-zero_bytes : (k b : ℕ) → b < 256 → zero_bytes (suc k) b ≡ entry k 
 unfolding zero_bytes
 entry-zero_bytes k b h = byte-check k b h
 
+-- what a sum begins with may be added last
+gathered-sum : (bytes : List ℕ) (sum : ℕ) → gathered bytes sum ≡ bit_xor (gathered bytes 0) sum
+unfolding gathered
+gathered-sum [] sum = sym (xor_zero_l sum)
+gathered-sum (b ∷ bytes) sum =
+    let first = zero_bytes (suc (length bytes)) b in
+    let rest = gathered bytes 0 in
+    gathered-sum bytes (bit_xor sum first)
+    ∙ ap (bit_xor rest) (xor_comm sum first)
+    ∙ sym (xor_assoc rest first sum)
+    ∙ ap (λ t. bit_xor (bit_xor rest t) sum) (sym (xor_zero_l first))
+    ∙ ap (λ t. bit_xor t sum) (sym (gathered-sum bytes (bit_xor 0 first)))
+
 -- eight bytes by their places
 eight_of : (bytes : List ℕ) → length bytes ≡ 8
     → bytes
-    ≡ get_or bytes 0 0 ∷ get_or bytes 1 0 ∷ get_or bytes 2 0 ∷ get_or bytes 3 0
-    ∷ get_or bytes 4 0 ∷ get_or bytes 5 0 ∷ get_or bytes 6 0 ∷ get_or bytes 7 0 ∷ []
+    ≡ get_or bytes 0 0 ∷ get_or bytes 1 0 ∷ get_or bytes 2 0 ∷ get_or bytes 3 0 ∷ get_or bytes 4
+    0 ∷ get_or bytes 5 0 ∷ get_or bytes 6 0 ∷ get_or bytes 7 0 ∷ []
 eight_of (a ∷ b ∷ c ∷ d ∷ e ∷ f ∷ g ∷ h ∷ []) l = refl
 eight_of _ l = absurd (omega arith)
 
--- the sum of eight bytes
+-- the sum of eight bytes, of which the two that wait for the register are added last
 gathered-eight : (register a b c d e f g h : ℕ)
     → gathered (a ∷ b ∷ c ∷ d ∷ e ∷ f ∷ g ∷ h ∷ []) (zero_bytes 8 register)
-    ≡ bit_xor
-    (bit_xor
-    (bit_xor
-    (bit_xor
-    (bit_xor
-    (bit_xor
-    (bit_xor (zero_bytes 8 (bit_xor (register % 256) a))
-    (zero_bytes 7 (bit_xor (register / 256) b)))
-    (zero_bytes 6 c)) (zero_bytes 5 d)) (zero_bytes 4 e)) (zero_bytes 3 f)) (zero_bytes 2 g))
-    (zero_bytes 1 h)
+    ≡ bit_xor (bit_xor (bit_xor (bit_xor (bit_xor (bit_xor (zero_bytes 6 c) (zero_bytes 5 d))
+    (zero_bytes 4 e)) (zero_bytes 3 f)) (zero_bytes 2 g)) (zero_bytes 1 h)) (bit_xor (zero_bytes
+    8 (bit_xor (register % 256) a)) (zero_bytes 7 (bit_xor (register / 256) b)))
 unfolding gathered
 gathered-eight register a b c d e f g h =
+    let waiting =
+    bit_xor (zero_bytes 8 (bit_xor (register % 256) a)) (zero_bytes 7 (bit_xor (register / 256)
+    b)) in
     ap (gathered (c ∷ d ∷ e ∷ f ∷ g ∷ h ∷ [])) (first_two 7 register a b)
-
--- a sum of eight, of which two are added last
-added_last : (a b c d e f g h : ℕ)
-    → bit_xor (bit_xor (bit_xor (bit_xor (bit_xor (bit_xor c d) e) f) g) h) (bit_xor a b)
-    ≡ bit_xor (bit_xor (bit_xor (bit_xor (bit_xor (bit_xor (bit_xor a b) c) d) e) f) g) h
-added_last a b c d e f g h =
-    let w = bit_xor a b in
-    let cd = bit_xor c d in
-    let ce = bit_xor cd e in
-    let cf = bit_xor ce f in
-    let cg = bit_xor cf g in
-    xor_comm (bit_xor cg h) w
-    ∙ sym (xor_assoc w cg h)
-    ∙ ap (λ t. bit_xor t h) (sym (xor_assoc w cf g)
-    ∙ ap (λ t. bit_xor t g) (sym (xor_assoc w ce f)
-    ∙ ap (λ t. bit_xor t f) (sym (xor_assoc w cd e)
-    ∙ ap (λ t. bit_xor t e) (sym (xor_assoc w c d)))))
+    ∙ gathered-sum (c ∷ d ∷ e ∷ f ∷ g ∷ h ∷ []) waiting
+    ∙ ap (λ t. bit_xor t waiting)
+    (ap (gathered (d ∷ e ∷ f ∷ g ∷ h ∷ [])) (xor_zero_l (zero_bytes 6 c)))
 
 -- eight more bytes, each by a table of its own
-pub push_by_tables : (text bytes : List ℕ) (register : ℕ) → register < 2 ^ 16 → length bytes ≡ 8
-    → ((i : ℕ) → get_or bytes i 0 < 256) → register ≡ check_of text
-    → bit_xor
-    (bit_xor
-    (bit_xor
-    (bit_xor
-    (bit_xor (bit_xor (entry 5 (get_or bytes 2 0)) (entry 4 (get_or bytes 3 0)))
-    (entry 3 (get_or bytes 4 0))) (entry 2 (get_or bytes 5 0))) (entry 1 (get_or bytes 6 0)))
-    (entry 0 (get_or bytes 7 0)))
-    (bit_xor (entry 7 (bit_xor (register % 256) (get_or bytes 0 0)))
-    (entry 6 (bit_xor (register / 256) (get_or bytes 1 0))))
+pub push_by_eight : (text bytes : List ℕ) (register : ℕ) → register < 2 ^ 16
+    → length bytes ≡ 8 → ((i : ℕ) → get_or bytes i 0 < 256) → register ≡ check_of text
+    → bit_xor (bit_xor (bit_xor (bit_xor (bit_xor (bit_xor (entry 5 (get_or bytes 2 0)) (entry 4
+    (get_or bytes 3 0))) (entry 3 (get_or bytes 4 0))) (entry 2 (get_or bytes 5 0))) (entry 1
+    (get_or bytes 6 0))) (entry 0 (get_or bytes 7 0))) (bit_xor (entry 7 (bit_xor (register %
+    256) (get_or bytes 0 0))) (entry 6 (bit_xor (register / 256) (get_or bytes 1 0))))
     ≡ check_of (text ++ bytes)
-push_by_tables text bytes register fits l small is =
+push_by_eight text bytes register fits l small is =
     let byte : ℕ → ℕ = λ i. get_or bytes i 0 in
     let low : bit_xor (register % 256) (byte 0) < 256 =
     xor_of_8 (register % 256) (byte 0) (omega arith) (omega (arith, small 0)) in
@@ -303,14 +293,88 @@ push_by_tables text bytes register fits l small is =
       ← entry-zero_bytes 1 (byte 6) (small 6),
       ← entry-zero_bytes 0 (byte 7) (small 7),
     )
-    (added_last (zero_bytes 8 (bit_xor (register % 256) (byte 0)))
-    (zero_bytes 7 (bit_xor (register / 256) (byte 1)))
-    (zero_bytes 6 (byte 2)) (zero_bytes 5 (byte 3)) (zero_bytes 4 (byte 4)) (zero_bytes 3 (byte 5))
-    (zero_bytes 2 (byte 6)) (zero_bytes 1 (byte 7))
-    ∙ sym
-    (gathered-eight register (byte 0) (byte 1) (byte 2) (byte 3) (byte 4) (byte 5) (byte 6)
-    (byte 7))
+    (sym
+    (gathered-eight register (byte 0) (byte 1) (byte 2) (byte 3) (byte 4) (byte 5) (byte 6) (byte
+    7))
     ∙ ap (λ t. gathered t (zero_bytes 8 register)) (sym (eight_of bytes l))
+    ∙ ap (λ n. gathered bytes (zero_bytes n register)) (sym l)
+    ∙ sym (absorbed-gathered bytes register)
+    ∙ absorbed-check bytes text register (all_bytes bytes small) is)
+
+-- ---- sixteen bytes at once
+
+-- sixteen bytes by their places
+sixteen_of : (bytes : List ℕ) → length bytes ≡ 16
+    → bytes
+    ≡ get_or bytes 0 0 ∷ get_or bytes 1 0 ∷ get_or bytes 2 0 ∷ get_or bytes 3 0 ∷ get_or bytes 4
+    0 ∷ get_or bytes 5 0 ∷ get_or bytes 6 0 ∷ get_or bytes 7 0 ∷ get_or bytes 8 0 ∷ get_or bytes
+    9 0 ∷ get_or bytes 10 0 ∷ get_or bytes 11 0 ∷ get_or bytes 12 0 ∷ get_or bytes 13 0 ∷ get_or
+    bytes 14 0 ∷ get_or bytes 15 0 ∷ []
+sixteen_of (a ∷ b ∷ c ∷ d ∷ e ∷ f ∷ g ∷ h ∷ i ∷ j ∷ k ∷ l ∷ m ∷ n ∷ o ∷ p ∷ []) long = refl
+sixteen_of _ long = absurd (omega arith)
+
+-- the sum of sixteen bytes, of which the two that wait for the register are added last
+gathered-sixteen : (register a b c d e f g h i j k l m n o p : ℕ)
+    → gathered (a ∷ b ∷ c ∷ d ∷ e ∷ f ∷ g ∷ h ∷ i ∷ j ∷ k ∷ l ∷ m ∷ n ∷ o ∷ p ∷ []) (zero_bytes
+    16 register)
+    ≡ bit_xor (bit_xor (bit_xor (bit_xor (bit_xor (bit_xor (bit_xor (bit_xor (bit_xor (bit_xor
+    (bit_xor (bit_xor (bit_xor (bit_xor (zero_bytes 14 c) (zero_bytes 13 d)) (zero_bytes 12 e))
+    (zero_bytes 11 f)) (zero_bytes 10 g)) (zero_bytes 9 h)) (zero_bytes 8 i)) (zero_bytes 7 j))
+    (zero_bytes 6 k)) (zero_bytes 5 l)) (zero_bytes 4 m)) (zero_bytes 3 n)) (zero_bytes 2 o))
+    (zero_bytes 1 p)) (bit_xor (zero_bytes 16 (bit_xor (register % 256) a)) (zero_bytes 15
+    (bit_xor (register / 256) b)))
+unfolding gathered
+gathered-sixteen register a b c d e f g h i j k l m n o p =
+    let waiting =
+    bit_xor (zero_bytes 16 (bit_xor (register % 256) a)) (zero_bytes 15 (bit_xor (register / 256)
+    b)) in
+    ap (gathered (c ∷ d ∷ e ∷ f ∷ g ∷ h ∷ i ∷ j ∷ k ∷ l ∷ m ∷ n ∷ o ∷ p ∷ [])) (first_two 15
+    register a b)
+    ∙ gathered-sum (c ∷ d ∷ e ∷ f ∷ g ∷ h ∷ i ∷ j ∷ k ∷ l ∷ m ∷ n ∷ o ∷ p ∷ []) waiting
+    ∙ ap (λ t. bit_xor t waiting)
+    (ap (gathered (d ∷ e ∷ f ∷ g ∷ h ∷ i ∷ j ∷ k ∷ l ∷ m ∷ n ∷ o ∷ p ∷ [])) (xor_zero_l
+    (zero_bytes 14 c)))
+
+-- sixteen more bytes, each by a table of its own
+pub push_by_sixteen : (text bytes : List ℕ) (register : ℕ) → register < 2 ^ 16
+    → length bytes ≡ 16 → ((i : ℕ) → get_or bytes i 0 < 256) → register ≡ check_of text
+    → bit_xor (bit_xor (bit_xor (bit_xor (bit_xor (bit_xor (bit_xor (bit_xor (bit_xor (bit_xor
+    (bit_xor (bit_xor (bit_xor (bit_xor (entry 13 (get_or bytes 2 0)) (entry 12 (get_or bytes 3
+    0))) (entry 11 (get_or bytes 4 0))) (entry 10 (get_or bytes 5 0))) (entry 9 (get_or bytes 6
+    0))) (entry 8 (get_or bytes 7 0))) (entry 7 (get_or bytes 8 0))) (entry 6 (get_or bytes 9
+    0))) (entry 5 (get_or bytes 10 0))) (entry 4 (get_or bytes 11 0))) (entry 3 (get_or bytes 12
+    0))) (entry 2 (get_or bytes 13 0))) (entry 1 (get_or bytes 14 0))) (entry 0 (get_or bytes 15
+    0))) (bit_xor (entry 15 (bit_xor (register % 256) (get_or bytes 0 0))) (entry 14 (bit_xor
+    (register / 256) (get_or bytes 1 0))))
+    ≡ check_of (text ++ bytes)
+push_by_sixteen text bytes register fits l small is =
+    let byte : ℕ → ℕ = λ i. get_or bytes i 0 in
+    let low : bit_xor (register % 256) (byte 0) < 256 =
+    xor_of_8 (register % 256) (byte 0) (omega arith) (omega (arith, small 0)) in
+    let high : bit_xor (register / 256) (byte 1) < 256 =
+    xor_of_8 (register / 256) (byte 1) (omega arith) (omega (arith, small 1)) in
+    rw (
+      ← entry-zero_bytes 15 (bit_xor (register % 256) (byte 0)) low,
+      ← entry-zero_bytes 14 (bit_xor (register / 256) (byte 1)) high,
+      ← entry-zero_bytes 13 (byte 2) (small 2),
+      ← entry-zero_bytes 12 (byte 3) (small 3),
+      ← entry-zero_bytes 11 (byte 4) (small 4),
+      ← entry-zero_bytes 10 (byte 5) (small 5),
+      ← entry-zero_bytes 9 (byte 6) (small 6),
+      ← entry-zero_bytes 8 (byte 7) (small 7),
+      ← entry-zero_bytes 7 (byte 8) (small 8),
+      ← entry-zero_bytes 6 (byte 9) (small 9),
+      ← entry-zero_bytes 5 (byte 10) (small 10),
+      ← entry-zero_bytes 4 (byte 11) (small 11),
+      ← entry-zero_bytes 3 (byte 12) (small 12),
+      ← entry-zero_bytes 2 (byte 13) (small 13),
+      ← entry-zero_bytes 1 (byte 14) (small 14),
+      ← entry-zero_bytes 0 (byte 15) (small 15),
+    )
+    (sym
+    (gathered-sixteen register (byte 0) (byte 1) (byte 2) (byte 3) (byte 4) (byte 5) (byte 6)
+    (byte 7) (byte 8) (byte 9) (byte 10) (byte 11) (byte 12) (byte 13) (byte 14) (byte 15))
+    ∙ ap (λ t. gathered t (zero_bytes 16 register)) (sym (sixteen_of bytes l))
     ∙ ap (λ n. gathered bytes (zero_bytes n register)) (sym l)
     ∙ sym (absorbed-gathered bytes register)
     ∙ absorbed-check bytes text register (all_bytes bytes small) is)

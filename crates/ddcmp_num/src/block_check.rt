@@ -42,6 +42,21 @@ impl Check {
             → self.new ≡ check_of (text ++ bytes.now) }
     {
         let mut check = *self;
+        let (sixteens, rest) = bytes.as_chunks::<16>();
+        for sixteen in sixteens {
+            check.push_sixteen(sixteen);
+        }
+        check.push_rest(rest);
+        *self = check;
+    }
+
+    // The same of the few bytes after the sixteens.
+    #[inline(always)]
+    fn push_rest(&mut self, bytes: &[u8])
+        ensures { (text : List ℕ) → self.old ≡ check_of text
+            → self.new ≡ check_of (text ++ bytes.now) }
+    {
+        let mut check = *self;
         let (eights, rest) = bytes.as_chunks::<8>();
         for eight in eights {
             check.push_eight(eight);
@@ -54,6 +69,32 @@ impl Check {
 
     // Each byte goes by the table of as many zero bytes as bytes follow it here, so that no
     // look-up waits for another. The two that wait for the register are added last.
+    #[inline(always)]
+    fn push_sixteen(&mut self, bytes: &[u8; 16])
+        ensures { (text : List ℕ) → self.old ≡ check_of text
+            → self.new ≡ check_of (text ++ bytes.now) }
+    {
+        let [low, high] = self.register.to_le_bytes();
+        let [a, b, c, d, e, f, g, h, i, j, k, l, m, n, o, p] = *bytes;
+        let at_hand = byte_check(13, c)
+            ^ byte_check(12, d)
+            ^ byte_check(11, e)
+            ^ byte_check(10, f)
+            ^ byte_check(9, g)
+            ^ byte_check(8, h)
+            ^ byte_check(7, i)
+            ^ byte_check(6, j)
+            ^ byte_check(5, k)
+            ^ byte_check(4, l)
+            ^ byte_check(3, m)
+            ^ byte_check(2, n)
+            ^ byte_check(1, o)
+            ^ byte_check(0, p);
+        let waiting = byte_check(15, low ^ a) ^ byte_check(14, high ^ b);
+        self.register = at_hand ^ waiting;
+    }
+
+    // The same of eight bytes.
     #[inline(always)]
     fn push_eight(&mut self, bytes: &[u8; 8])
         ensures { (text : List ℕ) → self.old ≡ check_of text

@@ -1,5 +1,5 @@
 use Rattle.std.proofs.Common.{◌≡◌, ◌/◌, ◌%◌, ◌∙◌, arith, rules}
-use Rattle.ddcmp_num.proofs.Tables.{push_by_tables}
+use Rattle.ddcmp_num.proofs.Tables.{push_by_eight}
 use Rattle.ddcmp_num.proofs.block_check.Check.push_eight.Goals as goal
 
 pub returns : goal.returns
@@ -17,5 +17,5 @@ returns c = λ text h.
       c.to_le_bytes.ensures,
       high,
     )
-    (push_by_tables text c.args.bytes.now c.self.inside.register (omega arith) (omega arith)
+    (push_by_eight text c.args.bytes.now c.self.inside.register (omega arith) (omega arith)
     (search rules) (c.self.view_is ∙ h))
