@@ -87,9 +87,6 @@ impl Pacing {
 fn refusal(before: &NakCounts, now: &NakCounts) -> Option<Nak>
     ensures { before.now ≡ now.now → result ≡ None }
 {
-    if before == now {
-        return None;
-    }
     let counts = [
         (Nak::TooLong, before.too_long, now.too_long),
         (Nak::NoBuffer, before.no_buffer, now.no_buffer),
