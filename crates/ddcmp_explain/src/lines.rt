@@ -79,7 +79,14 @@ impl Lines {
             Some(item) => {
                 self.items += 1;
                 let data = self.frames.data();
-                write_item_by(line, &mut self.page, writer, self.style.notation, &item, data);
+                write_item_by(
+                    line,
+                    &mut self.page,
+                    writer,
+                    self.style.notation,
+                    &item,
+                    data,
+                );
             }
             None => {}
         }
