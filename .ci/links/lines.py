@@ -153,9 +153,11 @@ def datagrams():
     link, peer, local = datagram_peer()
     if not peer.runs():
         wrong("it doesn't start")
-    with socket.socket(socket.AF_INET, socket.SOCK_DGRAM) as stranger:
-        stranger.sendto(data(b"stranger", 1), ("127.0.0.1", local))
-        time.sleep(0.2)
+    for name in (("127.0.0.1", 0), ("127.0.0.2", peer.sock.getsockname()[1])):  # another port, another host
+        with socket.socket(socket.AF_INET, socket.SOCK_DGRAM) as stranger:
+            stranger.bind(name)
+            stranger.sendto(data(b"stranger", 1), ("127.0.0.1", local))
+            time.sleep(0.2)
     peer.send(data(b"a", 1) + data(b"bc", 2) + data(b"def", 3))
     link.waits(lambda it: len(it.mails()) >= 3, 3)
     if link.mails() != [b"a", b"bc", b"def"]:

@@ -2,6 +2,7 @@
 import contextlib
 import fcntl
 import os
+import select
 import signal
 import socket
 import subprocess
@@ -210,6 +211,21 @@ def errors_unread_again():
     one.link.kill()
 
 
+def errors_unread_at_a_fault():
+    """A link that ends with a fault ends although nobody reads its standard error."""
+    with server() as it:
+        one = Unread(f"connect:127.0.0.1:{it.getsockname()[1]}", "--trace")
+        peer = Peer(it.accept()[0], no_ack)
+    peer.runs()
+    one.link.give(b"61\n", close=False)
+    for number in range(1, 1501):
+        peer.send(data(b"x" * 100, number & 255))
+    one.link.waits(lambda it: it.said.count(b"mail ") == 1500, 10)
+    peer.close()
+    if one.link.ended(5) != 3:
+        wrong(f"status {one.link.run.returncode}")
+
+
 def stopped(out, read=lambda: None):
     """A link whose output nobody reads, or reads some of once, still sends messages: it isn't stuck in a write."""
     with server() as it:
@@ -268,7 +284,8 @@ def full_output():
         reading, writing = os.pipe()
         fcntl.fcntl(writing, fcntl.F_SETPIPE_SZ, 4096)
         it = server()
-        link = Link(f"connect:127.0.0.1:{it.getsockname()[1]}", "--max", "16383", *options, stdout=writing)
+        name = it.getsockname()
+        link = Link(f"connect:127.0.0.1:{name[1]}", "--max", "16383", *options, stdout=writing)
         os.close(writing)
         peer = Peer(it.accept()[0], good)
         peer.runs()
@@ -277,22 +294,22 @@ def full_output():
             peer.send(data(message, number))
         if not peer.waits(lambda it: any(f.resp == 5 for f in list(it.frames)), 10):
             wrong(f"{options}: not acknowledged")
+        it.close()  # so that no new line is there before all was read
         peer.close()
-        if options:
-            it.settimeout(5)
-            got = []
-            threading.Thread(target=lambda: got.append(Peer(it.accept()[0], good)), daemon=True).start()
         time.sleep(0.3)
         out = b""
-        while out.count(b"mail ") < 5 or not out.endswith(b"\n"):
+        while (out.count(b"mail ") < 5 or not out.endswith(b"\n")) and select.select([reading], [], [], 5)[0]:
             if not (piece := os.read(reading, 1 << 16)):
                 break
             out += piece
         mails = [bytes.fromhex(it[5:].decode()) for it in out.split(b"\n")[:-1] if it.startswith(b"mail ")]
         if mails != sent:
             wrong(f"{options}: {len(mails)} of 5 messages")
-        if options and not (kit.holds_within(5, lambda: got) and got[0].runs()):
-            wrong("no second line")
+        if options:
+            it = socket.create_server(name)
+            it.settimeout(8)
+            if not Peer(it.accept()[0], good).runs():
+                wrong("no second line")
         link.kill()
         os.close(reading)
         it.close()
@@ -467,6 +484,6 @@ def closed_ends():
 
 
 TRIALS = [slow_reader, closed_output, idle, junk, errors_unread, errors_read_at_last, errors_unread_and_timer, errors_unread_again,
-          stopped_output, stopped_terminal, stopped_device, full_output, seconds_unread, seconds_slow, seconds_flooded,
+          errors_unread_at_a_fault, stopped_output, stopped_terminal, stopped_device, full_output, seconds_unread, seconds_slow, seconds_flooded,
           closed_one_or_two, closed_errors, closed_ends]
 LONG_TRIALS = []

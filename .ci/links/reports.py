@@ -78,7 +78,8 @@ def questions_in_binary():
 
 
 def time_of_day():
-    """The time of day is that of this machine's clock, in UTC, to a tenth of a second."""
+    """The time of day is that of this machine's clock, in UTC, to a tenth of a second, in the middle of a second."""
+    time.sleep((1.5 - time.time() % 1) % 1)
     before = time.time()
     link = Link(f"connect:127.0.0.1:{free_port()}", "--clock", stdin=subprocess.DEVNULL)
     link.ended(10)

@@ -1,6 +1,6 @@
 //! `link`: messages between a line and the program's streams.
-ghost use Rattle.std.specs.Prelude.{◌≡◌, ◌≢◌, ◌↔◌, IsTrue, false};
-ghost use Rattle.ddcmp_cli.specs.LinkEndings.{IsLinkEnding};
+ghost use Rattle.std.specs.Prelude.{◌≡◌, ◌≢◌, ◌↔◌, Err, IsTrue, false};
+ghost use Rattle.ddcmp_cli.specs.LinkEndings.{IsLinkEnding, LinkEnds};
 ghost use Rattle.ddcmp_cli.specs.TapEndings.{IsUnopened};
 
 use crate::ending::Ending;
@@ -73,7 +73,17 @@ pub(crate) fn link<S: Lines, R: Source, W: Sink>(
     let Some(line) = LineName::read(linked.line) else {
         return usage(alloc, NO_LINE);
     };
-    match system.serve_line(alloc, line, linked.options, reader, writer) {
+    let ended = system.serve_line(alloc, line, linked.options, reader, writer);
+    ending_of(alloc, ended)
+}
+
+/// How the program ends if a link ended so.
+fn ending_of(alloc: Global, ended: Result<Served, ServiceFault<'_>>) -> Ending
+    ensures ends { LinkEnds ended.entry result }
+    ensures ending { IsLinkEnding result }
+    ensures write { (result ≡ Ending.Fault Fault.Write) ↔ (ended.entry ≡ Err ServiceFault.Write) }
+{
+    match ended {
         Ok(Served::Delivered) => Ending::Done,
         Ok(Served::SomeRefused) => Ending::SomeRefused,
         Err(ServiceFault::Open(fault)) => no_line(alloc, &fault),

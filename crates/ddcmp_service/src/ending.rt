@@ -1,5 +1,5 @@
 //! How the run of a link ends before all is delivered.
-ghost use Rattle.std.specs.Prelude.{◌≢◌};
+ghost use Rattle.std.specs.Prelude.{◌≡◌, ◌≢◌, ℕ};
 
 use crate::event::Down;
 use crate::fault::{Attempt, Cause, NotOpened, ServiceFault};
@@ -33,7 +33,10 @@ pub(crate) enum Ended {
 impl Ended {
     /// Returns the fault of a service over a line of this name whose output is whole.
     pub(crate) fn fault(self, line: LineName<'_>) -> ServiceFault<'_>
-        ensures { result ≢ ServiceFault.Write }
+        ensures whole { result ≢ ServiceFault.Write }
+        ensures read { self ≡ Ended.Read → result ≡ ServiceFault.Read }
+        ensures memory { self ≡ Ended.Memory → result ≡ ServiceFault.Memory }
+        ensures lost { (count : ℕ) → self ≡ Ended.Lost count → result ≡ ServiceFault.Lost count }
     {
         match self {
             Ended::NotOpened(refused) => ServiceFault::Open(line.not_opened(refused)),

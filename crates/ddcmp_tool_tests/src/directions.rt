@@ -138,3 +138,13 @@ fn room_until_all_is_written(rt: HostRuntime) {
     made.end();
     assert!(&rt; made.has_ended());
 }
+
+/// Every maximum in range has a direction.
+#[test]
+fn directions_of_every_maximum(rt: HostRuntime) {
+    for max in 1..=16383u16 {
+        assert!(&rt; 0 < max && max <= 16383);
+        let made = Direction::new(rt.alloc(), Side::Called, Notation::Plain, max);
+        assert!(&rt; made.is_ok());
+    }
+}

@@ -1,6 +1,6 @@
 // Frames of the most data that a reader takes, and of one byte more.
 use crate::same::is;
-use ddcmp_explain::{ExplainFault, Form, explain};
+use ddcmp_explain::{ExplainFault, Form, Notation, Style, explain, explain_dump};
 use ddcmp_frame::failing::{Pieces, Taken};
 use std::process::Abort;
 
@@ -131,14 +131,21 @@ fn data_above_the_maximum(rt: HostRuntime) {
     writes(&rt, &bytes, Form::Raw, 1, (line, 0, end));
 }
 
-/// Nothing, in both forms.
+/// Nothing, in both forms and of a dump.
 fn writes_no_item(rt: &(impl Abort + AllocGlobal), max: u16) {
+    assert!(rt; 0 < max && max <= 16383);
     let end = b"items=0 bytes=0 open=0\n";
     writes(rt, b"", Form::Hex, max, (b"", 0, end));
     writes(rt, b"", Form::Raw, max, (b"", 0, end));
+    let mut reader = Pieces::of(b"");
+    let mut writer = Taken::<64>::new();
+    let style = Style::items(Notation::Plain);
+    let told = explain_dump(rt.alloc(), &mut reader, &mut writer, style, max);
+    is(rt, told, Ok(()));
+    is(rt, writer.bytes(), end.as_slice());
 }
 
-/// Every maximum in range has a reader, in both forms.
+/// Every maximum in range has a reader, in both forms and of a dump.
 #[test]
 fn nothing_at_every_maximum(rt: HostRuntime) {
     for max in 1..=16383u16 {
