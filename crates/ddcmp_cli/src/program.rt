@@ -31,13 +31,13 @@ pub use ddcmp_words::{
     tap_is_asked,
 };
 use std::alloc::{AllocError, Global};
-use std::io::ErrorKind;
+use std::io::{Eprint, ErrorKind};
 use std::net::{Net, TcpStream};
 use std::{io, time};
 
 /// Runs a command.
 fn perform<
-    S: Net<Stream = TcpStream> + time::Clock + Inputs + Connections + Lines,
+    S: Net<Stream = TcpStream> + Eprint + time::Clock + Inputs + Connections + Lines,
     R: Source,
     W: Sink,
 >(system: &S, alloc: Global, command: Command<'_>, reader: &mut R, writer: &mut W) -> Ending
@@ -95,7 +95,7 @@ fn show<W: Sink>(writer: &mut W, text: &str) -> Ending
 /// Runs the command that the arguments name, from `reader` to `writer`. The first argument is the
 /// program's name; `system` opens files, connections and lines, and has the time.
 pub fn run<
-    S: Net<Stream = TcpStream> + time::Clock + Inputs + Connections + Lines,
+    S: Net<Stream = TcpStream> + Eprint + time::Clock + Inputs + Connections + Lines,
     R: Source,
     W: Sink,
 >(system: &S, alloc: Global, words: &[&str], reader: &mut R, writer: &mut W) -> Ending
@@ -128,7 +128,7 @@ fn texts(alloc: Global, args: &[String]) -> Result<Vec<&str>, AllocError>
 /// Runs the command that the arguments name, as the system passes them: they may not be text, or
 /// their allocation may have failed.
 pub fn run_args<
-    S: Net<Stream = TcpStream> + time::Clock + Inputs + Connections + Lines,
+    S: Net<Stream = TcpStream> + Eprint + time::Clock + Inputs + Connections + Lines,
     R: Source,
     W: Sink,
 >(

@@ -14,6 +14,7 @@ use ddcmp_service::{Attempt, Cause, NotOpened};
 use ddcmp_tap::{NotMade, Notation as TapNotation, Stage, TapFault};
 use ddcmp_words::Tapped;
 use std::alloc::Global;
+use std::io::Eprint;
 use std::net::{Net, TcpStream};
 use std::time;
 
@@ -73,7 +74,7 @@ fn told_as(tapped: &Tapped<'_>) -> TapNotation
 }
 
 /// Opens both connections, and forwards between them until both sides have ended.
-fn tap_between<S: Net<Stream = TcpStream> + time::Clock, W: Sink>(
+fn tap_between<S: Net<Stream = TcpStream> + Eprint + time::Clock, W: Sink>(
     system: &S,
     alloc: Global,
     tapped: &Tapped<'_>,
@@ -101,7 +102,7 @@ fn tap_between<S: Net<Stream = TcpStream> + time::Clock, W: Sink>(
 }
 
 /// A tap, as the words ask for it.
-pub(crate) fn tap<S: Net<Stream = TcpStream> + time::Clock, W: Sink>(
+pub(crate) fn tap<S: Net<Stream = TcpStream> + Eprint + time::Clock, W: Sink>(
     system: &S,
     alloc: Global,
     tapped: &Tapped<'_>,

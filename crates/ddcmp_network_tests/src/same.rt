@@ -1,6 +1,7 @@
 //! The system that runs a test, and a comparison that promises nothing.
 use ddcmp_cli::{Connections, Inputs, Lines};
 use std::fmt::Debug;
+use std::io::Eprint;
 use std::net::{Net, TcpStream};
 use std::process::Abort;
 use std::time::Clock;
@@ -9,6 +10,7 @@ use std::time::Clock;
 pub trait System: Abort
     + AllocGlobal
     + Net<Stream = TcpStream>
+    + Eprint
     + Clock
     + Inputs
     + Connections
@@ -16,7 +18,14 @@ pub trait System: Abort
 
 impl<S> System for S
 where
-    S: Abort + AllocGlobal + Net<Stream = TcpStream> + Clock + Inputs + Connections + Lines,
+    S: Abort
+        + AllocGlobal
+        + Net<Stream = TcpStream>
+        + Eprint
+        + Clock
+        + Inputs
+        + Connections
+        + Lines,
 {}
 
 /// What was reported is what was expected.

@@ -8,7 +8,8 @@ use ddcmp_cli::{
 use ddcmp_frame::failing::{Pieces, Taken};
 use ddcmp_frame::{Sink, Source};
 use std::alloc::Global;
-use std::io::{self, ErrorKind};
+use std::fmt::Display;
+use std::io::{self, Eprint, ErrorKind};
 use std::net::{Net, Shutdown, SocketAddr, TcpListener, TcpStream};
 use std::process::Abort;
 use std::time::{Clock, Duration};
@@ -16,7 +17,7 @@ use std::time::{Clock, Duration};
 /// What a script ends as on a system, and what it wrote.
 fn played(
     rt: &impl AllocGlobal,
-    system: &(impl Net<Stream = TcpStream> + Clock + Inputs + Connections + Lines),
+    system: &(impl Net<Stream = TcpStream> + Eprint + Clock + Inputs + Connections + Lines),
     words: &[&str],
     input: &[u8],
     fails_at: usize,
@@ -140,6 +141,16 @@ impl<S: Lines> Lines for Poor<'_, S> {
     }
 }
 
+impl<S: Eprint> Eprint for Poor<'_, S> {
+    fn eprint<D: Display + Drop>(&self, value: D) -> io::Result<()> {
+        self.system.eprint(value)
+    }
+
+    fn eprintln<D: Display + Drop>(&self, value: D) -> io::Result<()> {
+        self.system.eprintln(value)
+    }
+}
+
 impl<S: Clock> Clock for Poor<'_, S> {
     fn monotonic(&self) -> io::Result<Duration> {
         self.system.monotonic()
@@ -165,6 +176,7 @@ fn lacks_a_carrier(
     rt: &(impl Abort
         + AllocGlobal
         + Net<Stream = TcpStream, Listener = TcpListener>
+        + Eprint
         + Clock
         + Inputs
         + Connections

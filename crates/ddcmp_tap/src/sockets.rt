@@ -3,25 +3,76 @@ ghost use Rattle.std.specs.Prelude.{◌≡◌, false};
 
 use crate::outlet::Outlet;
 use crate::pumping::Readiness;
+use ddcmp_io::cause::words_of;
 use mio::net::TcpStream;
 use mio::{Events, Interest, Poll, Token};
 use std::alloc::Global;
-use std::io::{self, ErrorKind, Write};
+use std::cell::Cell;
+use std::fmt::Display;
+use std::io::{self, Eprint, ErrorKind, Read, Write};
 use std::net::{Net, Shutdown};
+
+/// The connection to a side, and why it failed, if it did.
+#[derive(Drop)]
+pub(crate) struct Socket {
+    stream: TcpStream,
+    failed: Cell<Option<ErrorKind>>,
+}
+
+impl Socket {
+    pub(crate) fn new(stream: TcpStream) -> Self {
+        Socket {
+            stream,
+            failed: Cell::new(None),
+        }
+    }
+
+    /// Takes note of an error: returns whether the socket failed. It may only have nothing to give,
+    /// or no room.
+    fn has_failed(&self, kind: ErrorKind) -> bool {
+        let failed = !matches!(kind, ErrorKind::WouldBlock | ErrorKind::Interrupted);
+        if failed {
+            self.failed.set(Some(kind));
+        }
+        failed
+    }
+
+    /// Prints why the side of this name failed, if it did.
+    pub(crate) fn report<E: Eprint, N: Display>(&self, system: &E, side: &str, name: &N) {
+        let why = match self.failed.get() {
+            None => return,
+            Some(ErrorKind::BrokenPipe) => "broken pipe",
+            Some(ErrorKind::Other) => "input or output error",
+            Some(kind) => words_of(kind),
+        };
+        let _ = eprintln!(system; "ddcmp: {side} {name}: {why}");
+    }
+}
+
+impl Read for &Socket {
+    fn read(&mut self, buf: &mut [u8]) -> io::Result<usize> {
+        let mut stream = &self.stream;
+        let got = stream.read(buf);
+        if let Err(error) = &got {
+            let _is_idle = self.has_failed(error.kind());
+        }
+        got
+    }
+}
 
 /// The way to the peer of a socket.
 #[derive(Drop)]
 pub(crate) struct ToSocket<'a> {
-    stream: &'a TcpStream,
+    socket: &'a Socket,
     closed: bool,
 }
 
 impl<'a> ToSocket<'a> {
-    pub(crate) fn new(stream: &'a TcpStream) -> Self
+    pub(crate) fn new(socket: &'a Socket) -> Self
         ensures { result.closed ≡ false }
     {
         ToSocket {
-            stream,
+            socket,
             closed: false,
         }
     }
@@ -36,20 +87,18 @@ impl Outlet for ToSocket<'_> {
     ghost closed = { λ outlet. outlet.closed };
 
     fn write(&mut self, bytes: &[u8]) -> Option<usize> {
-        let mut stream = self.stream;
+        let mut stream = &self.socket.stream;
         match stream.write(bytes) {
             Ok(n) => Some(n),
-            Err(error) => match error.kind() {
-                ErrorKind::WouldBlock | ErrorKind::Interrupted => Some(0),
-                _ => None,
-            },
+            Err(error) if self.socket.has_failed(error.kind()) => None,
+            Err(_) => Some(0),
         }
     }
 
     fn close(&mut self) {
         self.closed = true;
         // A peer that is gone needs no telling.
-        let _ = self.stream.shutdown(Shutdown::Write);
+        let _ = self.socket.stream.shutdown(Shutdown::Write);
     }
 
     fn is_closed(&self) -> bool {

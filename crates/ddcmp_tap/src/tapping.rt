@@ -9,14 +9,14 @@ use crate::flow::Flow;
 use crate::notation::Notation;
 use crate::pumping::pump;
 use crate::side::Side;
-use crate::sockets::{Sockets, ToSocket};
+use crate::sockets::{Socket, Sockets, ToSocket};
 use crate::tap_fault::{NotMade, Stage, TapFault};
 use ddcmp_io::{FromRead, Sink, WriteFailed, write_all};
 use ddcmp_station::Elapsed;
 use mio::net::TcpStream;
 use std::alloc::Global;
-use std::io::{self, ErrorKind};
-use std::net::{self, Net, OpenListener, TcpListener, ToSocketAddrs};
+use std::io::{self, Eprint, ErrorKind};
+use std::net::{self, Net, OpenListener, SocketAddr, TcpListener, ToSocketAddrs};
 use std::time;
 
 /// The head of a ladder, with who is on which side.
@@ -43,10 +43,13 @@ fn prompt(stream: net::TcpStream) -> io::Result<TcpStream> {
     Ok(TcpStream::from_std(stream))
 }
 
-/// Returns the first connection to an address.
-fn accept_first<N: Net<Stream = net::TcpStream>>(net: &N, name: &str) -> io::Result<TcpStream> {
-    let (caller, _peer) = TcpListener::bind(net, name)?.accept()?;
-    prompt(caller)
+/// Returns the first connection to an address, and whose it is.
+fn accept_first<N: Net<Stream = net::TcpStream>>(
+    net: &N,
+    name: &str,
+) -> io::Result<(TcpStream, SocketAddr)> {
+    let (caller, peer) = TcpListener::bind(net, name)?.accept()?;
+    Ok((prompt(caller)?, peer))
 }
 
 /// Returns a connection to an address.
@@ -66,18 +69,18 @@ fn not_made<N: Net>(net: &N, stage: Stage, name: &str, error: &io::Error) -> Not
     }
 }
 
-/// Returns the first connection to one address, and then one to the other.
+/// Returns the first connection to one address, and whose it is, and then one to the other.
 fn open<N: Net<Stream = net::TcpStream>>(
     net: &N,
     listen: &str,
     connect: &str,
-) -> Result<(TcpStream, TcpStream), NotMade> {
-    let caller = match accept_first(net, listen) {
-        Ok(caller) => caller,
+) -> Result<(TcpStream, SocketAddr, TcpStream), NotMade> {
+    let (caller, peer) = match accept_first(net, listen) {
+        Ok(first) => first,
         Err(error) => return Err(not_made(net, Stage::Listen, listen, &error)),
     };
     match connect_to(net, connect) {
-        Ok(called) => Ok((caller, called)),
+        Ok(called) => Ok((caller, peer, called)),
         Err(error) => Err(not_made(net, Stage::Connect, connect, &error)),
     }
 }
@@ -97,8 +100,9 @@ fn no_waiting(error: &io::Error) -> TapFault
 }
 
 /// Waits at one address until someone connects, connects to the other, and forwards between the two
-/// until both have ended. The log goes to the writer, line by line, as bytes come.
-pub fn tap<S: Net<Stream = net::TcpStream> + time::Clock, W: Sink>(
+/// until both have ended. The log goes to the writer, line by line, as bytes come; why a side failed
+/// goes to standard error.
+pub fn tap<S: Net<Stream = net::TcpStream> + Eprint + time::Clock, W: Sink>(
     system: &S,
     alloc: Global,
     listen: &str,
@@ -117,7 +121,7 @@ pub fn tap<S: Net<Stream = net::TcpStream> + time::Clock, W: Sink>(
         → writer.new ≡ writer.old }
     ensures broken { (result ≡ Err TapFault.Report) ↔ IsTrue (W.broken writer.new) }
 {
-    let (mut caller, mut called) = match open(system, listen, connect) {
+    let (mut caller, peer, mut called) = match open(system, listen, connect) {
         Ok(both) => both,
         Err(not_made) => return Err(TapFault::Carrier(not_made)),
     };
@@ -125,7 +129,8 @@ pub fn tap<S: Net<Stream = net::TcpStream> + time::Clock, W: Sink>(
         Ok(sockets) => sockets,
         Err(error) => return Err(no_waiting(&error)),
     };
-    between(
+    let (caller, called) = (Socket::new(caller), Socket::new(called));
+    let ended = between(
         system,
         alloc,
         &caller,
@@ -135,15 +140,18 @@ pub fn tap<S: Net<Stream = net::TcpStream> + time::Clock, W: Sink>(
         timed,
         max,
         writer,
-    )
+    );
+    caller.report(system, "caller", &peer);
+    called.report(system, "called", &connect);
+    ended
 }
 
 /// Forwards between two sockets.
 fn between<C: time::Clock, W: Sink>(
     clock: &C,
     alloc: Global,
-    caller: &TcpStream,
-    called: &TcpStream,
+    caller: &Socket,
+    called: &Socket,
     sockets: &mut Sockets,
     notation: Notation,
     timed: bool,
