@@ -98,8 +98,8 @@ delivered_since c = drop (length (mail_in c.shown_before)) (mail_in c.history.sh
 abbrev pub PipesAnew : Made → Connection → Connection → Type 0
 PipesAnew made giver taker = IsPrefixOf (delivered_since taker) (read_since made giver)
 
--- If one session may end as delivered, the other has received all of the messages that its input has
--- had since: these, and no others.
+-- If one session may end as delivered, the other has received all of the messages that its input
+-- has had since: these, and no others.
 abbrev pub PipesAllAnew : Made → Connection → Connection → Type 0
 PipesAllAnew made giver taker = is_delivered giver.history.session ≡ true
     → delivered_since taker ++ undelivered taker.history ≡ read_since made giver

@@ -33,8 +33,8 @@ use Rattle.ddcmp_callers.specs.Links.{Feeds, Takes, HasFed, LinkStep, LinkHistor
 
 -- A call of a session, by its name: with the bytes of its input or of its line that it used, how
 -- many frames it put, how many bytes a device took, the moment that it was passed, or whether it
--- delivered a message. Of the other calls `write_end` appends the last lines of a run to an output of
--- lines; they change nothing else of a session's view.
+-- delivered a message. Of the other calls `write_end` appends the last lines of a run to an output
+-- of lines; they change nothing else of a session's view.
 pub data SessionCall : Type 0 where
   Typed : (used : List ℕ) → SessionCall
   InputEnded : SessionCall
@@ -65,8 +65,8 @@ pub record HasWritten (text : List ℕ) (old new : SessionView) : Type 0 where
   pub wrote : Wrote text old.output new.output
   pub stays : new ≡ record old { output = new.output }
 
--- Bytes of the line were used, where this text came before, and their notices written. No pause begins
--- but by a NAK.
+-- Bytes of the line were used, where this text came before, and their notices written. No pause
+-- begins but by a NAK.
 pub record HasReceived (text used : List ℕ) (old new : SessionView) : Type 0 where
   pub fed : HasFed text used old.link new.link
   pub wrote : Wrote (notices_text (form_of old.messages)

@@ -67,8 +67,9 @@ pub fn pipe_over_connections()
 /// clean run: the messages that each has delivered since it was connected last are the first of
 /// those that the other's input has had since that one was, in their order, each once and
 /// unchanged; and if one may end as delivered, the other has received all of them. In binary they
-/// stand in its output after the messages that it had had before. When a session that is connected again keeps the line honest and the run clean is
-/// said by `ddcmp_callers::link_restarts`.
+/// are in its output after the messages that it had delivered before. When a session that is
+/// connected again keeps the line honest and the run clean is said by
+/// `ddcmp_callers::link_restarts`.
 pub fn pipe_anew()
     ensures to_b { IsKeptAnew (λ first second p. PipesAnew first p.a p.b) }
     ensures to_a { IsKeptAnew (λ first second p. PipesAnew second p.b p.a) }

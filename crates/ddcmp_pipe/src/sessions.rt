@@ -36,7 +36,8 @@ pub fn session_calls_are_link_calls()
 {}
 
 /// What standard output took of a new session, and after it what waits for it, is the text of the
-/// messages that were delivered and of what was reported, in their order. In binary it is the messages alone, each after its length.
+/// messages that were delivered and of what was reported, in their order. In binary it is the
+/// messages alone, each after its length.
 pub fn output_is_text_of()
     ensures text { (form : FormValue) (config : ConfigValue) (milliseconds : ℕ)
         (line : ReaderView) (steps : List SessionStep)
