@@ -46,8 +46,7 @@ fn session(rt: &(impl Abort + AllocGlobal), form: Form, kind: LineKind) -> Optio
 fn passes(from: &mut Session, to: &mut Session) -> bool {
     from.fill();
     let sent = from.to_line();
-    let whole = to.whole_frames(sent);
-    to.log_received(&sent[..whole.min(sent.len())]);
+    to.log_received(sent);
     let used = to.received(sent);
     from.line_took(used);
     let _delivered = to.deliver();

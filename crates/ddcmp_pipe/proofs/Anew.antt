@@ -15,7 +15,6 @@ use Rattle.ddcmp_run.specs.declared.event.End.{End}
 use Rattle.ddcmp_run.specs.declared.event.End.TheVariants.{A, B}
 use Rattle.ddcmp_run.specs.Prefix.{IsPrefixOf}
 use Rattle.ddcmp_run.specs.Run.{new_pair, is_clean}
-use Rattle.ddcmp_session.specs.declared.messages.Form.{Form}
 use Rattle.ddcmp_session.specs.Messages.{message_in, after_input, entries_of_input, after_last}
 use Rattle.ddcmp_session.specs.Messages.{entry_of_last}
 use Rattle.ddcmp_session.specs.Session.{SessionView, wants_input}
@@ -29,19 +28,19 @@ use Rattle.ddcmp_callers.specs.LinkRestarts.{calls_of_links, history_at}
 use Rattle.ddcmp_callers.specs.LinkRestarts as restarts
 use Rattle.ddcmp_callers.specs.StationRuns.{run_station_calls}
 use Rattle.ddcmp_callers.proofs.LinkRestarts.{anew-to-b, anew-to-a, anew-all-to-b, anew-all-to-a}
-use Rattle.ddcmp_pipe.specs.Sessions.{SessionCall, Typed, InputEnded, Connected, LineEnded}
-use Rattle.ddcmp_pipe.specs.Sessions.{Received, Filled, LineTook, TimedOut, Delivered, OutputTook}
-use Rattle.ddcmp_pipe.specs.Sessions.{Closed, SessionDoes, SessionHistory, SessionStep}
-use Rattle.ddcmp_pipe.specs.Sessions.{after_session_step, messages_of, mail_in, link_steps_of}
-use Rattle.ddcmp_pipe.specs.Sessions.{after_connected}
-use Rattle.ddcmp_pipe.specs.Sessions.{offers_of, frames_put, texts_of}
+use Rattle.ddcmp_session.specs.Calls.{SessionCall, Typed, InputEnded, Connected, LineEnded}
+use Rattle.ddcmp_session.specs.Calls.{Received, Filled, LineTook, TimedOut, Delivered, OutputTook}
+use Rattle.ddcmp_session.specs.Calls.{Closed, SessionDoes, SessionStep}
+use Rattle.ddcmp_session.specs.Calls.{after_session_step, after_connected}
+use Rattle.ddcmp_pipe.specs.Sessions.{messages_of, mail_in, link_steps_of, offers_of, frames_put}
+use Rattle.ddcmp_pipe.specs.Sessions.{texts_of}
 use Rattle.ddcmp_pipe.specs.Pipe.{Made, links_made, steps_at_end}
-use Rattle.ddcmp_pipe.specs.Connections.{Connection, first_connection, begun_anew, after_call}
+use Rattle.ddcmp_pipe.specs.Connections.{Connection, first_connection}
 use Rattle.ddcmp_pipe.specs.Connections.{after_step, Does, Connections, first_connections, at}
 use Rattle.ddcmp_pipe.specs.Connections.{after_step_at, AreCalls, after_steps, link_steps}
 use Rattle.ddcmp_pipe.specs.Connections.{read_since, delivered_since, PipesAnew, PipesAllAnew}
-use Rattle.ddcmp_pipe.specs.Connections.{WritesAnew, IsKeptAnew}
-use Rattle.ddcmp_pipe.proofs.Holding.{Holds, link_history, parts, session_parts}
+use Rattle.ddcmp_pipe.specs.Connections.{WritesAnew}
+use Rattle.ddcmp_pipe.proofs.Holding.{Holds, link_history, parts}
 use Rattle.ddcmp_pipe.proofs.Outcomes.{binary_more, last_true}
 use Rattle.ddcmp_pipe.proofs.Texts.{only_mail}
 use Rattle.ddcmp_pipe.proofs.LinkSteps.{begins, step_leads, link_only, same_link, with_line}

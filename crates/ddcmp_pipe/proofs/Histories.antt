@@ -8,10 +8,9 @@ use Rattle.ddcmp_session.specs.declared.messages.Form.{Form}
 use Rattle.ddcmp_callers.specs.Links.{LinkHistory, LinkStep, new_history}
 use Rattle.ddcmp_callers.specs.Links.{after_step, IsHistory, after_history, offered_in_call}
 use Rattle.ddcmp_callers.specs.Links.{offered_in}
-use Rattle.ddcmp_pipe.specs.Sessions.{SessionHistory}
-use Rattle.ddcmp_pipe.specs.Sessions.{new_session, SessionStep, after_session_step}
-use Rattle.ddcmp_pipe.specs.Sessions.{IsSessionHistory, after_session_steps, messages_of}
-use Rattle.ddcmp_pipe.specs.Sessions.{link_steps_of, link_steps_in, IsOfLink}
+use Rattle.ddcmp_session.specs.Calls.{SessionHistory, new_session, SessionStep}
+use Rattle.ddcmp_session.specs.Calls.{after_session_step, IsSessionHistory, after_session_steps}
+use Rattle.ddcmp_pipe.specs.Sessions.{messages_of, link_steps_of, link_steps_in, IsOfLink}
 use Rattle.ddcmp_pipe.proofs.Texts.{IsText}
 use Rattle.ddcmp_pipe.proofs.Holding.{Holds, Leads, StepLeads, link_history}
 use Rattle.ddcmp_pipe.proofs.LinkSteps.{begins, step_leads}

@@ -2,9 +2,7 @@
 use Rattle.std.proofs.Common.{◌≡◌, ℕ, ◌+◌, ◌-◌, ◌*◌, ◌≤◌, Bool, true, false, cond, List, [], ◌∷◌}
 use Rattle.std.proofs.Common.{◌++◌, ◌⊎◌, inl, inr, length, map, refl, sym, ◌∙◌, ap, subst, arith}
 use Rattle.std.proofs.Common.{append_assoc, length-append, Option, Some, None}
-use Rattle.std.proofs.Common.{option_to_list, take, drop}
-use Rattle.std.proofs.lemmas.List.{length-take, take-append-drop}
-use Rattle.std.proofs.Math.Seq.{take-append_seam}
+use Rattle.std.proofs.Common.{option_to_list}
 use Rattle.std.specs.Prelude.{◌==◌, nat_le}
 use Rattle.ddcmp_input.specs.declared.entry.Entry.{Entry}
 use Rattle.ddcmp_input.specs.declared.entry.Entry.TheVariants.{Message, NotHexadecimal, TooLong}
@@ -33,7 +31,8 @@ use Rattle.ddcmp_session.specs.declared.messages.Messages.{Messages}
 use Rattle.ddcmp_session.specs.declared.messages.Messages.TheVariants.{Digits, Binary}
 use Rattle.ddcmp_session.specs.Messages.{messages_begun, message_in, after_input, entries_of_input}
 use Rattle.ddcmp_session.specs.Session.{form_of}
-use Rattle.ddcmp_pipe.specs.Sessions.{CompletesLast, got, got_in, messages_of}
+use Rattle.ddcmp_session.specs.Calls.{CompletesLast}
+use Rattle.ddcmp_pipe.specs.Sessions.{got, got_in, messages_of}
 
 -- the message of what was completed, if it is one
 abbrev pub read_by : List Entry → List ℕ → List (List ℕ)
@@ -457,53 +456,3 @@ read_fits form.Binary max input used m is part =
     subst (ReadFits max used) (sym is)
     (fits_in_binary max used (lengths.after_bytes input (lengths.begun max))
     (fit_binary max input (lengths.begun max) (refl, tt)) (subst (CompletesLast used) is part))
-
--- ---- the bytes that `typed` takes
-
-empty_front : {A : Type 0} (xs ys : List A) → xs ++ ys ≡ [] → xs ≡ []
-empty_front [] ys e = refl
-empty_front (x ∷ xs) ys e = cc
-
-none_in_front : (front : List ℕ) (byte : ℕ) (m : Messages)
-    → entries_of_input (front ++ byte ∷ []) m ≡ [] → entries_of_input front m ≡ []
-none_in_front front byte (Digits v) e =
-    empty_front (hex.entries_of_bytes front v)
-    (option_to_list (hex.entry_of_byte byte (hex.after_bytes front v)))
-    (sym (hex_laws.entries_of_last front byte v) ∙ e)
-none_in_front front byte (Binary v) e =
-    empty_front (lengths.entries_of_bytes front v)
-    (option_to_list (lengths.entry_of_byte byte (lengths.after_bytes front v)))
-    (sym (length_laws.entries_of_last front byte v) ∙ e)
-
-front_is : (n : ℕ) (bytes front : List ℕ) (byte : ℕ) → take n bytes ≡ front ++ byte ∷ []
-    → take (length front) bytes ≡ front
-front_is n bytes front byte e =
-    ap (take (length front))
-    (sym (take-append-drop n bytes)
-    ∙ ap (λ ys. ys ++ drop n bytes) e
-    ∙ append_assoc front (byte ∷ []) (drop n bytes))
-    ∙ take-append_seam front (byte ∷ drop n bytes)
-
-pub completes_last : (n : ℕ) (bytes : List ℕ) (m : Messages) → n ≤ length bytes
-    → ((k : ℕ) (entry : Entry) → entries_of_input (take n bytes) m ≡ entry ∷ [] → n ≡ k + 1
-    → entries_of_input (take k bytes) m ≡ [])
-    → length (entries_of_input (take n bytes) m) ≤ 1 → CompletesLast (take n bytes) m
-completes_last n bytes m most first few front byte is =
-    by (entries_of_input (take n bytes) m) refl few
-  where
-    count : n ≡ length front + 1
-    count =
-        let a = ap length is in let b = length-take n bytes in
-        let c = length-append front (byte ∷ []) in
-        omega (arith, a, b, c, most)
-
-    by : (es : List Entry) → entries_of_input (take n bytes) m ≡ es → length es ≤ 1
-        → entries_of_input front m ≡ []
-    by [] e few = none_in_front front byte m (ap (λ t. entries_of_input t m) (sym is) ∙ e)
-    by (x ∷ []) e few =
-        ap (λ t. entries_of_input t m) (sym (front_is n bytes front byte is))
-        ∙ first (length front) x e count
-    by (x ∷ y ∷ es) e few = absurd (omega (arith, few))
-
-pub nothing_taken : (n : ℕ) (bytes : List ℕ) → n ≡ 0 → take n bytes ≡ []
-nothing_taken n bytes e = ap (λ k. take k bytes) e

@@ -1,6 +1,6 @@
 -- The calls of a session are calls of its link, and the histories of both keep together.
 use Rattle.std.proofs.Common.{◌≡◌, ℕ, Bool, true, false, cond, List, [], ◌∷◌}
-use Rattle.std.proofs.Common.{◌++◌, length, map, take, refl, sym, ◌∙◌, ap}
+use Rattle.std.proofs.Common.{◌++◌, map, take, refl, sym, ◌∙◌, ap}
 use Rattle.std.proofs.Common.{append-nil, option_to_list, Option, None}
 use Rattle.std.specs.Prelude.{is_ok}
 use Rattle.ddcmp_core.specs.Table.{after_halt, answer_to_start}
@@ -27,19 +27,18 @@ use Rattle.ddcmp_session.specs.Session.{after_last_line, after_unfinished, after
 use Rattle.ddcmp_session.specs.Session.{lost_by_end, pause_at}
 use Rattle.ddcmp_session.specs.Text.{reported_lost, mail_text, notices_text}
 use Rattle.ddcmp_callers.specs.Links.{LinkCall, BeginsAnew, Halts, Wakes, IsSent, Feeds}
-use Rattle.ddcmp_callers.specs.Links.{Takes, HasDone, new_history}
+use Rattle.ddcmp_callers.specs.Links.{Takes, HasDone, HasFed, new_history}
 use Rattle.ddcmp_callers.specs.Links.{after_step, after_history}
 use Rattle.ddcmp_callers.specs.Links.{offered_in}
-use Rattle.ddcmp_pipe.specs.Sessions.{SessionCall, Typed, InputEnded, Connected, LineEnded}
-use Rattle.ddcmp_pipe.specs.Sessions.{Received}
-use Rattle.ddcmp_pipe.specs.Sessions.{Filled, LineTook, TimedOut, Delivered, OutputTook, Closed}
-use Rattle.ddcmp_pipe.specs.Sessions.{HasReceived, HasDelivered, HasLeft, HasClosed}
-use Rattle.ddcmp_pipe.specs.Sessions.{SessionDoes, Shown, Mail, Reports, SessionHistory}
-use Rattle.ddcmp_pipe.specs.Sessions.{new_session, SessionStep, end_in, losses}
-use Rattle.ddcmp_pipe.specs.Sessions.{messages_of, got_in}
-use Rattle.ddcmp_pipe.specs.Sessions.{mail_in, texts_of, link_step, offers_of, frames_put}
+use Rattle.ddcmp_session.specs.Calls.{SessionCall, Typed, InputEnded, Connected, LineEnded}
+use Rattle.ddcmp_session.specs.Calls.{Received, Filled, LineTook, TimedOut, Delivered, OutputTook}
+use Rattle.ddcmp_session.specs.Calls.{Closed, HasReceived, HasDelivered, HasLeft, HasClosed}
+use Rattle.ddcmp_session.specs.Calls.{SessionDoes, Shown, Mail, Reports, SessionHistory}
+use Rattle.ddcmp_session.specs.Calls.{new_session, SessionStep, end_in, losses}
+use Rattle.ddcmp_pipe.specs.Sessions.{messages_of, got_in, mail_in, texts_of, link_step}
+use Rattle.ddcmp_pipe.specs.Sessions.{offers_of, frames_put}
 use Rattle.ddcmp_pipe.proofs.Texts.{mail_more, no_mail, mail_is, nothing_lost, notices_are}
-use Rattle.ddcmp_pipe.proofs.Texts.{mail_text_is, lost_text_is, no_text, IsText, writes, keeps}
+use Rattle.ddcmp_pipe.proofs.Texts.{mail_text_is, lost_text_is, no_text, IsText, writes}
 use Rattle.ddcmp_pipe.proofs.Texts.{took}
 use Rattle.ddcmp_pipe.proofs.Limits.{fed_longest, frames_longest, longest_of, wake_longest}
 use Rattle.ddcmp_pipe.proofs.Holding.{Holds, Leads, StepLeads, frames_done, frames_offer_none}
@@ -171,6 +170,11 @@ filled_step f max h new k frames holds is =
           (frames_offer_none frames h.session.link),
     )
 
+-- what a session received, its link was fed
+fed_of : (text used : List ℕ) (old new : SessionView) → HasReceived text used old new
+    → HasFed text used old.link new.link
+fed_of text used old new r = record { core = r.core; syn = r.syn; stays = r.link }
+
 pub received_step : (f : Form) (max : ℕ) (h : SessionHistory) (new : SessionView) (k : ℕ)
     (used : List ℕ) → Holds f max h → HasReceived h.used used h.session new
     → StepLeads f max (record { call = Received used; session = new }) h k
@@ -182,11 +186,11 @@ received_step f max h new k used holds r =
     mail_more h.shown (map Reports notices) ∙ ap (λ ms. mail_in h.shown ++ ms) (no_mail notices)
     in (
       one_call f max h new k (Feeds used) (h.used ++ used) (h.gone ++ []) (h.written ++ []) shown []
-          r.fed refl mail,
+          (fed_of h.used used h.session new r) refl mail,
       holds_on f max h new (h.used ++ used) (h.gone ++ []) (h.written ++ []) shown holds
           (ap (λ (x : SessionView). x.messages) r.stays) (ap (λ (x : SessionView). x.is_read)
           r.stays)
-          (fed_longest h.used used h.session.link new.link r.fed)
+          (fed_longest h.used used h.session.link new.link (fed_of h.used used h.session new r))
           (writes f h.written h.shown (map Reports notices) h.session.output new.output
           (notices_text (form_of h.session.messages) notices) holds.text r.wrote
           (ap (λ g. notices_text g notices) holds.kind ∙ notices_are f notices)),

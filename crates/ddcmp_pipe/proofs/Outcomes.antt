@@ -21,9 +21,8 @@ use Rattle.ddcmp_callers.specs.Links.{Links, after_steps}
 use Rattle.ddcmp_callers.specs.Links.{AreStartedOnce, received, LinkReaches}
 use Rattle.ddcmp_callers.specs.LinkLines.{AreLinkCalls, calls_of_steps}
 use Rattle.ddcmp_callers.proofs.TwoLinks.{reaches_a, reaches_b, all_to_a, all_to_b, kept}
-use Rattle.ddcmp_pipe.specs.Sessions.{SessionHistory, SessionStep, messages_of}
-use Rattle.ddcmp_pipe.specs.Sessions.{mail_in, got_in}
-use Rattle.ddcmp_pipe.specs.Sessions.{texts_of}
+use Rattle.ddcmp_session.specs.Calls.{SessionHistory, SessionStep}
+use Rattle.ddcmp_pipe.specs.Sessions.{messages_of, mail_in, got_in, texts_of}
 use Rattle.ddcmp_pipe.specs.Pipe.{Made, Sessions, new_sessions, links_made}
 use Rattle.ddcmp_pipe.specs.Pipe.{after_session_at, AreSessionCalls, after_sessions}
 use Rattle.ddcmp_pipe.specs.Pipe.{link_steps_at, AreConnectedOnce}

@@ -14,10 +14,9 @@ use Rattle.ddcmp_session.specs.Session.{SessionView, wants_input}
 use Rattle.ddcmp_callers.specs.Links.{LinkStep, IsHistory, after_history, after_step}
 use Rattle.ddcmp_callers.specs.Links.{Links, after_steps, starts_in_call, link_starts}
 use Rattle.ddcmp_callers.specs.LinkLines.{AreLinkCalls}
-use Rattle.ddcmp_pipe.specs.Sessions.{SessionCall, Typed, InputEnded, Connected, LineEnded}
-use Rattle.ddcmp_pipe.specs.Sessions.{Received}
-use Rattle.ddcmp_pipe.specs.Sessions.{Filled, LineTook, TimedOut, Delivered, OutputTook, Closed}
-use Rattle.ddcmp_pipe.specs.Sessions.{SessionDoes, SessionStep}
+use Rattle.ddcmp_session.specs.Calls.{SessionCall, Typed, InputEnded, Connected, LineEnded}
+use Rattle.ddcmp_session.specs.Calls.{Received, Filled, LineTook, TimedOut, Delivered, OutputTook}
+use Rattle.ddcmp_session.specs.Calls.{Closed, SessionDoes, SessionStep}
 use Rattle.ddcmp_pipe.specs.Sessions.{offers_of, frames_put, link_steps_of}
 use Rattle.ddcmp_pipe.specs.Pipe.{Made, Sessions, session_at}
 use Rattle.ddcmp_pipe.specs.Pipe.{after_session_at, AreSessionCalls, after_sessions, steps_at_end}

@@ -21,11 +21,8 @@ use Rattle.ddcmp_session.specs.Session.{after_last_line, after_unfinished}
 use Rattle.ddcmp_callers.specs.Links.{Offers}
 use Rattle.ddcmp_callers.specs.Links.{after_history}
 use Rattle.ddcmp_callers.specs.Links.{offered_in}
-use Rattle.ddcmp_pipe.specs.Sessions.{CompletesLast, HasTyped}
-use Rattle.ddcmp_pipe.specs.Sessions.{SessionHistory}
-use Rattle.ddcmp_pipe.specs.Sessions.{end_in}
-use Rattle.ddcmp_pipe.specs.Sessions.{messages_of}
-use Rattle.ddcmp_pipe.specs.Sessions.{link_step, offers_of}
+use Rattle.ddcmp_session.specs.Calls.{CompletesLast, HasTyped, SessionHistory, end_in}
+use Rattle.ddcmp_pipe.specs.Sessions.{messages_of, link_step, offers_of}
 use Rattle.ddcmp_pipe.proofs.Inputs.{read_by, read_more, after_more, form_stays, read_fits}
 use Rattle.ddcmp_pipe.proofs.Inputs.{IfMessage}
 use Rattle.ddcmp_pipe.proofs.Limits.{accepts, both, longest_of, offered_longest}

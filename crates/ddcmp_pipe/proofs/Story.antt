@@ -6,8 +6,8 @@ use Rattle.ddcmp_input.specs.Lengths.{entries_of_bytes}
 use Rattle.ddcmp_session.specs.declared.messages.Form.TheVariants as form
 use Rattle.ddcmp_session.specs.Messages.{messages_begun, entries_of_input}
 use Rattle.ddcmp_laws.specs.Vectors.{abc}
-use Rattle.ddcmp_pipe.specs.Sessions.{CompletesLast}
-use Rattle.ddcmp_pipe.proofs.Inputs.{completes_last}
+use Rattle.ddcmp_session.specs.Calls.{CompletesLast}
+use Rattle.ddcmp_session.proofs.InputLaws.{completes_last}
 
 abbrev None : ℕ → Type 0
 None k = entries_of_input (take k (behind_length abc)) (messages_begun form.Binary 5) ≡ []

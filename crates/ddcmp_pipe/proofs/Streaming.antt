@@ -16,10 +16,9 @@ use Rattle.ddcmp_callers.specs.Links.{LinkHistory, LinkStep, IsHistory, after_hi
 use Rattle.ddcmp_callers.specs.Links.{LinkCall, Starts, BeginsAnew, Halts, Wakes, Offers, FillsOne}
 use Rattle.ddcmp_callers.specs.Links.{IsSent, Feeds, Takes, used_by, gone_by, LinkOverStreams}
 use Rattle.ddcmp_callers.specs.Links.{Links}
-use Rattle.ddcmp_pipe.specs.Sessions.{SessionCall, Typed, InputEnded, Connected, LineEnded}
-use Rattle.ddcmp_pipe.specs.Sessions.{Received}
-use Rattle.ddcmp_pipe.specs.Sessions.{Filled, LineTook, TimedOut, Delivered, OutputTook, Closed}
-use Rattle.ddcmp_pipe.specs.Sessions.{SessionDoes, SessionStep}
+use Rattle.ddcmp_session.specs.Calls.{SessionCall, Typed, InputEnded, Connected, LineEnded}
+use Rattle.ddcmp_session.specs.Calls.{Received, Filled, LineTook, TimedOut, Delivered, OutputTook}
+use Rattle.ddcmp_session.specs.Calls.{Closed, SessionDoes, SessionStep}
 use Rattle.ddcmp_pipe.specs.Sessions.{link_step, offers_of, frames_put, link_steps_of}
 use Rattle.ddcmp_pipe.specs.Pipe.{Made, Sessions, session_at}
 use Rattle.ddcmp_pipe.specs.Pipe.{after_session_at, steps_at_end}

@@ -1,5 +1,5 @@
 -- The text of what a session delivered and reported.
-use Rattle.std.proofs.Common.{◌≡◌, ℕ, Bool, true, false, length, arith, List, [], ◌∷◌, ◌++◌, map}
+use Rattle.std.proofs.Common.{◌≡◌, ℕ, Bool, true, false, arith, List, [], ◌∷◌, ◌++◌, map}
 use Rattle.std.proofs.Common.{take, drop}
 use Rattle.std.proofs.Common.{refl, sym, ◌∙◌, ap, append_assoc, append-nil, Option, Some}
 use Rattle.std.proofs.Common.{option_to_list}
@@ -12,8 +12,8 @@ use Rattle.ddcmp_io.specs.Queue.{QueueView}
 use Rattle.ddcmp_session.specs.Session.{SessionView, lost_by_end}
 use Rattle.ddcmp_session.specs.Text.{Wrote, notice_text, notices_text, mail_text, lost_text}
 use Rattle.ddcmp_session.specs.Text.{reported_lost}
-use Rattle.ddcmp_pipe.specs.Sessions.{Shown, Mail, Reports, Loses, mail_of, mail_in, text_of}
-use Rattle.ddcmp_pipe.specs.Sessions.{texts_of, losses}
+use Rattle.ddcmp_session.specs.Calls.{Shown, Mail, Reports, Loses, losses}
+use Rattle.ddcmp_pipe.specs.Sessions.{mail_of, mail_in, text_of, texts_of}
 
 pub mail_more : (xs ys : List Shown) → mail_in (xs ++ ys) ≡ mail_in xs ++ mail_in ys
 unfolding mail_in

@@ -6,8 +6,8 @@ use Rattle.ddcmp_run.specs.declared.event.End.{End}
 use Rattle.ddcmp_run.specs.declared.event.End.TheVariants.{A, B}
 use Rattle.ddcmp_session.specs.Session.{is_delivered}
 use Rattle.ddcmp_laws.specs.Vectors.{abc}
-use Rattle.ddcmp_pipe.specs.Sessions.{SessionCall, Connected, LineEnded, Filled, LineTook}
-use Rattle.ddcmp_pipe.specs.Sessions.{SessionStep}
+use Rattle.ddcmp_session.specs.Calls.{SessionCall, Connected, LineEnded, Filled, LineTook}
+use Rattle.ddcmp_session.specs.Calls.{SessionStep}
 use Rattle.ddcmp_pipe.specs.PipeStory.{step_by, small_made, pipe_calls}
 use Rattle.ddcmp_pipe.specs.Connections.{Connections, first_connections, at, after_step_at}
 use Rattle.ddcmp_pipe.specs.Connections.{read_since, delivered_since}

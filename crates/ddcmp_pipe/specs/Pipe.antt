@@ -1,5 +1,5 @@
 -- Two sessions on a line, as pipes: what comes out of one is what went into the other.
-use Rattle.std.specs.Prelude.{◌≡◌, ℕ, ◌+◌, ◌≤◌, true, false, List, [], ◌∷◌, ◌++◌, map, None}
+use Rattle.std.specs.Prelude.{◌≡◌, ℕ, ◌+◌, ◌≤◌, true, List, [], ◌∷◌, ◌++◌, map, None}
 use Rattle.std.specs.List.{All}
 use Rattle.ddcmp_frame.specs.Reader.{ReaderView}
 use Rattle.ddcmp_input.specs.InBinary.{in_binary, Fits}
@@ -16,9 +16,9 @@ use Rattle.ddcmp_session.specs.Session.{is_delivered}
 use Rattle.ddcmp_callers.specs.Calls.{run_calls}
 use Rattle.ddcmp_callers.specs.Links.{LinkStep, Links, new_links, count_if}
 use Rattle.ddcmp_callers.specs.LinkLines.{calls_of_steps}
-use Rattle.ddcmp_pipe.specs.Sessions.{SessionCall, Connected, SessionDoes, SessionHistory}
-use Rattle.ddcmp_pipe.specs.Sessions.{new_session, SessionStep, after_session_step, messages_of}
-use Rattle.ddcmp_pipe.specs.Sessions.{mail_in, link_steps_of}
+use Rattle.ddcmp_session.specs.Calls.{SessionCall, Connected, SessionDoes, SessionHistory}
+use Rattle.ddcmp_session.specs.Calls.{new_session, SessionStep, after_session_step}
+use Rattle.ddcmp_pipe.specs.Sessions.{messages_of, mail_in, link_steps_of}
 
 -- how a session is made
 pub record Made : Type 0 where

@@ -15,10 +15,10 @@ use Rattle.ddcmp_session.specs.Session.{is_delivered, pause_at}
 use Rattle.ddcmp_laws.specs.Story.{strt_bytes, stack_bytes, first_bytes, ack_1_bytes}
 use Rattle.ddcmp_laws.specs.Vectors.{abc}
 use Rattle.ddcmp_callers.specs.LinkStory.{small}
-use Rattle.ddcmp_pipe.specs.Sessions.{SessionCall, Typed, InputEnded, Connected, LineEnded}
-use Rattle.ddcmp_pipe.specs.Sessions.{Received}
-use Rattle.ddcmp_pipe.specs.Sessions.{Filled, LineTook, TimedOut, Delivered, OutputTook, Closed}
-use Rattle.ddcmp_pipe.specs.Sessions.{SessionHistory, SessionStep, after_connected, shown_in}
+use Rattle.ddcmp_session.specs.Calls.{SessionCall, Typed, InputEnded, Connected, LineEnded}
+use Rattle.ddcmp_session.specs.Calls.{Received, Filled, LineTook, TimedOut, Delivered, OutputTook}
+use Rattle.ddcmp_session.specs.Calls.{Closed, SessionHistory, SessionStep, after_connected}
+use Rattle.ddcmp_session.specs.Calls.{shown_in}
 use Rattle.ddcmp_pipe.specs.Sessions.{texts_of}
 use Rattle.ddcmp_pipe.specs.Pipe.{Made, Sessions, new_sessions, session_at, after_session_at}
 

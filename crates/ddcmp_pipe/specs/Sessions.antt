@@ -1,231 +1,26 @@
--- Sessions as callers of their links: what each call of a session does, which calls of its link it
--- makes, and the history of a session.
-use Rattle.std.specs.Prelude.{◌≡◌, ◌⊎◌, ℕ, zero, suc, Bool, true, false, if◌then◌else◌, List, []}
-use Rattle.std.specs.Prelude.{◌∷◌, ◌++◌, length, map, take, None, Some, is_ok, option_to_list}
-use Rattle.ddcmp_window.specs.Store.{first_message}
-use Rattle.ddcmp_core.specs.Table.{after_halt, answer_to_start}
-use Rattle.ddcmp_core.specs.declared.notice.Notice.{Notice}
-use Rattle.ddcmp_frame.specs.Reader.{ReaderView}
+-- Sessions as callers of their links: which calls of its link each call of a session makes.
+use Rattle.std.specs.Prelude.{◌≡◌, ℕ, zero, suc, true, false, if◌then◌else◌, List, [], ◌∷◌, ◌++◌}
+use Rattle.std.specs.Prelude.{map, option_to_list}
 use Rattle.ddcmp_input.specs.declared.entry.Entry.{Entry}
 use Rattle.ddcmp_input.specs.declared.entry.Entry.TheVariants.{Message}
+use Rattle.ddcmp_input.specs.Told.{Told, Got, Refused}
+use Rattle.ddcmp_station.specs.Linking.{LinkView, after_frame}
+use Rattle.ddcmp_session.specs.declared.messages.Form.{Form}
+use Rattle.ddcmp_session.specs.declared.messages.Form.TheVariants.{Digits, Binary}
+use Rattle.ddcmp_session.specs.Messages.{message_in, after_input, entries_of_input, after_last}
+use Rattle.ddcmp_session.specs.Messages.{entry_of_last}
+use Rattle.ddcmp_session.specs.Session.{SessionView, wants_input}
+use Rattle.ddcmp_session.specs.Text.{mail_text, notice_text, lost_text}
+use Rattle.ddcmp_callers.specs.Links.{LinkCall, BeginsAnew, Halts, Wakes, Offers, FillsOne}
+use Rattle.ddcmp_callers.specs.Links.{IsSent, Feeds, Takes, LinkStep, LinkHistory}
+use Rattle.ddcmp_session.specs.Calls.{SessionCall, Typed, InputEnded, Connected, LineEnded}
+use Rattle.ddcmp_session.specs.Calls.{Received, Filled, LineTook, TimedOut, Delivered, OutputTook}
+use Rattle.ddcmp_session.specs.Calls.{Closed, Shown, Mail, Reports, Loses, SessionHistory}
+use Rattle.ddcmp_session.specs.Calls.{SessionStep, after_session_step}
 use Rattle.ddcmp_input.specs.HexLines as hex
 use Rattle.ddcmp_input.specs.InBinary as binary
 use Rattle.ddcmp_input.specs.InLines as lines
 use Rattle.ddcmp_input.specs.Lengths as lengths
-use Rattle.ddcmp_input.specs.Told.{Told, Got, Refused}
-use Rattle.ddcmp_proto.specs.Bytes.{notices_of_piece}
-use Rattle.ddcmp_proto.specs.declared.config.Config.{Config}
-use Rattle.ddcmp_station.specs.Linking.{LinkView, anew, after_frame, after_frames, after_sent}
-use Rattle.ddcmp_station.specs.Linking.{after_taking, after_wake, with_state}
-use Rattle.ddcmp_session.specs.declared.messages.Form.{Form}
-use Rattle.ddcmp_session.specs.declared.messages.Form.TheVariants.{Digits, Binary}
-use Rattle.ddcmp_session.specs.declared.messages.Messages.{Messages}
-use Rattle.ddcmp_session.specs.Messages.{message_in, after_input, entries_of_input, after_last}
-use Rattle.ddcmp_session.specs.Messages.{entry_of_last}
-use Rattle.ddcmp_io.specs.Queue.{after_taken}
-use Rattle.ddcmp_session.specs.Session.{SessionView, session_made, form_of, wants_input}
-use Rattle.ddcmp_session.specs.Session.{after_typed, after_input_end, lost_by_end, pause_at}
-use Rattle.ddcmp_session.specs.Session.{IsFilled}
-use Rattle.ddcmp_session.specs.Text.{Wrote, mail_text, notice_text, notices_text, lost_text}
-use Rattle.ddcmp_session.specs.Text.{reported_lost}
-use Rattle.ddcmp_callers.specs.Links.{LinkCall, BeginsAnew, Halts, Wakes, Offers, FillsOne, IsSent}
-use Rattle.ddcmp_callers.specs.Links.{Feeds, Takes, HasFed, LinkStep, LinkHistory}
-
--- A call of a session, by its name: with the bytes of its input or of its line that it used, how
--- many frames it put, how many bytes a device took, the moment that it was passed, or whether it
--- delivered a message. Of the other calls `write_end` appends the last lines of a run to an output
--- of lines; they change nothing else of a session's view.
-pub data SessionCall : Type 0 where
-  Typed : (used : List ℕ) → SessionCall
-  InputEnded : SessionCall
-  Connected : SessionCall
-  LineEnded : (is_reported : Bool) → SessionCall
-  Received : (used : List ℕ) → SessionCall
-  Filled : (frames : ℕ) → SessionCall
-  LineTook : (n : ℕ) → SessionCall
-  TimedOut : (now : ℕ) → SessionCall
-  Delivered : (has_mail : Bool) → SessionCall
-  OutputTook : (n : ℕ) → SessionCall
-  Closed : (is_reported : Bool) → SessionCall
-
--- ---- what the contract of each call says that it does
-
--- bytes of the input, of which only the last may complete something
-abbrev pub CompletesLast : List ℕ → Messages → Type 0
-CompletesLast used m = (front : List ℕ) (byte : ℕ) → used ≡ front ++ byte ∷ []
-    → entries_of_input front m ≡ []
-
-pub record HasTyped (used : List ℕ) (old new : SessionView) : Type 0 where
-  pub state : new ≡ after_typed used old
-  pub wanted : wants_input old ≡ false → used ≡ []
-  pub part : CompletesLast used old.messages
-
--- a text was written, and nothing else done
-pub record HasWritten (text : List ℕ) (old new : SessionView) : Type 0 where
-  pub wrote : Wrote text old.output new.output
-  pub stays : new ≡ record old { output = new.output }
-
--- Bytes of the line were used, where this text came before, and their notices written. No pause
--- begins but by a NAK.
-pub record HasReceived (text used : List ℕ) (old new : SessionView) : Type 0 where
-  pub fed : HasFed text used old.link new.link
-  pub wrote : Wrote (notices_text (form_of old.messages)
-      (notices_of_piece text used old.link.station.core)) old.output new.output
-  pub pauses : new.link.station.core.counters.nak_received
-      ≡ old.link.station.core.counters.nak_received
-      → (new.pause ≡ None) ⊎ (new.pause ≡ old.pause)
-  pub stays : new
-      ≡ record old { link = new.link; pause = new.pause; output = new.output }
-
--- the first received message was taken and written
-pub record HasDelivered (old new : SessionView) : Type 0 where
-  pub link : new.link ≡ after_taking old.link
-  pub wrote : (message : List ℕ)
-      × (first_message old.link.station.core.station.inbox ≡ Some message)
-      × Wrote (mail_text (form_of old.messages) message) old.output new.output
-  pub stays : new ≡ record old { link = new.link; output = new.output }
-
--- the station was halted, and what is lost by that reported if there was room
-pub record HasLeft (is_reported : Bool) (old new : SessionView) : Type 0 where
-  pub link : new.link ≡ with_state (after_halt old.link.station.core.station) old.link
-  pub wrote : Wrote (reported_lost is_reported (form_of old.messages) (lost_by_end old)) old.output
-      new.output
-  pub stays : new ≡ record old { link = new.link; has_line = false; output = new.output }
-
--- the same, and what is left of the input was dropped
-pub record HasClosed (is_reported : Bool) (old new : SessionView) : Type 0 where
-  pub link : new.link ≡ with_state (after_halt old.link.station.core.station) old.link
-  pub wrote : Wrote (reported_lost is_reported (form_of old.messages) (lost_by_end old)) old.output
-      new.output
-  pub form : form_of new.messages ≡ form_of old.messages
-  pub stays : new ≡ record old {
-    link = new.link;
-    has_line = false;
-    messages = new.messages;
-    is_read = true;
-    was_refused = new.was_refused;
-    output = new.output;
-  }
-
--- A session was connected, and starts if all received messages were delivered.
-abbrev pub after_connected : ReaderView → SessionView → SessionView
-after_connected line s = record s {
-  link = anew line s.link;
-  has_line = is_ok (answer_to_start (after_halt s.link.station.core.station));
-  pause = None;
-}
-
--- `connected` clears the line: here it begins on a line that is clear.
-abbrev pub SessionDoes : SessionCall → List ℕ → SessionView → SessionView → Type 0
-SessionDoes (Typed used) text old new = HasTyped used old new
-SessionDoes InputEnded text old new = new ≡ after_input_end old
-SessionDoes Connected text old new =
-    (new ≡ after_connected new.link.station.line old)
-    × (text ≡ [])
-    × (old.link.outbox.waiting ≡ [])
-SessionDoes (LineEnded is_reported) text old new = HasLeft is_reported old new
-SessionDoes (Received used) text old new = HasReceived text used old new
-SessionDoes (Filled frames) text old new =
-    (new ≡ record old { link = after_frames frames old.link }) × IsFilled new
-SessionDoes (LineTook n) text old new = new ≡ record old { link = after_sent n old.link }
-SessionDoes (TimedOut now) text old new =
-    new ≡ record old { link = after_wake now old.link; pause = pause_at now old.pause }
-SessionDoes (Delivered true) text old new = HasDelivered old new
-SessionDoes (Delivered false) text old new = HasWritten [] old new
-SessionDoes (OutputTook n) text old new = new ≡ record old { output = after_taken n old.output }
-SessionDoes (Closed is_reported) text old new = HasClosed is_reported old new
-
--- ---- the history of a session
-
--- what a session has for standard output: a received message, a notice, or how many accepted
--- messages were left unacknowledged when a line ended, or the run
-pub data Shown : Type 0 where
-  Mail : (message : List ℕ) → Shown
-  Reports : (notice : Notice) → Shown
-  Loses : (count : ℕ) → Shown
-
--- A session, and what has been since it was made: the bytes of its line that it used, those that
--- its line took, the bytes of its input that it took, those that its output took, and what it
--- delivered and reported.
-pub record SessionHistory : Type 0 where
-  pub session : SessionView
-  pub used : List ℕ
-  pub gone : List ℕ
-  pub input : List ℕ
-  pub written : List ℕ
-  pub shown : List Shown
-
-abbrev pub new_session : Form → Config → ℕ → ReaderView → SessionHistory
-new_session form config milliseconds line = record {
-  session = session_made form config milliseconds line;
-  used = [];
-  gone = [];
-  input = [];
-  written = [];
-  shown = [];
-}
-
--- a call, and the session after it
-pub record SessionStep : Type 0 where
-  pub call : SessionCall
-  pub session : SessionView
-
-abbrev pub used_in : SessionCall → List ℕ
-used_in (Received used) = used
-used_in _ = []
-
-abbrev pub gone_in : SessionCall → SessionView → List ℕ
-gone_in (LineTook n) s = take n s.link.outbox.waiting
-gone_in _ s = []
-
--- the end of an input of lines is that of its last line
-abbrev pub end_in : Form → List ℕ
-end_in Digits = 10 ∷ []
-end_in Binary = []
-
-abbrev pub input_in : SessionCall → SessionView → List ℕ
-input_in (Typed used) s = used
-input_in InputEnded s = if wants_input s then end_in (form_of s.messages) else []
-input_in _ s = []
-
-abbrev pub written_in : SessionCall → SessionView → List ℕ
-written_in (OutputTook n) s = take n s.output.waiting
-written_in _ s = []
-
--- what is lost, if there was room to report that
-abbrev pub losses : Bool → SessionView → List Shown
-losses is_reported s =
-    if is_reported then Loses (lost_by_end s) ∷ [] else []
-
-abbrev pub shown_in : SessionCall → List ℕ → SessionView → List Shown
-shown_in (LineEnded is_reported) text s = losses is_reported s
-shown_in (Closed is_reported) text s = losses is_reported s
-shown_in (Received used) text s =
-    map Reports (notices_of_piece text used s.link.station.core)
-shown_in (Delivered true) text s =
-    map Mail (option_to_list (first_message s.link.station.core.station.inbox))
-shown_in _ text s = []
-
-abbrev pub after_session_step : SessionStep → SessionHistory → SessionHistory
-after_session_step step h = record {
-  session = step.session;
-  used = h.used ++ used_in step.call;
-  gone = h.gone ++ gone_in step.call h.session;
-  input = h.input ++ input_in step.call h.session;
-  written = h.written ++ written_in step.call h.session;
-  shown = h.shown ++ shown_in step.call h.used h.session;
-}
-
--- Each step is a call, as its contract says.
-abbrev pub IsSessionHistory : List SessionStep → SessionHistory → Type 0
-IsSessionHistory [] h = Unit {0}
-IsSessionHistory (step ∷ rest) h =
-    SessionDoes step.call h.used h.session step.session
-    × IsSessionHistory rest (after_session_step step h)
-
-unfoldable pub after_session_steps : List SessionStep → SessionHistory → SessionHistory
-after_session_steps [] h = h
-after_session_steps (step ∷ rest) h = after_session_steps rest (after_session_step step h)
 
 -- ---- the messages of an input, and the text of an output
 

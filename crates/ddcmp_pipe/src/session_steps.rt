@@ -10,9 +10,9 @@ ghost use Rattle.ddcmp_station.specs.Linking.{countable};
 ghost use Rattle.ddcmp_session.specs.Messages.{entries_of_input};
 ghost use Rattle.ddcmp_session.specs.Session.{wants_input, wants_line, room_for_mail};
 ghost use Rattle.ddcmp_session.specs.Session.{reports_loss};
-ghost use Rattle.ddcmp_pipe.specs.Sessions.{SessionDoes, Typed, InputEnded, Connected, LineEnded};
-ghost use Rattle.ddcmp_pipe.specs.Sessions.{Received, Filled, LineTook, TimedOut, Delivered};
-ghost use Rattle.ddcmp_pipe.specs.Sessions.{OutputTook, Closed, new_session};
+ghost use Rattle.ddcmp_session.specs.Calls.{SessionDoes, Typed, InputEnded, Connected, LineEnded};
+ghost use Rattle.ddcmp_session.specs.Calls.{Received, Filled, LineTook, TimedOut, Delivered};
+ghost use Rattle.ddcmp_session.specs.Calls.{OutputTook, Closed, new_session};
 ghost use Rattle.ddcmp_pipe.specs.Connections.{Does};
 
 use ddcmp_session::{LineKind, Options, Session};

@@ -6,9 +6,10 @@ ghost use Rattle.ddcmp_proto.specs.declared.config.Config.{Config as ConfigValue
 ghost use Rattle.ddcmp_session.specs.declared.messages.Form.{Form as FormValue};
 ghost use Rattle.ddcmp_session.specs.declared.messages.Form.TheVariants.{Binary};
 ghost use Rattle.ddcmp_callers.specs.Links.{IsHistory, after_history, new_history, offered_in};
-ghost use Rattle.ddcmp_pipe.specs.Sessions.{SessionStep, new_session, IsSessionHistory};
-ghost use Rattle.ddcmp_pipe.specs.Sessions.{after_session_steps, link_steps_in, IsOfLink};
-ghost use Rattle.ddcmp_pipe.specs.Sessions.{messages_of, mail_in, texts_of, Shown};
+ghost use Rattle.ddcmp_session.specs.Calls.{SessionStep, new_session, IsSessionHistory};
+ghost use Rattle.ddcmp_session.specs.Calls.{after_session_steps, Shown};
+ghost use Rattle.ddcmp_pipe.specs.Sessions.{link_steps_in, IsOfLink, messages_of, mail_in};
+ghost use Rattle.ddcmp_pipe.specs.Sessions.{texts_of};
 
 /// Each list of calls of a new session is a list of calls of its link. Of these the bytes of the
 /// line that were used and that the line took are those of the session; the messages that were

@@ -1,10 +1,10 @@
 //! How the run of a link ends before all is delivered.
 ghost use Rattle.std.specs.Prelude.{◌≡◌, ◌≢◌, ℕ};
 
-use crate::event::Down;
 use crate::fault::{Attempt, Cause, NotOpened, ServiceFault};
 use crate::line_name::LineName;
 use crate::opening::OpenRefusal;
+use ddcmp_session::Fault;
 use std::io::ErrorKind;
 
 /// Why a run ended before all was delivered. The name of the line is added at last.
@@ -14,16 +14,10 @@ pub(crate) enum Ended {
     NotOpened(OpenRefusal),
     /// The system can't wait for several devices, for this reason.
     CannotWait(ErrorKind),
-    /// The line has ended or failed.
-    Line(Down),
+    /// A device has ended or failed, or its time is over.
+    Device(Fault),
     /// The line was left, and isn't opened again.
     Left,
-    /// The time of the whole run is over.
-    Time,
-    /// Standard input, or waiting for it, failed.
-    Read,
-    /// Standard output failed.
-    Write,
     /// This many messages were read and not acknowledged.
     Lost(u64),
     /// An allocation failed.
@@ -34,7 +28,7 @@ impl Ended {
     /// Returns the fault of a service over a line of this name whose output is whole.
     pub(crate) fn fault(self, line: LineName<'_>) -> ServiceFault<'_>
         ensures whole { result ≢ ServiceFault.Write }
-        ensures read { self ≡ Ended.Read → result ≡ ServiceFault.Read }
+        ensures read { self ≡ Ended.Device Fault.Input → result ≡ ServiceFault.Read }
         ensures memory { self ≡ Ended.Memory → result ≡ ServiceFault.Memory }
         ensures lost { (count : ℕ) → self ≡ Ended.Lost count → result ≡ ServiceFault.Lost count }
     {
@@ -45,8 +39,8 @@ impl Ended {
                 name: "epoll",
                 cause: Cause::System(kind),
             }),
-            Ended::Read => ServiceFault::Read,
-            Ended::Line(_) | Ended::Left | Ended::Time | Ended::Write => ServiceFault::Ended,
+            Ended::Device(Fault::Input) => ServiceFault::Read,
+            Ended::Device(_) | Ended::Left => ServiceFault::Ended,
             Ended::Lost(count) => ServiceFault::Lost(count),
             Ended::Memory => ServiceFault::Memory,
         }

@@ -1,8 +1,6 @@
 //! What a service reports of its line on standard error as it happens.
 use crate::fault::NotOpened;
-use ddcmp_io::cause::words_of;
 use std::fmt;
-use std::io::ErrorKind;
 use std::net::SocketAddr;
 
 /// An event of the line.
@@ -31,25 +29,5 @@ impl fmt::Display for Event<'_> {
                 f.write_str("ddcmp: standard output isn't read: received messages are lost")
             }
         }
-    }
-}
-
-/// Why a line is down.
-#[derive(Clone, Copy, PartialEq, Eq)]
-pub(crate) enum Down {
-    /// The other end has closed it.
-    Closed,
-    /// A read or a write failed so.
-    Failed(ErrorKind),
-}
-
-impl fmt::Display for Down {
-    fn fmt<W: fmt::Write>(&self, f: &mut fmt::Formatter<W>) -> fmt::Result {
-        f.write_str(match self {
-            Down::Closed => "closed by the other end",
-            Down::Failed(ErrorKind::BrokenPipe) => "broken pipe",
-            Down::Failed(ErrorKind::Other) => "input or output error",
-            Down::Failed(kind) => words_of(*kind),
-        })
     }
 }

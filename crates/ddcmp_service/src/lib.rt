@@ -2,13 +2,13 @@
 //! output and a `Session` of `ddcmp_session`, which decides all else.
 #![tactic(auto)]
 
-mod chunk;
-mod devices;
+mod datagram;
 mod ending;
 mod event;
 mod fault;
 mod line;
 mod line_name;
+mod live;
 mod opening;
 mod outlet;
 mod service;

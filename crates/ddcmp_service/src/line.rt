@@ -1,7 +1,5 @@
 //! The line of a service: a socket or a device that is read and written without waiting.
-use crate::chunk::Chunk;
-use crate::event::Down;
-use crate::waiting::Waiting;
+use ddcmp_session::{Down, Moved};
 use mio::net::{TcpStream, UdpSocket};
 use std::fs::File;
 use std::io::{self, ErrorKind, Read, Write};
@@ -24,18 +22,6 @@ impl Drop for Line {
             Line::Device(_file) => {}
         }
     }
-}
-
-/// What became of a read from a line, or of a write to it.
-#[derive(Clone, Copy, PartialEq, Eq)]
-pub(crate) enum Moved {
-    Bytes(usize),
-    /// Nothing came, or there was no room.
-    Nothing,
-    /// The call was interrupted, and is to be made again.
-    Interrupted,
-    /// The line has ended or failed.
-    Ended(Down),
 }
 
 /// What a call of the system returned.
@@ -84,32 +70,23 @@ fn read_by(answer: io::Result<usize>) -> Moved {
 }
 
 impl Line {
-    /// Reads what has come into an empty chunk.
-    pub(crate) fn read(&mut self, waiting: &mut Waiting, came: &mut Chunk) -> Moved {
-        let got = match self {
-            Line::Stream(stream) => read_by(stream.read(came.space())),
-            Line::Datagrams(socket, remote) => {
-                received_by(socket.recv_from(came.space()), *remote)
-            }
-            Line::Device(file) => read_by(file.read(came.space())),
-        };
-        waiting.line_was_read(got == Moved::Nothing);
-        if let Moved::Bytes(n) = got {
-            came.came(n);
+    /// Reads what has come.
+    pub(crate) fn read(&mut self, space: &mut [u8]) -> Moved {
+        match self {
+            Line::Stream(stream) => read_by(stream.read(space)),
+            Line::Datagrams(socket, remote) => received_by(socket.recv_from(space), *remote),
+            Line::Device(file) => read_by(file.read(space)),
         }
-        got
     }
 
     /// Writes bytes from the front of `bytes`, as far as there is room.
-    pub(crate) fn write(&mut self, waiting: &mut Waiting, bytes: &[u8]) -> Moved {
-        let took = match self {
+    pub(crate) fn write(&mut self, bytes: &[u8]) -> Moved {
+        match self {
             Line::Stream(stream) => moved_by(stream.write(bytes)),
             Line::Datagrams(socket, remote) => {
                 sent_by(socket.send_to(bytes, *remote), bytes.len())
             }
             Line::Device(file) => moved_by(file.write(bytes)),
-        };
-        waiting.line_was_written(took == Moved::Nothing);
-        took
+        }
     }
 }

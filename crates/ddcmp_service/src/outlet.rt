@@ -1,5 +1,6 @@
 //! Standard output and standard error, written without waiting.
-use crate::line::{Moved, moved_by};
+use crate::line::moved_by;
+use ddcmp_session::Moved;
 use std::fs::{self, File, Files, OpenOptions};
 use std::io::{IsTerminal, Write};
 use std::os::fd::AsRawFd;

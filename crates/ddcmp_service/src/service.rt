@@ -1,17 +1,20 @@
 //! A link over a line, from its opening to its end.
 ghost use Rattle.std.specs.Prelude.{◌≡◌, ◌≢◌, ◌↔◌, Err, IsTrue};
 
-use crate::devices::{Devices, END_MS, LINE_END_MS};
 use crate::ending::Ended;
 use crate::event::Event;
 use crate::fault::ServiceFault;
 use crate::line::Line;
 use crate::line_name::LineName;
+use crate::live::{Live, Parts};
 use crate::opening::{OpenRefusal, Opened, Opener};
 use crate::system::System;
-use crate::waiting::{Waiting, Wanted};
+use crate::waiting::Waiting;
 use ddcmp_io::{Sink, Source};
-use ddcmp_session::{End, Options, Session};
+use ddcmp_session::{
+    Buffers, Devices, End, Fault, LineKind, Options, Session, Wanted, drain_errors, drain_output,
+    write_errors,
+};
 use ddcmp_station::{Clock, Elapsed};
 use std::alloc::Global;
 use std::fs::{File, Files};
@@ -66,6 +69,12 @@ fn ending_of<'a, W: Sink>(
     }
 }
 
+/// How long standard error may take nothing at the end of a line, in milliseconds.
+const LINE_END_MS: u64 = 80;
+
+/// How long standard error may take nothing at the end of a run, in milliseconds.
+const END_MS: u64 = 1000;
+
 /// Takes all memory, and runs a link.
 fn serve<S: System, R: Source, W: Sink>(
     system: &S,
@@ -82,26 +91,31 @@ fn serve<S: System, R: Source, W: Sink>(
         Ok(waiting) => waiting,
         Err(error) => return Err(no_waiting(error.kind())),
     };
-    let Ok(mut devices) = Devices::new(system, alloc, waiting) else {
+    let Ok(mut buffers) = Buffers::new(alloc) else {
         return Err(Ended::Memory);
     };
-    let mut clock = Elapsed::new(system);
+    let parts = Parts {
+        system,
+        waiting,
+        clock: Elapsed::new(system),
+        reader,
+        writer,
+    };
+    let datagrams = match line.kind() {
+        LineKind::Datagrams => Some(options.config.max),
+        LineKind::Connect | LineKind::Listen | LineKind::Device => None,
+    };
+    let Ok(mut devices) = Live::new(parts, alloc, datagrams) else {
+        return Err(Ended::Memory);
+    };
     if let Ok(since_1970) = system.since_1970() {
         session.began_at(u64::try_from(since_1970.as_millis()).unwrap_or(u64::MAX));
     }
     let mut opener = Opener::new(line);
-    let ran = run_lines(
-        system,
-        &mut opener,
-        &mut session,
-        &mut devices,
-        &mut clock,
-        reader,
-        writer,
-    );
-    let ended = judge(&mut session, &mut devices, reader, ran);
-    let finished = finish(&mut session, &mut devices, &mut clock, writer);
-    devices.drain_errors(&mut session, system, &mut clock, END_MS);
+    let ran = run_lines(&mut opener, &mut session, &mut buffers, &mut devices);
+    let ended = judge(&mut session, &mut buffers, &mut devices, ran);
+    let finished = finish(&mut session, &mut devices);
+    drain_errors(&mut session, &mut devices, END_MS);
     ended?;
     finished?;
     if session.was_refused() {
@@ -119,50 +133,47 @@ fn no_waiting(kind: ErrorKind) -> Ended {
 }
 
 /// Runs the link over one line after the other, until all is delivered or a line ends for good.
-fn run_lines<S: System, C: Clock, R: Source, W: Sink>(
-    system: &S,
+fn run_lines<S: System, C: Clock + Drop, R: Source, W: Sink>(
     opener: &mut Opener<'_>,
     session: &mut Session,
-    devices: &mut Devices,
-    clock: &mut C,
-    reader: &mut R,
-    writer: &mut W,
+    buffers: &mut Buffers,
+    devices: &mut Live<'_, S, C, R, W>,
 ) -> Result<(), Ended> {
-    begin_listening(system, opener, session, devices)?;
+    begin_listening(opener, session, devices)?;
     for _line in 0..u64::MAX {
-        let Some(mut line) = open_line(system, opener, session, devices, clock)? else {
-            return Err(Ended::Time);
+        let Some(line) = open_line(opener, session, devices)? else {
+            return Err(TIME);
         };
-        devices.begin_line();
+        devices.line = Some(line);
+        buffers.begin_line();
         if !session.connected() {
             break;
         }
-        match run_line(system, session, devices, &mut line, clock, reader, writer) {
+        match buffers.run(session, devices) {
             Ok(End::Delivered) => return Ok(()),
-            Ok(End::Time) => return Err(Ended::Time),
+            Ok(End::Time) => return Err(TIME),
             Ok(End::Restarted | End::GivenUp) => {}
-            Err(Ended::Line(why)) => session.report_down(&why),
-            Err(ended) => return Err(ended),
+            Err(Fault::Line(why)) => session.report_down(&why),
+            Err(fault) => return Err(Ended::Device(fault)),
         }
         if !session.reopens() {
             break;
         }
-        leave_line(system, session, devices, clock, writer)?;
+        leave_line(session, devices)?;
     }
     Err(Ended::Left)
 }
 
+/// The time of the run is over.
+const TIME: Ended = Ended::Device(Fault::Time);
+
 /// Listens if the line is one of whoever calls, and reports at which address.
-fn begin_listening<S>(
-    system: &S,
+fn begin_listening<S: System, C: Clock + Drop, R: Source, W: Sink>(
     opener: &mut Opener<'_>,
     session: &mut Session,
-    devices: &mut Devices,
-) -> Result<(), Ended>
-where
-    S: Net<Stream = net::TcpStream, Listener = net::TcpListener> + Eprint,
-{
-    match opener.listen(system, &mut devices.waiting) {
+    devices: &mut Live<'_, S, C, R, W>,
+) -> Result<(), Ended> {
+    match opener.listen(devices.system, &mut devices.waiting) {
         Ok(None) => Ok(()),
         Ok(Some(addr)) => {
             session.report(&Event::Listening(addr));
@@ -174,21 +185,19 @@ where
 
 /// Opens the line: none if the time was over first. A line that can't be opened is reported, and
 /// tried again if that is asked for.
-fn open_line<S: System, C: Clock>(
-    system: &S,
+fn open_line<S: System, C: Clock + Drop, R: Source, W: Sink>(
     opener: &mut Opener<'_>,
     session: &mut Session,
-    devices: &mut Devices,
-    clock: &mut C,
+    devices: &mut Live<'_, S, C, R, W>,
 ) -> Result<Option<Line>, Ended> {
     for _try in 0..u64::MAX {
-        let now = clock.now();
+        let now = devices.now();
         session.pass_time(now);
         if session.run_ends_at() <= now {
             break;
         }
         if session.opens_at() <= now {
-            match try_line(system, opener, session, devices) {
+            match try_line(opener, session, devices) {
                 Ok(Some(line)) => return Ok(Some(line)),
                 Ok(None) => {}
                 Err(refused) if !session.retries() => return Err(Ended::NotOpened(refused)),
@@ -198,7 +207,7 @@ fn open_line<S: System, C: Clock>(
                 }
             }
         }
-        let _moved = devices.write_errors(session, system);
+        let _moved = write_errors(session, devices);
         if !wait_between_lines(session, devices, now) {
             break;
         }
@@ -207,16 +216,12 @@ fn open_line<S: System, C: Clock>(
 }
 
 /// Opens the line, or takes who has come and reports who that is; none if nobody has come yet.
-fn try_line<S>(
-    system: &S,
+fn try_line<S: System, C: Clock + Drop, R: Source, W: Sink>(
     opener: &mut Opener<'_>,
     session: &mut Session,
-    devices: &mut Devices,
-) -> Result<Option<Line>, OpenRefusal>
-where
-    S: Net<Stream = net::TcpStream, Listener = net::TcpListener> + Files<File = File>,
-{
-    match opener.open(system, &mut devices.waiting)? {
+    devices: &mut Live<'_, S, C, R, W>,
+) -> Result<Option<Line>, OpenRefusal> {
+    match opener.open(devices.system, &mut devices.waiting)? {
         Opened::Line(line) => Ok(Some(line)),
         Opened::Connected(line, peer) => {
             session.report(&Event::Connected(peer));
@@ -231,58 +236,27 @@ where
 }
 
 /// Waits while there is no line: whether it could wait.
-fn wait_between_lines(session: &Session, devices: &mut Devices, now: u64) -> bool {
+fn wait_between_lines<D: Devices>(session: &Session, devices: &mut D, now: u64) -> bool {
     let wanted = if session.to_errors().is_empty() {
         Wanted::NOTHING
     } else {
         Wanted::ERRORS
     };
     let moment = session.wakes_without_line_at(now);
-    devices.waiting.wait(wanted, moment.saturating_sub(now))
-}
-
-/// Runs the link over a line, until the session leaves it or it ends.
-fn run_line<S: Eprint, C: Clock, R: Source, W: Sink>(
-    system: &S,
-    session: &mut Session,
-    devices: &mut Devices,
-    line: &mut Line,
-    clock: &mut C,
-    reader: &mut R,
-    writer: &mut W,
-) -> Result<End, Ended> {
-    for _pass in 0..u64::MAX {
-        let now = clock.now();
-        session.handle_timeout(now);
-        if let Some(end) = session.end() {
-            return Ok(end);
-        }
-        if devices.pass(system, session, line, reader, writer)? {
-            continue;
-        }
-        let wanted = devices.wanted(session);
-        let most = session.wakes_at().saturating_sub(now);
-        if session.end().is_none() && !devices.waiting.wait(wanted, most) {
-            return Err(Ended::Read);
-        }
-    }
-    Err(Ended::Read)
+    devices.wait(wanted, moment.saturating_sub(now))
 }
 
 /// Leaves a line that has ended: what came over it is written, and what was lost is reported.
-fn leave_line<E: Eprint, W: Sink, C: Clock>(
-    system: &E,
+fn leave_line<S: System, C: Clock + Drop, R: Source, W: Sink>(
     session: &mut Session,
-    devices: &mut Devices,
-    clock: &mut C,
-    writer: &mut W,
+    devices: &mut Live<'_, S, C, R, W>,
 ) -> Result<(), Ended> {
     devices.forget_line();
-    devices.drain_output(session, writer, clock)?;
+    drain_output(session, devices).map_err(Ended::Device)?;
     let _has_room = session.line_ended();
-    devices.drain_output(session, writer, clock)?;
-    devices.drain_errors(session, system, clock, LINE_END_MS);
-    if let Some(seconds) = session.pause_after_line(clock.now()) {
+    drain_output(session, devices).map_err(Ended::Device)?;
+    drain_errors(session, devices, LINE_END_MS);
+    if let Some(seconds) = session.pause_after_line(devices.now()) {
         session.report(&Event::Pause(seconds));
     }
     Ok(())
@@ -290,20 +264,20 @@ fn leave_line<E: Eprint, W: Sink, C: Clock>(
 
 /// Judges how the lines ended: what was read and isn't acknowledged is lost; if nothing is, and
 /// nothing more is to be read, all is delivered although the line has ended or the time is over.
-fn judge<R: Source>(
+fn judge<D: Devices>(
     session: &mut Session,
-    devices: &mut Devices,
-    reader: &mut R,
+    buffers: &mut Buffers,
+    devices: &mut D,
     ran: Result<(), Ended>,
 ) -> Result<(), Ended> {
-    let is_over = matches!(ran, Err(Ended::Left | Ended::Time));
+    let is_over = matches!(ran, Err(Ended::Left | Ended::Device(Fault::Time)));
     let rest = if is_over && session.has_run() {
-        devices.read_the_rest(reader)
+        buffers.read_the_rest(devices)
     } else {
         Ok(())
     };
-    devices.close(session);
-    rest?;
+    buffers.close(session);
+    rest.map_err(Ended::Device)?;
     if session.lost() > 0 && (is_over || ran.is_ok()) {
         return Err(Ended::Lost(session.lost()));
     }
@@ -314,20 +288,15 @@ fn judge<R: Source>(
 }
 
 /// Writes all received messages and the last lines.
-fn finish<W: Sink, C: Clock>(
-    session: &mut Session,
-    devices: &mut Devices,
-    clock: &mut C,
-    writer: &mut W,
-) -> Result<(), Ended> {
-    let drained = devices.drain_output(session, writer, clock);
+fn finish<D: Devices>(session: &mut Session, devices: &mut D) -> Result<(), Ended> {
+    let drained = drain_output(session, devices);
     session.finish();
-    if let Err(ended) = drained {
-        if matches!(ended, Ended::Time) {
+    if let Err(fault) = drained {
+        if matches!(fault, Fault::Time) {
             session.report(&Event::Unread);
         }
-        return Err(ended);
+        return Err(Ended::Device(fault));
     }
     session.write_end();
-    devices.drain_output(session, writer, clock)
+    drain_output(session, devices).map_err(Ended::Device)
 }

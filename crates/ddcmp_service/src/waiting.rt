@@ -1,4 +1,5 @@
 //! Waiting for whichever comes first: standard input, standard output, the line, or a moment.
+use ddcmp_session::Wanted;
 use mio::event::Source;
 use mio::unix::SourceFd;
 use mio::{Events, Interest, Poll, Token};
@@ -101,50 +102,6 @@ impl Descriptor {
             }
         }
     }
-}
-
-/// What is waited for besides the line's sockets, which are reported by themselves.
-#[derive(Clone, Copy)]
-pub(crate) struct Wanted {
-    pub(crate) input: bool,
-    pub(crate) output: bool,
-    pub(crate) errors: bool,
-    pub(crate) from_line: bool,
-    pub(crate) to_line: bool,
-}
-
-impl Wanted {
-    pub(crate) const NOTHING: Wanted = Wanted {
-        input: false,
-        output: false,
-        errors: false,
-        from_line: false,
-        to_line: false,
-    };
-
-    pub(crate) const INPUT: Wanted = Wanted {
-        input: true,
-        output: false,
-        errors: false,
-        from_line: false,
-        to_line: false,
-    };
-
-    pub(crate) const OUTPUT: Wanted = Wanted {
-        input: false,
-        output: true,
-        errors: false,
-        from_line: false,
-        to_line: false,
-    };
-
-    pub(crate) const ERRORS: Wanted = Wanted {
-        input: false,
-        output: false,
-        errors: true,
-        from_line: false,
-        to_line: false,
-    };
 }
 
 /// What a service waits for.

@@ -1,6 +1,6 @@
 -- A received message that was taken.
-use Rattle.std.proofs.Common.{◌≡◌, ap, sym, subst, ◌∙◌, ℕ, List, ◌++◌, length, take, drop, Option}
-use Rattle.std.proofs.Common.{Some, None, option_map, [], ◌∷◌, refl, ◌+◌, ◌≤◌, arith}
+use Rattle.std.proofs.Common.{◌≡◌, ap, sym, ◌∙◌, ℕ, List, ◌++◌, length, take, drop, Option}
+use Rattle.std.proofs.Common.{Some, None, option_map, [], ◌∷◌, refl, ◌≤◌, arith}
 use Rattle.std.proofs.Math.Seq.{take-append_seam}
 use Rattle.ddcmp_station.specs.Linking.{LinkView, after_taking, totals_after_take, with_state}
 use Rattle.ddcmp_window.specs.Store.{with_front, first_message}

@@ -1,6 +1,6 @@
 -- Frames that a session puts behind what waits for its line, one after another.
-use Rattle.std.proofs.Common.{◌≡◌, ℕ, zero, suc, refl, ap, sym, ◌∙◌}
-use Rattle.ddcmp_station.specs.Linking.{LinkView, after_frame, after_frames}
+use Rattle.std.proofs.Common.{◌≡◌, ℕ, zero, suc, refl, ap, sym, ◌∙◌, Bool, true, false, cond}
+use Rattle.ddcmp_station.specs.Linking.{LinkView, after_frame, after_frames, polls, after_polled}
 use Rattle.ddcmp_session.specs.Session.{SessionView}
 
 abbrev with_link : LinkView → SessionView → SessionView
@@ -46,3 +46,16 @@ puts-then a b c p q =
           ∙ ap (λ (s : SessionView). record s { link = after_frames q.0 s.link }) p.1
           ∙ ap (λ d. with_link d a) r.1,
     )
+
+-- the reader of the line stays
+frame-line : (d : LinkView) → (after_frame d).station.line ≡ d.station.line
+frame-line d = by (polls d)
+  where
+    by : (b : Bool) → (cond b (after_polled d) d).station.line ≡ d.station.line
+    by true = refl
+    by false = refl
+
+pub frames-line : (n : ℕ) (d : LinkView) → (after_frames n d).station.line ≡ d.station.line
+unfolding after_frames
+frames-line zero d = refl
+frames-line (suc n) d = frame-line (after_frames n d) ∙ frames-line n d

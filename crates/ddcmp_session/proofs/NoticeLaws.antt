@@ -1,7 +1,5 @@
 -- The text of what some bytes of the line gave notice of.
-use Rattle.std.proofs.Common.{◌≡◌, ◌∙◌, ap, sym, subst, refl, ℕ, List, [], ◌∷◌, ◌++◌, append-nil}
-use Rattle.std.proofs.Common.{Option, Some, None}
-use Rattle.std.specs.Prelude.{option_to_list}
+use Rattle.std.proofs.Common.{◌≡◌, ◌∙◌, ap, sym, subst, refl, List, [], ◌∷◌, append-nil}
 use Rattle.ddcmp_core.specs.declared.notice.Notice.{Notice}
 use Rattle.ddcmp_session.specs.declared.messages.Form.{Form}
 use Rattle.ddcmp_io.specs.Queue.{QueueView}

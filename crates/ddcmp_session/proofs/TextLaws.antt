@@ -1,7 +1,7 @@
 -- Texts that are appended to a queue, piece by piece, and how long they are.
-use Rattle.std.proofs.Common.{◌≡◌, ◌∙◌, ap, sym, subst, refl, Bool, true, false, List, [], ℕ, ◌++◌}
-use Rattle.std.proofs.Common.{◌∷◌, append-nil, append_assoc, Some, None, ◌+◌, ◌-◌, ◌*◌, ◌≤◌, ◌<◌}
-use Rattle.std.proofs.Common.{length, arith, codes, decimal, length-append}
+use Rattle.std.proofs.Common.{◌≡◌, ◌∙◌, ap, sym, subst, refl, List, [], ℕ, ◌++◌}
+use Rattle.std.proofs.Common.{append-nil, append_assoc, ◌+◌, ◌-◌, ◌*◌, ◌≤◌}
+use Rattle.std.proofs.Common.{length, arith, codes, length-append}
 use Rattle.hex.specs.Hex.{encode_lower, lower_digits}
 use Rattle.hex.proofs.HexLemmas.{length-encode_with}
 use Rattle.ddcmp_session.specs.declared.messages.Form.{Form}

@@ -1,4 +1,6 @@
 pub mod EndText
+pub mod Calls
+pub mod Devices
 pub mod Messages
 pub mod Session
 pub mod Text

@@ -2,7 +2,9 @@
 //! bytes and moments in, bytes and moments out.
 #![tactic(auto)]
 
-mod datagram;
+mod buffers;
+mod chunk;
+mod devices;
 mod errors;
 mod messages;
 mod options;
@@ -15,6 +17,8 @@ mod skipped;
 mod text;
 mod trace;
 
+pub use buffers::{Buffers, drain_errors, drain_output, write_errors};
+pub use devices::{Devices, Down, Fault, Moved, Wanted};
 pub use messages::Form;
 pub use options::{LineKind, Options};
 pub use session::{End, Session};

@@ -7,7 +7,6 @@ mod line;
 mod output;
 mod timing;
 
-use crate::datagram::Framing;
 use crate::errors::Errors;
 use crate::messages::Messages;
 use crate::options::{LineKind, Options};
@@ -61,7 +60,6 @@ pub struct Session {
     errors: Errors,
     reports: Reports,
     mail: Vec<u8>,
-    framing: Option<Framing>,
     trace: Option<Trace>,
     pacing: Pacing,
     patience: Patience,
@@ -120,7 +118,6 @@ impl Drop for Session {
             errors: _errors,
             reports: _reports,
             mail: _mail,
-            framing: _framing,
             trace: _trace,
             pacing: _,
             patience: _,
@@ -158,19 +155,6 @@ fn trace_of(alloc: Global, options: &Options) -> Result<Option<Trace>, ConfigRef
     }
 }
 
-/// Makes what finds the ends of frames in datagrams, if the line is of these.
-fn framing_of(alloc: Global, max: u16, kind: LineKind) -> Result<Option<Framing>, ConfigRefusal>
-    ensures { IsOk result ⊎ (result ≡ Err ConfigRefusal.Memory) }
-{
-    if !kind.is_of_datagrams() {
-        return Ok(None);
-    }
-    match Framing::new(alloc, max.max(1)) {
-        Ok(framing) => Ok(Some(framing)),
-        Err(_refused) => Err(ConfigRefusal::Memory),
-    }
-}
-
 impl Session {
     ghost use Rattle.std.specs.Prelude.{◌≡◌, ◌⊎◌, [], IfOk, IsOk, None, Some, Err};
     ghost use Rattle.ddcmp_frame.specs.Reader.{StandsFor};
@@ -196,10 +180,6 @@ impl Session {
         };
         let trace = match trace_of(alloc, &options) {
             Ok(trace) => trace,
-            Err(refusal) => return Err(refusal),
-        };
-        let framing = match framing_of(alloc, max, kind) {
-            Ok(framing) => framing,
             Err(refusal) => return Err(refusal),
         };
         let errors_room = if options.trace {
@@ -232,7 +212,6 @@ impl Session {
             errors,
             reports,
             mail,
-            framing,
             trace,
             pacing,
             patience: Patience::new(options.attempts),

@@ -1,6 +1,7 @@
 //! Tests of the tools from outside. Of `ddcmp_explain`: its text at every cut, size and fault, over
 //! streams and of dumps. Of `ddcmp_tap`, which explains a direction of a line: what that forwards,
-//! its room and its text. Of `ddcmp_session`: two over bad lines, through days, and its reports.
+//! its room and its text. Of `ddcmp_session`: two over bad lines, through days, its loop and its
+//! reports.
 //! Of the program: its words, its texts and its ends.
 #![tactic(auto)]
 
@@ -12,6 +13,8 @@ mod directions;
 mod dumps;
 #[cfg(test)]
 mod explains;
+#[cfg(test)]
+mod loops;
 #[cfg(test)]
 mod programs;
 #[cfg(test)]

@@ -5,7 +5,7 @@ use std::process::Abort;
 use test_kit::Draws;
 
 /// Messages in binary over a connection, for a day, with a reply timer of three seconds.
-fn options(linger_ms: u32, seconds: u32) -> Options {
+pub(crate) fn options(linger_ms: u32, seconds: u32) -> Options {
     Options {
         config: Config {
             window: 7,
@@ -29,7 +29,7 @@ fn options(linger_ms: u32, seconds: u32) -> Options {
     }
 }
 
-fn session(rt: &(impl Abort + AllocGlobal), options: Options) -> Session {
+pub(crate) fn session(rt: &(impl Abort + AllocGlobal), options: Options) -> Session {
     let Ok(mut session) = Session::new(rt.alloc(), options, LineKind::Connect) else {
         panic!(rt; "no memory");
     };
@@ -49,12 +49,12 @@ struct Side {
     end: Option<End>,
 }
 
-fn append(rt: &impl Abort, to: &mut Vec<u8>, bytes: &[u8]) {
+pub(crate) fn append(rt: &impl Abort, to: &mut Vec<u8>, bytes: &[u8]) {
     assert!(rt; to.extend_from_slice(bytes).is_ok());
 }
 
 /// This many messages of drawn lengths, each after its length.
-fn messages(rt: &(impl Abort + AllocGlobal), draws: &mut Draws, count: u32) -> Vec<u8> {
+pub(crate) fn messages(rt: &(impl Abort + AllocGlobal), draws: &mut Draws, count: u32) -> Vec<u8> {
     let mut input = Vec::new(rt.alloc());
     for _message in 0..count {
         let length = 1 + draws.below(1500) as u16;

@@ -90,21 +90,6 @@ impl Session {
         self.link.wants_line() && self.output.room() >= text::LINE_ROOM
     }
 
-    /// Returns how many bytes of a datagram are whole frames: no frame goes on in the next one, so
-    /// the rest is to be dropped. Of another line it is all bytes.
-    pub fn whole_frames(&mut self, datagram: &[u8]) -> usize
-        ensures most { result ≤ length datagram.now }
-        ensures stays { self.new ≡ self.old }
-    {
-        match &mut self.framing {
-            Some(framing) => {
-                let unfinished = framing.unfinished(datagram);
-                datagram.len().saturating_sub(unfinished)
-            }
-            None => datagram.len(),
-        }
-    }
-
     /// Logs bytes that came from the line, if there is a trace: each once, before `received`.
     pub fn log_received(&mut self, bytes: &[u8])
         ensures { self.new ≡ self.old }

@@ -7,7 +7,7 @@ use std::fmt::Write;
 
 impl Session {
     ghost use Rattle.std.specs.Prelude.{◌≡◌, ◌≤◌, ℕ, List, Some, true, false, min, length, is_some};
-    ghost use Rattle.std.specs.Prelude.{if◌then◌else◌, []};
+    ghost use Rattle.std.specs.Prelude.{◌⊎◌, ◌<◌, if◌then◌else◌, [], None};
     ghost use Rattle.ddcmp_station.specs.Linking.{after_taking};
     ghost use Rattle.ddcmp_window.specs.Store.{first_message};
     ghost use Rattle.ddcmp_io.specs.Queue.{after_pushed, after_taken};
@@ -26,6 +26,9 @@ impl Session {
         ensures waits { result ≡ false → Wrote [] self.old.output self.new.output }
         ensures when { room_for_mail self.old ≤ self.old.output.room → result
             ≡ is_some (first_message self.old.link.station.core.station.inbox) }
+        ensures left { result ≡ false
+            → (first_message self.new.link.station.core.station.inbox ≡ None)
+            ⊎ (self.new.output.room < room_for_mail self.new) }
         ensures stays { self.new
             ≡ record self.old { link = self.new.link; output = self.new.output } }
     {

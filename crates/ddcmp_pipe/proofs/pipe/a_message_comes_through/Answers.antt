@@ -66,7 +66,9 @@ returns-clause-streams c = λ line other_line. (
         record { to_a = ([], refl); to_b = (strt_bytes, refl) },
         (
           record {
-            fed = record { core = refl; syn = refl; stays = refl };
+            core = refl;
+            syn = refl;
+            link = refl;
             wrote = record { waiting = refl; room = omega arith; size = refl; is_cut = refl };
             pauses = λ e. inl refl;
             stays = refl;
@@ -80,7 +82,9 @@ returns-clause-streams c = λ line other_line. (
               record { to_a = (stack_bytes, refl); to_b = ([], refl) },
               (
                 record {
-                  fed = record { core = refl; syn = refl; stays = refl };
+                  core = refl;
+                  syn = refl;
+                  link = refl;
                   wrote = record { waiting = refl; room = omega arith; size = refl; is_cut = refl };
                   pauses = λ e. inl refl;
                   stays = refl;
@@ -97,7 +101,9 @@ returns-clause-streams c = λ line other_line. (
                       record { to_a = ([], refl); to_b = (first_bytes, refl) },
                       (
                         record {
-                          fed = record { core = refl; syn = refl; stays = refl };
+                          core = refl;
+                          syn = refl;
+                          link = refl;
                           wrote = record { waiting = refl; room = omega arith; size = refl; is_cut = refl };
                           pauses = λ e. inl refl;
                           stays = refl;
@@ -111,7 +117,9 @@ returns-clause-streams c = λ line other_line. (
                             record { to_a = (ack_1_bytes, refl); to_b = ([], refl) },
                             (
                               record {
-                                fed = record { core = refl; syn = refl; stays = refl };
+                                core = refl;
+                                syn = refl;
+                                link = refl;
                                 wrote = record { waiting = refl; room = omega arith; size = refl; is_cut = refl };
                                 pauses = λ e. inl refl;
                                 stays = refl;

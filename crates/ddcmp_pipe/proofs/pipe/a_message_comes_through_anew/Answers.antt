@@ -1,4 +1,4 @@
-use Rattle.std.proofs.Common.{inl, refl, arith, []}
+use Rattle.std.proofs.Common.{inl, refl, arith}
 use Rattle.std.proofs.Math.Bool.{xor}
 use Rattle.ddcmp_num.specs.Check.{low_bits, bits, add, divisor_rest, remainder, number, check_of}
 use Rattle.ddcmp_frame.specs.Wire.{six_bytes, wire}
@@ -80,7 +80,9 @@ returns-clause-calls c = λ line other_line. (
                     refl,
                     (
                       record {
-                        fed = record { core = refl; syn = refl; stays = refl };
+                        core = refl;
+                        syn = refl;
+                        link = refl;
                         wrote = record { waiting = refl; room = omega arith; size = refl; is_cut = refl };
                         pauses = λ e. inl refl;
                         stays = refl;
@@ -91,7 +93,9 @@ returns-clause-calls c = λ line other_line. (
                           refl,
                           (
                             record {
-                              fed = record { core = refl; syn = refl; stays = refl };
+                              core = refl;
+                              syn = refl;
+                              link = refl;
                               wrote = record { waiting = refl; room = omega arith; size = refl; is_cut = refl };
                               pauses = λ e. inl refl;
                               stays = refl;
@@ -104,7 +108,9 @@ returns-clause-calls c = λ line other_line. (
                                   refl,
                                   (
                                     record {
-                                      fed = record { core = refl; syn = refl; stays = refl };
+                                      core = refl;
+                                      syn = refl;
+                                      link = refl;
                                       wrote = record { waiting = refl; room = omega arith; size = refl; is_cut = refl };
                                       pauses = λ e. inl refl;
                                       stays = refl;
@@ -115,7 +121,9 @@ returns-clause-calls c = λ line other_line. (
                                         refl,
                                         (
                                           record {
-                                            fed = record { core = refl; syn = refl; stays = refl };
+                                            core = refl;
+                                            syn = refl;
+                                            link = refl;
                                             wrote = record { waiting = refl; room = omega arith; size = refl; is_cut = refl };
                                             pauses = λ e. inl refl;
                                             stays = refl;

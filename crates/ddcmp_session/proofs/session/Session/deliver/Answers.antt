@@ -1,4 +1,4 @@
-use Rattle.std.proofs.Common.{◌≡◌, ◌∙◌, ap, sym, subst, take, length, arith}
+use Rattle.std.proofs.Common.{◌∙◌, ap, sym, subst, take, length, arith}
 use Rattle.std.proofs.lemmas.List.{length-take}
 use Rattle.ddcmp_proto.specs.declared.config.Config.{Config}
 use Rattle.ddcmp_session.proofs.TextLaws.{mail-short}

@@ -1,5 +1,4 @@
-use Rattle.std.proofs.Common.{◌≡◌, ◌∙◌, ap, sym}
-use Rattle.ddcmp_session.specs.Session.{SessionView}
+use Rattle.std.proofs.Common.{ap, sym}
 use Rattle.ddcmp_session.proofs.FrameLaws.{puts-none, puts-one}
 use Rattle.ddcmp_session.proofs.session.Session.fill_one.Goals as goal
 

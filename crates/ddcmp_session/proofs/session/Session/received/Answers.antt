@@ -1,4 +1,4 @@
-use Rattle.std.proofs.Common.{◌≡◌, ◌∙◌, ap, sym, subst, take}
+use Rattle.std.proofs.Common.{◌∙◌, ap, sym, subst, take}
 use Rattle.std.specs.Prelude.{option_to_list}
 use Rattle.ddcmp_proto.proofs.FeedLaws.{after_piece-none, notices_of_piece-none}
 use Rattle.ddcmp_proto.specs.Bytes.{notices_of_piece}

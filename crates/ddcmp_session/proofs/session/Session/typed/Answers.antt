@@ -1,4 +1,4 @@
-use Rattle.std.proofs.Common.{◌≡◌, ◌∙◌, sym, ap, length, ◌≤◌, arith}
+use Rattle.std.proofs.Common.{◌∙◌, sym, ap, length, arith}
 use Rattle.ddcmp_session.proofs.InputLaws.{nothing-typed, no-entries, one-entry}
 use Rattle.ddcmp_session.proofs.session.Session.typed.Goals as goal
 

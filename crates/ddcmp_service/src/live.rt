@@ -1,0 +1,218 @@
+//! The devices of a link: what the system gives a session.
+use crate::datagram::Framing;
+use crate::line::Line;
+use crate::outlet::Outlet;
+use crate::system::System;
+use crate::waiting::{Descriptor, Waiting};
+use ddcmp_frame::ReaderRefusal;
+use ddcmp_io::{Got, Sink, Source, Worst};
+use ddcmp_session::{Buffers, Devices, Down, Moved, Session, Wanted};
+use ddcmp_station::Clock;
+use std::alloc::Global;
+use std::io::{Eprint, ErrorKind};
+
+/// Standard input, output and error, a line and a clock.
+pub(crate) struct Live<'a, S, C, R, W> {
+    pub(crate) system: &'a S,
+    pub(crate) waiting: Waiting,
+    pub(crate) line: Option<Line>,
+    clock: C,
+    reader: &'a mut R,
+    writer: &'a mut W,
+    output: Outlet,
+    errors: Outlet,
+    /// Finds where the last whole frame of a datagram ends, if the line is of these.
+    framing: Option<Framing>,
+}
+
+// By hand, so that they are dropped by a call: a derived one is written out at each such place.
+impl<S, C: Drop, R, W> Drop for Live<'_, S, C, R, W> {
+    fn drop(self) {
+        let Live {
+            system: _,
+            waiting: _waiting,
+            line: _line,
+            clock: _clock,
+            reader: _,
+            writer: _,
+            output: _output,
+            errors: _errors,
+            framing: _framing,
+        } = self;
+    }
+}
+
+/// How a session's devices are made.
+pub(crate) struct Parts<'a, S, C, R, W> {
+    pub(crate) system: &'a S,
+    pub(crate) waiting: Waiting,
+    pub(crate) clock: C,
+    pub(crate) reader: &'a mut R,
+    pub(crate) writer: &'a mut W,
+}
+
+impl<'a, S: System, C: Clock + Drop, R: Source, W: Sink> Live<'a, S, C, R, W> {
+    /// Has no line yet. It takes all the memory that it will need; lines of datagrams, if they are
+    /// that, have messages of at most this many bytes.
+    pub(crate) fn new(
+        parts: Parts<'a, S, C, R, W>,
+        alloc: Global,
+        datagrams: Option<u16>,
+    ) -> Result<Self, ReaderRefusal> {
+        let Parts {
+            system,
+            waiting,
+            clock,
+            reader,
+            writer,
+        } = parts;
+        let framing = match datagrams {
+            Some(max) => Some(Framing::new(alloc, max.max(1))?),
+            None => None,
+        };
+        Ok(Live {
+            system,
+            waiting,
+            line: None,
+            clock,
+            reader,
+            writer,
+            output: Outlet::new(system, "/dev/stdout"),
+            errors: Outlet::new(system, "/dev/stderr"),
+            framing,
+        })
+    }
+
+    /// Has no line any more.
+    pub(crate) fn forget_line(&mut self) {
+        self.line = None;
+        self.waiting.forget_line();
+    }
+
+    /// Has the owner of standard output write some of what waits.
+    fn write_by_owner(&mut self, bytes: &[u8]) -> Moved {
+        let piece = &bytes[..bytes.len().min(self.output.most())];
+        if piece.is_empty() {
+            return Moved::Nothing;
+        }
+        if self.writer.failed() {
+            return FAILED;
+        }
+        match self.writer.write(piece) {
+            Some(n) => Moved::Bytes(n),
+            None => FAILED,
+        }
+    }
+
+    /// Prints some of what waits: whatever becomes of that, it was taken.
+    fn print_some(&mut self, bytes: &[u8]) -> Moved {
+        let n = bytes.len().min(self.errors.most());
+        if let Ok(text) = str::from_utf8(&bytes[..n]) {
+            let _ = self.system.eprint(text);
+        }
+        Moved::Bytes(n)
+    }
+}
+
+/// A write by the owner of an output failed.
+const FAILED: Moved = Moved::Ended(Down::Failed(ErrorKind::Other));
+
+/// Writes to an outlet that was opened again; none if its owner is to write, who learns of a
+/// failure.
+fn written(outlet: &mut Outlet, there: &mut Descriptor, bytes: &[u8]) -> Option<Moved> {
+    let moved = outlet.write(bytes);
+    match moved {
+        Some(Moved::Bytes(_) | Moved::Interrupted) => moved,
+        Some(Moved::Nothing) => {
+            there.has_written();
+            moved
+        }
+        Some(Moved::Ended(_)) | None => {
+            there.has_written();
+            None
+        }
+    }
+}
+
+impl<S: System, C: Clock + Drop, R: Source, W: Sink> Devices for Live<'_, S, C, R, W> {
+    ghost use Rattle.std.specs.Prelude.{None};
+
+    ghost traffic = { λ _. None };
+
+    fn read_input(&mut self, space: &mut [u8]) -> Got {
+        if !self.waiting.input.ready.to_read {
+            return Got::Idle;
+        }
+        if self.reader.worst() == Worst::Failed {
+            return Got::Failed;
+        }
+        self.waiting.input.has_read();
+        self.reader.read(space)
+    }
+
+    fn may_read_line(&self) -> bool {
+        self.waiting.may_read_line()
+    }
+
+    fn read_line(&mut self, space: &mut [u8]) -> Moved {
+        let Some(line) = &mut self.line else {
+            return Moved::Ended(Down::Closed);
+        };
+        let got = line.read(space);
+        self.waiting.line_was_read(got == Moved::Nothing);
+        match (got, &mut self.framing) {
+            // No frame goes on in the next datagram, so an unfinished one is dropped.
+            (Moved::Bytes(n), Some(framing)) => {
+                let n = n.min(space.len());
+                let unfinished = framing.unfinished(&space[..n]);
+                Moved::Bytes(n.saturating_sub(unfinished))
+            }
+            (Moved::Bytes(n), None) => Moved::Bytes(n.min(space.len())),
+            (got, _) => got,
+        }
+    }
+
+    fn write_line(&mut self, bytes: &[u8]) -> Moved {
+        let Some(line) = &mut self.line else {
+            return Moved::Ended(Down::Closed);
+        };
+        if !self.waiting.may_write_line() {
+            return Moved::Nothing;
+        }
+        let took = line.write(bytes);
+        self.waiting.line_was_written(took == Moved::Nothing);
+        took
+    }
+
+    fn write_output(&mut self, bytes: &[u8]) -> Moved {
+        if !self.waiting.output.ready.to_write {
+            return Moved::Nothing;
+        }
+        match written(&mut self.output, &mut self.waiting.output, bytes) {
+            Some(moved) => moved,
+            None => self.write_by_owner(bytes),
+        }
+    }
+
+    fn write_errors(&mut self, bytes: &[u8]) -> Moved {
+        if !self.waiting.errors.ready.to_write {
+            return Moved::Nothing;
+        }
+        match written(&mut self.errors, &mut self.waiting.errors, bytes) {
+            Some(moved) => moved,
+            None => self.print_some(bytes),
+        }
+    }
+
+    fn rest(&mut self, session: &Session, buffers: &Buffers, most_ms: u64) -> bool {
+        self.waiting.wait(buffers.wanted(session), most_ms)
+    }
+
+    fn wait(&mut self, wanted: Wanted, most_ms: u64) -> bool {
+        self.waiting.wait(wanted, most_ms)
+    }
+
+    fn now(&mut self) -> u64 {
+        self.clock.now()
+    }
+}

@@ -1,0 +1,67 @@
+use Rattle.std.proofs.Common.{◌∙◌, ap, sym, subst}
+use Rattle.ddcmp_session.specs.Session.{SessionView}
+use Rattle.ddcmp_session.specs.Devices.{Rests}
+use Rattle.ddcmp_session.proofs.RestLaws.{none, as-ok, comes-to-rest}
+use Rattle.ddcmp_session.proofs.GoingLaws.{stays, goes-then, filled-goes}
+use Rattle.ddcmp_session.proofs.buffers.Buffers.pass.Goals as goal
+
+pub returns-in_err-moved-clause-on : goal.returns-in_err-moved-clause-on
+returns-in_err-moved-clause-on g c =
+    goes-then
+    (filled-goes c.args.session.now c.fill.new.self c.fill.ensures.frames c.fill.ensures.filled)
+    c.read_input.ensures.on
+
+pub returns-in_err-moved-2-clause-on : goal.returns-in_err-moved-2-clause-on
+returns-in_err-moved-2-clause-on g c =
+    goes-then
+    (filled-goes c.args.session.now c.fill.new.self c.fill.ensures.frames c.fill.ensures.filled)
+    (goes-then c.read_input.ensures.on c.pass_input.ensures.on)
+
+pub returns-in_err-moved-3-clause-on : goal.returns-in_err-moved-3-clause-on
+returns-in_err-moved-3-clause-on g c =
+    goes-then
+    (filled-goes c.args.session.now c.fill.new.self c.fill.ensures.frames c.fill.ensures.filled)
+    (goes-then c.read_input.ensures.on
+    (goes-then c.pass_input.ensures.on c.read_line.ensures.on))
+
+pub returns-in_err-moved-4-clause-on : goal.returns-in_err-moved-4-clause-on
+returns-in_err-moved-4-clause-on g c =
+    goes-then
+    (filled-goes c.args.session.now c.fill.new.self c.fill.ensures.frames c.fill.ensures.filled)
+    (goes-then c.read_input.ensures.on
+    (goes-then c.pass_input.ensures.on
+    (goes-then c.read_line.ensures.on
+    (goes-then (c.pass_received.ensures.on _)
+    (goes-then c.write_line.ensures.on (c.write_output.ensures.on _))))))
+
+pub returns-clause-on : goal.returns-clause-on
+returns-clause-on g c =
+    goes-then
+    (filled-goes c.args.session.now c.fill.new.self c.fill.ensures.frames c.fill.ensures.filled)
+    (goes-then c.read_input.ensures.on
+    (goes-then c.pass_input.ensures.on
+    (goes-then c.read_line.ensures.on
+    (goes-then (c.pass_received.ensures.on _)
+    (goes-then c.write_line.ensures.on
+    (goes-then (c.write_output.ensures.on _)
+    (stays c.write_errors.ensures.session c.write_errors.ensures.devices)))))))
+
+pub returns-clause-rests : goal.returns-clause-rests
+returns-clause-rests g c = λ e.
+    let n =
+    none c.in_ok-moved.moved c.in_ok-moved-2.field-0 c.in_ok-moved-3.field-0
+    c.pass_received.result c.write_line.result c.in_ok-moved-4.field-0 c.write_errors.result e in
+    let passed = c.in_ok-moved-2.ensures.idle (as-ok n.second) in
+    let fed = c.pass_received.ensures.idle n.fourth in
+    subst (λ b. Rests b c.write_errors.new.session) (sym c.write_line.ensures.held)
+    (comes-to-rest c.fill.new.self c.pass_input.new.session c.pass_received.new.session
+    c.write_errors.new.session c.pass_input.new.self c.pass_received.new.self
+    c.fill.ensures.filled passed.0 (c.in_ok-moved-2.ensures.typed (as-ok n.second))
+    (c.in_ok-moved-2.ensures.told (as-ok n.second))
+    (fed.0
+    ∙ ap (λ (s : SessionView). record s { output = c.pass_received.new.session.output })
+    c.in_ok-moved-3.ensures.session)
+    (fed.1 ∙ c.in_ok-moved-3.ensures.idle (as-ok n.third))
+    (c.pass_received.ensures.fed n.fourth) (c.pass_received.ensures.left n.fourth)
+    (c.write_errors.ensures.session ∙ c.in_ok-moved-4.ensures.idle (as-ok n.sixth)
+    ∙ c.write_line.ensures.idle n.fifth))

@@ -1,0 +1,40 @@
+use Rattle.std.proofs.Common.{refl, sym}
+use Rattle.ddcmp_session.proofs.GoingLaws.{stays, goes-then, types-held}
+use Rattle.ddcmp_session.proofs.InputLaws.{has-typed}
+use Rattle.ddcmp_session.proofs.buffers.Buffers.pass_parts.Goals as goal
+
+pub loop-part-init : goal.loop-part-init
+loop-part-init c = record {
+  on = λ known. stays refl refl;
+  session = λ e. refl;
+  held = λ e. refl;
+}
+
+pub loop-part-preserved : goal.loop-part-preserved
+loop-part-preserved c = record {
+  on = λ known.
+      goes-then (c.loop-part.invariant.on known)
+      (types-held c.loop-part.session c.typed-used.new.self c.typed-used.result c.rest.result.now
+      c.used.new.self c.rest.ensures c.used.ensures
+      (has-typed c.typed-used.result c.rest.result.now c.loop-part.session c.typed-used.new.self
+      c.typed-used.ensures.used c.typed-used.ensures.state c.typed-used.ensures.first
+      c.typed-used.ensures.few c.typed-used.ensures.none));
+  session = λ e. cc;
+  held = λ e. cc;
+}
+
+pub returns-after-loop-part : goal.returns-after-loop-part
+returns-after-loop-part c =
+    rw (sym c.self.view_is)
+    (record {
+      on = c.loop-part.invariant.on;
+      idle = λ e. (c.loop-part.invariant.session e, c.loop-part.invariant.held e);
+    })
+
+pub returns-then-is_empty : goal.returns-then-is_empty
+returns-then-is_empty c =
+    rw (sym c.self.view_is)
+    (record {
+      on = c.loop-part.invariant.on;
+      idle = λ e. (c.loop-part.invariant.session e, c.loop-part.invariant.held e);
+    })

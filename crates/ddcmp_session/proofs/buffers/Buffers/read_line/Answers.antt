@@ -1,0 +1,30 @@
+use Rattle.std.proofs.Common.{◌≡◌, ◌∙◌, ap, [], refl, sym, subst}
+use Rattle.ddcmp_session.specs.contracts.buffers.Buffers as buffers
+use Rattle.ddcmp_session.specs.Devices.{BuffersView, moved_of}
+use Rattle.ddcmp_session.proofs.GoingLaws.{stays, goes-then, line-given}
+use Rattle.ddcmp_session.proofs.buffers.Buffers.read_line.Goals as goal
+
+pub returns-then-not-wants_line-clause-on : goal.returns-then-not-wants_line-clause-on
+returns-then-not-wants_line-clause-on g c = stays refl refl
+
+pub returns-clause-on : goal.returns-clause-on
+returns-clause-on g c =
+    rw (sym c.self.view_is)
+    (goes-then
+    (line-given c.read_line-got.result c.read_line-got.ensures.0 c.read_line-got.new.self
+    (subst (λ (v : BuffersView). v.received ≡ []) (sym c.self.view_is)
+    (c.wants_line.ensures c.if-not-wants_line.false)) c.read_line-got.ensures.1
+    c.read_line-got.ensures.2)
+    (stays c.log_received.ensures refl))
+
+pub returns-clause-idle : goal.returns-clause-idle
+returns-clause-idle g c =
+    let empty =
+    subst (λ (v : BuffersView). v.received ≡ []) (sym c.self.view_is)
+    (c.wants_line.ensures c.if-not-wants_line.false) in
+    rw (sym c.self.view_is)
+    (λ e.
+    ap (λ xs. record (buffers.the_view c.self.inside) { received = xs })
+    (c.read_line-got.ensures.1
+    ∙ ap (λ m. moved_of m c.read_line-got.ensures.0) (c.after_read.ensures e)
+    ∙ sym empty))

@@ -1,0 +1,41 @@
+use Rattle.std.proofs.Common.{◌≡◌, ◌∙◌, ap, [], false, refl, sym, subst, ◌==◌}
+use Rattle.ddcmp_session.specs.Devices.{BuffersView}
+use Rattle.ddcmp_session.proofs.GoingLaws.{input-given, no-input}
+use Rattle.ddcmp_session.specs.contracts.buffers.Buffers as buffers
+use Rattle.ddcmp_session.proofs.buffers.Buffers.read_now.Goals as goal
+
+pub returns-in-Idle-clause-on : goal.returns-in-Idle-clause-on
+returns-in-Idle-clause-on g c =
+    rw (sym c.self.view_is)
+    (λ session.
+    no-input c.read_input.new.self
+    (subst (λ (v : BuffersView). v.input ≡ []) (sym c.self.view_is) c.requires.empty)
+    c.in-Idle.ensures.1 c.in-Idle.ensures.2)
+
+pub returns-in-Failed-clause-on : goal.returns-in-Failed-clause-on
+returns-in-Failed-clause-on g c =
+    rw (sym c.self.view_is)
+    (λ session.
+    no-input c.read_input.new.self
+    (subst (λ (v : BuffersView). v.input ≡ []) (sym c.self.view_is) c.requires.empty)
+    c.in-Failed.ensures.1 c.in-Failed.ensures.2)
+
+pub returns-clause-on : goal.returns-clause-on
+returns-clause-on g c =
+    rw (sym c.self.view_is)
+    (λ session.
+    input-given c.in-Bytes.n c.in-Bytes.ensures.0 c.read_input.new.self
+    (c.in-Bytes.n == 0)
+    (subst (λ (v : BuffersView). v.input ≡ []) (sym c.self.view_is) c.requires.empty)
+    (subst (λ (v : BuffersView). v.is_over ≡ false) (sym c.self.view_is)
+    c.requires.goes_on)
+    c.in-Bytes.ensures.1 c.in-Bytes.ensures.2 refl)
+
+pub returns-in-Idle-clause-idle : goal.returns-in-Idle-clause-idle
+returns-in-Idle-clause-idle g c =
+    let empty =
+    subst (λ (v : BuffersView). v.input ≡ []) (sym c.self.view_is) c.requires.empty in
+    rw (sym c.self.view_is)
+    (λ e.
+    ap (λ xs. record (buffers.the_view c.self.inside) { input = xs })
+    (c.in-Idle.ensures.1 ∙ sym empty))

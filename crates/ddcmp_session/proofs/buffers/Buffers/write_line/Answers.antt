@@ -1,0 +1,29 @@
+use Rattle.std.proofs.Common.{refl, sym}
+use Rattle.ddcmp_session.specs.declared.devices.Moved.TheVariants.{Nothing, Interrupted, Ended}
+use Rattle.ddcmp_session.specs.Devices.{after_gone}
+use Rattle.ddcmp_session.proofs.GoingLaws.{stays, idles, none-gone, line-took}
+use Rattle.ddcmp_session.proofs.buffers.Buffers.write_line.Goals as goal
+
+pub returns-then-is_some-clause-on : goal.returns-then-is_some-clause-on
+returns-then-is_some-clause-on g c = stays refl refl
+
+pub returns-in-Nothing-clause-on : goal.returns-in-Nothing-clause-on
+returns-in-Nothing-clause-on g c =
+    idles (after_gone Nothing c.to_line-2.result.now) c.in-Nothing.ensures.gone
+    (none-gone c.to_line-2.result.now Nothing refl)
+
+pub returns-in-Interrupted-clause-on : goal.returns-in-Interrupted-clause-on
+returns-in-Interrupted-clause-on g c =
+    idles (after_gone Interrupted c.to_line-2.result.now) c.in-Interrupted.ensures.gone
+    (none-gone c.to_line-2.result.now Interrupted refl)
+
+pub returns-in-Ended-clause-on : goal.returns-in-Ended-clause-on
+returns-in-Ended-clause-on g c =
+    rw (sym c.self.view_is)
+    (idles (after_gone (Ended c.in-Ended.why) c.to_line-2.result.now) c.in-Ended.ensures.gone
+    (none-gone c.to_line-2.result.now (Ended c.in-Ended.why) refl))
+
+pub returns-in-Bytes-clause-on : goal.returns-in-Bytes-clause-on
+returns-in-Bytes-clause-on g c =
+    line-took c.args.session.now c.line_took.new.self c.in-Bytes.n c.to_line-2.result.now
+    c.to_line-2.ensures c.in-Bytes.ensures.gone c.line_took.ensures

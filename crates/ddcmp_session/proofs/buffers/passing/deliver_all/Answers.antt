@@ -1,0 +1,29 @@
+use Rattle.std.proofs.Common.{refl}
+use Rattle.ddcmp_session.proofs.GoingLaws.{stays, goes-then, delivered-goes, not-delivered}
+use Rattle.ddcmp_session.proofs.buffers.passing.deliver_all.Goals as goal
+
+pub loop-message-init : goal.loop-message-init
+loop-message-init c = record { on = λ held known. stays refl refl; idle = λ e. refl }
+
+pub loop-message-preserved : goal.loop-message-preserved
+loop-message-preserved c = record {
+  on = λ held known.
+      goes-then (c.loop-message.invariant.on held known)
+      (delivered-goes c.deliver.result c.loop-message.session c.deliver.new.self
+      c.deliver.ensures.link c.deliver.ensures.wrote c.deliver.ensures.waits
+      c.deliver.ensures.stays);
+  idle = λ e. cc;
+}
+
+pub returns-then-not-deliver : goal.returns-then-not-deliver
+returns-then-not-deliver c = record {
+  on = λ held known.
+      goes-then (c.loop-message.invariant.on held known)
+      (delivered-goes c.deliver.result c.loop-message.session c.deliver.new.self
+      c.deliver.ensures.link c.deliver.ensures.wrote c.deliver.ensures.waits
+      c.deliver.ensures.stays);
+  idle = λ e.
+      not-delivered c.args.session.now c.loop-message.session c.deliver.new.self
+      c.if-not-deliver.ensures.link c.deliver.ensures.stays (c.loop-message.invariant.idle e);
+  left = λ e. c.if-not-deliver.ensures.left refl;
+}

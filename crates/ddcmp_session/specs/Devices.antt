@@ -1,0 +1,121 @@
+-- The devices of a session, what they have given and taken, and how a session goes on over them.
+use Rattle.std.specs.Prelude.{◌≡◌, ℕ, ◌==◌, ◌<◌, ◌⊎◌, Bool, true, false, if◌then◌else◌, List, [], ◌++◌, take}
+use Rattle.std.specs.Prelude.{Option, Some, None}
+use Rattle.ddcmp_frame.specs.Reader.{StandsFor}
+use Rattle.ddcmp_io.specs.declared.device.Got.{Got}
+use Rattle.ddcmp_io.specs.declared.device.Got.TheVariants as got
+use Rattle.ddcmp_session.specs.declared.devices.Moved.{Moved}
+use Rattle.ddcmp_session.specs.declared.devices.Moved.TheVariants.{Bytes, Nothing, Interrupted}
+use Rattle.ddcmp_session.specs.declared.devices.Moved.TheVariants.{Ended}
+use Rattle.ddcmp_window.specs.Store.{first_message}
+use Rattle.ddcmp_session.specs.Session.{SessionView, form_of, IsFilled, wants_input, wants_line}
+use Rattle.ddcmp_session.specs.Session.{room_for_mail}
+use Rattle.ddcmp_session.specs.Calls.{SessionHistory, SessionStep, IsSessionHistory}
+use Rattle.ddcmp_session.specs.Calls.{after_session_steps, end_in}
+
+-- What devices have given and taken: the bytes that were read of the input, and whether it has
+-- ended; those that came of the line; those that the line took; and those that the output took.
+pub record Traffic : Type 0 where
+  pub read : List ℕ
+  pub is_over : Bool
+  pub came : List ℕ
+  pub gone : List ℕ
+  pub written : List ℕ
+
+-- ---- what a call of a device adds to that
+
+-- how many bytes were read
+abbrev pub count_read : Got → ℕ
+count_read (got.Bytes n) = n
+count_read got.Idle = 0
+count_read got.Failed = 0
+
+-- a read of the input; no bytes are its end
+abbrev pub after_read : Got → List ℕ → Traffic → Traffic
+after_read (got.Bytes n) space t =
+    record t { read = t.read ++ take n space; is_over = n == 0 }
+after_read got.Idle space t = t
+after_read got.Failed space t = t
+
+-- how many bytes were moved, and which
+abbrev pub count_moved : Moved → ℕ
+count_moved (Bytes n) = n
+count_moved Nothing = 0
+count_moved Interrupted = 0
+count_moved (Ended why) = 0
+
+abbrev pub moved_of : Moved → List ℕ → List ℕ
+moved_of moved bytes = take (count_moved moved) bytes
+
+abbrev pub after_came : Moved → List ℕ → Traffic → Traffic
+after_came moved space t = record t { came = t.came ++ moved_of moved space }
+
+abbrev pub after_gone : Moved → List ℕ → Traffic → Traffic
+after_gone moved bytes t = record t { gone = t.gone ++ moved_of moved bytes }
+
+abbrev pub after_written : Moved → List ℕ → Traffic → Traffic
+after_written moved bytes t = record t { written = t.written ++ moved_of moved bytes }
+
+-- Traffic that was known is known afterwards, and has become this.
+abbrev pub Becomes : Option Traffic → Option Traffic → (Traffic → Traffic) → Type 0
+Becomes old new change = (before : Traffic) → old ≡ Some before → new ≡ Some (change before)
+
+-- ---- a session over its devices
+
+-- bytes that were read of the input, or came of the line, and that the session hasn't had yet; and
+-- whether the input has ended
+pub record BuffersView : Type 0 where
+  pub input : List ℕ
+  pub received : List ℕ
+  pub is_over : Bool
+
+abbrev pub nothing_read : BuffersView
+nothing_read = record { input = []; received = []; is_over = false }
+
+-- the end of its last line, if a session was told of the end of its input
+abbrev pub end_of : SessionView → List ℕ
+end_of s = if s.is_read then end_in (form_of s.messages) else []
+
+-- What was read and what came is what the session has had, and then what it has yet to have. What
+-- the line and the output took is what the session has given. The input has ended if the session
+-- was told so.
+pub record Agrees (held : BuffersView) (h : SessionHistory) (t : Traffic) : Type 0 where
+  pub read : t.read ++ end_of h.session ≡ h.input ++ held.input
+  pub over : held.is_over ≡ t.is_over
+  pub told : h.session.is_read ≡ true → held.is_over ≡ true
+  pub came : t.came ≡ h.used ++ held.received
+  pub gone : t.gone ≡ h.gone
+  pub written : t.written ≡ h.written
+  pub stands : StandsFor h.session.link.station.line h.used
+
+-- The history of a session went on to this one, and agrees with its devices again.
+pub record WentOn (h : SessionHistory) (new : SessionView) (held : BuffersView) (t : Traffic)
+    : Type 0 where
+  pub steps : List SessionStep
+  pub calls : IsSessionHistory steps h
+  pub session : (after_session_steps steps h).session ≡ new
+  pub agrees : Agrees held (after_session_steps steps h) t
+
+-- A session, its buffers and its devices: whatever was before, if it agreed with the devices, went
+-- on by calls of the session alone, and agrees with the devices again.
+abbrev pub GoesOn : BuffersView → SessionView → Option Traffic
+    → BuffersView → SessionView → Option Traffic → Type 0
+GoesOn held old before new_held new after =
+    (h : SessionHistory) (t : Traffic) → h.session ≡ old → before ≡ Some t → Agrees held h t
+    → (t' : Traffic) × (after ≡ Some t') × WentOn h new new_held t'
+
+-- a received message that isn't delivered waits for room
+abbrev pub HoldsMail : SessionView → Type 0
+HoldsMail s =
+    (first_message s.link.station.core.station.inbox ≡ None)
+    ⊎ (s.output.room < room_for_mail s)
+
+-- Nothing is left to be done without a device: what could be sent waits for the line, what was read
+-- of the input waits for the station, which was told of its end, and what came of the line waits
+-- for room, as do received messages.
+pub record Rests (held : BuffersView) (s : SessionView) : Type 0 where
+  pub filled : IsFilled s
+  pub typed : (held.input ≡ []) ⊎ (wants_input s ≡ false)
+  pub told : (held.is_over ≡ false) ⊎ (wants_input s ≡ false)
+  pub fed : (held.received ≡ []) ⊎ (wants_line s ≡ false)
+  pub delivered : HoldsMail s

@@ -1,0 +1,107 @@
+//! What was read for a session and not used yet.
+ghost use Rattle.std.specs.Prelude.{◌≡◌, [], IfOk};
+ghost use Rattle.ddcmp_session.specs.Devices.{nothing_read};
+
+mod passing;
+mod running;
+
+use crate::chunk::Chunk;
+use crate::devices::{Down, Wanted};
+use crate::session::Session;
+pub use passing::write_errors;
+pub use running::{drain_errors, drain_output};
+use std::alloc::{AllocError, Global};
+use std::marker::Model;
+
+/// How a session runs over its devices: what was read for it and not used yet, and the loop that
+/// moves bytes and decides nothing.
+///
+/// Call `begin_line` once a line is open and the session is connected, then `run` until the line is
+/// left. `drain_output` and `drain_errors` write what waits, as at the end.
+pub struct Buffers {
+    input: Chunk,
+    received: Chunk,
+    input_is_over: bool,
+    /// Why the line takes nothing any more, if it doesn't. What it has given is still read.
+    down: Option<Down>,
+}
+
+impl Model for Buffers {
+    ghost use Rattle.ddcmp_session.specs.Devices.{BuffersView};
+
+    ghost Value = { BuffersView };
+
+    ghost view = { λ b. record {
+      input = b.input;
+      received = b.received;
+      is_over = b.input_is_over;
+    } };
+}
+
+// By hand, so that they are dropped by a call: a derived one is written out at each such place.
+impl Drop for Buffers {
+    fn drop(self) {
+        let Buffers {
+            input: _input,
+            received: _received,
+            input_is_over: _,
+            down: _,
+        } = self;
+    }
+}
+
+impl Buffers {
+    ghost use Rattle.std.specs.Prelude.{◌≡◌, true, false, []};
+    ghost use Rattle.ddcmp_session.specs.Session.{wants_input};
+
+    /// Makes empty ones. They take all the memory that they will need.
+    pub fn new(alloc: Global) -> Result<Buffers, AllocError>
+        ensures { IfOk result (λ made. made ≡ nothing_read) }
+    {
+        Ok(Buffers {
+            input: Chunk::new(alloc)?,
+            received: Chunk::new(alloc)?,
+            input_is_over: false,
+            down: None,
+        })
+    }
+
+    /// Has a line on which nothing has come.
+    pub fn begin_line(&mut self)
+        ensures { self.new ≡ record self.old { received = [] } }
+    {
+        self.received.clear();
+        self.down = None;
+    }
+
+    /// Returns which devices are to be waited for.
+    pub fn wanted(&self, session: &Session) -> Wanted {
+        Wanted {
+            input: self.wants_input(session),
+            output: !session.to_output().is_empty(),
+            errors: !session.to_errors().is_empty(),
+            from_line: self.wants_line(session),
+            to_line: self.down.is_none() && !session.to_line().is_empty(),
+        }
+    }
+
+    /// Whether the input is to be read.
+    fn wants_input(&self, session: &Session) -> bool
+        ensures empty { result ≡ true → self.now.input ≡ [] }
+        ensures goes_on { result ≡ true → self.now.is_over ≡ false }
+    {
+        !self.input_is_over && self.input.is_empty() && session.wants_input()
+    }
+
+    /// Whether the line is to be read.
+    fn wants_line(&self, session: &Session) -> bool
+        ensures { result ≡ true → self.now.received ≡ [] }
+    {
+        self.received.is_empty() && session.wants_line()
+    }
+
+    /// Passes to a session whose run is over what was read of the input.
+    pub fn close(&self, session: &mut Session) {
+        let _has_room = session.close(self.input.rest(), self.input_is_over);
+    }
+}

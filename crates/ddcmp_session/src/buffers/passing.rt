@@ -1,0 +1,275 @@
+//! One pass over the devices of a session: each step moves bytes between a device and the session,
+//! without waiting, and returns whether it moved any.
+ghost use Rattle.std.specs.Prelude.{◌≡◌, Ok, Option, false};
+ghost use Rattle.ddcmp_session.specs.Devices.{BuffersView, GoesOn, HoldsMail, Traffic};
+
+use crate::buffers::Buffers;
+use crate::devices::{Devices, Fault, Moved, Wanted};
+use crate::session::{End, Session};
+use ddcmp_io::Got;
+
+/// How many parts of the input are passed on before the line has its turn. Reports for that many
+/// lines `?` have room in the queue for standard error.
+const INPUT_PARTS: u8 = 64;
+
+/// Writes the received messages that the output has room for; returns whether there was one.
+pub(super) fn deliver_all(session: &mut Session) -> bool
+    ensures on { (held : BuffersView) (known : Option Traffic)
+        → GoesOn held session.old known held session.new known }
+    ensures idle { result ≡ false
+        → session.new ≡ record session.old { output = session.new.output } }
+    ensures left { result ≡ false → HoldsMail session.new }
+{
+    let mut moved = false;
+    for _message in 0..u64::MAX {
+        if !session.deliver() {
+            return moved;
+        }
+        moved = true;
+    }
+    true
+}
+
+impl Buffers {
+    ghost use Rattle.std.specs.Prelude.{◌≡◌, ◌⊎◌, [], Ok, Option, false};
+    ghost use Rattle.ddcmp_session.specs.Session.{SessionView, wants_input, wants_line};
+    ghost use Rattle.ddcmp_session.specs.Devices.{GoesOn, HoldsMail, Rests, Traffic};
+
+    /// Moves what can be moved, without waiting, and returns whether there was anything: if not, it
+    /// is time to wait.
+    pub fn pass<D: Devices>(
+        &mut self,
+        session: &mut Session,
+        devices: &mut D,
+    ) -> Result<bool, Fault>
+        ensures on { GoesOn self.old session.old (D.traffic devices.old)
+            self.new session.new (D.traffic devices.new) }
+        ensures rests { result ≡ Ok false → Rests self.new session.new }
+    {
+        session.fill();
+        let mut moved = self.read_input(session, devices)?;
+        moved |= self.pass_input(session, devices)?;
+        moved |= self.read_line(session, devices)?;
+        moved |= self.pass_received(session);
+        moved |= self.write_line(session, devices);
+        moved |= write_output(session, devices)?;
+        moved |= write_errors(session, devices);
+        Ok(moved)
+    }
+
+    /// Reads the input, if a message is wanted.
+    fn read_input<D: Devices>(&mut self, session: &Session, devices: &mut D) -> Result<bool, Fault>
+        ensures on { GoesOn self.old session.now (D.traffic devices.old)
+            self.new session.now (D.traffic devices.new) }
+        ensures idle { result ≡ Ok false → self.new ≡ self.old }
+    {
+        if !self.wants_input(session) {
+            return Ok(false);
+        }
+        self.read_now(devices)
+    }
+
+    /// Reads the input, if it has something.
+    fn read_now<D: Devices>(&mut self, devices: &mut D) -> Result<bool, Fault>
+        requires empty { self.old.input ≡ [] }
+        requires goes_on { self.old.is_over ≡ false }
+        ensures on { (session : SessionView) → GoesOn self.old session (D.traffic devices.old)
+            self.new session (D.traffic devices.new) }
+        ensures idle { result ≡ Ok false → self.new ≡ self.old }
+    {
+        match self.input.read_input(devices) {
+            Got::Bytes(n) => self.input_is_over = n == 0,
+            Got::Idle => return Ok(false),
+            Got::Failed => return Err(Fault::Input),
+        }
+        Ok(true)
+    }
+
+    /// Passes what was read of the input to the session, as far as it takes that. If more is left
+    /// it finds out what else is ready, as no wait will before that is used.
+    fn pass_input<D: Devices>(
+        &mut self,
+        session: &mut Session,
+        devices: &mut D,
+    ) -> Result<bool, Fault>
+        ensures on { GoesOn self.old session.old (D.traffic devices.old)
+            self.new session.new (D.traffic devices.new) }
+        ensures idle { result ≡ Ok false → (session.new ≡ session.old) × (self.new ≡ self.old) }
+        ensures typed { result ≡ Ok false
+            → (self.new.input ≡ []) ⊎ (wants_input session.new ≡ false) }
+        ensures told { result ≡ Ok false
+            → (self.new.is_over ≡ false) ⊎ (wants_input session.new ≡ false) }
+    {
+        let moved = self.pass_parts(session);
+        if !session.wants_input() {
+            return Ok(moved);
+        }
+        if !self.input.is_empty() {
+            let wanted = self.wanted(session);
+            return if devices.wait(wanted, 0) {
+                Ok(true)
+            } else {
+                Err(Fault::Input)
+            };
+        }
+        if self.input_is_over {
+            session.input_ended();
+            return Ok(true);
+        }
+        Ok(moved)
+    }
+
+    /// Passes at most `INPUT_PARTS` parts of the input to the session.
+    fn pass_parts(&mut self, session: &mut Session) -> bool
+        ensures on { (known : Option Traffic)
+            → GoesOn self.old session.old known self.new session.new known }
+        ensures idle { result ≡ false → (session.new ≡ session.old) × (self.new ≡ self.old) }
+    {
+        let mut moved = false;
+        for _part in 0..INPUT_PARTS {
+            if self.input.is_empty() || !session.wants_input() {
+                break;
+            }
+            let used = session.typed(self.input.rest());
+            self.input.used(used);
+            moved = true;
+        }
+        moved
+    }
+
+    /// Reads what the input has at this moment, for a line that has ended: it is the beginning of
+    /// what wasn't delivered.
+    pub fn read_the_rest<D: Devices>(&mut self, devices: &mut D) -> Result<(), Fault>
+        ensures on { (session : SessionView) → GoesOn self.old session (D.traffic devices.old)
+            self.new session (D.traffic devices.new) }
+    {
+        if self.input_is_over || !self.input.is_empty() {
+            return Ok(());
+        }
+        if !devices.wait(Wanted::INPUT, 0) {
+            return Err(Fault::Input);
+        }
+        match self.read_now(devices) {
+            Ok(_moved) => Ok(()),
+            Err(fault) => Err(fault),
+        }
+    }
+
+    /// Writes what waits for the line, as far as that has room.
+    fn write_line<D: Devices>(&mut self, session: &mut Session, devices: &mut D) -> bool
+        ensures on { GoesOn self.old session.old (D.traffic devices.old)
+            self.new session.new (D.traffic devices.new) }
+        ensures idle { result ≡ false → session.new ≡ session.old }
+        ensures held { self.new ≡ self.old }
+    {
+        if self.down.is_some() || session.to_line().is_empty() {
+            return false;
+        }
+        match devices.write_line(session.to_line()) {
+            Moved::Bytes(n) => session.line_took(n),
+            Moved::Nothing => return false,
+            Moved::Interrupted => {}
+            Moved::Ended(why) => self.down = Some(why),
+        }
+        true
+    }
+
+    /// Reads what the line has, if what came before was used.
+    fn read_line<D: Devices>(
+        &mut self,
+        session: &mut Session,
+        devices: &mut D,
+    ) -> Result<bool, Fault>
+        ensures on { GoesOn self.old session.old (D.traffic devices.old)
+            self.new session.new (D.traffic devices.new) }
+        ensures idle { result ≡ Ok false → self.new ≡ self.old }
+        ensures session { session.new ≡ session.old }
+    {
+        if !self.wants_line(session) || !devices.may_read_line() {
+            return Ok(false);
+        }
+        let got = self.received.read_line(devices);
+        session.log_received(self.received.rest());
+        self.after_read(got)
+    }
+
+    /// Whether a read of the line gave anything. What the line has is read to its end before the
+    /// fault of a write is reported.
+    fn after_read(&self, got: Moved) -> Result<bool, Fault>
+        ensures { result ≡ Ok false → got ≡ Moved.Nothing }
+    {
+        match got {
+            Moved::Bytes(_) | Moved::Interrupted => Ok(true),
+            Moved::Nothing => match self.down {
+                Some(why) => Err(Fault::Line(why)),
+                None => Ok(false),
+            },
+            Moved::Ended(why) => Err(Fault::Line(self.down.unwrap_or(why))),
+        }
+    }
+
+    /// Passes what came of the line to the session, as far as it takes that, and delivers. Once the
+    /// peer has restarted the session takes no more.
+    fn pass_received(&mut self, session: &mut Session) -> bool
+        ensures on { (known : Option Traffic)
+            → GoesOn self.old session.old known self.new session.new known }
+        ensures idle { result ≡ false
+            → (session.new ≡ record session.old { output = session.new.output })
+            × (self.new ≡ self.old) }
+        ensures fed { result ≡ false
+            → (self.new.received ≡ []) ⊎ (wants_line session.new ≡ false) }
+        ensures left { result ≡ false → HoldsMail session.new }
+    {
+        let mut moved = false;
+        for _notice in 0..u64::MAX {
+            moved |= deliver_all(session);
+            if session.end() == Some(End::Restarted) {
+                return true;
+            }
+            if self.received.is_empty() || !session.wants_line() {
+                return moved;
+            }
+            let used = session.received(self.received.rest());
+            self.received.used(used);
+            moved = true;
+        }
+        true
+    }
+}
+
+/// Writes what standard output has room for.
+pub(super) fn write_output<D: Devices>(
+    session: &mut Session,
+    devices: &mut D,
+) -> Result<bool, Fault>
+    ensures on { (held : BuffersView) → GoesOn held session.old (D.traffic devices.old)
+        held session.new (D.traffic devices.new) }
+    ensures idle { result ≡ Ok false → session.new ≡ session.old }
+{
+    if session.to_output().is_empty() {
+        return Ok(false);
+    }
+    match devices.write_output(session.to_output()) {
+        Moved::Bytes(n) => session.output_took(n),
+        Moved::Nothing => return Ok(false),
+        Moved::Interrupted => {}
+        Moved::Ended(_) => return Err(Fault::Output),
+    }
+    Ok(true)
+}
+
+/// Writes what standard error has room for.
+pub fn write_errors<D: Devices>(session: &mut Session, devices: &mut D) -> bool
+    ensures session { session.new ≡ session.old }
+    ensures devices { D.traffic devices.new ≡ D.traffic devices.old }
+{
+    if session.to_errors().is_empty() {
+        return false;
+    }
+    match devices.write_errors(session.to_errors()) {
+        Moved::Bytes(n) => session.errors_took(n),
+        Moved::Nothing | Moved::Ended(_) => return false,
+        Moved::Interrupted => {}
+    }
+    true
+}

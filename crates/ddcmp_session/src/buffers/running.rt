@@ -1,0 +1,104 @@
+//! The loop of a session over its devices.
+ghost use Rattle.std.specs.Prelude.{◌≡◌, [], Ok};
+ghost use Rattle.ddcmp_session.specs.Devices.{BuffersView, GoesOn, HoldsMail};
+
+use crate::buffers::Buffers;
+use crate::buffers::passing::{deliver_all, write_errors, write_output};
+use crate::devices::{Devices, Fault, Wanted};
+use crate::session::{End, Session};
+
+/// How long an output may take nothing at the end of a run, in milliseconds.
+const END_MS: u64 = 1000;
+
+impl Buffers {
+    ghost use Rattle.std.specs.Prelude.{◌≡◌, Ok, true};
+    ghost use Rattle.ddcmp_session.specs.Session.{is_delivered};
+    ghost use Rattle.ddcmp_session.specs.Devices.{GoesOn};
+
+    /// Runs a session over its line, until it leaves that or a device ends or fails.
+    pub fn run<D: Devices>(&mut self, session: &mut Session, devices: &mut D) -> Result<End, Fault>
+        ensures on { GoesOn self.old session.old (D.traffic devices.old)
+            self.new session.new (D.traffic devices.new) }
+        ensures delivered { result ≡ Ok End.Delivered → is_delivered session.new ≡ true }
+    {
+        for _pass in 0..u64::MAX {
+            let now = devices.now();
+            session.handle_timeout(now);
+            if let Some(end) = session.end() {
+                return Ok(end);
+            }
+            match self.pass(session, devices) {
+                Ok(true) => continue,
+                Ok(false) => {}
+                Err(fault) => return Err(fault),
+            }
+            // The next pass returns it.
+            if session.end().is_some() {
+                continue;
+            }
+            let most = session.wakes_at().saturating_sub(now);
+            if !devices.rest(session, self, most) {
+                break;
+            }
+        }
+        Err(Fault::Input)
+    }
+}
+
+/// Writes what is queued for standard error, until that has taken nothing for `most_ms`
+/// milliseconds.
+pub fn drain_errors<D: Devices>(session: &mut Session, devices: &mut D, most_ms: u64)
+    ensures session { session.new ≡ session.old }
+    ensures devices { D.traffic devices.new ≡ D.traffic devices.old }
+{
+    let mut last = devices.now();
+    for _write in 0..u64::MAX {
+        if session.to_errors().is_empty() {
+            break;
+        }
+        if write_errors(session, devices) {
+            last = devices.now();
+            continue;
+        }
+        let left = last.saturating_add(most_ms).saturating_sub(devices.now());
+        if left == 0 || !devices.wait(Wanted::ERRORS, left) {
+            break;
+        }
+    }
+}
+
+/// Writes all received messages and what else is queued for standard output. After the end of the
+/// run it gives up once nothing was taken for `END_MS` milliseconds.
+pub fn drain_output<D: Devices>(session: &mut Session, devices: &mut D) -> Result<(), Fault>
+    ensures on { (held : BuffersView) → GoesOn held session.old (D.traffic devices.old)
+        held session.new (D.traffic devices.new) }
+    ensures drained { result ≡ Ok tt → session.new.output.waiting ≡ [] }
+    ensures left { result ≡ Ok tt → HoldsMail session.new }
+{
+    let end = session.run_ends_at();
+    let mut last = end.max(devices.now());
+    for _write in 0..u64::MAX {
+        let delivered = deliver_all(session);
+        if !delivered && session.to_output().is_empty() {
+            return Ok(());
+        }
+        let moved = match write_output(session, devices) {
+            Ok(moved) => moved,
+            Err(fault) => return Err(fault),
+        };
+        let now = devices.now();
+        if moved {
+            last = end.max(now);
+            continue;
+        }
+        // Something else may end a wait, so the clock measures how long nothing was taken.
+        let left = last.saturating_add(END_MS).saturating_sub(now);
+        if left == 0 {
+            return Err(Fault::Time);
+        }
+        if !devices.wait(Wanted::OUTPUT, left) {
+            return Err(Fault::Input);
+        }
+    }
+    Err(Fault::Time)
+}

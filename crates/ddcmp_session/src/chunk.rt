@@ -1,0 +1,117 @@
+//! Bytes that were read from a device and not used yet.
+ghost use Rattle.std.specs.Prelude.{◌≡◌, ◌≤◌, ◌==◌, [], IfOk, List, ℕ, drop, length, take};
+ghost use Rattle.ddcmp_session.specs.Devices.{Becomes, after_came, after_read, moved_of};
+ghost use Rattle.ddcmp_session.specs.Devices.{count_read};
+
+use crate::devices::{Devices, Moved};
+use ddcmp_io::Got;
+use std::alloc::{AllocError, Global};
+use std::marker::Model;
+
+/// The bytes that are read at once.
+const SIZE: usize = 65536;
+
+/// What one read returned. The next read is made once all of it was used.
+pub(crate) struct Chunk {
+    bytes: Vec<u8>,
+    start: usize,
+    end: usize,
+}
+
+impl Model for Chunk {
+    ghost use Rattle.std.specs.Prelude.{◌≤◌, ◌<◌, ℕ, List, drop, take, vec_len};
+
+    ghost Value = { List ℕ };
+
+    ghost view = { λ c. drop c.start (take c.end c.bytes.items) };
+
+    ghost invariant = { λ c. (c.start ≤ c.end) × (c.end ≤ vec_len c.bytes)
+        × (0 < vec_len c.bytes) };
+}
+
+// By hand, so that a chunk is dropped by a call: a derived one is written out at each such place.
+impl Drop for Chunk {
+    fn drop(self) {
+        let Chunk {
+            bytes: _bytes,
+            start: _,
+            end: _,
+        } = self;
+    }
+}
+
+impl Chunk {
+    /// Makes an empty one. It takes all the memory that it will need.
+    pub(crate) fn new(alloc: Global) -> Result<Chunk, AllocError>
+        ensures { IfOk result (λ made. made ≡ []) }
+    {
+        Ok(Chunk {
+            bytes: Vec::from_elem(alloc, 0u8, SIZE)?,
+            start: 0,
+            end: 0,
+        })
+    }
+
+    /// Returns the bytes that weren't used.
+    pub(crate) fn rest(&self) -> &[u8]
+        ensures { result.now ≡ self.now }
+    {
+        &self.bytes[self.start..self.end]
+    }
+
+    pub(crate) fn is_empty(&self) -> bool
+        ensures { result ≡ (length self.now == 0) }
+    {
+        self.rest().is_empty()
+    }
+
+    /// Reads the input, if all bytes were used.
+    pub(crate) fn read_input<D: Devices>(&mut self, devices: &mut D) -> Got
+        requires { self.old ≡ [] }
+        ensures { (space : List ℕ) × (self.new ≡ take (count_read result) space)
+            × Becomes (D.traffic devices.old) (D.traffic devices.new) (after_read result space) }
+    {
+        let got = devices.read_input(&mut self.bytes);
+        self.start = 0;
+        self.end = count_read(got);
+        got
+    }
+
+    /// Reads the line, if all bytes were used.
+    pub(crate) fn read_line<D: Devices>(&mut self, devices: &mut D) -> Moved
+        requires { self.old ≡ [] }
+        ensures { (space : List ℕ) × (self.new ≡ moved_of result space)
+            × Becomes (D.traffic devices.old) (D.traffic devices.new) (after_came result space) }
+    {
+        let got = devices.read_line(&mut self.bytes);
+        self.start = 0;
+        self.end = got.count();
+        got
+    }
+
+    /// Takes note that the first `n` bytes were used.
+    pub(crate) fn used(&mut self, n: usize)
+        requires { n ≤ length self.old }
+        ensures { self.new ≡ drop n self.old }
+    {
+        self.start += n;
+    }
+
+    /// Drops all bytes.
+    pub(crate) fn clear(&mut self)
+        ensures { self.new ≡ [] }
+    {
+        self.start = 0;
+        self.end = 0;
+    }
+}
+
+/// Returns how many bytes were read.
+fn count_read(got: Got) -> usize
+    ensures { result ≡ count_read got }
+{
+    match got {
+        Got::Bytes(n) => n,
+        Got::Idle | Got::Failed => 0,
+    }
+}

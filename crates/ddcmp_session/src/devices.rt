@@ -1,0 +1,166 @@
+//! The devices of a session: the input, a line, two outputs, a clock and a wait.
+ghost use Rattle.std.specs.Prelude.{◌≡◌, ◌<◌, ◌≤◌, length, Option};
+ghost use Rattle.ddcmp_session.specs.Devices.{count_moved as moved};
+
+use crate::buffers::Buffers;
+use crate::session::Session;
+use ddcmp_io::Got;
+use ddcmp_io::cause::words_of;
+use std::fmt;
+use std::io::ErrorKind;
+
+/// The devices that a session runs over. Of these calls only `rest` and `wait` wait.
+pub trait Devices {
+    ghost use Rattle.ddcmp_session.specs.Devices.{Traffic, Becomes, after_read, after_came};
+    ghost use Rattle.ddcmp_session.specs.Devices.{Rests, count_moved, count_read};
+    ghost use Rattle.ddcmp_session.specs.Devices.{after_gone, after_written};
+
+    // What they have given and taken, if that is known.
+    ghost traffic: { Self → Option Traffic };
+
+    /// Reads the input into the front of `space`, if it has something. No bytes are its end.
+    fn read_input(&mut self, space: &mut [u8]) -> Got
+        requires space { 0 < length space.old }
+        ensures read { Becomes (traffic self.old) (traffic self.new)
+            (after_read result space.new) }
+        ensures fits { count_read result ≤ length space.new };
+
+    /// Whether a read of the line may give something.
+    fn may_read_line(&self) -> bool;
+
+    /// Reads the line into the front of `space`.
+    fn read_line(&mut self, space: &mut [u8]) -> Moved
+        ensures came { Becomes (traffic self.old) (traffic self.new)
+            (after_came result space.new) }
+        ensures fits { count_moved result ≤ length space.new };
+
+    /// Writes bytes from the front of `bytes` to the line, as far as it has room.
+    fn write_line(&mut self, bytes: &[u8]) -> Moved
+        ensures gone { Becomes (traffic self.old) (traffic self.new)
+            (after_gone result bytes.now) };
+
+    /// Writes bytes from the front of `bytes` to standard output, as far as it has room.
+    fn write_output(&mut self, bytes: &[u8]) -> Moved
+        ensures written { Becomes (traffic self.old) (traffic self.new)
+            (after_written result bytes.now) };
+
+    /// Writes bytes from the front of `bytes` to standard error, as far as it has room.
+    fn write_errors(&mut self, bytes: &[u8]) -> Moved
+        ensures { traffic self.new ≡ traffic self.old };
+
+    /// Waits until a device is ready that the session wants, at most this many milliseconds; returns
+    /// whether it could. Nothing is left to be done without a device.
+    fn rest(&mut self, session: &Session, buffers: &Buffers, most_ms: u64) -> bool
+        requires rests { Rests buffers.now session.now }
+        ensures { traffic self.new ≡ traffic self.old };
+
+    /// Waits until a device that is wanted is ready, at most this many milliseconds; returns
+    /// whether it could.
+    fn wait(&mut self, wanted: Wanted, most_ms: u64) -> bool
+        ensures { traffic self.new ≡ traffic self.old };
+
+    /// Returns the moment in milliseconds since the session was made.
+    fn now(&mut self) -> u64
+        ensures { traffic self.new ≡ traffic self.old };
+}
+
+/// What became of a read or a write that doesn't wait.
+#[derive(Clone, Copy, Debug, PartialEq, Eq)]
+pub enum Moved {
+    Bytes(usize),
+    /// Nothing came, or there was no room.
+    Nothing,
+    /// The call was interrupted, and is to be made again.
+    Interrupted,
+    /// The device has ended or failed.
+    Ended(Down),
+}
+
+impl Moved {
+    /// Returns how many bytes were moved.
+    pub(crate) fn count(self) -> usize
+        ensures { result ≡ moved self }
+    {
+        match self {
+            Moved::Bytes(n) => n,
+            Moved::Nothing | Moved::Interrupted | Moved::Ended(_) => 0,
+        }
+    }
+}
+
+/// Why a line is down.
+#[derive(Clone, Copy, Debug, PartialEq, Eq)]
+pub enum Down {
+    /// The other end has closed it.
+    Closed,
+    /// A read or a write failed so.
+    Failed(ErrorKind),
+}
+
+impl fmt::Display for Down {
+    fn fmt<W: fmt::Write>(&self, f: &mut fmt::Formatter<W>) -> fmt::Result {
+        f.write_str(match self {
+            Down::Closed => "closed by the other end",
+            Down::Failed(ErrorKind::BrokenPipe) => "broken pipe",
+            Down::Failed(ErrorKind::Other) => "input or output error",
+            Down::Failed(kind) => words_of(*kind),
+        })
+    }
+}
+
+/// Why a session can't go on over its devices.
+#[derive(Clone, Copy, Debug, PartialEq, Eq)]
+pub enum Fault {
+    /// The line has ended or failed.
+    Line(Down),
+    /// The input, or waiting, failed.
+    Input,
+    /// Standard output failed.
+    Output,
+    /// Standard output took nothing for too long.
+    Time,
+}
+
+/// Which devices are waited for.
+#[derive(Clone, Copy, Debug, PartialEq, Eq)]
+pub struct Wanted {
+    pub input: bool,
+    pub output: bool,
+    pub errors: bool,
+    pub from_line: bool,
+    pub to_line: bool,
+}
+
+impl Wanted {
+    pub const NOTHING: Wanted = Wanted {
+        input: false,
+        output: false,
+        errors: false,
+        from_line: false,
+        to_line: false,
+    };
+
+    pub const INPUT: Wanted = Wanted {
+        input: true,
+        output: false,
+        errors: false,
+        from_line: false,
+        to_line: false,
+    };
+
+    pub const OUTPUT: Wanted = Wanted {
+        input: false,
+        output: true,
+        errors: false,
+        from_line: false,
+        to_line: false,
+    };
+
+    pub const ERRORS: Wanted = Wanted {
+        input: false,
+        output: false,
+        errors: true,
+        from_line: false,
+        to_line: false,
+    };
+}

@@ -1,0 +1,189 @@
+//! The loop of a session over devices in memory, which give and take what they like at a time.
+use crate::sessions::{append, messages, options, session};
+use ddcmp_io::Got;
+use ddcmp_session::{Buffers, Devices, End, Moved, Session, Wanted, drain_output};
+use std::process::Abort;
+use test_kit::Draws;
+
+/// Bytes on their way, and how many of them were taken.
+#[derive(Drop)]
+struct Way {
+    bytes: Vec<u8>,
+    at: usize,
+}
+
+impl Way {
+    fn rest(&self) -> &[u8] {
+        self.bytes.as_slice().get(self.at..).unwrap_or(&[])
+    }
+
+    /// Gives some of its bytes to the front of `space`.
+    fn give(&mut self, most: usize, space: &mut [u8]) -> usize {
+        let n = self.rest().len().min(most).min(space.len());
+        space[..n].copy_from_slice(&self.rest()[..n]);
+        self.at = self.at.saturating_add(n);
+        n
+    }
+
+    fn take(&mut self, bytes: &[u8]) {
+        let _has_memory = self.bytes.extend_from_slice(bytes);
+    }
+}
+
+/// An end's devices, and the other end of its line, which has its turn in each wait.
+#[derive(Drop)]
+struct Desk {
+    draws: Draws,
+    now: u64,
+    input: Way,
+    from_line: Way,
+    to_line: Way,
+    output: Way,
+    peer: Session,
+    peer_input: Way,
+    peer_output: Way,
+}
+
+/// Moves this many bytes, or none for one of two reasons.
+fn moved(draws: &mut Draws, n: usize) -> Moved {
+    match draws.below(5) {
+        0 => Moved::Nothing,
+        1 => Moved::Interrupted,
+        _ if n == 0 => Moved::Nothing,
+        _ => Moved::Bytes(n),
+    }
+}
+
+impl Desk {
+    /// What comes of a write of these bytes.
+    fn takes(&mut self, bytes: &[u8]) -> Moved {
+        let n = bytes.len().min(self.draws.below(700));
+        moved(&mut self.draws, n)
+    }
+
+    /// The other end does what it can.
+    fn peer_turn(&mut self) {
+        self.peer.handle_timeout(self.now);
+        if self.peer_input.rest().is_empty() {
+            self.peer.input_ended();
+        } else {
+            let used = self.peer.typed(self.peer_input.rest());
+            self.peer_input.at = self.peer_input.at.saturating_add(used);
+        }
+        let used = self.peer.received(self.to_line.rest());
+        self.to_line.at = self.to_line.at.saturating_add(used);
+        for _message in 0..u64::MAX {
+            if !self.peer.deliver() {
+                break;
+            }
+        }
+        self.peer_output.take(self.peer.to_output());
+        self.peer.output_took(self.peer.to_output().len());
+        self.peer.fill();
+        self.from_line.take(self.peer.to_line());
+        self.peer.line_took(self.peer.to_line().len());
+    }
+}
+
+impl Devices for Desk {
+    ghost use Rattle.std.specs.Prelude.{None};
+
+    ghost traffic = { λ _. None };
+
+    fn read_input(&mut self, space: &mut [u8]) -> Got {
+        if self.draws.below(3) == 0 {
+            return Got::Idle;
+        }
+        let most = self.draws.below(900).saturating_add(1);
+        Got::Bytes(self.input.give(most, space))
+    }
+
+    fn may_read_line(&self) -> bool {
+        true
+    }
+
+    fn read_line(&mut self, space: &mut [u8]) -> Moved {
+        let most = self.draws.below(900);
+        match self.from_line.give(most, space) {
+            0 => moved(&mut self.draws, 0),
+            n => Moved::Bytes(n),
+        }
+    }
+
+    fn write_line(&mut self, bytes: &[u8]) -> Moved {
+        let moved = self.takes(bytes);
+        if let Moved::Bytes(n) = moved {
+            self.to_line.take(&bytes[..n.min(bytes.len())]);
+        }
+        moved
+    }
+
+    fn write_output(&mut self, bytes: &[u8]) -> Moved {
+        let moved = self.takes(bytes);
+        if let Moved::Bytes(n) = moved {
+            self.output.take(&bytes[..n.min(bytes.len())]);
+        }
+        moved
+    }
+
+    fn write_errors(&mut self, bytes: &[u8]) -> Moved {
+        Moved::Bytes(bytes.len())
+    }
+
+    fn rest(&mut self, _session: &Session, _buffers: &Buffers, most_ms: u64) -> bool {
+        self.wait(Wanted::NOTHING, most_ms)
+    }
+
+    fn wait(&mut self, _wanted: Wanted, most_ms: u64) -> bool {
+        let passed = self.draws.below(40) as u64;
+        self.now = self.now.saturating_add(most_ms.min(passed));
+        self.peer_turn();
+        true
+    }
+
+    fn now(&mut self) -> u64 {
+        self.now
+    }
+}
+
+fn fresh(bytes: Vec<u8>) -> Way {
+    Way { bytes, at: 0 }
+}
+
+/// Two ends exchange messages, and each end's output is the other's input.
+fn exchanges(rt: &(impl Abort + AllocGlobal), seed: u64) {
+    let mut draws = Draws { state: seed };
+    let input = messages(rt, &mut draws, 40);
+    let answer = messages(rt, &mut draws, 30);
+    let mut expected = (Vec::new(rt.alloc()), Vec::new(rt.alloc()));
+    append(rt, &mut expected.0, input.as_slice());
+    append(rt, &mut expected.1, answer.as_slice());
+    let mut desk = Desk {
+        draws,
+        now: 0,
+        input: fresh(input),
+        from_line: fresh(Vec::new(rt.alloc())),
+        to_line: fresh(Vec::new(rt.alloc())),
+        output: fresh(Vec::new(rt.alloc())),
+        peer: session(rt, options(60_000, 86_400)),
+        peer_input: fresh(answer),
+        peer_output: fresh(Vec::new(rt.alloc())),
+    };
+    let mut own = session(rt, options(60_000, 86_400));
+    let Ok(mut buffers) = Buffers::new(rt.alloc()) else {
+        panic!(rt; "no memory");
+    };
+    buffers.begin_line();
+    assert!(rt; buffers.run(&mut own, &mut desk) == Ok(End::Delivered));
+    assert!(rt; drain_output(&mut own, &mut desk) == Ok(()));
+    assert!(rt; desk.peer_output.bytes.as_slice() == expected.0.as_slice());
+    assert!(rt; desk.output.bytes.as_slice() == expected.1.as_slice());
+    assert!(rt; own.lost() == 0);
+}
+
+#[test]
+fn outputs_are_inputs(rt: HostRuntime) {
+    for seed in 1..9u64 {
+        exchanges(&rt, seed);
+    }
+}
