@@ -1,7 +1,7 @@
 # completion/generate made this file from the texts of `ddcmp COMMAND --help`.
 complete -c ddcmp -f
 complete -c ddcmp -n __fish_use_subcommand -a explain -d 'Decode captured bytes of a line'
-complete -c ddcmp -n __fish_use_subcommand -a simulate -d 'Run a script between two simulated stations A and B, read from standard input'
+complete -c ddcmp -n __fish_use_subcommand -a simulate -d 'Run a script between two simulated stations A and B'
 complete -c ddcmp -n __fish_use_subcommand -a pair -d 'Run a script as simulate does, over a TCP connection with itself'
 complete -c ddcmp -n __fish_use_subcommand -a station -d 'Run one station over TCP for a number of turns'
 complete -c ddcmp -n __fish_use_subcommand -a tap -d 'Log the traffic between two ends of a TCP line'
@@ -26,6 +26,7 @@ complete -c ddcmp -n '__fish_seen_subcommand_from simulate' -l svg -d 'Draw the 
 complete -c ddcmp -n '__fish_seen_subcommand_from simulate' -l ladder -d 'Draw the run as a ladder of text'
 complete -c ddcmp -n '__fish_seen_subcommand_from simulate' -l counters -d 'Print the counters of both stations before the last line'
 complete -c ddcmp -n '__fish_seen_subcommand_from simulate' -s h -l help -d 'Print help'
+complete -c ddcmp -n '__fish_seen_subcommand_from simulate' -F
 complete -c ddcmp -n '__fish_seen_subcommand_from pair' -l window -x -d 'Most messages sent and not acknowledged, 1 to 255 [default: 7]'
 complete -c ddcmp -n '__fish_seen_subcommand_from pair' -l inbox -x -d 'Most messages received and not taken, 1 to 255 [default: 8]'
 complete -c ddcmp -n '__fish_seen_subcommand_from pair' -l max -x -d 'Longest message in bytes, 1 to 16383 [default: 1500]'
@@ -35,6 +36,7 @@ complete -c ddcmp -n '__fish_seen_subcommand_from pair' -l svg -d 'Draw the run 
 complete -c ddcmp -n '__fish_seen_subcommand_from pair' -l ladder -d 'Draw the run as a ladder of text'
 complete -c ddcmp -n '__fish_seen_subcommand_from pair' -l counters -d 'Print the counters of both stations before the last line'
 complete -c ddcmp -n '__fish_seen_subcommand_from pair' -s h -l help -d 'Print help'
+complete -c ddcmp -n '__fish_seen_subcommand_from pair' -F
 complete -c ddcmp -n '__fish_seen_subcommand_from station' -l role -x -a 'connect listen' -d 'Who opens the connection; start the listener first'
 complete -c ddcmp -n '__fish_seen_subcommand_from station' -l addr -x -d 'Address and port, as 127.0.0.1:7000'
 complete -c ddcmp -n '__fish_seen_subcommand_from station' -l turns -x -d 'Number of turns; a turn waits up to 10 ms for bytes'

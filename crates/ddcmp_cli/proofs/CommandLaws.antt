@@ -1,6 +1,6 @@
 -- What the words ask for, once the command that they name was run.
 use Rattle.ddcmp_cli.specs.Endings.{Performs, ExplainsOrNoMemory, Streams, file_named, Stations}
-use Rattle.ddcmp_cli.specs.Endings.{StationsOrNoMemory, TapsAsked, TapsOrNoMemory}
+use Rattle.ddcmp_cli.specs.Endings.{ReadsFiles, StationsOrNoMemory, TapsAsked, TapsOrNoMemory}
 use Rattle.ddcmp_cli.specs.declared.ending.Ending.{Ending}
 use Rattle.ddcmp_cli.specs.declared.ending.Ending.TheVariants.{Done, Fault as Faulted}
 use Rattle.ddcmp_cli.specs.declared.fault.Fault.TheVariants.{Write}
@@ -33,9 +33,9 @@ pub performed : (held : Text → Option (List ℕ)) (peers : Peers) (words : Lis
     → named_by words ≡ Some (name_of command) → HasOptions (option_in words) (text_in words) command
     → Performs held peers command s ending → ExplainsOrNoMemory held words s ending
 performed held peers words (Explain e) s ending a n h p = inr (e, h, p)
-performed held peers words (Simulate config view) s ending a n h p =
+performed held peers words (Simulate scripted) s ending a n h p =
     absurd (other (codes "explain") (codes "simulate") refl (sym a.names ∙ n))
-performed held peers words (Pair config view) s ending a n h p =
+performed held peers words (Pair scripted) s ending a n h p =
     absurd (other (codes "explain") (codes "pair") refl (sym a.names ∙ n))
 performed held peers words (Station served) s ending a n h p =
     absurd (other (codes "explain") (codes "station") refl (sym a.names ∙ n))
@@ -54,9 +54,9 @@ pub stationed : {R : Type 0} (peers : Peers) (words : List Text) (command : Comm
     → (reader_after ≡ reader) × StationsOrNoMemory peers words old new ending
 stationed peers words (Explain e) reader after old new ending a n h p =
     absurd (other (codes "station") (codes "explain") refl (sym a.names ∙ n))
-stationed peers words (Simulate config view) reader after old new ending a n h p =
+stationed peers words (Simulate scripted) reader after old new ending a n h p =
     absurd (other (codes "station") (codes "simulate") refl (sym a.names ∙ n))
-stationed peers words (Pair config view) reader after old new ending a n h p =
+stationed peers words (Pair scripted) reader after old new ending a n h p =
     absurd (other (codes "station") (codes "pair") refl (sym a.names ∙ n))
 stationed peers words (Station served) reader after old new ending a n h p =
     let s = p served refl in
@@ -76,9 +76,9 @@ pub tapped : {R : Type 0} (Further : Type 0) (words : List Text) (command : Comm
     → (reader_after ≡ reader) × TapsOrNoMemory words old new ending × Further
 tapped F words (Explain e) reader after old new ending a n h p =
     absurd (other (codes "tap") (codes "explain") refl (sym a.names ∙ n))
-tapped F words (Simulate config view) reader after old new ending a n h p =
+tapped F words (Simulate scripted) reader after old new ending a n h p =
     absurd (other (codes "tap") (codes "simulate") refl (sym a.names ∙ n))
-tapped F words (Pair config view) reader after old new ending a n h p =
+tapped F words (Pair scripted) reader after old new ending a n h p =
     absurd (other (codes "tap") (codes "pair") refl (sym a.names ∙ n))
 tapped F words (Station served) reader after old new ending a n h p =
     absurd (other (codes "tap") (codes "station") refl (sym a.names ∙ n))
@@ -94,9 +94,9 @@ pub linked : (Answered : Type 0) (words : List Text) (command : Command)
     → ((linked : Linked) → command ≡ Link linked → Answered) → Answered
 linked A words (Explain e) a n p =
     absurd (other (codes "link") (codes "explain") refl (sym a.names ∙ n))
-linked A words (Simulate config view) a n p =
+linked A words (Simulate scripted) a n p =
     absurd (other (codes "link") (codes "simulate") refl (sym a.names ∙ n))
-linked A words (Pair config view) a n p =
+linked A words (Pair scripted) a n p =
     absurd (other (codes "link") (codes "pair") refl (sym a.names ∙ n))
 linked A words (Station served) a n p =
     absurd (other (codes "link") (codes "station") refl (sym a.names ∙ n))
@@ -108,28 +108,38 @@ pub reads_no_file : (words : List Text) (command : Command)
     → HasOptions (option_in words) (text_in words) command
     → file_of (text_in words (codes "file")) ≡ None → file_named command ≡ None
 reads_no_file words (Explain explained) h e = h.file ∙ e
-reads_no_file words (Simulate config view) h e = refl
-reads_no_file words (Pair config view) h e = refl
+reads_no_file words (Simulate scripted) h e = h.file ∙ e
+reads_no_file words (Pair scripted) h e = h.file ∙ e
 reads_no_file words (Station served) h e = refl
 reads_no_file words (Tap tapped) h e = refl
 reads_no_file words (Link linked) h e = refl
 
+-- a command of another name is given no file
+no_reader : {A : Type 0} (name other_name : Text) → ReadsFiles name
+    → bytes_eq (codes "explain") other_name ≡ false → bytes_eq (codes "simulate") other_name ≡ false
+    → bytes_eq (codes "pair") other_name ≡ false
+    → ◌≡◌ {A = Option Text} (Some name) (Some other_name) → A
+no_reader name n (inl is) e s p same =
+    absurd (other (codes "explain") n e (ap Some (sym is) ∙ same))
+no_reader name n (inr (inl is)) e s p same =
+    absurd (other (codes "simulate") n s (ap Some (sym is) ∙ same))
+no_reader name n (inr (inr is)) e s p same =
+    absurd (other (codes "pair") n p (ap Some (sym is) ∙ same))
+
 -- and where they name one, it reads one
-pub reads_a_file : (A : Type 0) (words : List Text) (command : Command)
-    → IsAsked words (codes "explain") → named_by words ≡ Some (name_of command)
+pub reads_a_file : (A : Type 0) (words : List Text) (command : Command) (name : Text)
+    → ReadsFiles name → IsAsked words name → named_by words ≡ Some (name_of command)
     → HasOptions (option_in words) (text_in words) command
     → file_of (text_in words (codes "file")) ≢ None → (file_named command ≢ None → A) → A
-reads_a_file A words (Explain explained) a n h some then = then (λ e. some (sym h.file ∙ e))
-reads_a_file A words (Simulate config view) a n h some then =
-    absurd (other (codes "explain") (codes "simulate") refl (sym a.names ∙ n))
-reads_a_file A words (Pair config view) a n h some then =
-    absurd (other (codes "explain") (codes "pair") refl (sym a.names ∙ n))
-reads_a_file A words (Station served) a n h some then =
-    absurd (other (codes "explain") (codes "station") refl (sym a.names ∙ n))
-reads_a_file A words (Tap tapped) a n h some then =
-    absurd (other (codes "explain") (codes "tap") refl (sym a.names ∙ n))
-reads_a_file A words (Link linked) a n h some then =
-    absurd (other (codes "explain") (codes "link") refl (sym a.names ∙ n))
+reads_a_file A words (Explain explained) name r a n h some then = then (λ e. some (sym h.file ∙ e))
+reads_a_file A words (Simulate scripted) name r a n h some then = then (λ e. some (sym h.file ∙ e))
+reads_a_file A words (Pair scripted) name r a n h some then = then (λ e. some (sym h.file ∙ e))
+reads_a_file A words (Station served) name r a n h some then =
+    no_reader name (codes "station") r refl refl refl (sym a.names ∙ n)
+reads_a_file A words (Tap tapped) name r a n h some then =
+    no_reader name (codes "tap") r refl refl refl (sym a.names ∙ n)
+reads_a_file A words (Link linked) name r a n h some then =
+    no_reader name (codes "link") r refl refl refl (sym a.names ∙ n)
 
 -- words that ask for a command are declined for want of memory alone
 pub not_declined : {C : Type 0} (r : Result C Declined) (d : Declined) → r ≡ Err d → d ≢ Memory
@@ -147,24 +157,24 @@ unbroken ending false told done = refl
 -- which command it is
 abbrev pub is_station : Command → Bool
 is_station (Explain explained) = false
-is_station (Simulate config view) = false
-is_station (Pair config view) = false
+is_station (Simulate scripted) = false
+is_station (Pair scripted) = false
 is_station (Station served) = true
 is_station (Tap tapped) = false
 is_station (Link linked) = false
 
 abbrev pub is_tap : Command → Bool
 is_tap (Explain explained) = false
-is_tap (Simulate config view) = false
-is_tap (Pair config view) = false
+is_tap (Simulate scripted) = false
+is_tap (Pair scripted) = false
 is_tap (Station served) = false
 is_tap (Tap tapped) = true
 is_tap (Link linked) = false
 
 abbrev pub is_link : Command → Bool
 is_link (Explain explained) = false
-is_link (Simulate config view) = false
-is_link (Pair config view) = false
+is_link (Simulate scripted) = false
+is_link (Pair scripted) = false
 is_link (Station served) = false
 is_link (Tap tapped) = false
 is_link (Link linked) = true

@@ -1,6 +1,7 @@
 -- What the program calls the faults of a script, and how a run is shown.
 use Rattle.std.proofs.Common.{◌≡◌, ◌≢◌, ◌⊎◌, ◌↔◌, IsTrue, ◌∙◌, sym, ap, subst, ℕ, Bool, true, false}
-use Rattle.std.proofs.Common.{List, Option, Some, None, Result, Err, refl}
+use Rattle.std.proofs.Common.{List, Option, Some, None, Result, Err, refl, inl, inr, ◌&&◌}
+use Rattle.std.specs.Io.KnownBytes.{Keeps}
 use Rattle.ddcmp_run.specs.Run.{PairState}
 use Rattle.ddcmp_run.specs.Carriages.{Carriage}
 use Rattle.ddcmp_line.specs.ScriptEnds.{around, Plays}
@@ -9,11 +10,13 @@ use Rattle.ddcmp_script_text.specs.declared.script_fault.ScriptFault.TheVariants
 use Rattle.ddcmp_cli.specs.declared.fault.Fault.{Fault}
 use Rattle.ddcmp_cli.specs.declared.fault.Fault.TheVariants.{Line, Hex as NotHexIn, Read, Write}
 use Rattle.ddcmp_cli.specs.declared.fault.Fault.TheVariants.{Memory, Carrier}
+use Rattle.ddcmp_cli.specs.declared.ending.Ending.{Ending}
 use Rattle.ddcmp_cli.specs.declared.ending.Ending.TheVariants.{Fault as Faulted}
 use Rattle.ddcmp_io.specs.declared.device.Worst.TheVariants.{Fine}
 use Rattle.ddcmp_io.specs.Change.{SourceChange}
 use Rattle.ddcmp_io.specs.Input.{GaveMost}
-use Rattle.ddcmp_cli.specs.Endings.{script_fault, ShowsBy, TellsDevices}
+use Rattle.ddcmp_cli.specs.Endings.{script_fault, IsUnopened, ReadsFile, ShowsBy, Streams}
+use Rattle.ddcmp_cli.specs.Endings.{TellsDevices, Untouched, is_refusal, streams}
 
 -- a fault that the script answered is the one that the program tells
 pub told : (r : Result (Unit {0}) ScriptFault) (fault known : ScriptFault) (made : Fault)
@@ -90,3 +93,43 @@ tells source broken r fault made e m reads only writes = record {
     λ b. told r fault scripting.Write made e m (writes.1 b),
   );
 }
+
+-- both pictures are refused
+pub two_refused : (svg ladder : Bool) (Refused Drawn Written : Type 0) → (svg && ladder) ≡ true
+    → Refused → ShowsBy svg ladder Refused Drawn Written
+two_refused true true R D W e h = h
+two_refused true false R D W e h = let bad : ◌≡◌ false true = e in cc
+two_refused false true R D W e h = let bad : ◌≡◌ false true = e in cc
+two_refused false false R D W e h = let bad : ◌≡◌ false true = e in cc
+
+-- A file that was opened: what became of what it holds became of it.
+pub opened : (svg ladder : Bool) (name : List ℕ) (held before after : Option (List ℕ))
+    (ending : Ending) (Kept : Type 0) (Draws Writes : Streams → Ending → Type 0)
+    → (svg && ladder) ≡ false
+    → ((content : List ℕ) → held ≡ Some content → (rest : Option (List ℕ))
+    × ShowsBy svg ladder
+    ((is_refusal ending ≡ true) × Untouched (streams content rest before after))
+    (Draws (streams content rest before after) ending)
+    (Writes (streams content rest before after) ending))
+    → ShowsBy svg ladder Kept (ReadsFile name held Draws before after ending)
+    (ReadsFile name held Writes before after ending)
+opened true true name held before after ending K D W e h = let bad : ◌≡◌ true false = e in cc
+opened true false name held before after ending K D W e h = inr (inr h)
+opened false true name held before after ending K D W e h = inr (inr h)
+opened false false name held before after ending K D W e h = inr (inr h)
+
+-- one that couldn't be opened
+pub not_opened : (svg ladder : Bool) (name : List ℕ) (held before after : Option (List ℕ))
+    (ending : Ending) (Kept : Type 0) (Draws Writes : Streams → Ending → Type 0)
+    → (svg && ladder) ≡ false → IsUnopened name ending ⊎ (ending ≡ Faulted Memory)
+    → Keeps before after
+    → ShowsBy svg ladder Kept (ReadsFile name held Draws before after ending)
+    (ReadsFile name held Writes before after ending)
+not_opened true true name held before after ending K D W e u k =
+    let bad : ◌≡◌ true false = e in cc
+not_opened true false name held before after ending K D W e (inl u) k = inl (u, k)
+not_opened true false name held before after ending K D W e (inr m) k = inr (inl (m, k))
+not_opened false true name held before after ending K D W e (inl u) k = inl (u, k)
+not_opened false true name held before after ending K D W e (inr m) k = inr (inl (m, k))
+not_opened false false name held before after ending K D W e (inl u) k = inl (u, k)
+not_opened false false name held before after ending K D W e (inr m) k = inr (inl (m, k))

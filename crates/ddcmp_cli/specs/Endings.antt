@@ -35,6 +35,7 @@ use Rattle.ddcmp_words.specs.declared.command.Command.{Command}
 use Rattle.ddcmp_words.specs.declared.command.Command.TheVariants.{Explain, Simulate, Pair, Station}
 use Rattle.ddcmp_words.specs.declared.command.Command.TheVariants.{Tap, Link}
 use Rattle.ddcmp_words.specs.declared.explained.Explained.{Explained}
+use Rattle.ddcmp_words.specs.declared.scripted.Scripted.{Scripted}
 use Rattle.ddcmp_words.specs.declared.served.Served.{Served}
 use Rattle.ddcmp_words.specs.declared.served.Role.{Role}
 use Rattle.ddcmp_cli.specs.Connections.{Peers}
@@ -192,13 +193,14 @@ IsUnopened name (Unopened told why) = string_bytes told ≡ name
 IsUnopened name (Faulted fault) = ⊥
 
 -- What became of a file: it can't be opened, or there was no memory to tell so, and nothing was
--- written; or what it holds was explained, where that is known.
-abbrev pub ExplainsFile : List ℕ → Known → Explained → Known → Known → Ending → Type 0
-ExplainsFile name held e before after ending =
+-- written; or what it holds was read so, where that is known.
+abbrev pub ReadsFile : List ℕ → Known → (Streams → Ending → Type 0) → Known → Known → Ending
+    → Type 0
+ReadsFile name held Reading before after ending =
     (IsUnopened name ending × Keeps before after)
     ⊎ ((ending ≡ Faulted NoMemory) × Keeps before after)
     ⊎ ((content : List ℕ) → held ≡ Some content
-    → (rest : Known) × ExplainsInput e (streams content rest before after) ending)
+    → (rest : Known) × Reading (streams content rest before after) ending)
 
 -- standard input was explained, or a file, and then standard input wasn't read; of each name `held`
 -- says what the file holds
@@ -206,7 +208,8 @@ abbrev pub ExplainsFrom : (List ℕ → Known) → Option (Bor (List ℕ)) → E
     → Type 0
 ExplainsFrom held None e s ending = ExplainsInput e s ending
 ExplainsFrom held (Some name) e s ending =
-    (s.left ≡ Some s.input) × ExplainsFile name.now (held name.now) e s.before s.after ending
+    (s.left ≡ Some s.input)
+    × ReadsFile name.now (held name.now) (ExplainsInput e) s.before s.after ending
 
 -- whether the word for what the input comes from is none that is known, or stands beside bytes as
 -- they are
@@ -237,11 +240,16 @@ ExplainsOrNoMemory held words s ending =
 -- the name of the file that a command reads in place of standard input
 abbrev pub file_named : Command → Option (List ℕ)
 file_named (Explain explained) = option_map (λ name. name.now) explained.file
-file_named (Simulate config view) = None
-file_named (Pair config view) = None
+file_named (Simulate scripted) = option_map (λ name. name.now) scripted.file
+file_named (Pair scripted) = option_map (λ name. name.now) scripted.file
 file_named (Station served) = None
 file_named (Tap tapped) = None
 file_named (Link linked) = None
+
+-- a command of this name may be given a file
+abbrev pub ReadsFiles : Text → Type 0
+ReadsFiles name =
+    (name ≡ codes "explain") ⊎ (name ≡ codes "simulate") ⊎ (name ≡ codes "pair")
 
 -- what goes to standard error, but for faults
 abbrev pub shown_of : Ending → Option (List ℕ)
@@ -255,8 +263,8 @@ shown_of (Faulted fault) = None
 
 abbrev pub CanRun : Command → Type 0
 CanRun (Explain explained) = (1 ≤ explained.max) × (explained.max ≤ MAX_COUNT)
-CanRun (Simulate config view) = first_refusal config ≡ None
-CanRun (Pair config view) = first_refusal config ≡ None
+CanRun (Simulate scripted) = first_refusal scripted.config ≡ None
+CanRun (Pair scripted) = first_refusal scripted.config ≡ None
 CanRun (Station served) = ⊤
 CanRun (Tap tapped) = (1 ≤ tapped.max) × (tapped.max ≤ MAX_COUNT)
 CanRun (Link linked) = ⊤
@@ -313,6 +321,28 @@ abbrev pub ShowsRun : View → (Streams → Ending → Type 0) → (Streams → 
 ShowsRun view Draws Writes s ending =
     ShowsBy view.svg view.ladder ((is_refusal ending ≡ true) × Untouched s) (Draws s ending)
     (Writes s ending)
+
+-- A script from standard input was shown, or one of a file, and then standard input wasn't read. Of
+-- each name `held` says what the file holds. Both pictures at once are refused before it is opened.
+abbrev pub ShowsFrom : (List ℕ → Known) → Option (Bor (List ℕ)) → View
+    → (Streams → Ending → Type 0) → (Streams → Ending → Type 0) → Streams → Ending → Type 0
+ShowsFrom held None view Draws Writes s ending = ShowsRun view Draws Writes s ending
+ShowsFrom held (Some name) view Draws Writes s ending =
+    (s.left ≡ Some s.input)
+    × ShowsBy view.svg view.ladder ((is_refusal ending ≡ true) × Keeps s.before s.after)
+    (ReadsFile name.now (held name.now) Draws s.before s.after ending)
+    (ReadsFile name.now (held name.now) Writes s.before s.after ending)
+
+-- `simulate` and `pair` with their options
+abbrev pub SimulatesAsked : (List ℕ → Known) → Scripted → Streams → Ending → Type 0
+SimulatesAsked held it s ending =
+    ShowsFrom held it.file it.view (DrawsSimulated it.config)
+    (Simulates it.config it.view.counters) s ending
+
+abbrev pub PairsAsked : (List ℕ → Known) → Scripted → Streams → Ending → Type 0
+PairsAsked held it s ending =
+    ShowsFrom held it.file it.view (DrawsPaired it.config) (Pairs it.config it.view.counters) s
+    ending
 
 -- The ending tells that a read failed exactly where the source isn't fine or has given 2^64 - 1
 -- bytes, and that a write failed exactly where one has.
@@ -396,10 +426,8 @@ TapsOrNoMemory words old new ending =
 -- and `peers` what is known of connections.
 abbrev pub Performs : (List ℕ → Known) → Peers → Command → Streams → Ending → Type 0
 Performs held peers (Explain explained) s ending = ExplainsAsked held explained s ending
-Performs held peers (Simulate config view) s ending =
-    ShowsRun view (DrawsSimulated config) (Simulates config view.counters) s ending
-Performs held peers (Pair config view) s ending =
-    ShowsRun view (DrawsPaired config) (Pairs config view.counters) s ending
+Performs held peers (Simulate scripted) s ending = SimulatesAsked held scripted s ending
+Performs held peers (Pair scripted) s ending = PairsAsked held scripted s ending
 Performs held peers (Station served) s ending =
     (s.left ≡ Some s.input) × Stations peers served s.before s.after ending
 Performs held peers (Tap tapped) s ending =
@@ -451,7 +479,7 @@ pub record RunsAs (held : List ℕ → Known) (peers : Peers) (words : List Text
   pub write : (Asks words (codes "station") → ⊥) → (Asks words (codes "tap") → ⊥)
       → (ending ≡ Faulted Write) ↔ IsTrue sink.broken
   pub whole : ending ≡ Done → sink.broken ≡ false
-  pub untouched : IsAsked words (codes "explain")
+  pub untouched : (name : Text) → ReadsFiles name → IsAsked words name
       → file_of (text_in words (codes "file")) ≢ None → Unread
   pub stations : IsAsked words (codes "station")
       → Unread × StationsOrNoMemory peers words sink.before sink.after ending

@@ -4,14 +4,14 @@ ghost use Rattle.std.specs.Prelude.{Some};
 ghost use Rattle.ddcmp_core.specs.Limits.{MAX_COUNT};
 ghost use Rattle.ddcmp_io.specs.Change.{source_change};
 ghost use Rattle.ddcmp_io.specs.Input.{GaveMost};
-ghost use Rattle.ddcmp_cli.specs.Endings.{ExplainsAsked, ExplainsFile, ExplainsInput, TellsDevices};
+ghost use Rattle.ddcmp_cli.specs.Endings.{ExplainsAsked, ExplainsInput, ReadsFile, TellsDevices};
 ghost use Rattle.ddcmp_cli.specs.Endings.{streams};
 ghost use Rattle.std.specs.Option.{option_map};
 ghost use Rattle.ddcmp_cli.specs.Endings.{is_misused as is_misused_by};
 
 use crate::ending::Ending;
 use crate::fault::Fault;
-use crate::inputs::Inputs;
+use crate::inputs::{Inputs, unopened};
 use crate::usage::usage;
 use ddcmp_explain::{Form, explain_dump, explain_with};
 use ddcmp_io::{Sink, Source, Worst};
@@ -78,16 +78,13 @@ fn explain_file<I: Inputs, W: Sink>(
 ) -> Ending
     requires whole { W.broken writer.old ≡ false }
     requires max { (1 ≤ explained.now.max) × (explained.now.max ≤ MAX_COUNT) }
-    ensures explains { ExplainsFile name.now (I.held inputs.now name.now) explained.now
-        (W.contents writer.old) (W.contents writer.new) result }
+    ensures explains { ReadsFile name.now (I.held inputs.now name.now)
+        (ExplainsInput explained.now) (W.contents writer.old) (W.contents writer.new) result }
     ensures write { (result ≡ Ending.Fault Fault.Write) ↔ IsTrue (W.broken writer.new) }
 {
     match inputs.open(name) {
         Ok(mut opened) => explain_source(alloc, explained, &mut opened, writer),
-        Err(why) => match String::from_str(alloc, name) {
-            Ok(name) => Ending::Unopened(name, why),
-            Err(_refused) => Ending::Fault(Fault::Memory),
-        },
+        Err(why) => unopened(alloc, name, why),
     }
 }
 

@@ -1,5 +1,11 @@
 //! What the program reads besides its standard input.
+ghost use Rattle.std.specs.Prelude.{◌≡◌, ◌⊎◌};
+ghost use Rattle.ddcmp_cli.specs.Endings.{IsUnopened};
+
+use crate::ending::Ending;
+use crate::fault::Fault;
 use ddcmp_io::{FromRead, Source, Worst};
+use std::alloc::Global;
 use std::fs::{self, File};
 use std::io::{ErrorKind, IsTerminal};
 
@@ -42,5 +48,15 @@ impl Inputs for HostRuntime {
         if self.stdin().is_terminal() {
             let _untold = self.eprintln(format_args!("ddcmp: reads {what} until the end of input"));
         }
+    }
+}
+
+/// The ending if the file of this name can't be opened, for this reason.
+pub(crate) fn unopened(alloc: Global, name: &str, why: ErrorKind) -> Ending
+    ensures { IsUnopened name.now result ⊎ (result ≡ Ending.Fault Fault.Memory) }
+{
+    match String::from_str(alloc, name) {
+        Ok(name) => Ending::Unopened(name, why),
+        Err(_refused) => Ending::Fault(Fault::Memory),
     }
 }

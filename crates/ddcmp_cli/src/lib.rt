@@ -23,8 +23,8 @@ pub use ddcmp_net::{SERVED_MAX, ServeFault, serve, serve_fault, serving};
 pub use ddcmp_service::{LineName, Options, Served as LinkServed, ServiceFault};
 pub use ddcmp_tap::{TapFault, tap_fault};
 pub use ddcmp_words::{
-    Command, Declined, Linked, Role, Served, Tapped, View, command, declined, linked, read_words,
-    served, tapped, view,
+    Command, Declined, Linked, Role, Scripted, Served, Tapped, View, command, declined, linked,
+    read_words, scripted, served, tapped, view,
 };
 pub use ending::Ending;
 pub use fault::Fault;

@@ -21,7 +21,7 @@ use crate::explain_command::explain_asked;
 use crate::fault::Fault;
 use crate::inputs::Inputs;
 use crate::link_command::{Lines, link};
-use crate::script_command::{show_pair, show_simulation};
+use crate::script_command::{pair_asked, simulate_asked};
 use crate::station_command::station;
 use crate::tap_command::tap;
 use ddcmp_io::{Sink, Source, Worst, write_all};
@@ -72,8 +72,8 @@ fn perform<
 {
     match command {
         Command::Explain(explained) => { explain_asked(system, alloc, &explained, reader, writer) }
-        Command::Simulate(config, view) => show_simulation(alloc, config, view, reader, writer),
-        Command::Pair(config, view) => show_pair(system, alloc, config, view, reader, writer),
+        Command::Simulate(scripted) => simulate_asked(system, alloc, &scripted, reader, writer),
+        Command::Pair(scripted) => pair_asked(system, alloc, &scripted, reader, writer),
         Command::Station(served) => station(system, alloc, &served, writer),
         Command::Tap(tapped) => tap(system, alloc, &tapped, writer),
         Command::Link(linked) => link(system, alloc, &linked, reader, writer),

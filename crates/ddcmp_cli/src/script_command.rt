@@ -1,20 +1,26 @@
 //! `simulate` and `pair`: a script between two ends, as text or as a picture.
-ghost use Rattle.std.specs.Prelude.{◌≡◌, false, true, None, Some, IsTrue, List, ℕ};
+ghost use Rattle.std.specs.Prelude.{◌≡◌, ◌≢◌, ◌⊎◌, ◌↔◌, ◌&&◌, false, true, None, Some, IsTrue};
+ghost use Rattle.std.specs.Prelude.{List, ℕ};
+ghost use Rattle.std.specs.Option.{option_map};
+ghost use Rattle.std.specs.Io.KnownBytes.{Keeps};
 ghost use Rattle.ddcmp_io.specs.Change.{source_change};
+ghost use Rattle.ddcmp_io.specs.Input.{GaveMost};
 ghost use Rattle.ddcmp_station.specs.Config.{first_refusal};
 ghost use Rattle.ddcmp_cli.specs.Endings.{DrawsBetween, DrawsPaired, DrawsSimulated, is_refusal};
 ghost use Rattle.ddcmp_cli.specs.Endings.{Pairs, PlaysBetween, ShowsRun, Simulates};
+ghost use Rattle.ddcmp_cli.specs.Endings.{PairsAsked, ReadsFile, ShowsBy, SimulatesAsked};
 ghost use Rattle.ddcmp_cli.specs.Endings.{TellsDevices, streams};
 
 use crate::ending::Ending;
 use crate::fault::Fault;
+use crate::inputs::{Inputs, unopened};
 use crate::usage::usage;
 use ddcmp_io::{Sink, Source, Worst};
 use ddcmp_line::{Carrier, Direct, script_with};
 use ddcmp_net::Sockets;
 use ddcmp_picture::{Picture, draw};
 use ddcmp_station::Config;
-use ddcmp_words::View;
+use ddcmp_words::{Scripted, View};
 use std::alloc::Global;
 use std::net::{Net, TcpStream};
 
@@ -86,7 +92,7 @@ fn show_over<R: Source, W: Sink, C: Carrier>(
 }
 
 /// Runs a script over a line that gives what goes in, and shows it.
-pub(crate) fn show_simulation<R: Source, W: Sink>(
+fn show_simulation<R: Source, W: Sink>(
     alloc: Global,
     config: Config,
     view: View,
@@ -106,7 +112,7 @@ pub(crate) fn show_simulation<R: Source, W: Sink>(
 }
 
 /// Runs a script over a connection, which is made first, and shows it.
-pub(crate) fn show_pair<N: Net<Stream = TcpStream>, R: Source, W: Sink>(
+fn show_pair<N: Net<Stream = TcpStream>, R: Source, W: Sink>(
     net: &N,
     alloc: Global,
     config: Config,
@@ -130,6 +136,127 @@ pub(crate) fn show_pair<N: Net<Stream = TcpStream>, R: Source, W: Sink>(
         return Ending::Fault(Fault::Carrier);
     };
     show_over(alloc, config, view, &mut sockets, reader, writer)
+}
+
+/// Whether both pictures are asked for.
+fn are_two(view: View) -> bool
+    ensures { result ≡ (view.svg && view.ladder) }
+{
+    view.svg && view.ladder
+}
+
+/// Runs the script of a file, which is opened first, as `simulate` does.
+fn simulate_file<I: Inputs, W: Sink>(
+    inputs: &I,
+    alloc: Global,
+    name: &str,
+    config: Config,
+    view: View,
+    writer: &mut W,
+) -> Ending
+    requires whole { W.broken writer.old ≡ false }
+    requires sizes { first_refusal config ≡ None }
+    ensures shows { ShowsBy view.svg view.ladder
+        ((is_refusal result ≡ true) × Keeps (W.contents writer.old) (W.contents writer.new))
+        (ReadsFile name.now (I.held inputs.now name.now) (DrawsSimulated config)
+        (W.contents writer.old) (W.contents writer.new) result)
+        (ReadsFile name.now (I.held inputs.now name.now) (Simulates config view.counters)
+        (W.contents writer.old) (W.contents writer.new) result) }
+    ensures write { (result ≡ Ending.Fault Fault.Write) ↔ IsTrue (W.broken writer.new) }
+{
+    if are_two(view) {
+        return usage(alloc, TWO_PICTURES);
+    }
+    match inputs.open(name) {
+        Ok(mut opened) => show_simulation(alloc, config, view, &mut opened, writer),
+        Err(why) => unopened(alloc, name, why),
+    }
+}
+
+/// `simulate`, as the words ask for it: a script of a file, or of standard input if they name none.
+pub(crate) fn simulate_asked<I: Inputs, R: Source, W: Sink>(
+    inputs: &I,
+    alloc: Global,
+    scripted: &Scripted<'_>,
+    reader: &mut R,
+    writer: &mut W,
+) -> Ending
+    requires fine { R.state reader.old ≡ Worst.Fine }
+    requires whole { W.broken writer.old ≡ false }
+    requires sizes { first_refusal scripted.now.config ≡ None }
+    ensures shows { (input : List ℕ) → R.left reader.old ≡ Some input
+        → SimulatesAsked (I.held inputs.now) scripted.now (streams input (R.left reader.new)
+        (W.contents writer.old) (W.contents writer.new)) result }
+    ensures read { R.state reader.new ≢ Worst.Fine → result ≡ Ending.Fault Fault.Read }
+    ensures read_only { option_map (λ name. name.now) scripted.now.file ≡ None
+        → result ≡ Ending.Fault Fault.Read → (R.state reader.new ≢ Worst.Fine)
+        ⊎ GaveMost (R.left reader.old) (R.left reader.new) }
+    ensures write { (result ≡ Ending.Fault Fault.Write) ↔ IsTrue (W.broken writer.new) }
+    ensures untouched { option_map (λ name. name.now) scripted.now.file ≢ None
+        → reader.new ≡ reader.old }
+{
+    let Scripted { config, view, file } = *scripted;
+    match file {
+        None => show_simulation(alloc, config, view, reader, writer),
+        Some(name) => simulate_file(inputs, alloc, name, config, view, writer),
+    }
+}
+
+/// Runs the script of a file, which is opened first, as `pair` does.
+fn pair_file<S: Net<Stream = TcpStream> + Inputs, W: Sink>(
+    system: &S,
+    alloc: Global,
+    name: &str,
+    config: Config,
+    view: View,
+    writer: &mut W,
+) -> Ending
+    requires whole { W.broken writer.old ≡ false }
+    requires sizes { first_refusal config ≡ None }
+    ensures shows { ShowsBy view.svg view.ladder
+        ((is_refusal result ≡ true) × Keeps (W.contents writer.old) (W.contents writer.new))
+        (ReadsFile name.now (S.held system.now name.now) (DrawsPaired config)
+        (W.contents writer.old) (W.contents writer.new) result)
+        (ReadsFile name.now (S.held system.now name.now) (Pairs config view.counters)
+        (W.contents writer.old) (W.contents writer.new) result) }
+    ensures write { (result ≡ Ending.Fault Fault.Write) ↔ IsTrue (W.broken writer.new) }
+{
+    if are_two(view) {
+        return usage(alloc, TWO_PICTURES);
+    }
+    match system.open(name) {
+        Ok(mut opened) => show_pair(system, alloc, config, view, &mut opened, writer),
+        Err(why) => unopened(alloc, name, why),
+    }
+}
+
+/// `pair`, as the words ask for it: a script of a file, or of standard input if they name none.
+pub(crate) fn pair_asked<S: Net<Stream = TcpStream> + Inputs, R: Source, W: Sink>(
+    system: &S,
+    alloc: Global,
+    scripted: &Scripted<'_>,
+    reader: &mut R,
+    writer: &mut W,
+) -> Ending
+    requires fine { R.state reader.old ≡ Worst.Fine }
+    requires whole { W.broken writer.old ≡ false }
+    requires sizes { first_refusal scripted.now.config ≡ None }
+    ensures shows { (input : List ℕ) → R.left reader.old ≡ Some input
+        → PairsAsked (S.held system.now) scripted.now (streams input (R.left reader.new)
+        (W.contents writer.old) (W.contents writer.new)) result }
+    ensures read { R.state reader.new ≢ Worst.Fine → result ≡ Ending.Fault Fault.Read }
+    ensures read_only { option_map (λ name. name.now) scripted.now.file ≡ None
+        → result ≡ Ending.Fault Fault.Read → (R.state reader.new ≢ Worst.Fine)
+        ⊎ GaveMost (R.left reader.old) (R.left reader.new) }
+    ensures write { (result ≡ Ending.Fault Fault.Write) ↔ IsTrue (W.broken writer.new) }
+    ensures untouched { option_map (λ name. name.now) scripted.now.file ≢ None
+        → reader.new ≡ reader.old }
+{
+    let Scripted { config, view, file } = *scripted;
+    match file {
+        None => show_pair(system, alloc, config, view, reader, writer),
+        Some(name) => pair_file(system, alloc, name, config, view, writer),
+    }
 }
 
 /// Runs a script between two ends of the same sizes.

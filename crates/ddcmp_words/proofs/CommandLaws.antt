@@ -20,12 +20,14 @@ use Rattle.clap.specs.declared.parser.matches.ArgMatches.TheViews.{out-ArgMatche
 use Rattle.clap.proofs.OnLiterals.{clap_on_literals}
 use Rattle.ddcmp_words.specs.Words.{program, named_by, option_in, text_in, file_of, role_of}
 use Rattle.ddcmp_words.specs.Words.{usual_syn_of, MOST, HasFlag, HasForm, HasNotation, HasNumber}
-use Rattle.ddcmp_words.specs.Words.{HasLinkOptions, HasMessages, HasOptions, HasSizes, HasView}
+use Rattle.ddcmp_words.specs.Words.{HasLinkOptions, HasMessages, HasOptions, HasScript, HasSizes}
+use Rattle.ddcmp_words.specs.Words.{HasView}
 use Rattle.ddcmp_words.specs.Words.{IsAsked}
 use Rattle.ddcmp_session.specs.declared.options.Options.{Options}
 use Rattle.ddcmp_core.specs.Limits.{MAX_COUNT, MAX_WINDOW}
 use Rattle.ddcmp_proto.specs.declared.config.Config.{Config}
 use Rattle.ddcmp_proto.specs.declared.config.TheConstants.{MAX_INBOX, MAX_SYN}
+use Rattle.ddcmp_words.specs.declared.scripted.Scripted.{Scripted}
 use Rattle.ddcmp_words.specs.declared.view.View.{View}
 use Rattle.ddcmp_words.specs.declared.command.Command.{Command}
 use Rattle.ddcmp_words.specs.declared.command.Command.TheVariants.{Explain, Simulate, Pair, Station}
@@ -104,6 +106,14 @@ view_as o p view e h = record {
   counters = subst (λ t. HasFlag t view.counters) (e (codes "counters")) h.counters;
 }
 
+script_as : (o p t u : Text → Option Text) (scripted : Scripted) → ((id : Text) → o id ≡ p id)
+    → ((id : Text) → t id ≡ u id) → HasScript o t scripted → HasScript p u scripted
+script_as o p t u scripted e w h = record {
+  config = sizes_as 0 o p scripted.config e h.config;
+  view = view_as o p scripted.view e h.view;
+  file = h.file ∙ ap file_of (w (codes "file"));
+}
+
 link_as : (line : Text) (o p : Text → Option Text) (made : Options) → ((id : Text) → o id ≡ p id)
     → HasLinkOptions line o made → HasLinkOptions line p made
 link_as line o p made e h = record {
@@ -138,10 +148,8 @@ has_options_as o p t u (Explain explained) e w h = record {
   max = subst (λ t. HasNumber 1 MAX_COUNT MAX_COUNT t explained.max) (e (codes "max")) h.max;
   file = h.file ∙ ap file_of (w (codes "file"));
 }
-has_options_as o p t u (Simulate config view) e w h =
-    (sizes_as 0 o p config e h.0, view_as o p view e h.1)
-has_options_as o p t u (Pair config view) e w h =
-    (sizes_as 0 o p config e h.0, view_as o p view e h.1)
+has_options_as o p t u (Simulate scripted) e w h = script_as o p t u scripted e w h
+has_options_as o p t u (Pair scripted) e w h = script_as o p t u scripted e w h
 has_options_as o p t u (Station served) e w h = record {
   role = h.role ∙ ap (λ x. role_of (unwrap_or x [])) (w (codes "role"));
   addr = h.addr ∙ ap (λ x. unwrap_or x []) (w (codes "addr"));

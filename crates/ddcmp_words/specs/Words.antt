@@ -15,6 +15,7 @@ use Rattle.ddcmp_words.specs.declared.command.Command.{Command}
 use Rattle.ddcmp_words.specs.declared.command.Command.TheVariants.{Explain, Simulate, Pair, Station}
 use Rattle.ddcmp_words.specs.declared.command.Command.TheVariants.{Tap, Link}
 use Rattle.ddcmp_words.specs.declared.explained.Explained.{Explained}
+use Rattle.ddcmp_words.specs.declared.scripted.Scripted.{Scripted}
 use Rattle.ddcmp_words.specs.declared.served.Role.{Role}
 use Rattle.ddcmp_words.specs.declared.served.Role.TheVariants.{Connect, Listen}
 use Rattle.ddcmp_words.specs.declared.served.Served.{Served}
@@ -90,9 +91,13 @@ with_view app =
     (flag_rule (codes "ladder")))
     (flag_rule (codes "counters"))
 
+-- the file of a script
+abbrev pub with_script : App → App
+with_script app = with_rule app (place_rule (codes "file"))
+
 -- `ddcmp simulate` and `ddcmp pair`
 abbrev pub script_app : Text → App
-script_app name = with_view (with_sizes (new_app name))
+script_app name = with_view (with_sizes (with_script (new_app name)))
 
 abbrev pub MOST : ℕ
 MOST = 4294967295
@@ -158,8 +163,8 @@ program =
 -- the word that names a command
 abbrev pub name_of : Command → Text
 name_of (Explain explained) = codes "explain"
-name_of (Simulate config view) = codes "simulate"
-name_of (Pair config view) = codes "pair"
+name_of (Simulate scripted) = codes "simulate"
+name_of (Pair scripted) = codes "pair"
 name_of (Station served) = codes "station"
 name_of (Tap tapped) = codes "tap"
 name_of (Link linked) = codes "link"
@@ -248,6 +253,12 @@ pub record HasView (option : Text → Option Text) (view : View) : Type 0 where
   pub ladder : HasFlag (option (codes "ladder")) view.ladder
   pub counters : HasFlag (option (codes "counters")) view.counters
 
+-- The options of a script that is run.
+pub record HasScript (option text : Text → Option Text) (scripted : Scripted) : Type 0 where
+  pub config : HasSizes 0 option scripted.config
+  pub view : HasView option scripted.view
+  pub file : option_map (λ name. name.now) scripted.file ≡ file_of (text (codes "file"))
+
 -- who opens the connection, by its word
 abbrev pub role_of : Text → Option Role
 role_of word =
@@ -309,8 +320,8 @@ pub record HasLink (option text : Text → Option Text) (linked : Linked) : Type
 -- a command with the options that were given: as they are read, and as they were written
 abbrev pub HasOptions : (option text : Text → Option Text) → Command → Type 0
 HasOptions option text (Explain explained) = HasExplain option text explained
-HasOptions option text (Simulate config view) = HasSizes 0 option config × HasView option view
-HasOptions option text (Pair config view) = HasSizes 0 option config × HasView option view
+HasOptions option text (Simulate scripted) = HasScript option text scripted
+HasOptions option text (Pair scripted) = HasScript option text scripted
 HasOptions option text (Station served) = HasStation option text served
 HasOptions option text (Tap tapped) = HasTap option text tapped
 HasOptions option text (Link linked) = HasLink option text linked

@@ -32,7 +32,8 @@ pub fn explain_is_asked()
 {}
 
 /// The words `ddcmp simulate` ask for the command that runs a script, without its options;
-/// `--window 255`, `--syn=16`, `--restart`, `--svg`, `--ladder` and `--counters` are read.
+/// the name of a file, `--window 255`, `--syn=16`, `--restart`, `--svg`, `--ladder` and
+/// `--counters` are read.
 pub fn simulate_is_asked()
     ensures plain { IsAsked (codes "ddcmp" ∷ codes "simulate" ∷ []) (codes "simulate") }
     ensures no_window { option_in (codes "ddcmp" ∷ codes "simulate" ∷ []) (codes "window") ≡ None }
@@ -44,6 +45,11 @@ pub fn simulate_is_asked()
     ensures svg { IsSwitch (codes "simulate") (codes "--svg") (codes "svg") }
     ensures ladder { IsSwitch (codes "simulate") (codes "--ladder") (codes "ladder") }
     ensures counters { IsSwitch (codes "simulate") (codes "--counters") (codes "counters") }
+    ensures no_file { text_in (codes "ddcmp" ∷ codes "simulate" ∷ []) (codes "file") ≡ None }
+    ensures file { text_in (codes "ddcmp" ∷ codes "simulate" ∷ codes "--svg" ∷ codes "a.txt" ∷ [])
+        (codes "file") ≡ Some (codes "a.txt") }
+    ensures standard_input { text_in (codes "ddcmp" ∷ codes "simulate" ∷ codes "-" ∷ [])
+        (codes "file") ≡ Some (codes "-") }
 {}
 
 /// The words `ddcmp pair` ask for the command that runs a script over a connection, with the
@@ -58,6 +64,9 @@ pub fn pair_is_asked()
     ensures restart { IsSwitch (codes "pair") (codes "--restart") (codes "restart") }
     ensures ladder { IsSwitch (codes "pair") (codes "--ladder") (codes "ladder") }
     ensures counters { IsSwitch (codes "pair") (codes "--counters") (codes "counters") }
+    ensures no_file { text_in (codes "ddcmp" ∷ codes "pair" ∷ []) (codes "file") ≡ None }
+    ensures file { text_in (codes "ddcmp" ∷ codes "pair" ∷ codes "a.txt" ∷ codes "--ladder" ∷ [])
+        (codes "file") ≡ Some (codes "a.txt") }
 {}
 
 /// The words `ddcmp station` with the four options that can't be left out ask for the command that

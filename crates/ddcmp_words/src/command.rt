@@ -8,6 +8,7 @@ ghost use Rattle.ddcmp_words.specs.Words.{program, HasExplain, HasFlag, HasForm,
 ghost use Rattle.ddcmp_words.specs.Words.{HasNumber, HasOptions, HasSizes, HasStation, HasStyle};
 ghost use Rattle.ddcmp_words.specs.Words.{explain_app, script_app, file_of, role_of, station_app};
 ghost use Rattle.ddcmp_words.specs.Words.{HasView, with_sizes as with_sizes_of};
+ghost use Rattle.ddcmp_words.specs.Words.{with_script as with_script_of, HasScript};
 ghost use Rattle.ddcmp_words.specs.Words.{with_view as with_view_of};
 ghost use Rattle.clap.specs.Words.{App, kind_of, app_of, new_app, first_of, first_value, found_of};
 ghost use Rattle.clap.specs.Words.{one_of, one_text, subcommand_name_of, subcommand_rows_of};
@@ -19,6 +20,7 @@ use crate::link_words::{link_given, link_parser};
 use crate::linked::Linked;
 use crate::options::{CommandOption, Takes};
 use crate::parser::Parser;
+use crate::scripted::Scripted;
 use crate::served::{Role, Served};
 use crate::tap_words::{tap_given, tap_parser};
 use crate::tapped::Tapped;
@@ -35,10 +37,10 @@ use std::alloc::Global;
 pub enum Command<'a> {
     /// Explain an input.
     Explain(Explained<'a>),
-    /// Run a script between two ends of these sizes, and show it so.
-    Simulate(Config, View),
+    /// Run a script between two ends.
+    Simulate(Scripted<'a>),
     /// The same, and the bytes that pass go over a TCP connection.
-    Pair(Config, View),
+    Pair(Scripted<'a>),
     /// Drive a station over a connection.
     Station(Served<'a>),
     /// Stand between two ends of a line over TCP.
@@ -209,6 +211,21 @@ Lines of a script (E is A or B):
   # TEXT         a comment"
 }
 
+/// Where a script is read.
+static SCRIPT_OPTIONS: [CommandOption; 1] = [CommandOption {
+    name: "file",
+    takes: Takes::Place("FILE"),
+    is_required: false,
+    help: "Script to read; standard input if left out or -",
+}];
+
+/// A parser with the file of a script.
+fn with_script<'a>(parser: Parser<'a>) -> Parser<'a>
+    ensures { (app : App) → Makes parser.entry app → Makes result (with_script_of app) }
+{
+    parser.with(&SCRIPT_OPTIONS)
+}
+
 /// A command that runs a script, without its options.
 fn script_command<'a>(alloc: Global, name: &'a str, about: &'a str) -> clap::Command<'a>
     ensures app { app_of result ≡ new_app name.entry.now }
@@ -224,7 +241,7 @@ fn script_parser<'a>(alloc: Global, name: &'a str, about: &'a str) -> Parser<'a>
     ensures { Makes result (script_app name.entry.now) }
 {
     let named = Parser::new(alloc, script_command(alloc, name, about));
-    with_view(with_sizes(named))
+    with_view(with_sizes(with_script(named)))
 }
 
 /// `station` without its options.
@@ -324,7 +341,7 @@ fn program_parser<'a>(alloc: Global) -> Parser<'a>
         .subcommand(script_parser(
             alloc,
             "simulate",
-            "Run a script between two simulated stations A and B, read from standard input",
+            "Run a script between two simulated stations A and B",
         ))
         .subcommand(script_parser(
             alloc,
@@ -471,6 +488,19 @@ fn view_given(options: &ArgMatches<'_>) -> View
     }
 }
 
+/// The script that was asked for, and how it is run.
+fn script_given<'a>(options: &ArgMatches<'a>) -> Scripted<'a>
+    ensures { HasScript (one_text (found_of options.now)) (first_value (found_of options.now))
+        result }
+{
+    let file = file_given(options);
+    Scripted {
+        config: sizes_given(options, 0),
+        view: view_given(options),
+        file,
+    }
+}
+
 /// A text that was given; the empty one if none was.
 pub(crate) fn text_given<'a>(options: &ArgMatches<'a>, name: &str) -> &'a str
     ensures { result.now ≡ unwrap_or (first_value (found_of options.now) name.now) [] }
@@ -524,10 +554,10 @@ fn asked<'a>(matches: &ArgMatches<'a>) -> Option<Command<'a>>
         return Some(Command::Explain(explain_given(options)));
     }
     if let Some(options) = matches.subcommand_matches("simulate") {
-        return Some(Command::Simulate(sizes_given(options, 0), view_given(options)));
+        return Some(Command::Simulate(script_given(options)));
     }
     if let Some(options) = matches.subcommand_matches("pair") {
-        return Some(Command::Pair(sizes_given(options, 0), view_given(options)));
+        return Some(Command::Pair(script_given(options)));
     }
     if let Some(options) = matches.subcommand_matches("station") {
         return Some(Command::Station(station_given(options)));

@@ -26,8 +26,8 @@ returns-in-Ok g c = record {
       (λ n. no_station (c.in-Ok.ensures.reads.0, c.in-Ok.ensures.reads.1 ∙ ap Some n))
       (λ n. no_tap (c.in-Ok.ensures.reads.0, c.in-Ok.ensures.reads.1 ∙ ap Some n));
   whole = c.perform.ensures.whole;
-  untouched = λ asked some. reads_a_file _ _ c.in-Ok.command asked c.in-Ok.ensures.reads.1
-      c.in-Ok.ensures.reads.2 some c.perform.ensures.untouched;
+  untouched = λ name reads asked some. reads_a_file _ _ c.in-Ok.command name reads asked
+      c.in-Ok.ensures.reads.1 c.in-Ok.ensures.reads.2 some c.perform.ensures.untouched;
   stations = λ asked. stationed _ _ c.in-Ok.command _ _ _ _ _ asked c.in-Ok.ensures.reads.1
       c.in-Ok.ensures.reads.2 c.perform.ensures.stations;
   taps = λ asked. tapped _ _ c.in-Ok.command _ _ _ _ _ asked c.in-Ok.ensures.reads.1
@@ -49,7 +49,7 @@ returns-in-Err-Help g c =
       read_only = search rules;
       write = λ _ _. c.show.ensures.write;
       whole = search rules;
-      untouched = λ asked some. refl;
+      untouched = λ name reads asked some. refl;
       stations = λ asked. absurd (not_asked (codes "station") (inr (inr (inr (inl refl)))) asked);
       taps = λ asked. absurd (not_asked (codes "tap") (inr (inr (inr (inr (inl refl))))) asked);
       links = search rules;
@@ -69,7 +69,7 @@ returns-in-Err-Version g c =
       read_only = search rules;
       write = λ _ _. c.show-in-Err-Version.ensures.write;
       whole = search rules;
-      untouched = λ asked some. refl;
+      untouched = λ name reads asked some. refl;
       stations = λ asked. absurd (not_asked (codes "station") (inr (inr (inr (inl refl)))) asked);
       taps = λ asked. absurd (not_asked (codes "tap") (inr (inr (inr (inr (inl refl))))) asked);
       links = search rules;
@@ -89,7 +89,7 @@ returns-in-Err-Usage g c =
       read_only = search rules;
       write = search rules;
       whole = λ e. c.requires.whole;
-      untouched = λ asked some. refl;
+      untouched = λ name reads asked some. refl;
       stations = λ asked. absurd (not_asked (codes "station") (inr (inr (inr (inl refl)))) asked);
       taps = λ asked. absurd (not_asked (codes "tap") (inr (inr (inr (inr (inl refl))))) asked);
       links = search rules;
@@ -104,7 +104,7 @@ returns-in-Err-Memory g c = record {
   read_only = search rules;
   write = search rules;
   whole = λ e. c.requires.whole;
-  untouched = λ asked some. refl;
+  untouched = λ name reads asked some. refl;
   stations = search rules;
   taps = search rules;
   links = search rules;

@@ -1,6 +1,6 @@
 use Rattle.std.proofs.Common.{refl}
 use Rattle.clap.proofs.OnLiterals.{clap_on_literals}
-use Rattle.ddcmp_words.specs.Words.{named_by, option_in}
+use Rattle.ddcmp_words.specs.Words.{named_by, option_in, text_in}
 use Rattle.ddcmp_words.proofs.asked.pair_is_asked.Goals as goal
 
 pub returns-clause-plain : goal.returns-clause-plain
@@ -30,3 +30,11 @@ returns-clause-ladder c = (refl, refl)
 pub returns-clause-counters : goal.returns-clause-counters
 unfolding clap_on_literals option_in
 returns-clause-counters c = (refl, refl)
+
+pub returns-clause-no_file : goal.returns-clause-no_file
+unfolding clap_on_literals text_in
+returns-clause-no_file c = refl
+
+pub returns-clause-file : goal.returns-clause-file
+unfolding clap_on_literals text_in
+returns-clause-file c = refl

@@ -19,10 +19,10 @@ returns-in-Some-subcommand_matches-clause-options c =
     let rows = subcommand_rows_of c.args.matches.now in
     let found = found_of c.in-Some-subcommand_matches.options.now in
     has_options_as (one_text found) (option_met rows) (first_value found) (text_met rows)
-    (Simulate c.sizes_given.result c.view_given.result)
+    (Simulate c.script_given.result)
     (met rows found c.in-Some-subcommand_matches.ensures.rows)
     (met_text rows found c.in-Some-subcommand_matches.ensures.rows)
-    (c.sizes_given.ensures, c.view_given.ensures)
+    c.script_given.ensures
 
 pub returns-in-Some-subcommand_matches-2-clause-options
     : goal.returns-in-Some-subcommand_matches-2-clause-options
@@ -30,13 +30,10 @@ returns-in-Some-subcommand_matches-2-clause-options c =
     let rows = subcommand_rows_of c.args.matches.now in
     let found = found_of c.in-Some-subcommand_matches-2.options.now in
     has_options_as (one_text found) (option_met rows) (first_value found) (text_met rows)
-    (Pair c.sizes_given-in-Some-subcommand_matches-2.result
-    c.view_given-in-Some-subcommand_matches-2.result)
+    (Pair c.script_given-in-Some-subcommand_matches-2.result)
     (met rows found c.in-Some-subcommand_matches-2.ensures.rows)
-    (met_text rows found c.in-Some-subcommand_matches-2.ensures.rows) (
-      c.sizes_given-in-Some-subcommand_matches-2.ensures,
-      c.view_given-in-Some-subcommand_matches-2.ensures,
-    )
+    (met_text rows found c.in-Some-subcommand_matches-2.ensures.rows)
+    c.script_given-in-Some-subcommand_matches-2.ensures
 
 pub returns-in-Some-subcommand_matches-3-clause-options
     : goal.returns-in-Some-subcommand_matches-3-clause-options
