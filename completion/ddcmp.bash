@@ -25,7 +25,7 @@ _ddcmp() {
     station:--role) words='connect listen' ;;
     station:*) words='--role --addr --turns --timer-ms --send --restart --counters -h --help' ;;
     tap:--listen | tap:--connect | tap:--max) ;;
-    tap:*) words='--listen --connect --json --ladder --time --max -h --help' ;;
+    tap:*) words='--listen --connect --again --json --ladder --time --max -h --help' ;;
     link:--window | link:--inbox | link:--max | link:--syn | link:--timer-ms | link:--attempts | link:--linger-ms | link:--seconds | link:--report) ;;
     link:--line) words='connect: listen: udp: device:' ;;
     link:*) words='--line --window --inbox --max --syn --restart --timer-ms --attempts --linger-ms --seconds --report --binary --stay --again --counters --trace --clock --json -h --help' ;;

@@ -47,6 +47,7 @@ complete -c ddcmp -n '__fish_seen_subcommand_from station' -l counters -d 'Print
 complete -c ddcmp -n '__fish_seen_subcommand_from station' -s h -l help -d 'Print help'
 complete -c ddcmp -n '__fish_seen_subcommand_from tap' -l listen -x -d 'Address to listen at, for one connection, as 127.0.0.1:7001'
 complete -c ddcmp -n '__fish_seen_subcommand_from tap' -l connect -x -d 'Address to connect to once someone has connected'
+complete -c ddcmp -n '__fish_seen_subcommand_from tap' -l again -d 'Carry one connection after another, until it is killed'
 complete -c ddcmp -n '__fish_seen_subcommand_from tap' -l json -d 'Print one JSON object per line'
 complete -c ddcmp -n '__fish_seen_subcommand_from tap' -l ladder -d 'Draw the traffic as a ladder of text'
 complete -c ddcmp -n '__fish_seen_subcommand_from tap' -l time -d 'Print the milliseconds since both were connected before each line'

@@ -59,6 +59,7 @@ use Rattle.ddcmp_net.specs.Serving.{Serves}
 use Rattle.ddcmp_station.specs.Driving.{Devices}
 use Rattle.ddcmp_cli.specs.TapEndings.{TapEnds, told_as}
 use Rattle.ddcmp_tap.specs.Pumping.{Says, head_of}
+use Rattle.ddcmp_tap.specs.InTurn.{Lasts, SaysInTurn}
 use Rattle.ddcmp_tap.specs.declared.tap_fault.TapFault.{TapFault}
 use Rattle.ddcmp_cli.specs.LinkEndings.{IsLinkEnding}
 use Rattle.hex.specs.Hex.{decode_of}
@@ -409,11 +410,23 @@ Taps tapped old new ending =
     (result : Result (Unit {0}) TapFault) × TapEnds result ending
     × Says (head_of (told_as tapped)) (told_as tapped) tapped.time tapped.max old new result
 
+-- callers were carried one after another until a fault that isn't of one side, and the ending tells
+-- it
+abbrev pub TapsInTurn : Tapped → Known → Known → Ending → Type 0
+TapsInTurn tapped old new ending =
+    (fault : TapFault) × TapEnds (Err fault) ending × Lasts fault
+    × SaysInTurn (told_as tapped) tapped.time tapped.max old new fault
+
+-- one caller, or one after another if `--again` was given
+abbrev pub TapsBy : Bool → Tapped → Known → Known → Ending → Type 0
+TapsBy false tapped old new ending = Taps tapped old new ending
+TapsBy true tapped old new ending = TapsInTurn tapped old new ending
+
 -- what became of a tap that was asked for: JSON and a ladder at once are usage
 abbrev pub TapsAsked : Tapped → Known → Known → Ending → Type 0
 TapsAsked tapped old new ending =
     UnlessMisused (tapped.ladder && is_json tapped.notation) (λ e. Keeps old new)
-    (Taps tapped old new) ending
+    (TapsBy tapped.again tapped old new) ending
 
 -- the tap was that of the words, or there was no memory for them
 abbrev pub TapsOrNoMemory : List Text → Known → Known → Ending → Type 0

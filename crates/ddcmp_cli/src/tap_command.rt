@@ -1,7 +1,8 @@
 //! `tap`: a proxy between two addresses that logs the traffic.
 ghost use Rattle.std.specs.Prelude.{◌≡◌, ◌≤◌, Err, IsTrue, false};
 ghost use Rattle.ddcmp_core.specs.Limits.{MAX_COUNT};
-ghost use Rattle.ddcmp_cli.specs.Endings.{Taps, TapsAsked, is_json as is_json_notation};
+ghost use Rattle.ddcmp_cli.specs.Endings.{Taps, TapsAsked, TapsInTurn};
+ghost use Rattle.ddcmp_cli.specs.Endings.{is_json as is_json_notation};
 ghost use Rattle.ddcmp_cli.specs.TapEndings.{TapEnds, attempt_of, told_as as notation_of};
 
 use crate::ending::Ending;
@@ -11,7 +12,7 @@ use crate::usage::usage;
 use ddcmp_explain::Notation;
 use ddcmp_io::Sink;
 use ddcmp_service::{Attempt, Cause, NotOpened};
-use ddcmp_tap::{NotMade, Notation as TapNotation, Stage, TapFault};
+use ddcmp_tap::{NotMade, Notation as TapNotation, Stage, TapFault, tap_again};
 use ddcmp_words::Tapped;
 use std::alloc::Global;
 use std::io::Eprint;
@@ -101,6 +102,31 @@ fn tap_between<S: Net<Stream = TcpStream> + Eprint + time::Clock, W: Sink>(
     }
 }
 
+/// Carries one caller after another, until a fault that isn't of one side.
+fn tap_in_turn<S: Net<Stream = TcpStream> + Eprint + time::Clock, W: Sink>(
+    system: &S,
+    alloc: Global,
+    tapped: &Tapped<'_>,
+    writer: &mut W,
+) -> Ending
+    requires whole { W.broken writer.old ≡ false }
+    requires low { 1 ≤ tapped.now.max }
+    requires high { tapped.now.max ≤ MAX_COUNT }
+    ensures taps { TapsInTurn tapped.now (W.contents writer.old) (W.contents writer.new) result }
+    ensures written { IsTrue (W.broken writer.new) → result ≡ Ending.Fault Fault.Write }
+{
+    let Tapped {
+        listen,
+        connect,
+        time,
+        max,
+        ..
+    } = *tapped;
+    let notation = told_as(tapped);
+    let fault = tap_again(system, alloc, listen, connect, notation, time, max, writer);
+    ending_of_fault(alloc, tapped, fault)
+}
+
 /// A tap, as the words ask for it.
 pub(crate) fn tap<S: Net<Stream = TcpStream> + Eprint + time::Clock, W: Sink>(
     system: &S,
@@ -117,6 +143,9 @@ pub(crate) fn tap<S: Net<Stream = TcpStream> + Eprint + time::Clock, W: Sink>(
     let misused = tapped.ladder && is_json(tapped.notation);
     match misused {
         true => usage(alloc, TWO_NOTATIONS),
-        false => tap_between(system, alloc, tapped, writer),
+        false => match tapped.again {
+            true => tap_in_turn(system, alloc, tapped, writer),
+            false => tap_between(system, alloc, tapped, writer),
+        },
     }
 }

@@ -5,3 +5,4 @@ pub mod PieceLaws
 pub mod SaidLaws
 pub mod FreshLaws
 pub mod HeadLaws
+pub mod InTurnLaws

@@ -4,5 +4,6 @@ pub mod Passing
 pub mod InMemory
 pub mod Outlets
 pub mod Pumping
+pub mod InTurn
 pub use Rattle.ddcmp_explain.specs.Label
 pub use Rattle.ddcmp_explain.specs.Output

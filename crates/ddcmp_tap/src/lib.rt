@@ -1,6 +1,7 @@
 //! A tap between the two ends of a line over TCP. `Direction` takes the bytes received from one
 //! side, forwards them as they are, and explains them as `explain` does; `pump` does so both ways
-//! between two connections; `tap` listens at one address, connects to another, and pumps.
+//! between two connections; `tap` listens at one address, connects to another, and pumps;
+//! `tap_again` does so for one caller after another.
 #![tactic(auto)]
 
 pub mod direction;
@@ -25,4 +26,4 @@ pub use outlet::Outlet;
 pub use pumping::{Readiness, pump};
 pub use side::Side;
 pub use tap_fault::{NotMade, Stage, TapFault};
-pub use tapping::tap;
+pub use tapping::{tap, tap_again};

@@ -28,10 +28,17 @@ impl fmt::Display for NotMade {
             Stage::Connect => "connect: ",
             Stage::Wait => "epoll: ",
         })?;
-        f.write_str(match self.cause {
+        f.write_str(self.reason())
+    }
+}
+
+impl NotMade {
+    /// The reason in words.
+    pub(crate) fn reason(&self) -> &'static str {
+        match self.cause {
             Some(kind) => words_of(kind),
             None => "no such host",
-        })
+        }
     }
 }
 

@@ -1,8 +1,10 @@
 //! A tap between two addresses.
-ghost use Rattle.std.specs.Prelude.{◌≡◌, ◌≢◌, ◌<◌, ◌≤◌, ◌↔◌, ◌⊎◌, Err, IsTrue, false, is_err};
+ghost use Rattle.std.specs.Prelude.{◌≡◌, ◌≢◌, ◌<◌, ◌≤◌, ◌↔◌, ◌⊎◌, Err, IfSome, IsTrue, None, false};
+ghost use Rattle.std.specs.Prelude.{is_err};
 ghost use Rattle.ddcmp_io.specs.Written.{Writes};
 ghost use Rattle.ddcmp_frame.specs.Limits.{MAX_COUNT};
 ghost use Rattle.ddcmp_tap.specs.Pumping.{Says, head_of};
+ghost use Rattle.ddcmp_tap.specs.InTurn.{Lasts, PassesOver, SaysInTurn};
 
 use crate::direction::{Direction, ROOM};
 use crate::flow::Flow;
@@ -43,13 +45,25 @@ fn prompt(stream: net::TcpStream) -> io::Result<TcpStream> {
     Ok(TcpStream::from_std(stream))
 }
 
-/// Returns the first connection to an address, and whose it is.
-fn accept_first<N: Net<Stream = net::TcpStream>>(
-    net: &N,
-    name: &str,
-) -> io::Result<(TcpStream, SocketAddr)> {
-    let (caller, peer) = TcpListener::bind(net, name)?.accept()?;
-    Ok((prompt(caller)?, peer))
+/// The connection of a caller, and its address.
+#[derive(Drop)]
+struct Caller {
+    stream: TcpStream,
+    peer: SocketAddr,
+}
+
+/// Returns the next connection to a listener.
+fn accept_next<L: OpenListener<Stream = net::TcpStream>>(listener: &L) -> io::Result<Caller> {
+    let (stream, peer) = listener.accept()?;
+    Ok(Caller {
+        stream: prompt(stream)?,
+        peer,
+    })
+}
+
+/// Returns the first connection to an address.
+fn accept_first<N: Net<Stream = net::TcpStream>>(net: &N, name: &str) -> io::Result<Caller> {
+    accept_next(&TcpListener::bind(net, name)?)
 }
 
 /// Returns a connection to an address.
@@ -58,7 +72,9 @@ fn connect_to<N: Net<Stream = net::TcpStream>>(net: &N, name: &str) -> io::Resul
 }
 
 /// Says why there is no connection at an address, by this error: no host may have its name.
-fn not_made<N: Net>(net: &N, stage: Stage, name: &str, error: &io::Error) -> NotMade {
+fn not_made<N: Net>(net: &N, stage: Stage, name: &str, error: &io::Error) -> NotMade
+    ensures stage { result.stage ≡ stage }
+{
     let is_unknown = match name.to_socket_addrs(net) {
         Ok(_found) => false,
         Err(unknown) => unknown.kind() != ErrorKind::InvalidInput,
@@ -66,22 +82,6 @@ fn not_made<N: Net>(net: &N, stage: Stage, name: &str, error: &io::Error) -> Not
     NotMade {
         stage,
         cause: if is_unknown { None } else { Some(error.kind()) },
-    }
-}
-
-/// Returns the first connection to one address, and whose it is, and then one to the other.
-fn open<N: Net<Stream = net::TcpStream>>(
-    net: &N,
-    listen: &str,
-    connect: &str,
-) -> Result<(TcpStream, SocketAddr, TcpStream), NotMade> {
-    let (caller, peer) = match accept_first(net, listen) {
-        Ok(first) => first,
-        Err(error) => return Err(not_made(net, Stage::Listen, listen, &error)),
-    };
-    match connect_to(net, connect) {
-        Ok(called) => Ok((caller, peer, called)),
-        Err(error) => Err(not_made(net, Stage::Connect, connect, &error)),
     }
 }
 
@@ -121,9 +121,42 @@ pub fn tap<S: Net<Stream = net::TcpStream> + Eprint + time::Clock, W: Sink>(
         → writer.new ≡ writer.old }
     ensures broken { (result ≡ Err TapFault.Report) ↔ IsTrue (W.broken writer.new) }
 {
-    let (mut caller, peer, mut called) = match open(system, listen, connect) {
-        Ok(both) => both,
-        Err(not_made) => return Err(TapFault::Carrier(not_made)),
+    match accept_first(system, listen) {
+        Ok(caller) => carry(system, alloc, caller, connect, notation, timed, max, writer),
+        Err(error) => Err(TapFault::Carrier(not_made(system, Stage::Listen, listen, &error))),
+    }
+}
+
+/// Connects to an address for a caller, and forwards between the two until both have ended.
+fn carry<S: Net<Stream = net::TcpStream> + Eprint + time::Clock, W: Sink>(
+    system: &S,
+    alloc: Global,
+    caller: Caller,
+    connect: &str,
+    notation: Notation,
+    timed: bool,
+    max: u16,
+    writer: &mut W,
+) -> Result<(), TapFault>
+    requires whole { W.broken writer.old ≡ false }
+    requires low { 0 < max }
+    requires high { max ≤ MAX_COUNT }
+    ensures says { Says (head_of notation) notation timed max
+        (W.contents writer.old) (W.contents writer.new) result }
+    ensures carrier { (why : NotMade) → result ≡ Err (TapFault.Carrier why)
+        → writer.new ≡ writer.old }
+    ensures broken { (result ≡ Err TapFault.Report) ↔ IsTrue (W.broken writer.new) }
+{
+    let Caller {
+        stream: mut caller,
+        peer,
+    } = caller;
+    let mut called = match connect_to(system, connect) {
+        Ok(called) => called,
+        Err(error) => {
+            let why = not_made(system, Stage::Connect, connect, &error);
+            return Err(TapFault::Carrier(why));
+        }
     };
     let mut sockets = match Sockets::new(system, alloc, &mut caller, &mut called) {
         Ok(sockets) => sockets,
@@ -144,6 +177,69 @@ pub fn tap<S: Net<Stream = net::TcpStream> + Eprint + time::Clock, W: Sink>(
     caller.report(system, "caller", &peer);
     called.report(system, "called", &connect);
     ended
+}
+
+/// Returns the fault that ends the tap too, and not only the connection of one caller: none if both
+/// sides ended or one failed, or the other address can't be reached, which goes to standard error.
+fn lasting<S: Eprint>(system: &S, connect: &str, ended: Result<(), TapFault>) -> Option<TapFault>
+    ensures lasts { IfSome result (λ fault. (ended ≡ Err fault) × Lasts fault) }
+    ensures passes { result ≡ None → PassesOver ended }
+{
+    match ended {
+        Ok(()) | Err(TapFault::Read | TapFault::Write) => None,
+        Err(TapFault::Carrier(why)) => match why.stage {
+            Stage::Connect => {
+                let reason = why.reason();
+                let _ = eprintln!(system; "ddcmp: connect {connect}: {reason}");
+                None
+            }
+            Stage::Listen | Stage::Wait => Some(TapFault::Carrier(why)),
+        },
+        Err(TapFault::Report) => Some(TapFault::Report),
+        Err(TapFault::Memory) => Some(TapFault::Memory),
+    }
+}
+
+/// Listens at one address, and carries one caller after another to the other, as `tap` carries one;
+/// who calls meanwhile waits. A fault of a side ends only its connection. Returns why it ends.
+pub fn tap_again<S: Net<Stream = net::TcpStream> + Eprint + time::Clock, W: Sink>(
+    system: &S,
+    alloc: Global,
+    listen: &str,
+    connect: &str,
+    notation: Notation,
+    timed: bool,
+    max: u16,
+    writer: &mut W,
+) -> TapFault
+    requires whole { W.broken writer.old ≡ false }
+    requires low { 0 < max }
+    requires high { max ≤ MAX_COUNT }
+    ensures says { SaysInTurn notation timed max (W.contents writer.old) (W.contents writer.new)
+        result }
+    ensures lasts { Lasts result }
+    ensures broken { (result ≡ TapFault.Report) ↔ IsTrue (W.broken writer.new) }
+{
+    let listener = match TcpListener::bind(system, listen) {
+        Ok(listener) => listener,
+        Err(error) => return TapFault::Carrier(not_made(system, Stage::Listen, listen, &error)),
+    };
+    for turn in 0..u64::MAX {
+        let caller = match accept_next(&listener) {
+            Ok(caller) => caller,
+            Err(error) => {
+                return TapFault::Carrier(not_made(system, Stage::Listen, listen, &error));
+            }
+        };
+        let ended = carry(system, alloc, caller, connect, notation, timed, max, writer);
+        if let Some(fault) = lasting(system, connect, ended) {
+            return fault;
+        }
+    }
+    TapFault::Carrier(NotMade {
+        stage: Stage::Listen,
+        cause: Some(ErrorKind::Other),
+    })
 }
 
 /// Forwards between two sockets.

@@ -162,6 +162,7 @@ has_options_as o p t u (Station served) e w h = record {
 has_options_as o p t u (Tap tapped) e w h = record {
   listen = h.listen ∙ ap (λ x. unwrap_or x []) (w (codes "listen"));
   connect = h.connect ∙ ap (λ x. unwrap_or x []) (w (codes "connect"));
+  again = subst (λ t. HasFlag t tapped.again) (e (codes "again")) h.again;
   notation = subst (λ t. HasNotation t tapped.notation) (e (codes "json")) h.notation;
   ladder = subst (λ t. HasFlag t tapped.ladder) (e (codes "ladder")) h.ladder;
   time = subst (λ t. HasFlag t tapped.time) (e (codes "time")) h.time;

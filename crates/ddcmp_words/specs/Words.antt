@@ -118,9 +118,11 @@ station_app =
 -- `ddcmp tap`
 abbrev pub tap_app : App
 tap_app =
-    with_rule (with_rule (with_rule (with_rule (with_rule (with_rule (new_app (codes "tap"))
+    with_rule (with_rule (with_rule (with_rule (with_rule (with_rule (with_rule
+    (new_app (codes "tap"))
     (required (text_rule (codes "listen"))))
     (required (text_rule (codes "connect"))))
+    (flag_rule (codes "again")))
     (flag_rule (codes "json")))
     (flag_rule (codes "ladder")))
     (flag_rule (codes "time")))
@@ -280,6 +282,7 @@ pub record HasStation (option text : Text → Option Text) (served : Served) : T
 pub record HasTap (option text : Text → Option Text) (tapped : Tapped) : Type 0 where
   pub listen : tapped.listen.now ≡ unwrap_or (text (codes "listen")) []
   pub connect : tapped.connect.now ≡ unwrap_or (text (codes "connect")) []
+  pub again : HasFlag (option (codes "again")) tapped.again
   pub notation : HasNotation (option (codes "json")) tapped.notation
   pub ladder : HasFlag (option (codes "ladder")) tapped.ladder
   pub time : HasFlag (option (codes "time")) tapped.time

@@ -94,6 +94,7 @@ pub fn tap_is_asked()
         ∷ codes "127.0.0.1:7000" ∷ []) (codes "listen") ≡ Some (codes "127.0.0.1:7000") }
     ensures connect { text_in (codes "ddcmp" ∷ codes "tap" ∷ codes "--connect=localhost:7001"
         ∷ []) (codes "connect") ≡ Some (codes "localhost:7001") }
+    ensures again { IsSwitch (codes "tap") (codes "--again") (codes "again") }
     ensures json { IsSwitch (codes "tap") (codes "--json") (codes "json") }
     ensures ladder { IsSwitch (codes "tap") (codes "--ladder") (codes "ladder") }
     ensures time { IsSwitch (codes "tap") (codes "--time") (codes "time") }

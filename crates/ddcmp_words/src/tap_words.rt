@@ -33,7 +33,7 @@ fn tap_command<'a>(alloc: Global) -> clap::Command<'a>
 }
 
 /// The options of a tap.
-static TAP_OPTIONS: [CommandOption; 6] = [
+static TAP_OPTIONS: [CommandOption; 7] = [
     CommandOption {
         name: "listen",
         takes: Takes::Text("ADDR"),
@@ -45,6 +45,12 @@ static TAP_OPTIONS: [CommandOption; 6] = [
         takes: Takes::Text("ADDR"),
         is_required: true,
         help: "Address to connect to once someone has connected",
+    },
+    CommandOption {
+        name: "again",
+        takes: Takes::Nothing,
+        is_required: false,
+        help: "Carry one connection after another, until it is killed",
     },
     CommandOption {
         name: "json",
@@ -90,6 +96,7 @@ pub(crate) fn tap_given<'a>(options: &ArgMatches<'a>) -> Tapped<'a>
     Tapped {
         listen: text_given(options, "listen"),
         connect: text_given(options, "connect"),
+        again: flag_given(options, "again"),
         notation: notation_given(options),
         ladder: flag_given(options, "ladder"),
         time: flag_given(options, "time"),

@@ -8,6 +8,8 @@ pub struct Tapped<'a> {
     pub listen: &'a str,
     /// The address that is connected to once someone has connected.
     pub connect: &'a str,
+    /// Whether it carries one caller after another.
+    pub again: bool,
     pub notation: Notation,
     /// Whether what passes is drawn as a ladder. Beside JSON it isn't.
     pub ladder: bool,

@@ -34,3 +34,7 @@ returns-clause-incomplete c = refl
 pub returns-clause-ladder : goal.returns-clause-ladder
 unfolding clap_on_literals option_in
 returns-clause-ladder c = (refl, refl)
+
+pub returns-clause-again : goal.returns-clause-again
+unfolding clap_on_literals option_in
+returns-clause-again c = (refl, refl)

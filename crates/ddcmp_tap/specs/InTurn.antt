@@ -1,0 +1,50 @@
+-- What a tap writes that carries one caller after another.
+use Rattle.std.specs.Prelude.{◌≡◌, ◌≢◌, ⊤, ℕ, Bool, List, [], ◌∷◌, ◌++◌, All, is_some, Option}
+use Rattle.std.specs.Prelude.{Result, Ok, Err}
+use Rattle.std.specs.Io.KnownBytes.{Appends}
+use Rattle.ddcmp_io.specs.Written.{Known}
+use Rattle.ddcmp_tap.specs.declared.notation.Notation.{Notation}
+use Rattle.ddcmp_tap.specs.declared.tap_fault.Stage.TheVariants.{Connect}
+use Rattle.ddcmp_tap.specs.declared.tap_fault.TapFault.{TapFault}
+use Rattle.ddcmp_tap.specs.declared.tap_fault.TapFault.TheVariants.{Carrier, Read, Write, Report}
+use Rattle.ddcmp_tap.specs.declared.tap_fault.TapFault.TheVariants.{Memory}
+use Rattle.ddcmp_tap.specs.Pumping.{AreStamped, Piece, Says, head_of, tap_text}
+
+-- what both sides said over one connection, and the moment of its end, if it is logged
+pub record Carried : Type 0 where
+  pub pieces : List Piece
+  pub stamp : Option ℕ
+
+-- the logs of connections, each with its head and its last lines; of these the last comes first
+unfoldable pub carried_text : Notation → ℕ → List Carried → List ℕ
+carried_text notation max [] = []
+carried_text notation max (c ∷ before) =
+    carried_text notation max before
+    ++ (head_of notation ++ tap_text notation max c.stamp c.pieces)
+
+-- What a tap wrote of callers in turn until a fault: the whole log of each, and then what it wrote
+-- of the last.
+pub record SaysInTurn (notation : Notation) (timed : Bool) (max : ℕ) (old new : Known)
+    (fault : TapFault) : Type 0 where
+  pub carried : List Carried
+  pub stamped : All (λ (c : Carried). AreStamped timed c.pieces × (is_some c.stamp ≡ timed)) carried
+  pub middle : Known
+  pub wrote : Appends old middle (carried_text notation max carried)
+  pub last : Says (head_of notation) notation timed max middle new (Err fault)
+
+-- a fault that isn't of one side: the output or an allocation failed, or listening or waiting
+abbrev pub Lasts : TapFault → Type 0
+Lasts (Carrier why) = why.stage ≢ Connect
+Lasts Read = ⊥
+Lasts Write = ⊥
+Lasts Report = ⊤
+Lasts Memory = ⊤
+
+-- a connection after which the next caller is carried
+abbrev pub PassesOver : Result (Unit {0}) TapFault → Type 0
+PassesOver (Ok u) = ⊤
+PassesOver (Err (Carrier why)) = why.stage ≡ Connect
+PassesOver (Err Read) = ⊤
+PassesOver (Err Write) = ⊤
+PassesOver (Err Report) = ⊥
+PassesOver (Err Memory) = ⊥
