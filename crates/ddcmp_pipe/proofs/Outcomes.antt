@@ -23,6 +23,8 @@ use Rattle.ddcmp_callers.specs.LinkLines.{AreLinkCalls, calls_of_steps}
 use Rattle.ddcmp_callers.proofs.TwoLinks.{reaches_a, reaches_b, all_to_a, all_to_b, kept}
 use Rattle.ddcmp_session.specs.Calls.{SessionHistory, SessionStep}
 use Rattle.ddcmp_pipe.specs.Sessions.{messages_of, mail_in, got_in, texts_of}
+use Rattle.ddcmp_pipe.specs.Loops.{DevicesPipe, DevicesPipeAll}
+use Rattle.ddcmp_pipe.proofs.LoopLaws.{devices_pipe, devices_pipe_all}
 use Rattle.ddcmp_pipe.specs.Pipe.{Made, Sessions, new_sessions, links_made}
 use Rattle.ddcmp_pipe.specs.Pipe.{after_session_at, AreSessionCalls, after_sessions}
 use Rattle.ddcmp_pipe.specs.Pipe.{link_steps_at, AreConnectedOnce}
@@ -286,6 +288,34 @@ module _ (first second : Made) (steps : List (End × SessionStep)) where
     whole_a =
         bytes_whole second first (after_sessions steps (new_sessions first second)).b
         (after_sessions steps (new_sessions first second)).a keeps.2.0 all_a
+
+    -- their devices
+
+    pub devices_b : DevicesPipe first second (after_sessions steps (new_sessions first second)).a
+        (after_sessions steps (new_sessions first second)).b
+    devices_b =
+        devices_pipe first second (after_sessions steps (new_sessions first second)).a
+        (after_sessions steps (new_sessions first second)).b keeps.2.0.kind bytes_b
+
+    pub devices_a : DevicesPipe second first (after_sessions steps (new_sessions first second)).b
+        (after_sessions steps (new_sessions first second)).a
+    devices_a =
+        devices_pipe second first (after_sessions steps (new_sessions first second)).b
+        (after_sessions steps (new_sessions first second)).a keeps.2.1.kind bytes_a
+
+    pub devices_all_b : DevicesPipeAll first second
+        (after_sessions steps (new_sessions first second)).a
+        (after_sessions steps (new_sessions first second)).b
+    devices_all_b =
+        devices_pipe_all first second (after_sessions steps (new_sessions first second)).a
+        (after_sessions steps (new_sessions first second)).b keeps.2.0.kind whole_b
+
+    pub devices_all_a : DevicesPipeAll second first
+        (after_sessions steps (new_sessions first second)).b
+        (after_sessions steps (new_sessions first second)).a
+    devices_all_a =
+        devices_pipe_all second first (after_sessions steps (new_sessions first second)).b
+        (after_sessions steps (new_sessions first second)).a keeps.2.1.kind whole_a
 
 -- ---- over honest lines, and over streams
 

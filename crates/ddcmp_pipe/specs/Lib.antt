@@ -1,5 +1,6 @@
 pub mod Sessions
 pub mod Pipe
 pub mod PipeStory
+pub mod Loops
 pub mod Connections
 pub mod AnewStory

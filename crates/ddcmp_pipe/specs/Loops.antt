@@ -1,0 +1,34 @@
+-- Sessions that run over devices.
+use Rattle.std.specs.Prelude.{◌≡◌, ℕ, true, false, List, []}
+use Rattle.std.specs.List.{All}
+use Rattle.ddcmp_input.specs.InBinary.{in_binary, Fits}
+use Rattle.ddcmp_laws.specs.Faithful.{Begins}
+use Rattle.ddcmp_session.specs.declared.messages.Form.TheVariants as form
+use Rattle.ddcmp_session.specs.Session.{is_delivered}
+use Rattle.ddcmp_session.specs.Calls.{SessionHistory}
+use Rattle.ddcmp_session.specs.Devices.{Agrees, BuffersView, Traffic}
+use Rattle.ddcmp_pipe.specs.Pipe.{Made, undelivered}
+
+-- Nothing was given or taken yet.
+abbrev pub no_traffic : Traffic
+no_traffic = record { read = []; is_over = false; came = []; gone = []; written = [] }
+
+-- In binary, if what one's input gave begins a file of messages that fit, then what the other's
+-- output took begins that file too.
+abbrev pub DevicesPipe : Made → Made → SessionHistory → SessionHistory → Type 0
+DevicesPipe made other giver taker = made.form ≡ form.Binary → other.form ≡ form.Binary
+    → (messages : List (List ℕ)) → All (Fits made.config.max) messages
+    → (held other_held : BuffersView) (t other_t : Traffic)
+    → Agrees held giver t → Agrees other_held taker other_t
+    → Begins t.read (in_binary messages) → Begins other_t.written (in_binary messages)
+
+-- And if the input gave all of the file, of which nothing is held, and the one may end as delivered,
+-- then the other's output took all of it, once nothing waits there.
+abbrev pub DevicesPipeAll : Made → Made → SessionHistory → SessionHistory → Type 0
+DevicesPipeAll made other giver taker = made.form ≡ form.Binary → other.form ≡ form.Binary
+    → (messages : List (List ℕ)) → All (Fits made.config.max) messages
+    → (held other_held : BuffersView) (t other_t : Traffic)
+    → Agrees held giver t → Agrees other_held taker other_t
+    → t.read ≡ in_binary messages → held.input ≡ [] → is_delivered giver.session ≡ true
+    → undelivered taker ≡ [] → taker.session.output.waiting ≡ []
+    → other_t.written ≡ in_binary messages

@@ -1,0 +1,47 @@
+//! A session that runs over devices from its beginning.
+ghost use Rattle.std.specs.Prelude.{◌≡◌, ◌++◌, [], Option, Some};
+ghost use Rattle.ddcmp_frame.specs.Reader.{StandsFor};
+ghost use Rattle.ddcmp_session.specs.Session.{SessionView};
+ghost use Rattle.ddcmp_session.specs.Calls.{SessionDoes, Connected, after_session_steps};
+ghost use Rattle.ddcmp_session.specs.Devices.{BuffersView, GoesOn, Traffic, WentOn};
+ghost use Rattle.ddcmp_session.specs.Devices.{nothing_read};
+ghost use Rattle.ddcmp_pipe.specs.Loops.{DevicesPipe, DevicesPipeAll, no_traffic};
+ghost use Rattle.ddcmp_pipe.specs.Pipe.{IsKeptByPipes, IsKeptOverConnections, Made, session_of};
+ghost use Rattle.ddcmp_pipe.specs.Sessions.{texts_of};
+
+/// A new session that is connected and then goes on over devices that tell what they give and take,
+/// as `ddcmp_session::Buffers` has it, has a history as in the other laws, from its beginning: so
+/// these hold of it. Its bytes are those that the devices gave and took. What its output took is the
+/// text of what it delivered and reported, as far as none of that waits.
+pub fn runs_are_histories()
+    ensures history { (made : Made) (connected now : SessionView) (held : BuffersView)
+        (known : Option Traffic) → StandsFor made.line []
+        → SessionDoes Connected [] (session_of made).session connected
+        → StandsFor connected.link.station.line []
+        → GoesOn nothing_read connected (Some no_traffic) held now known
+        → (t : Traffic) × (known ≡ Some t) × WentOn (session_of made) now held t }
+    ensures text { (made : Made) (now : SessionView) (held : BuffersView) (t : Traffic)
+        (went : WentOn (session_of made) now held t)
+        → t.written ++ now.output.waiting
+        ≡ texts_of made.form (after_session_steps went.steps (session_of made)).shown }
+{}
+
+/// Two such sessions over an honest line, each connected at most once, with their messages in
+/// binary: if what the input of one gave is the beginning of a file of messages that fit, then what
+/// the output of the other took is a beginning of that file; and it is the whole file if the input
+/// gave all of it, nothing of that is held, the one may end as delivered, and nothing waits to be
+/// delivered or written at the other. Over connections no word of frames is needed.
+pub fn devices_are_pipes()
+    ensures to_b { IsKeptByPipes (λ first second p. DevicesPipe first second p.a p.b) }
+    ensures to_a { IsKeptByPipes (λ first second p. DevicesPipe second first p.b p.a) }
+    ensures all_to_b { IsKeptByPipes (λ first second p. DevicesPipeAll first second p.a p.b) }
+    ensures all_to_a { IsKeptByPipes (λ first second p. DevicesPipeAll second first p.b p.a) }
+    ensures connected_to_b { IsKeptOverConnections
+        (λ first second p. DevicesPipe first second p.a p.b) }
+    ensures connected_to_a { IsKeptOverConnections
+        (λ first second p. DevicesPipe second first p.b p.a) }
+    ensures connected_all_to_b { IsKeptOverConnections
+        (λ first second p. DevicesPipeAll first second p.a p.b) }
+    ensures connected_all_to_a { IsKeptOverConnections
+        (λ first second p. DevicesPipeAll second first p.b p.a) }
+{}
