@@ -52,6 +52,22 @@ def receiver_ends():
         wants(f"receiver {options}", one, 0)
 
 
+def last_acknowledged():
+    """A peer that sends its last message, and says that it sends no more, gets the acknowledgement of that."""
+    for turn in range(10):
+        with server() as it:
+            link = Link(f"connect:127.0.0.1:{it.getsockname()[1]}", "--binary")
+            peer = Peer(it.accept()[0], good)
+        peer.waits(lambda it: it.named("ACK"), 10)
+        peer.send(data(b"last", 1, 0))
+        peer.sock.shutdown(socket.SHUT_WR)
+        wants(f"receiver {turn}", link, 0)
+        peer.waits(lambda it: it.has_ended, 5)
+        acknowledged = [it.resp for it in peer.named("ACK")]
+        if link.said != b"\0\4last" or acknowledged[-1:] != [1]:
+            wrong(f"{turn}: {link.said}, acknowledged {acknowledged}")
+
+
 def counted(link, peer, lines):
     """The last line has what the peer counted: three of four acknowledged, and two handed out."""
     last = dict(it.split("=") for it in ([""] + lines)[-1].split() if "=" in it)
@@ -214,6 +230,6 @@ def large():
     exchange("50 MB", one, two, sent, sent[::-1])
 
 
-TRIALS = [tcp_both_ways, long_messages, digits, receiver_ends, last_line, refused_input, cut_message, pseudo_terminals,
-          bad_line, inputs]
+TRIALS = [tcp_both_ways, long_messages, digits, receiver_ends, last_acknowledged, last_line, refused_input, cut_message,
+          pseudo_terminals, bad_line, inputs]
 LONG_TRIALS = [large]

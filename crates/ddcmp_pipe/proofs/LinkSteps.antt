@@ -334,7 +334,8 @@ step_leads f max step h k does holds = by step.call step.session does
     by (Delivered false) new d =
         output_step f max h new k (h.written ++ []) (h.shown ++ []) holds d.stays
         (quiet_mail h.shown)
-        (writes f h.written h.shown [] h.session.output new.output [] holds.text d.wrote (no_text f))
+        (writes f h.written h.shown [] h.session.output new.output [] holds.text d.wrote
+        (no_text f))
     by (OutputTook n) new d =
         output_step f max h new k (h.written ++ take n h.session.output.waiting) (h.shown ++ [])
         holds

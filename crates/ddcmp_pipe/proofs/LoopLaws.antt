@@ -1,5 +1,5 @@
 -- A session that runs over devices from its beginning.
-use Rattle.std.proofs.Common.{◌≡◌, ◌∙◌, ap, sym, subst, refl, ℕ, Bool, true, false, cond, List, []}
+use Rattle.std.proofs.Common.{◌≡◌, ◌∙◌, ap, sym, subst, refl, Bool, true, false, cond, []}
 use Rattle.std.proofs.Common.{◌∷◌, ◌++◌, Option, Some, append_assoc, append-nil}
 use Rattle.ddcmp_input.specs.InBinary.{in_binary}
 use Rattle.ddcmp_laws.specs.Faithful.{Begins}
@@ -7,11 +7,11 @@ use Rattle.ddcmp_session.specs.declared.messages.Form.TheVariants as form
 use Rattle.ddcmp_frame.specs.Reader.{StandsFor}
 use Rattle.ddcmp_session.specs.Session.{SessionView, form_of}
 use Rattle.ddcmp_session.specs.Calls.{SessionDoes, Connected, SessionStep, SessionHistory}
-use Rattle.ddcmp_session.specs.Calls.{after_session_step, after_session_steps, after_connected}
-use Rattle.ddcmp_session.specs.Calls.{IsSessionHistory, end_in}
-use Rattle.ddcmp_session.specs.Devices.{Agrees, BuffersView, GoesOn, Traffic, WentOn, end_of}
+use Rattle.ddcmp_session.specs.Calls.{after_session_step, after_session_steps}
+use Rattle.ddcmp_session.specs.Calls.{end_in}
+use Rattle.ddcmp_session.specs.Devices.{Agrees, BuffersView, GoesOn, Traffic, end_of}
 use Rattle.ddcmp_session.specs.Devices.{nothing_read}
-use Rattle.ddcmp_pipe.specs.Loops.{no_traffic, DevicesPipe, DevicesPipeAll}
+use Rattle.ddcmp_pipe.specs.Loops.{no_traffic, DevicesPipe, DevicesPipeAll, HasRun}
 use Rattle.ddcmp_pipe.specs.Pipe.{Made, session_of, PipesBytes, PipesWhole}
 use Rattle.ddcmp_pipe.specs.Sessions.{texts_of}
 use Rattle.ddcmp_pipe.proofs.Histories.{is_text}
@@ -32,13 +32,14 @@ module _ (made : Made) (connected : SessionView)
     came = refl;
     gone = refl;
     written = refl;
+    down = λ why e. cc;
     stands = stands;
   }
 
   pub is_history : (now : SessionView) (held : BuffersView) (known : Option Traffic)
       → StandsFor connected.link.station.line []
       → GoesOn nothing_read connected (Some no_traffic) held now known
-      → (t : Traffic) × (known ≡ Some t) × WentOn (session_of made) now held t
+      → (t : Traffic) × (known ≡ Some t) × HasRun made now held t
   unfolding after_session_steps
   is_history now held known stands goes =
       let a =
@@ -55,7 +56,7 @@ module _ (made : Made) (connected : SessionView)
       )
 
 pub is_text_of : (made : Made) (now : SessionView) (held : BuffersView) (t : Traffic)
-    (went : WentOn (session_of made) now held t)
+    (went : HasRun made now held t)
     → t.written ++ now.output.waiting
     ≡ texts_of made.form (after_session_steps went.steps (session_of made)).shown
 is_text_of made now held t went =
@@ -83,7 +84,8 @@ gave giver held t kind a =
 pub devices_pipe : (made other : Made) (giver taker : SessionHistory)
     → form_of giver.session.messages ≡ made.form → PipesBytes made other giver taker
     → DevicesPipe made other giver taker
-devices_pipe made other giver taker kind bytes f g messages fit held other_held t other_t a b begins =
+devices_pipe made other giver taker kind bytes f g messages fit held other_held t other_t a b
+    begins =
     subst (λ xs. Begins xs (in_binary messages)) (sym b.written)
     (bytes f g messages fit (
       held.input ++ begins.0,

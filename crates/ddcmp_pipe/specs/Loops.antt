@@ -4,14 +4,30 @@ use Rattle.std.specs.List.{All}
 use Rattle.ddcmp_input.specs.InBinary.{in_binary, Fits}
 use Rattle.ddcmp_laws.specs.Faithful.{Begins}
 use Rattle.ddcmp_session.specs.declared.messages.Form.TheVariants as form
-use Rattle.ddcmp_session.specs.Session.{is_delivered}
-use Rattle.ddcmp_session.specs.Calls.{SessionHistory}
+use Rattle.ddcmp_session.specs.Session.{SessionView, is_delivered}
+use Rattle.ddcmp_session.specs.Calls.{SessionHistory, SessionStep, IsSessionHistory}
+use Rattle.ddcmp_session.specs.Calls.{after_session_steps}
 use Rattle.ddcmp_session.specs.Devices.{Agrees, BuffersView, Traffic}
-use Rattle.ddcmp_pipe.specs.Pipe.{Made, undelivered}
+use Rattle.ddcmp_pipe.specs.Pipe.{Made, session_of, undelivered}
 
 -- Nothing was given or taken yet.
 abbrev pub no_traffic : Traffic
-no_traffic = record { read = []; is_over = false; came = []; gone = []; written = [] }
+no_traffic = record {
+  read = [];
+  is_over = false;
+  came = [];
+  gone = [];
+  written = [];
+  faults = [];
+}
+
+-- A history of a session from its beginning, which agrees with its devices at its end.
+pub record HasRun (made : Made) (new : SessionView) (held : BuffersView) (t : Traffic) : Type 0
+  where
+    pub steps : List SessionStep
+    pub calls : IsSessionHistory steps (session_of made)
+    pub session : (after_session_steps steps (session_of made)).session ≡ new
+    pub agrees : Agrees held (after_session_steps steps (session_of made)) t
 
 -- In binary, if what one's input gave begins a file of messages that fit, then what the other's
 -- output took begins that file too.
@@ -22,8 +38,8 @@ DevicesPipe made other giver taker = made.form ≡ form.Binary → other.form �
     → Agrees held giver t → Agrees other_held taker other_t
     → Begins t.read (in_binary messages) → Begins other_t.written (in_binary messages)
 
--- And if the input gave all of the file, of which nothing is held, and the one may end as delivered,
--- then the other's output took all of it, once nothing waits there.
+-- And if the input gave all of the file, of which nothing is held, and the one may end as
+-- delivered, then the other's output took all of it, once nothing waits there.
 abbrev pub DevicesPipeAll : Made → Made → SessionHistory → SessionHistory → Type 0
 DevicesPipeAll made other giver taker = made.form ≡ form.Binary → other.form ≡ form.Binary
     → (messages : List (List ℕ)) → All (Fits made.config.max) messages

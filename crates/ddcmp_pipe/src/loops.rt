@@ -3,27 +3,27 @@ ghost use Rattle.std.specs.Prelude.{◌≡◌, ◌++◌, [], Option, Some};
 ghost use Rattle.ddcmp_frame.specs.Reader.{StandsFor};
 ghost use Rattle.ddcmp_session.specs.Session.{SessionView};
 ghost use Rattle.ddcmp_session.specs.Calls.{SessionDoes, Connected, after_session_steps};
-ghost use Rattle.ddcmp_session.specs.Devices.{BuffersView, GoesOn, Traffic, WentOn};
+ghost use Rattle.ddcmp_session.specs.Devices.{BuffersView, GoesOn, Traffic};
 ghost use Rattle.ddcmp_session.specs.Devices.{nothing_read};
-ghost use Rattle.ddcmp_pipe.specs.Loops.{DevicesPipe, DevicesPipeAll, no_traffic};
+ghost use Rattle.ddcmp_pipe.specs.Loops.{DevicesPipe, DevicesPipeAll, HasRun, no_traffic};
 ghost use Rattle.ddcmp_pipe.specs.Pipe.{IsKeptByPipes, IsKeptOverConnections, Made, session_of};
 ghost use Rattle.ddcmp_pipe.specs.Sessions.{texts_of};
 
 /// A new session that is connected and then goes on over devices that tell what they give and take,
 /// as `ddcmp_session::Buffers` has it, has a history as in the other laws, from its beginning: so
-/// these hold of it. Its bytes are those that the devices gave and took. What its output took is the
-/// text of what it delivered and reported, as far as none of that waits.
+/// these hold of it. Its bytes are those that the devices gave and took. What its output took, and
+/// then what waits for it, is the text of what it delivered and reported.
 pub fn runs_are_histories()
     ensures history { (made : Made) (connected now : SessionView) (held : BuffersView)
         (known : Option Traffic) → StandsFor made.line []
         → SessionDoes Connected [] (session_of made).session connected
         → StandsFor connected.link.station.line []
         → GoesOn nothing_read connected (Some no_traffic) held now known
-        → (t : Traffic) × (known ≡ Some t) × WentOn (session_of made) now held t }
+        → (t : Traffic) × (known ≡ Some t) × HasRun made now held t }
     ensures text { (made : Made) (now : SessionView) (held : BuffersView) (t : Traffic)
-        (went : WentOn (session_of made) now held t)
+        (ran : HasRun made now held t)
         → t.written ++ now.output.waiting
-        ≡ texts_of made.form (after_session_steps went.steps (session_of made)).shown }
+        ≡ texts_of made.form (after_session_steps ran.steps (session_of made)).shown }
 {}
 
 /// Two such sessions over an honest line, each connected at most once, with their messages in

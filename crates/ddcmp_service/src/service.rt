@@ -113,6 +113,8 @@ fn serve<S: System, R: Source, W: Sink>(
     }
     let mut opener = Opener::new(line);
     let ran = run_lines(&mut opener, &mut session, &mut buffers, &mut devices);
+    // The peer learns at once that the line is left.
+    devices.forget_line();
     let ended = judge(&mut session, &mut buffers, &mut devices, ran);
     let finished = finish(&mut session, &mut devices);
     drain_errors(&mut session, &mut devices, END_MS);

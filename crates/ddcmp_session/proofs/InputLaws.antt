@@ -1,6 +1,7 @@
 -- Bytes of an input, of which there are none, and what completes one entry.
 use Rattle.std.proofs.Common.{◌≡◌, ℕ, refl, ap, sym, ◌∙◌, List, [], ◌∷◌, Option, Some, None, false}
-use Rattle.std.proofs.Common.{length, ◌≤◌, ◌+◌, arith, ◌++◌, take, drop, append_assoc, length-append}
+use Rattle.std.proofs.Common.{length, ◌≤◌, ◌+◌, arith, ◌++◌, take, drop, append_assoc}
+use Rattle.std.proofs.Common.{length-append}
 use Rattle.std.proofs.lemmas.List.{length-take, take-append-drop}
 use Rattle.std.proofs.Math.Seq.{take-append_seam}
 use Rattle.ddcmp_input.specs.declared.entry.Entry.{Entry}

@@ -2,6 +2,8 @@ pub mod DeliverLaws
 pub mod DropLaws
 pub mod FrameLaws
 pub mod GoingLaws
+pub mod InputGoes
+pub mod LineGoes
 pub mod InputLaws
 pub mod NoticeLaws
 pub mod RestLaws

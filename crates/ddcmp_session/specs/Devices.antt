@@ -1,28 +1,42 @@
 -- The devices of a session, what they have given and taken, and how a session goes on over them.
-use Rattle.std.specs.Prelude.{◌≡◌, ℕ, ◌==◌, ◌<◌, ◌⊎◌, Bool, true, false, if◌then◌else◌, List, [], ◌++◌, take}
-use Rattle.std.specs.Prelude.{Option, Some, None}
+use Rattle.std.specs.Prelude.{◌≡◌, ℕ, ◌==◌, ◌<◌, ◌⊎◌, Bool, true, false, if◌then◌else◌, List, []}
+use Rattle.std.specs.Prelude.{◌++◌, take}
+use Rattle.std.specs.Prelude.{Option, Some, None, ⊤, ◌∷◌}
 use Rattle.ddcmp_frame.specs.Reader.{StandsFor}
 use Rattle.ddcmp_io.specs.declared.device.Got.{Got}
 use Rattle.ddcmp_io.specs.declared.device.Got.TheVariants as got
+use Rattle.ddcmp_session.specs.declared.devices.Down.{Down}
+use Rattle.ddcmp_session.specs.declared.devices.Fault.{Fault}
+use Rattle.ddcmp_session.specs.declared.devices.Fault.TheVariants.{Line, Input, Output}
 use Rattle.ddcmp_session.specs.declared.devices.Moved.{Moved}
 use Rattle.ddcmp_session.specs.declared.devices.Moved.TheVariants.{Bytes, Nothing, Interrupted}
 use Rattle.ddcmp_session.specs.declared.devices.Moved.TheVariants.{Ended}
 use Rattle.ddcmp_window.specs.Store.{first_message}
 use Rattle.ddcmp_session.specs.Session.{SessionView, form_of, IsFilled, wants_input, wants_line}
 use Rattle.ddcmp_session.specs.Session.{room_for_mail}
+use Rattle.ddcmp_session.specs.Calls.{SessionCall, Connected, LineEnded, Closed}
 use Rattle.ddcmp_session.specs.Calls.{SessionHistory, SessionStep, IsSessionHistory}
 use Rattle.ddcmp_session.specs.Calls.{after_session_steps, end_in}
 
 -- What devices have given and taken: the bytes that were read of the input, and whether it has
--- ended; those that came of the line; those that the line took; and those that the output took.
+-- ended; those that came of the line; those that the line took; those that the output took; and
+-- what they have reported of themselves.
 pub record Traffic : Type 0 where
   pub read : List ℕ
   pub is_over : Bool
   pub came : List ℕ
   pub gone : List ℕ
   pub written : List ℕ
+  pub faults : List Fault
+
+abbrev pub HasReported : Fault → Traffic → Type 0
+HasReported fault t = (before after : List Fault) × (t.faults ≡ before ++ fault ∷ after)
 
 -- ---- what a call of a device adds to that
+
+-- a fault was reported
+abbrev pub after_fault : Fault → Traffic → Traffic
+after_fault fault t = record t { faults = t.faults ++ fault ∷ [] }
 
 -- how many bytes were read
 abbrev pub count_read : Got → ℕ
@@ -35,7 +49,7 @@ abbrev pub after_read : Got → List ℕ → Traffic → Traffic
 after_read (got.Bytes n) space t =
     record t { read = t.read ++ take n space; is_over = n == 0 }
 after_read got.Idle space t = t
-after_read got.Failed space t = t
+after_read got.Failed space t = after_fault Input t
 
 -- how many bytes were moved, and which
 abbrev pub count_moved : Moved → ℕ
@@ -48,13 +62,21 @@ abbrev pub moved_of : Moved → List ℕ → List ℕ
 moved_of moved bytes = take (count_moved moved) bytes
 
 abbrev pub after_came : Moved → List ℕ → Traffic → Traffic
+after_came (Ended why) space t = after_fault (Line why) t
 after_came moved space t = record t { came = t.came ++ moved_of moved space }
 
 abbrev pub after_gone : Moved → List ℕ → Traffic → Traffic
+after_gone (Ended why) bytes t = after_fault (Line why) t
 after_gone moved bytes t = record t { gone = t.gone ++ moved_of moved bytes }
 
 abbrev pub after_written : Moved → List ℕ → Traffic → Traffic
+after_written (Ended why) bytes t = after_fault Output t
 after_written moved bytes t = record t { written = t.written ++ moved_of moved bytes }
+
+-- a wait that could be made, or not
+abbrev pub after_wait : Bool → Traffic → Traffic
+after_wait true t = t
+after_wait false t = after_fault Input t
 
 -- Traffic that was known is known afterwards, and has become this.
 abbrev pub Becomes : Option Traffic → Option Traffic → (Traffic → Traffic) → Type 0
@@ -62,23 +84,24 @@ Becomes old new change = (before : Traffic) → old ≡ Some before → new ≡ 
 
 -- ---- a session over its devices
 
--- bytes that were read of the input, or came of the line, and that the session hasn't had yet; and
--- whether the input has ended
+-- bytes that were read of the input, or came of the line, and that the session hasn't had yet;
+-- whether the input has ended; and why the line takes nothing any more, if it doesn't
 pub record BuffersView : Type 0 where
   pub input : List ℕ
   pub received : List ℕ
   pub is_over : Bool
+  pub down : Option Down
 
 abbrev pub nothing_read : BuffersView
-nothing_read = record { input = []; received = []; is_over = false }
+nothing_read = record { input = []; received = []; is_over = false; down = None }
 
 -- the end of its last line, if a session was told of the end of its input
 abbrev pub end_of : SessionView → List ℕ
 end_of s = if s.is_read then end_in (form_of s.messages) else []
 
 -- What was read and what came is what the session has had, and then what it has yet to have. What
--- the line and the output took is what the session has given. The input has ended if the session
--- was told so.
+-- the line and the output took is what the session has given. If the session was told that the
+-- input has ended, a read has said so.
 pub record Agrees (held : BuffersView) (h : SessionHistory) (t : Traffic) : Type 0 where
   pub read : t.read ++ end_of h.session ≡ h.input ++ held.input
   pub over : held.is_over ≡ t.is_over
@@ -86,13 +109,26 @@ pub record Agrees (held : BuffersView) (h : SessionHistory) (t : Traffic) : Type
   pub came : t.came ≡ h.used ++ held.received
   pub gone : t.gone ≡ h.gone
   pub written : t.written ≡ h.written
+  pub down : (why : Down) → held.down ≡ Some why → HasReported (Line why) t
   pub stands : StandsFor h.session.link.station.line h.used
+
+-- a call of a session that leaves its line and its run as they are
+abbrev pub IsOfRun : SessionCall → Type 0
+IsOfRun Connected = ⊥
+IsOfRun (LineEnded is_reported) = ⊥
+IsOfRun (Closed is_reported) = ⊥
+IsOfRun _ = ⊤
+
+abbrev pub AreOfRun : List SessionStep → Type 0
+AreOfRun [] = ⊤
+AreOfRun (step ∷ rest) = IsOfRun step.call × AreOfRun rest
 
 -- The history of a session went on to this one, and agrees with its devices again.
 pub record WentOn (h : SessionHistory) (new : SessionView) (held : BuffersView) (t : Traffic)
     : Type 0 where
   pub steps : List SessionStep
   pub calls : IsSessionHistory steps h
+  pub only : AreOfRun steps
   pub session : (after_session_steps steps h).session ≡ new
   pub agrees : Agrees held (after_session_steps steps h) t
 
@@ -104,7 +140,14 @@ GoesOn held old before new_held new after =
     (h : SessionHistory) (t : Traffic) → h.session ≡ old → before ≡ Some t → Agrees held h t
     → (t' : Traffic) × (after ≡ Some t') × WentOn h new new_held t'
 
--- a received message that isn't delivered waits for room
+-- If session and devices agreed before, some device has reported this fault, in this call or
+-- earlier.
+abbrev pub Reports : BuffersView → SessionView → Option Traffic → Option Traffic → Fault → Type 0
+Reports held old before after fault = (h : SessionHistory) (t now : Traffic)
+    → h.session ≡ old → before ≡ Some t → Agrees held h t → after ≡ Some now
+    → HasReported fault now
+
+-- no received message waits, or the output has no room for one of any length
 abbrev pub HoldsMail : SessionView → Type 0
 HoldsMail s =
     (first_message s.link.station.core.station.inbox ≡ None)

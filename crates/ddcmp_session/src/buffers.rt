@@ -13,8 +13,8 @@ pub use running::{drain_errors, drain_output};
 use std::alloc::{AllocError, Global};
 use std::marker::Model;
 
-/// How a session runs over its devices: what was read for it and not used yet, and the loop that
-/// moves bytes and decides nothing.
+/// What was read for a session and not used yet. `run` moves bytes between the session and its
+/// devices, and decides nothing.
 ///
 /// Call `begin_line` once a line is open and the session is connected, then `run` until the line is
 /// left. `drain_output` and `drain_errors` write what waits, as at the end.
@@ -35,6 +35,7 @@ impl Model for Buffers {
       input = b.input;
       received = b.received;
       is_over = b.input_is_over;
+      down = b.down;
     } };
 }
 
@@ -51,8 +52,8 @@ impl Drop for Buffers {
 }
 
 impl Buffers {
-    ghost use Rattle.std.specs.Prelude.{◌≡◌, true, false, []};
-    ghost use Rattle.ddcmp_session.specs.Session.{wants_input};
+    ghost use Rattle.std.specs.Prelude.{◌≡◌, Bool, None, true, false, []};
+    ghost use Rattle.ddcmp_session.specs.Calls.{HasClosed};
 
     /// Makes empty ones. They take all the memory that they will need.
     pub fn new(alloc: Global) -> Result<Buffers, AllocError>
@@ -68,7 +69,7 @@ impl Buffers {
 
     /// Has a line on which nothing has come.
     pub fn begin_line(&mut self)
-        ensures { self.new ≡ record self.old { received = [] } }
+        ensures { self.new ≡ record self.old { received = []; down = None } }
     {
         self.received.clear();
         self.down = None;
@@ -100,8 +101,10 @@ impl Buffers {
         self.received.is_empty() && session.wants_line()
     }
 
-    /// Passes to a session whose run is over what was read of the input.
-    pub fn close(&self, session: &mut Session) {
+    /// Ends the run of a session. The messages that were read and that it hasn't had are lost.
+    pub fn close(&self, session: &mut Session)
+        ensures { (told : Bool) × HasClosed told session.old session.new }
+    {
         let _has_room = session.close(self.input.rest(), self.input_is_over);
     }
 }

@@ -65,7 +65,7 @@ impl Chunk {
         self.rest().is_empty()
     }
 
-    /// Reads the input, if all bytes were used.
+    /// Reads the input. All bytes must have been used.
     pub(crate) fn read_input<D: Devices>(&mut self, devices: &mut D) -> Got
         requires { self.old ≡ [] }
         ensures { (space : List ℕ) × (self.new ≡ take (count_read result) space)
@@ -77,7 +77,7 @@ impl Chunk {
         got
     }
 
-    /// Reads the line, if all bytes were used.
+    /// Reads the line. All bytes must have been used.
     pub(crate) fn read_line<D: Devices>(&mut self, devices: &mut D) -> Moved
         requires { self.old ≡ [] }
         ensures { (space : List ℕ) × (self.new ≡ moved_of result space)

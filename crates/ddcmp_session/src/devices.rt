@@ -13,7 +13,7 @@ use std::io::ErrorKind;
 pub trait Devices {
     ghost use Rattle.ddcmp_session.specs.Devices.{Traffic, Becomes, after_read, after_came};
     ghost use Rattle.ddcmp_session.specs.Devices.{Rests, count_moved, count_read};
-    ghost use Rattle.ddcmp_session.specs.Devices.{after_gone, after_written};
+    ghost use Rattle.ddcmp_session.specs.Devices.{after_gone, after_wait, after_written};
 
     // What they have given and taken, if that is known.
     ghost traffic: { Self → Option Traffic };
@@ -48,16 +48,16 @@ pub trait Devices {
     fn write_errors(&mut self, bytes: &[u8]) -> Moved
         ensures { traffic self.new ≡ traffic self.old };
 
-    /// Waits until a device is ready that the session wants, at most this many milliseconds; returns
-    /// whether it could. Nothing is left to be done without a device.
+    /// Waits until a device is ready that the session wants, at most this many milliseconds, as
+    /// nothing is left to be done without a device; returns whether it could.
     fn rest(&mut self, session: &Session, buffers: &Buffers, most_ms: u64) -> bool
         requires rests { Rests buffers.now session.now }
-        ensures { traffic self.new ≡ traffic self.old };
+        ensures { Becomes (traffic self.old) (traffic self.new) (after_wait result) };
 
     /// Waits until a device that is wanted is ready, at most this many milliseconds; returns
     /// whether it could.
     fn wait(&mut self, wanted: Wanted, most_ms: u64) -> bool
-        ensures { traffic self.new ≡ traffic self.old };
+        ensures { Becomes (traffic self.old) (traffic self.new) (after_wait result) };
 
     /// Returns the moment in milliseconds since the session was made.
     fn now(&mut self) -> u64
@@ -117,7 +117,7 @@ pub enum Fault {
     Input,
     /// Standard output failed.
     Output,
-    /// Standard output took nothing for too long.
+    /// A time is over: that of the run, or that of an output that takes nothing.
     Time,
 }
 

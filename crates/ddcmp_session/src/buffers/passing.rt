@@ -1,7 +1,8 @@
 //! One pass over the devices of a session: each step moves bytes between a device and the session,
 //! without waiting, and returns whether it moved any.
-ghost use Rattle.std.specs.Prelude.{◌≡◌, Ok, Option, false};
-ghost use Rattle.ddcmp_session.specs.Devices.{BuffersView, GoesOn, HoldsMail, Traffic};
+ghost use Rattle.std.specs.Prelude.{◌≡◌, Err, Ok, Option, false};
+ghost use Rattle.ddcmp_session.specs.Devices.{BuffersView, GoesOn, HoldsMail, Reports, Traffic};
+ghost use Rattle.ddcmp_session.specs.declared.devices.Fault.{Fault as FaultValue};
 
 use crate::buffers::Buffers;
 use crate::devices::{Devices, Fault, Moved, Wanted};
@@ -31,9 +32,11 @@ pub(super) fn deliver_all(session: &mut Session) -> bool
 }
 
 impl Buffers {
-    ghost use Rattle.std.specs.Prelude.{◌≡◌, ◌⊎◌, [], Ok, Option, false};
+    ghost use Rattle.std.specs.Prelude.{◌≡◌, ◌⊎◌, [], Err, Ok, Option, Some, false};
     ghost use Rattle.ddcmp_session.specs.Session.{SessionView, wants_input, wants_line};
-    ghost use Rattle.ddcmp_session.specs.Devices.{GoesOn, HoldsMail, Rests, Traffic};
+    ghost use Rattle.ddcmp_session.specs.Devices.{GoesOn, HoldsMail, Reports, Rests, Traffic};
+    ghost use Rattle.ddcmp_session.specs.declared.devices.Down.{Down as DownValue};
+    ghost use Rattle.ddcmp_session.specs.declared.devices.Fault.{Fault as FaultValue};
 
     /// Moves what can be moved, without waiting, and returns whether there was anything: if not, it
     /// is time to wait.
@@ -44,14 +47,17 @@ impl Buffers {
     ) -> Result<bool, Fault>
         ensures on { GoesOn self.old session.old (D.traffic devices.old)
             self.new session.new (D.traffic devices.new) }
+        ensures reports { (fault : FaultValue) → result ≡ Err fault
+            → Reports self.old session.old (D.traffic devices.old) (D.traffic devices.new) fault }
         ensures rests { result ≡ Ok false → Rests self.new session.new }
     {
+        // An acknowledgement goes out before the line is read to its end.
         session.fill();
-        let mut moved = self.read_input(session, devices)?;
+        let mut moved = self.write_line(session, devices);
+        moved |= self.read_input(session, devices)?;
         moved |= self.pass_input(session, devices)?;
         moved |= self.read_line(session, devices)?;
         moved |= self.pass_received(session);
-        moved |= self.write_line(session, devices);
         moved |= write_output(session, devices)?;
         moved |= write_errors(session, devices);
         Ok(moved)
@@ -61,6 +67,8 @@ impl Buffers {
     fn read_input<D: Devices>(&mut self, session: &Session, devices: &mut D) -> Result<bool, Fault>
         ensures on { GoesOn self.old session.now (D.traffic devices.old)
             self.new session.now (D.traffic devices.new) }
+        ensures reports { (fault : FaultValue) → result ≡ Err fault
+            → Reports self.old session.now (D.traffic devices.old) (D.traffic devices.new) fault }
         ensures idle { result ≡ Ok false → self.new ≡ self.old }
     {
         if !self.wants_input(session) {
@@ -75,6 +83,8 @@ impl Buffers {
         requires goes_on { self.old.is_over ≡ false }
         ensures on { (session : SessionView) → GoesOn self.old session (D.traffic devices.old)
             self.new session (D.traffic devices.new) }
+        ensures reports { (session : SessionView) (fault : FaultValue) → result ≡ Err fault
+            → Reports self.old session (D.traffic devices.old) (D.traffic devices.new) fault }
         ensures idle { result ≡ Ok false → self.new ≡ self.old }
     {
         match self.input.read_input(devices) {
@@ -86,7 +96,7 @@ impl Buffers {
     }
 
     /// Passes what was read of the input to the session, as far as it takes that. If more is left
-    /// it finds out what else is ready, as no wait will before that is used.
+    /// it asks without waiting what else is ready, as the loop won't wait before that is used.
     fn pass_input<D: Devices>(
         &mut self,
         session: &mut Session,
@@ -94,6 +104,8 @@ impl Buffers {
     ) -> Result<bool, Fault>
         ensures on { GoesOn self.old session.old (D.traffic devices.old)
             self.new session.new (D.traffic devices.new) }
+        ensures reports { (fault : FaultValue) → result ≡ Err fault
+            → Reports self.old session.old (D.traffic devices.old) (D.traffic devices.new) fault }
         ensures idle { result ≡ Ok false → (session.new ≡ session.old) × (self.new ≡ self.old) }
         ensures typed { result ≡ Ok false
             → (self.new.input ≡ []) ⊎ (wants_input session.new ≡ false) }
@@ -137,11 +149,13 @@ impl Buffers {
         moved
     }
 
-    /// Reads what the input has at this moment, for a line that has ended: it is the beginning of
-    /// what wasn't delivered.
+    /// Reads once what the input has at this moment, so that messages that nobody will send are
+    /// counted as lost.
     pub fn read_the_rest<D: Devices>(&mut self, devices: &mut D) -> Result<(), Fault>
         ensures on { (session : SessionView) → GoesOn self.old session (D.traffic devices.old)
             self.new session (D.traffic devices.new) }
+        ensures reports { (session : SessionView) (fault : FaultValue) → result ≡ Err fault
+            → Reports self.old session (D.traffic devices.old) (D.traffic devices.new) fault }
     {
         if self.input_is_over || !self.input.is_empty() {
             return Ok(());
@@ -160,7 +174,7 @@ impl Buffers {
         ensures on { GoesOn self.old session.old (D.traffic devices.old)
             self.new session.new (D.traffic devices.new) }
         ensures idle { result ≡ false → session.new ≡ session.old }
-        ensures held { self.new ≡ self.old }
+        ensures held { result ≡ false → self.new ≡ self.old }
     {
         if self.down.is_some() || session.to_line().is_empty() {
             return false;
@@ -182,6 +196,8 @@ impl Buffers {
     ) -> Result<bool, Fault>
         ensures on { GoesOn self.old session.old (D.traffic devices.old)
             self.new session.new (D.traffic devices.new) }
+        ensures reports { (fault : FaultValue) → result ≡ Err fault
+            → Reports self.old session.old (D.traffic devices.old) (D.traffic devices.new) fault }
         ensures idle { result ≡ Ok false → self.new ≡ self.old }
         ensures session { session.new ≡ session.old }
     {
@@ -196,7 +212,9 @@ impl Buffers {
     /// Whether a read of the line gave anything. What the line has is read to its end before the
     /// fault of a write is reported.
     fn after_read(&self, got: Moved) -> Result<bool, Fault>
-        ensures { result ≡ Ok false → got ≡ Moved.Nothing }
+        ensures idle { result ≡ Ok false → got ≡ Moved.Nothing }
+        ensures fault { (fault : FaultValue) → result ≡ Err fault → (why : DownValue)
+            × (fault ≡ Fault.Line why) × ((self.now.down ≡ Some why) ⊎ (got ≡ Moved.Ended why)) }
     {
         match got {
             Moved::Bytes(_) | Moved::Interrupted => Ok(true),
@@ -204,7 +222,10 @@ impl Buffers {
                 Some(why) => Err(Fault::Line(why)),
                 None => Ok(false),
             },
-            Moved::Ended(why) => Err(Fault::Line(self.down.unwrap_or(why))),
+            Moved::Ended(why) => match self.down {
+                Some(first) => Err(Fault::Line(first)),
+                None => Err(Fault::Line(why)),
+            },
         }
     }
 
@@ -244,6 +265,8 @@ pub(super) fn write_output<D: Devices>(
 ) -> Result<bool, Fault>
     ensures on { (held : BuffersView) → GoesOn held session.old (D.traffic devices.old)
         held session.new (D.traffic devices.new) }
+    ensures reports { (held : BuffersView) (fault : FaultValue) → result ≡ Err fault
+        → Reports held session.old (D.traffic devices.old) (D.traffic devices.new) fault }
     ensures idle { result ≡ Ok false → session.new ≡ session.old }
 {
     if session.to_output().is_empty() {
@@ -268,8 +291,10 @@ pub fn write_errors<D: Devices>(session: &mut Session, devices: &mut D) -> bool
     }
     match devices.write_errors(session.to_errors()) {
         Moved::Bytes(n) => session.errors_took(n),
-        Moved::Nothing | Moved::Ended(_) => return false,
+        Moved::Nothing => return false,
         Moved::Interrupted => {}
+        // What it will never take is dropped.
+        Moved::Ended(_) => session.errors_took(usize::MAX),
     }
     true
 }

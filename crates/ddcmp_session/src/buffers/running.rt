@@ -1,6 +1,7 @@
 //! The loop of a session over its devices.
-ghost use Rattle.std.specs.Prelude.{◌≡◌, [], Ok};
-ghost use Rattle.ddcmp_session.specs.Devices.{BuffersView, GoesOn, HoldsMail};
+ghost use Rattle.std.specs.Prelude.{◌≡◌, ◌≢◌, [], Err, Ok};
+ghost use Rattle.ddcmp_session.specs.Devices.{BuffersView, GoesOn, HoldsMail, Reports};
+ghost use Rattle.ddcmp_session.specs.declared.devices.Fault.{Fault as FaultValue};
 
 use crate::buffers::Buffers;
 use crate::buffers::passing::{deliver_all, write_errors, write_output};
@@ -11,14 +12,17 @@ use crate::session::{End, Session};
 const END_MS: u64 = 1000;
 
 impl Buffers {
-    ghost use Rattle.std.specs.Prelude.{◌≡◌, Ok, true};
+    ghost use Rattle.std.specs.Prelude.{◌≡◌, Err, Ok, true};
     ghost use Rattle.ddcmp_session.specs.Session.{is_delivered};
-    ghost use Rattle.ddcmp_session.specs.Devices.{GoesOn};
+    ghost use Rattle.ddcmp_session.specs.Devices.{GoesOn, Reports};
+    ghost use Rattle.ddcmp_session.specs.declared.devices.Fault.{Fault as FaultValue};
 
     /// Runs a session over its line, until it leaves that or a device ends or fails.
     pub fn run<D: Devices>(&mut self, session: &mut Session, devices: &mut D) -> Result<End, Fault>
         ensures on { GoesOn self.old session.old (D.traffic devices.old)
             self.new session.new (D.traffic devices.new) }
+        ensures reports { (fault : FaultValue) → result ≡ Err fault
+            → Reports self.old session.old (D.traffic devices.old) (D.traffic devices.new) fault }
         ensures delivered { result ≡ Ok End.Delivered → is_delivered session.new ≡ true }
     {
         for _pass in 0..u64::MAX {
@@ -32,37 +36,41 @@ impl Buffers {
                 Ok(false) => {}
                 Err(fault) => return Err(fault),
             }
-            // The next pass returns it.
+            // The next turn returns it.
             if session.end().is_some() {
                 continue;
             }
             let most = session.wakes_at().saturating_sub(now);
             if !devices.rest(session, self, most) {
-                break;
+                return Err(Fault::Input);
             }
         }
-        Err(Fault::Input)
+        Ok(End::Time)
     }
 }
 
 /// Writes what is queued for standard error, until that has taken nothing for `most_ms`
 /// milliseconds.
 pub fn drain_errors<D: Devices>(session: &mut Session, devices: &mut D, most_ms: u64)
+    ensures on { (held : BuffersView) → GoesOn held session.old (D.traffic devices.old)
+        held session.new (D.traffic devices.new) }
     ensures session { session.new ≡ session.old }
-    ensures devices { D.traffic devices.new ≡ D.traffic devices.old }
 {
     let mut last = devices.now();
     for _write in 0..u64::MAX {
         if session.to_errors().is_empty() {
-            break;
+            return;
         }
         if write_errors(session, devices) {
             last = devices.now();
             continue;
         }
         let left = last.saturating_add(most_ms).saturating_sub(devices.now());
-        if left == 0 || !devices.wait(Wanted::ERRORS, left) {
-            break;
+        if left == 0 {
+            return;
+        }
+        if !devices.wait(Wanted::ERRORS, left) {
+            return;
         }
     }
 }
@@ -72,6 +80,9 @@ pub fn drain_errors<D: Devices>(session: &mut Session, devices: &mut D, most_ms:
 pub fn drain_output<D: Devices>(session: &mut Session, devices: &mut D) -> Result<(), Fault>
     ensures on { (held : BuffersView) → GoesOn held session.old (D.traffic devices.old)
         held session.new (D.traffic devices.new) }
+    ensures reports { (held : BuffersView) (fault : FaultValue) → result ≡ Err fault
+        → fault ≢ Fault.Time
+        → Reports held session.old (D.traffic devices.old) (D.traffic devices.new) fault }
     ensures drained { result ≡ Ok tt → session.new.output.waiting ≡ [] }
     ensures left { result ≡ Ok tt → HoldsMail session.new }
 {

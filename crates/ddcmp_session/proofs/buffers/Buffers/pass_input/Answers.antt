@@ -1,6 +1,9 @@
-use Rattle.std.proofs.Common.{◌≡◌, [], true, refl, sym, subst}
-use Rattle.ddcmp_session.specs.Devices.{BuffersView}
-use Rattle.ddcmp_session.proofs.GoingLaws.{stays, goes-then, ends, none-left}
+use Rattle.std.proofs.Common.{◌≡◌, [], true, sym, subst, Bool, Result, Err}
+use Rattle.ddcmp_session.specs.declared.devices.Fault.{Fault}
+use Rattle.ddcmp_session.specs.declared.devices.Fault.TheVariants.{Input}
+use Rattle.ddcmp_session.specs.Devices.{BuffersView, Reports}
+use Rattle.ddcmp_session.proofs.GoingLaws.{waited, reported, reports-then, goes-then}
+use Rattle.ddcmp_session.proofs.InputGoes.{ends, none-left}
 use Rattle.ddcmp_session.proofs.buffers.Buffers.pass_input.Goals as goal
 
 pub returns-then-not-wants_input-clause-on : goal.returns-then-not-wants_input-clause-on
@@ -8,11 +11,11 @@ returns-then-not-wants_input-clause-on g c = c.pass_parts-moved.ensures.on _
 
 pub returns-then-wait-clause-on : goal.returns-then-wait-clause-on
 returns-then-wait-clause-on g c =
-    goes-then (c.pass_parts-moved.ensures.on _) (stays refl c.wait.ensures)
+    goes-then (c.pass_parts-moved.ensures.on _) (waited c.wait.result c.wait.ensures)
 
 pub returns-else-wait-clause-on : goal.returns-else-wait-clause-on
 returns-else-wait-clause-on g c =
-    goes-then (c.pass_parts-moved.ensures.on _) (stays refl c.wait.ensures)
+    goes-then (c.pass_parts-moved.ensures.on _) (waited c.wait.result c.wait.ensures)
 
 pub returns-then-self-clause-on : goal.returns-then-self-clause-on
 returns-then-self-clause-on g c =
@@ -25,3 +28,13 @@ returns-then-self-clause-on g c =
 
 pub returns-clause-on : goal.returns-clause-on
 returns-clause-on g c = c.pass_parts-moved.ensures.on _
+
+pub returns-else-wait-clause-reports : goal.returns-else-wait-clause-reports
+returns-else-wait-clause-reports g c = λ fault e.
+    subst
+    (Reports c.args.self.now c.args.session.now (g.D.Devices.traffic c.args.devices.now)
+    (g.D.Devices.traffic c.wait.new.self)) (same e)
+    (reports-then (c.pass_parts-moved.ensures.on _) (reported Input c.if-wait.ensures))
+  where
+    same : {f : Fault} → ◌≡◌ {A = Result Bool Fault} (Err Input) (Err f) → Input ≡ f
+    same e = cc

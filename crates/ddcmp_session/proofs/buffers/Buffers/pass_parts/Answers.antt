@@ -1,5 +1,6 @@
 use Rattle.std.proofs.Common.{refl, sym}
-use Rattle.ddcmp_session.proofs.GoingLaws.{stays, goes-then, types-held}
+use Rattle.ddcmp_session.proofs.GoingLaws.{stays, goes-then}
+use Rattle.ddcmp_session.proofs.InputGoes.{types-held}
 use Rattle.ddcmp_session.proofs.InputLaws.{has-typed}
 use Rattle.ddcmp_session.proofs.buffers.Buffers.pass_parts.Goals as goal
 

@@ -1,5 +1,6 @@
 use Rattle.std.proofs.Common.{refl, sym}
-use Rattle.ddcmp_session.proofs.GoingLaws.{stays, goes-then, received-held, in-turn, neither}
+use Rattle.ddcmp_session.proofs.GoingLaws.{stays, goes-then, in-turn, neither}
+use Rattle.ddcmp_session.proofs.LineGoes.{received-held}
 use Rattle.ddcmp_session.proofs.buffers.Buffers.pass_received.Goals as goal
 
 pub loop-notice-init : goal.loop-notice-init

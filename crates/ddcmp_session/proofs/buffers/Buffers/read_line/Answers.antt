@@ -1,7 +1,8 @@
 use Rattle.std.proofs.Common.{◌≡◌, ◌∙◌, ap, [], refl, sym, subst}
 use Rattle.ddcmp_session.specs.contracts.buffers.Buffers as buffers
-use Rattle.ddcmp_session.specs.Devices.{BuffersView, moved_of}
-use Rattle.ddcmp_session.proofs.GoingLaws.{stays, goes-then, line-given}
+use Rattle.ddcmp_session.specs.Devices.{BuffersView, Reports, moved_of}
+use Rattle.ddcmp_session.proofs.GoingLaws.{stays, goes-then, line-reported}
+use Rattle.ddcmp_session.proofs.LineGoes.{line-given}
 use Rattle.ddcmp_session.proofs.buffers.Buffers.read_line.Goals as goal
 
 pub returns-then-not-wants_line-clause-on : goal.returns-then-not-wants_line-clause-on
@@ -26,5 +27,16 @@ returns-clause-idle g c =
     (λ e.
     ap (λ xs. record (buffers.the_view c.self.inside) { received = xs })
     (c.read_line-got.ensures.1
-    ∙ ap (λ m. moved_of m c.read_line-got.ensures.0) (c.after_read.ensures e)
+    ∙ ap (λ m. moved_of m c.read_line-got.ensures.0) (c.after_read.ensures.idle e)
     ∙ sym empty))
+
+pub returns-clause-reports : goal.returns-clause-reports
+returns-clause-reports g c = λ fault e.
+    let r = c.after_read.ensures.fault fault e in
+    rw (sym c.self.view_is)
+    (subst
+    (Reports (buffers.the_view c.self.inside) c.args.session.now
+    (g.D.Devices.traffic c.args.devices.now) (g.D.Devices.traffic c.read_line-got.new.devices))
+    (sym r.1)
+    (line-reported c.read_line-got.result c.read_line-got.ensures.0 r.0
+    c.read_line-got.ensures.2 r.2))

@@ -1,34 +1,42 @@
-use Rattle.std.proofs.Common.{◌≡◌, ◌∙◌, ap, [], false, refl, sym, subst, ◌==◌}
-use Rattle.ddcmp_session.specs.Devices.{BuffersView}
-use Rattle.ddcmp_session.proofs.GoingLaws.{input-given, no-input}
+use Rattle.std.proofs.Common.{◌≡◌, ◌∙◌, ap, [], false, Bool, Result, Err, refl, sym, subst, ◌==◌}
+use Rattle.ddcmp_session.specs.declared.devices.Fault.{Fault}
+use Rattle.ddcmp_session.specs.declared.devices.Fault.TheVariants.{Input}
+use Rattle.ddcmp_session.specs.Devices.{BuffersView, Reports}
+use Rattle.ddcmp_session.proofs.GoingLaws.{idles, faulted, reported}
+use Rattle.ddcmp_session.proofs.InputGoes.{input-given, no-input}
 use Rattle.ddcmp_session.specs.contracts.buffers.Buffers as buffers
 use Rattle.ddcmp_session.proofs.buffers.Buffers.read_now.Goals as goal
 
 pub returns-in-Idle-clause-on : goal.returns-in-Idle-clause-on
 returns-in-Idle-clause-on g c =
-    rw (sym c.self.view_is)
-    (λ session.
+    rw (sym c.self.view_is) (λ session.
     no-input c.read_input.new.self
     (subst (λ (v : BuffersView). v.input ≡ []) (sym c.self.view_is) c.requires.empty)
-    c.in-Idle.ensures.1 c.in-Idle.ensures.2)
+    c.in-Idle.ensures.1 (idles (λ t. t) c.in-Idle.ensures.2 (λ t. refl)))
 
 pub returns-in-Failed-clause-on : goal.returns-in-Failed-clause-on
 returns-in-Failed-clause-on g c =
-    rw (sym c.self.view_is)
-    (λ session.
+    rw (sym c.self.view_is) (λ session.
     no-input c.read_input.new.self
     (subst (λ (v : BuffersView). v.input ≡ []) (sym c.self.view_is) c.requires.empty)
-    c.in-Failed.ensures.1 c.in-Failed.ensures.2)
+    c.in-Failed.ensures.1 (faulted Input c.in-Failed.ensures.2))
+
+pub returns-in-Failed-clause-reports : goal.returns-in-Failed-clause-reports
+returns-in-Failed-clause-reports g c = λ session fault e.
+    subst
+    (Reports c.args.self.now session (g.D.Devices.traffic c.args.devices.now)
+    (g.D.Devices.traffic c.read_input.new.devices)) (same e)
+    (reported Input c.in-Failed.ensures.2)
+  where
+    same : {f : Fault} → ◌≡◌ {A = Result Bool Fault} (Err Input) (Err f) → Input ≡ f
+    same e = cc
 
 pub returns-clause-on : goal.returns-clause-on
 returns-clause-on g c =
-    rw (sym c.self.view_is)
-    (λ session.
-    input-given c.in-Bytes.n c.in-Bytes.ensures.0 c.read_input.new.self
-    (c.in-Bytes.n == 0)
+    rw (sym c.self.view_is) (λ session.
+    input-given c.in-Bytes.n c.in-Bytes.ensures.0 c.read_input.new.self (c.in-Bytes.n == 0)
     (subst (λ (v : BuffersView). v.input ≡ []) (sym c.self.view_is) c.requires.empty)
-    (subst (λ (v : BuffersView). v.is_over ≡ false) (sym c.self.view_is)
-    c.requires.goes_on)
+    (subst (λ (v : BuffersView). v.is_over ≡ false) (sym c.self.view_is) c.requires.goes_on)
     c.in-Bytes.ensures.1 c.in-Bytes.ensures.2 refl)
 
 pub returns-in-Idle-clause-idle : goal.returns-in-Idle-clause-idle

@@ -1,19 +1,38 @@
-use Rattle.std.proofs.Common.{refl}
-use Rattle.ddcmp_session.proofs.GoingLaws.{stays, goes-then}
+use Rattle.std.proofs.Common.{◌≡◌, refl, subst, Result, Err}
+use Rattle.ddcmp_session.specs.declared.devices.Fault.{Fault}
+use Rattle.ddcmp_session.specs.declared.devices.Fault.TheVariants.{Input}
+use Rattle.ddcmp_session.specs.Devices.{Reports}
+use Rattle.ddcmp_session.proofs.GoingLaws.{stays, goes-then, waited, reported, reports-then}
 use Rattle.ddcmp_session.proofs.buffers.Buffers.read_the_rest.Goals as goal
 
-pub returns-then-self : goal.returns-then-self
-returns-then-self g c = record { on = λ session. stays refl refl }
+same : {f f' : Fault} → ◌≡◌ {A = Result (Unit {0}) Fault} (Err f) (Err f') → f ≡ f'
+same e = cc
 
-pub returns-then-not-wait : goal.returns-then-not-wait
-returns-then-not-wait g c = record { on = λ session. stays refl c.wait.ensures }
+pub returns-then-self-clause-on : goal.returns-then-self-clause-on
+returns-then-self-clause-on g c = λ session. stays refl refl
 
-pub returns-in-Ok : goal.returns-in-Ok
-returns-in-Ok g c = record {
-  on = λ session. goes-then (stays refl c.wait.ensures) (c.in-Ok.ensures.on session);
-}
+pub returns-then-not-wait-clause-on : goal.returns-then-not-wait-clause-on
+returns-then-not-wait-clause-on g c = λ session. waited c.wait.result c.wait.ensures
 
-pub returns-in-Err : goal.returns-in-Err
-returns-in-Err g c = record {
-  on = λ session. goes-then (stays refl c.wait.ensures) (c.in-Err.ensures.on session);
-}
+pub returns-then-not-wait-clause-reports : goal.returns-then-not-wait-clause-reports
+returns-then-not-wait-clause-reports g c = λ session fault e.
+    subst
+    (Reports c.args.self.now session (g.D.Devices.traffic c.args.devices.now)
+    (g.D.Devices.traffic c.wait.new.self)) (same e)
+    (reported Input c.if-not-wait.ensures)
+
+pub returns-in-Ok-clause-on : goal.returns-in-Ok-clause-on
+returns-in-Ok-clause-on g c = λ session.
+    goes-then (waited c.wait.result c.wait.ensures) (c.in-Ok.ensures.on session)
+
+pub returns-in-Err-clause-on : goal.returns-in-Err-clause-on
+returns-in-Err-clause-on g c = λ session.
+    goes-then (waited c.wait.result c.wait.ensures) (c.in-Err.ensures.on session)
+
+pub returns-in-Err-clause-reports : goal.returns-in-Err-clause-reports
+returns-in-Err-clause-reports g c = λ session fault e.
+    subst
+    (Reports c.args.self.now session (g.D.Devices.traffic c.args.devices.now)
+    (g.D.Devices.traffic c.read_now.new.devices)) (same e)
+    (reports-then (waited c.wait.result c.wait.ensures)
+    (c.in-Err.ensures.reports session c.in-Err.fault refl))

@@ -1,5 +1,10 @@
-use Rattle.std.proofs.Common.{refl}
-use Rattle.ddcmp_session.proofs.GoingLaws.{stays, goes-then, timed-goes}
+use Rattle.std.proofs.Common.{◌≡◌, refl, subst, Result, Err}
+use Rattle.ddcmp_session.specs.declared.devices.Fault.{Fault}
+use Rattle.ddcmp_session.specs.declared.devices.Fault.TheVariants.{Input}
+use Rattle.ddcmp_session.specs.declared.session.End.{End}
+use Rattle.ddcmp_session.specs.Devices.{Reports}
+use Rattle.ddcmp_session.proofs.GoingLaws.{stays, goes-then, timed-goes, waited, reported}
+use Rattle.ddcmp_session.proofs.GoingLaws.{reports-then}
 use Rattle.ddcmp_session.proofs.buffers.Buffers.run.Goals as goal
 
 pub loop-pass-init : goal.loop-pass-init
@@ -43,7 +48,7 @@ loop-pass-preserved g c =
     (goes-then
     (timed-goes c.now-now.result c.loop-pass.session c.handle_timeout.new.self
     c.handle_timeout.ensures)
-    (goes-then c.pass.ensures.on (stays refl c.rest.ensures))))
+    (goes-then c.pass.ensures.on (waited c.rest.result c.rest.ensures))))
 
 pub returns-then-not-rest-clause-on : goal.returns-then-not-rest-clause-on
 returns-then-not-rest-clause-on g c =
@@ -52,4 +57,30 @@ returns-then-not-rest-clause-on g c =
     (goes-then
     (timed-goes c.now-now.result c.loop-pass.session c.handle_timeout.new.self
     c.handle_timeout.ensures)
-    (goes-then c.pass.ensures.on (stays refl c.rest.ensures))))
+    (goes-then c.pass.ensures.on (waited c.rest.result c.rest.ensures))))
+
+same : {f f' : Fault} → ◌≡◌ {A = Result End Fault} (Err f) (Err f') → f ≡ f'
+same e = cc
+
+pub returns-in-Err-clause-reports : goal.returns-in-Err-clause-reports
+returns-in-Err-clause-reports g c = λ fault e.
+    subst
+    (Reports c.args.self.now c.args.session.now (g.D.Devices.traffic c.args.devices.now)
+    (g.D.Devices.traffic c.pass.new.devices)) (same e)
+    (reports-then c.loop-pass.invariant
+    (reports-then (stays refl c.now-now.ensures)
+    (reports-then
+    (timed-goes c.now-now.result c.loop-pass.session c.handle_timeout.new.self
+    c.handle_timeout.ensures) (c.in-Err.ensures.reports c.in-Err.fault refl))))
+
+pub returns-then-not-rest-clause-reports : goal.returns-then-not-rest-clause-reports
+returns-then-not-rest-clause-reports g c = λ fault e.
+    subst
+    (Reports c.args.self.now c.args.session.now (g.D.Devices.traffic c.args.devices.now)
+    (g.D.Devices.traffic c.rest.new.self)) (same e)
+    (reports-then c.loop-pass.invariant
+    (reports-then (stays refl c.now-now.ensures)
+    (reports-then
+    (timed-goes c.now-now.result c.loop-pass.session c.handle_timeout.new.self
+    c.handle_timeout.ensures)
+    (reports-then c.pass.ensures.on (reported Input c.if-not-rest.ensures)))))

@@ -1,7 +1,8 @@
 use Rattle.std.proofs.Common.{refl, sym}
-use Rattle.ddcmp_session.specs.declared.devices.Moved.TheVariants.{Nothing, Interrupted, Ended}
+use Rattle.ddcmp_session.specs.declared.devices.Moved.TheVariants.{Nothing, Interrupted}
 use Rattle.ddcmp_session.specs.Devices.{after_gone}
-use Rattle.ddcmp_session.proofs.GoingLaws.{stays, idles, none-gone, line-took}
+use Rattle.ddcmp_session.proofs.GoingLaws.{stays, idles, none-gone, downed}
+use Rattle.ddcmp_session.proofs.LineGoes.{line-took}
 use Rattle.ddcmp_session.proofs.buffers.Buffers.write_line.Goals as goal
 
 pub returns-then-is_some-clause-on : goal.returns-then-is_some-clause-on
@@ -10,18 +11,16 @@ returns-then-is_some-clause-on g c = stays refl refl
 pub returns-in-Nothing-clause-on : goal.returns-in-Nothing-clause-on
 returns-in-Nothing-clause-on g c =
     idles (after_gone Nothing c.to_line-2.result.now) c.in-Nothing.ensures.gone
-    (none-gone c.to_line-2.result.now Nothing refl)
+    none-gone
 
 pub returns-in-Interrupted-clause-on : goal.returns-in-Interrupted-clause-on
 returns-in-Interrupted-clause-on g c =
     idles (after_gone Interrupted c.to_line-2.result.now) c.in-Interrupted.ensures.gone
-    (none-gone c.to_line-2.result.now Interrupted refl)
+    none-gone
 
 pub returns-in-Ended-clause-on : goal.returns-in-Ended-clause-on
 returns-in-Ended-clause-on g c =
-    rw (sym c.self.view_is)
-    (idles (after_gone (Ended c.in-Ended.why) c.to_line-2.result.now) c.in-Ended.ensures.gone
-    (none-gone c.to_line-2.result.now (Ended c.in-Ended.why) refl))
+    rw (sym c.self.view_is) (downed c.in-Ended.why c.in-Ended.ensures.gone)
 
 pub returns-in-Bytes-clause-on : goal.returns-in-Bytes-clause-on
 returns-in-Bytes-clause-on g c =

@@ -1,7 +1,10 @@
-use Rattle.std.proofs.Common.{refl}
-use Rattle.ddcmp_session.specs.declared.devices.Moved.TheVariants.{Nothing, Interrupted, Ended}
-use Rattle.ddcmp_session.specs.Devices.{after_written}
-use Rattle.ddcmp_session.proofs.GoingLaws.{stays, idles, none-written, output-took}
+use Rattle.std.proofs.Common.{◌≡◌, refl, subst, Bool, Result, Err}
+use Rattle.ddcmp_session.specs.declared.devices.Fault.{Fault}
+use Rattle.ddcmp_session.specs.declared.devices.Fault.TheVariants.{Output}
+use Rattle.ddcmp_session.specs.declared.devices.Moved.TheVariants.{Nothing, Interrupted}
+use Rattle.ddcmp_session.specs.Devices.{after_written, Reports}
+use Rattle.ddcmp_session.proofs.GoingLaws.{stays, idles, none-written, faulted, reported}
+use Rattle.ddcmp_session.proofs.LineGoes.{output-took}
 use Rattle.ddcmp_session.proofs.buffers.passing.write_output.Goals as goal
 
 pub returns-then-is_empty-clause-on : goal.returns-then-is_empty-clause-on
@@ -11,20 +14,26 @@ pub returns-in-Nothing-clause-on : goal.returns-in-Nothing-clause-on
 returns-in-Nothing-clause-on g c =
     λ held.
     idles (after_written Nothing c.to_output-2.result.now) c.in-Nothing.ensures.written
-    (none-written c.to_output-2.result.now Nothing refl)
+    none-written
 
 pub returns-in-Ended-clause-on : goal.returns-in-Ended-clause-on
-returns-in-Ended-clause-on g c =
-    λ held.
-    idles (after_written (Ended c.in-Ended.field-0) c.to_output-2.result.now)
-    c.in-Ended.ensures.written
-    (none-written c.to_output-2.result.now (Ended c.in-Ended.field-0) refl)
+returns-in-Ended-clause-on g c = λ held. faulted Output c.in-Ended.ensures.written
+
+pub returns-in-Ended-clause-reports : goal.returns-in-Ended-clause-reports
+returns-in-Ended-clause-reports g c = λ held fault e.
+    subst
+    (Reports held c.args.session.now (g.D.Devices.traffic c.args.devices.now)
+    (g.D.Devices.traffic c.write_output.new.self)) (same e)
+    (reported Output c.in-Ended.ensures.written)
+  where
+    same : {f : Fault} → ◌≡◌ {A = Result Bool Fault} (Err Output) (Err f) → Output ≡ f
+    same e = cc
 
 pub returns-in-Interrupted-clause-on : goal.returns-in-Interrupted-clause-on
 returns-in-Interrupted-clause-on g c =
     λ held.
     idles (after_written Interrupted c.to_output-2.result.now) c.in-Interrupted.ensures.written
-    (none-written c.to_output-2.result.now Interrupted refl)
+    none-written
 
 pub returns-in-Bytes-clause-on : goal.returns-in-Bytes-clause-on
 returns-in-Bytes-clause-on g c =

@@ -1,5 +1,8 @@
-use Rattle.std.proofs.Common.{refl}
-use Rattle.ddcmp_session.proofs.GoingLaws.{stays, goes-then}
+use Rattle.std.proofs.Common.{◌≡◌, refl, subst, Result, Err}
+use Rattle.ddcmp_session.specs.declared.devices.Fault.{Fault}
+use Rattle.ddcmp_session.specs.declared.devices.Fault.TheVariants.{Input}
+use Rattle.ddcmp_session.specs.Devices.{Reports}
+use Rattle.ddcmp_session.proofs.GoingLaws.{stays, goes-then, waited, reported, reports-then}
 use Rattle.ddcmp_session.proofs.buffers.running.drain_output.Goals as goal
 
 pub loop-write-init : goal.loop-write-init
@@ -31,11 +34,33 @@ returns-then-not-wait-clause-on g c = λ held.
     goes-then (c.loop-write.invariant held)
     (goes-then (c.deliver_all-delivered.ensures.on held _)
     (goes-then (c.write_output.ensures.on held)
-    (goes-then (stays refl c.now-now.ensures) (stays refl c.wait.ensures))))
+    (goes-then (stays refl c.now-now.ensures) (waited c.wait.result c.wait.ensures))))
 
 pub loop-write-preserved : goal.loop-write-preserved
 loop-write-preserved g c = λ held.
     goes-then (c.loop-write.invariant held)
     (goes-then (c.deliver_all-delivered.ensures.on held _)
     (goes-then (c.write_output.ensures.on held)
-    (goes-then (stays refl c.now-now.ensures) (stays refl c.wait.ensures))))
+    (goes-then (stays refl c.now-now.ensures) (waited c.wait.result c.wait.ensures))))
+
+same : {f f' : Fault} → ◌≡◌ {A = Result (Unit {0}) Fault} (Err f) (Err f') → f ≡ f'
+same e = cc
+
+pub returns-in-Err-clause-reports : goal.returns-in-Err-clause-reports
+returns-in-Err-clause-reports g c = λ held fault e untimed.
+    subst
+    (Reports held c.args.session.now (g.D.Devices.traffic c.args.devices.now)
+    (g.D.Devices.traffic c.write_output.new.devices)) (same e)
+    (reports-then (c.loop-write.invariant held)
+    (reports-then (c.deliver_all-delivered.ensures.on held _)
+    (c.in-Err.ensures.reports held c.in-Err.fault refl)))
+
+pub returns-then-not-wait-clause-reports : goal.returns-then-not-wait-clause-reports
+returns-then-not-wait-clause-reports g c = λ held fault e untimed.
+    subst
+    (Reports held c.args.session.now (g.D.Devices.traffic c.args.devices.now)
+    (g.D.Devices.traffic c.wait.new.self)) (same e)
+    (reports-then (c.loop-write.invariant held)
+    (reports-then (c.deliver_all-delivered.ensures.on held _)
+    (reports-then (c.write_output.ensures.on held)
+    (reports-then (stays refl c.now-now.ensures) (reported Input c.if-not-wait.ensures)))))

@@ -1,0 +1,277 @@
+-- How a session goes on by bytes of its input, and by its end.
+use Rattle.std.proofs.Common.{◌≡◌, ◌∙◌, ap, sym, subst, refl, ℕ, ◌==◌, Bool, true}
+use Rattle.std.proofs.Common.{false, List, [], ◌∷◌, ◌++◌, length, take, drop, Option}
+use Rattle.std.proofs.Common.{append_assoc, append-nil}
+use Rattle.std.proofs.lemmas.List.{take-append-drop, nil_from_length}
+use Rattle.ddcmp_frame.proofs.Tests.{eqb-true}
+use Rattle.std.specs.Prelude.{◌&&◌, not, option_to_list}
+use Rattle.ddcmp_input.specs.declared.entry.Entry.{Entry}
+use Rattle.ddcmp_input.specs.declared.entry.Entry.TheVariants as entry
+use Rattle.ddcmp_core.specs.Table.{may_send, after_accept}
+use Rattle.ddcmp_station.specs.Linking.{after_offered, with_state, total_plus, takes_message}
+use Rattle.ddcmp_session.specs.declared.messages.Messages.{Messages}
+use Rattle.ddcmp_session.specs.declared.messages.Messages.TheVariants.{Digits, Binary}
+use Rattle.ddcmp_session.specs.Messages.{message_in, after_input, entries_of_input, after_last}
+use Rattle.ddcmp_session.specs.Messages.{entry_of_last, is_message_unfinished}
+use Rattle.ddcmp_session.specs.Session.{after_entry, after_entries, after_typed, after_unfinished}
+use Rattle.ddcmp_session.proofs.InputLaws.{form-stays}
+use Rattle.std.proofs.Common.{cond}
+use Rattle.ddcmp_frame.specs.Reader.{StandsFor}
+use Rattle.ddcmp_io.specs.declared.device.Got.TheVariants as got
+use Rattle.ddcmp_station.specs.Linking.{LinkView}
+use Rattle.ddcmp_session.specs.Session.{SessionView, form_of, wants_input, after_input_end}
+use Rattle.ddcmp_session.specs.Calls.{Typed, InputEnded}
+use Rattle.ddcmp_session.specs.Calls.{HasTyped}
+use Rattle.ddcmp_session.specs.Calls.{SessionHistory, end_in}
+use Rattle.ddcmp_session.specs.Calls.{input_in}
+use Rattle.ddcmp_session.specs.Devices.{Traffic, BuffersView, Agrees, GoesOn, Becomes}
+use Rattle.ddcmp_session.specs.Devices.{after_read}
+use Rattle.ddcmp_session.specs.Devices.{end_of}
+use Rattle.ddcmp_session.proofs.GoingLaws.{none-went, one-went, nothing-more, same-at}
+
+none-ended : (s : SessionView) → s.is_read ≡ false → end_of s ≡ []
+none-ended s e = ap (λ b. cond b (end_in (form_of s.messages)) []) e
+
+-- bytes were read of the input
+pub input-came : {held : BuffersView} {s : SessionView} {k k' : Option Traffic} (n : ℕ)
+    (space : List ℕ) (over : Bool) → held.input ≡ [] → held.is_over ≡ false
+    → Becomes k k' (after_read (got.Bytes n) space) → over ≡ (n == 0)
+    → GoesOn held s k (record held { input = take n space; is_over = over }) s k'
+input-came {held} {s} {k} {k'} n space over empty goes becomes ends = λ h t is was a.
+    let unread = not-read h a in (
+      after_read (got.Bytes n) space t,
+      becomes t was,
+      none-went h s (record held { input = take n space; is_over = over })
+          (after_read (got.Bytes n) space t) is
+          (record {
+            read =
+                ap (λ xs. (t.read ++ take n space) ++ xs) (none-ended h.session unread)
+                ∙ append-nil (t.read ++ take n space)
+                ∙ ap (λ xs. xs ++ take n space)
+                (nothing-more (none-ended h.session unread) ∙ a.read
+                ∙ ap (λ xs. h.input ++ xs) empty ∙ append-nil h.input);
+            over = ends;
+            told = λ e. absurd (sym unread ∙ e);
+            came = a.came;
+            gone = a.gone;
+            written = a.written;
+            down = a.down;
+            stands = a.stands;
+          }),
+    )
+  where
+    absurd : false ≡ true → over ≡ true
+    absurd e = cc
+
+    not-read : (h : SessionHistory) {t : Traffic} → Agrees held h t → h.session.is_read ≡ false
+    not-read h a = by h.session.is_read a.told
+      where
+        by : (b : Bool) → (b ≡ true → held.is_over ≡ true) → b ≡ false
+        by true told = let bad : true ≡ false = sym (told refl) ∙ goes in cc
+        by false told = refl
+
+-- a call of `typed` took bytes
+pub typed-goes : {held : BuffersView} {known : Option Traffic} (old new : SessionView) (n : ℕ)
+    → HasTyped (take n held.input) old new → end_of new ≡ end_of old → new.is_read ≡ old.is_read
+    → new.link.station.line ≡ old.link.station.line
+    → GoesOn held old known (record held { input = drop n held.input }) new known
+typed-goes {held} {known} old new n does ends reads line = λ h t is was a.
+    let used = take n held.input in
+    let to : SessionHistory = record h { session = old } in (
+      t,
+      was,
+      one-went (Typed used) h new (record held { input = drop n held.input }) t tt
+          (subst (λ (x : SessionView). HasTyped used x new) (sym is) does)
+          (record {
+            read =
+                ap (λ xs. t.read ++ xs) (ends ∙ sym (same-at end_of h.session old is))
+                ∙ a.read
+                ∙ ap (λ xs. h.input ++ xs) (sym (take-append-drop n held.input))
+                ∙ sym (append_assoc h.input used (drop n held.input));
+            over = a.over;
+            told = λ e. a.told (same-at (λ x. x.is_read) h.session old is ∙ sym reads ∙ e);
+            came = a.came ∙ ap (λ xs. xs ++ held.received) (sym (append-nil h.used));
+            gone = a.gone ∙ sym (append-nil h.gone);
+            written = a.written ∙ sym (append-nil h.written);
+            down = a.down;
+            stands =
+                subst (λ l. StandsFor l (h.used ++ []))
+                (same-at (λ x. x.link.station.line) h.session old is ∙ sym line)
+                (subst (StandsFor h.session.link.station.line) (sym (append-nil h.used))
+                a.stands);
+          }),
+    )
+
+-- a session that wants input was told of its end
+pub ended-goes : {held : BuffersView} {known : Option Traffic} (old new : SessionView)
+    → new ≡ after_input_end old → wants_input old ≡ true → old.is_read ≡ false
+    → held.input ≡ [] → held.is_over ≡ true
+    → end_of new ≡ end_in (form_of old.messages)
+    → new.link.station.line ≡ old.link.station.line
+    → GoesOn held old known held new known
+ended-goes {held} {known} old new does wants unread empty over ends line = λ h t is was a. (
+  t,
+  was,
+  one-went InputEnded h new held t tt
+      (subst (λ (x : SessionView). new ≡ after_input_end x) (sym is) does)
+      (record {
+        read =
+            ap (λ xs. t.read ++ xs) ends
+            ∙ ap (λ xs. xs ++ end_in (form_of old.messages))
+            (nothing-more (same-at end_of h.session old is ∙ none-ended old unread) ∙ a.read
+            ∙ ap (λ xs. h.input ++ xs) empty ∙ append-nil h.input)
+            ∙ ap (λ xs. h.input ++ xs)
+            (sym (same-at (input_in InputEnded) h.session old is
+            ∙ ap (λ b. cond b (end_in (form_of old.messages)) []) wants))
+            ∙ nothing-more empty;
+        over = a.over;
+        told = λ e. over;
+        came = a.came ∙ ap (λ xs. xs ++ held.received) (sym (append-nil h.used));
+        gone = a.gone ∙ sym (append-nil h.gone);
+        written = a.written ∙ sym (append-nil h.written);
+        down = a.down;
+        stands =
+            subst (λ l. StandsFor l (h.used ++ []))
+            (same-at (λ x. x.link.station.line) h.session old is ∙ sym line)
+            (subst (StandsFor h.session.link.station.line) (sym (append-nil h.used))
+            a.stands);
+      }),
+)
+
+-- ---- what stays
+
+offered-line : (message : List ℕ) (d : LinkView)
+    → (after_offered message d).station.line ≡ d.station.line
+offered-line message d = by (may_send d.station.core.limits d.station.core.station message)
+  where
+    by : (b : Bool)
+        → (cond b
+        (record (with_state (after_accept d.station.core.station message) d)
+        { totals = record d.totals { sent = total_plus d.totals.sent 1 } }) d).station.line
+        ≡ d.station.line
+    by true = refl
+    by false = refl
+
+entry-line : (e : Entry) (s : SessionView)
+    → (after_entry e s).link.station.line ≡ s.link.station.line
+entry-line entry.Message s = offered-line (message_in s.messages) s.link
+entry-line entry.NotHexadecimal s = refl
+entry-line entry.TooLong s = refl
+entry-line entry.Empty s = refl
+
+entry-read : (e : Entry) (s : SessionView) → (after_entry e s).is_read ≡ s.is_read
+entry-read entry.Message s = refl
+entry-read entry.NotHexadecimal s = refl
+entry-read entry.TooLong s = refl
+entry-read entry.Empty s = refl
+
+entry-messages : (e : Entry) (s : SessionView) → (after_entry e s).messages ≡ s.messages
+entry-messages entry.Message s = refl
+entry-messages entry.NotHexadecimal s = refl
+entry-messages entry.TooLong s = refl
+entry-messages entry.Empty s = refl
+
+entries-line : (es : List Entry) (s : SessionView)
+    → (after_entries es s).link.station.line ≡ s.link.station.line
+entries-line [] s = refl
+entries-line (e ∷ rest) s = entry-line e s
+
+entries-read : (es : List Entry) (s : SessionView) → (after_entries es s).is_read ≡ s.is_read
+entries-read [] s = refl
+entries-read (e ∷ rest) s = entry-read e s
+
+entries-messages : (es : List Entry) (s : SessionView)
+    → (after_entries es s).messages ≡ s.messages
+entries-messages [] s = refl
+entries-messages (e ∷ rest) s = entry-messages e s
+
+ends-by : (s s' : SessionView) → s'.is_read ≡ s.is_read
+    → form_of s'.messages ≡ form_of s.messages → end_of s' ≡ end_of s
+ends-by s s' reads form =
+    ap (λ b. cond b (end_in (form_of s'.messages)) []) reads
+    ∙ ap (λ f. cond s.is_read (end_in f) []) form
+
+-- a call of `typed` took the first bytes of those that are held
+pub types : {held : BuffersView} {known : Option Traffic} (old new : SessionView) (n : ℕ)
+    → HasTyped (take n held.input) old new
+    → GoesOn held old known (record held { input = drop n held.input }) new known
+types {held} {known} old new n does =
+    let used = take n held.input in
+    let es = entries_of_input used old.messages in
+    let s = record old { messages = after_input used old.messages } in
+    let reads =
+    same-at (λ x. x.is_read) new (after_typed used old) does.state ∙ entries-read es s in
+    typed-goes old new n does
+    (ends-by old new reads
+    (same-at (λ x. form_of x.messages) new (after_typed used old) does.state
+    ∙ ap form_of (entries-messages es s) ∙ form-stays used old.messages))
+    reads
+    (same-at (λ x. x.link.station.line) new (after_typed used old) does.state ∙ entries-line es s)
+
+-- the end of the input
+last-form : (m : Messages) → form_of (after_last m) ≡ form_of m
+last-form (Digits v) = refl
+last-form (Binary v) = refl
+
+unfinished-line : (s : SessionView) → (after_unfinished s).link.station.line ≡ s.link.station.line
+unfinished-line s = by (is_message_unfinished s.messages)
+  where
+    by : (b : Bool)
+        → (cond b (record s { was_refused = true }) s).link.station.line ≡ s.link.station.line
+    by true = refl
+    by false = refl
+
+unfinished-end : (s : SessionView) → end_of (after_unfinished s) ≡ end_of s
+unfinished-end s = by (is_message_unfinished s.messages)
+  where
+    by : (b : Bool) → end_of (cond b (record s { was_refused = true }) s) ≡ end_of s
+    by true = refl
+    by false = refl
+
+pub ends : {held : BuffersView} {known : Option Traffic} (old new : SessionView)
+    → new ≡ after_input_end old → wants_input old ≡ true
+    → held.input ≡ [] → held.is_over ≡ true
+    → GoesOn held old known held new known
+ends {held} {known} old new does wants empty over =
+    let es = option_to_list (entry_of_last old.messages) in
+    let s = record old { messages = after_last old.messages; is_read = true } in
+    let to = after_unfinished (after_entries es s) in
+    let done = does ∙ ap (λ b. cond b to old) wants in
+    ended-goes old new does wants (unread old.is_read wants) empty over
+    (same-at end_of new to done ∙ unfinished-end (after_entries es s)
+    ∙ ends-by s (after_entries es s) (entries-read es s) (ap form_of (entries-messages es s))
+    ∙ ap end_in (last-form old.messages))
+    (same-at (λ x. x.link.station.line) new to done
+    ∙ unfinished-line (after_entries es s) ∙ entries-line es s)
+  where
+    unread : (b : Bool) → not b && takes_message old.link ≡ true → b ≡ false
+    unread true e = cc
+    unread false e = refl
+
+-- the same of bytes that are those held
+pub types-held : {held : BuffersView} {known : Option Traffic} (old new : SessionView) (n : ℕ)
+    (bytes rest : List ℕ) → bytes ≡ held.input → rest ≡ drop n held.input
+    → HasTyped (take n bytes) old new
+    → GoesOn held old known (record held { input = rest }) new known
+types-held {held} {known} old new n bytes rest same left does =
+    subst (λ xs. GoesOn held old known (record held { input = xs }) new known) (sym left)
+    (types old new n (subst (λ xs. HasTyped (take n xs) old new) same does))
+
+-- bytes of the input, or none, are held now
+pub input-given : {held : BuffersView} {s : SessionView} {k k' : Option Traffic} (n : ℕ)
+    (space input : List ℕ) (over : Bool) → held.input ≡ [] → held.is_over ≡ false
+    → input ≡ take n space → Becomes k k' (after_read (got.Bytes n) space)
+    → over ≡ (n == 0)
+    → GoesOn held s k (record held { input = input; is_over = over }) s k'
+input-given {held} {s} {k} {k'} n space input over empty goes is becomes ends =
+    subst (λ xs. GoesOn held s k (record held { input = xs; is_over = over }) s k') (sym is)
+    (input-came n space over empty goes becomes ends)
+
+pub no-input : {held : BuffersView} {s : SessionView} {k k' : Option Traffic} (input : List ℕ)
+    → held.input ≡ [] → input ≡ [] → GoesOn held s k held s k'
+    → GoesOn held s k (record held { input = input }) s k'
+no-input {held} {s} {k} {k'} input empty none goes =
+    subst (λ xs. GoesOn held s k (record held { input = xs }) s k') (empty ∙ sym none) goes
+
+pub none-left : (xs : List ℕ) → true ≡ (length xs == 0) → xs ≡ []
+none-left xs e = nil_from_length xs (eqb-true (length xs) 0 (sym e))
