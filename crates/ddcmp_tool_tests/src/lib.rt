@@ -29,3 +29,5 @@ mod sizes;
 mod streams;
 #[cfg(test)]
 mod texts;
+#[cfg(test)]
+mod told;

@@ -1,4 +1,6 @@
 //! The loop of a session over devices in memory, which give and take what they like at a time.
+ghost use Rattle.std.specs.Prelude.{◌≤◌, length};
+
 use crate::sessions::{append, messages, options, session};
 use ddcmp_io::Got;
 use ddcmp_session::{Buffers, Devices, End, Moved, Session, Wanted, drain_output};
@@ -18,9 +20,12 @@ impl Way {
     }
 
     /// Gives some of its bytes to the front of `space`.
-    fn give(&mut self, most: usize, space: &mut [u8]) -> usize {
-        let n = self.rest().len().min(most).min(space.len());
-        space[..n].copy_from_slice(&self.rest()[..n]);
+    fn give(&mut self, most: usize, space: &mut [u8]) -> usize
+        ensures { result ≤ length space.new }
+    {
+        let rest = self.rest();
+        let n = rest.len().min(most).min(space.len());
+        space[..n].copy_from_slice(&rest[..n]);
         self.at = self.at.saturating_add(n);
         n
     }
@@ -105,7 +110,8 @@ impl Devices for Desk {
     fn read_line(&mut self, space: &mut [u8]) -> Moved {
         let most = self.draws.below(900);
         match self.from_line.give(most, space) {
-            0 => moved(&mut self.draws, 0),
+            0 if self.draws.below(2) == 0 => Moved::Interrupted,
+            0 => Moved::Nothing,
             n => Moved::Bytes(n),
         }
     }
