@@ -1,4 +1,4 @@
--- Where no message is kept, all that was accepted was told acknowledged, and so was handed up.
+-- If no message is kept, all that was accepted was reported acknowledged, and so was delivered.
 use Rattle.std.proofs.Common.{◌≡◌, ℕ, ◌≤◌, Bool, true, false, List, [], ◌∷◌, ◌++◌, length, refl}
 use Rattle.std.proofs.Common.{sym, ◌∙◌, ap, subst, arith, length-append, append-nil, None}
 use Rattle.std.specs.Prelude.{◌&&◌, ◌==◌}

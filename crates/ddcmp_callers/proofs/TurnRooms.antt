@@ -1,4 +1,4 @@
--- Each turn hands up all mail, so there is room whenever bytes are read.
+-- Each turn delivers all mail, so there is room whenever bytes are read.
 use Rattle.std.proofs.Common.{◌≡◌, ℕ, ◌+◌, ◌*◌, ◌≤◌, Bool, true, false, cond, List, [], ◌∷◌, ◌++◌}
 use Rattle.std.proofs.Common.{length, zero, suc, replicate, refl, sym, ◌∙◌, ap, subst, arith, None}
 use Rattle.std.specs.Prelude.{◌&&◌, nat_lt, max}

@@ -13,7 +13,7 @@ use Rattle.ddcmp_core.specs.Table.{on, after_halt, after_restart, may_restart, t
 use Rattle.ddcmp_core.specs.Table.{newly_acknowledged, acknowledged_notice, notice_by, notice_of}
 use Rattle.ddcmp_core.specs.Laws.{tells_restart, is_fault}
 
--- ---- what is told
+-- ---- what is reported
 
 abbrev pub TellsRestart : Option Notice → Type 0
 TellsRestart None = ⊥

@@ -1,4 +1,4 @@
--- What is told acknowledged.
+-- What is reported acknowledged.
 use Rattle.std.proofs.Common.{◌≡◌, ℕ, ◌+◌, ◌<◌, ◌≤◌, Bool, true, false, cond, List, length, drop}
 use Rattle.std.proofs.Common.{refl, sym, ◌∙◌, ap, arith, length-drop, subst, Some, None}
 use Rattle.std.specs.Prelude.{◌==◌}

@@ -102,7 +102,7 @@ window_acknowledging o q hq h = by (is_within o.a q o.n) refl
         window_by o q (distance o.a q) (distance o.a q == 0) refl hq (inr refl) (grind (arith)) h
     by false e = window_same o q h
 
--- all that is kept is to be sent again
+-- all that is kept is to be retransmitted
 pub window_again : (o : Outgoing) → IsInWindow o → IsInWindow (record o { t = next_number o.a })
 window_again o h = record {
   a_byte = h.a_byte;

@@ -1,4 +1,4 @@
--- The reading of whole frames, behind fill and behind discarded.
+-- The reading of whole frames, after fill and after discarded.
 use Rattle.std.proofs.Common.{◌≡◌, ℕ, zero, suc, ◌+◌, ◌<◌, ◌≤◌, Bool, true, false, List, [], ◌∷◌}
 use Rattle.std.proofs.Common.{◌++◌, length, take, drop, slice_index, refl, sym, ◌∙◌, ap, subst}
 use Rattle.std.proofs.Common.{arith, Ok, Err, Some, None, Option, inl, inr, append_assoc}
@@ -135,7 +135,7 @@ unfinished-row max o lost h d v b r f fits is = by_kind (count_of h) refl
             ∙ ap (λ x. by_length (next_place o lost v) h n x false) (ltb-isnt max n (omega arith))
             ∙ when (nat_lt (length v) (n + 10)) None _ (ltb-is (length v) (n + 10) (omega arith))
 
--- ---- behind fill
+-- ---- after fill
 
 fill-read : (max n o : ℕ) (lost : Bool) (w : List ℕ)
     → read max (next_place o lost (replicate n 150 ++ w)) ≡ read max (next_place (o + n) lost w)
@@ -193,7 +193,7 @@ whole-closed max text d n h none r f fits =
     ap (λ p. length p.rest) (ending-more max text (replicate n 150 ++ wire h d))
     ∙ ap (λ o. length o.place.rest) (closed-read max text d n h none r f fits)
 
--- ---- behind discarded
+-- ---- after discarded
 
 -- the reading of discarded gives at most one item
 record JunkRead (max o : ℕ) (lost : Bool) (discarded w : List ℕ) : Type 0 where
@@ -310,7 +310,7 @@ none-shorter discarded v b l free = λ i below start right.
     (omega (arith, length-drop i (discarded ++ v))) in
     free i below start (subst HasCheck (sym e) right)
 
--- before the last byte of a frame behind discarded, and after it
+-- before the last byte of a frame after discarded, and after it
 pub record Resumes (max : ℕ) (text discarded d : List ℕ) (b : ℕ) (h : Header) : Type 0 where
   pub few : AtMostALoss (items max text)
   pub found : items max (text ++ b ∷ []) ≡ items max text ++ (Good (length discarded) h, d) ∷ []
@@ -325,7 +325,7 @@ completes max text d v b o lost h ends is r f fits =
     ∙ ap (λ x. items max text ++ (read max (next_place o lost x)).items) (sym is)
     ∙ ap (λ x. items max text ++ x.items) (frame-read max o lost h d r f fits)
 
--- what was given before it, behind discarded
+-- what was given before it, after discarded
 record Before (max : ℕ) (text discarded v : List ℕ) : Type 0 where
   few : AtMostALoss (items max text)
   lost : Bool

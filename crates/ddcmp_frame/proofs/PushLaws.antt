@@ -265,7 +265,7 @@ holding v text s none =
           ]
         ]
 
--- the byte was put behind the bytes held
+-- the byte was put after the bytes held
 pub record Stored (v : ReaderView) (b : ℕ) (text u : List ℕ) (at : ℕ) : Type 0 where
   pub stands : StandsFor v text
   pub none : v.left ≡ 0
@@ -391,7 +391,7 @@ candidate v b u is stuck full other =
 pub ok-err : {h : Header} {f : HeaderFault} → ◌≡◌ {A = Result Header HeaderFault} (Ok h) (Err f) → ⊥
 ok-err e = cc
 
--- behind a failed candidate there is no room for a whole one: reading passes on to the next start
+-- after a failed candidate there is no room for a whole one: reading passes on to the next start
 -- byte
 pub record Passed (max o : ℕ) (before : Bool) (t u : List ℕ) : Type 0 where
   pub items : (read max (next_place o before t)).items ≡ []

@@ -303,7 +303,7 @@ pub record Counts (t : List ℕ) : Type 0 where
   pub is : parsed (take 8 t) ≡ Ok header
   pub counted : count_of header ≡ Some count
 
--- an unfinished frame behind such a header
+-- an unfinished frame after such a header
 pub record Waits (max : ℕ) (p : Place) (k : Counts p.rest) : Type 0 where
   pub short : length p.rest < k.count + 10
   pub within : p.told ≡ false → k.count ≤ max
@@ -373,7 +373,7 @@ row-stuck max p e = stuck p.rest refl e
           | inr other ↦ absurd (some-none other.1)
         ]
 
--- ---- a frame that was told to be too long
+-- ---- a frame that was reported to be too long
 
 pub record IsTooLong (max : ℕ) (t : List ℕ) : Type 0 where
   pub counts : Counts t

@@ -198,7 +198,7 @@ passes-all v w text u some last a s =
 
 -- ---- the bytes held and more
 
--- bytes were put behind those held
+-- bytes were put after those held
 pub record More (v : ReaderView) (u x : List ℕ) (at : ℕ) : Type 0 where
   pub none : v.left ≡ 0
   pub bytes : x ≡ v.bytes ++ u
@@ -276,7 +276,7 @@ junk-read max o lost (suc n) (b ∷ t) few other =
     ∙ junk-read max (o + 1) lost n t (omega arith) (λ i below. other (suc i) (omega arith))
     ∙ ap (λ k. read max (next_place k lost (drop n t))) (one-further o n)
 
--- bytes that begin nothing are passed over, up to what is held then
+-- bytes that begin nothing are skipped, up to what is held then
 pub seeks : (v w : ReaderView) (text u : List ℕ) (n : ℕ) → v.bytes ≡ [] → v.left ≡ 0 → n ≤ length u
     → ((i : ℕ) → i < n → is_start (slice_index u i) ≡ false)
     → row v.max (next_place (v.offset + n) v.lost (drop n u)) ≡ None
@@ -324,7 +324,7 @@ gives v w text u x at item n m fits all quiet wired a s =
           (record { lost = a.lost; bytes = a.bytes ∙ sym z; skipped = a.skipped; left = a.left });
     }) (quiet-at v text u x at m s quiet) (wired (text ++ u) (ends-at v text u x at m s))
 
--- a candidate whose check is wrong: what is left of it is passed over up to the next start byte
+-- a candidate whose check is wrong: what is left of it is skipped up to the next start byte
 pub fails : (v w : ReaderView) (text u x : List ℕ) (at : ℕ) (given : Option Item) → More v u x at
     → length x ≡ 8 → is_start (slice_index x 0) ≡ true → parsed (take 8 x) ≡ Err Check
     → LossTold at v.lost given → Quiet v u at → w.lent ≡ []

@@ -67,7 +67,7 @@ abbrev pub by_count : ℕ → Place → Header → Option ℕ → Option (List R
 by_count max p h None = Some ((Good p.offset h, []) ∷ [], place_after 8 false p)
 by_count max p h (Some n) = by_length p h n (nat_lt max n) p.told
 
--- What the first eight bytes are decides. Where their check is wrong the start byte alone is
+-- What the first eight bytes are decides. If their check is wrong the start byte alone is
 -- given up, and the loss of synchronism is reported once.
 abbrev pub by_verdict : ℕ → Place → Result Header HeaderFault → Option (List ReadItem × Place)
 by_verdict max p (Err NotAStart) = Some ([], place_after 1 p.lost p)

@@ -38,7 +38,7 @@ HoldsBy true start sink waiting text = AppendsPart start sink text
 abbrev pub Holds : Known → List ℕ → Output → Type 0
 Holds start text at = HoldsBy at.broken start at.sink at.waiting text
 
--- A text was handed over: it is held after whatever text was held.
+-- A text was passed on: it is held after whatever text was held.
 pub record HandsOver (old new : Output) (text : List ℕ) : Type 0 where
   pub holds : (start : Known) (before : List ℕ)
       → Holds start before old → Holds start (before ++ text) new

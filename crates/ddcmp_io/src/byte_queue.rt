@@ -1,4 +1,4 @@
-//! Bytes on their way to a device.
+//! Bytes in flight to a device.
 ghost use Rattle.std.specs.Prelude.{◌≡◌, ◌+◌, ◌≤◌, [], IfOk, length};
 ghost use Rattle.ddcmp_io.specs.Queue.{no_bytes, after_pushed, after_taken, after_taken_back};
 ghost use Rattle.ddcmp_io.specs.Queue.{cleared, room_settled};

@@ -1,4 +1,4 @@
--- What a station does, as its numbers without bound show it: it sends, its timer runs out, its user
+-- What a station does, as its numbers without bound show it: it sends, its timer expires, its user
 -- takes and gives.
 use Rattle.std.proofs.Common.{◌≡◌, ◌≢◌, ◌⊎◌, inl, inr, ℕ, ◌+◌, ◌-◌, ◌%◌, ◌<◌, Bool, true, false}
 use Rattle.std.proofs.Common.{cond, List, [], ◌∷◌, ◌++◌, length, refl, sym, ap, ◌∙◌, subst, arith}
@@ -111,7 +111,7 @@ module _ (x : Face) (awake : x.station.state ≢ Halted) (trains : x.station.sta
   acts-as _ (running_idles e r f place) = i_runs e r f (let n = left in omega (arith, place, n))
   acts-as _ (maintenance_idles e r) = absurd (trains e)
 
--- ---- its timer runs out
+-- ---- its timer expires
 
 pub record ExpiresAs (x x' : Face) : Type 0 where
   pub expires : Expires (sight x) (sight x')

@@ -190,7 +190,7 @@ accepting : (s : StationState) (message : List ℕ) (b : Bool) → s.state ≡ M
 accepting s message true e = e
 accepting s message false e = e
 
--- what is accepted stands behind what is to be sent
+-- what is accepted stands after what is to be sent
 behind : (l : Limits) (rest : List Call) (s : StationState) (message : List ℕ) (b : Bool)
     (r : SendsInOrder l rest (cond b (after_accept s message) s))
     → r.messages ++ (after_calls l rest (cond b (after_accept s message) s)).out

@@ -250,7 +250,7 @@ all_heard (f ∷ mid) rest x y fs c v early room =
           (heard mid (hearing x (Good f))).station s.1 r.1,
     )
 
--- ---- an end, and the frames on their way
+-- ---- an end, and the frames in flight
 
 record IsUnused (s : StationState) (starts : ℕ) : Type 0 where
   starts_is : starts ≡ 0

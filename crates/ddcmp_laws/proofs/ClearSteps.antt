@@ -1,4 +1,4 @@
--- One station on a clear line: it owes no NAK, and T is the number behind N.
+-- One station on a clear line: it owes no NAK, and T is the number after N.
 use Rattle.std.proofs.Common.{◌≡◌, ◌≢◌, ◌⊎◌, inl, inr, ℕ, suc, ◌+◌, ◌-◌, ◌%◌, ◌<◌, ◌≤◌, Bool, true}
 use Rattle.std.proofs.Common.{false, cond, List, [], ◌∷◌, ◌++◌, map, length, drop, refl, sym, ap}
 use Rattle.std.proofs.Common.{◌∙◌, subst, arith, append-nil}
@@ -31,7 +31,7 @@ use Rattle.ddcmp_run.proofs.Arrivals.{seen}
 use Rattle.ddcmp_laws.specs.Counted.{is_nak}
 use Rattle.ddcmp_laws.specs.Positions.{messages_in}
 
--- ---- frames on their way
+-- ---- frames in flight
 
 -- Data and REPs have the numbers that they are to have, where r is received when the first of these
 -- frames comes, and n when all have come.
@@ -441,7 +441,7 @@ polls s _ (starting_idles p d) other w few h = polls_idle s h
 polls s _ (running_idles p r f room) other w few h = polls_idle s h
 polls s _ (maintenance_idles p o) other w few h = polls_idle s h
 
--- ---- the timer runs out
+-- ---- the timer expires
 
 pub record Expires (s : StationState) : Type 0 where
   pub due : Bool

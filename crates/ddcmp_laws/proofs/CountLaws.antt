@@ -44,7 +44,7 @@ use Rattle.ddcmp_laws.specs.Counted.{HasCounted}
 
 -- ---- what comes
 
--- The counters of what is sent stay. One message more is counted handed up exactly where the inbox
+-- The counters of what is sent stay. One message more is counted delivered exactly where the inbox
 -- has one more.
 record Counts (s : StationState) (c : Counters) (u : StationState) (d : Counters) : Type 0 where
   naks : d.nak_sent ≡ c.nak_sent

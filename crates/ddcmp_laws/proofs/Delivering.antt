@@ -1,4 +1,4 @@
--- Two ends on a line that loses nothing, with the frames on their way as their numbers show them.
+-- Two ends on a line that loses nothing, with the frames in flight as their numbers show them.
 use Rattle.std.proofs.Common.{◌≡◌, ℕ, ◌+◌, ◌<◌, ◌≤◌, Bool, true, false, cond, List, [], ◌∷◌, ◌++◌}
 use Rattle.std.proofs.Common.{length, drop, Option, Some, None, refl, sym, ap, ◌∙◌, subst, arith}
 use Rattle.std.proofs.Common.{append-nil}
@@ -84,7 +84,7 @@ both-turned x y fl gl h =
 
 module _ (Knows : Bool → Bool → View → View → List Flight → List Flight → Type 0)
     (stays : Stays Knows) where
-  -- here are the bytes on their way to x, there those to y
+  -- here are the bytes in flight to x, there those to y
   pub record Flies (p q : Bool) (x y : EndState) (here there : List ℕ) : Type 0 where
     pub fl : List Flight
     pub gl : List Flight

@@ -129,7 +129,7 @@ front_of (f ∷ fs) gs [] s = s
 front_of (f ∷ fs) gs (g ∷ sent) (inl s) = inl (s.0, front_of fs gs sent s.1)
 front_of (f ∷ fs) gs (g ∷ sent) (inr s) = inr (front_of (f ∷ fs) gs sent s)
 
--- frames behind a text add items that are in range, and whose good frames are some of them
+-- frames after a text add items that are in range, and whose good frames are some of them
 record Reads (l : Limits) (text more : List ℕ) (frames : List WholeFrame) : Type 0 where
   added : List ReadItem
   items_are : items l.longest (text ++ more) ≡ items l.longest text ++ added

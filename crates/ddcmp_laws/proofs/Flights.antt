@@ -1,11 +1,11 @@
--- Frames on their way from one end to the other, in their order, by numbers that have no bound.
+-- Frames in flight from one end to the other, in their order, by numbers that have no bound.
 use Rattle.std.proofs.Common.{◌≡◌, ◌≢◌, ◌⊎◌, inl, inr, ℕ, ◌+◌, ◌%◌, ◌<◌, ◌≤◌, max, Bool, true}
 use Rattle.std.proofs.Common.{false, cond, List, [], ◌∷◌, ◌++◌, refl, arith}
 use Rattle.std.specs.Prelude.{◌==◌}
 use Rattle.ddcmp_frame.specs.declared.nak.Nak.{Nak as Reason}
 use Rattle.ddcmp_core.specs.Table.{Frame, Data, Acked, Naked, Rep, Strt, Stack}
 
--- q: how many messages are handed up where it was sent; k: the position of a message; n: the
+-- q: how many messages are delivered where it was sent; k: the position of a message; n: the
 -- highest position sent
 pub data Flight : Type 0 where
   data_flies : (q k : ℕ) → List ℕ → Flight
@@ -53,7 +53,7 @@ Uncounted (f ∷ fs) = (tells_count f ≡ false) × Uncounted fs
 
 -- ---- positions
 
--- what is handed up once it came, where there is room
+-- what is delivered once it came, where there is room
 abbrev pub moved : Flight → ℕ → ℕ
 moved (data_flies q k m) u = cond (k == u + 1) k u
 moved _ u = u
@@ -62,12 +62,12 @@ unfoldable pub reach : ℕ → List Flight → ℕ
 reach u [] = u
 reach u (f ∷ fs) = reach (moved f u) fs
 
--- at most this may be handed up once it came
+-- at most this may be delivered once it came
 abbrev pub raised : Flight → ℕ → ℕ
 raised (data_flies q k m) most = max most k
 raised _ most = most
 
--- a position is less than a window behind what may be handed up then, and was sent; a REP tells no
+-- a position is less than a window behind what may be delivered then, and was sent; a REP tells no
 -- less than that
 abbrev pub IsNear : ℕ → ℕ → ℕ → Flight → Type 0
 IsNear w n most (data_flies q k m) = (most < k + w) × (k ≤ n)
@@ -78,7 +78,7 @@ unfoldable pub Near : ℕ → ℕ → ℕ → List Flight → Type 0
 Near w n most [] = most ≤ n
 Near w n most (f ∷ fs) = IsNear w n most f × Near w n (raised f most) fs
 
--- Where a message that comes is handed up, or a REP tells that all is, what was sent after it leads
+-- If a message that comes is delivered, or a REP tells that all is, what was sent after it leads
 -- on to the next one to send.
 abbrev pub LeadsOn : ℕ → ℕ → Flight → List Flight → Type 0
 LeadsOn u next (data_flies q k m) fs = u < k → next ≤ reach k fs + 1
@@ -122,7 +122,7 @@ unfoldable pub Has : (Flight → Bool) → List Flight → Type 0
 Has p [] = ⊥
 Has p (f ∷ fs) = (p f ≡ true) ⊎ Has p fs
 
--- no STRT behind another frame
+-- no STRT after another frame
 unfoldable pub StrtsFirst : List Flight → Type 0
 StrtsFirst [] = Unit {0}
 StrtsFirst (f ∷ fs) = ((is_strt_flight f ≡ true) ⊎ Each is_strt_flight false fs) × StrtsFirst fs
@@ -159,7 +159,7 @@ reach-grows u [] = omega arith
 reach-grows u (f ∷ fs) =
     let m = moved-grows f u in let r = reach-grows (moved f u) fs in omega (arith, m, r)
 
--- a frame that carries what is handed up, or no count
+-- a frame that carries what is delivered, or no count
 pub rises-behind : (low high : ℕ) (fs : List Flight) (f : Flight) → Rises low high fs
     → ((tells_count f ≡ false) ⊎ (told f high ≡ high)) → Rises low high (fs ++ f ∷ [])
 unfolding Rises
@@ -186,7 +186,7 @@ rises-ends low high [] r = r
 rises-ends low high (f ∷ fs) r =
     let a = r.0 in let b = rises-ends (told f low) high fs r.1 in omega (arith, a, b)
 
--- the first count lies between what is acknowledged and what is handed up
+-- the first count lies between what is acknowledged and what is delivered
 pub rises-first : (low high : ℕ) (f : Flight) (fs : List Flight) → Rises low high (f ∷ fs)
     → (low ≤ told f low) × (told f low ≤ high) × Rises (told f low) high fs
 unfolding Rises
@@ -238,7 +238,7 @@ near-ends w n most (rep_flies k ∷ fs) r = near-ends w n most fs r.1
 near-ends w n most (strt_flies ∷ fs) r = near-ends w n most fs r.1
 near-ends w n most (stack_flies ∷ fs) r = near-ends w n most fs r.1
 
--- less may be handed up, and more is sent
+-- less may be delivered, and more is sent
 pub near-less : (w n n' most less : ℕ) (fs : List Flight) → n ≤ n' → less ≤ most → Near w n most fs
     → Near w n' less fs
 unfolding Near
@@ -302,7 +302,7 @@ near-first w n most (rep_flies k) fs r = r
 near-first w n most strt_flies fs r = r
 near-first w n most stack_flies fs r = r
 
--- the position that comes is handed up
+-- the position that comes is delivered
 pub near-up : (w n most q k : ℕ) (m : List ℕ) (fs : List Flight)
     → Near w n most (data_flies q k m ∷ fs) → Near w n k fs
 unfolding Near
@@ -432,7 +432,7 @@ chained-other u next (nak_flies why q ∷ fs) f t c = (tt, chained-other u next 
 chained-other u next (strt_flies ∷ fs) f t c = (tt, chained-other u next fs f t c.1)
 chained-other u next (stack_flies ∷ fs) f t c = (tt, chained-other u next fs f t c.1)
 
--- more is handed up, and the next one to send is at most the one behind that
+-- more is delivered, and the next one to send is at most the one after that
 pub chained-moves : (u u' next next' : ℕ) (fs : List Flight) → u ≤ u' → next' ≤ max next (u' + 1)
     → Chained u next fs → Chained u' next' fs
 unfolding Chained

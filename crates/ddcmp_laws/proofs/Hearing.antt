@@ -277,7 +277,7 @@ hears-ack Running x y fl gl q b b' c c' e =
     (h_ack q (tells v q) (t_runs e))
     (counts-after-ack x.station x.limits.window x.given v.acked v.sent v.next v.up q c lo hi)
 
--- all that is kept is sent again
+-- all that is kept is retransmitted
 counts-back : (s : StationState) (w : ℕ) (given : List (List ℕ)) (acked sent next up q : ℕ)
     → acked ≤ q → q ≤ sent → Counts s w given acked sent next up
     → Counts (on_nak s (q % 256)) w given q sent (q + 1) up

@@ -25,7 +25,7 @@ use Rattle.ddcmp_laws.specs.Rests.{GoesOn}
 use Rattle.ddcmp_laws.specs.Delivers.{IsAtRest, runs_out, IsRoundInAnyOrder, IsTwoRounds}
 use Rattle.ddcmp_laws.proofs.Settling.{drop_front}
 
--- ---- one list behind another
+-- ---- one list after another
 
 pub goes-append : (first second : List Event) → GoesOn first → GoesOn second
     → GoesOn (first ++ second)
@@ -51,7 +51,7 @@ unfolding run_on_line
 line-append [] second l = refl
 line-append (e ∷ first) second l = line-append first second (after_on_line e l)
 
--- these events leave nothing on its way
+-- these events leave nothing in flight
 record Clears (events : List Event) (p : PairState) : Type 0 where
   goes : GoesOn events
   loss_free : IsLossFree events (empty_line p)

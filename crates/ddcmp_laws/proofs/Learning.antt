@@ -1,4 +1,4 @@
--- What an end comes to know of what is handed up at the other, once its timer ran out.
+-- What an end comes to know of what is delivered at the other, once its timer expired.
 use Rattle.std.proofs.Common.{◌≡◌, ◌⊎◌, inl, inr, ℕ, ◌+◌, ◌<◌, max, Bool, true, false, List, []}
 use Rattle.std.proofs.Common.{◌∷◌, ◌++◌, refl, sym, ap, ◌∙◌, arith}
 use Rattle.ddcmp_frame.specs.declared.nak.Nak.TheVariants as reason
@@ -19,8 +19,8 @@ use Rattle.ddcmp_laws.proofs.Traffic.{h_ack, h_nak, h_rep_all, h_rep, h_up, h_fu
 use Rattle.ddcmp_laws.proofs.Traffic.{h_passes, Expires, x_asks, x_told, x_repeats, x_back}
 use Rattle.ddcmp_laws.proofs.Traffic.{Base}
 
--- v knows what is up at w, or will: an answer is owed, or the last count on its way tells it, or it
--- asks. Before its timer ran out (expired) it may also sleep, and hears nothing.
+-- v knows what is up at w, or will: an answer is owed, or the last count in flight tells it, or it
+-- asks. Before its timer expired (expired) it may also sleep, and hears nothing.
 pub data Learns (expired : Bool) (v w : View) (fl gl : List Flight) : Type 0 where
   l_owed : is_quiet w.reply ≡ false → Learns expired v w fl gl
   l_latest : latest v.acked gl ≡ w.up → Learns expired v w fl gl

@@ -1,4 +1,4 @@
--- A frame that is too long or damaged, or has a header of no form, is told and passed over.
+-- A frame that is too long or damaged, or has a header of no form, is reported and skipped.
 use Rattle.std.proofs.Common.{◌≡◌, ℕ, zero, suc, ◌+◌, ◌%◌, ◌<◌, ◌≤◌, ◌⊎◌, inl, inr, Bool, true}
 use Rattle.std.proofs.Common.{false}
 use Rattle.std.proofs.Common.{cond, ◌&&◌, List, [], ◌∷◌, ◌++◌, length, take, drop, slice_index}
@@ -130,7 +130,7 @@ passed_closed max fill text d h none r f long =
 
 -- ---- damaged data, and a header with COUNT 0
 
--- whatever is read behind a text in which nothing is open, and behind fill
+-- whatever is read after a text in which nothing is open, and after fill
 fill_closed : (max fill : ℕ) (text bytes : List ℕ) (it : RowResult ReadItem Place)
     → open_at_end max text ≡ 0
     → read max (next_place (length text + fill) (ending max text).lost bytes) ≡ it

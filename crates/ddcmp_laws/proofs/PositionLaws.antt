@@ -17,7 +17,7 @@ use Rattle.ddcmp_run.proofs.Ordered.{run-holds, run-of}
 use Rattle.ddcmp_laws.specs.Positions.{nums_in, messages_in, resps_in, bytes_of_numbers}
 use Rattle.ddcmp_laws.specs.Positions.{IsNumberedLink}
 
--- ---- frames on their way
+-- ---- frames in flight
 
 record Carries (given : List (List ℕ)) (fs : List Frame) (ks qs : List ℕ) : Type 0 where
   nums : nums_in fs ≡ bytes_of_numbers ks

@@ -296,7 +296,7 @@ pub halt_brings : (w : ℕ) (s : StationState)
     → price_of_station w (after_halt s) ≤ price_of_station w s
 halt_brings w s = omega arith
 
--- ---- the most that anything on its way leads to, and the most that a station has
+-- ---- the most that anything in flight leads to, and the most that a station has
 
 pub received_most : (w : ℕ) (e : Received) → 1 ≤ w → price_of_received w e ≤ 2 * w + 1
 received_most w (Good (Data q num message)) h = omega arith

@@ -1,4 +1,4 @@
--- What was lost is sent again: two running ends of which each knew at rest what was handed up.
+-- What was lost is retransmitted: two running ends of which each knew at rest what was delivered.
 use Rattle.std.proofs.Common.{◌≡◌, ◌≢◌, ◌⊎◌, inl, inr, ℕ, ◌+◌, ◌<◌, ◌≤◌, max, Bool, true, false}
 use Rattle.std.proofs.Common.{cond, List, [], ◌∷◌, ◌++◌, refl, sym, ap, ◌∙◌, subst, arith}
 use Rattle.std.specs.Prelude.{◌==◌, nat_le}
@@ -23,8 +23,8 @@ use Rattle.ddcmp_laws.proofs.Traffic.{h_passes, Expires, x_asks, x_told, x_repea
 use Rattle.ddcmp_laws.proofs.Traffic.{Base, not-starting}
 use Rattle.ddcmp_laws.proofs.Starting.{Idles, i_starts, i_runs}
 
--- What v sends next w will hand up in its turn, or v will be sent back to it. Before its timer ran
--- out (expired) v may also sleep: nothing on its way is handed up.
+-- What v sends next w will deliver in its turn, or v will be sent back to it. Before its timer ran
+-- out (expired) v may also sleep: nothing in flight is delivered.
 pub data Resends (expired : Bool) (v w : View) (fl gl : List Flight) : Type 0 where
   r_sleeps : expired ≡ false → v.acked ≡ w.up → reach w.up fl ≡ w.up → w.up + 1 < v.next
       → Resends expired v w fl gl
@@ -280,7 +280,7 @@ repeats-hears W x y v w fl _ gl b _ (h_passes f s r e) o h = not-starting v.stat
 
 -- ---- w hears
 
--- nothing is handed up
+-- nothing is delivered
 heard-still : (x : Bool) (v w w' : View) (f : Flight) (fl gl : List Flight) → w'.state ≡ Running
     → w'.up ≡ w.up → w'.reply ≡ w.reply → moved f w.up ≡ w.up → is_rep_flight f ≡ false
     → Repeats x v w (f ∷ fl) gl → Repeats x v w' fl gl

@@ -114,7 +114,7 @@ awake_items (g ∷ rest) k w q =
     (notices_of_items rest (after_item g k)) q in
     awake_items rest (after_item g k) (awake_on k.limits k.station w (received_of g) p.0) p.1
 
--- ---- what is on its way stays among what was sent
+-- ---- what is in flight stays among what was sent
 
 abbrev Placed : ℕ → List ℕ → List WholeFrame → Type 0
 Placed max text sent = is_some (place_of (good_frames max text) sent) ≡ true
@@ -345,7 +345,7 @@ all_under w (e ∷ rest) l g n r s u =
     (run-event e l.pair (after_on_line e l).pair (pair_is e l) r) (steps w e l n.0 s).kept
     (under w e rest l g n.0 r s u)
 
--- ---- nothing is on its way
+-- ---- nothing is in flight
 
 awake_is : (p : State) → p ≢ Halted → not (is_halted p) ≡ true
 awake_is Halted w = absurd (w refl)

@@ -40,7 +40,7 @@ use Rattle.ddcmp_laws.proofs.Prices.{received_most, station_most, paid, pays, ex
 use Rattle.ddcmp_laws.proofs.Prices.{send_brings, start_brings, halt_brings}
 use Rattle.ddcmp_laws.proofs.Ways.{Receivable, arrives, written}
 
--- ---- an end, and what is on its way to it
+-- ---- an end, and what is in flight to it
 
 pub record Fine (w : ℕ) (x : EndState) (way : List ℕ) : Type 0 where
   pub window : x.core.limits.window ≤ w
@@ -144,7 +144,7 @@ reaches w x bytes rest way e f =
       falls = omega (arith, p, q, r);
     }
 
--- ---- the timer runs out, and the user calls
+-- ---- the timer expires, and the user calls
 
 record Called (w : ℕ) (x y : EndState) (way : List ℕ) (n : ℕ) : Type 0 where
   fine : Fine w y way

@@ -1,4 +1,4 @@
--- Each end comes to run, once its timer ran out.
+-- Each end comes to run, once its timer expired.
 use Rattle.std.proofs.Common.{◌≡◌, ◌⊎◌, inl, inr, ℕ, ◌<◌, true, false, List, [], ◌∷◌, ◌++◌, refl}
 use Rattle.std.proofs.Common.{ap, ◌∙◌}
 use Rattle.ddcmp_core.specs.declared.state.State.{State}

@@ -12,7 +12,7 @@ use Rattle.ddcmp_laws.proofs.Starting.{wakes-heard, wakes-expires, wakes-kept}
 use Rattle.ddcmp_laws.proofs.Repeating.{Repeats, repeats-polls, repeats-answers, repeats-hears}
 use Rattle.ddcmp_laws.proofs.Repeating.{repeats-heard, repeats-expires, repeats-kept}
 
--- Knowledge of two ends, by whether the timer of each ran out, and what is on its way from the
+-- Knowledge of two ends, by whether the timer of each ran out, and what is in flight from the
 -- first to the second, and back: it stays.
 pub record Stays (Knows : Bool → Bool → View → View → List Flight → List Flight → Type 0)
     : Type 0 where

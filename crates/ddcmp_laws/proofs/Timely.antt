@@ -1,4 +1,4 @@
--- Where received messages are taken in time, a NAK that says that there was no room was owed
+-- If received messages are taken in time, a NAK that says that there was no room was owed
 -- before, or a message was delivered meanwhile.
 use Rattle.std.proofs.Common.{◌≡◌, ◌<◌, ◌≤◌, ℕ, ◌+◌, ◌*◌, Bool, true, false, cond, List, [], ◌∷◌}
 use Rattle.std.proofs.Common.{◌++◌, length, refl, sym, ap, subst, arith, length-append}
@@ -48,7 +48,7 @@ use Rattle.ddcmp_laws.proofs.Settling.{pair_is, begins, most}
 use Rattle.ddcmp_laws.proofs.Resting.{all_under}
 use Rattle.ddcmp_laws.proofs.Sweeping.{carries-on, added_on, added-is}
 
--- whether a message that was refused for want of room is still to be told
+-- whether a message that was refused as there was no room is still to be reported
 abbrev refused : Owed → ℕ
 refused (Nak reason.NoBuffer) = 1
 refused _ = 0
@@ -304,7 +304,7 @@ all-add w (e ∷ rest) l c =
 abbrev both_refused : Line → ℕ
 both_refused l = refused l.pair.a.core.station.reply + refused l.pair.b.core.station.reply
 
--- ---- where all finds room, no more are told than were refused before
+-- ---- where all finds room, no more are reported than were refused before
 
 tells : (e : Event) (rest : List Event) (l : Line) → OnlyCarries (e ∷ rest)
     → FindsRoomForAll e l.pair → refuses_by e l + both_refused (after_on_line e l) ≤ both_refused l

@@ -1,4 +1,4 @@
--- Two ends and the frames on their way between them, by numbers that have no bound: what each may
+-- Two ends and the frames in flight between them, by numbers that have no bound: what each may
 -- do, and what stays whatever it does.
 use Rattle.std.proofs.Common.{◌≡◌, ◌≢◌, ◌⊎◌, inl, inr, ℕ, ◌+◌, ◌<◌, ◌≤◌, max, Bool, true, false}
 use Rattle.std.proofs.Common.{List, [], ◌∷◌, ◌++◌, refl, sym, ap, ◌∙◌, subst, arith}
@@ -60,7 +60,7 @@ pub data Heard (v : View) : Flight → View → Type 0 where
   h_passes : (f : Flight) → is_starting v.state ≡ true → rouses f ≡ false → told f v.acked ≡ v.acked
       → Heard v f v
 
--- its timer runs out, or is said to where it is off
+-- its timer expires, or is said to where it is off
 pub data Expires (v : View) : View → Type 0 where
   x_asks : is_starting v.state ≡ true → Expires v (record v { due = true })
   x_told : v.state ≡ Running → v.acked ≡ v.sent → Expires v v
@@ -75,7 +75,7 @@ pub record Bounds (W : ℕ) (v : View) : Type 0 where
   pub low : v.acked < v.next
   pub high : v.next ≤ v.sent + 1
 
--- fl are on their way from v to w, gl from w to v
+-- fl are in flight from v to w, gl from w to v
 pub record Base (W : ℕ) (v w : View) (fl gl : List Flight) : Type 0 where
   pub bounds : Bounds W v
   pub rising : Rises v.acked w.up gl
@@ -295,7 +295,7 @@ told-up v q _ (t_starts p e) = refl
 
 module _ (W V : ℕ) (v w : View) (fl : List Flight) (f : Flight) (gl : List Flight)
     (b : Base W v w fl (f ∷ gl)) (b' : Base V w v (f ∷ gl) fl) where
-  -- a frame comes behind which no STRT comes
+  -- a frame comes after which no STRT comes
   hushed : is_strt_flight f ≡ false → Each is_strt_flight false gl
   hushed e = by (firsts-first f gl b'.ordered).0
     where

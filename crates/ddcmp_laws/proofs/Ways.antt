@@ -1,5 +1,5 @@
--- What is on its way to an end: it arrives piece after piece, and each frame that the other end
--- writes goes behind it.
+-- What is in flight to an end: it arrives piece after piece, and each frame that the other end
+-- writes goes after it.
 use Rattle.std.proofs.Common.{◌≡◌, ℕ, zero, suc, ◌+◌, ◌≤◌, List, [], ◌∷◌, ◌++◌, length, sym, ap}
 use Rattle.std.proofs.Common.{◌∙◌, subst, arith, append_assoc}
 use Rattle.std.specs.List.{All}
@@ -125,7 +125,7 @@ pub record Written (w : ℕ) (y : EndState) (way bytes : List ℕ) (f : Frame) :
   pub price : price_of_end w y (way ++ bytes) ≡ price_of_end w y way + price_of_frame w f
   pub whole : ComesWhole y (way ++ bytes)
 
--- a frame goes behind what is on its way
+-- a frame goes after what is in flight
 pub written : (w : ℕ) (l : Limits) (s u : StationState) (f : Frame) (syn : ℕ) → IsSound l s
     → next s ≡ Sends f u → (y : EndState) → l.longest ≡ y.core.limits.longest
     → (way : List ℕ) → ComesWhole y way → Written w y way (frame_on_line syn f) f

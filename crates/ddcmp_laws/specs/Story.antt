@@ -342,7 +342,7 @@ replies_to (e ∷ rest) p = reply_to e p ∷ replies_to rest (after_event e p)
 
 -- ---- how they end
 
--- A sent 3 messages of 6 bytes, and these 3 again; it sent two REPs, and was told two NAKs.
+-- A sent 3 messages of 6 bytes, and these 3 again; it sent two REPs, and received two NAKs.
 abbrev pub counts_of_a : Counters
 counts_of_a = record no_counts {
   messages_sent = 3;

@@ -138,7 +138,7 @@ pub front-none : (o : Option (Bor (List ℕ))) (frames : List (List ℕ))
 front-none None frames m n = m
 front-none (Some x) frames m n = absurd (n x refl)
 
--- nothing was handed over
+-- nothing was passed on
 pub outputs-same : {W : Type 0} (broken : W → Bool) (contents : W → Option (List ℕ)) (w v : W)
     (page later : List ℕ) → later ≡ page → v ≡ w
     → HandsOver (output_of broken contents w page) (output_of broken contents v later) []

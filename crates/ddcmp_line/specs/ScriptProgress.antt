@@ -37,7 +37,7 @@ pub record Course : Type 0 where
 abbrev pub course : Output → Output → Around → Course
 course start now x = record { start = start; now = now; around = x }
 
--- this text was handed over on the way
+-- this text was passed on meanwhile
 abbrev pub HandedOver : Course → List ℕ → Type 0
 HandedOver way text = HandsOver way.start way.now text
 

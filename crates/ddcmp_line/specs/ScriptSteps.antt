@@ -19,7 +19,7 @@ use Rattle.ddcmp_line.specs.Script.{scene_after, text_of, carriages_by}
 abbrev pub scene_of : PairState → Between → Scene
 scene_of p lines = record { pair = p; lines = lines }
 
--- all of an outcome has come, and its text was handed over
+-- all of an outcome has come, and its text was passed on
 pub record Comes (o : Effect) (old new : Scene) (before after : Output) : Type 0 where
   pub scene : new ≡ after_outcome o old
   pub text : HandsOver before after o.text

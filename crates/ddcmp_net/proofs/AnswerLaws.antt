@@ -48,7 +48,7 @@ pub ends_line : {D : Type 0} {told fault : LineFault} {X : Type 0}
     → (DrivingIs {D = D} (Err told) (Err fault) → X) → Is (Err (Line told)) (Err (Line fault)) → X
 ends_line {told = told} {fault = fault} h e = let same : told ≡ fault = cc in h cc
 
--- the report's fault is told where it broke, unless the line's is
+-- the report's fault is reported where it broke, unless the line's is
 pub told_whole : {u : Unit {0}} {broken : Bool} {Q : Type 0} → broken ≡ false
     → Is (Ok u) (Err Report) ↔ ((broken ≡ true) × Q)
 told_whole {u = u} {broken = broken} whole =

@@ -215,7 +215,7 @@ drives-as n ms count old new devices saw saw' (Err Memory) s e f h = tt
 
 -- ---- what a reporter did
 
--- By its calls it kept its sink, handed over their lines and sent its message once.
+-- By its calls it kept its sink, passed on their lines and sent its message once.
 pub record Reported {P : Type 0} (broken : P → Bool) (contents : P → Known) (old new : Reporter P)
     (calls : List UserCall) : Type 0 where
   pub same_reference : new.report.ghost_name ≡ old.report.ghost_name
@@ -256,7 +256,7 @@ reported broken contents old new (call ∷ calls) h =
           λ n w a. offers-more n old.send.now h.0.send.now call calls h.1.leaves (r.offers n) w a;
     }
 
--- all of a text that was handed over went out, or a beginning of it
+-- all of a text that was passed on went out, or a beginning of it
 pub goes-out : {P : Type 0} (broken : P → Bool) (contents : P → Known) (old new : P) (text : List ℕ)
     → broken old ≡ false
     → HandsOver (output_of broken contents old []) (output_of broken contents new []) text
@@ -274,7 +274,7 @@ goes-out broken contents old new text fine h =
     held true g = g
 
 -- What the calls of a reporter come to, where its report is then what `report` is and the text
--- behind those of the calls is handed over too.
+-- after those of the calls is passed on too.
 pub comes-to : {P : Type 0} (broken : P → Bool) (contents : P → Known) (begun ended : Reporter P)
     (given report after : P) (send text : List ℕ) (calls : List UserCall)
     → begun.report.now ≡ given → begun.send.now ≡ send → length send ≤ 1500 → broken given ≡ false

@@ -5,14 +5,14 @@ use Rattle.ddcmp_station.specs.UserCalls.{UserCall, Asked, Told, Handed}
 use Rattle.ddcmp_net.specs.declared.reporter.Reporter.{Reporter}
 use Rattle.ddcmp_net.specs.Serving.{call_text}
 
--- What is left to send after a call. Where it is asked for, all of it is given that there is room
+-- What is left to send after a call. If it is asked for, all of it is given that there is room
 -- for.
 abbrev pub Leaves : List ℕ → UserCall → List ℕ → Type 0
 Leaves send (Asked room message) left = (message ≡ take room send) × (left ≡ [])
 Leaves send (Told notice) left = left ≡ send
 Leaves send (Handed message) left = left ≡ send
 
--- It reports to the same sink, and has handed over the line for the call.
+-- It reports to the same sink, and has passed on the line for the call.
 pub record Reports {P : Type 0} (broken : P → Bool) (contents : P → Known) (old : Reporter P)
     (call : UserCall) (new : Reporter P) : Type 0 where
   pub same_reference : new.report.ghost_name ≡ old.report.ghost_name

@@ -109,7 +109,7 @@ impl<'a, S: Net<Stream = TcpStream, Listener = TcpListener>> Net for Swapping<'a
     }
 }
 
-/// A listener that keeps a handle of the stream that it hands over.
+/// A listener that keeps a handle of the stream that it passes on.
 #[derive(Drop)]
 struct KeepingListener<'a> {
     own: TcpListener,

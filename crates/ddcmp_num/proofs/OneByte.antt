@@ -90,7 +90,7 @@ pub all_bytes : (bytes : List ℕ) → ((i : ℕ) → get_or bytes i 0 < 256) �
 all_bytes [] h = tt
 all_bytes (b ∷ bytes) h = (h 0, all_bytes bytes (λ i. h (suc i)))
 
--- the bytes behind a byte of a text are bytes
+-- the bytes after a byte of a text are bytes
 pub are_bytes : (front back : List ℕ) (b : ℕ) → ((i : ℕ) → get_or (front ++ b ∷ back) i 0 < 256)
     → (b < 256) × AreBytes back
 are_bytes (a ∷ front) back b h = are_bytes front back b (λ i. h (suc i))

@@ -121,7 +121,7 @@ tables_from-entry (suc n) (suc k) b table h l =
     (omega (arith, length-map table (turns 8)))
     ∙ ap (zero_bytes k) (get_or-map (turns 8) table b 0 0 l)
 
--- zero bytes behind a text
+-- zero bytes after a text
 zero_bytes-check : (k register : ℕ) (text : List ℕ) → register ≡ check_of text
     → zero_bytes k register ≡ check_of (text ++ replicate k 0)
 unfolding zero_bytes
@@ -137,7 +137,7 @@ byte-check k b h =
     zero_bytes-check k (turns 8 b) (b ∷ [])
     (ap (turns 8) (sym (xor_zero_l b)) ∙ turned [] 0 b (sym none_yet) (omega arith))
 
--- entry b of table k is the check of the byte b and of k zero bytes behind it
+-- entry b of table k is the check of the byte b and of k zero bytes after it
 pub table-check : (k b : ℕ) → k < 16 → b < 256
     → get_or (get_or BYTE_CHECKS k []) b 0 ≡ check_of (b ∷ replicate k 0)
 table-check k b h l =
@@ -184,7 +184,7 @@ absorbed-check (b ∷ bytes) text register all e =
     (turned text register b e all.0)
     ∙ ap check_of (append_assoc text (b ∷ []) bytes)
 
--- a sum, and each byte with as many zero bytes behind it as bytes follow it
+-- a sum, and each byte with as many zero bytes after it as bytes follow it
 gathered : List ℕ → ℕ → ℕ
 gathered [] sum = sum
 gathered (b ∷ bytes) sum = gathered bytes (bit_xor sum (zero_bytes (suc (length bytes)) b))
@@ -197,7 +197,7 @@ absorbed-gathered (b ∷ bytes) register =
     absorbed-gathered bytes (turns 8 (bit_xor register b))
     ∙ ap (gathered bytes) (zero_bytes-xor (suc (length bytes)) register b)
 
--- zero bytes behind a register, by its two bytes
+-- zero bytes after a register, by its two bytes
 parted : (k register : ℕ)
     → zero_bytes (suc k) register
     ≡ bit_xor (zero_bytes k (register / 256)) (zero_bytes (suc k) (register % 256))
@@ -224,7 +224,7 @@ first_two k register a b =
     ∙ ap (λ t. bit_xor t (zero_bytes k (bit_xor (register / 256) b)))
     (sym (zero_bytes-xor (suc k) (register % 256) a))
 
--- the check of a byte and of k zero bytes behind it
+-- the check of a byte and of k zero bytes after it
 abbrev pub entry : ℕ → ℕ → ℕ
 entry k b = check_of (b ∷ replicate k 0)
 

@@ -210,7 +210,7 @@ halted-tells text piece k n e a =
     let one = ap acknowledged_in a in
     omega (arith, all, one)
 
--- what is told acknowledged is no more than the number that is kept
+-- what is reported acknowledged is no more than the number that is kept
 pub told-small : (halted : Bool) (ack0 out0 ack out told left : ℕ) → (halted ≡ true → told ≡ 0)
     → (halted ≡ false → ack0 + out0 < 18446744073709551616) → ack + out ≤ ack0 + out0
     → told + left ≤ out

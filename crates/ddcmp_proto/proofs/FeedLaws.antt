@@ -54,7 +54,7 @@ pub notices_of_items-single : (g : ReadItem) (k : CoreView)
 unfolding notices_of_items
 notices_of_items-single g k = append-nil (notices_of_item g k)
 
--- the items that a piece adds are those that its text has behind the earlier ones
+-- the items that a piece adds are those that its text has after the earlier ones
 pub items_added-is : (max : ℕ) (text u : List ℕ) (given : List ReadItem)
     → items max (text ++ u) ≡ items max text ++ given → items_added max text u ≡ given
 items_added-is max text u given e =

@@ -1,5 +1,5 @@
 -- What holds of each end by itself, whatever comes from the line: its timer, and that an end which
--- begins for the first time since the line was cleared has handed up nothing.
+-- begins for the first time since the line was cleared has delivered nothing.
 use Rattle.std.proofs.Common.{◌≡◌, ℕ, ◌+◌, ◌≤◌, Bool, true, false, cond, List, [], ◌∷◌, ◌++◌}
 use Rattle.std.proofs.Common.{length, drop, Option, Some, None, refl, sym, ap, ◌∙◌, subst, arith}
 use Rattle.std.specs.Prelude.{◌&&◌, ◌==◌, is_none, option_to_list, if◌then◌else◌}
@@ -39,7 +39,7 @@ use Rattle.ddcmp_run.specs.Run.{after_event, run, new_end, new_pair}
 use Rattle.ddcmp_run.proofs.WholeArrivals.{restarts_told, restarts-one}
 use Rattle.ddcmp_run.proofs.Steady.{inbox-sent, expired-inbox}
 
--- nothing was handed up
+-- nothing was delivered
 abbrev Nothing : List (List ℕ) → List (List ℕ) → Type 0
 Nothing taken inbox = (taken ≡ []) × (inbox ≡ [])
 

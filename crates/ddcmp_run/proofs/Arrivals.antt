@@ -28,7 +28,7 @@ use Rattle.ddcmp_run.proofs.Receptions.{is_strt, hearing, fits_frame, fits_fault
 use Rattle.ddcmp_run.proofs.Startups.{Starting, starting-comes, starting-hears, starting-fault}
 use Rattle.ddcmp_run.proofs.Startups.{no-strt-comes}
 
--- ---- frames on their way
+-- ---- frames in flight
 
 abbrev pub seen : WholeFrame → Frame
 seen f = frame_of f.0 f.1
@@ -101,7 +101,7 @@ splits f sent place next within e = by (first_index f (drop place sent)) refl e
 
 -- ---- both ends
 
--- Bytes come to x from y: the frames fs are on their way from x to y, and fs' from y to x.
+-- Bytes come to x from y: the frames fs are in flight from x to y, and fs' from y to x.
 pub record Related (x y : Face) (fs fs' : List Frame) : Type 0 where
   pub fits : Fits x y fs fs'
   pub there : Starting x y fs
@@ -124,7 +124,7 @@ comes-fault x y fs fs' h e r = record {
   here = starting-fault y x fs' h e r.here;
 }
 
--- ---- no restart is told
+-- ---- no restart is reported
 
 abbrev pub NoRestart : List Notice → Type 0
 NoRestart notices = All (λ n. tells_restart n ≡ false) notices

@@ -68,7 +68,7 @@ fits_expire x y fs fs' h = at x.station.timer
     at Fresh = by x.station.state
     at On = by x.station.state
 
--- what is taken stays handed up
+-- what is taken stays delivered
 pub take-up : (taken inbox : List (List ℕ))
     → (taken ++ option_to_list (first_message inbox)) ++ drop 1 inbox ≡ taken ++ inbox
 take-up taken [] = append-nil _ ∙ append-nil taken ∙ sym (append-nil taken)

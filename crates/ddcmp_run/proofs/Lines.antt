@@ -35,7 +35,7 @@ behind-header (header.Data h) m e = take_at m _ (length m) refl
 behind-header (header.Maint h) m e = take_at m _ (length m) refl
 behind-header (header.Control h) m e = rw e refl
 
--- the data stand behind the fill and the header
+-- the data stand after the fill and the header
 pub data-behind : (syn : ℕ) (h : Header) (m : List ℕ) → IsFrame h m
     → take (length m) (drop (syn + 8) (replicate syn SYN ++ wire h m)) ≡ m
 unfolding wire
@@ -89,7 +89,7 @@ pub nothing-polled : (x : EndState) → None ≡ option_map header_of (next_fram
     → after_poll_here x ≡ x
 nothing-polled x e = poll-idle x (next x.core.station) refl (sym e)
 
--- the frame that is polled, where its header was told before
+-- the frame that is polled, where its header was reported before
 pub record Polled (syn : ℕ) (s : StationState) (h : Header) : Type 0 where
   pub frame : Frame
   pub next_is : next_frame (next s) ≡ Some frame

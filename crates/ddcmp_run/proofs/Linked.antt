@@ -30,9 +30,9 @@ use Rattle.ddcmp_run.proofs.Sendings.{frames_next, fits_poll}
 use Rattle.ddcmp_run.proofs.Startups.{starting-kept, starting-sends, starting-starts}
 use Rattle.ddcmp_run.proofs.Arrivals.{seen, on_the_way, Related, NoRestart, items-come}
 
--- ---- both ends, and what is on its way between them
+-- ---- both ends, and what is in flight between them
 
--- The places of what arrived at each end, and what holds of the frames behind them.
+-- The places of what arrived at each end, and what holds of the frames after them.
 pub record Linked (x y : EndState) : Type 0 where
   pub there : ℕ
   pub here : ℕ
@@ -198,7 +198,7 @@ linked-poll x y h =
 
 -- ---- bytes arrive
 
--- no end begins anew where none is told
+-- no end begins anew where none is reported
 pub none-anew : (notices : List Notice) → NoRestart notices → restarts_in notices ≡ 0
 none-anew [] q = refl
 none-anew (n ∷ notices) q =

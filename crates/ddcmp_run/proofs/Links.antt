@@ -1,4 +1,4 @@
--- What every move on a link keeps: the order of what is on its way.
+-- What every move on a link keeps: the order of what is in flight.
 use Rattle.std.proofs.Common.{◌≡◌, ℕ, zero, suc, ◌+◌, ◌-◌, ◌<◌, ◌≤◌, max, Bool, true, false, List}
 use Rattle.std.proofs.Common.{[], ◌∷◌, ◌++◌, length, refl, sym, ap, subst, ◌∙◌, arith, append_assoc}
 use Rattle.std.proofs.Common.{length-append}
@@ -11,9 +11,9 @@ use Rattle.ddcmp_run.specs.Link.{after_back_comes, after_move, after_moves}
 
 -- ---- the invariant
 
--- Positions on their way, where u messages are handed up, n is the highest position sent and at
--- most `most` messages may be handed up when the first of these arrives: each position is less than
--- a window behind what may be handed up then, and at most a window ahead of what is handed up now.
+-- Positions in flight, where u messages are delivered, n is the highest position sent and at
+-- most `most` messages may be delivered when the first of these arrives: each position is less than
+-- a window behind what may be delivered then, and at most a window ahead of what is delivered now.
 abbrev pub Ahead : ℕ → ℕ → ℕ → ℕ → List ℕ → Type 0
 Ahead w u n most [] = most ≤ n
 Ahead w u n most (k ∷ ks) =
@@ -31,7 +31,7 @@ pub record Keeps (w : ℕ) (l : Link) : Type 0 where
   pub ahead : Ahead w (length l.handed_up) l.sent (length l.handed_up) l.forward
   pub rising : Rising l.acknowledged (length l.handed_up) l.back
 
--- ---- numbers handed up, on their way back
+-- ---- numbers delivered, in flight back
 
 rising-low : (low lower high : ℕ) (qs : List ℕ) → lower ≤ low → Rising low high qs
     → Rising lower high qs
@@ -57,9 +57,9 @@ rising-remove low high (suc i) [] r = r
 rising-remove low high zero (q ∷ qs) r = rising-low q low high qs r.0 r.1
 rising-remove low high (suc i) (q ∷ qs) r = (r.0, rising-remove q high i qs r.1)
 
--- ---- positions on their way
+-- ---- positions in flight
 
--- more is handed up and sent, and less may be handed up when the first arrives
+-- more is delivered and sent, and less may be delivered when the first arrives
 ahead-more : (w u up n sent most less : ℕ) (ks : List ℕ) → u ≤ up → n ≤ sent → less ≤ most
     → Ahead w u n most ks → Ahead w up sent less ks
 ahead-more w u up n sent most less [] h g e r = omega arith
@@ -182,7 +182,7 @@ keeps-send w k l e h =
       rising = h.rising;
     }
 
--- what is handed up once a position came: the next message too, or no more than before
+-- what is delivered once a position came: the next message too, or no more than before
 data HandsUp (given up : List (List ℕ)) (k : ℕ) : List (List ℕ) → Type 0 where
   next : k ≡ length up + 1 → HandsUp given up k (up ++ slice_index_or given (length up) [] ∷ [])
   other : HandsUp given up k up

@@ -73,7 +73,7 @@ hear_ack x y fs fs' resp p (wire_ack {q = q} e no_wire) h =
     subst (λ r. Fits (acknowledging x r) y fs fs') (sym e)
     (passed _ y fs fs' [] [] (use_count x y fs fs' [] q h b.started b.counts b.state))
 
--- all that is kept is sent again
+-- all that is kept is retransmitted
 stands_back : (x : Face) (n t : ℕ) → Stands x n t
     → Stands
     (record x
@@ -158,7 +158,7 @@ hear_nak x y fs fs' resp why p (wire_nak {q = q} e no_wire) h =
         subst (λ n. Fits (record x { acknowledged = n }) y fs fs') a
         (passed x y fs fs' [] (q ∷ []) h)
 
--- ---- what tells nothing
+-- ---- what reports nothing
 
 quiet : (x y : Face) (fs fs' : List Frame) → Fits x y fs fs'
     → Fits (record x { acknowledged = x.acknowledged + 0 }) y fs fs'

@@ -1,4 +1,4 @@
--- Two ends, and the frames on their way between them, are two links.
+-- Two ends, and the frames in flight between them, are two links.
 use Rattle.std.specs.Prelude.{◌≡◌, ℕ, suc, ◌+◌, ◌%◌, ◌<◌, ◌≤◌, List, [], ◌∷◌, ◌++◌, length, drop}
 use Rattle.std.specs.Prelude.{Some, slice_get}
 use Rattle.std.proofs.Common.{sym, subst}
@@ -33,10 +33,10 @@ face x = record {
 abbrev pub up : Face → List (List ℕ)
 up x = x.taken ++ x.station.inbox
 
--- ---- frames on their way
+-- ---- frames in flight
 
--- Frames on their way from an end to which messages were given, with the positions that its data
--- stand for and the counts of messages handed up there that its RESPs stand for.
+-- Frames in flight from an end to which messages were given, with the positions that its data
+-- stand for and the counts of messages delivered there that its RESPs stand for.
 pub data Wire (given : List (List ℕ)) : List Frame → List ℕ → List ℕ → Type 0 where
   no_wire : Wire given [] [] []
   wire_data : {resp num k q : ℕ} {message : List ℕ} {fs : List Frame} {ks qs : List ℕ}
@@ -58,7 +58,7 @@ pub data Wire (given : List (List ℕ)) : List Frame → List ℕ → List ℕ �
 -- ---- an end's numbers
 
 -- An end's numbers are bytes of numbers that have no bound: how many messages were acknowledged to
--- it, the highest position sent, the next one to send, and how many messages are handed up here.
+-- it, the highest position sent, the next one to send, and how many messages are delivered here.
 pub record Numbers (a n t r : ℕ) (out : List (List ℕ)) (w : ℕ) (given : List (List ℕ))
     (acked sent next up : ℕ) : Type 0 where
   pub a_is : a ≡ acked % 256
@@ -96,7 +96,7 @@ pub data Stands (x : Face) (sent next : ℕ) : Type 0 where
 
 -- ---- both
 
--- The frames fs are on their way from x to y, and fs' from y to x. The positions ks have come to x
+-- The frames fs are in flight from x to y, and fs' from y to x. The positions ks have come to x
 -- from y, and the counts qs, and aren't used yet.
 pub record Pending (x y : Face) (fs fs' : List Frame) (ks qs : List ℕ) : Type 0 where
   pub sent : ℕ
@@ -122,7 +122,7 @@ pub record Pending (x y : Face) (fs fs' : List Frame) (ks qs : List ℕ) : Type 
 abbrev pub Fits : Face → Face → List Frame → List Frame → Type 0
 Fits x y fs fs' = Pending x y fs fs' [] []
 
--- another station, and messages taken, with the same handed up
+-- another station, and messages taken, with the same delivered
 pub pending_station : (x y : Face) (fs fs' : List Frame) (ks qs : List ℕ) (s : StationState)
     (taken : List (List ℕ)) → taken ++ s.inbox ≡ up x
     → ((n t : ℕ) → Stands x n t → Stands (record x { station = s; taken = taken }) n t)

@@ -45,7 +45,7 @@ pub both-expire-is : (p : PairState) → run both_expire p ≡ expired-both p
 unfolding run after_event
 both-expire-is p = refl
 
--- an end that rested, after its timer ran out
+-- an end that rested, after its timer expired
 data Expired (v : View) : Type 0 where
   asks : is_starting v.state ≡ true → v.due ≡ true → Expired v
   idles : v.state ≡ Running → v.reply ≡ Quiet → v.given < v.next → v.acked ≡ v.sent → Expired v
@@ -342,7 +342,7 @@ module _ (Holds : PairState → Type 0) (k : IsKept Holds) (W : ℕ) where
         woken W (view p.b) (view p.a) _ _ _ _ c' c h.wakes_b,
       )
 
-  -- an expiry leaves what was handed up
+  -- an expiry leaves what was delivered
   expired-up : (x : EndState) → (view (emptied (after_expire_here x))).up ≡ (view x).up
   expired-up x =
       ap (λ (v : View). v.up) (view-emptied (after_expire_here x))

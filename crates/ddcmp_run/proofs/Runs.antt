@@ -44,7 +44,7 @@ refused-asks : (asks : Bool) → (asks ≡ false → false ≡ true) → asks �
 refused-asks true never = refl
 refused-asks false never = let z = never refl in absurd (cc)
 
--- an event that wasn't done, behind some that were
+-- an event that wasn't done, after some that were
 pub wanted-at : (done : List Event) (next : Event) (rest events : List Event) (p q r : PairState)
     → done ++ next ∷ rest ≡ events
     → q ≡ run done p → r ≡ q → (asks_memory next q ≡ false → false ≡ true) → WantsMemory events p r

@@ -30,7 +30,7 @@ use Rattle.ddcmp_run.proofs.Relation.{Stands, not_begun, begun, Fits}
 abbrev pub as_read : Frame → Frame
 as_read f = frame_of (header_of f) (message_of f)
 
--- what is sent goes on its way
+-- what is sent is in flight then
 abbrev pub frames_next : Next → List Frame
 frames_next Idle = []
 frames_next (Sends f u) = as_read f ∷ []

@@ -30,7 +30,7 @@ abbrev pub StrtsFirst : List Frame → Type 0
 StrtsFirst [] = Unit {0}
 StrtsFirst (f ∷ fs) = (is_strt f ≡ false → NoStrt fs) × StrtsFirst fs
 
--- The frames fs are on their way from y to x. Where x runs, y has started and x will hear no STRT.
+-- The frames fs are in flight from y to x. If x runs, y has started and x will hear no STRT.
 pub record Starting (y x : Face) (fs : List Frame) : Type 0 where
   pub first : StrtsFirst fs
   pub fresh : y.station.state ≡ IStart → OnlyStrt fs

@@ -143,7 +143,7 @@ inbox-sent s _ (starting_idles e d) = refl
 inbox-sent s _ (running_idles e r f room) = refl
 inbox-sent s _ (maintenance_idles e o) = refl
 
--- and when its timer runs out
+-- and when its timer expires
 pub expired-inbox : (s : StationState) → (after_expire s).inbox ≡ s.inbox
 expired-inbox s = at s.timer
   where

@@ -22,7 +22,7 @@ one-less f fs [] s = absurd s
 one-less f fs (g ∷ sent) (inl s) = one-more fs sent g s.1
 one-less f fs (g ∷ sent) (inr s) = one-more fs sent g (one-less f fs sent s)
 
--- what is left behind the first frame that is this one
+-- what is left after the first frame that is this one
 after-first : WholeFrame → List WholeFrame → Option (List WholeFrame)
 after-first f [] = None
 after-first f (g ∷ sent) = if same_frame f g then Some sent else after-first f sent

@@ -1,4 +1,4 @@
--- What the settles behind an expiry keep, and what it gives where they are quiet.
+-- What the settles after an expiry keep, and what it gives where they are quiet.
 use Rattle.std.proofs.Common.{◌≡◌, ℕ, ◌+◌, ◌≤◌, ◌⊎◌, inl, inr, max, Bool, true, false, cond, refl}
 use Rattle.std.proofs.Common.{sym, ap, ◌∙◌, subst, arith}
 use Rattle.std.specs.Prelude.{◌==◌}

@@ -1,4 +1,4 @@
--- Frames on their way, with the positions and the counts that their numbers stand for.
+-- Frames in flight, with the positions and the counts that their numbers stand for.
 use Rattle.std.proofs.Common.{◌≡◌, ℕ, zero, suc, ◌<◌, List, [], ◌∷◌, ◌++◌, length, Some, refl, sym}
 use Rattle.std.proofs.Common.{ap, ◌∙◌, arith, append_assoc}
 use Rattle.std.specs.Prelude.{slice_get, slice_index_or}
@@ -38,7 +38,7 @@ wire-more m (wire_rep w) = wire_rep (wire-more m w)
 wire-more m (wire_strt w) = wire_strt (wire-more m w)
 wire-more m (wire_stack w) = wire_stack (wire-more m w)
 
--- frames behind others
+-- frames after others
 pub wire-append : {given : List (List ℕ)} {fs fs' : List Frame} {ks qs ks' qs' : List ℕ}
     → Wire given fs ks qs → Wire given fs' ks' qs'
     → Wire given (fs ++ fs') (ks ++ ks') (qs ++ qs')
@@ -50,7 +50,7 @@ wire-append (wire_rep w) v = wire_rep (wire-append w v)
 wire-append (wire_strt w) v = wire_strt (wire-append w v)
 wire-append (wire_stack w) v = wire_stack (wire-append w v)
 
--- what is left behind the frames that are lost
+-- what is left after the frames that are lost
 pub record Behind (given : List (List ℕ)) (fs : List Frame) (ks qs : List ℕ) : Type 0 where
   pub lost_ks : List ℕ
   pub rest_ks : List ℕ
@@ -60,7 +60,7 @@ pub record Behind (given : List (List ℕ)) (fs : List Frame) (ks qs : List ℕ)
   pub qs_are : qs ≡ lost_qs ++ rest_qs
   pub wire : Wire given fs rest_ks rest_qs
 
--- the first frame, and what is left behind it
+-- the first frame, and what is left after it
 pub record First (given : List (List ℕ)) (f : Frame) (fs : List Frame) (ks qs : List ℕ)
     : Type 0 where
   pub first_ks : List ℕ

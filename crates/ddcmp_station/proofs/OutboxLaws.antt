@@ -1,4 +1,4 @@
--- Bytes on their way to the line.
+-- Bytes in flight to the line.
 use Rattle.std.proofs.Common.{◌≡◌, ℕ, ◌+◌, ◌-◌, ◌<◌, ◌≤◌, List, ◌++◌, length, take, drop, replicate}
 use Rattle.std.proofs.Common.{◌∙◌, ap, arith, length-append, Option, Some, None, option_map}
 use Rattle.std.proofs.Common.{is_some, true}
@@ -12,7 +12,7 @@ use Rattle.ddcmp_core.specs.Frames.{header_of, message_of}
 use Rattle.ddcmp_proto.specs.Bytes.{frame_on_line}
 use Rattle.ddcmp_station.specs.Linking.{bytes_of}
 
--- behind the first bytes others are put
+-- after the first bytes others are put
 pub put_behind : (e k : ℕ) (xs fs rest : List ℕ) → e ≤ length xs → k ≡ length fs
     → take (e + k) (take e xs ++ (fs ++ rest)) ≡ take e xs ++ fs
 put_behind e k xs fs rest within is =
@@ -20,7 +20,7 @@ put_behind e k xs fs rest within is =
     ∙ take-append-add (take e xs) (fs ++ rest) (length fs)
     ∙ ap (λ ys. take e xs ++ ys) (take-append_seam fs rest)
 
--- and so behind those of them that are left
+-- and so after those of them that are left
 pub put_left : (s e k : ℕ) (xs fs rest : List ℕ) → s ≤ e → e ≤ length xs → k ≡ length fs
     → drop s (take (e + k) (take e xs ++ (fs ++ rest))) ≡ drop s (take e xs) ++ fs
 put_left s e k xs fs rest le within is =
@@ -48,7 +48,7 @@ pub less_room : (syn : ℕ) (f : Option Frame) (room : ℕ) → is_some f ≡ tr
 less_room syn None room e r = cc
 less_room syn (Some f) room e r = omega (arith, some_bytes syn f, r)
 
--- what a poll writes behind what waits
+-- what a poll writes after what waits
 pub framed : (syn : ℕ) (f : Option Frame) (s e k : ℕ) (xs old : List ℕ) → s ≤ e → e ≤ length xs
     → Some k ≡ option_map length (option_map (frame_on_line syn) f)
     → drop s (take (e + k) (take e xs ++ with_front (option_map (frame_on_line syn) f) old))

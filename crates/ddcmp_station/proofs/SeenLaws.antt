@@ -18,7 +18,7 @@ abbrev pub HandedSo : {U : Type 0} → (U → UserCall → U → Type 0) → U �
 HandedSo becomes old new inbox all =
     (done : List UserCall) × Calls becomes old new done × (done ++ map Handed inbox ≡ all)
 
--- one message more is handed up
+-- one message more is delivered
 pub hands-one : {U : Type 0} (becomes : U → UserCall → U → Type 0) (old mid new : U)
     (inbox : List (List ℕ)) (all : List UserCall) (n : ℕ) (before out : List ℕ)
     → HandedSo becomes old mid inbox all → option_map length (first_message inbox) ≡ Some n
@@ -35,7 +35,7 @@ hands-one becomes old mid new (m ∷ rest) all n before out h e w l =
       append_assoc h.0 (Handed m ∷ []) (map Handed rest) ∙ h.2,
     )
 
--- one part more of a piece is taken, and its notice, where it gave one, was told
+-- one part more of a piece is taken, and its notice, where it gave one, was reported
 pub tells-more : {U : Type 0} (becomes : U → UserCall → U → Type 0) (old mid : StationView)
     (piece : List ℕ) (at used : ℕ) (u v w : U) (r : Option Notice) → FedTo old (take at piece) mid
     → ((text : List ℕ) → StandsFor mid.line text
@@ -65,7 +65,7 @@ pub tells-whole : {U : Type 0} (becomes : U → UserCall → U → Type 0) (old 
 tells-whole becomes old piece at u v all h =
     subst (λ p. TellsNotices becomes old p u v) (take_all at piece all) h
 
--- what a read brought was taken, and then all mail handed up
+-- what a read brought was taken, and then all mail delivered
 pub receives-all : {U : Type 0} (becomes : U → UserCall → U → Type 0) (old mid : StationView)
     (came : List ℕ) (u v w : U) → TellsNotices becomes old came u v
     → Calls becomes v w (calls_of_mail mid.core)

@@ -280,7 +280,7 @@ fn loses_one(rt: &impl Abort, two: &mut Two) {
     two.wake(before + TIMER_MS);
 }
 
-/// Both inputs end behind a last message.
+/// Both inputs end after a last message.
 fn ends(rt: &impl Abort, two: &mut Two, now: u64) {
     assert!(rt; two.a.typed(b"64\n") == 3);
     two.wake(now);

@@ -7,7 +7,7 @@ use ddcmp_session::{Buffers, Devices, End, Moved, Session, Wanted, drain_output}
 use std::process::Abort;
 use test_kit::Draws;
 
-/// Bytes on their way, and how many of them were taken.
+/// Bytes in flight, and how many of them were taken.
 #[derive(Drop)]
 struct Way {
     bytes: Vec<u8>,

@@ -27,7 +27,7 @@ drop-append zero xs ys = rw (no-sub (length xs)) refl
 drop-append (suc n) [] ys = rw (sub-none (suc n)) refl
 drop-append (suc n) (x ∷ xs) ys = rw (suc-sub-suc n (length xs), drop-append n xs ys) refl
 
--- n elements from the index start on: those of the first list, and behind them those of the second
+-- n elements from the index start on: those of the first list, and after them those of the second
 pub part-append : {A : Type 0} (start n : ℕ) (xs ys : List A)
     → take n (drop start (xs ++ ys))
     ≡ take (min (start + n) (length xs) - min start (length xs)) (drop (min start (length xs)) xs)
@@ -46,7 +46,7 @@ part-append start n xs ys =
       take_min n (drop start xs),
     ) refl
 
--- ys are written over what stands behind xs
+-- ys are written over what stands after xs
 pub put_mid-behind : {A : Type 0} (xs rest ys : List A)
     → put_mid (length xs) (length (xs ++ rest) - length xs) (xs ++ rest) ys ≡ xs ++ ys
 put_mid-behind xs rest ys =

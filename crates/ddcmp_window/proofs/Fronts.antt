@@ -2,7 +2,7 @@
 use Rattle.std.proofs.Common.{◌≡◌, ℕ, ◌+◌, ◌≤◌, List, ◌++◌, length, take, drop, map, refl, arith}
 use Rattle.std.proofs.lemmas.List.{length-drop, take-append-le, drop-take, drop-map}
 
--- the first n elements leave, and stand behind the others
+-- the first n elements leave, and stand after the others
 pub front-rotated : {A B : Type 0} (f : A → B) (n m k : ℕ) (xs : List A) → n + m ≡ k → k ≤ length xs
     → map f (take m (drop n xs ++ take n xs)) ≡ drop n (map f (take k xs))
 front-rotated f n m k xs total inside =

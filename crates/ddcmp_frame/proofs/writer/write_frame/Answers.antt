@@ -32,7 +32,7 @@ first old new h bytes end b r e is =
     subst (Wrote old new) b
     (wrote-more old old new [] bytes 0 end (wrote-nothing old) refl (omega arith) e is)
 
--- the data and their check behind it
+-- the data and their check after it
 counted : (h : Header) (d : List ℕ)
     → ((x : CountedFields) × (h ≡ Data x)) ⊎ ((x : CountedFields) × (h ≡ Maint x))
     → wire h d ≡ (eight_bytes h ++ d) ++ check_pair (check_of d)

@@ -15,7 +15,7 @@ use Rattle.ddcmp_line.proofs.Scenes.{front-none, no-frames, outputs-same}
 use Rattle.ddcmp_io.proofs.TextLaws.{sends-as, sends-nothing}
 use Rattle.ddcmp_line.proofs.performing.Stage.carry.Goals as goal
 
--- what came is no longer than what was handed over
+-- what came is no longer than what was passed on
 came-within : (n : ℕ) (out bytes front came : List ℕ) (most : Option ℕ) → came ≡ take n out
     → n ≤ length bytes → bytes ≡ part_of most front → length came ≤ length (part_of most front)
 came-within n out bytes front came most is few part =
