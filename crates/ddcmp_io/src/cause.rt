@@ -1,8 +1,13 @@
 //! Why the system couldn't open something.
+ghost use Rattle.std.specs.Prelude.{◌≡◌};
+ghost use Rattle.ddcmp_io.specs.Causes.{cause_words};
+
 use std::io::ErrorKind;
 
 /// The system's reason not to open a file, a device or a connection, in words.
-pub fn words_of(kind: ErrorKind) -> &'static str {
+pub fn words_of(kind: ErrorKind) -> &'static str
+    ensures { result.now ≡ cause_words kind }
+{
     match kind {
         ErrorKind::NotFound => "no such file",
         ErrorKind::PermissionDenied => "permission denied",

@@ -163,10 +163,10 @@ since made c k =
 
 -- what stays
 record Stays (made : Made) (c : Connection) : Type 0 where
-  holds : Holds made.form made.config.max c.history
+  holds : Holds made.options.form made.options.config.max c.history
   read
-      : messages_of made.form made.config.max c.history.input
-      ≡ messages_of made.form made.config.max c.input_before ++ read_since made c
+      : messages_of made.options.form made.options.config.max c.history.input
+      ≡ messages_of made.options.form made.options.config.max c.input_before ++ read_since made c
   delivered : mail_in c.history.shown ≡ mail_in c.shown_before ++ delivered_since c
 
 -- a call of a session leads its link from one history since it was connected to the next
@@ -186,8 +186,8 @@ goes_on : (made : Made) (one : SessionStep) (c : Connection) (k : ℕ)
     → Follows made (link_steps_of one.call c.history.session one.session.link) c k
     (record c { history = after_session_step one c.history })
 goes_on made one c k does stays is_calm =
-    let f = made.form in
-    let max = made.config.max in
+    let f = made.options.form in
+    let max = made.options.config.max in
     let xs = link_steps_of one.call c.history.session one.session.link in
     let next : Connection = record c { history = after_session_step one c.history } in
     let before = messages_of f max c.input_before in
@@ -249,10 +249,11 @@ begins_anew : (made : Made) (new : SessionView) (c : Connection) (k : ℕ)
     (after_step (record { call = Connected; session = new }) c)
 unfolding after_done
 begins_anew made new c k is stays =
-    let f = made.form in
-    let max = made.config.max in
+    let f = made.options.form in
+    let max = made.options.config.max in
     let h = c.history in
     let b = is_ok (answer_to_start (after_halt h.session.link.station.core.station)) in
+    let course = after_connecting h.session.course in
     let input = messages_of f max (h.input ++ []) in
     let mail = mail_in (h.shown ++ []) in (
       (ap (λ (x : SessionView). x.link) is, tt),
@@ -262,9 +263,9 @@ begins_anew made new c k is stays =
       ),
       record {
         holds =
-            link_only f max (with_line b None h) new [] []
-            (holds_with_line f max b None h stays.holds)
-            (same_link (with_line b None h).session new
+            link_only f max (with_line b course h) new [] []
+            (holds_with_line f max b course h stays.holds)
+            (same_link (with_line b course h).session new
             (anew new.link.station.line h.session.link) is)
             (ap (λ (x : SessionView). x.link.station.core.limits.longest) is);
         read = none_since input;
@@ -317,8 +318,8 @@ follows made one c k does stays = by one.call one.session does
         goes_on made (record { call = Delivered false; session = new }) c k d stays tt
     by (OutputTook n) new d =
         goes_on made (record { call = OutputTook n; session = new }) c k d stays tt
-    by (Closed r) new d =
-        goes_on made (record { call = Closed r; session = new }) c k d stays (tt, tt)
+    by (Closed left over r) new d =
+        goes_on made (record { call = Closed left over r; session = new }) c k d stays (tt, tt)
 
 -- ---- steps at one end
 
@@ -438,38 +439,38 @@ writes_anew made c s is =
 
 stays_first : (made : Made) → Stays made (first_connection made)
 stays_first made = record {
-  holds = (begins made.form made.config made.milliseconds made.line).0;
-  read = none_since (messages_of made.form made.config.max []);
+  holds = (begins made.options made.kind made.line).0;
+  read = none_since (messages_of made.options.form made.options.config.max []);
   delivered = none_since (mail_in []);
 }
 
 since_first : (made : Made)
-    → links.new_history made.config made.milliseconds made.line
+    → links.new_history made.options.config made.options.timer_ms made.line
     ≡ since made (first_connection made) 0
 since_first made =
-    (begins made.form made.config made.milliseconds made.line).1
+    (begins made.options made.kind made.line).1
     ∙ (λ i. parts (first_connection made).history.session.link [] []
-    (e (messages_of made.form made.config.max []) (ap (λ (l : LinkHistory). l.accepted) begun) i)
+    (e (messages_of made.options.form made.options.config.max []) (ap (λ (l : LinkHistory). l.accepted) begun) i)
     (e (mail_in []) (ap (λ (l : LinkHistory). l.taken) begun) i) 0)
   where
     begun
-        : link_history made.form made.config.max (first_connection made).history 0
-        ≡ links.new_history made.config made.milliseconds made.line
-    begun = sym (begins made.form made.config made.milliseconds made.line).1
+        : link_history made.options.form made.options.config.max (first_connection made).history 0
+        ≡ links.new_history made.options.config made.options.timer_ms made.line
+    begun = sym (begins made.options made.kind made.line).1
 
     e : (a : List (List ℕ)) → a ≡ [] → a ≡ drop (length a) a
     e a none = none ∙ sym (all_left_out a)
 
 module _ (first second : Made) (steps : List (End × SessionStep))
-    (f : first_refusal first.config ≡ None) (g : first_refusal second.config ≡ None)
+    (f : first_refusal first.options.config ≡ None) (g : first_refusal second.options.config ≡ None)
     (does : AreCalls steps (first_connections first second))
     (honest : (run_station_calls
     (calls_of_links (link_steps steps (first_connections first second)) (links_made first second))
-    (new_pair first.config second.config)).honest ≡ true)
+    (new_pair first.options.config second.options.config)).honest ≡ true)
     (clean : is_clean
     (run_station_calls
     (calls_of_links (link_steps steps (first_connections first second)) (links_made first second))
-    (new_pair first.config second.config)) ≡ true) where
+    (new_pair first.options.config second.options.config)) ≡ true) where
   made_links : links_made first second ≡ both first second (first_connections first second) 0 0
   made_links = λ i. record { a = since_first first i; b = since_first second i }
 
@@ -505,7 +506,7 @@ module _ (first second : Made) (steps : List (End × SessionStep))
   pipes_anew_b =
       first_of
       (subst (λ q. LinkReaches q.a q.b) done
-      (anew-to-b first.config second.config first.milliseconds second.milliseconds first.line
+      (anew-to-b first.options.config second.options.config first.options.timer_ms second.options.timer_ms first.line
       second.line (link_steps steps (first_connections first second)) f g are honest clean))
 
   pub pipes_anew_a : PipesAnew second (after_steps steps (first_connections first second)).b
@@ -513,7 +514,7 @@ module _ (first second : Made) (steps : List (End × SessionStep))
   pipes_anew_a =
       first_of
       (subst (λ q. LinkReaches q.b q.a) done
-      (anew-to-a first.config second.config first.milliseconds second.milliseconds first.line
+      (anew-to-a first.options.config second.options.config first.options.timer_ms second.options.timer_ms first.line
       second.line (link_steps steps (first_connections first second)) f g are honest clean))
 
   pub pipes_all_anew_b
@@ -522,7 +523,7 @@ module _ (first second : Made) (steps : List (End × SessionStep))
   pipes_all_anew_b over =
       let s = (after_steps steps (first_connections first second)).a.history.session in
       subst (λ (q : Links). delivered q.a.link ≡ true → received q.b ≡ q.a.accepted) done
-      (anew-all-to-b first.config second.config first.milliseconds second.milliseconds first.line
+      (anew-all-to-b first.options.config second.options.config first.options.timer_ms second.options.timer_ms first.line
       second.line (link_steps steps (first_connections first second)) f g are honest clean)
       (last_true s.is_read (delivered s.link) over)
 
@@ -532,7 +533,7 @@ module _ (first second : Made) (steps : List (End × SessionStep))
   pipes_all_anew_a over =
       let s = (after_steps steps (first_connections first second)).b.history.session in
       subst (λ (q : Links). delivered q.b.link ≡ true → received q.a ≡ q.b.accepted) done
-      (anew-all-to-a first.config second.config first.milliseconds second.milliseconds first.line
+      (anew-all-to-a first.options.config second.options.config first.options.timer_ms second.options.timer_ms first.line
       second.line (link_steps steps (first_connections first second)) f g are honest clean)
       (last_true s.is_read (delivered s.link) over)
 

@@ -3,7 +3,8 @@ use Rattle.std.proofs.Common.{◌≡◌, ℕ, List, [], ◌∷◌}
 use Rattle.std.proofs.Common.{◌++◌, refl, sym, ◌∙◌, ap, subst}
 use Rattle.std.proofs.Common.{append_assoc, append-nil}
 use Rattle.ddcmp_frame.specs.Reader.{ReaderView}
-use Rattle.ddcmp_proto.specs.declared.config.Config.{Config}
+use Rattle.ddcmp_session.specs.declared.options.LineKind.{LineKind}
+use Rattle.ddcmp_session.specs.declared.options.Options.{Options}
 use Rattle.ddcmp_session.specs.declared.messages.Form.{Form}
 use Rattle.ddcmp_callers.specs.Links.{LinkHistory, LinkStep, new_history}
 use Rattle.ddcmp_callers.specs.Links.{after_step, IsHistory, after_history, offered_in_call}
@@ -68,29 +69,29 @@ history_leads f max (step ∷ rest) h k does holds =
 
 -- ---- from a new session
 
-module _ (f : Form) (config : Config) (ms : ℕ) (line : ReaderView) (steps : List SessionStep)
-    (does : IsSessionHistory steps (new_session f config ms line)) where
+module _ (o : Options) (kind : LineKind) (line : ReaderView) (steps : List SessionStep)
+    (does : IsSessionHistory steps (new_session o kind line)) where
   abbrev new : SessionHistory
-  new = new_session f config ms line
+  new = new_session o kind line
 
-  leads : HistoryLeads f config.max steps (new_session f config ms line) 0
+  leads : HistoryLeads o.form o.config.max steps (new_session o kind line) 0
   leads =
-      history_leads f config.max steps (new_session f config ms line) 0 does
-      (begins f config ms line).0
+      history_leads o.form o.config.max steps (new_session o kind line) 0 does
+      (begins o kind line).0
 
-  pub are_calls : IsHistory (link_steps_in steps (new_session f config ms line))
-      (new_history config ms line)
+  pub are_calls : IsHistory (link_steps_in steps (new_session o kind line))
+      (new_history o.config o.timer_ms line)
   are_calls =
-      subst (IsHistory (link_steps_in steps (new_session f config ms line)))
-      (sym (begins f config ms line).1) leads.0.0
+      subst (IsHistory (link_steps_in steps (new_session o kind line)))
+      (sym (begins o kind line).1) leads.0.0
 
-  pub are_same : IsOfLink f config.max (after_session_steps steps (new_session f config ms line))
-      (after_history (link_steps_in steps (new_session f config ms line))
-      (new_history config ms line))
+  pub are_same : IsOfLink o.form o.config.max (after_session_steps steps (new_session o kind line))
+      (after_history (link_steps_in steps (new_session o kind line))
+      (new_history o.config o.timer_ms line))
   are_same =
       let e =
-      ap (after_history (link_steps_in steps (new_session f config ms line)))
-      (begins f config ms line).1
+      ap (after_history (link_steps_in steps (new_session o kind line)))
+      (begins o kind line).1
       ∙ leads.0.1.1 in
       record {
         link = ap (λ (l : LinkHistory). l.link) e;
@@ -100,16 +101,16 @@ module _ (f : Form) (config : Config) (ms : ℕ) (line : ReaderView) (steps : Li
         taken = ap (λ (l : LinkHistory). l.taken) e;
       }
 
-  pub are_offered : offered_in (link_steps_in steps (new_session f config ms line))
-      ≡ messages_of f config.max (after_session_steps steps (new_session f config ms line)).input
+  pub are_offered : offered_in (link_steps_in steps (new_session o kind line))
+      ≡ messages_of o.form o.config.max (after_session_steps steps (new_session o kind line)).input
   are_offered =
       sym
       (leads.2
-      ∙ ap (λ xs. xs ++ offered_in (link_steps_in steps (new_session f config ms line)))
-      (ap (λ (l : LinkHistory). l.accepted) (sym (begins f config ms line).1)))
+      ∙ ap (λ xs. xs ++ offered_in (link_steps_in steps (new_session o kind line)))
+      (ap (λ (l : LinkHistory). l.accepted) (sym (begins o kind line).1)))
 
-  pub is_text : IsText f
-      (after_session_steps steps (new_session f config ms line)).written
-      (after_session_steps steps (new_session f config ms line)).session.output
-      (after_session_steps steps (new_session f config ms line)).shown
+  pub is_text : IsText o.form
+      (after_session_steps steps (new_session o kind line)).written
+      (after_session_steps steps (new_session o kind line)).session.output
+      (after_session_steps steps (new_session o kind line)).shown
   is_text = leads.1.text

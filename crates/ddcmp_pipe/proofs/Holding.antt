@@ -1,5 +1,5 @@
 -- What stays of a session with its history, and calls that leave its input.
-use Rattle.std.proofs.Common.{◌≡◌, ℕ, zero, suc, ◌+◌, false, List, [], ◌∷◌}
+use Rattle.std.proofs.Common.{Bool, ◌≡◌, ℕ, zero, suc, ◌+◌, false, List, [], ◌∷◌}
 use Rattle.std.proofs.Common.{◌++◌, refl, sym, ◌∙◌, ap}
 use Rattle.std.proofs.Common.{arith, append-nil}
 use Rattle.ddcmp_station.specs.Linking.{LinkView}
@@ -108,24 +108,25 @@ frames_offer_none (suc n) d = frames_offer_none n (after_frame d)
 
 -- ---- calls that leave the input
 
-abbrev pub session_parts : SessionView → List ℕ → List ℕ → List ℕ → List ℕ → List Shown
+abbrev pub session_parts : Bool → SessionView → List ℕ → List ℕ → List ℕ → List ℕ → List Shown
     → SessionHistory
-session_parts new used gone input written shown = record {
+session_parts told new used gone input written shown = record {
   session = new;
   used = used;
   gone = gone;
   input = input;
+  is_told = told;
   written = written;
   shown = shown;
 }
 
-pub holds_on : (f : Form) (max : ℕ) (h : SessionHistory) (new : SessionView) (used gone written
+pub holds_on : {told : Bool} (f : Form) (max : ℕ) (h : SessionHistory) (new : SessionView) (used gone written
     : List ℕ)
     (shown : List Shown) → Holds f max h → new.messages ≡ h.session.messages
     → new.is_read ≡ h.session.is_read → longest_of new.link ≡ longest_of h.session.link
     → IsText f written new.output shown
-    → Holds f max (session_parts new used gone (h.input ++ []) written shown)
-holds_on f max h new used gone written shown k same read longest text = record {
+    → Holds f max (session_parts told new used gone (h.input ++ []) written shown)
+holds_on {told} f max h new used gone written shown k same read longest text = record {
   kind = ap form_of same ∙ k.kind;
   longest = longest ∙ k.longest;
   reads = λ going. same ∙ k.reads (sym read ∙ going)
@@ -141,7 +142,7 @@ text_on f max h new k same =
     (keeps h.session.output new.output same) (no_text f)
 
 -- one call of the link, of a call that reads nothing
-pub one_call : (f : Form) (max : ℕ) (h : SessionHistory) (new : SessionView) (k : ℕ) (call :
+pub one_call : {told : Bool} (f : Form) (max : ℕ) (h : SessionHistory) (new : SessionView) (k : ℕ) (call :
     LinkCall)
     (used gone written : List ℕ) (shown : List Shown) (more : List (List ℕ))
     → HasDone call h.used h.session.link new.link
@@ -150,8 +151,8 @@ pub one_call : (f : Form) (max : ℕ) (h : SessionHistory) (new : SessionView) (
     (after_step (link_step call new.link) (link_history f max h k)).acknowledged
     → mail_in shown ≡ mail_in h.shown ++ more
     → Leads (link_step call new.link ∷ []) (link_history f max h k) f max
-    (session_parts new used gone (h.input ++ []) written shown)
-one_call f max h new k call used gone written shown more done after mail = (
+    (session_parts told new used gone (h.input ++ []) written shown)
+one_call {told} f max h new k call used gone written shown more done after mail = (
   (done, tt),
   (
     (after_step (link_step call new.link) (link_history f max h k)).acknowledged,
@@ -163,13 +164,13 @@ one_call f max h new k call used gone written shown more done after mail = (
 )
 
 -- no call of the link
-pub no_call : (f : Form) (max : ℕ) (h : SessionHistory) (new : SessionView) (k : ℕ) (written :
+pub no_call : {told : Bool} (f : Form) (max : ℕ) (h : SessionHistory) (new : SessionView) (k : ℕ) (written :
     List ℕ)
     (shown : List Shown) → new.link ≡ h.session.link → mail_in shown ≡ mail_in h.shown
     → Leads [] (link_history f max h k) f max
-    (session_parts new (h.used ++ []) (h.gone ++ []) (h.input ++ []) written shown)
+    (session_parts told new (h.used ++ []) (h.gone ++ []) (h.input ++ []) written shown)
 unfolding after_history
-no_call f max h new k written shown same mail = (
+no_call {told} f max h new k written shown same mail = (
   tt,
   (
     k,

@@ -2,7 +2,7 @@
 use Rattle.std.proofs.Common.{◌≡◌, ℕ, Bool, true, false, cond, List, [], ◌∷◌}
 use Rattle.std.proofs.Common.{◌++◌, map, take, refl, sym, ◌∙◌, ap}
 use Rattle.std.proofs.Common.{append-nil, option_to_list, Option, None}
-use Rattle.std.specs.Prelude.{is_ok}
+use Rattle.std.specs.Prelude.{◌||◌, is_ok}
 use Rattle.ddcmp_core.specs.Table.{after_halt, answer_to_start}
 use Rattle.ddcmp_frame.specs.Reader.{ReaderView}
 use Rattle.ddcmp_window.specs.Store.{first_message}
@@ -24,7 +24,11 @@ use Rattle.ddcmp_session.specs.Messages.{message_in, after_input, entries_of_inp
 use Rattle.ddcmp_session.specs.Messages.{after_last, entry_of_last}
 use Rattle.ddcmp_session.specs.Session.{SessionView, form_of, wants_input}
 use Rattle.ddcmp_session.specs.Session.{after_last_line, after_unfinished, after_input_end}
-use Rattle.ddcmp_session.specs.Session.{lost_by_end, pause_at}
+use Rattle.ddcmp_session.specs.declared.course.Course.{Course}
+use Rattle.ddcmp_session.specs.declared.options.LineKind.{LineKind}
+use Rattle.ddcmp_session.specs.declared.options.Options.{Options}
+use Rattle.ddcmp_session.specs.Course.{after_connecting}
+use Rattle.ddcmp_session.specs.Session.{lost_by_end, after_timeout}
 use Rattle.ddcmp_session.specs.Text.{reported_lost, mail_text, notices_text}
 use Rattle.ddcmp_callers.specs.Links.{LinkCall, BeginsAnew, Halts, Wakes, IsSent, Feeds}
 use Rattle.ddcmp_callers.specs.Links.{Takes, HasDone, HasFed, new_history}
@@ -49,18 +53,18 @@ use Rattle.ddcmp_pipe.proofs.Reading.{typed_reads}
 
 -- ---- each call
 
-pub read_step : (f : Form) (max : ℕ) (h : SessionHistory) (used : List ℕ) (es : List Entry)
+pub read_step : {told : Bool} (f : Form) (max : ℕ) (h : SessionHistory) (used : List ℕ) (es : List Entry)
     (message : List ℕ) (new : SessionView) (k : ℕ) → Holds f max h
     → HasRead f max h used es message new
     → Leads (offers_of es message new.link) (link_history f max h k) f max
-    (session_parts new (h.used ++ []) (h.gone ++ []) (h.input ++ used) (h.written ++ [])
+    (session_parts told new (h.used ++ []) (h.gone ++ []) (h.input ++ used) (h.written ++ [])
     (h.shown ++ []))
     × Holds f max
-    (session_parts new (h.used ++ []) (h.gone ++ []) (h.input ++ used) (h.written ++ [])
+    (session_parts told new (h.used ++ []) (h.gone ++ []) (h.input ++ used) (h.written ++ [])
     (h.shown ++ []))
     × (messages_of f max (h.input ++ used)
     ≡ messages_of f max h.input ++ offered_in (offers_of es message new.link))
-read_step f max h used es message new k holds r = (
+read_step {told} f max h used es message new k holds r = (
   read_leads f max h used es message new k holds r,
   read_holds f max h used es message new holds r,
   r.more ∙ ap (λ ms. messages_of f max h.input ++ ms) (sym (offered_is es message new.link)),
@@ -82,11 +86,11 @@ ended_step f max h new k holds e = by (wants_input h.session) refl e
         (cond w
         (offers_of (option_to_list (entry_of_last h.session.messages))
         (message_in (after_last h.session.messages)) new.link) []) (link_history f max h k) f max
-        (session_parts new (h.used ++ []) (h.gone ++ [])
+        (session_parts (w || h.is_told) new (h.used ++ []) (h.gone ++ [])
         (h.input ++ cond w (end_in (form_of h.session.messages)) []) (h.written ++ [])
         (h.shown ++ []))
         × Holds f max
-        (session_parts new (h.used ++ []) (h.gone ++ [])
+        (session_parts (w || h.is_told) new (h.used ++ []) (h.gone ++ [])
         (h.input ++ cond w (end_in (form_of h.session.messages)) []) (h.written ++ [])
         (h.shown ++ []))
         × (messages_of f max (h.input ++ cond w (end_in (form_of h.session.messages)) [])
@@ -111,12 +115,12 @@ ended_step f max h new k holds e = by (wants_input h.session) refl e
     )
 
 -- a call of the link that leaves all but the link
-pub link_only : (f : Form) (max : ℕ) (h : SessionHistory) (new : SessionView) (used gone : List ℕ)
+pub link_only : {told : Bool} (f : Form) (max : ℕ) (h : SessionHistory) (new : SessionView) (used gone : List ℕ)
     → Holds f max h → new ≡ record h.session { link = new.link }
     → longest_of new.link ≡ longest_of h.session.link
     → Holds f max
-    (session_parts new used gone (h.input ++ []) (h.written ++ []) (h.shown ++ []))
-link_only f max h new used gone k is longest =
+    (session_parts told new used gone (h.input ++ []) (h.written ++ []) (h.shown ++ []))
+link_only {told} f max h new used gone k is longest =
     holds_on f max h new used gone (h.written ++ []) (h.shown ++ []) k
     (ap (λ (x : SessionView). x.messages) is) (ap (λ (x : SessionView). x.is_read) is) longest
     (text_on f max h new k (ap (λ (x : SessionView). x.output) is))
@@ -127,7 +131,7 @@ same_link old new d e =
     e ∙ ap (λ x. record old { link = x }) (sym (ap (λ (x : SessionView). x.link) e))
 
 -- a call of the link and no text
-pub link_step_leads : (f : Form) (max : ℕ) (h : SessionHistory) (new : SessionView) (k : ℕ)
+pub link_step_leads : {told : Bool} (f : Form) (max : ℕ) (h : SessionHistory) (new : SessionView) (k : ℕ)
     (call : LinkCall) (used gone : List ℕ) (d : LinkView) → Holds f max h
     → new ≡ record h.session { link = d } → HasDone call h.used h.session.link new.link
     → longest_of d ≡ longest_of h.session.link
@@ -136,11 +140,11 @@ pub link_step_leads : (f : Form) (max : ℕ) (h : SessionHistory) (new : Session
     (after_step (link_step call new.link) (link_history f max h k)).acknowledged
     → offered_in (link_step call new.link ∷ []) ≡ []
     → Leads (link_step call new.link ∷ []) (link_history f max h k) f max
-    (session_parts new used gone (h.input ++ []) (h.written ++ []) (h.shown ++ []))
-    × Holds f max (session_parts new used gone (h.input ++ []) (h.written ++ []) (h.shown ++ []))
+    (session_parts told new used gone (h.input ++ []) (h.written ++ []) (h.shown ++ []))
+    × Holds f max (session_parts told new used gone (h.input ++ []) (h.written ++ []) (h.shown ++ []))
     × (messages_of f max (h.input ++ [])
     ≡ messages_of f max h.input ++ offered_in (link_step call new.link ∷ []))
-link_step_leads f max h new k call used gone d holds is done longest after quiet = (
+link_step_leads {told} f max h new k call used gone d holds is done longest after quiet = (
   one_call f max h new k call used gone (h.written ++ []) (h.shown ++ []) [] done after
       (quiet_mail_more h.shown),
   link_only f max h new used gone holds (same_link h.session new d is)
@@ -220,16 +224,16 @@ delivered_step f max h new k holds r =
     )
 
 -- a call that leaves the link
-pub output_step : (f : Form) (max : ℕ) (h : SessionHistory) (new : SessionView) (k : ℕ)
+pub output_step : {told : Bool} (f : Form) (max : ℕ) (h : SessionHistory) (new : SessionView) (k : ℕ)
     (written : List ℕ) (shown : List Shown) → Holds f max h
     → new ≡ record h.session { output = new.output } → mail_in shown ≡ mail_in h.shown
     → IsText f written new.output shown
     → Leads [] (link_history f max h k) f max
-    (session_parts new (h.used ++ []) (h.gone ++ []) (h.input ++ []) written shown)
-    × Holds f max (session_parts new (h.used ++ []) (h.gone ++ []) (h.input ++ []) written shown)
+    (session_parts told new (h.used ++ []) (h.gone ++ []) (h.input ++ []) written shown)
+    × Holds f max (session_parts told new (h.used ++ []) (h.gone ++ []) (h.input ++ []) written shown)
     × (messages_of f max (h.input ++ []) ≡ messages_of f max h.input ++ offered_in [])
 unfolding offered_in
-output_step f max h new k written shown holds is mail text = (
+output_step {told} f max h new k written shown holds is mail text = (
   no_call f max h new k written shown (ap (λ (x : SessionView). x.link) is) mail,
   holds_on f max h new (h.used ++ []) (h.gone ++ []) written shown holds
       (ap (λ (x : SessionView). x.messages) is) (ap (λ (x : SessionView). x.is_read) is)
@@ -260,11 +264,11 @@ left_step f max h r new k holds d =
       no_offer f max h.input (link_step Halts new.link ∷ []) refl,
     )
 
-pub closed_step : (f : Form) (max : ℕ) (h : SessionHistory) (r : Bool) (new : SessionView) (k : ℕ)
-    → Holds f max h → HasClosed r h.session new
-    → StepLeads f max (record { call = Closed r; session = new }) h k
+pub closed_step : (f : Form) (max : ℕ) (h : SessionHistory) (left : List ℕ) (over r : Bool)
+    (new : SessionView) (k : ℕ) → Holds f max h → HasClosed left over r h.session new
+    → StepLeads f max (record { call = Closed left over r; session = new }) h k
 unfolding after_history offered_in
-closed_step f max h r new k holds d =
+closed_step f max h left over r new k holds d =
     let count = lost_by_end h.session in
     let lost = losses r h.session in
     let shown = h.shown ++ lost in
@@ -288,14 +292,14 @@ closed_step f max h r new k holds d =
     no : {P : Type 0} → true ≡ false → P
     no e = cc
 
--- a session that has a line, or none, and such a pause
-abbrev pub with_line : Bool → Option ℕ → SessionHistory → SessionHistory
-with_line has_line pause h =
-    record h { session = record h.session { has_line = has_line; pause = pause } }
+-- a session that has a line, or none, and gets on so
+abbrev pub with_line : Bool → Course → SessionHistory → SessionHistory
+with_line has_line course h =
+    record h { session = record h.session { has_line = has_line; course = course } }
 
-pub holds_with_line : (f : Form) (max : ℕ) (b : Bool) (p : Option ℕ) (h : SessionHistory)
-    → Holds f max h → Holds f max (with_line b p h)
-holds_with_line f max b p h k =
+pub holds_with_line : (f : Form) (max : ℕ) (b : Bool) (c : Course) (h : SessionHistory)
+    → Holds f max h → Holds f max (with_line b c h)
+holds_with_line f max b c h k =
     record { kind = k.kind; longest = k.longest; reads = k.reads; text = k.text }
 
 pub step_leads : (f : Form) (max : ℕ) (step : SessionStep) (h : SessionHistory) (k : ℕ)
@@ -313,8 +317,9 @@ step_leads f max step h k does holds = by step.call step.session does
     by InputEnded new d = ended_step f max h new k holds d
     by Connected new d =
         let b = is_ok (answer_to_start (after_halt h.session.link.station.core.station)) in
-        link_step_leads f max (with_line b None h) new k BeginsAnew (h.used ++ []) (h.gone ++ [])
-        (anew new.link.station.line h.session.link) (holds_with_line f max b None h holds) d.0
+        let c = after_connecting h.session.course in
+        link_step_leads f max (with_line b c h) new k BeginsAnew (h.used ++ []) (h.gone ++ [])
+        (anew new.link.station.line h.session.link) (holds_with_line f max b c h holds) d.0
         (ap (λ (x : SessionView). x.link) d.0, d.1, d.2) refl refl refl
     by (LineEnded r) new d = left_step f max h r new k holds d
     by (Received used) new d = received_step f max h new k used holds d
@@ -325,9 +330,9 @@ step_leads f max step h k does holds = by step.call step.session does
         (ap (λ (x : SessionView). x.link) d) refl refl refl
     by (TimedOut now) new d =
         let b = h.session.has_line in
-        let p = pause_at now h.session.pause in
-        link_step_leads f max (with_line b p h) new k (Wakes now) (h.used ++ []) (h.gone ++ [])
-        (after_wake now h.session.link) (holds_with_line f max b p h holds) d
+        let c = (after_timeout now h.session).course in
+        link_step_leads f max (with_line b c h) new k (Wakes now) (h.used ++ []) (h.gone ++ [])
+        (after_wake now h.session.link) (holds_with_line f max b c h holds) d
         (ap (λ (x : SessionView). x.link) d)
         (wake_longest now h.session.link) refl refl
     by (Delivered true) new d = delivered_step f max h new k holds d
@@ -345,16 +350,29 @@ step_leads f max step h k does holds = by step.call step.session does
         (quiet_mail h.shown)
         (took f h.written n h.shown h.session.output new.output holds.text
         (ap (λ (x : SessionView). x.output.waiting) d))
-    by (Closed r) new d = closed_step f max h r new k holds d
+    by (Closed left over r) new d = closed_step f max h left over r new k holds d
 
 -- ---- a new session
 
-pub begins : (f : Form) (config : Config) (milliseconds : ℕ) (line : ReaderView)
-    → Holds f config.max (new_session f config milliseconds line)
-    × (new_history config milliseconds line
-    ≡ link_history f config.max (new_session f config milliseconds line) 0)
-unfolding got_in mail_in texts_of binary.told_in lines.told_in lengths.after_bytes hex.after_bytes
-begins form.Digits config milliseconds line =
+-- whatever the form of its messages
+begun : Form → Options → LineKind → ReaderView → SessionHistory
+begun f o kind line =
+    let h = new_session o kind line in
+    record h { session = record h.session { messages = messages_begun f o.config.max } }
+
+begun_holds : (f : Form) (o : Options) (kind : LineKind) (line : ReaderView)
+    → Holds f o.config.max (begun f o kind line)
+    × (new_history o.config o.timer_ms line
+    ≡ link_history f o.config.max (begun f o kind line) 0)
+unfolding begun got_in mail_in texts_of binary.told_in lines.told_in lengths.after_bytes hex.after_bytes
+begun_holds form.Digits o kind line =
     (record { kind = refl; longest = refl; reads = λ going. refl; text = refl }, refl)
-begins form.Binary config milliseconds line =
+begun_holds form.Binary o kind line =
     (record { kind = refl; longest = refl; reads = λ going. refl; text = refl }, refl)
+
+pub begins : (o : Options) (kind : LineKind) (line : ReaderView)
+    → Holds o.form o.config.max (new_session o kind line)
+    × (new_history o.config o.timer_ms line
+    ≡ link_history o.form o.config.max (new_session o kind line) 0)
+unfolding begun
+begins o kind line = begun_holds o.form o kind line

@@ -24,11 +24,10 @@ module _ (made : Made) (connected : SessionView)
   first_agrees : StandsFor connected.link.station.line []
       → Agrees nothing_read (after_session_step step (session_of made)) no_traffic
   first_agrees stands = record {
-    read = ap end_of does.0;
+    read = refl;
     over = refl;
-    told = λ e.
-        let unread = ap (λ (s : SessionView). s.is_read) does.0 in
-        sym unread ∙ e;
+    told = λ e. cc;
+    ended = λ e. cc;
     came = refl;
     gone = refl;
     written = refl;
@@ -58,20 +57,20 @@ module _ (made : Made) (connected : SessionView)
 pub is_text_of : (made : Made) (now : SessionView) (held : BuffersView) (t : Traffic)
     (went : HasRun made now held t)
     → t.written ++ now.output.waiting
-    ≡ texts_of made.form (after_session_steps went.steps (session_of made)).shown
+    ≡ texts_of made.options.form (after_session_steps went.steps (session_of made)).shown
 is_text_of made now held t went =
     ap (λ xs. xs ++ now.output.waiting) went.agrees.written
     ∙ ap (λ (s : SessionView).
     (after_session_steps went.steps (session_of made)).written ++ s.output.waiting)
     (sym went.session)
-    ∙ is_text made.form made.config made.milliseconds made.line went.steps went.calls
+    ∙ is_text made.options made.kind made.line went.steps went.calls
 
 -- ---- two of them
 
-no_end : (s : SessionView) → form_of s.messages ≡ form.Binary → end_of s ≡ []
-no_end s kind = by s.is_read
+no_end : (h : SessionHistory) → form_of h.session.messages ≡ form.Binary → end_of h ≡ []
+no_end h kind = by h.is_told
   where
-    by : (b : Bool) → cond b (end_in (form_of s.messages)) [] ≡ []
+    by : (b : Bool) → cond b (end_in (form_of h.session.messages)) [] ≡ []
     by true = ap end_in kind
     by false = refl
 
@@ -79,10 +78,10 @@ gave : (giver : SessionHistory) (held : BuffersView) (t : Traffic)
     → form_of giver.session.messages ≡ form.Binary → Agrees held giver t
     → giver.input ++ held.input ≡ t.read
 gave giver held t kind a =
-    sym a.read ∙ ap (λ xs. t.read ++ xs) (no_end giver.session kind) ∙ append-nil t.read
+    sym a.read ∙ ap (λ xs. t.read ++ xs) (no_end giver kind) ∙ append-nil t.read
 
 pub devices_pipe : (made other : Made) (giver taker : SessionHistory)
-    → form_of giver.session.messages ≡ made.form → PipesBytes made other giver taker
+    → form_of giver.session.messages ≡ made.options.form → PipesBytes made other giver taker
     → DevicesPipe made other giver taker
 devices_pipe made other giver taker kind bytes f g messages fit held other_held t other_t a b
     begins =
@@ -95,7 +94,7 @@ devices_pipe made other giver taker kind bytes f g messages fit held other_held 
     ))
 
 pub devices_pipe_all : (made other : Made) (giver taker : SessionHistory)
-    → form_of giver.session.messages ≡ made.form → PipesWhole made other giver taker
+    → form_of giver.session.messages ≡ made.options.form → PipesWhole made other giver taker
     → DevicesPipeAll made other giver taker
 devices_pipe_all made other giver taker kind whole f g messages fit held other_held t other_t a b
     all none over drained waits =

@@ -87,18 +87,18 @@ read_first max input rest messages fit e =
     )
 
 -- the output of one that writes binary
-pub output_is : (made other : Made) (taker : SessionHistory) → other.form ≡ form.Binary
-    → Holds other.form other.config.max taker
+pub output_is : (made other : Made) (taker : SessionHistory) → other.options.form ≡ form.Binary
+    → Holds other.options.form other.options.config.max taker
     → taker.written ++ taker.session.output.waiting ≡ in_binary (mail_in taker.shown)
 output_is made other taker is holds =
     holds.text ∙ ap (λ f. texts_of f taker.shown) is ∙ only_mail taker.shown
 
 pub bytes_first : (made other : Made) (giver taker : SessionHistory)
-    → Holds other.form other.config.max taker
-    → IsPrefixOf (mail_in taker.shown) (messages_of made.form made.config.max giver.input)
+    → Holds other.options.form other.options.config.max taker
+    → IsPrefixOf (mail_in taker.shown) (messages_of made.options.form made.options.config.max giver.input)
     → PipesBytes made other giver taker
 bytes_first made other giver taker holds order is other_is messages fit begins_file =
-    let max = made.config.max in
+    let max = made.options.config.max in
     let r = read_first max giver.input begins_file.0 messages fit begins_file.1 in
     let o = output_is made other taker other_is holds in
     let waiting = taker.session.output.waiting in
@@ -116,10 +116,10 @@ bytes_first made other giver taker holds order is other_is messages fit begins_f
     )
 
 pub bytes_whole : (made other : Made) (giver taker : SessionHistory)
-    → Holds other.form other.config.max taker → PipesAll made giver taker
+    → Holds other.options.form other.options.config.max taker → PipesAll made giver taker
     → PipesWhole made other giver taker
 bytes_whole made other giver taker holds all is other_is messages fit file over none still =
-    let max = made.config.max in
+    let max = made.options.config.max in
     let mail = mail_in taker.shown in
     let o = output_is made other taker other_is holds in
     let given : mail ≡ messages =
@@ -152,14 +152,14 @@ module _ (first second : Made) (steps : List (End × SessionStep)) where
   made_links : links_made first second ≡ links_of first second (new_sessions first second) 0 0
   made_links =
       λ i. record {
-        a = (begins first.form first.config first.milliseconds first.line).1 i;
-        b = (begins second.form second.config second.milliseconds second.line).1 i;
+        a = (begins first.options first.kind first.line).1 i;
+        b = (begins second.options second.kind second.line).1 i;
       }
 
   new_hold : BothHold first second (new_sessions first second)
   new_hold = (
-    (begins first.form first.config first.milliseconds first.line).0,
-    (begins second.form second.config second.milliseconds second.line).0,
+    (begins first.options first.kind first.line).0,
+    (begins second.options second.kind second.line).0,
   )
 
   are_once : AreConnectedOnce steps
@@ -173,11 +173,11 @@ module _ (first second : Made) (steps : List (End × SessionStep)) where
         omega (arith, e, h);
   }
 
-  pub honest_links : first_refusal first.config ≡ None → first_refusal second.config ≡ None
+  pub honest_links : first_refusal first.options.config ≡ None → first_refusal second.options.config ≡ None
       → AreSessionCalls steps (new_sessions first second)
       → (run_calls
       (calls_of_steps (link_steps_at steps (new_sessions first second)) (links_made first second))
-      (new_pair first.config second.config)).honest ≡ true
+      (new_pair first.options.config second.options.config)).honest ≡ true
       → AreConnectedOnce steps → LinksDo (links_after first second steps)
   honest_links f g does honest once =
       let calls = link_steps_at steps (new_sessions first second) in
@@ -186,20 +186,20 @@ module _ (first second : Made) (steps : List (End × SessionStep)) where
       let started = are_once once in
       record {
         to_b =
-            reaches_b first.config second.config first.milliseconds second.milliseconds first.line
+            reaches_b first.options.config second.options.config first.options.timer_ms second.options.timer_ms first.line
             second.line calls f g are honest started;
         to_a =
-            reaches_a first.config second.config first.milliseconds second.milliseconds first.line
+            reaches_a first.options.config second.options.config first.options.timer_ms second.options.timer_ms first.line
             second.line calls f g are honest started;
         all_b =
-            all_to_b first.config second.config first.milliseconds second.milliseconds first.line
+            all_to_b first.options.config second.options.config first.options.timer_ms second.options.timer_ms first.line
             second.line calls f g are honest started;
         all_a =
-            all_to_a first.config second.config first.milliseconds second.milliseconds first.line
+            all_to_a first.options.config second.options.config first.options.timer_ms second.options.timer_ms first.line
             second.line calls f g are honest started;
       }
 
-  pub stream_links : first_refusal first.config ≡ None → first_refusal second.config ≡ None
+  pub stream_links : first_refusal first.options.config ≡ None → first_refusal second.options.config ≡ None
       → SessionsOverStreams steps (new_sessions first second) → AreConnectedOnce steps
       → LinksDo (links_after first second steps)
   stream_links f g over once =
@@ -211,18 +211,18 @@ module _ (first second : Made) (steps : List (End × SessionStep)) where
       let started = are_once once in
       record {
         to_b =
-            kept (λ q. LinkReaches q.a q.b) reaches_b first.config second.config first.milliseconds
-            second.milliseconds first.line second.line calls f g are started;
+            kept (λ q. LinkReaches q.a q.b) reaches_b first.options.config second.options.config first.options.timer_ms
+            second.options.timer_ms first.line second.line calls f g are started;
         to_a =
-            kept (λ q. LinkReaches q.b q.a) reaches_a first.config second.config first.milliseconds
-            second.milliseconds first.line second.line calls f g are started;
+            kept (λ q. LinkReaches q.b q.a) reaches_a first.options.config second.options.config first.options.timer_ms
+            second.options.timer_ms first.line second.line calls f g are started;
         all_b =
             kept (λ q. delivered q.a.link ≡ true → received q.b ≡ q.a.accepted) all_to_b
-            first.config second.config first.milliseconds second.milliseconds first.line
+            first.options.config second.options.config first.options.timer_ms second.options.timer_ms first.line
             second.line calls f g are started;
         all_a =
             kept (λ q. delivered q.b.link ≡ true → received q.a ≡ q.b.accepted) all_to_a
-            first.config second.config first.milliseconds second.milliseconds first.line
+            first.options.config second.options.config first.options.timer_ms second.options.timer_ms first.line
             second.line calls f g are started;
       }
 
@@ -242,14 +242,14 @@ module _ (first second : Made) (steps : List (End × SessionStep)) where
     pub pipes_b : Pipes first (after_sessions steps (new_sessions first second)).a
         (after_sessions steps (new_sessions first second)).b
     pipes_b =
-        delivers_first first.form first.config.max second.form second.config.max
+        delivers_first first.options.form first.options.config.max second.options.form second.options.config.max
         (after_sessions steps (new_sessions first second)).a
         (after_sessions steps (new_sessions first second)).b keeps.1.0 keeps.1.1 done.to_b
 
     pub pipes_a : Pipes second (after_sessions steps (new_sessions first second)).b
         (after_sessions steps (new_sessions first second)).a
     pipes_a =
-        delivers_first second.form second.config.max first.form first.config.max
+        delivers_first second.options.form second.options.config.max first.options.form first.options.config.max
         (after_sessions steps (new_sessions first second)).b
         (after_sessions steps (new_sessions first second)).a keeps.1.1 keeps.1.0 done.to_a
 

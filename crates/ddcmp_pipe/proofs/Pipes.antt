@@ -51,13 +51,13 @@ then_b (x ∷ xs) rest q h more =
 
 abbrev pub links_of : Made → Made → Sessions → ℕ → ℕ → Links
 links_of first second p j k = record {
-  a = link_history first.form first.config.max p.a j;
-  b = link_history second.form second.config.max p.b k;
+  a = link_history first.options.form first.options.config.max p.a j;
+  b = link_history second.options.form second.options.config.max p.b k;
 }
 
 abbrev pub BothHold : Made → Made → Sessions → Type 0
 BothHold first second p =
-    Holds first.form first.config.max p.a × Holds second.form second.config.max p.b
+    Holds first.options.form first.options.config.max p.a × Holds second.options.form second.options.config.max p.b
 
 abbrev pub Keeps : Made → Made → List (End × SessionStep) → Sessions → ℕ → ℕ → Type 0
 Keeps first second steps p j k =
@@ -96,7 +96,7 @@ keeps_steps first second (step ∷ rest) p j k does holds =
         → Keeps first second rest (after_session_at end one p) m n)
         → StepKeeps first second end one rest p j k
     by A one d more =
-        let s = step_leads first.form first.config.max one p.a j d holds.0 in
+        let s = step_leads first.options.form first.options.config.max one p.a j d holds.0 in
         let xs = link_steps_of one.call p.a.session one.session.link in
         let ys = link_steps_at rest (after_session_at A one p) in
         let q = links_of first second p j k in
@@ -112,7 +112,7 @@ keeps_steps first second (step ∷ rest) p j k does holds =
           r.2,
         )
     by B one d more =
-        let s = step_leads second.form second.config.max one p.b k d holds.1 in
+        let s = step_leads second.options.form second.options.config.max one p.b k d holds.1 in
         let xs = link_steps_of one.call p.b.session one.session.link in
         let ys = link_steps_at rest (after_session_at B one p) in
         let q = links_of first second p j k in
@@ -175,7 +175,7 @@ call_starts (TimedOut now) s new = refl
 call_starts (Delivered true) s new = refl
 call_starts (Delivered false) s new = refl
 call_starts (OutputTook n) s new = refl
-call_starts (Closed r) s new = refl
+call_starts (Closed left over r) s new = refl
 
 pub own_a : (xs : List LinkStep) (rest : List (End × LinkStep))
     → link_starts A (steps_at_end A xs ++ rest) ≡ starts_in_steps xs + link_starts A rest

@@ -133,7 +133,7 @@ shape (TimedOut now) s new = inl (tt, tt)
 shape (Delivered true) s new = inl (tt, tt)
 shape (Delivered false) s new = inl tt
 shape (OutputTook n) s new = inl tt
-shape (Closed r) s new = inl (tt, tt)
+shape (Closed left over r) s new = inl (tt, tt)
 
 pub steps_a : (xs : List LinkStep) (ys : List (End × LinkStep)) (q : Links) → Shape xs
     → IsHistory xs q.a → Flows q.a q.b → Flows (after_history xs q.a) q.b
@@ -188,7 +188,7 @@ stream_steps first second (step ∷ rest) p j k over holds now =
         (steps_at_end end (link_steps_of one.call (session_at end p).session one.session.link)
         ++ link_steps_at rest (after_session_at end one p)) (links_of first second p j k)
     by A one d streams more =
-        let s = step_leads first.form first.config.max one p.a j d holds.0 in
+        let s = step_leads first.options.form first.options.config.max one p.a j d holds.0 in
         let q = links_of first second p j k in
         let ys = link_steps_at rest (after_session_at A one p) in
         steps_a (link_steps_of one.call p.a.session one.session.link) ys q
@@ -197,7 +197,7 @@ stream_steps first second (step ∷ rest) p j k over holds now =
         (subst (λ l. LinkOverStreams ys (record { a = l; b = q.b })) (sym s.0.1.1)
         (more s.0.1.0 k (s.1, holds.1)))
     by B one d streams more =
-        let s = step_leads second.form second.config.max one p.b k d holds.1 in
+        let s = step_leads second.options.form second.options.config.max one p.b k d holds.1 in
         let q = links_of first second p j k in
         let ys = link_steps_at rest (after_session_at B one p) in
         steps_b (link_steps_of one.call p.b.session one.session.link) ys q

@@ -87,8 +87,8 @@ link_steps (step ∷ rest) p =
 -- the messages that its input has had since
 abbrev pub read_since : Made → Connection → List (List ℕ)
 read_since made c =
-    drop (length (messages_of made.form made.config.max c.input_before))
-    (messages_of made.form made.config.max c.history.input)
+    drop (length (messages_of made.options.form made.options.config.max c.input_before))
+    (messages_of made.options.form made.options.config.max c.history.input)
 
 -- the messages that it has delivered since
 abbrev pub delivered_since : Connection → List (List ℕ)
@@ -108,7 +108,7 @@ PipesAllAnew made giver taker = is_delivered giver.history.session ≡ true
 -- In binary, what the output took and what waits for it is what it had of messages before, and then
 -- those that were delivered since.
 abbrev pub WritesAnew : Made → Connection → Type 0
-WritesAnew made c = made.form ≡ form.Binary
+WritesAnew made c = made.options.form ≡ form.Binary
     → c.history.written ++ c.history.session.output.waiting
     ≡ in_binary (mail_in c.shown_before) ++ in_binary (delivered_since c)
 
@@ -117,13 +117,13 @@ WritesAnew made c = made.form ≡ form.Binary
 -- honest and the run clean since the lines were cleared.
 abbrev pub IsKeptAnew : (Made → Made → Connections → Type 0) → Type 0
 IsKeptAnew Promise = (first second : Made) (steps : List (End × SessionStep))
-    → first_refusal first.config ≡ None → first_refusal second.config ≡ None
+    → first_refusal first.options.config ≡ None → first_refusal second.options.config ≡ None
     → AreCalls steps (first_connections first second)
     → (run_station_calls
     (calls_of_links (link_steps steps (first_connections first second)) (links_made first second))
-    (new_pair first.config second.config)).honest ≡ true
+    (new_pair first.options.config second.options.config)).honest ≡ true
     → is_clean
     (run_station_calls
     (calls_of_links (link_steps steps (first_connections first second)) (links_made first second))
-    (new_pair first.config second.config)) ≡ true
+    (new_pair first.options.config second.options.config)) ≡ true
     → Promise first second (after_steps steps (first_connections first second))

@@ -32,8 +32,8 @@ pub record HasRun (made : Made) (new : SessionView) (held : BuffersView) (t : Tr
 -- In binary, if what one's input gave begins a file of messages that fit, then what the other's
 -- output took begins that file too.
 abbrev pub DevicesPipe : Made → Made → SessionHistory → SessionHistory → Type 0
-DevicesPipe made other giver taker = made.form ≡ form.Binary → other.form ≡ form.Binary
-    → (messages : List (List ℕ)) → All (Fits made.config.max) messages
+DevicesPipe made other giver taker = made.options.form ≡ form.Binary → other.options.form ≡ form.Binary
+    → (messages : List (List ℕ)) → All (Fits made.options.config.max) messages
     → (held other_held : BuffersView) (t other_t : Traffic)
     → Agrees held giver t → Agrees other_held taker other_t
     → Begins t.read (in_binary messages) → Begins other_t.written (in_binary messages)
@@ -41,8 +41,8 @@ DevicesPipe made other giver taker = made.form ≡ form.Binary → other.form �
 -- And if the input gave all of the file, of which nothing is held, and the one may end as
 -- delivered, then the other's output took all of it, once nothing waits there.
 abbrev pub DevicesPipeAll : Made → Made → SessionHistory → SessionHistory → Type 0
-DevicesPipeAll made other giver taker = made.form ≡ form.Binary → other.form ≡ form.Binary
-    → (messages : List (List ℕ)) → All (Fits made.config.max) messages
+DevicesPipeAll made other giver taker = made.options.form ≡ form.Binary → other.options.form ≡ form.Binary
+    → (messages : List (List ℕ)) → All (Fits made.options.config.max) messages
     → (held other_held : BuffersView) (t other_t : Traffic)
     → Agrees held giver t → Agrees other_held taker other_t
     → t.read ≡ in_binary messages → held.input ≡ [] → is_delivered giver.session ≡ true

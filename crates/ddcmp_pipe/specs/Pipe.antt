@@ -4,14 +4,14 @@ use Rattle.std.specs.List.{All}
 use Rattle.ddcmp_frame.specs.Reader.{ReaderView}
 use Rattle.ddcmp_input.specs.InBinary.{in_binary, Fits}
 use Rattle.ddcmp_proto.specs.Config.{first_refusal}
-use Rattle.ddcmp_proto.specs.declared.config.Config.{Config}
 use Rattle.ddcmp_run.specs.declared.event.End.{End}
 use Rattle.ddcmp_run.specs.declared.event.End.TheVariants.{A, B}
 use Rattle.ddcmp_run.specs.Prefix.{IsPrefixOf}
 use Rattle.ddcmp_run.specs.Run.{new_pair}
 use Rattle.ddcmp_laws.specs.Faithful.{Begins}
-use Rattle.ddcmp_session.specs.declared.messages.Form.{Form}
 use Rattle.ddcmp_session.specs.declared.messages.Form.TheVariants as form
+use Rattle.ddcmp_session.specs.declared.options.LineKind.{LineKind}
+use Rattle.ddcmp_session.specs.declared.options.Options.{Options}
 use Rattle.ddcmp_session.specs.Session.{is_delivered}
 use Rattle.ddcmp_callers.specs.Calls.{run_calls}
 use Rattle.ddcmp_callers.specs.Links.{LinkStep, Links, new_links, count_if}
@@ -22,13 +22,12 @@ use Rattle.ddcmp_pipe.specs.Sessions.{messages_of, mail_in, link_steps_of}
 
 -- how a session is made
 pub record Made : Type 0 where
-  pub form : Form
-  pub config : Config
-  pub milliseconds : ℕ
+  pub options : Options
+  pub kind : LineKind
   pub line : ReaderView
 
 abbrev pub session_of : Made → SessionHistory
-session_of made = new_session made.form made.config made.milliseconds made.line
+session_of made = new_session made.options made.kind made.line
 
 -- the histories of two sessions
 pub record Sessions : Type 0 where
@@ -40,7 +39,7 @@ new_sessions first second = record { a = session_of first; b = session_of second
 
 abbrev pub links_made : Made → Made → Links
 links_made first second =
-    new_links first.config first.milliseconds first.line second.config second.milliseconds
+    new_links first.options.config first.options.timer_ms first.line second.options.config second.options.timer_ms
     second.line
 
 abbrev pub session_at : End → Sessions → SessionHistory
@@ -92,11 +91,11 @@ pub record AreConnectedOnce (steps : List (End × SessionStep)) : Type 0 where
 -- good frames that each received are, in their order, among those that the other sent.
 abbrev pub IsKeptByPipes : (Made → Made → Sessions → Type 0) → Type 0
 IsKeptByPipes Promise = (first second : Made) (steps : List (End × SessionStep))
-    → first_refusal first.config ≡ None → first_refusal second.config ≡ None
+    → first_refusal first.options.config ≡ None → first_refusal second.options.config ≡ None
     → AreSessionCalls steps (new_sessions first second)
     → (run_calls
     (calls_of_steps (link_steps_at steps (new_sessions first second)) (links_made first second))
-    (new_pair first.config second.config)).honest ≡ true
+    (new_pair first.options.config second.options.config)).honest ≡ true
     → AreConnectedOnce steps
     → Promise first second (after_sessions steps (new_sessions first second))
 
@@ -117,7 +116,7 @@ SessionsOverStreams (step ∷ rest) p =
 -- The same over connections, which give their bytes in order: no other premise is needed.
 abbrev pub IsKeptOverConnections : (Made → Made → Sessions → Type 0) → Type 0
 IsKeptOverConnections Promise = (first second : Made) (steps : List (End × SessionStep))
-    → first_refusal first.config ≡ None → first_refusal second.config ≡ None
+    → first_refusal first.options.config ≡ None → first_refusal second.options.config ≡ None
     → SessionsOverStreams steps (new_sessions first second)
     → AreConnectedOnce steps
     → Promise first second (after_sessions steps (new_sessions first second))
@@ -130,28 +129,28 @@ undelivered h = h.session.link.station.core.station.inbox
 -- their order, each once and unchanged.
 abbrev pub Pipes : Made → SessionHistory → SessionHistory → Type 0
 Pipes made giver taker =
-    IsPrefixOf (mail_in taker.shown) (messages_of made.form made.config.max giver.input)
+    IsPrefixOf (mail_in taker.shown) (messages_of made.options.form made.options.config.max giver.input)
 
 -- If one session may end as delivered, the other has received all of the messages that its input
 -- has: these, and no others.
 abbrev pub PipesAll : Made → SessionHistory → SessionHistory → Type 0
 PipesAll made giver taker = is_delivered giver.session ≡ true
     → mail_in taker.shown ++ undelivered taker
-    ≡ messages_of made.form made.config.max giver.input
+    ≡ messages_of made.options.form made.options.config.max giver.input
 
 -- In binary, if what was read of one's input begins a file of messages that fit, then what the
 -- other's output took begins that file too.
 abbrev pub PipesBytes : Made → Made → SessionHistory → SessionHistory → Type 0
-PipesBytes made other giver taker = made.form ≡ form.Binary → other.form ≡ form.Binary
-    → (messages : List (List ℕ)) → All (Fits made.config.max) messages
+PipesBytes made other giver taker = made.options.form ≡ form.Binary → other.options.form ≡ form.Binary
+    → (messages : List (List ℕ)) → All (Fits made.options.config.max) messages
     → Begins giver.input (in_binary messages)
     → Begins taker.written (in_binary messages)
 
 -- And if all of the file was read, and the one may end as delivered, then the other's output has
 -- all of it, once nothing waits there.
 abbrev pub PipesWhole : Made → Made → SessionHistory → SessionHistory → Type 0
-PipesWhole made other giver taker = made.form ≡ form.Binary → other.form ≡ form.Binary
-    → (messages : List (List ℕ)) → All (Fits made.config.max) messages
+PipesWhole made other giver taker = made.options.form ≡ form.Binary → other.options.form ≡ form.Binary
+    → (messages : List (List ℕ)) → All (Fits made.options.config.max) messages
     → giver.input ≡ in_binary messages
     → is_delivered giver.session ≡ true → undelivered taker ≡ [] → taker.session.output.waiting ≡ []
     → taker.written ≡ in_binary messages

@@ -3,21 +3,25 @@ use Rattle.std.specs.Prelude.{◌≡◌, ℕ, true, false, List, [], ◌∷◌, 
 use Rattle.ddcmp_frame.specs.Reader.{ReaderView}
 use Rattle.ddcmp_input.specs.InBinary.{behind_length}
 use Rattle.ddcmp_core.specs.Table.{after_halt}
-use Rattle.ddcmp_proto.specs.Bytes.{after_piece}
-use Rattle.ddcmp_station.specs.Linking.{with_state, after_frames, after_sent, after_wake}
+use Rattle.ddcmp_proto.specs.Bytes.{after_piece, notices_of_piece}
+use Rattle.ddcmp_station.specs.Linking.{LinkView, with_state, after_frames, after_sent}
 use Rattle.ddcmp_station.specs.Linking.{after_taking}
 use Rattle.ddcmp_run.specs.declared.event.End.{End}
 use Rattle.ddcmp_run.specs.declared.event.End.TheVariants.{A, B}
 use Rattle.ddcmp_session.specs.declared.messages.Form.TheVariants as form
+use Rattle.ddcmp_session.specs.declared.options.LineKind.TheVariants.{Connect}
+use Rattle.ddcmp_session.specs.declared.options.Options.{Options}
 use Rattle.ddcmp_io.specs.Queue.{after_pushed, after_taken}
 use Rattle.ddcmp_session.specs.Session.{SessionView, form_of, after_typed, after_input_end}
-use Rattle.ddcmp_session.specs.Session.{is_delivered, pause_at}
+use Rattle.ddcmp_session.specs.Session.{is_delivered, after_connected, after_timeout}
+use Rattle.ddcmp_session.specs.Session.{course_received, lost_among, lost_at_end, lost_by_end}
+use Rattle.ddcmp_session.specs.Course.{lost_more}
 use Rattle.ddcmp_laws.specs.Story.{strt_bytes, stack_bytes, first_bytes, ack_1_bytes}
 use Rattle.ddcmp_laws.specs.Vectors.{abc}
 use Rattle.ddcmp_callers.specs.LinkStory.{small}
 use Rattle.ddcmp_session.specs.Calls.{SessionCall, Typed, InputEnded, Connected, LineEnded}
 use Rattle.ddcmp_session.specs.Calls.{Received, Filled, LineTook, TimedOut, Delivered, OutputTook}
-use Rattle.ddcmp_session.specs.Calls.{Closed, SessionHistory, SessionStep, after_connected}
+use Rattle.ddcmp_session.specs.Calls.{Closed, SessionHistory, SessionStep}
 use Rattle.ddcmp_session.specs.Calls.{shown_in}
 use Rattle.ddcmp_pipe.specs.Sessions.{texts_of}
 use Rattle.ddcmp_pipe.specs.Pipe.{Made, Sessions, new_sessions, session_at, after_session_at}
@@ -29,6 +33,14 @@ after_shown call h s = record s {
       s.output;
 }
 
+-- its link after bytes of the line
+abbrev pub link_fed : List ℕ → SessionHistory → LinkView
+link_fed used h = record h.session.link {
+  station = record h.session.link.station {
+    core = after_piece h.used used h.session.link.station.core;
+  };
+}
+
 -- a session after a call, whose text has room
 abbrev pub session_after : SessionCall → SessionHistory → SessionView
 session_after (Typed used) h = after_typed used h.session
@@ -38,30 +50,30 @@ session_after (LineEnded r) h = after_shown (LineEnded r) h
     (record h.session {
       link = with_state (after_halt h.session.link.station.core.station) h.session.link;
       has_line = false;
+      course = lost_more (lost_by_end h.session) h.session.course;
     })
 session_after (Received used) h = after_shown (Received used) h
     (record h.session {
-      link = record h.session.link {
-        station = record h.session.link.station {
-          core = after_piece h.used used h.session.link.station.core;
-        };
-      };
+      link = link_fed used h;
+      course = course_received h.session (link_fed used h)
+          (notices_of_piece h.used used h.session.link.station.core);
     })
 session_after (Filled frames) h =
     record h.session { link = after_frames frames h.session.link }
 session_after (LineTook n) h = record h.session { link = after_sent n h.session.link }
-session_after (TimedOut now) h = record h.session {
-  link = after_wake now h.session.link;
-  pause = pause_at now h.session.pause;
-}
+session_after (TimedOut now) h = after_timeout now h.session
 session_after (Delivered true) h = after_shown (Delivered true) h
     (record h.session { link = after_taking h.session.link })
 session_after (Delivered false) h = h.session
 session_after (OutputTook n) h = record h.session { output = after_taken n h.session.output }
-session_after (Closed r) h = after_shown (Closed r) h
+session_after (Closed left over r) h = after_shown (Closed left over r) h
     (record h.session {
       link = with_state (after_halt h.session.link.station.core.station) h.session.link;
       has_line = false;
+      course =
+          lost_more (lost_by_end h.session)
+          (lost_more (lost_at_end left over h.session)
+          (lost_more (lost_among left h.session) h.session.course));
       is_read = true;
     })
 
@@ -77,8 +89,25 @@ steps_by (one ∷ rest) p =
 -- ---- the story
 
 -- messages in binary, of at most 5 bytes, one at a time
+abbrev pub small_options : Options
+small_options = record {
+  config = small;
+  timer_ms = 1000;
+  attempts = 0;
+  linger_ms = 0;
+  seconds = 10;
+  report = 0;
+  form = form.Binary;
+  stay = false;
+  again = false;
+  counters = false;
+  trace = false;
+  clock = false;
+  json = false;
+}
+
 abbrev pub small_made : ReaderView → Made
-small_made line = record { form = form.Binary; config = small; milliseconds = 1000; line = line }
+small_made line = record { options = small_options; kind = Connect; line = line }
 
 abbrev pub small_sessions : ReaderView → ReaderView → Sessions
 small_sessions line other_line = new_sessions (small_made line) (small_made other_line)

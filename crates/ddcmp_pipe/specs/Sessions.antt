@@ -88,7 +88,7 @@ link_steps_of (TimedOut now) s new = link_step (Wakes now) new ∷ []
 link_steps_of (Delivered true) s new = link_step Takes new ∷ []
 link_steps_of (Delivered false) s new = []
 link_steps_of (OutputTook n) s new = []
-link_steps_of (Closed is_reported) s new = link_step Halts new ∷ []
+link_steps_of (Closed left is_at_end is_reported) s new = link_step Halts new ∷ []
 
 unfoldable pub link_steps_in : List SessionStep → SessionHistory → List LinkStep
 link_steps_in [] h = []

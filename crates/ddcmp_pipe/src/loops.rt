@@ -23,7 +23,7 @@ pub fn runs_are_histories()
     ensures text { (made : Made) (now : SessionView) (held : BuffersView) (t : Traffic)
         (ran : HasRun made now held t)
         → t.written ++ now.output.waiting
-        ≡ texts_of made.form (after_session_steps ran.steps (session_of made)).shown }
+        ≡ texts_of made.options.form (after_session_steps ran.steps (session_of made)).shown }
 {}
 
 /// Two such sessions over an honest line, each connected at most once, with their messages in

@@ -21,8 +21,8 @@ use std::alloc::Global;
 
 /// Makes a session of sizes in range, with which a history begins.
 pub fn makes(alloc: Global, options: Options, kind: LineKind) -> Result<Session, ConfigRefusal>
-    ensures begins { IfOk result (λ s. s ≡ (new_session options.form options.config
-        options.timer_ms s.link.station.line).session) }
+    ensures begins { IfOk result (λ s. s
+        ≡ (new_session options kind s.link.station.line).session) }
     ensures line { IfOk result (λ s. StandsFor s.link.station.line []) }
     ensures in_range { IfOk result (λ s. first_refusal options.config ≡ None) }
 {
@@ -133,7 +133,8 @@ pub fn output_takes(session: &mut Session, n: usize)
 
 /// Ends the run; returns whether there was room to report what is lost.
 pub fn closes(session: &mut Session, input: &[u8], input_is_at_end: bool) -> bool
-    ensures done { (text : List ℕ) → SessionDoes (Closed result) text session.old session.new }
+    ensures done { (text : List ℕ)
+        → SessionDoes (Closed input.now input_is_at_end result) text session.old session.new }
     ensures when { result ≡ reports_loss session.old }
     ensures line { session.new.link.station.line ≡ session.old.link.station.line }
 {

@@ -2,8 +2,8 @@
 ghost use Rattle.std.specs.Prelude.{◌≡◌, ◌++◌, ℕ, List};
 ghost use Rattle.ddcmp_frame.specs.Reader.{ReaderView};
 ghost use Rattle.ddcmp_input.specs.InBinary.{in_binary};
-ghost use Rattle.ddcmp_proto.specs.declared.config.Config.{Config as ConfigValue};
-ghost use Rattle.ddcmp_session.specs.declared.messages.Form.{Form as FormValue};
+ghost use Rattle.ddcmp_session.specs.declared.options.LineKind.{LineKind as LineKindValue};
+ghost use Rattle.ddcmp_session.specs.declared.options.Options.{Options as OptionsValue};
 ghost use Rattle.ddcmp_session.specs.declared.messages.Form.TheVariants.{Binary};
 ghost use Rattle.ddcmp_callers.specs.Links.{IsHistory, after_history, new_history, offered_in};
 ghost use Rattle.ddcmp_session.specs.Calls.{SessionStep, new_session, IsSessionHistory};
@@ -16,37 +16,37 @@ ghost use Rattle.ddcmp_pipe.specs.Sessions.{texts_of};
 /// offered are those of the input, in their order, each once, and all of them were accepted; and
 /// the messages that were taken are those that the session delivered.
 pub fn session_calls_are_link_calls()
-    ensures calls { (form : FormValue) (config : ConfigValue) (milliseconds : ℕ)
-        (line : ReaderView) (steps : List SessionStep)
-        → IsSessionHistory steps (new_session form config milliseconds line)
-        → IsHistory (link_steps_in steps (new_session form config milliseconds line))
-        (new_history config milliseconds line) }
-    ensures same { (form : FormValue) (config : ConfigValue) (milliseconds : ℕ)
-        (line : ReaderView) (steps : List SessionStep)
-        → IsSessionHistory steps (new_session form config milliseconds line)
-        → IsOfLink form config.max
-        (after_session_steps steps (new_session form config milliseconds line))
-        (after_history (link_steps_in steps (new_session form config milliseconds line))
-        (new_history config milliseconds line)) }
-    ensures offers { (form : FormValue) (config : ConfigValue) (milliseconds : ℕ)
-        (line : ReaderView) (steps : List SessionStep)
-        → IsSessionHistory steps (new_session form config milliseconds line)
-        → offered_in (link_steps_in steps (new_session form config milliseconds line))
-        ≡ messages_of form config.max
-        (after_session_steps steps (new_session form config milliseconds line)).input }
+    ensures calls { (options : OptionsValue) (kind : LineKindValue) (line : ReaderView)
+        (steps : List SessionStep)
+        → IsSessionHistory steps (new_session options kind line)
+        → IsHistory (link_steps_in steps (new_session options kind line))
+        (new_history options.config options.timer_ms line) }
+    ensures same { (options : OptionsValue) (kind : LineKindValue) (line : ReaderView)
+        (steps : List SessionStep)
+        → IsSessionHistory steps (new_session options kind line)
+        → IsOfLink options.form options.config.max
+        (after_session_steps steps (new_session options kind line))
+        (after_history (link_steps_in steps (new_session options kind line))
+        (new_history options.config options.timer_ms line)) }
+    ensures offers { (options : OptionsValue) (kind : LineKindValue) (line : ReaderView)
+        (steps : List SessionStep)
+        → IsSessionHistory steps (new_session options kind line)
+        → offered_in (link_steps_in steps (new_session options kind line))
+        ≡ messages_of options.form options.config.max
+        (after_session_steps steps (new_session options kind line)).input }
 {}
 
 /// What standard output took of a new session, and after it what waits for it, is the text of the
 /// messages that were delivered and of what was reported, in their order. In binary it is the
 /// messages alone, each after its length.
 pub fn output_is_text_of()
-    ensures text { (form : FormValue) (config : ConfigValue) (milliseconds : ℕ)
-        (line : ReaderView) (steps : List SessionStep)
-        → IsSessionHistory steps (new_session form config milliseconds line)
-        → (after_session_steps steps (new_session form config milliseconds line)).written
+    ensures text { (options : OptionsValue) (kind : LineKindValue) (line : ReaderView)
+        (steps : List SessionStep)
+        → IsSessionHistory steps (new_session options kind line)
+        → (after_session_steps steps (new_session options kind line)).written
         ++ (after_session_steps steps
-        (new_session form config milliseconds line)).session.output.waiting
-        ≡ texts_of form
-        (after_session_steps steps (new_session form config milliseconds line)).shown }
+        (new_session options kind line)).session.output.waiting
+        ≡ texts_of options.form
+        (after_session_steps steps (new_session options kind line)).shown }
     ensures binary { (shown : List Shown) → texts_of Binary shown ≡ in_binary (mail_in shown) }
 {}

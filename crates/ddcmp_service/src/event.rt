@@ -18,6 +18,11 @@ pub(crate) enum Event<'a> {
 }
 
 impl fmt::Display for Event<'_> {
+    ghost use Rattle.std.specs.Prelude.{Some};
+    ghost use Rattle.ddcmp_service.specs.Events.{event_text};
+
+    ghost output = { λ event. Some (event_text event) };
+
     fn fmt<W: fmt::Write>(&self, f: &mut fmt::Formatter<W>) -> fmt::Result {
         match self {
             Event::Listening(addr) => write!(f, "listening {addr}"),

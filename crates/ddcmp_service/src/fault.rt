@@ -1,4 +1,7 @@
 //! What goes wrong with a line, and why a service ended.
+ghost use Rattle.std.specs.Prelude.{◌≡◌};
+ghost use Rattle.ddcmp_service.specs.Events.{cause_text};
+
 use ddcmp_io::cause::words_of;
 use std::fmt;
 use std::io::ErrorKind;
@@ -28,7 +31,9 @@ pub enum Cause {
 
 impl Cause {
     /// The cause in words.
-    fn words(self) -> &'static str {
+    fn words(self) -> &'static str
+        ensures { result.now ≡ cause_text self }
+    {
         match self {
             Cause::System(kind) => words_of(kind),
             Cause::UnknownHost => "no such host",
@@ -48,6 +53,11 @@ pub struct NotOpened<'a> {
 }
 
 impl fmt::Display for NotOpened<'_> {
+    ghost use Rattle.std.specs.Prelude.{Some};
+    ghost use Rattle.ddcmp_service.specs.Events.{not_opened_text};
+
+    ghost output = { λ fault. Some (not_opened_text fault) };
+
     fn fmt<W: fmt::Write>(&self, f: &mut fmt::Formatter<W>) -> fmt::Result {
         f.write_str(match self.attempt {
             Attempt::Connect => "connect ",

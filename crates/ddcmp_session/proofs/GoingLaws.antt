@@ -3,12 +3,12 @@ use Rattle.std.proofs.Common.{◌⊎◌, inl, inr, Result, Err}
 use Rattle.std.specs.Result.{IsErrAnd}
 use Rattle.std.proofs.Common.{◌≡◌, ◌∙◌, ap, sym, subst, refl, ℕ, Bool, true}
 use Rattle.std.proofs.Common.{false, List, [], ◌∷◌, ◌++◌, Option, Some}
-use Rattle.std.proofs.Common.{append_assoc, append-nil}
+use Rattle.std.proofs.Common.{append_assoc, append-nil, cond}
 use Rattle.ddcmp_session.specs.Devices.{HasReported, IsOfRun, AreOfRun, Reports, after_fault}
 use Rattle.ddcmp_session.specs.Devices.{after_wait}
 use Rattle.std.specs.Prelude.{if◌then◌else◌, ◌||◌}
 use Rattle.ddcmp_frame.specs.Reader.{StandsFor}
-use Rattle.ddcmp_station.specs.Linking.{LinkView, after_taking, after_wake, after_frames}
+use Rattle.ddcmp_station.specs.Linking.{LinkView, after_taking, after_frames}
 use Rattle.ddcmp_window.specs.Store.{first_message}
 use Rattle.ddcmp_session.specs.Text.{Wrote, mail_text}
 use Rattle.ddcmp_session.proofs.FrameLaws.{PutsFrames, frames-line}
@@ -19,13 +19,13 @@ use Rattle.ddcmp_session.specs.declared.devices.Moved.TheVariants.{Bytes, Nothin
 use Rattle.ddcmp_session.specs.declared.devices.Moved.TheVariants.{Ended}
 use Rattle.ddcmp_session.specs.declared.devices.Fault.TheVariants.{Line, Input}
 use Rattle.ddcmp_session.specs.Session.{SessionView, form_of}
-use Rattle.ddcmp_session.specs.Session.{IsFilled, pause_at}
+use Rattle.ddcmp_session.specs.Session.{IsFilled, after_timeout}
 use Rattle.ddcmp_session.specs.Calls.{SessionCall}
 use Rattle.ddcmp_session.specs.Calls.{Delivered, Filled, TimedOut}
 use Rattle.ddcmp_session.specs.Calls.{SessionDoes}
 use Rattle.ddcmp_session.specs.Calls.{SessionHistory, SessionStep, IsSessionHistory}
 use Rattle.ddcmp_session.specs.Calls.{after_session_step, after_session_steps, used_in, gone_in}
-use Rattle.ddcmp_session.specs.Calls.{input_in, written_in}
+use Rattle.ddcmp_session.specs.Calls.{end_in, input_in, is_told_in, written_in}
 use Rattle.ddcmp_session.specs.Devices.{Traffic, BuffersView, Agrees, WentOn, GoesOn, Becomes}
 use Rattle.ddcmp_session.specs.Devices.{after_came}
 use Rattle.ddcmp_session.specs.Devices.{end_of}
@@ -108,23 +108,34 @@ one-went call h new held t of does agrees = record {
 pub nothing-more : {xs ys : List ℕ} → ys ≡ [] → xs ≡ xs ++ ys
 nothing-more {xs} {ys} none = sym (append-nil xs) ∙ ap (λ zs. xs ++ zs) (sym none)
 
+-- the end of its input stays
+pub end-is : (h : SessionHistory) (new : SessionView)
+    → form_of new.messages ≡ form_of h.session.messages
+    → cond h.is_told (end_in (form_of new.messages)) [] ≡ end_of h
+end-is h new form = ap (λ f. cond h.is_told (end_in f) []) form
+
 -- A call that moves no bytes.
 module _ (call : SessionCall) (held : BuffersView) (known : Option Traffic) where
   quiet-at : (h : SessionHistory) (new : SessionView) (t : Traffic) → IsOfRun call
       → SessionDoes call h.used h.session new
       → used_in call ≡ [] → gone_in call h.session ≡ [] → input_in call h.session ≡ []
       → written_in call h.session ≡ []
-      → end_of new ≡ end_of h.session → new.is_read ≡ h.session.is_read
+      → is_told_in call h.session ≡ false
+      → form_of new.messages ≡ form_of h.session.messages
+      → (h.session.is_read ≡ true → new.is_read ≡ true)
       → new.link.station.line ≡ h.session.link.station.line
       → Agrees held h t → WentOn h new held t
-  quiet-at h new t of does no-used no-gone no-input no-written ends reads line a =
+  quiet-at h new t of does no-used no-gone no-input no-written no-told form reads line a =
       one-went call h new held t of does (record {
         read =
-            ap (λ xs. t.read ++ xs) ends
+            ap (λ xs. t.read ++ xs)
+            (ap (λ b. cond (b || h.is_told) (end_in (form_of new.messages)) []) no-told
+            ∙ end-is h new form)
             ∙ a.read
             ∙ ap (λ xs. xs ++ held.input) (nothing-more no-input);
         over = a.over;
-        told = λ e. a.told (sym reads ∙ e);
+        told = λ e. a.told (sym (ap (λ b. b || h.is_told) no-told) ∙ e);
+        ended = λ e. reads (a.ended (sym (ap (λ b. b || h.is_told) no-told) ∙ e));
         came = a.came ∙ ap (λ xs. xs ++ held.received) (nothing-more no-used);
         gone = a.gone ∙ nothing-more no-gone;
         written = a.written ∙ nothing-more no-written;
@@ -138,10 +149,12 @@ module _ (call : SessionCall) (held : BuffersView) (known : Option Traffic) wher
       → ((text : List ℕ) → SessionDoes call text old new)
       → used_in call ≡ [] → gone_in call old ≡ [] → input_in call old ≡ []
       → written_in call old ≡ []
-      → end_of new ≡ end_of old → new.is_read ≡ old.is_read
+      → is_told_in call old ≡ false → form_of new.messages ≡ form_of old.messages
+      → (old.is_read ≡ true → new.is_read ≡ true)
       → new.link.station.line ≡ old.link.station.line
       → GoesOn held old known held new known
-  quiet old new of does no-used no-gone no-input no-written ends reads line = λ h t is was a.
+  quiet old new of does no-used no-gone no-input no-written no-told form reads line =
+      λ h t is was a.
       let s : ◌≡◌ {A = SessionView} h.session old = is in (
         t,
         was,
@@ -151,8 +164,9 @@ module _ (call : SessionCall) (held : BuffersView) (known : Option Traffic) wher
             (ap (gone_in call) is ∙ no-gone)
             (ap (input_in call) is ∙ no-input)
             (ap (written_in call) is ∙ no-written)
-            (ends ∙ sym (ap end_of is))
-            (reads ∙ sym (ap (λ (x : SessionView). x.is_read) is))
+            (ap (is_told_in call) is ∙ no-told)
+            (form ∙ sym (ap (λ (x : SessionView). form_of x.messages) is))
+            (λ e. reads (sym (ap (λ (x : SessionView). x.is_read) is) ∙ e))
             (line ∙ sym (ap (λ (x : SessionView). x.link.station.line) is))
             a,
       )
@@ -174,8 +188,11 @@ pub delivered-goes : {held : BuffersView} {known : Option Traffic} (has : Bool)
 delivered-goes {held} {known} true old new link wrote waits stays =
     quiet (Delivered true) held known old new tt
     (λ text. record { link = link; wrote = wrote refl; stays = stays }) refl refl refl refl
-    (same-at end_of new (record old { link = new.link; output = new.output }) stays)
-    (same-at (λ x. x.is_read) new (record old { link = new.link; output = new.output }) stays)
+    refl
+    (same-at (λ x. form_of x.messages) new (record old { link = new.link; output = new.output })
+    stays)
+    (λ e. same-at (λ x. x.is_read) new (record old { link = new.link; output = new.output }) stays
+    ∙ e)
     (ap (λ (d : LinkView). d.station.line) link)
 delivered-goes {held} {known} false old new link wrote waits stays =
     quiet (Delivered false) held known old new tt
@@ -183,8 +200,11 @@ delivered-goes {held} {known} false old new link wrote waits stays =
       wrote = waits refl;
       stays = stays ∙ ap (λ d. record old { link = d; output = new.output }) link;
     }) refl refl refl refl
-    (same-at end_of new (record old { link = new.link; output = new.output }) stays)
-    (same-at (λ x. x.is_read) new (record old { link = new.link; output = new.output }) stays)
+    refl
+    (same-at (λ x. form_of x.messages) new (record old { link = new.link; output = new.output })
+    stays)
+    (λ e. same-at (λ x. x.is_read) new (record old { link = new.link; output = new.output }) stays
+    ∙ e)
     (ap (λ (d : LinkView). d.station.line) link)
 
 -- frames were put after what waits for the line
@@ -193,17 +213,19 @@ pub filled-goes : {held : BuffersView} {known : Option Traffic} (old new : Sessi
 filled-goes {held} {known} old new puts filled =
     let now-is = record old { link = after_frames puts.0 old.link } in
     quiet (Filled puts.0) held known old new tt (λ text. (puts.1, filled)) refl refl refl refl
-    (same-at end_of new now-is puts.1) (same-at (λ x. x.is_read) new now-is puts.1)
+    refl (same-at (λ x. form_of x.messages) new now-is puts.1)
+    (λ e. same-at (λ x. x.is_read) new now-is puts.1 ∙ e)
     (same-at (λ x. x.link.station.line) new now-is puts.1 ∙ frames-line puts.0 old.link)
 
 -- the timers were handled
 pub timed-goes : {held : BuffersView} {known : Option Traffic} (now : ℕ) (old new : SessionView)
-    → new ≡ record old { link = after_wake now old.link; pause = pause_at now old.pause }
+    → new ≡ after_timeout now old
     → GoesOn held old known held new known
 timed-goes {held} {known} now old new does =
-    let now-is = record old { link = after_wake now old.link; pause = pause_at now old.pause } in
+    let now-is = after_timeout now old in
     quiet (TimedOut now) held known old new tt (λ text. does) refl refl refl refl
-    (same-at end_of new now-is does) (same-at (λ x. x.is_read) new now-is does)
+    refl (same-at (λ x. form_of x.messages) new now-is does)
+    (λ e. same-at (λ x. x.is_read) new now-is does ∙ e)
     (same-at (λ x. x.link.station.line) new now-is does)
 
 -- ---- faults
@@ -229,6 +251,7 @@ faulted {held} {s} {k} {k'} fault becomes = λ h t is was a. (
     read = a.read;
     over = a.over;
     told = a.told;
+    ended = a.ended;
     came = a.came;
     gone = a.gone;
     written = a.written;
@@ -248,6 +271,7 @@ downed {held} {s} {k} {k'} why becomes = λ h t is was a. (
     read = a.read;
     over = a.over;
     told = a.told;
+    ended = a.ended;
     came = a.came;
     gone = a.gone;
     written = a.written;

@@ -4,7 +4,7 @@ use Rattle.std.proofs.Common.{false, List, [], ◌∷◌, ◌++◌, length, take
 use Rattle.std.proofs.Common.{append_assoc, append-nil}
 use Rattle.std.proofs.lemmas.List.{take-append-drop, nil_from_length}
 use Rattle.ddcmp_frame.proofs.Tests.{eqb-true}
-use Rattle.std.specs.Prelude.{◌&&◌, not, option_to_list}
+use Rattle.std.specs.Prelude.{◌&&◌, ◌||◌, not, option_to_list}
 use Rattle.ddcmp_input.specs.declared.entry.Entry.{Entry}
 use Rattle.ddcmp_input.specs.declared.entry.Entry.TheVariants as entry
 use Rattle.ddcmp_core.specs.Table.{may_send, after_accept}
@@ -27,10 +27,10 @@ use Rattle.ddcmp_session.specs.Calls.{input_in}
 use Rattle.ddcmp_session.specs.Devices.{Traffic, BuffersView, Agrees, GoesOn, Becomes}
 use Rattle.ddcmp_session.specs.Devices.{after_read}
 use Rattle.ddcmp_session.specs.Devices.{end_of}
-use Rattle.ddcmp_session.proofs.GoingLaws.{none-went, one-went, nothing-more, same-at}
+use Rattle.ddcmp_session.proofs.GoingLaws.{end-is, none-went, one-went, nothing-more, same-at}
 
-none-ended : (s : SessionView) → s.is_read ≡ false → end_of s ≡ []
-none-ended s e = ap (λ b. cond b (end_in (form_of s.messages)) []) e
+none-ended : (h : SessionHistory) → h.is_told ≡ false → end_of h ≡ []
+none-ended h e = ap (λ b. cond b (end_in (form_of h.session.messages)) []) e
 
 -- bytes were read of the input
 pub input-came : {held : BuffersView} {s : SessionView} {k k' : Option Traffic} (n : ℕ)
@@ -45,13 +45,14 @@ input-came {held} {s} {k} {k'} n space over empty goes becomes ends = λ h t is 
           (after_read (got.Bytes n) space t) is
           (record {
             read =
-                ap (λ xs. (t.read ++ take n space) ++ xs) (none-ended h.session unread)
+                ap (λ xs. (t.read ++ take n space) ++ xs) (none-ended h unread)
                 ∙ append-nil (t.read ++ take n space)
                 ∙ ap (λ xs. xs ++ take n space)
-                (nothing-more (none-ended h.session unread) ∙ a.read
+                (nothing-more (none-ended h unread) ∙ a.read
                 ∙ ap (λ xs. h.input ++ xs) empty ∙ append-nil h.input);
             over = ends;
             told = λ e. absurd (sym unread ∙ e);
+            ended = a.ended;
             came = a.came;
             gone = a.gone;
             written = a.written;
@@ -63,8 +64,8 @@ input-came {held} {s} {k} {k'} n space over empty goes becomes ends = λ h t is 
     absurd : false ≡ true → over ≡ true
     absurd e = cc
 
-    not-read : (h : SessionHistory) {t : Traffic} → Agrees held h t → h.session.is_read ≡ false
-    not-read h a = by h.session.is_read a.told
+    not-read : (h : SessionHistory) {t : Traffic} → Agrees held h t → h.is_told ≡ false
+    not-read h a = by h.is_told a.told
       where
         by : (b : Bool) → (b ≡ true → held.is_over ≡ true) → b ≡ false
         by true told = let bad : true ≡ false = sym (told refl) ∙ goes in cc
@@ -72,10 +73,11 @@ input-came {held} {s} {k} {k'} n space over empty goes becomes ends = λ h t is 
 
 -- a call of `typed` took bytes
 pub typed-goes : {held : BuffersView} {known : Option Traffic} (old new : SessionView) (n : ℕ)
-    → HasTyped (take n held.input) old new → end_of new ≡ end_of old → new.is_read ≡ old.is_read
+    → HasTyped (take n held.input) old new → form_of new.messages ≡ form_of old.messages
+    → new.is_read ≡ old.is_read
     → new.link.station.line ≡ old.link.station.line
     → GoesOn held old known (record held { input = drop n held.input }) new known
-typed-goes {held} {known} old new n does ends reads line = λ h t is was a.
+typed-goes {held} {known} old new n does form reads line = λ h t is was a.
     let used = take n held.input in
     let to : SessionHistory = record h { session = old } in (
       t,
@@ -84,12 +86,14 @@ typed-goes {held} {known} old new n does ends reads line = λ h t is was a.
           (subst (λ (x : SessionView). HasTyped used x new) (sym is) does)
           (record {
             read =
-                ap (λ xs. t.read ++ xs) (ends ∙ sym (same-at end_of h.session old is))
+                ap (λ xs. t.read ++ xs)
+                (end-is h new (form ∙ sym (same-at (λ x. form_of x.messages) h.session old is)))
                 ∙ a.read
                 ∙ ap (λ xs. h.input ++ xs) (sym (take-append-drop n held.input))
                 ∙ sym (append_assoc h.input used (drop n held.input));
             over = a.over;
-            told = λ e. a.told (same-at (λ x. x.is_read) h.session old is ∙ sym reads ∙ e);
+            told = a.told;
+            ended = λ e. reads ∙ sym (same-at (λ x. x.is_read) h.session old is) ∙ a.ended e;
             came = a.came ∙ ap (λ xs. xs ++ held.received) (sym (append-nil h.used));
             gone = a.gone ∙ sym (append-nil h.gone);
             written = a.written ∙ sym (append-nil h.written);
@@ -106,19 +110,22 @@ typed-goes {held} {known} old new n does ends reads line = λ h t is was a.
 pub ended-goes : {held : BuffersView} {known : Option Traffic} (old new : SessionView)
     → new ≡ after_input_end old → wants_input old ≡ true → old.is_read ≡ false
     → held.input ≡ [] → held.is_over ≡ true
-    → end_of new ≡ end_in (form_of old.messages)
+    → form_of new.messages ≡ form_of old.messages → new.is_read ≡ true
     → new.link.station.line ≡ old.link.station.line
     → GoesOn held old known held new known
-ended-goes {held} {known} old new does wants unread empty over ends line = λ h t is was a. (
+ended-goes {held} {known} old new does wants unread empty over form reads line = λ h t is was a. (
   t,
   was,
   one-went InputEnded h new held t tt
       (subst (λ (x : SessionView). new ≡ after_input_end x) (sym is) does)
       (record {
         read =
-            ap (λ xs. t.read ++ xs) ends
+            ap (λ xs. t.read ++ xs)
+            (ap (λ b. cond (b || h.is_told) (end_in (form_of new.messages)) [])
+            (same-at wants_input h.session old is ∙ wants)
+            ∙ ap end_in form)
             ∙ ap (λ xs. xs ++ end_in (form_of old.messages))
-            (nothing-more (same-at end_of h.session old is ∙ none-ended old unread) ∙ a.read
+            (nothing-more (none-ended h (untold h is a)) ∙ a.read
             ∙ ap (λ xs. h.input ++ xs) empty ∙ append-nil h.input)
             ∙ ap (λ xs. h.input ++ xs)
             (sym (same-at (input_in InputEnded) h.session old is
@@ -126,6 +133,7 @@ ended-goes {held} {known} old new does wants unread empty over ends line = λ h 
             ∙ nothing-more empty;
         over = a.over;
         told = λ e. over;
+        ended = λ e. reads;
         came = a.came ∙ ap (λ xs. xs ++ held.received) (sym (append-nil h.used));
         gone = a.gone ∙ sym (append-nil h.gone);
         written = a.written ∙ sym (append-nil h.written);
@@ -137,6 +145,16 @@ ended-goes {held} {known} old new does wants unread empty over ends line = λ h 
             a.stands);
       }),
 )
+  where
+    untold : (h : SessionHistory) {t : Traffic} → h.session ≡ old → Agrees held h t
+        → h.is_told ≡ false
+    untold h is a = by h.is_told a.ended
+      where
+        by : (b : Bool) → (b ≡ true → h.session.is_read ≡ true) → b ≡ false
+        by true ended =
+            let bad : true ≡ false =
+            sym (ended refl) ∙ same-at (λ x. x.is_read) h.session old is ∙ unread in cc
+        by false ended = refl
 
 -- ---- what stays
 
@@ -185,12 +203,6 @@ entries-messages : (es : List Entry) (s : SessionView)
 entries-messages [] s = refl
 entries-messages (e ∷ rest) s = entry-messages e s
 
-ends-by : (s s' : SessionView) → s'.is_read ≡ s.is_read
-    → form_of s'.messages ≡ form_of s.messages → end_of s' ≡ end_of s
-ends-by s s' reads form =
-    ap (λ b. cond b (end_in (form_of s'.messages)) []) reads
-    ∙ ap (λ f. cond s.is_read (end_in f) []) form
-
 -- a call of `typed` took the first bytes of those that are held
 pub types : {held : BuffersView} {known : Option Traffic} (old new : SessionView) (n : ℕ)
     → HasTyped (take n held.input) old new
@@ -202,9 +214,8 @@ types {held} {known} old new n does =
     let reads =
     same-at (λ x. x.is_read) new (after_typed used old) does.state ∙ entries-read es s in
     typed-goes old new n does
-    (ends-by old new reads
     (same-at (λ x. form_of x.messages) new (after_typed used old) does.state
-    ∙ ap form_of (entries-messages es s) ∙ form-stays used old.messages))
+    ∙ ap form_of (entries-messages es s) ∙ form-stays used old.messages)
     reads
     (same-at (λ x. x.link.station.line) new (after_typed used old) does.state ∙ entries-line es s)
 
@@ -221,10 +232,19 @@ unfinished-line s = by (is_message_unfinished s.messages)
     by true = refl
     by false = refl
 
-unfinished-end : (s : SessionView) → end_of (after_unfinished s) ≡ end_of s
-unfinished-end s = by (is_message_unfinished s.messages)
+unfinished-form : (s : SessionView)
+    → form_of (after_unfinished s).messages ≡ form_of s.messages
+unfinished-form s = by (is_message_unfinished s.messages)
   where
-    by : (b : Bool) → end_of (cond b (record s { was_refused = true }) s) ≡ end_of s
+    by : (b : Bool) → form_of (cond b (record s { was_refused = true }) s).messages
+        ≡ form_of s.messages
+    by true = refl
+    by false = refl
+
+unfinished-read : (s : SessionView) → (after_unfinished s).is_read ≡ s.is_read
+unfinished-read s = by (is_message_unfinished s.messages)
+  where
+    by : (b : Bool) → (cond b (record s { was_refused = true }) s).is_read ≡ s.is_read
     by true = refl
     by false = refl
 
@@ -238,9 +258,10 @@ ends {held} {known} old new does wants empty over =
     let to = after_unfinished (after_entries es s) in
     let done = does ∙ ap (λ b. cond b to old) wants in
     ended-goes old new does wants (unread old.is_read wants) empty over
-    (same-at end_of new to done ∙ unfinished-end (after_entries es s)
-    ∙ ends-by s (after_entries es s) (entries-read es s) (ap form_of (entries-messages es s))
-    ∙ ap end_in (last-form old.messages))
+    (same-at (λ x. form_of x.messages) new to done ∙ unfinished-form (after_entries es s)
+    ∙ ap form_of (entries-messages es s) ∙ last-form old.messages)
+    (same-at (λ x. x.is_read) new to done ∙ unfinished-read (after_entries es s)
+    ∙ entries-read es s)
     (same-at (λ x. x.link.station.line) new to done
     ∙ unfinished-line (after_entries es s) ∙ entries-line es s)
   where

@@ -1,3 +1,4 @@
+pub mod CourseLaws
 pub mod DeliverLaws
 pub mod DropLaws
 pub mod FrameLaws

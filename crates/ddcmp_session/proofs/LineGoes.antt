@@ -10,15 +10,15 @@ use Rattle.ddcmp_session.specs.declared.devices.Moved.{Moved}
 use Rattle.ddcmp_session.specs.declared.devices.Moved.TheVariants.{Bytes, Nothing, Interrupted}
 use Rattle.ddcmp_session.specs.declared.devices.Moved.TheVariants.{Ended}
 use Rattle.ddcmp_session.specs.declared.devices.Fault.TheVariants.{Line}
-use Rattle.ddcmp_session.specs.Session.{SessionView}
+use Rattle.ddcmp_session.specs.Session.{SessionView, form_of}
 use Rattle.ddcmp_session.specs.Calls.{Received, LineTook}
 use Rattle.ddcmp_session.specs.Calls.{OutputTook, HasReceived}
 use Rattle.ddcmp_session.specs.Calls.{gone_in}
 use Rattle.ddcmp_session.specs.Calls.{written_in}
 use Rattle.ddcmp_session.specs.Devices.{Traffic, BuffersView, GoesOn, Becomes}
 use Rattle.ddcmp_session.specs.Devices.{after_came, after_gone, after_written}
-use Rattle.ddcmp_session.specs.Devices.{moved_of, end_of}
-use Rattle.ddcmp_session.proofs.GoingLaws.{faulted, none-went, one-went, same-at}
+use Rattle.ddcmp_session.specs.Devices.{moved_of}
+use Rattle.ddcmp_session.proofs.GoingLaws.{end-is, faulted, none-went, one-went, same-at}
 
 -- the line gave bytes, or none
 line-moved : {held : BuffersView} {s : SessionView} {k k' : Option Traffic} (came : List ℕ)
@@ -32,6 +32,7 @@ line-moved {held} {s} {k} {k'} came empty becomes = λ h t is was a. (
         read = a.read;
         over = a.over;
         told = a.told;
+        ended = a.ended;
         came =
             ap (λ xs. xs ++ came)
             (a.came ∙ ap (λ xs. h.used ++ xs) empty ∙ append-nil h.used);
@@ -72,18 +73,19 @@ received-goes {held} {known} old new n does line = λ h t is was a.
           (record {
             read =
                 ap (λ xs. t.read ++ xs)
-                (same-at end_of new
-                (record old { link = new.link; pause = new.pause; output = new.output }) f.stays
-                ∙ sym (same-at end_of h.session old is))
+                (end-is h new
+                (same-at (λ x. form_of x.messages) new
+                (record old { link = new.link; course = new.course; output = new.output }) f.stays
+                ∙ sym (same-at (λ x. form_of x.messages) h.session old is)))
                 ∙ a.read
                 ∙ ap (λ xs. xs ++ held.input) (sym (append-nil h.input));
             over = a.over;
-            told = λ e.
-                a.told
-                (same-at (λ x. x.is_read) h.session old is
-                ∙ sym (same-at (λ x. x.is_read) new
-                (record old { link = new.link; pause = new.pause; output = new.output }) f.stays)
-                ∙ e);
+            told = a.told;
+            ended = λ e.
+                same-at (λ x. x.is_read) new
+                (record old { link = new.link; course = new.course; output = new.output }) f.stays
+                ∙ sym (same-at (λ x. x.is_read) h.session old is)
+                ∙ a.ended e;
             came =
                 a.came
                 ∙ ap (λ xs. h.used ++ xs) (sym (take-append-drop n held.received))
@@ -114,14 +116,17 @@ line-told {held} {k} {k'} old new n becomes does = λ h t is was a.
           (record {
             read =
                 ap (λ xs. t.read ++ xs)
-                (same-at end_of new now-is does ∙ sym (same-at end_of h.session old is))
+                (end-is h new
+                (same-at (λ x. form_of x.messages) new now-is does
+                ∙ sym (same-at (λ x. form_of x.messages) h.session old is)))
                 ∙ a.read
                 ∙ ap (λ xs. xs ++ held.input) (sym (append-nil h.input));
             over = a.over;
-            told = λ e.
-                a.told
-                (same-at (λ x. x.is_read) h.session old is
-                ∙ sym (same-at (λ x. x.is_read) new now-is does) ∙ e);
+            told = a.told;
+            ended = λ e.
+                same-at (λ x. x.is_read) new now-is does
+                ∙ sym (same-at (λ x. x.is_read) h.session old is)
+                ∙ a.ended e;
             came = a.came ∙ ap (λ xs. xs ++ held.received) (sym (append-nil h.used));
             gone =
                 ap (λ xs. xs ++ take n old.link.outbox.waiting) a.gone
@@ -164,14 +169,17 @@ output-told {held} {k} {k'} old new n becomes does = λ h t is was a.
           (record {
             read =
                 ap (λ xs. t.read ++ xs)
-                (same-at end_of new now-is does ∙ sym (same-at end_of h.session old is))
+                (end-is h new
+                (same-at (λ x. form_of x.messages) new now-is does
+                ∙ sym (same-at (λ x. form_of x.messages) h.session old is)))
                 ∙ a.read
                 ∙ ap (λ xs. xs ++ held.input) (sym (append-nil h.input));
             over = a.over;
-            told = λ e.
-                a.told
-                (same-at (λ x. x.is_read) h.session old is
-                ∙ sym (same-at (λ x. x.is_read) new now-is does) ∙ e);
+            told = a.told;
+            ended = λ e.
+                same-at (λ x. x.is_read) new now-is does
+                ∙ sym (same-at (λ x. x.is_read) h.session old is)
+                ∙ a.ended e;
             came = a.came ∙ ap (λ xs. xs ++ held.received) (sym (append-nil h.used));
             gone = a.gone ∙ sym (append-nil h.gone);
             written =

@@ -1,13 +1,12 @@
 -- The calls of a session: what the contract of each says, and the history of a session.
-use Rattle.std.specs.Prelude.{◌≡◌, ◌⊎◌, ℕ, Bool, true, false, if◌then◌else◌, List, [], ◌∷◌, ◌++◌}
-use Rattle.std.specs.Prelude.{map, take, None, Some, is_ok, option_to_list}
+use Rattle.std.specs.Prelude.{◌≡◌, ◌||◌, ℕ, Bool, true, false, if◌then◌else◌, List, [], ◌∷◌, ◌++◌}
+use Rattle.std.specs.Prelude.{map, take, None, Some, option_to_list}
 use Rattle.ddcmp_window.specs.Store.{first_message}
-use Rattle.ddcmp_core.specs.Table.{after_halt, answer_to_start}
+use Rattle.ddcmp_core.specs.Table.{after_halt}
 use Rattle.ddcmp_core.specs.declared.notice.Notice.{Notice}
 use Rattle.ddcmp_frame.specs.Reader.{ReaderView}
 use Rattle.ddcmp_proto.specs.Bytes.{notices_of_piece, after_piece}
-use Rattle.ddcmp_proto.specs.declared.config.Config.{Config}
-use Rattle.ddcmp_station.specs.Linking.{anew, after_frames, after_sent, after_taking, after_wake}
+use Rattle.ddcmp_station.specs.Linking.{after_frames, after_sent, after_taking}
 use Rattle.ddcmp_station.specs.Linking.{with_state}
 use Rattle.ddcmp_session.specs.declared.messages.Form.{Form}
 use Rattle.ddcmp_session.specs.declared.messages.Form.TheVariants.{Digits, Binary}
@@ -15,13 +14,17 @@ use Rattle.ddcmp_session.specs.declared.messages.Messages.{Messages}
 use Rattle.ddcmp_session.specs.Messages.{entries_of_input}
 use Rattle.ddcmp_io.specs.Queue.{after_taken}
 use Rattle.ddcmp_session.specs.Session.{SessionView, session_made, form_of, wants_input}
-use Rattle.ddcmp_session.specs.Session.{after_typed, after_input_end, lost_by_end, pause_at}
-use Rattle.ddcmp_session.specs.Session.{IsFilled}
+use Rattle.ddcmp_session.specs.Session.{after_typed, after_input_end, lost_by_end, IsFilled}
+use Rattle.ddcmp_session.specs.Course.{lost_more}
+use Rattle.ddcmp_session.specs.Session.{after_connected, after_timeout, course_received}
+use Rattle.ddcmp_session.specs.Session.{lost_among, lost_at_end}
+use Rattle.ddcmp_session.specs.declared.options.LineKind.{LineKind}
+use Rattle.ddcmp_session.specs.declared.options.Options.{Options}
 use Rattle.ddcmp_session.specs.Text.{Wrote, mail_text, notices_text, reported_lost}
 
 -- A call of a session, by its name: with the bytes of its input or of its line that it used, how
--- many frames it put, how many bytes a device took, the moment that it was passed, or whether it
--- delivered a message. Of the other calls `write_end` appends the last lines of a run to an output
+-- many frames it put, how many bytes a device took, the moment that it was passed, whether it
+-- delivered a message, or what was left of its input, and whether that is its end. Of the other calls `write_end` appends the last lines of a run to an output
 -- of lines; they change nothing else of a session's view.
 pub data SessionCall : Type 0 where
   Typed : (used : List ℕ) → SessionCall
@@ -34,7 +37,7 @@ pub data SessionCall : Type 0 where
   TimedOut : (now : ℕ) → SessionCall
   Delivered : (has_mail : Bool) → SessionCall
   OutputTook : (n : ℕ) → SessionCall
-  Closed : (is_reported : Bool) → SessionCall
+  Closed : (left : List ℕ) (is_at_end is_reported : Bool) → SessionCall
 
 -- ---- what the contract of each call says that it does
 
@@ -53,8 +56,7 @@ pub record HasWritten (text : List ℕ) (old new : SessionView) : Type 0 where
   pub wrote : Wrote text old.output new.output
   pub stays : new ≡ record old { output = new.output }
 
--- Bytes of the line were used, where this text came before, and their notices written. No pause
--- begins but by a NAK.
+-- Bytes of the line were used, where this text came before, and their notices written.
 pub record HasReceived (text used : List ℕ) (old new : SessionView) : Type 0 where
   pub core : new.link.station.core ≡ after_piece text used old.link.station.core
   pub syn : new.link.station.syn ≡ old.link.station.syn
@@ -62,11 +64,10 @@ pub record HasReceived (text used : List ℕ) (old new : SessionView) : Type 0 w
       ≡ record old.link { station = new.link.station; totals = new.link.totals }
   pub wrote : Wrote (notices_text (form_of old.messages)
       (notices_of_piece text used old.link.station.core)) old.output new.output
-  pub pauses : new.link.station.core.counters.nak_received
-      ≡ old.link.station.core.counters.nak_received
-      → (new.pause ≡ None) ⊎ (new.pause ≡ old.pause)
+  pub course : new.course ≡ course_received old new.link
+      (notices_of_piece text used old.link.station.core)
   pub stays : new
-      ≡ record old { link = new.link; pause = new.pause; output = new.output }
+      ≡ record old { link = new.link; course = new.course; output = new.output }
 
 -- the first received message was taken and written
 pub record HasDelivered (old new : SessionView) : Type 0 where
@@ -81,30 +82,31 @@ pub record HasLeft (is_reported : Bool) (old new : SessionView) : Type 0 where
   pub link : new.link ≡ with_state (after_halt old.link.station.core.station) old.link
   pub wrote : Wrote (reported_lost is_reported (form_of old.messages) (lost_by_end old)) old.output
       new.output
-  pub stays : new ≡ record old { link = new.link; has_line = false; output = new.output }
+  pub stays : new ≡ record old {
+    link = new.link;
+    has_line = false;
+    course = lost_more (lost_by_end old) old.course;
+    output = new.output;
+  }
 
--- the same, and what is left of the input was dropped
-pub record HasClosed (is_reported : Bool) (old new : SessionView) : Type 0 where
+-- the same, and what is left of the input was dropped: its messages are lost
+pub record HasClosed (left : List ℕ) (is_at_end is_reported : Bool) (old new : SessionView)
+    : Type 0 where
   pub link : new.link ≡ with_state (after_halt old.link.station.core.station) old.link
   pub wrote : Wrote (reported_lost is_reported (form_of old.messages) (lost_by_end old)) old.output
       new.output
   pub form : form_of new.messages ≡ form_of old.messages
+  pub course : new.course ≡ lost_more (lost_by_end old)
+      (lost_more (lost_at_end left is_at_end old) (lost_more (lost_among left old) old.course))
   pub stays : new ≡ record old {
     link = new.link;
     has_line = false;
+    course = new.course;
     messages = new.messages;
     is_read = true;
     was_refused = new.was_refused;
     output = new.output;
   }
-
--- A session was connected, and starts if all received messages were delivered.
-abbrev pub after_connected : ReaderView → SessionView → SessionView
-after_connected line s = record s {
-  link = anew line s.link;
-  has_line = is_ok (answer_to_start (after_halt s.link.station.core.station));
-  pause = None;
-}
 
 -- `connected` clears the line: here it begins on a line that is clear.
 abbrev pub SessionDoes : SessionCall → List ℕ → SessionView → SessionView → Type 0
@@ -119,12 +121,12 @@ SessionDoes (Received used) text old new = HasReceived text used old new
 SessionDoes (Filled frames) text old new =
     (new ≡ record old { link = after_frames frames old.link }) × IsFilled new
 SessionDoes (LineTook n) text old new = new ≡ record old { link = after_sent n old.link }
-SessionDoes (TimedOut now) text old new =
-    new ≡ record old { link = after_wake now old.link; pause = pause_at now old.pause }
+SessionDoes (TimedOut now) text old new = new ≡ after_timeout now old
 SessionDoes (Delivered true) text old new = HasDelivered old new
 SessionDoes (Delivered false) text old new = HasWritten [] old new
 SessionDoes (OutputTook n) text old new = new ≡ record old { output = after_taken n old.output }
-SessionDoes (Closed is_reported) text old new = HasClosed is_reported old new
+SessionDoes (Closed left is_at_end is_reported) text old new =
+    HasClosed left is_at_end is_reported old new
 
 -- ---- the history of a session
 
@@ -136,22 +138,24 @@ pub data Shown : Type 0 where
   Loses : (count : ℕ) → Shown
 
 -- A session, and what has been since it was made: the bytes of its line that it used, those that
--- its line took, the bytes of its input that it took, those that its output took, and what it
--- delivered and reported.
+-- its line took, the bytes of its input that it took, and whether it was told of its end, those that
+-- its output took, and what it delivered and reported.
 pub record SessionHistory : Type 0 where
   pub session : SessionView
   pub used : List ℕ
   pub gone : List ℕ
   pub input : List ℕ
+  pub is_told : Bool
   pub written : List ℕ
   pub shown : List Shown
 
-abbrev pub new_session : Form → Config → ℕ → ReaderView → SessionHistory
-new_session form config milliseconds line = record {
-  session = session_made form config milliseconds line;
+abbrev pub new_session : Options → LineKind → ReaderView → SessionHistory
+new_session options kind line = record {
+  session = session_made options kind line;
   used = [];
   gone = [];
   input = [];
+  is_told = false;
   written = [];
   shown = [];
 }
@@ -179,6 +183,10 @@ input_in (Typed used) s = used
 input_in InputEnded s = if wants_input s then end_in (form_of s.messages) else []
 input_in _ s = []
 
+abbrev pub is_told_in : SessionCall → SessionView → Bool
+is_told_in InputEnded s = wants_input s
+is_told_in _ s = false
+
 abbrev pub written_in : SessionCall → SessionView → List ℕ
 written_in (OutputTook n) s = take n s.output.waiting
 written_in _ s = []
@@ -190,7 +198,7 @@ losses is_reported s =
 
 abbrev pub shown_in : SessionCall → List ℕ → SessionView → List Shown
 shown_in (LineEnded is_reported) text s = losses is_reported s
-shown_in (Closed is_reported) text s = losses is_reported s
+shown_in (Closed left is_at_end is_reported) text s = losses is_reported s
 shown_in (Received used) text s =
     map Reports (notices_of_piece text used s.link.station.core)
 shown_in (Delivered true) text s =
@@ -203,6 +211,7 @@ after_session_step step h = record {
   used = h.used ++ used_in step.call;
   gone = h.gone ++ gone_in step.call h.session;
   input = h.input ++ input_in step.call h.session;
+  is_told = is_told_in step.call h.session || h.is_told;
   written = h.written ++ written_in step.call h.session;
   shown = h.shown ++ shown_in step.call h.used h.session;
 }

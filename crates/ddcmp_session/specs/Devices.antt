@@ -96,16 +96,17 @@ abbrev pub nothing_read : BuffersView
 nothing_read = record { input = []; received = []; is_over = false; down = None }
 
 -- the end of its last line, if a session was told of the end of its input
-abbrev pub end_of : SessionView → List ℕ
-end_of s = if s.is_read then end_in (form_of s.messages) else []
+abbrev pub end_of : SessionHistory → List ℕ
+end_of h = if h.is_told then end_in (form_of h.session.messages) else []
 
 -- What was read and what came is what the session has had, and then what it has yet to have. What
 -- the line and the output took is what the session has given. If the session was told that the
 -- input has ended, a read has said so.
 pub record Agrees (held : BuffersView) (h : SessionHistory) (t : Traffic) : Type 0 where
-  pub read : t.read ++ end_of h.session ≡ h.input ++ held.input
+  pub read : t.read ++ end_of h ≡ h.input ++ held.input
   pub over : held.is_over ≡ t.is_over
-  pub told : h.session.is_read ≡ true → held.is_over ≡ true
+  pub told : h.is_told ≡ true → held.is_over ≡ true
+  pub ended : h.is_told ≡ true → h.session.is_read ≡ true
   pub came : t.came ≡ h.used ++ held.received
   pub gone : t.gone ≡ h.gone
   pub written : t.written ≡ h.written
@@ -116,7 +117,7 @@ pub record Agrees (held : BuffersView) (h : SessionHistory) (t : Traffic) : Type
 abbrev pub IsOfRun : SessionCall → Type 0
 IsOfRun Connected = ⊥
 IsOfRun (LineEnded is_reported) = ⊥
-IsOfRun (Closed is_reported) = ⊥
+IsOfRun (Closed left is_at_end is_reported) = ⊥
 IsOfRun _ = ⊤
 
 abbrev pub AreOfRun : List SessionStep → Type 0

@@ -1,5 +1,9 @@
 -- The last lines of a session's run.
 use Rattle.std.specs.Prelude.{Bool, if◌then◌else◌, List, [], ◌++◌, ℕ, codes, decimal, Some}
+use Rattle.std.specs.declared.io.ErrorKind.TheVariants as kind
+use Rattle.ddcmp_io.specs.Causes.{cause_words}
+use Rattle.ddcmp_session.specs.declared.devices.Down.{Down}
+use Rattle.ddcmp_session.specs.declared.devices.Down.TheVariants.{Closed, Failed}
 use Rattle.ddcmp_io.specs.Queue.{QueueView}
 use Rattle.ddcmp_io.specs.Written.{Output}
 use Rattle.ddcmp_station.specs.Linking.{LinkView}
@@ -27,3 +31,10 @@ end_text counted d =
 -- a queue as what a text is handed over to
 abbrev pub queued : QueueView → Output
 queued q = record { broken = q.is_cut; sink = Some q.waiting; waiting = [] }
+
+-- why a line is down
+abbrev pub down_text : Down → List ℕ
+down_text Closed = codes "closed by the other end"
+down_text (Failed kind.BrokenPipe) = codes "broken pipe"
+down_text (Failed kind.Other) = codes "input or output error"
+down_text (Failed other) = cause_words other

@@ -1,7 +1,9 @@
 pub mod EndText
 pub mod Calls
+pub mod Course
 pub mod Devices
 pub mod Messages
 pub mod Session
 pub mod Text
+pub mod Timing
 pub use Rattle.ddcmp_io.specs.Queue

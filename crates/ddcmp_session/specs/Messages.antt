@@ -1,6 +1,7 @@
 -- The messages of an input, in either form.
-use Rattle.std.specs.Prelude.{ℕ, Bool, false, List, Option, None}
+use Rattle.std.specs.Prelude.{ℕ, ◌+◌, Bool, false, List, [], ◌∷◌, Option, Some, None}
 use Rattle.ddcmp_input.specs.declared.entry.Entry.{Entry}
+use Rattle.ddcmp_input.specs.declared.entry.Entry.TheVariants.{Message}
 use Rattle.ddcmp_input.specs.HexLines as lines
 use Rattle.ddcmp_input.specs.Lengths as lengths
 use Rattle.ddcmp_session.specs.declared.messages.Form.{Form}
@@ -35,6 +36,19 @@ after_last (Binary v) = Binary v
 abbrev pub entry_of_last : Messages → Option Entry
 entry_of_last (Digits v) = lines.entry_of_byte 10 v
 entry_of_last (Binary v) = None
+
+-- how many of them are messages
+abbrev pub count_message : Entry → ℕ
+count_message Message = 1
+count_message _ = 0
+
+abbrev pub count_of : Option Entry → ℕ
+count_of None = 0
+count_of (Some entry) = count_message entry
+
+unfoldable pub messages_among : List Entry → ℕ
+messages_among [] = 0
+messages_among (entry ∷ rest) = count_message entry + messages_among rest
 
 -- a message in binary has begun, and its end is to come
 abbrev pub is_message_unfinished : Messages → Bool

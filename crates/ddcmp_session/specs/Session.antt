@@ -1,33 +1,41 @@
 -- A session as its users see it, and what each call does.
 use Rattle.std.specs.Prelude.{◌≡◌, ◌⊎◌, ℕ, ◌+◌, ◌*◌, ◌<◌, Bool, true, false, ◌&&◌, not, nat_le}
-use Rattle.std.specs.Prelude.{if◌then◌else◌, List, [], ◌∷◌, length, Option, None, is_some}
+use Rattle.std.specs.Prelude.{if◌then◌else◌, List, [], ◌∷◌, length, Option, None, is_some, is_ok}
 use Rattle.std.specs.Prelude.{option_to_list}
-use Rattle.ddcmp_core.specs.Table.{has_room}
+use Rattle.ddcmp_core.specs.Table.{has_room, after_halt, answer_to_start}
+use Rattle.ddcmp_core.specs.declared.notice.Notice.{Notice}
 use Rattle.ddcmp_input.specs.declared.entry.Entry.{Entry}
 use Rattle.ddcmp_input.specs.declared.entry.Entry.TheVariants.{Message, NotHexadecimal}
 use Rattle.ddcmp_frame.specs.Reader.{ReaderView}
-use Rattle.ddcmp_proto.specs.declared.config.Config.{Config}
-use Rattle.ddcmp_station.specs.Driving.{is_due}
-use Rattle.ddcmp_station.specs.Linking.{LinkView, link_made, takes_message, after_offered}
-use Rattle.ddcmp_station.specs.Linking.{delivered, puts_frame, carries_message}
+use Rattle.ddcmp_station.specs.Driving.{expires_at}
+use Rattle.ddcmp_station.specs.Linking.{LinkView, link_made, takes_message, after_offered, anew}
+use Rattle.ddcmp_station.specs.Linking.{delivered, puts_frame, carries_message, after_wake}
+use Rattle.ddcmp_session.specs.declared.course.Course.{Course}
 use Rattle.ddcmp_session.specs.declared.messages.Form.{Form}
 use Rattle.ddcmp_session.specs.declared.messages.Form.TheVariants as form
 use Rattle.ddcmp_session.specs.declared.messages.Messages.{Messages}
 use Rattle.ddcmp_session.specs.declared.messages.Messages.TheVariants.{Digits, Binary}
+use Rattle.ddcmp_session.specs.declared.options.LineKind.{LineKind}
+use Rattle.ddcmp_session.specs.declared.options.LineKind.TheVariants.{Connect, Listen}
+use Rattle.ddcmp_session.specs.declared.options.Options.{Options}
 use Rattle.ddcmp_session.specs.declared.text.TheConstants.{LINE_ROOM, LOST_ROOM}
+use Rattle.ddcmp_session.specs.Course.{course_begun, after_connecting, after_moment, after_pause}
+use Rattle.ddcmp_session.specs.Course.{try_counted, after_looked, after_notices}
 use Rattle.ddcmp_session.specs.Messages.{messages_begun, message_in, after_input}
 use Rattle.ddcmp_session.specs.Messages.{entries_of_input, after_last, entry_of_last}
-use Rattle.ddcmp_session.specs.Messages.{is_message_unfinished, is_question}
+use Rattle.ddcmp_session.specs.Messages.{is_message_unfinished, is_question, count_of, messages_among}
 use Rattle.ddcmp_session.specs.declared.session.TheConstants.{OUTPUT_ROOM}
 use Rattle.ddcmp_io.specs.Queue.{QueueView, no_bytes}
 
--- Its link, whether that has a line, and until when its messages wait for the peer, if they do; what
--- was read of its input so far, whether all of it was, and whether a part of it was no message; and
--- what waits for standard output.
+-- How it runs, and over what kind of line; its link, whether that has a line, and how the run gets
+-- on; what was read of its input so far, whether all of it was, and whether a part of it was no
+-- message; and what waits for standard output.
 pub record SessionView : Type 0 where
+  pub options : Options
+  pub kind : LineKind
   pub link : LinkView
   pub has_line : Bool
-  pub pause : Option ℕ
+  pub course : Course
   pub messages : Messages
   pub is_read : Bool
   pub was_refused : Bool
@@ -37,16 +45,22 @@ abbrev pub form_of : Messages → Form
 form_of (Digits v) = form.Digits
 form_of (Binary v) = form.Binary
 
+-- reports of the counters, every so many milliseconds
+abbrev pub report_ms : Options → ℕ
+report_ms o = 1000 * o.report
+
 -- a session that was made, whose line has had no bytes
-abbrev pub session_made : Form → Config → ℕ → ReaderView → SessionView
-session_made form config milliseconds line = record {
-  link = link_made config milliseconds line;
+abbrev pub session_made : Options → LineKind → ReaderView → SessionView
+session_made options kind line = record {
+  options = options;
+  kind = kind;
+  link = link_made options.config options.timer_ms line;
   has_line = false;
-  pause = None;
-  messages = messages_begun form config.max;
+  course = course_begun (report_ms options);
+  messages = messages_begun options.form options.config.max;
   is_read = false;
   was_refused = false;
-  output = no_bytes (OUTPUT_ROOM + 2 * (2 * config.max + LINE_ROOM));
+  output = no_bytes (OUTPUT_ROOM + 2 * (2 * options.config.max + LINE_ROOM));
 }
 
 -- ---- the input
@@ -94,13 +108,9 @@ wants_line s =
 abbrev pub room_for_mail : SessionView → ℕ
 room_for_mail s = 2 * s.link.station.core.limits.longest + LINE_ROOM
 
--- a pause ends when its moment has come
-abbrev pub pause_at : ℕ → Option ℕ → Option ℕ
-pause_at now pause = if is_due now pause then None else pause
-
 -- the next frame carries a message, and these wait for the peer
 abbrev pub is_paused : SessionView → Bool
-is_paused s = is_some s.pause && carries_message s.link
+is_paused s = is_some s.course.pause && carries_message s.link
 
 -- something waits for the line, or there is no frame to put there, or only a message that waits
 abbrev pub IsFilled : SessionView → Type 0
@@ -115,8 +125,75 @@ lost_by_end s = if s.has_line then length s.link.station.core.station.out else 0
 abbrev pub reports_loss : SessionView → Bool
 reports_loss s = nat_le LOST_ROOM s.output.room
 
+-- ---- the line begins, and is looked after
+
+-- A session was connected, and starts if all received messages were delivered.
+abbrev pub after_connected : ReaderView → SessionView → SessionView
+after_connected line s = record s {
+  link = anew line s.link;
+  has_line = is_ok (answer_to_start (after_halt s.link.station.core.station));
+  course = after_connecting s.course;
+}
+
+-- the reply timer expires
+abbrev pub expires : ℕ → SessionView → Bool
+expires now s =
+    expires_at s.link.milliseconds now s.link.station.core.station.timer s.link.deadline
+
+-- a peer isn't there yet: on a line that is no connection it may begin at any time
+abbrev pub is_connection : LineKind → Bool
+is_connection Connect = true
+is_connection Listen = true
+is_connection _ = false
+
+abbrev pub awaits_peer : SessionView → Bool
+awaits_peer s = not (is_connection s.kind) && not s.course.peer_has_started
+
+-- the moment passed without a line
+abbrev pub after_time : ℕ → SessionView → SessionView
+after_time now s = record s { course = after_moment (report_ms s.options) now s.course }
+
+-- An expiry is a try, if a peer is there.
+abbrev pub after_tried : Bool → SessionView → SessionView
+after_tried has_expired s = record s {
+  course = if has_expired && not (awaits_peer s) then try_counted None s.course else s.course;
+}
+
+-- a peer that isn't read can't be heard out
+abbrev pub after_unheard : SessionView → SessionView
+after_unheard s = record s {
+  course = if wants_line s then s.course else record s.course { quiet_since = s.course.moment };
+}
+
+abbrev pub after_timeout : ℕ → SessionView → SessionView
+after_timeout now s = after_unheard (after_tried (expires now s) (record s {
+  link = after_wake now s.link;
+  course = after_pause (after_moment (report_ms s.options) now s.course);
+}))
+
+-- bytes of the line were taken, after which the link is this, and these notices came
+abbrev pub course_received : SessionView → LinkView → List Notice → Course
+course_received s link notices =
+    if wants_line s
+    then after_notices notices
+    (after_looked s.options.timer_ms s.link.station.core.counters.nak_received link s.course)
+    else s.course
+
 -- ---- the end
 
 -- all of the input was read, and what it had of messages is acknowledged
 abbrev pub is_delivered : SessionView → Bool
 is_delivered s = s.is_read && delivered s.link
+
+-- how many messages are lost with bytes of the input that it hasn't had when the run ends
+abbrev pub lost_among : List ℕ → SessionView → ℕ
+lost_among bytes s = messages_among (entries_of_input bytes s.messages)
+
+-- and with its last line, if these are the last bytes
+abbrev pub lost_with_last : Bool → Messages → ℕ
+lost_with_last is_at_end m =
+    if is_at_end then count_of (entry_of_last m) else 0
+
+abbrev pub lost_at_end : List ℕ → Bool → SessionView → ℕ
+lost_at_end bytes is_at_end s =
+    if s.is_read then 0 else lost_with_last is_at_end (after_input bytes s.messages)

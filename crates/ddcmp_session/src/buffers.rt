@@ -103,7 +103,8 @@ impl Buffers {
 
     /// Ends the run of a session. The messages that were read and that it hasn't had are lost.
     pub fn close(&self, session: &mut Session)
-        ensures { (told : Bool) × HasClosed told session.old session.new }
+        ensures { (told : Bool)
+            × HasClosed self.now.input self.now.is_over told session.old session.new }
     {
         let _has_room = session.close(self.input.rest(), self.input_is_over);
     }

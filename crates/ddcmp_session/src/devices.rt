@@ -12,7 +12,9 @@ use std::io::ErrorKind;
 /// The devices that a session runs over. Of these calls only `rest` and `wait` wait.
 pub trait Devices {
     ghost use Rattle.ddcmp_session.specs.Devices.{Traffic, Becomes, after_read, after_came};
+    ghost use Rattle.std.specs.Prelude.{None};
     ghost use Rattle.ddcmp_session.specs.Devices.{Rests, count_moved, count_read};
+    ghost use Rattle.ddcmp_session.specs.Timing.{end, wait_ms};
     ghost use Rattle.ddcmp_session.specs.Devices.{after_gone, after_wait, after_written};
 
     // What they have given and taken, if that is known.
@@ -52,6 +54,8 @@ pub trait Devices {
     /// nothing is left to be done without a device; returns whether it could.
     fn rest(&mut self, session: &Session, buffers: &Buffers, most_ms: u64) -> bool
         requires rests { Rests buffers.now session.now }
+        requires goes_on { end session.now ≡ None }
+        requires until { most_ms ≤ wait_ms session.now }
         ensures { Becomes (traffic self.old) (traffic self.new) (after_wait result) };
 
     /// Waits until a device that is wanted is ready, at most this many milliseconds; returns
@@ -98,6 +102,11 @@ pub enum Down {
 }
 
 impl fmt::Display for Down {
+    ghost use Rattle.std.specs.Prelude.{Some};
+    ghost use Rattle.ddcmp_session.specs.EndText.{down_text};
+
+    ghost output = { λ d. Some (down_text d) };
+
     fn fmt<W: fmt::Write>(&self, f: &mut fmt::Formatter<W>) -> fmt::Result {
         f.write_str(match self {
             Down::Closed => "closed by the other end",

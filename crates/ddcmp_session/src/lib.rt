@@ -4,14 +4,12 @@
 
 mod buffers;
 mod chunk;
+mod course;
 mod devices;
 mod errors;
 mod messages;
 mod options;
-mod pacing;
-mod patience;
 mod report;
-mod retry;
 mod session;
 mod skipped;
 mod text;

@@ -1,4 +1,7 @@
 //! How a session runs.
+ghost use Rattle.std.specs.Prelude.{◌≡◌};
+ghost use Rattle.ddcmp_session.specs.Session.{is_connection, report_ms};
+
 use crate::messages::Form;
 use ddcmp_station::Config;
 
@@ -33,6 +36,15 @@ pub struct Options {
     pub json: bool,
 }
 
+impl Options {
+    /// Returns after how many milliseconds each report of the counters is due; 0 is never.
+    pub(crate) fn report_ms(&self) -> u64
+        ensures { result ≡ report_ms self.now }
+    {
+        1000 * self.report as u64
+    }
+}
+
 /// What a line is, as far as that makes a difference.
 #[derive(Clone, Copy, Debug, PartialEq, Eq)]
 pub enum LineKind {
@@ -53,7 +65,9 @@ impl LineKind {
     }
 
     /// Whether a peer is there once it is open.
-    pub(crate) fn is_connection(self) -> bool {
+    pub(crate) fn is_connection(self) -> bool
+        ensures { result ≡ is_connection self }
+    {
         matches!(self, LineKind::Connect | LineKind::Listen)
     }
 }

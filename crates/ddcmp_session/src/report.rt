@@ -9,43 +9,18 @@ use std::fmt::Write;
 /// The reports of a link: one line each, with all that it has counted.
 #[derive(Drop)]
 pub(crate) struct Reports {
-    /// After how many milliseconds the next one is due; 0 if they are only made on demand.
-    every_ms: u64,
-    due_at: u64,
     as_objects: bool,
     /// The line that is written.
     line: ByteQueue,
 }
 
 impl Reports {
-    /// Makes them, one every `seconds` if these aren't 0, as lines of text or as JSON objects.
-    pub(crate) fn new(
-        alloc: Global,
-        seconds: u32,
-        as_objects: bool,
-    ) -> Result<Reports, AllocError> {
-        let every_ms = 1000 * seconds as u64;
+    /// Makes them, as lines of text or as JSON objects.
+    pub(crate) fn new(alloc: Global, as_objects: bool) -> Result<Reports, AllocError> {
         Ok(Reports {
-            every_ms,
-            due_at: if every_ms == 0 { u64::MAX } else { every_ms },
             as_objects,
             line: ByteQueue::new(alloc, text::END_ROOM)?,
         })
-    }
-
-    /// Returns the moment when the next report is due.
-    pub(crate) fn due_at(&self) -> u64 {
-        self.due_at
-    }
-
-    /// Whether a report is due. The next one is due a whole number of periods after it.
-    pub(crate) fn falls_due(&mut self, now: u64) -> bool {
-        if now < self.due_at || self.every_ms == 0 {
-            return false;
-        }
-        let late = (now - self.due_at) % self.every_ms;
-        self.due_at = (now - late).saturating_add(self.every_ms);
-        true
     }
 
     /// Writes a report for standard error.

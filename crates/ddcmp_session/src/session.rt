@@ -7,13 +7,11 @@ mod line;
 mod output;
 mod timing;
 
+use crate::course::Course;
 use crate::errors::Errors;
 use crate::messages::Messages;
 use crate::options::{LineKind, Options};
-use crate::pacing::Pacing;
-use crate::patience::Patience;
 use crate::report::Reports;
-use crate::retry::Retry;
 use crate::text;
 use crate::trace::Trace;
 use ddcmp_io::ByteQueue;
@@ -61,29 +59,13 @@ pub struct Session {
     reports: Reports,
     mail: Vec<u8>,
     trace: Option<Trace>,
-    pacing: Pacing,
-    patience: Patience,
-    retry: Retry,
-    /// The moment since which no data message came: at first that of the startup handshake.
-    quiet_since: u64,
-    /// How many data messages have come.
-    received: u32,
-    /// The moment of the last call that was passed one, in milliseconds.
-    moment: u64,
+    course: Course,
     /// How many messages of an input in binary were read.
     read: u64,
     input_is_read: bool,
     was_refused: bool,
-    /// How many messages were read and will never be acknowledged.
-    lost: u64,
     /// Whether a line is open, whose end loses what isn't acknowledged.
     has_line: bool,
-    /// Whether the peer has begun to start, over the line that is open.
-    peer_has_started: bool,
-    /// Whether the station has run over the line that is open, and over any line.
-    has_run_here: bool,
-    has_run: bool,
-    peer_restarted: bool,
 }
 
 impl Model for Session {
@@ -93,9 +75,11 @@ impl Model for Session {
     ghost Value = { SessionView };
 
     ghost view = { λ s. record {
+      options = s.options;
+      kind = s.kind;
       link = s.link;
       has_line = s.has_line;
-      pause = s.pacing.until;
+      course = s.course;
       messages = s.messages;
       is_read = s.input_is_read;
       was_refused = s.was_refused;
@@ -119,21 +103,11 @@ impl Drop for Session {
             reports: _reports,
             mail: _mail,
             trace: _trace,
-            pacing: _,
-            patience: _,
-            quiet_since: _,
-            received: _,
-            retry: _,
-            moment: _,
+            course: _,
             read: _,
             input_is_read: _,
             was_refused: _,
-            lost: _,
             has_line: _,
-            peer_has_started: _,
-            has_run_here: _,
-            has_run: _,
-            peer_restarted: _,
         } = self;
     }
 }
@@ -163,8 +137,7 @@ impl Session {
 
     /// Makes a session that has no line yet. It takes all the memory that it will need.
     pub fn new(alloc: Global, options: Options, kind: LineKind) -> Result<Session, ConfigRefusal>
-        ensures made { IfOk result (λ s. s ≡ session_made options.form options.config
-            options.timer_ms s.link.station.line) }
+        ensures made { IfOk result (λ s. s ≡ session_made options kind s.link.station.line) }
         ensures stands { IfOk result (λ s. StandsFor s.link.station.line []) }
 
         // The first size that is out of range is refused; if none is, only an allocation failure.
@@ -196,13 +169,13 @@ impl Session {
         let Ok(errors) = Errors::new(alloc, errors_room) else {
             return Err(ConfigRefusal::Memory);
         };
-        let Ok(reports) = Reports::new(alloc, options.report, options.json) else {
+        let Ok(reports) = Reports::new(alloc, options.json) else {
             return Err(ConfigRefusal::Memory);
         };
         let Ok(mail) = Vec::from_elem(alloc, 0u8, max as usize) else {
             return Err(ConfigRefusal::Memory);
         };
-        let pacing = Pacing::new(options.timer_ms);
+        let course = Course::begun(options.report_ms());
         Ok(Session {
             options,
             kind,
@@ -213,21 +186,11 @@ impl Session {
             reports,
             mail,
             trace,
-            pacing,
-            patience: Patience::new(options.attempts),
-            quiet_since: 0,
-            received: 0,
-            retry: Retry::at_once(),
-            moment: 0,
+            course,
             read: 0,
             input_is_read: false,
             was_refused: false,
-            lost: 0,
             has_line: false,
-            peer_has_started: false,
-            has_run_here: false,
-            has_run: false,
-            peer_restarted: false,
         })
     }
 }

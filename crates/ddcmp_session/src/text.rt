@@ -8,6 +8,8 @@ ghost use Rattle.ddcmp_station_text.specs.CountersText.{counters_line};
 ghost use Rattle.ddcmp_station_text.specs.StationText.{notice_line, number_text};
 
 use crate::messages::Form;
+use ddcmp_explain::reason_name;
+use ddcmp_frame::Nak;
 use ddcmp_io::text::write_number;
 use ddcmp_io::{ByteQueue, Page, Sink};
 use ddcmp_station::{Link, Notice};
@@ -120,6 +122,21 @@ pub(crate) fn write_lost(out: &mut ByteQueue, lost: u8)
     put(out, b"lost ");
     put_number(out, Some(lost));
     put(out, b"\n");
+}
+
+/// Writes why a line is left on which nothing gets on: the peer refuses messages for this reason, or
+/// doesn't answer.
+pub(crate) fn write_given_up(out: &mut ByteQueue, refusal: Option<Nak>) {
+    let mut page = Page::new();
+    match refusal {
+        None => page.write(out, b"ddcmp: peer doesn't answer\n"),
+        Some(reason) => {
+            page.write(out, b"ddcmp: peer refuses: ");
+            page.write(out, reason_name(reason));
+            page.write(out, b"\n");
+        }
+    }
+    let _is_whole = page.flush(out);
 }
 
 /// Writes the counters of a link.

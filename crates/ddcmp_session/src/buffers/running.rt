@@ -12,10 +12,11 @@ use crate::session::{End, Session};
 const END_MS: u64 = 1000;
 
 impl Buffers {
-    ghost use Rattle.std.specs.Prelude.{◌≡◌, Err, Ok, true};
-    ghost use Rattle.ddcmp_session.specs.Session.{is_delivered};
+    ghost use Rattle.std.specs.Prelude.{◌≡◌, Err, Ok, Some};
+    ghost use Rattle.ddcmp_session.specs.Timing.{end};
     ghost use Rattle.ddcmp_session.specs.Devices.{GoesOn, Reports};
     ghost use Rattle.ddcmp_session.specs.declared.devices.Fault.{Fault as FaultValue};
+    ghost use Rattle.ddcmp_session.specs.declared.session.End.{End as EndValue};
 
     /// Runs a session over its line, until it leaves that or a device ends or fails.
     pub fn run<D: Devices>(&mut self, session: &mut Session, devices: &mut D) -> Result<End, Fault>
@@ -23,7 +24,7 @@ impl Buffers {
             self.new session.new (D.traffic devices.new) }
         ensures reports { (fault : FaultValue) → result ≡ Err fault
             → Reports self.old session.old (D.traffic devices.old) (D.traffic devices.new) fault }
-        ensures delivered { result ≡ Ok End.Delivered → is_delivered session.new ≡ true }
+        ensures ended { (why : EndValue) → result ≡ Ok why → end session.new ≡ Some why }
     {
         for _pass in 0..u64::MAX {
             let now = devices.now();
@@ -40,11 +41,14 @@ impl Buffers {
             if session.end().is_some() {
                 continue;
             }
-            let most = session.wakes_at().saturating_sub(now);
+            let most = session.wait_ms();
             if !devices.rest(session, self, most) {
                 return Err(Fault::Input);
             }
         }
+        // So many passes take longer than any run.
+        let now = session.run_ends_at();
+        session.handle_timeout(now);
         Ok(End::Time)
     }
 }

@@ -8,7 +8,9 @@ impl Session {
     ghost use Rattle.ddcmp_io.specs.Written.{HandsOver};
     ghost use Rattle.ddcmp_core.specs.Table.{after_halt};
     ghost use Rattle.ddcmp_station.specs.Linking.{with_state};
-    ghost use Rattle.ddcmp_session.specs.Session.{form_of, lost_by_end, reports_loss};
+    ghost use Rattle.ddcmp_session.specs.Course.{lost_more};
+    ghost use Rattle.ddcmp_session.specs.Session.{form_of, lost_among, lost_at_end, lost_by_end};
+    ghost use Rattle.ddcmp_session.specs.Session.{reports_loss};
     ghost use Rattle.ddcmp_session.specs.EndText.{end_text, queued};
     ghost use Rattle.ddcmp_session.specs.Text.{Wrote, reported_lost};
 
@@ -21,9 +23,13 @@ impl Session {
             (lost_by_end self.old)) self.old.output self.new.output }
         ensures when { result ≡ reports_loss self.old }
         ensures form { form_of self.new.messages ≡ form_of self.old.messages }
+        ensures course { self.new.course ≡ lost_more (lost_by_end self.old)
+            (lost_more (lost_at_end input.now input_is_at_end self.old)
+            (lost_more (lost_among input.now self.old) self.old.course)) }
         ensures stays { self.new ≡ record self.old {
           link = self.new.link;
           has_line = false;
+          course = self.new.course;
           messages = self.new.messages;
           is_read = true;
           was_refused = self.new.was_refused;
@@ -72,22 +78,30 @@ impl Session {
     }
 
     /// Whether the station has run over some line.
-    pub fn has_run(&self) -> bool {
-        self.has_run
+    pub fn has_run(&self) -> bool
+        ensures { result ≡ self.now.course.has_run }
+    {
+        self.course.has_run
     }
 
     /// Whether the whole input was read.
-    pub fn input_is_read(&self) -> bool {
+    pub fn input_is_read(&self) -> bool
+        ensures { result ≡ self.now.is_read }
+    {
         self.input_is_read
     }
 
     /// Whether a part of the input was no message.
-    pub fn was_refused(&self) -> bool {
+    pub fn was_refused(&self) -> bool
+        ensures { result ≡ self.now.was_refused }
+    {
         self.was_refused
     }
 
     /// Returns how many messages were read and will never be acknowledged.
-    pub fn lost(&self) -> u64 {
-        self.lost
+    pub fn lost(&self) -> u64
+        ensures { result ≡ self.now.course.lost }
+    {
+        self.course.lost
     }
 }

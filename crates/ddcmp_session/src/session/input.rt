@@ -17,9 +17,12 @@ const UNFINISHED: &[u8] = b"unfinished";
 impl Session {
     ghost use Rattle.std.specs.Prelude.{◌≡◌, ◌+◌, ◌≤◌, ◌∷◌, ℕ, true, false, [], length, take};
     ghost use Rattle.std.specs.Prelude.{option_to_list};
-    ghost use Rattle.ddcmp_session.specs.Messages.{entries_of_input};
+    ghost use Rattle.ddcmp_session.specs.Course.{lost_more};
+    ghost use Rattle.ddcmp_session.specs.Messages.{after_input, entries_of_input};
+    ghost use Rattle.ddcmp_session.specs.Messages.{count_of};
     ghost use Rattle.ddcmp_session.specs.Session.{wants_input, after_typed, after_input_end};
     ghost use Rattle.ddcmp_session.specs.Session.{after_entries, after_unfinished, form_of};
+    ghost use Rattle.ddcmp_session.specs.Session.{lost_among, lost_at_end, lost_with_last};
 
     /// Whether bytes of the input are wanted: the station runs and takes a message.
     pub fn wants_input(&self) -> bool
@@ -98,64 +101,92 @@ impl Session {
           messages = self.new.messages;
           is_read = true;
           was_refused = self.new.was_refused;
+          course = lost_more (lost_at_end bytes.now is_at_end self.old)
+              (lost_more (lost_among bytes.now self.old) self.old.course);
         } }
     {
-        self.drop_bytes(bytes);
-        if self.input_is_read {
-            return;
-        }
+        let lost = self.drop_bytes(bytes);
+        self.course.lose(lost);
+        let last = if self.input_is_read {
+            0
+        } else {
+            self.drop_last(is_at_end)
+        };
+        self.course.lose(last);
         self.input_is_read = true;
-        self.drop_last(is_at_end);
     }
 
-    /// Takes bytes of the input, of which all messages are lost.
-    fn drop_bytes(&mut self, bytes: &[u8])
-        ensures form { form_of self.new.messages ≡ form_of self.old.messages }
+    /// Takes bytes of the input, and returns how many messages are lost with them.
+    fn drop_bytes(&mut self, bytes: &[u8]) -> u64
+        ensures lost { result ≡ lost_among bytes.now self.old }
+        ensures messages { self.new.messages ≡ after_input bytes.now self.old.messages }
         ensures stays { self.new ≡ record self.old {
           messages = self.new.messages;
           was_refused = self.new.was_refused;
         } }
     {
         let mut at = 0usize;
-        for _part in 0..u64::MAX {
-            let rest = bytes.get(at..).unwrap_or(&[]);
-            if rest.is_empty() {
+        let mut lost = 0u64;
+        // A part is one byte at least.
+        for _part in 0..bytes.len() {
+            if at == bytes.len() {
                 break;
             }
-            let pushed = self.messages.push(rest);
-            at = at.saturating_add(pushed.used);
-            self.drop_entry(pushed.entry);
+            let pushed = self.messages.push(&bytes[at..]);
+            at += pushed.used;
+            lost += self.drop_entry(pushed.entry);
         }
+        lost
     }
 
     /// Takes the end of the input: a last message is lost, or reported if its end hasn't come.
-    fn drop_last(&mut self, is_at_end: bool)
+    /// Returns how many are lost.
+    fn drop_last(&mut self, is_at_end: bool) -> u64
+        ensures lost { result ≡ lost_with_last is_at_end self.old.messages }
         ensures form { form_of self.new.messages ≡ form_of self.old.messages }
         ensures stays { self.new ≡ record self.old {
           messages = self.new.messages;
           was_refused = self.new.was_refused;
         } }
     {
-        match self.messages.end() {
-            Some(_cut) if !is_at_end => self.refuse(UNFINISHED),
-            entry => self.drop_entry(entry),
-        }
+        let entry = self.messages.end();
+        let lost = if is_at_end {
+            self.drop_entry(entry)
+        } else {
+            self.refuse_cut(entry)
+        };
         self.refuse_unfinished();
+        lost
     }
 
-    fn drop_entry(&mut self, entry: Option<Entry>)
-        ensures { self.new ≡ record self.old { was_refused = self.new.was_refused } }
+    /// Reports a last line whose end hasn't come: none is lost.
+    fn refuse_cut(&mut self, entry: Option<Entry>) -> u64
+        ensures none { result ≡ 0 }
+        ensures stays { self.new ≡ record self.old { was_refused = self.new.was_refused } }
+    {
+        if entry.is_some() {
+            self.refuse(UNFINISHED);
+        }
+        0
+    }
+
+    /// Drops what a part of the input is, and returns how many messages are lost with it.
+    fn drop_entry(&mut self, entry: Option<Entry>) -> u64
+        ensures lost { result ≡ count_of entry }
+        ensures few { result ≤ 1 }
+        ensures stays { self.new ≡ record self.old { was_refused = self.new.was_refused } }
     {
         match entry {
-            None => {}
+            None => 0,
             Some(Entry::Message) => {
                 self.count_entry();
-                self.lost = self.lost.saturating_add(1);
+                1
             }
-            Some(Entry::NotHexadecimal) if self.messages.is_question() => {}
+            Some(Entry::NotHexadecimal) if self.messages.is_question() => 0,
             Some(refused) => {
                 self.count_entry();
                 self.refuse(reason_of(refused));
+                0
             }
         }
     }

@@ -3,7 +3,7 @@ use crate::messages::Form;
 use crate::session::Session;
 use crate::text;
 use crate::trace::Way;
-use ddcmp_station::{NakCounts, Notice, State};
+use ddcmp_station::Notice;
 
 impl Session {
     ghost use Rattle.std.specs.Prelude.{◌≡◌, ◌+◌, ◌<◌, ◌≤◌, ℕ, List, [], ◌++◌, true, false, min};
@@ -11,31 +11,24 @@ impl Session {
     ghost use Rattle.ddcmp_frame.specs.Reader.{StandsFor};
     ghost use Rattle.ddcmp_core.specs.Table.{after_halt, answer_to_start};
     ghost use Rattle.ddcmp_proto.specs.Bytes.{after_piece, notices_of_piece};
-    ghost use Rattle.ddcmp_station.specs.Linking.{anew, after_frame, after_frames, after_sent};
+    ghost use Rattle.ddcmp_station.specs.Linking.{after_frame, after_frames, after_sent};
     ghost use Rattle.ddcmp_station.specs.Linking.{countable, puts_frame, with_state};
     ghost use Rattle.ddcmp_session.specs.Session.{form_of, lost_by_end, reports_loss, wants_line};
-    ghost use Rattle.ddcmp_session.specs.Session.{IsFilled, is_paused};
+    ghost use Rattle.ddcmp_session.specs.Course.{after_notice, lost_more};
+    ghost use Rattle.ddcmp_session.specs.Session.{IsFilled, after_connected, course_received};
+    ghost use Rattle.ddcmp_session.specs.Session.{is_paused};
     ghost use Rattle.ddcmp_session.specs.Text.{Wrote, notice_text, notices_text, reported_lost};
     ghost use Rattle.ddcmp_session.specs.declared.text.TheConstants.{LINE_ROOM};
 
     /// Starts the station on a line that was opened. Returns false if received messages weren't
     /// delivered before: `deliver` them, then call it again.
     pub fn connected(&mut self) -> bool
-        ensures state { self.new
-            ≡ record self.old {
-              link = anew self.new.link.station.line self.old.link;
-              has_line = result;
-              pause = None;
-            } }
+        ensures state { self.new ≡ after_connected self.new.link.station.line self.old }
         ensures cleared { StandsFor self.new.link.station.line [] }
         ensures answer { result
             ≡ is_ok (answer_to_start (after_halt self.old.link.station.core.station)) }
     {
-        self.peer_has_started = false;
-        self.has_run_here = false;
-        self.peer_restarted = false;
-        self.pacing.restart();
-        self.patience.restart();
+        self.course.connect();
         self.has_line = self.link.begin_anew().is_ok();
         self.has_line
     }
@@ -52,6 +45,7 @@ impl Session {
         ensures stays { self.new ≡ record self.old {
           link = self.new.link;
           has_line = false;
+          course = lost_more (lost_by_end self.old) self.old.course;
           output = self.new.output;
         } }
     {
@@ -73,6 +67,7 @@ impl Session {
         ensures stays { self.new ≡ record self.old {
           link = self.new.link;
           has_line = false;
+          course = lost_more (lost_by_end self.old) self.old.course;
           output = self.new.output;
         } }
     {
@@ -115,10 +110,9 @@ impl Session {
             → Wrote (notices_text (form_of self.old.messages)
             (notices_of_piece text (take result bytes.now) self.old.link.station.core))
             self.old.output self.new.output }
-        // No pause begins but by a NAK.
-        ensures pauses { self.new.link.station.core.counters.nak_received
-            ≡ self.old.link.station.core.counters.nak_received
-            → (self.new.pause ≡ None) ⊎ (self.new.pause ≡ self.old.pause) }
+        ensures course { (text : List ℕ) → StandsFor self.old.link.station.line text
+            → self.new.course ≡ course_received self.old self.new.link
+            (notices_of_piece text (take result bytes.now) self.old.link.station.core) }
         ensures syn { self.new.link.station.syn ≡ self.old.link.station.syn }
         ensures link { self.new.link ≡ record self.old.link {
           station = self.new.link.station;
@@ -126,7 +120,7 @@ impl Session {
         } }
         ensures stays { self.new ≡ record self.old {
           link = self.new.link;
-          pause = self.new.pause;
+          course = self.new.course;
           output = self.new.output;
         } }
     {
@@ -135,45 +129,11 @@ impl Session {
         }
         let before = self.link.counters().nak_received;
         let fed = self.link.feed(bytes);
-        self.note(&before);
+        self.course.look(&before, &self.link, self.options.timer_ms);
         if let Some(notice) = fed.notice {
             self.report_notice(notice);
         }
         fed.used
-    }
-
-    /// Looks at what the bytes that were fed have done, before which these NAKs had come.
-    fn note(&mut self, before: &NakCounts)
-        ensures pauses { before.now ≡ self.old.link.station.core.counters.nak_received
-            → (self.new.pause ≡ None) ⊎ (self.new.pause ≡ self.old.pause) }
-        ensures stays { self.new ≡ record self.old { pause = self.new.pause } }
-    {
-        if let Some(reason) = self.pacing.note(self.moment, before, &self.link) {
-            self.patience.refused(reason);
-        }
-        self.patience.note(&self.link);
-        self.note_quiet();
-        match self.link.state() {
-            State::Running => {
-                self.peer_has_started = true;
-                self.has_run_here = true;
-                self.has_run = true;
-            }
-            State::AStart => self.peer_has_started = true,
-            _ => {}
-        }
-    }
-
-    /// Takes note of the moment if the station has begun to run or has received a message.
-    fn note_quiet(&mut self)
-        ensures { self.new ≡ self.old }
-    {
-        let received = self.link.counters().messages_up;
-        let begins = self.link.state() == State::Running && !self.has_run_here;
-        if begins || received != self.received {
-            self.quiet_since = self.moment;
-        }
-        self.received = received;
     }
 
     /// Writes a notice: with messages in binary to standard error.
@@ -181,7 +141,11 @@ impl Session {
         requires { LINE_ROOM ≤ self.old.output.room }
         ensures wrote { Wrote (notice_text (form_of self.old.messages) notice) self.old.output
             self.new.output }
-        ensures stays { self.new ≡ record self.old { output = self.new.output } }
+        ensures course { self.new.course ≡ after_notice notice self.old.course }
+        ensures stays { self.new ≡ record self.old {
+          course = self.new.course;
+          output = self.new.output;
+        } }
     {
         match self.options.form {
             Form::Digits => text::write_notice_line(&mut self.output, notice),
@@ -195,7 +159,7 @@ impl Session {
             Notice::Restarted(lost) => {
                 let _has_room = self.report_lost(lost);
             }
-            Notice::PeerRestarted => self.peer_restarted = true,
+            Notice::PeerRestarted => self.course.peer_restarted = true,
             _ => {}
         }
     }
@@ -227,7 +191,7 @@ impl Session {
         ensures none { result ≡ false → (puts_frame self.new.link ≡ false)
             ⊎ (is_paused self.new ≡ true) }
     {
-        if self.pacing.until().is_some() && self.link.sends_message() {
+        if self.course.pause.is_some() && self.link.sends_message() {
             return false;
         }
         self.link.fill_one()

@@ -11,6 +11,7 @@ impl Session {
     ghost use Rattle.ddcmp_station.specs.Linking.{after_taking};
     ghost use Rattle.ddcmp_window.specs.Store.{first_message};
     ghost use Rattle.ddcmp_io.specs.Queue.{after_pushed, after_taken};
+    ghost use Rattle.ddcmp_session.specs.Course.{lost_more};
     ghost use Rattle.ddcmp_session.specs.Session.{form_of, reports_loss, room_for_mail};
     ghost use Rattle.ddcmp_session.specs.Text.{Wrote, mail_text, reported_lost};
 
@@ -99,23 +100,25 @@ impl Session {
     pub(super) fn report_counters(&mut self)
         ensures { self.new ≡ self.old }
     {
-        self.reports.write(&self.link, self.lost, &mut self.errors);
+        self.reports
+            .write(&self.link, self.course.lost, &mut self.errors);
     }
 
     /// Reports how many accepted messages were dropped, if any: returns whether standard output had
     /// room for that.
     pub(super) fn report_lost(&mut self, lost: u8) -> bool
         ensures wrote { self.new ≡ record self.old {
+          course = lost_more lost self.old.course;
           output = after_pushed
               (reported_lost result (form_of self.old.messages) lost) self.old.output;
         } }
         ensures when { result ≡ reports_loss self.old }
     {
+        self.course.lose(lost as u64);
         let has_room = self.output.room() >= text::LOST_ROOM;
         if lost == 0 {
             return has_room;
         }
-        self.lost = self.lost.saturating_add(lost as u64);
         match self.options.form {
             Form::Digits if has_room => text::write_lost(&mut self.output, lost),
             Form::Digits => {}

@@ -1,17 +1,26 @@
 //! The moments of a session.
+ghost use Rattle.std.specs.Prelude.{◌≡◌};
+ghost use Rattle.ddcmp_session.specs.Timing.{most_tries};
+
 use crate::options::LineKind;
-use crate::retry::Retry;
 use crate::session::{End, Session};
-use ddcmp_io::Page;
+use crate::text;
 use ddcmp_station::State;
 
 impl Session {
-    ghost use Rattle.std.specs.Prelude.{◌≡◌, ◌≤◌, ℕ, Some, true};
-    ghost use Rattle.ddcmp_station.specs.Linking.{after_wake, wakes_at};
-    ghost use Rattle.ddcmp_session.specs.Session.{is_delivered, pause_at};
+    ghost use Rattle.std.specs.Prelude.{◌≡◌, ◌&&◌, not};
+    ghost use Rattle.ddcmp_session.specs.Course.{after_opening_failed};
+    ghost use Rattle.ddcmp_session.specs.Session.{after_time, after_timeout, after_tried};
+    ghost use Rattle.ddcmp_session.specs.Session.{after_unheard, awaits_peer, is_delivered};
+    ghost use Rattle.ddcmp_session.specs.Timing.{after_line, end, is_given_up, lingers_until};
+    ghost use Rattle.ddcmp_session.specs.Timing.{next_timeout, reopens, run_ends_at};
+    ghost use Rattle.ddcmp_session.specs.Timing.{seconds_after_line, stays, wait_ms, wakes_at};
+    ghost use Rattle.ddcmp_session.specs.Timing.{wakes_without_line_at};
 
     /// Returns the moment in milliseconds when the run ends.
-    pub fn run_ends_at(&self) -> u64 {
+    pub fn run_ends_at(&self) -> u64
+        ensures { result ≡ run_ends_at self.now }
+    {
         1000 * self.options.seconds as u64
     }
 
@@ -27,20 +36,21 @@ impl Session {
 
     /// Takes note of the moment, and writes a report if one is due. Call it while there is no line.
     pub fn pass_time(&mut self, now: u64)
-        ensures { self.new ≡ self.old }
+        ensures { self.new ≡ after_time now self.old }
     {
-        self.moment = now;
         self.errors.pass_time(now);
-        if self.reports.falls_due(now) {
+        if self.course.pass(now, self.options.report_ms()) {
             self.report_counters();
         }
     }
 
     /// Returns the moment in milliseconds when a wait without a line is to end at the latest, after
     /// this moment: when the line is to be opened, a report is due, or the run ends.
-    pub fn wakes_without_line_at(&self, now: u64) -> u64 {
-        let first = self.run_ends_at().min(self.reports.due_at());
-        let opens_at = self.retry.opens_at();
+    pub fn wakes_without_line_at(&self, now: u64) -> u64
+        ensures { result ≡ wakes_without_line_at now self.now }
+    {
+        let first = self.run_ends_at().min(self.course.report_at);
+        let opens_at = self.course.opens_at;
         if now < opens_at {
             first.min(opens_at)
         } else {
@@ -50,75 +60,108 @@ impl Session {
 
     /// Handles all timers that have expired at this moment.
     pub fn handle_timeout(&mut self, now: u64)
-        ensures { self.new ≡ record self.old {
-          link = after_wake now self.old.link;
-          pause = pause_at now self.old.pause;
-        } }
+        ensures { self.new ≡ after_timeout now self.old }
     {
         self.pass_time(now);
-        self.pacing.wake(now);
+        self.course.end_pause();
         let has_expired = self.link.wake(now);
-        if has_expired && !self.awaits_peer() {
-            self.patience.expired();
-        }
+        self.count_expiry(has_expired);
         self.report_given_up();
-        if !self.wants_line() {
-            // A peer that isn't read can't be heard out.
-            self.quiet_since = now;
-        }
+        self.note_unheard();
         if let Some(trace) = &mut self.trace {
             trace.wake(now, has_expired, &mut self.errors);
         }
     }
 
+    /// Counts an expiry of the reply timer as a try, if a peer is there.
+    fn count_expiry(&mut self, has_expired: bool)
+        ensures { self.new ≡ after_tried has_expired self.old }
+    {
+        if has_expired && !self.awaits_peer() {
+            self.course.count_try(None);
+        }
+    }
+
+    /// Takes note that a peer isn't heard, as bytes of the line have no room.
+    fn note_unheard(&mut self)
+        ensures { self.new ≡ after_unheard self.old }
+    {
+        if !self.wants_line() {
+            self.course.quiet_since = self.course.moment;
+        }
+    }
+
     /// Returns the moment in milliseconds when `handle_timeout` is to be called at the latest.
     pub fn wakes_at(&self) -> u64
-        ensures timer { (moment : ℕ) → wakes_at self.now.link ≡ Some moment → result ≤ moment }
-        ensures pause { (moment : ℕ) → self.now.pause ≡ Some moment → result ≤ moment }
+        ensures { result ≡ wakes_at self.now }
     {
-        let timer = self.link.deadline().unwrap_or(u64::MAX);
-        let pause = self.pacing.until().unwrap_or(u64::MAX);
-        let report = self.reports.due_at();
-        let first = self.run_ends_at().min(timer).min(pause).min(report);
+        let first = self.next_timeout();
         if self.is_delivered() && !self.stays() {
             return first.min(self.lingers_until());
         }
         first
     }
 
+    /// Returns how many milliseconds that is after the last moment that was passed: the most that
+    /// the next wait may take.
+    pub fn wait_ms(&self) -> u64
+        ensures { result ≡ wait_ms self.now }
+    {
+        self.wakes_at().saturating_sub(self.course.moment)
+    }
+
+    /// Returns the moment of the first timer that is set.
+    fn next_timeout(&self) -> u64
+        ensures { result ≡ next_timeout self.now }
+    {
+        let timer = self.link.deadline().unwrap_or(u64::MAX);
+        let pause = self.course.pause.unwrap_or(u64::MAX);
+        self.run_ends_at()
+            .min(timer)
+            .min(pause)
+            .min(self.course.report_at)
+    }
+
     /// Returns why the line is to be left, if it is.
     pub fn end(&self) -> Option<End>
-        ensures { result ≡ Some End.Delivered → is_delivered self.now ≡ true }
+        ensures { result ≡ end self.now }
     {
-        if self.run_ends_at() <= self.moment {
+        let now = self.course.moment;
+        if self.run_ends_at() <= now {
             return Some(End::Time);
         }
-        if self.peer_restarted {
+        if self.course.peer_restarted {
             return Some(End::Restarted);
         }
         if self.is_given_up() {
             return Some(End::GivenUp);
         }
-        let is_quiet = self.lingers_until() <= self.moment;
-        if is_quiet && self.is_delivered() && !self.stays() {
+        if self.is_delivered() && !self.stays() && self.lingers_until() <= now {
             return Some(End::Delivered);
         }
         None
     }
 
     /// Returns the moment until which a peer that has more to send is heard out.
-    fn lingers_until(&self) -> u64 {
+    fn lingers_until(&self) -> u64
+        ensures { result ≡ lingers_until self.now }
+    {
         let linger = self.options.linger_ms as u64;
-        self.quiet_since.saturating_add(linger)
+        self.course.quiet_since.saturating_add(linger)
     }
 
     /// Whether a peer isn't there yet: on a line that is no connection it may begin at any time.
-    fn awaits_peer(&self) -> bool {
-        !self.kind.is_connection() && !self.peer_has_started
+    fn awaits_peer(&self) -> bool
+        ensures { result ≡ awaits_peer self.now }
+    {
+        !self.kind.is_connection() && !self.course.peer_has_started
     }
 
-    fn is_given_up(&self) -> bool {
-        self.patience.is_over(self.link.state() == State::Running)
+    fn is_given_up(&self) -> bool
+        ensures { result ≡ is_given_up self.now }
+    {
+        let most = most_tries(self.options.attempts, self.link.state() == State::Running);
+        most > 0 && most <= self.course.tries
     }
 
     /// Reports why the line is left, if it is since the peer doesn't answer, or refuses.
@@ -129,9 +172,7 @@ impl Session {
             return;
         }
         if let Some(lines) = self.errors.line() {
-            let mut page = Page::new();
-            self.patience.write(&mut page, lines);
-            let _is_whole = page.flush(lines);
+            text::write_given_up(lines, self.course.refusal);
         }
     }
 
@@ -143,48 +184,75 @@ impl Session {
 
     /// Whether it goes on once all of the input was delivered: so does whoever listens and has no
     /// input.
-    pub(super) fn stays(&self) -> bool {
+    pub(super) fn stays(&self) -> bool
+        ensures { result ≡ stays self.now }
+    {
         let had_input = self.link.totals().sent > 0 || self.was_refused;
         self.options.stay || self.kind == LineKind::Listen && !had_input
     }
 
     /// Whether a line that has ended is opened again.
-    pub fn reopens(&self) -> bool {
-        self.options.again || self.kind == LineKind::Listen && !self.peer_has_started
+    pub fn reopens(&self) -> bool
+        ensures { result ≡ reopens self.now }
+    {
+        self.options.again || self.kind == LineKind::Listen && !self.course.peer_has_started
     }
 
     /// Whether a line that can't be opened is tried again.
-    pub fn retries(&self) -> bool {
+    pub fn retries(&self) -> bool
+        ensures { result ≡ self.now.options.again }
+    {
         self.options.again
     }
 
     /// Returns the moment in milliseconds before which the line isn't opened.
-    pub fn opens_at(&self) -> u64 {
-        self.retry.opens_at()
+    pub fn opens_at(&self) -> u64
+        ensures { result ≡ self.now.course.opens_at }
+    {
+        self.course.opens_at
     }
 
     /// Takes note that the line couldn't be opened: returns after how many seconds it is tried
     /// again.
     pub fn open_failed(&mut self, now: u64) -> u64
-        ensures { self.new ≡ self.old }
+        ensures state { self.new ≡ record (after_time now self.old) {
+          course = after_opening_failed (after_time now self.old).course;
+        } }
+        ensures seconds { result ≡ self.new.course.retry_seconds }
     {
         self.pass_time(now);
-        self.retry.grow(now)
+        self.course.retry_later()
     }
 
     /// Returns after how many seconds a line that has ended is opened again; none if that is at
     /// once, as it is after a station that ran, and for whoever listens.
     pub fn pause_after_line(&mut self, now: u64) -> Option<u64>
-        ensures { self.new ≡ self.old }
+        ensures state { self.new ≡ after_line (after_time now self.old) }
+        ensures seconds { result ≡ seconds_after_line (after_time now self.old) }
     {
         self.pass_time(now);
-        if self.has_run_here {
-            self.retry = Retry::at_once();
+        if self.course.has_run_here {
+            self.course.retry_at_once();
             return None;
         }
         if self.kind == LineKind::Listen {
             return None;
         }
-        Some(self.retry.grow(now))
+        Some(self.course.retry_later())
+    }
+}
+
+/// After how many tries a line is left on which the station doesn't come to run, if no option says
+/// how many.
+const START_ATTEMPTS: u32 = 7;
+
+/// Returns after how many tries a line is left; 0 is never.
+fn most_tries(attempts: u32, runs: bool) -> u32
+    ensures { result ≡ most_tries attempts runs }
+{
+    match attempts {
+        u32::MAX if runs => 0,
+        u32::MAX => START_ATTEMPTS,
+        attempts => attempts,
     }
 }

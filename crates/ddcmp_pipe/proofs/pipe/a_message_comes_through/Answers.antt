@@ -70,7 +70,7 @@ returns-clause-streams c = λ line other_line. (
             syn = refl;
             link = refl;
             wrote = record { waiting = refl; room = omega arith; size = refl; is_cut = refl };
-            pauses = λ e. inl refl;
+            course = refl;
             stays = refl;
           },
           record { to_a = ([], refl); to_b = ([], refl) },
@@ -86,7 +86,7 @@ returns-clause-streams c = λ line other_line. (
                   syn = refl;
                   link = refl;
                   wrote = record { waiting = refl; room = omega arith; size = refl; is_cut = refl };
-                  pauses = λ e. inl refl;
+                  course = refl;
                   stays = refl;
                 },
                 record { to_a = ([], refl); to_b = ([], refl) },
@@ -105,7 +105,7 @@ returns-clause-streams c = λ line other_line. (
                           syn = refl;
                           link = refl;
                           wrote = record { waiting = refl; room = omega arith; size = refl; is_cut = refl };
-                          pauses = λ e. inl refl;
+                          course = refl;
                           stays = refl;
                         },
                         record { to_a = ([], refl); to_b = ([], refl) },
@@ -121,7 +121,7 @@ returns-clause-streams c = λ line other_line. (
                                 syn = refl;
                                 link = refl;
                                 wrote = record { waiting = refl; room = omega arith; size = refl; is_cut = refl };
-                                pauses = λ e. inl refl;
+                                course = refl;
                                 stays = refl;
                               },
                               record { to_a = ([], refl); to_b = ([], refl) },

@@ -84,7 +84,7 @@ returns-clause-calls c = λ line other_line. (
                         syn = refl;
                         link = refl;
                         wrote = record { waiting = refl; room = omega arith; size = refl; is_cut = refl };
-                        pauses = λ e. inl refl;
+                        course = refl;
                         stays = refl;
                       },
                       (
@@ -97,7 +97,7 @@ returns-clause-calls c = λ line other_line. (
                               syn = refl;
                               link = refl;
                               wrote = record { waiting = refl; room = omega arith; size = refl; is_cut = refl };
-                              pauses = λ e. inl refl;
+                              course = refl;
                               stays = refl;
                             },
                             (
@@ -112,7 +112,7 @@ returns-clause-calls c = λ line other_line. (
                                       syn = refl;
                                       link = refl;
                                       wrote = record { waiting = refl; room = omega arith; size = refl; is_cut = refl };
-                                      pauses = λ e. inl refl;
+                                      course = refl;
                                       stays = refl;
                                     },
                                     (
@@ -125,7 +125,7 @@ returns-clause-calls c = λ line other_line. (
                                             syn = refl;
                                             link = refl;
                                             wrote = record { waiting = refl; room = omega arith; size = refl; is_cut = refl };
-                                            pauses = λ e. inl refl;
+                                            course = refl;
                                             stays = refl;
                                           },
                                           (

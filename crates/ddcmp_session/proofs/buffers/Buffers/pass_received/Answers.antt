@@ -22,7 +22,7 @@ loop-notice-preserved c = record {
         syn = c.received-used.ensures.syn;
         link = c.received-used.ensures.link;
         wrote = c.received-used.ensures.wrote text s;
-        pauses = c.received-used.ensures.pauses;
+        course = c.received-used.ensures.course text s;
         stays = c.received-used.ensures.stays;
       })
       c.received-used.ensures.stands));

@@ -1,8 +1,9 @@
-use Rattle.std.proofs.Common.{◌≡◌, refl, subst, Result, Err}
+use Rattle.std.proofs.Common.{◌≡◌, ◌∙◌, ap, refl, subst, Result, Err, Ok, Some}
 use Rattle.ddcmp_session.specs.declared.devices.Fault.{Fault}
 use Rattle.ddcmp_session.specs.declared.devices.Fault.TheVariants.{Input}
 use Rattle.ddcmp_session.specs.declared.session.End.{End}
 use Rattle.ddcmp_session.specs.Devices.{Reports}
+use Rattle.ddcmp_session.proofs.CourseLaws.{time-is-over}
 use Rattle.ddcmp_session.proofs.GoingLaws.{stays, goes-then, timed-goes, waited, reported}
 use Rattle.ddcmp_session.proofs.GoingLaws.{reports-then}
 use Rattle.ddcmp_session.proofs.buffers.Buffers.run.Goals as goal
@@ -84,3 +85,18 @@ returns-then-not-rest-clause-reports g c = λ fault e.
     (timed-goes c.now-now.result c.loop-pass.session c.handle_timeout.new.self
     c.handle_timeout.ensures)
     (reports-then c.pass.ensures.on (reported Input c.if-not-rest.ensures)))))
+
+pub returns-clause-on : goal.returns-clause-on
+returns-clause-on g c =
+    goes-then c.loop-pass.invariant
+    (timed-goes c.run_ends_at-now.result c.loop-pass.session c.handle_timeout-2.new.self
+    c.handle_timeout-2.ensures)
+
+same-end : {e e' : End} → ◌≡◌ {A = Result End Fault} (Ok e) (Ok e') → e ≡ e'
+same-end e = cc
+
+pub returns-clause-ended : goal.returns-clause-ended
+returns-clause-ended g c = λ why e.
+    time-is-over c.loop-pass.session c.handle_timeout-2.new.self c.run_ends_at-now.result
+    c.run_ends_at-now.ensures c.handle_timeout-2.ensures
+    ∙ ap (λ x. Some x) (same-end e)

@@ -10,9 +10,11 @@ returns-clause-state c =
     puts-one c.args.self.now _
     (rw (sym c.self.view_is)
     (ap (λ d. record {
+      options = c.self.inside.options;
+      kind = c.self.inside.kind;
       link = d;
       has_line = c.self.inside.has_line;
-      pause = c.self.inside.pacing.until;
+      course = c.self.inside.course;
       messages = c.self.inside.messages;
       is_read = c.self.inside.input_is_read;
       was_refused = c.self.inside.was_refused;

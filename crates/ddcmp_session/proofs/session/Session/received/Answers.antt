@@ -1,10 +1,13 @@
 use Rattle.std.proofs.Common.{◌∙◌, ap, sym, subst, take}
 use Rattle.std.specs.Prelude.{option_to_list}
+use Rattle.ddcmp_core.specs.declared.counters.Counters.{Counters}
 use Rattle.ddcmp_proto.proofs.FeedLaws.{after_piece-none, notices_of_piece-none}
 use Rattle.ddcmp_proto.specs.Bytes.{notices_of_piece}
-use Rattle.ddcmp_session.specs.Session.{SessionView, form_of}
+use Rattle.ddcmp_session.specs.Session.{SessionView, course_received, form_of, wants_line}
 use Rattle.ddcmp_session.specs.Text.{Wrote, notice_text, notices_text}
+use Rattle.ddcmp_session.proofs.CourseLaws.{received-none, received-one}
 use Rattle.ddcmp_session.proofs.NoticeLaws.{wrote-none, wrote-one}
+use Rattle.ddcmp_session.specs.contracts.session.Session as session
 use Rattle.ddcmp_session.proofs.session.Session.received.Goals as goal
 
 pub returns-then-not-wants_line-clause-state : goal.returns-then-not-wants_line-clause-state
@@ -21,14 +24,33 @@ returns-in-Some-clause-wrote c =
     rw (sym c.self.view_is) (λ text s.
     wrote-one _ _ c.in-Some.notice _ _
     (c.feed-fed.ensures.told text s ∙ ap option_to_list c.in-Some.is)
-    (subst (λ (v : SessionView). Wrote (notice_text (form_of v.messages) c.in-Some.notice) v.output
-    c.report_notice.new.self.output) c.note.ensures.stays c.report_notice.ensures.wrote))
+    c.report_notice.ensures.wrote)
 
 pub returns-in_default-clause-wrote : goal.returns-in_default-clause-wrote
 returns-in_default-clause-wrote c =
     rw (sym c.self.view_is) (λ text s.
-    subst (λ (v : SessionView). Wrote (notices_text (form_of c.self.inside.messages)
+    wrote-none _ _ c.self.inside.output
+    (c.feed-fed.ensures.told text s ∙ ap option_to_list c.in_default.is))
+
+pub returns-in-Some-clause-course : goal.returns-in-Some-clause-course
+returns-in-Some-clause-course c =
+    rw (sym c.self.view_is) (λ text s.
+    received-one (session.the_view c.self.inside) c.feed-fed.new.self _ _ c.look.new.self
+    (c.if-not-wants_line.ensures ∙ ap wants_line (sym c.self.view_is))
+    (ap (λ (k : Counters). k.nak_received) c.counters.ensures) c.look.ensures
+    c.in-Some.notice _ (c.feed-fed.ensures.told text s ∙ ap option_to_list c.in-Some.is)
+    c.report_notice.ensures.course
+    ∙ ap (λ (v : SessionView). course_received (session.the_view c.self.inside) v.link
     (notices_of_piece text (take c.feed-fed.result.used c.args.bytes.now)
-    c.self.inside.link.station.core)) c.self.inside.output v.output) (sym c.note.ensures.stays)
-    (wrote-none _ _ c.self.inside.output
-    (c.feed-fed.ensures.told text s ∙ ap option_to_list c.in_default.is)))
+    c.self.inside.link.station.core)) (sym c.report_notice.ensures.stays))
+
+pub returns-in_default-clause-stands : goal.returns-in_default-clause-stands
+returns-in_default-clause-stands c = rw (sym c.self.view_is) c.feed-fed.ensures.stands
+
+pub returns-in_default-clause-course : goal.returns-in_default-clause-course
+returns-in_default-clause-course c =
+    rw (sym c.self.view_is) (λ text s.
+    received-none (session.the_view c.self.inside) c.feed-fed.new.self _ _ c.look.new.self
+    (c.if-not-wants_line.ensures ∙ ap wants_line (sym c.self.view_is))
+    (ap (λ (k : Counters). k.nak_received) c.counters.ensures) c.look.ensures
+    (c.feed-fed.ensures.told text s ∙ ap option_to_list c.in_default.is))

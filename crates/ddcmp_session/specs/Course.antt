@@ -1,0 +1,187 @@
+-- How the run of a session gets on: what its line has done, in moments and in tries.
+use Rattle.std.specs.Prelude.{ℕ, ◌+◌, ◌-◌, ◌*◌, ◌%◌, Bool, true, false, ◌&&◌, ◌||◌, not, ◌==◌}
+use Rattle.std.specs.Prelude.{nat_le, nat_lt, if◌then◌else◌, min, max, List, [], ◌∷◌}
+use Rattle.std.specs.Prelude.{Option, Some, None, is_none}
+use Rattle.ddcmp_frame.specs.declared.nak.Nak.{Nak}
+use Rattle.ddcmp_frame.specs.declared.nak.Nak.TheVariants as nak
+use Rattle.ddcmp_core.specs.declared.counters.NakCounts.{NakCounts}
+use Rattle.ddcmp_core.specs.declared.notice.Notice.{Notice}
+use Rattle.ddcmp_core.specs.declared.notice.Notice.TheVariants.{PeerRestarted, Restarted}
+use Rattle.ddcmp_core.specs.declared.state.State.{State}
+use Rattle.ddcmp_core.specs.declared.state.State.TheVariants.{Halted, IStart, AStart, Running}
+use Rattle.ddcmp_core.specs.declared.state.State.TheVariants.{Maintenance}
+use Rattle.ddcmp_core.specs.Table.{is_running}
+use Rattle.ddcmp_station.specs.Driving.{is_due, later}
+use Rattle.ddcmp_station.specs.Linking.{LinkView, state_of, total_plus}
+use Rattle.ddcmp_session.specs.declared.course.Course.{Course}
+use Rattle.ddcmp_session.specs.declared.course.Progress.{Progress}
+
+abbrev pub never : ℕ
+never = 18446744073709551615
+
+-- a new session, with a report every so many milliseconds, or none
+abbrev pub course_begun : ℕ → Course
+course_begun report_ms = record {
+  moment = 0;
+  report_at = if report_ms == 0 then never else report_ms;
+  quiet_since = 0;
+  tries = 0;
+  refusal = None;
+  progress = None;
+  acknowledged = 0;
+  is_refused = false;
+  pause = None;
+  retry_seconds = 0;
+  opens_at = 0;
+  peer_has_started = false;
+  has_run_here = false;
+  has_run = false;
+  peer_restarted = false;
+  lost = 0;
+}
+
+-- ---- moments
+
+abbrev pub reports_at : ℕ → ℕ → Course → Bool
+reports_at report_ms now c = not (report_ms == 0) && nat_le c.report_at now
+
+-- The next report is due a whole number of periods after the last.
+abbrev pub after_moment : ℕ → ℕ → Course → Course
+after_moment report_ms now c = record c {
+  moment = now;
+  report_at =
+      if reports_at report_ms now c
+      then later (now - (now - c.report_at) % report_ms) report_ms
+      else c.report_at;
+}
+
+-- a pause ends when its moment has come
+abbrev pub pause_at : ℕ → Option ℕ → Option ℕ
+pause_at now pause = if is_due now pause then None else pause
+
+abbrev pub after_pause : Course → Course
+after_pause c = record c { pause = pause_at c.moment c.pause }
+
+-- ---- a line
+
+abbrev pub after_connecting : Course → Course
+after_connecting c = record c {
+  tries = 0;
+  refusal = None;
+  progress = None;
+  is_refused = false;
+  pause = None;
+  peer_has_started = false;
+  has_run_here = false;
+  peer_restarted = false;
+}
+
+-- one try more, which was refused for this reason, if it was
+abbrev pub try_counted : Option Nak → Course → Course
+try_counted refusal c = record c { tries = min (c.tries + 1) 4294967295; refusal = refusal }
+
+-- The reason of a NAK that isn't a reply to REP and came between these two counts.
+abbrev pub refusal_between : NakCounts → NakCounts → Option Nak
+refusal_between before now =
+    if not (before.too_long == now.too_long) then Some nak.TooLong
+    else if not (before.no_buffer == now.no_buffer) then Some nak.NoBuffer
+    else if not (before.overrun == now.overrun) then Some nak.Overrun
+    else if not (before.format == now.format) then Some nak.Format
+    else if not (before.header_check == now.header_check) then Some nak.HeaderCheck
+    else if not (before.data_check == now.data_check) then Some nak.DataCheck
+    else if not (before.other == now.other) then Some (nak.Other 0)
+    else None
+
+-- an acknowledged message ends a pause
+abbrev pub after_acknowledged : ℕ → Course → Course
+after_acknowledged acknowledged c =
+    if acknowledged == c.acknowledged then c
+    else record c { acknowledged = acknowledged; is_refused = false; pause = None }
+
+-- From the second refusal on messages wait; the beginning of a pause is a try.
+abbrev pub after_refusal : ℕ → Option Nak → Course → Course
+after_refusal timer_ms None c = c
+after_refusal timer_ms (Some reason) c =
+    if c.is_refused
+    then record (if is_none c.pause then try_counted (Some reason) c else c) {
+      pause = Some (later c.moment timer_ms);
+    }
+    else record c { is_refused = true }
+
+-- how far the startup handshake is
+abbrev pub step_of : State → ℕ
+step_of Halted = 0
+step_of IStart = 1
+step_of AStart = 2
+step_of Running = 3
+step_of Maintenance = 4
+
+-- what a link has got to
+abbrev pub progress_of : LinkView → Progress
+progress_of d = record {
+  step = step_of (state_of d).state;
+  acknowledged = d.totals.acknowledged;
+  received = d.station.core.counters.messages_up;
+}
+
+abbrev pub is_at : Progress → Option Progress → Bool
+is_at p None = false
+is_at p (Some before) =
+    p.step == before.step && p.acknowledged == before.acknowledged && p.received == before.received
+
+-- since the last look a message was received
+abbrev pub has_received : Progress → Option Progress → Bool
+has_received p None = false
+has_received p (Some before) = not (before.received == p.received)
+
+-- It isn't quiet when the station begins to run, or a message was received.
+abbrev pub after_noise : Progress → Course → Course
+after_noise p c =
+    if (p.step == 3 && not c.has_run_here) || has_received p c.progress
+    then record c { quiet_since = c.moment }
+    else c
+
+-- after any progress tries are counted anew
+abbrev pub after_progress : Progress → Course → Course
+after_progress p c =
+    if is_at p c.progress then c
+    else record c { progress = Some p; tries = 0; refusal = None }
+
+abbrev pub after_state : State → Course → Course
+after_state Running c =
+    record c { peer_has_started = true; has_run_here = true; has_run = true }
+after_state AStart c = record c { peer_has_started = true }
+after_state _ c = c
+
+-- a look at a link that was fed, when it had received these NAKs
+unfoldable pub after_looked : ℕ → NakCounts → LinkView → Course → Course
+after_looked timer_ms before d c =
+    after_state (state_of d).state
+    (after_progress (progress_of d)
+    (after_noise (progress_of d)
+    (after_refusal timer_ms (refusal_between before d.station.core.counters.nak_received)
+    (after_acknowledged d.totals.acknowledged c))))
+
+-- messages that were read and will never be acknowledged
+abbrev pub lost_more : ℕ → Course → Course
+lost_more n c = record c { lost = total_plus c.lost n }
+
+-- A peer restarted, and with `--restart` what this station had accepted is lost by that.
+abbrev pub after_notice : Notice → Course → Course
+after_notice PeerRestarted c = record c { peer_restarted = true }
+after_notice (Restarted count) c = lost_more count c
+after_notice _ c = c
+
+unfoldable pub after_notices : List Notice → Course → Course
+after_notices [] c = c
+after_notices (notice ∷ rest) c = after_notices rest (after_notice notice c)
+
+-- ---- no line
+
+-- The pause before the line is opened again doubles, from 1 second to 30.
+abbrev pub after_opening_failed : Course → Course
+after_opening_failed c =
+    let seconds = min (max (2 * min c.retry_seconds 30) 1) 30 in record c {
+      retry_seconds = seconds;
+      opens_at = later c.moment (1000 * seconds);
+    }

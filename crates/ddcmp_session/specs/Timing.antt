@@ -1,0 +1,105 @@
+-- When the line of a session is left, until when it waits, and when a line is opened again.
+use Rattle.std.specs.Prelude.{ℕ, ◌-◌, ◌*◌, Bool, true, false, ◌&&◌, ◌||◌, not, ◌==◌, nat_le, nat_lt}
+use Rattle.std.specs.Prelude.{min, if◌then◌else◌, Option, None, Some}
+use Rattle.ddcmp_core.specs.Table.{is_running}
+use Rattle.ddcmp_station.specs.Driving.{later}
+use Rattle.ddcmp_station.specs.Linking.{wakes_at as timer_at}
+use Rattle.ddcmp_session.specs.declared.options.LineKind.{LineKind}
+use Rattle.ddcmp_session.specs.declared.options.LineKind.TheVariants.{Listen}
+use Rattle.ddcmp_session.specs.declared.session.End.{End}
+use Rattle.ddcmp_session.specs.declared.session.End.TheVariants.{Delivered, Time, Restarted}
+use Rattle.ddcmp_session.specs.declared.session.End.TheVariants.{GivenUp}
+use Rattle.ddcmp_session.specs.Course.{after_opening_failed, never}
+use Rattle.ddcmp_session.specs.Session.{SessionView, is_delivered}
+
+-- ---- the end
+
+-- a link that listens, and has had no input
+abbrev pub is_listener : LineKind → Bool
+is_listener Listen = true
+is_listener _ = false
+
+abbrev pub had_input : SessionView → Bool
+had_input s = nat_lt 0 s.link.totals.sent || s.was_refused
+
+-- it goes on once all of the input was delivered
+abbrev pub stays : SessionView → Bool
+stays s = s.options.stay || (is_listener s.kind && not (had_input s))
+
+-- all is done, once a peer that has more to send was heard out
+abbrev pub is_done : SessionView → Bool
+is_done s = is_delivered s && not (stays s)
+
+abbrev pub lingers_until : SessionView → ℕ
+lingers_until s = later s.course.quiet_since s.options.linger_ms
+
+-- Seven tries are the most before a station runs, if no option says how many; 0 is any number.
+abbrev pub most_tries : ℕ → Bool → ℕ
+most_tries attempts runs =
+    if attempts == 4294967295 then (if runs then 0 else 7) else attempts
+
+abbrev pub too_many : ℕ → ℕ → Bool
+too_many most tries = nat_lt 0 most && nat_le most tries
+
+abbrev pub is_given_up : SessionView → Bool
+is_given_up s =
+    too_many (most_tries s.options.attempts (is_running s.link.station.core.station.state))
+    s.course.tries
+
+-- the moment when the run ends
+abbrev pub run_ends_at : SessionView → ℕ
+run_ends_at s = 1000 * s.options.seconds
+
+-- why the line is to be left
+abbrev pub end : SessionView → Option End
+end s =
+    if nat_le (run_ends_at s) s.course.moment then Some Time
+    else if s.course.peer_restarted then Some Restarted
+    else if is_given_up s then Some GivenUp
+    else if is_done s && nat_le (lingers_until s) s.course.moment then Some Delivered
+    else None
+
+-- ---- when the timers are to be handled at the latest
+
+abbrev pub or_never : Option ℕ → ℕ
+or_never None = never
+or_never (Some moment) = moment
+
+-- the end of the run, the reply timer, the end of a pause, or a report
+abbrev pub next_timeout : SessionView → ℕ
+next_timeout s =
+    min (min (min (run_ends_at s) (or_never (timer_at s.link))) (or_never s.course.pause))
+    s.course.report_at
+
+abbrev pub wakes_at : SessionView → ℕ
+wakes_at s = if is_done s then min (next_timeout s) (lingers_until s) else next_timeout s
+
+-- how many milliseconds that is after the last moment that was passed
+abbrev pub wait_ms : SessionView → ℕ
+wait_ms s = wakes_at s - s.course.moment
+
+-- ---- without a line
+
+-- a wait ends when the run does, a report is due, or the line is to be opened
+abbrev pub wakes_without_line_at : ℕ → SessionView → ℕ
+wakes_without_line_at now s =
+    let first = min (run_ends_at s) s.course.report_at in
+    if nat_lt now s.course.opens_at then min first s.course.opens_at else first
+
+-- a line that has ended is opened again
+abbrev pub reopens : SessionView → Bool
+reopens s = s.options.again || (is_listener s.kind && not s.course.peer_has_started)
+
+-- the pause after a line: none after a station that ran, nor for whoever listens
+abbrev pub after_line : SessionView → SessionView
+after_line s = record s {
+  course =
+      if s.course.has_run_here then record s.course { retry_seconds = 0; opens_at = 0 }
+      else if is_listener s.kind then s.course
+      else after_opening_failed s.course;
+}
+
+abbrev pub seconds_after_line : SessionView → Option ℕ
+seconds_after_line s =
+    if s.course.has_run_here || is_listener s.kind then None
+    else Some (after_opening_failed s.course).retry_seconds

@@ -1,0 +1,335 @@
+//! How the run of a session gets on: when its line is left, and when it is opened again.
+ghost use Rattle.std.specs.Prelude.{◌≡◌};
+ghost use Rattle.ddcmp_session.specs.Course.{after_acknowledged, after_connecting, after_looked};
+ghost use Rattle.ddcmp_session.specs.Course.{after_moment, after_noise, after_opening_failed};
+ghost use Rattle.ddcmp_session.specs.Course.{after_pause, after_progress, after_refusal};
+ghost use Rattle.ddcmp_session.specs.Course.{after_state, course_begun, has_received, is_at, lost_more};
+ghost use Rattle.ddcmp_session.specs.Course.{progress_of, refusal_between, reports_at, step_of};
+ghost use Rattle.ddcmp_session.specs.Course.{try_counted};
+
+use ddcmp_frame::Nak;
+use ddcmp_station::{Link, NakCounts, State};
+
+/// The shortest and the longest pause before a line is opened again, in seconds.
+const LEAST_SECONDS: u64 = 1;
+
+const MOST_SECONDS: u64 = 30;
+
+/// What a link had got to.
+#[derive(Clone, Copy)]
+pub(crate) struct Progress {
+    /// How far the startup handshake is.
+    pub(crate) step: u8,
+    /// How many messages were acknowledged.
+    pub(crate) acknowledged: u64,
+    /// How many data messages were received.
+    pub(crate) received: u32,
+}
+
+/// How the run of a session gets on. All moments are in milliseconds since it was made.
+///
+/// The line is to be left once too many tries came in a row without progress: no message was
+/// acknowledged, none was received and the startup handshake made no step. A try is an expiry of
+/// the reply timer, or a pause since the peer refuses messages.
+///
+/// After a NAK the station sends its messages again at once, which mends what a line has damaged.
+/// If a second NAK comes before the peer has acknowledged a message, they wait for as long as the
+/// reply timer would: a peer that refuses a message, as one that is too long for it, gets at most a
+/// window of messages in that time. NAKs in reply to REP don't count, since REPs come at that pace
+/// by themselves.
+#[derive(Clone, Copy)]
+pub(crate) struct Course {
+    /// The last moment that was passed.
+    pub(crate) moment: u64,
+    /// When the next report of the counters is due.
+    pub(crate) report_at: u64,
+    /// The moment since which no data message came: at first that of the startup handshake.
+    pub(crate) quiet_since: u64,
+    /// How many tries came in a row.
+    pub(crate) tries: u32,
+    /// Why the peer refused the last message, if that was the last try.
+    pub(crate) refusal: Option<Nak>,
+    /// What the link had got to over this line.
+    pub(crate) progress: Option<Progress>,
+    /// How many messages had been acknowledged before the last NAK.
+    pub(crate) acknowledged: u64,
+    /// Whether a NAK came since the last message was acknowledged.
+    pub(crate) is_refused: bool,
+    /// Until when messages wait, if they do.
+    pub(crate) pause: Option<u64>,
+    /// The last pause before the line was opened again, in seconds.
+    pub(crate) retry_seconds: u64,
+    /// When the line may be opened.
+    pub(crate) opens_at: u64,
+    /// Whether the peer has begun to start, over the line that is open.
+    pub(crate) peer_has_started: bool,
+    /// Whether the station has run over the line that is open, and over any line.
+    pub(crate) has_run_here: bool,
+    pub(crate) has_run: bool,
+    pub(crate) peer_restarted: bool,
+    /// How many messages were read and will never be acknowledged.
+    pub(crate) lost: u64,
+}
+
+impl Course {
+    /// Returns that of a new session, which reports its counters every `report_ms` milliseconds,
+    /// if that isn't 0.
+    pub(crate) fn begun(report_ms: u64) -> Course
+        ensures { result ≡ course_begun report_ms }
+    {
+        Course {
+            moment: 0,
+            report_at: if report_ms == 0 { u64::MAX } else { report_ms },
+            quiet_since: 0,
+            tries: 0,
+            refusal: None,
+            progress: None,
+            acknowledged: 0,
+            is_refused: false,
+            pause: None,
+            retry_seconds: 0,
+            opens_at: 0,
+            peer_has_started: false,
+            has_run_here: false,
+            has_run: false,
+            peer_restarted: false,
+            lost: 0,
+        }
+    }
+
+    /// Takes note of the moment: returns whether a report is due. The next one is due a whole
+    /// number of periods after it.
+    pub(crate) fn pass(&mut self, now: u64, report_ms: u64) -> bool
+        ensures state { self.new ≡ after_moment report_ms now self.old }
+        ensures due { result ≡ reports_at report_ms now self.old }
+    {
+        self.moment = now;
+        if report_ms == 0 || now < self.report_at {
+            return false;
+        }
+        let late = (now - self.report_at) % report_ms;
+        self.report_at = (now - late).saturating_add(report_ms);
+        true
+    }
+
+    /// Lets messages go once their time has come.
+    pub(crate) fn end_pause(&mut self)
+        ensures { self.new ≡ after_pause self.old }
+    {
+        if let Some(until) = self.pause
+            && until <= self.moment
+        {
+            self.pause = None;
+        }
+    }
+
+    /// Begins on a line.
+    pub(crate) fn connect(&mut self)
+        ensures { self.new ≡ after_connecting self.old }
+    {
+        self.tries = 0;
+        self.refusal = None;
+        self.progress = None;
+        self.is_refused = false;
+        self.pause = None;
+        self.peer_has_started = false;
+        self.has_run_here = false;
+        self.peer_restarted = false;
+    }
+
+    /// Counts a try, which was refused for this reason, if it was.
+    pub(crate) fn count_try(&mut self, refusal: Option<Nak>)
+        ensures { self.new ≡ try_counted refusal self.old }
+    {
+        self.tries = self.tries.saturating_add(1);
+        self.refusal = refusal;
+    }
+
+    /// Looks at a link that was fed, when it had received these NAKs: messages that it sends again
+    /// wait for this many milliseconds.
+    #[tactic(auto, unfolding(crate::specs::Course::after_looked))]
+    pub(crate) fn look(&mut self, before: &NakCounts, link: &Link, timer_ms: u32)
+        ensures { self.new ≡ after_looked timer_ms before.now link.now self.old }
+    {
+        self.note_acknowledged(link.totals().acknowledged);
+        self.note_refusal(
+            refusal_between(before, &link.counters().nak_received),
+            timer_ms,
+        );
+        let progress = progress_of(link);
+        self.note_noise(progress);
+        self.note_progress(progress);
+        self.note_state(link.state());
+    }
+
+    /// Ends a pause if a message was acknowledged.
+    fn note_acknowledged(&mut self, acknowledged: u64)
+        ensures { self.new ≡ after_acknowledged acknowledged self.old }
+    {
+        if acknowledged != self.acknowledged {
+            self.acknowledged = acknowledged;
+            self.is_refused = false;
+            self.pause = None;
+        }
+    }
+
+    /// Has messages wait if the peer refuses them again.
+    fn note_refusal(&mut self, refusal: Option<Nak>, timer_ms: u32)
+        ensures { self.new ≡ after_refusal timer_ms refusal self.old }
+    {
+        if refusal.is_none() {
+            return;
+        }
+        if !self.is_refused {
+            self.is_refused = true;
+            return;
+        }
+        if self.pause.is_none() {
+            self.count_try(refusal);
+        }
+        self.pause = Some(self.moment.saturating_add(timer_ms as u64));
+    }
+
+    /// Takes note of the moment if the station begins to run or a message was received.
+    fn note_noise(&mut self, progress: Progress)
+        ensures { self.new ≡ after_noise progress self.old }
+    {
+        let begins = progress.step == RUNNING && !self.has_run_here;
+        if begins || has_received(progress, self.progress) {
+            self.quiet_since = self.moment;
+        }
+    }
+
+    /// Counts tries anew if there was progress.
+    fn note_progress(&mut self, progress: Progress)
+        ensures { self.new ≡ after_progress progress self.old }
+    {
+        if !is_at(progress, self.progress) {
+            self.progress = Some(progress);
+            self.tries = 0;
+            self.refusal = None;
+        }
+    }
+
+    /// Takes note of how far the startup handshake is.
+    fn note_state(&mut self, state: State)
+        ensures { self.new ≡ after_state state self.old }
+    {
+        match state {
+            State::Running => {
+                self.peer_has_started = true;
+                self.has_run_here = true;
+                self.has_run = true;
+            }
+            State::AStart => self.peer_has_started = true,
+            _ => {}
+        }
+    }
+
+    /// Counts messages that were read and will never be acknowledged.
+    pub(crate) fn lose(&mut self, count: u64)
+        ensures { self.new ≡ lost_more count self.old }
+    {
+        self.lost = self.lost.saturating_add(count);
+    }
+
+    /// Doubles the pause before the line is opened again, since it couldn't be opened, or ended
+    /// before its station ran: returns its seconds. It is 1 second at first, and 30 at most.
+    pub(crate) fn retry_later(&mut self) -> u64
+        ensures state { self.new ≡ after_opening_failed self.old }
+        ensures seconds { result ≡ self.new.retry_seconds }
+    {
+        let doubled = 2 * self.retry_seconds.min(MOST_SECONDS);
+        self.retry_seconds = doubled.clamp(LEAST_SECONDS, MOST_SECONDS);
+        self.opens_at = self.moment.saturating_add(1000 * self.retry_seconds);
+        self.retry_seconds
+    }
+
+    /// Has the line opened at once.
+    pub(crate) fn retry_at_once(&mut self)
+        ensures { self.new ≡ record self.old { retry_seconds = 0; opens_at = 0 } }
+    {
+        self.retry_seconds = 0;
+        self.opens_at = 0;
+    }
+}
+
+/// Returns the reason of a NAK that isn't a reply to REP and came between these two counts, if one
+/// did.
+fn refusal_between(before: &NakCounts, now: &NakCounts) -> Option<Nak>
+    ensures { result ≡ refusal_between before.now now.now }
+{
+    if before.too_long != now.too_long {
+        return Some(Nak::TooLong);
+    }
+    if before.no_buffer != now.no_buffer {
+        return Some(Nak::NoBuffer);
+    }
+    if before.overrun != now.overrun {
+        return Some(Nak::Overrun);
+    }
+    if before.format != now.format {
+        return Some(Nak::Format);
+    }
+    if before.header_check != now.header_check {
+        return Some(Nak::HeaderCheck);
+    }
+    if before.data_check != now.data_check {
+        return Some(Nak::DataCheck);
+    }
+    if before.other != now.other {
+        return Some(Nak::Other(0));
+    }
+    None
+}
+
+/// How far a running station is.
+const RUNNING: u8 = 3;
+
+/// Returns how far the startup handshake is.
+fn step_of(state: State) -> u8
+    ensures { result ≡ step_of state }
+{
+    match state {
+        State::Halted => 0,
+        State::IStart => 1,
+        State::AStart => 2,
+        State::Running => RUNNING,
+        State::Maintenance => 4,
+    }
+}
+
+/// Returns what a link has got to.
+fn progress_of(link: &Link) -> Progress
+    ensures { result ≡ progress_of link.now }
+{
+    Progress {
+        step: step_of(link.state()),
+        acknowledged: link.totals().acknowledged,
+        received: link.counters().messages_up,
+    }
+}
+
+/// Whether nothing was got to since.
+fn is_at(progress: Progress, before: Option<Progress>) -> bool
+    ensures { result ≡ is_at progress before }
+{
+    match before {
+        None => false,
+        Some(before) => {
+            progress.step == before.step
+                && progress.acknowledged == before.acknowledged
+                && progress.received == before.received
+        }
+    }
+}
+
+/// Whether a message was received since.
+fn has_received(progress: Progress, before: Option<Progress>) -> bool
+    ensures { result ≡ has_received progress before }
+{
+    match before {
+        None => false,
+        Some(before) => before.received != progress.received,
+    }
+}
