@@ -31,7 +31,9 @@ use Rattle.ddcmp_callers.proofs.LinkRestarts.{anew-to-b, anew-to-a, anew-all-to-
 use Rattle.ddcmp_session.specs.Calls.{SessionCall, Typed, InputEnded, Connected, LineEnded}
 use Rattle.ddcmp_session.specs.Calls.{Received, Filled, LineTook, TimedOut, Delivered, OutputTook}
 use Rattle.ddcmp_session.specs.Calls.{Closed, SessionDoes, SessionStep}
-use Rattle.ddcmp_session.specs.Calls.{after_session_step, after_connected}
+use Rattle.ddcmp_session.specs.Calls.{after_session_step}
+use Rattle.ddcmp_session.specs.Course.{after_connecting}
+use Rattle.ddcmp_session.specs.Session.{after_connected}
 use Rattle.ddcmp_pipe.specs.Sessions.{messages_of, mail_in, link_steps_of, offers_of, frames_put}
 use Rattle.ddcmp_pipe.specs.Sessions.{texts_of}
 use Rattle.ddcmp_pipe.specs.Pipe.{Made, links_made, steps_at_end}

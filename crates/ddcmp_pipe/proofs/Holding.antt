@@ -142,7 +142,7 @@ text_on f max h new k same =
     (keeps h.session.output new.output same) (no_text f)
 
 -- one call of the link, of a call that reads nothing
-pub one_call : {told : Bool} (f : Form) (max : ℕ) (h : SessionHistory) (new : SessionView) (k : ℕ) (call :
+pub one_call : (f : Form) (max : ℕ) (h : SessionHistory) (new : SessionView) (k : ℕ) (call :
     LinkCall)
     (used gone written : List ℕ) (shown : List Shown) (more : List (List ℕ))
     → HasDone call h.used h.session.link new.link
@@ -151,8 +151,8 @@ pub one_call : {told : Bool} (f : Form) (max : ℕ) (h : SessionHistory) (new : 
     (after_step (link_step call new.link) (link_history f max h k)).acknowledged
     → mail_in shown ≡ mail_in h.shown ++ more
     → Leads (link_step call new.link ∷ []) (link_history f max h k) f max
-    (session_parts told new used gone (h.input ++ []) written shown)
-one_call {told} f max h new k call used gone written shown more done after mail = (
+    (session_parts false new used gone (h.input ++ []) written shown)
+one_call f max h new k call used gone written shown more done after mail = (
   (done, tt),
   (
     (after_step (link_step call new.link) (link_history f max h k)).acknowledged,
@@ -164,13 +164,13 @@ one_call {told} f max h new k call used gone written shown more done after mail 
 )
 
 -- no call of the link
-pub no_call : {told : Bool} (f : Form) (max : ℕ) (h : SessionHistory) (new : SessionView) (k : ℕ) (written :
+pub no_call : (f : Form) (max : ℕ) (h : SessionHistory) (new : SessionView) (k : ℕ) (written :
     List ℕ)
     (shown : List Shown) → new.link ≡ h.session.link → mail_in shown ≡ mail_in h.shown
     → Leads [] (link_history f max h k) f max
-    (session_parts told new (h.used ++ []) (h.gone ++ []) (h.input ++ []) written shown)
+    (session_parts false new (h.used ++ []) (h.gone ++ []) (h.input ++ []) written shown)
 unfolding after_history
-no_call {told} f max h new k written shown same mail = (
+no_call f max h new k written shown same mail = (
   tt,
   (
     k,

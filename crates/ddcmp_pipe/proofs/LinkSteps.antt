@@ -20,7 +20,7 @@ use Rattle.ddcmp_station.specs.Linking.{anew}
 use Rattle.ddcmp_session.specs.declared.messages.Form.{Form}
 use Rattle.ddcmp_session.specs.declared.messages.Form.TheVariants as form
 use Rattle.ddcmp_session.specs.declared.messages.Messages.{Messages}
-use Rattle.ddcmp_session.specs.Messages.{message_in, after_input, entries_of_input}
+use Rattle.ddcmp_session.specs.Messages.{messages_begun, message_in, after_input, entries_of_input}
 use Rattle.ddcmp_session.specs.Messages.{after_last, entry_of_last}
 use Rattle.ddcmp_session.specs.Session.{SessionView, form_of, wants_input}
 use Rattle.ddcmp_session.specs.Session.{after_last_line, after_unfinished, after_input_end}

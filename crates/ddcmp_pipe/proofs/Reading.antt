@@ -94,12 +94,12 @@ entered_longest (NotHexadecimal ∷ rest) message old new e = ap longest_of e
 entered_longest (TooLong ∷ rest) message old new e = ap longest_of e
 entered_longest (Empty ∷ rest) message old new e = ap longest_of e
 
-pub read_holds : (f : Form) (max : ℕ) (h : SessionHistory) (used : List ℕ) (es : List Entry)
+pub read_holds : {told : Bool} (f : Form) (max : ℕ) (h : SessionHistory) (used : List ℕ) (es : List Entry)
     (message : List ℕ) (new : SessionView) → Holds f max h → HasRead f max h used es message new
     → Holds f max
-    (session_parts new (h.used ++ []) (h.gone ++ []) (h.input ++ used) (h.written ++ [])
+    (session_parts told new (h.used ++ []) (h.gone ++ []) (h.input ++ used) (h.written ++ [])
     (h.shown ++ []))
-read_holds f max h used es message new k r = record {
+read_holds {told} f max h used es message new k r = record {
   kind = ap form_of r.messages ∙ form_stays used h.session.messages ∙ k.kind;
   longest = entered_longest es message h.session.link new.link r.link ∙ k.longest;
   reads = λ going. r.messages
@@ -118,14 +118,14 @@ offered_is (Empty ∷ rest) message d = refl
 
 abbrev pub after_reading : SessionHistory → List ℕ → SessionView → SessionHistory
 after_reading h used new =
-    session_parts new (h.used ++ []) (h.gone ++ []) (h.input ++ used) (h.written ++ [])
+    session_parts false new (h.used ++ []) (h.gone ++ []) (h.input ++ used) (h.written ++ [])
     (h.shown ++ [])
 
 pub read_leads : (f : Form) (max : ℕ) (h : SessionHistory) (used : List ℕ) (es : List Entry)
     (message : List ℕ) (new : SessionView) (k : ℕ) → Holds f max h
     → HasRead f max h used es message new
     → Leads (offers_of es message new.link) (link_history f max h k) f max
-    (session_parts new (h.used ++ []) (h.gone ++ []) (h.input ++ used) (h.written ++ [])
+    (session_parts false new (h.used ++ []) (h.gone ++ []) (h.input ++ used) (h.written ++ [])
     (h.shown ++ []))
 unfolding after_history
 read_leads f max h used es message new k holds r =

@@ -8,13 +8,12 @@ use Rattle.ddcmp_run.specs.Prefix.{IsPrefixOf}
 use Rattle.ddcmp_run.specs.Run.{new_pair, is_clean}
 use Rattle.ddcmp_input.specs.InBinary.{in_binary}
 use Rattle.ddcmp_session.specs.declared.messages.Form.TheVariants as form
-use Rattle.ddcmp_session.specs.Session.{SessionView, is_delivered}
+use Rattle.ddcmp_session.specs.Session.{SessionView, after_connected, is_delivered}
 use Rattle.ddcmp_callers.specs.Links.{LinkStep}
 use Rattle.ddcmp_callers.specs.LinkRestarts.{calls_of_links}
 use Rattle.ddcmp_callers.specs.StationRuns.{run_station_calls}
 use Rattle.ddcmp_session.specs.Calls.{SessionCall, Connected as ConnectedCall, SessionDoes}
 use Rattle.ddcmp_session.specs.Calls.{SessionHistory, SessionStep, after_session_step, Shown}
-use Rattle.ddcmp_session.specs.Calls.{after_connected}
 use Rattle.ddcmp_pipe.specs.Sessions.{messages_of, mail_in, link_steps_of}
 use Rattle.ddcmp_pipe.specs.Pipe.{Made, session_of, links_made, steps_at_end, undelivered}
 

@@ -11,9 +11,9 @@ use Rattle.ddcmp_service.specs.declared.fault.Cause.TheVariants as cause
 use Rattle.ddcmp_service.specs.declared.fault.NotOpened.{NotOpened}
 
 abbrev pub attempt_text : Attempt → List ℕ
-attempt_text attempt.Connect = codes "connect "
-attempt_text attempt.Listen = codes "listen "
-attempt_text attempt.Open = codes "open "
+attempt_text attempt.Connect = codes "connect"
+attempt_text attempt.Listen = codes "listen"
+attempt_text attempt.Open = codes "open"
 
 abbrev pub cause_text : Cause → List ℕ
 cause_text (cause.System kind) = cause_words kind
@@ -24,16 +24,15 @@ cause_text cause.InUse = codes "in use by another program"
 
 -- a line that couldn't be opened, with its name
 abbrev pub not_opened_text : NotOpened → List ℕ
-not_opened_text f = attempt_text f.attempt ++ f.name ++ codes ": " ++ cause_text f.cause
-
-abbrev pub retry_text : ℕ → List ℕ
-retry_text seconds = codes "retry in " ++ decimal seconds ++ codes " s"
+not_opened_text f =
+    attempt_text f.attempt ++ (codes " " ++ (f.name.now ++ (codes ": " ++ cause_text f.cause)))
 
 abbrev pub event_text : Event → List ℕ
 event_text (event.Listening address) = codes "listening " ++ socket_text address
 event_text (event.Connecting address) = codes "connecting " ++ socket_text address
 event_text (event.Connected address) = codes "connected " ++ socket_text address
 event_text (event.Retry fault seconds) =
-    codes "ddcmp: " ++ not_opened_text fault ++ codes "; " ++ retry_text seconds
-event_text (event.Pause seconds) = retry_text seconds
+    codes "ddcmp: "
+    ++ (not_opened_text fault ++ (codes "; retry in " ++ (decimal seconds ++ codes " s")))
+event_text (event.Pause seconds) = codes "retry in " ++ decimal seconds ++ codes " s"
 event_text event.Unread = codes "ddcmp: standard output isn't read: received messages are lost"

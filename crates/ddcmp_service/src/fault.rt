@@ -1,6 +1,6 @@
 //! What goes wrong with a line, and why a service ended.
 ghost use Rattle.std.specs.Prelude.{◌≡◌};
-ghost use Rattle.ddcmp_service.specs.Events.{cause_text};
+ghost use Rattle.ddcmp_service.specs.Events.{attempt_text, cause_text};
 
 use ddcmp_io::cause::words_of;
 use std::fmt;
@@ -12,6 +12,19 @@ pub enum Attempt {
     Connect,
     Listen,
     Open,
+}
+
+impl Attempt {
+    /// The attempt in words.
+    fn words(self) -> &'static str
+        ensures { result.now ≡ attempt_text self }
+    {
+        match self {
+            Attempt::Connect => "connect",
+            Attempt::Listen => "listen",
+            Attempt::Open => "open",
+        }
+    }
 }
 
 /// Why a line can't be opened.
@@ -59,14 +72,10 @@ impl fmt::Display for NotOpened<'_> {
     ghost output = { λ fault. Some (not_opened_text fault) };
 
     fn fmt<W: fmt::Write>(&self, f: &mut fmt::Formatter<W>) -> fmt::Result {
-        f.write_str(match self.attempt {
-            Attempt::Connect => "connect ",
-            Attempt::Listen => "listen ",
-            Attempt::Open => "open ",
-        })?;
-        f.write_str(self.name)?;
-        f.write_str(": ")?;
-        f.write_str(self.cause.words())
+        let attempt = self.attempt.words();
+        let name = self.name;
+        let cause = self.cause.words();
+        write!(f, "{attempt} {name}: {cause}")
     }
 }
 
