@@ -164,12 +164,12 @@ since made c k =
     (delivered_since c) k
 
 -- what stays
-record Stays (made : Made) (c : Connection) : Type 0 where
-  holds : Holds made.options.form made.options.config.max c.history
-  read
+pub record Stays (made : Made) (c : Connection) : Type 0 where
+  pub holds : Holds made.options.form made.options.config.max c.history
+  pub read
       : messages_of made.options.form made.options.config.max c.history.input
       ≡ messages_of made.options.form made.options.config.max c.input_before ++ read_since made c
-  delivered : mail_in c.history.shown ≡ mail_in c.shown_before ++ delivered_since c
+  pub delivered : mail_in c.history.shown ≡ mail_in c.shown_before ++ delivered_since c
 
 -- a call of a session leads its link from one history since it was connected to the next
 abbrev Follows : Made → List LinkStep → Connection → ℕ → Connection → Type 0
@@ -275,7 +275,7 @@ begins_anew made new c k is stays =
       },
     )
 
-follows : (made : Made) (one : SessionStep) (c : Connection) (k : ℕ)
+pub follows : (made : Made) (one : SessionStep) (c : Connection) (k : ℕ)
     → Does one.call c.history.used c.history.session one.session → Stays made c
     → Follows made (link_steps_of one.call c.history.session one.session.link) c k
     (after_step one c)
@@ -439,7 +439,7 @@ writes_anew made c s is =
 
 -- ---- from two new sessions
 
-stays_first : (made : Made) → Stays made (first_connection made)
+pub stays_first : (made : Made) → Stays made (first_connection made)
 stays_first made = record {
   holds = (begins made.options made.kind made.line).0;
   read = none_since (messages_of made.options.form made.options.config.max []);

@@ -6,6 +6,7 @@ pub mod Limits
 pub mod LinkSteps
 pub mod LoopLaws
 pub mod Outcomes
+pub mod OverLines
 pub mod Pipes
 pub mod Reading
 pub mod Story

@@ -8,45 +8,17 @@ use Rattle.ddcmp_run.specs.Prefix.{IsPrefixOf}
 use Rattle.ddcmp_run.specs.Run.{new_pair, is_clean}
 use Rattle.ddcmp_input.specs.InBinary.{in_binary}
 use Rattle.ddcmp_session.specs.declared.messages.Form.TheVariants as form
-use Rattle.ddcmp_session.specs.Session.{SessionView, after_connected, is_delivered}
+use Rattle.ddcmp_session.specs.Session.{is_delivered}
 use Rattle.ddcmp_callers.specs.Links.{LinkStep}
 use Rattle.ddcmp_callers.specs.LinkRestarts.{calls_of_links}
 use Rattle.ddcmp_callers.specs.StationRuns.{run_station_calls}
-use Rattle.ddcmp_session.specs.Calls.{SessionCall, Connected as ConnectedCall, SessionDoes}
-use Rattle.ddcmp_session.specs.Calls.{SessionHistory, SessionStep, after_session_step, Shown}
+use Rattle.ddcmp_session.specs.Calls.{SessionStep}
+use Rattle.ddcmp_session.specs.Connections.{Connection, Does, after_step, first_connection_of}
 use Rattle.ddcmp_pipe.specs.Sessions.{messages_of, mail_in, link_steps_of}
 use Rattle.ddcmp_pipe.specs.Pipe.{Made, session_of, links_made, steps_at_end, undelivered}
 
--- The history of a session, in which the bytes of the line are those of its last connection; and
--- the input and the output that it had had before that.
-pub record Connection : Type 0 where
-  pub history : SessionHistory
-  pub input_before : List ℕ
-  pub shown_before : List Shown
-
 abbrev pub first_connection : Made → Connection
-first_connection made =
-    record { history = session_of made; input_before = []; shown_before = [] }
-
-abbrev pub begun_anew : SessionHistory → Connection
-begun_anew h = record {
-  history = record h { used = []; gone = [] };
-  input_before = h.input;
-  shown_before = h.shown;
-}
-
-abbrev pub after_call : SessionCall → SessionHistory → Connection → Connection
-after_call ConnectedCall h c = begun_anew h
-after_call call h c = record c { history = h }
-
-abbrev pub after_step : SessionStep → Connection → Connection
-after_step step c = after_call step.call (after_session_step step c.history) c
-
--- What the contract of each call says that it does; `connected` does it on any line.
-abbrev pub Does : SessionCall → List ℕ → SessionView → SessionView → Type 0
-Does ConnectedCall text old new =
-    new ≡ after_connected new.link.station.line old
-Does call text old new = SessionDoes call text old new
+first_connection made = first_connection_of (session_of made)
 
 -- both ends
 pub record Connections : Type 0 where

@@ -1,11 +1,16 @@
 //! A session that runs over devices from its beginning.
-ghost use Rattle.std.specs.Prelude.{◌≡◌, ◌++◌, [], Option, Some};
+ghost use Rattle.std.specs.Prelude.{◌≡◌, ◌++◌, List, [], Option, Some, map};
 ghost use Rattle.ddcmp_frame.specs.Reader.{StandsFor};
 ghost use Rattle.ddcmp_session.specs.Session.{SessionView};
-ghost use Rattle.ddcmp_session.specs.Calls.{SessionDoes, Connected, after_session_steps};
-ghost use Rattle.ddcmp_session.specs.Devices.{BuffersView, GoesOn, Traffic};
+ghost use Rattle.ddcmp_run.specs.declared.event.End.TheVariants.{A};
+ghost use Rattle.ddcmp_session.specs.Calls.{SessionDoes, SessionStep, Connected};
+ghost use Rattle.ddcmp_session.specs.Calls.{after_session_steps};
+ghost use Rattle.ddcmp_session.specs.Connections.{AreDone, after_all};
+ghost use Rattle.ddcmp_session.specs.Devices.{BuffersView, GoesOn, GoesOver, Traffic};
 ghost use Rattle.ddcmp_session.specs.Devices.{nothing_read};
+ghost use Rattle.ddcmp_pipe.specs.Connections.{AreCalls, first_connection, first_connections};
 ghost use Rattle.ddcmp_pipe.specs.Loops.{DevicesPipe, DevicesPipeAll, HasRun, no_traffic};
+ghost use Rattle.ddcmp_pipe.specs.Loops.{HasRunOver};
 ghost use Rattle.ddcmp_pipe.specs.Pipe.{IsKeptByPipes, IsKeptOverConnections, Made, session_of};
 ghost use Rattle.ddcmp_pipe.specs.Sessions.{texts_of};
 
@@ -24,6 +29,26 @@ pub fn runs_are_histories()
         (ran : HasRun made now held t)
         → t.written ++ now.output.waiting
         ≡ texts_of made.options.form (after_session_steps ran.steps (session_of made)).shown }
+{}
+
+/// A new session that goes on over devices, over one line after the other, as `begin_line`, `run`,
+/// `leave_line` and `close` of `ddcmp_session` have it, has a history from its beginning in which
+/// each line begins anew: as in the laws of sessions that are connected again. What its output took,
+/// and then what waits for it, is the text of all that it delivered and reported.
+pub fn runs_over_lines()
+    ensures history { (made : Made) (now : SessionView) (held : BuffersView)
+        (known : Option Traffic) → StandsFor made.line []
+        → GoesOver nothing_read (session_of made).session (Some no_traffic) held now known
+        → (t : Traffic) × (known ≡ Some t) × HasRunOver made now held t }
+    ensures text { (made : Made) (now : SessionView) (held : BuffersView) (t : Traffic)
+        (ran : HasRunOver made now held t)
+        → t.written ++ now.output.waiting
+        ≡ texts_of made.options.form
+        (after_all ran.steps (first_connection made)).history.shown }
+    ensures calls { (made other : Made) (steps : List SessionStep)
+        → AreDone steps (first_connection made)
+        → AreCalls (map (λ (step : SessionStep). (A, step)) steps)
+        (first_connections made other) }
 {}
 
 /// Two such sessions over an honest line, each connected at most once, with their messages in

@@ -13,7 +13,7 @@ use crate::waiting::Waiting;
 use ddcmp_io::{Sink, Source};
 use ddcmp_session::{
     Buffers, Devices, End, Fault, LineKind, Options, Session, Wanted, drain_errors, drain_output,
-    write_errors,
+    leave_line, write_errors,
 };
 use ddcmp_station::{Clock, Elapsed};
 use std::alloc::Global;
@@ -68,9 +68,6 @@ fn ending_of<'a, W: Sink>(
         Err(ended) => Err(ended.fault(line)),
     }
 }
-
-/// How long standard error may take nothing at the end of a line, in milliseconds.
-const LINE_END_MS: u64 = 80;
 
 /// How long standard error may take nothing at the end of a run, in milliseconds.
 const END_MS: u64 = 1000;
@@ -147,8 +144,7 @@ fn run_lines<S: System, C: Clock + Drop, R: Source, W: Sink>(
             return Err(TIME);
         };
         devices.line = Some(line);
-        buffers.begin_line();
-        if !session.connected() {
+        if !buffers.begin_line(session) {
             break;
         }
         match buffers.run(session, devices) {
@@ -161,7 +157,7 @@ fn run_lines<S: System, C: Clock + Drop, R: Source, W: Sink>(
         if !session.reopens() {
             break;
         }
-        leave_line(session, devices)?;
+        leave(session, devices)?;
     }
     Err(Ended::Left)
 }
@@ -249,15 +245,12 @@ fn wait_between_lines<D: Devices>(session: &Session, devices: &mut D, now: u64) 
 }
 
 /// Leaves a line that has ended: what came over it is written, and what was lost is reported.
-fn leave_line<S: System, C: Clock + Drop, R: Source, W: Sink>(
+fn leave<S: System, C: Clock + Drop, R: Source, W: Sink>(
     session: &mut Session,
     devices: &mut Live<'_, S, C, R, W>,
 ) -> Result<(), Ended> {
     devices.forget_line();
-    drain_output(session, devices).map_err(Ended::Device)?;
-    let _has_room = session.line_ended();
-    drain_output(session, devices).map_err(Ended::Device)?;
-    drain_errors(session, devices, LINE_END_MS);
+    leave_line(session, devices).map_err(Ended::Device)?;
     if let Some(seconds) = session.pause_after_line(devices.now()) {
         session.report(&Event::Pause(seconds));
     }

@@ -116,34 +116,44 @@ end-is h new form = ap (λ f. cond h.is_told (end_in f) []) form
 
 -- A call that moves no bytes.
 module _ (call : SessionCall) (held : BuffersView) (known : Option Traffic) where
+  pub quiet-agrees : (h : SessionHistory) (new : SessionView) (t : Traffic)
+      → used_in call ≡ [] → gone_in call h.session ≡ [] → input_in call h.session ≡ []
+      → written_in call h.session ≡ [] → is_told_in call h.session ≡ false
+      → form_of new.messages ≡ form_of h.session.messages
+      → (h.session.is_read ≡ true → new.is_read ≡ true)
+      → new.link.station.line ≡ h.session.link.station.line
+      → Agrees held h t
+      → Agrees held (after_session_step (record { call = call; session = new }) h) t
+  quiet-agrees h new t no-used no-gone no-input no-written no-told form reads line a = record {
+    read =
+        ap (λ xs. t.read ++ xs)
+        (ap (λ b. cond (b || h.is_told) (end_in (form_of new.messages)) []) no-told
+        ∙ end-is h new form)
+        ∙ a.read
+        ∙ ap (λ xs. xs ++ held.input) (nothing-more no-input);
+    over = a.over;
+    told = λ e. a.told (sym (ap (λ b. b || h.is_told) no-told) ∙ e);
+    ended = λ e. reads (a.ended (sym (ap (λ b. b || h.is_told) no-told) ∙ e));
+    came = a.came ∙ ap (λ xs. xs ++ held.received) (nothing-more no-used);
+    gone = a.gone ∙ nothing-more no-gone;
+    written = a.written ∙ nothing-more no-written;
+    down = a.down;
+    stands =
+        subst (λ l. StandsFor l (h.used ++ used_in call)) (sym line)
+        (subst (StandsFor h.session.link.station.line) (nothing-more no-used) a.stands);
+  }
+
   quiet-at : (h : SessionHistory) (new : SessionView) (t : Traffic) → IsOfRun call
       → SessionDoes call h.used h.session new
       → used_in call ≡ [] → gone_in call h.session ≡ [] → input_in call h.session ≡ []
-      → written_in call h.session ≡ []
-      → is_told_in call h.session ≡ false
+      → written_in call h.session ≡ [] → is_told_in call h.session ≡ false
       → form_of new.messages ≡ form_of h.session.messages
       → (h.session.is_read ≡ true → new.is_read ≡ true)
       → new.link.station.line ≡ h.session.link.station.line
       → Agrees held h t → WentOn h new held t
   quiet-at h new t of does no-used no-gone no-input no-written no-told form reads line a =
-      one-went call h new held t of does (record {
-        read =
-            ap (λ xs. t.read ++ xs)
-            (ap (λ b. cond (b || h.is_told) (end_in (form_of new.messages)) []) no-told
-            ∙ end-is h new form)
-            ∙ a.read
-            ∙ ap (λ xs. xs ++ held.input) (nothing-more no-input);
-        over = a.over;
-        told = λ e. a.told (sym (ap (λ b. b || h.is_told) no-told) ∙ e);
-        ended = λ e. reads (a.ended (sym (ap (λ b. b || h.is_told) no-told) ∙ e));
-        came = a.came ∙ ap (λ xs. xs ++ held.received) (nothing-more no-used);
-        gone = a.gone ∙ nothing-more no-gone;
-        written = a.written ∙ nothing-more no-written;
-        down = a.down;
-        stands =
-            subst (λ l. StandsFor l (h.used ++ used_in call)) (sym line)
-            (subst (StandsFor h.session.link.station.line) (nothing-more no-used) a.stands);
-      })
+      one-went call h new held t of does
+      (quiet-agrees h new t no-used no-gone no-input no-written no-told form reads line a)
 
   pub quiet : (old new : SessionView) → IsOfRun call
       → ((text : List ℕ) → SessionDoes call text old new)

@@ -5,6 +5,7 @@ pub mod FrameLaws
 pub mod GoingLaws
 pub mod InputGoes
 pub mod LineGoes
+pub mod LinesGo
 pub mod InputLaws
 pub mod NoticeLaws
 pub mod RestLaws

@@ -1,5 +1,6 @@
 pub mod EndText
 pub mod Calls
+pub mod Connections
 pub mod Course
 pub mod Devices
 pub mod Messages

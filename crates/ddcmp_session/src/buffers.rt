@@ -9,15 +9,15 @@ use crate::chunk::Chunk;
 use crate::devices::{Down, Wanted};
 use crate::session::Session;
 pub use passing::write_errors;
-pub use running::{drain_errors, drain_output};
+pub use running::{drain_errors, drain_output, leave_line};
 use std::alloc::{AllocError, Global};
 use std::marker::Model;
 
 /// What was read for a session and not used yet. `run` moves bytes between the session and its
 /// devices, and decides nothing.
 ///
-/// Call `begin_line` once a line is open and the session is connected, then `run` until the line is
-/// left. `drain_output` and `drain_errors` write what waits, as at the end.
+/// Call `begin_line` once a line is open, then `run` until the line is left, and then `leave_line`.
+/// `drain_output` and `drain_errors` write what waits, as at the end.
 pub struct Buffers {
     input: Chunk,
     received: Chunk,
@@ -52,8 +52,11 @@ impl Drop for Buffers {
 }
 
 impl Buffers {
-    ghost use Rattle.std.specs.Prelude.{◌≡◌, Bool, None, true, false, []};
+    ghost use Rattle.std.specs.Prelude.{◌≡◌, Bool, Option, true, false, []};
     ghost use Rattle.ddcmp_session.specs.Calls.{HasClosed};
+    ghost use Rattle.ddcmp_session.specs.Devices.{Becomes, GoesOver, Traffic, line_begun};
+    ghost use Rattle.ddcmp_session.specs.Devices.{none_received};
+    ghost use Rattle.ddcmp_session.specs.Session.{after_connected};
 
     /// Makes empty ones. They take all the memory that they will need.
     pub fn new(alloc: Global) -> Result<Buffers, AllocError>
@@ -67,12 +70,19 @@ impl Buffers {
         })
     }
 
-    /// Has a line on which nothing has come.
-    pub fn begin_line(&mut self)
-        ensures { self.new ≡ record self.old { received = []; down = None } }
+    /// Connects a session to a line that was opened, on which nothing has come. Returns false if
+    /// received messages weren't delivered before.
+    pub fn begin_line(&mut self, session: &mut Session) -> bool
+        ensures state { self.new ≡ none_received self.old }
+        ensures connected { session.new
+            ≡ after_connected session.new.link.station.line session.old }
+        ensures answer { result ≡ session.new.has_line }
+        ensures over { (before after : Option Traffic) → Becomes before after line_begun
+            → GoesOver self.old session.old before self.new session.new after }
     {
         self.received.clear();
         self.down = None;
+        session.connected()
     }
 
     /// Returns which devices are to be waited for.
@@ -103,8 +113,10 @@ impl Buffers {
 
     /// Ends the run of a session. The messages that were read and that it hasn't had are lost.
     pub fn close(&self, session: &mut Session)
-        ensures { (told : Bool)
+        ensures closed { (told : Bool)
             × HasClosed self.now.input self.now.is_over told session.old session.new }
+        ensures over { (known : Option Traffic)
+            → GoesOver self.now session.old known self.now session.new known }
     {
         let _has_room = session.close(self.input.rest(), self.input_is_over);
     }

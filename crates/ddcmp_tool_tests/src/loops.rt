@@ -179,7 +179,7 @@ fn exchanges(rt: &(impl Abort + AllocGlobal), seed: u64) {
     let Ok(mut buffers) = Buffers::new(rt.alloc()) else {
         panic!(rt; "no memory");
     };
-    buffers.begin_line();
+    assert!(rt; buffers.begin_line(&mut own));
     assert!(rt; buffers.run(&mut own, &mut desk) == Ok(End::Delivered));
     assert!(rt; drain_output(&mut own, &mut desk) == Ok(()));
     assert!(rt; desk.peer_output.bytes.as_slice() == expected.0.as_slice());

@@ -131,7 +131,7 @@ fn devices_tell_what_moved(rt: HostRuntime) {
     let Ok(mut buffers) = Buffers::new(rt.alloc()) else {
         panic!(rt; "no memory");
     };
-    buffers.begin_line();
+    assert!(rt; buffers.begin_line(&mut own));
     assert!(rt; buffers.run(&mut own, &mut told) == Ok(End::Time));
     assert!(rt; told.read.waiting() == b"\0\x03abc".as_slice());
     assert!(rt; told.is_over);

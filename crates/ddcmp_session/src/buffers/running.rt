@@ -1,6 +1,6 @@
 //! The loop of a session over its devices.
 ghost use Rattle.std.specs.Prelude.{◌≡◌, ◌≢◌, [], Err, Ok};
-ghost use Rattle.ddcmp_session.specs.Devices.{BuffersView, GoesOn, HoldsMail, Reports};
+ghost use Rattle.ddcmp_session.specs.Devices.{BuffersView, GoesOn, GoesOver, HoldsMail, Reports};
 ghost use Rattle.ddcmp_session.specs.declared.devices.Fault.{Fault as FaultValue};
 
 use crate::buffers::Buffers;
@@ -51,6 +51,28 @@ impl Buffers {
         session.handle_timeout(now);
         Ok(End::Time)
     }
+}
+
+/// How long standard error may take nothing at the end of a line, in milliseconds.
+const LINE_END_MS: u64 = 80;
+
+/// Leaves a line that has ended: what came over it is written, and what was lost is reported.
+pub fn leave_line<D: Devices>(session: &mut Session, devices: &mut D) -> Result<(), Fault>
+    ensures over { (held : BuffersView) → GoesOver held session.old (D.traffic devices.old)
+        held session.new (D.traffic devices.new) }
+    ensures drained { result ≡ Ok tt → session.new.output.waiting ≡ [] }
+{
+    match drain_output(session, devices) {
+        Ok(()) => {}
+        Err(fault) => return Err(fault),
+    }
+    let _has_room = session.line_ended();
+    match drain_output(session, devices) {
+        Ok(()) => {}
+        Err(fault) => return Err(fault),
+    }
+    drain_errors(session, devices, LINE_END_MS);
+    Ok(())
 }
 
 /// Writes what is queued for standard error, until that has taken nothing for `most_ms`

@@ -3,6 +3,7 @@ use Rattle.ddcmp_session.specs.declared.course.Course.{Course}
 use Rattle.ddcmp_session.specs.Course.{lost_more}
 use Rattle.ddcmp_session.specs.Devices.{BuffersView}
 use Rattle.ddcmp_session.specs.Session.{SessionView, lost_among, lost_at_end, lost_by_end}
+use Rattle.ddcmp_session.proofs.LinesGo.{run-closed}
 use Rattle.ddcmp_session.proofs.buffers.Buffers.close.Goals as goal
 
 -- how the run has got on, with these bytes left of the input
@@ -11,9 +12,9 @@ closed left is_at_end s =
     lost_more (lost_by_end s)
     (lost_more (lost_at_end left is_at_end s) (lost_more (lost_among left s) s.course))
 
-pub returns : goal.returns
+pub returns-clause-closed : goal.returns-clause-closed
 unfolding closed
-returns c = (
+returns-clause-closed c = (
   c.close-has_room.result,
   record {
     link = c.close-has_room.ensures.link;
@@ -26,3 +27,9 @@ returns c = (
     stays = c.close-has_room.ensures.stays;
   },
 )
+
+pub returns-clause-over : goal.returns-clause-over
+unfolding returns-clause-closed
+returns-clause-over c = λ known.
+    run-closed c.args.self.now.input c.args.self.now.is_over c.close-has_room.result
+    c.args.session.now c.close-has_room.new.self (returns-clause-closed c).1

@@ -1,0 +1,29 @@
+use Rattle.ddcmp_session.proofs.LinesGo.{goes-over, line-left, over-then}
+use Rattle.ddcmp_session.proofs.buffers.running.leave_line.Goals as goal
+
+pub returns-in-Err-clause-over : goal.returns-in-Err-clause-over
+returns-in-Err-clause-over g c = λ held. goes-over (c.drain_output.ensures.on held)
+
+pub returns-in-Err-drain_output-clause-over : goal.returns-in-Err-drain_output-clause-over
+returns-in-Err-drain_output-clause-over g c = λ held.
+    over-then (goes-over (c.drain_output.ensures.on held))
+    (over-then
+    (line-left c.line_ended-has_room.result c.drain_output.new.session
+    c.line_ended-has_room.new.self (record {
+      link = c.line_ended-has_room.ensures.link;
+      wrote = c.line_ended-has_room.ensures.wrote;
+      stays = c.line_ended-has_room.ensures.stays;
+    })) (goes-over (c.drain_output-2.ensures.on held)))
+
+pub returns-clause-over : goal.returns-clause-over
+returns-clause-over g c = λ held.
+    over-then (goes-over (c.drain_output.ensures.on held))
+    (over-then
+    (line-left c.line_ended-has_room.result c.drain_output.new.session
+    c.line_ended-has_room.new.self (record {
+      link = c.line_ended-has_room.ensures.link;
+      wrote = c.line_ended-has_room.ensures.wrote;
+      stays = c.line_ended-has_room.ensures.stays;
+    }))
+    (over-then (goes-over (c.drain_output-2.ensures.on held))
+    (goes-over (c.drain_errors.ensures.on held))))
