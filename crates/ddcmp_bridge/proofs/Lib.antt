@@ -1,0 +1,2 @@
+pub mod RelayLaws
+pub mod ReportLaws

@@ -1,0 +1,12 @@
+//! A bridge between two lines, without the lines. `Relay` takes the bytes of one line and has those
+//! of its good frames for the other, one frame at a time; `write_report` writes what both
+//! directions have counted.
+#![tactic(auto)]
+
+pub mod counts;
+mod relay;
+mod report;
+
+pub use counts::Counts;
+pub use relay::Relay;
+pub use report::write_report;
