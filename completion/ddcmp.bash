@@ -12,8 +12,8 @@ _ddcmp() {
   case $command:$before in
     device::) files=yes ;;
     *::) ;;
-    :*) words='explain simulate pair station tap link help -h --help -V --version' ;;
-    help:help) words='explain simulate pair station tap link' ;;
+    :*) words='explain simulate pair station tap link bridge help -h --help -V --version' ;;
+    help:help) words='explain simulate pair station tap link bridge' ;;
     explain:--max) ;;
     explain:--from) words='hexdump' ;;
     explain:*) words='--raw --from --json --discarded --max -h --help' files=yes ;;
@@ -29,6 +29,8 @@ _ddcmp() {
     link:--window | link:--inbox | link:--max | link:--syn | link:--timer-ms | link:--attempts | link:--linger-ms | link:--seconds | link:--report) ;;
     link:--line) words='connect: listen: udp: device:' ;;
     link:*) words='--line --window --inbox --max --syn --restart --timer-ms --attempts --linger-ms --seconds --report --binary --stay --again --counters --trace --clock --json -h --help' ;;
+    bridge:--seconds) ;;
+    bridge:*) words='--seconds -h --help' ;;
   esac
   mapfile -t COMPREPLY < <(compgen -W "$words" -- "$word")
   if [ -n "$files" ] && [[ $word != -* ]]; then

@@ -93,8 +93,10 @@ def messages_of(count, most=1500):
 class Link:
     """A link that runs, with what it has printed so far."""
 
+    WORDS = ["link", "--line"]
+
     def __init__(self, line, *options, stdin=subprocess.PIPE, stdout=subprocess.PIPE, stderr=subprocess.PIPE):
-        words = [*PROGRAM, "link", "--line", line, *options]
+        words = [*PROGRAM, *self.WORDS, line, *options]
         self.begun = time.monotonic()
         self.run = subprocess.Popen(words, stdin=stdin, stdout=stdout, stderr=stderr)
         self.said, self.told, self.readers, self.took, self.used = b"", b"", [], None, 0.0

@@ -16,11 +16,12 @@ use Rattle.ddcmp_words.specs.Words.{named_by, name_of, file_of, option_in, text_
 use Rattle.ddcmp_words.specs.Words.{IsAsked}
 use Rattle.ddcmp_words.specs.declared.command.Command.{Command}
 use Rattle.ddcmp_words.specs.declared.command.Command.TheVariants.{Explain, Simulate, Pair, Station}
-use Rattle.ddcmp_words.specs.declared.command.Command.TheVariants.{Tap, Link}
+use Rattle.ddcmp_words.specs.declared.command.Command.TheVariants.{Tap, Link, Bridge}
 use Rattle.ddcmp_words.specs.declared.served.Served.{Served}
 use Rattle.ddcmp_cli.specs.Connections.{Peers}
 use Rattle.ddcmp_words.specs.declared.tapped.Tapped.{Tapped}
 use Rattle.ddcmp_words.specs.declared.linked.Linked.{Linked}
+use Rattle.ddcmp_words.specs.declared.bridged.Bridged.{Bridged}
 
 -- Names that differ as texts aren't one name. A new command costs one line of each law below.
 other : (a b : Text) → bytes_eq a b ≡ false → ◌≡◌ {A = Option Text} (Some a) (Some b) → ⊥
@@ -43,6 +44,8 @@ performed held peers words (Tap tapped) s ending a n h p =
     absurd (other (codes "explain") (codes "tap") refl (sym a.names ∙ n))
 performed held peers words (Link linked) s ending a n h p =
     absurd (other (codes "explain") (codes "link") refl (sym a.names ∙ n))
+performed held peers words (Bridge bridged) s ending a n h p =
+    absurd (other (codes "explain") (codes "bridge") refl (sym a.names ∙ n))
 
 -- words that ask for a station are answered by it
 pub stationed : {R : Type 0} (peers : Peers) (words : List Text) (command : Command)
@@ -65,6 +68,8 @@ stationed peers words (Tap tapped) reader after old new ending a n h p =
     absurd (other (codes "station") (codes "tap") refl (sym a.names ∙ n))
 stationed peers words (Link linked) reader after old new ending a n h p =
     absurd (other (codes "station") (codes "link") refl (sym a.names ∙ n))
+stationed peers words (Bridge bridged) reader after old new ending a n h p =
+    absurd (other (codes "station") (codes "bridge") refl (sym a.names ∙ n))
 
 -- words that ask for a tap are answered by it
 pub tapped : {R : Type 0} (Further : Type 0) (words : List Text) (command : Command)
@@ -87,6 +92,8 @@ tapped F words (Tap t) reader after old new ending a n h p =
     (s.0, inr (t, h, s.1), s.2)
 tapped F words (Link l) reader after old new ending a n h p =
     absurd (other (codes "tap") (codes "link") refl (sym a.names ∙ n))
+tapped F words (Bridge b) reader after old new ending a n h p =
+    absurd (other (codes "tap") (codes "bridge") refl (sym a.names ∙ n))
 
 -- words that ask for a link are answered by it
 pub linked : (Answered : Type 0) (words : List Text) (command : Command)
@@ -102,6 +109,26 @@ linked A words (Station served) a n p =
     absurd (other (codes "link") (codes "station") refl (sym a.names ∙ n))
 linked A words (Tap t) a n p = absurd (other (codes "link") (codes "tap") refl (sym a.names ∙ n))
 linked A words (Link l) a n p = p l refl
+linked A words (Bridge b) a n p =
+    absurd (other (codes "link") (codes "bridge") refl (sym a.names ∙ n))
+
+-- words that ask for a bridge are answered by it
+pub bridged : (Answered : Type 0) (words : List Text) (command : Command)
+    → IsAsked words (codes "bridge") → named_by words ≡ Some (name_of command)
+    → ((bridged : Bridged) → command ≡ Bridge bridged → Answered) → Answered
+bridged A words (Explain e) a n p =
+    absurd (other (codes "bridge") (codes "explain") refl (sym a.names ∙ n))
+bridged A words (Simulate scripted) a n p =
+    absurd (other (codes "bridge") (codes "simulate") refl (sym a.names ∙ n))
+bridged A words (Pair scripted) a n p =
+    absurd (other (codes "bridge") (codes "pair") refl (sym a.names ∙ n))
+bridged A words (Station served) a n p =
+    absurd (other (codes "bridge") (codes "station") refl (sym a.names ∙ n))
+bridged A words (Tap t) a n p =
+    absurd (other (codes "bridge") (codes "tap") refl (sym a.names ∙ n))
+bridged A words (Link l) a n p =
+    absurd (other (codes "bridge") (codes "link") refl (sym a.names ∙ n))
+bridged A words (Bridge b) a n p = p b refl
 
 -- where the words name no file, the command reads none
 pub reads_no_file : (words : List Text) (command : Command)
@@ -113,6 +140,7 @@ reads_no_file words (Pair scripted) h e = h.file ∙ e
 reads_no_file words (Station served) h e = refl
 reads_no_file words (Tap tapped) h e = refl
 reads_no_file words (Link linked) h e = refl
+reads_no_file words (Bridge bridged) h e = refl
 
 -- a command of another name is given no file
 no_reader : {A : Type 0} (name other_name : Text) → ReadsFiles name
@@ -140,6 +168,8 @@ reads_a_file A words (Tap tapped) name r a n h some then =
     no_reader name (codes "tap") r refl refl refl (sym a.names ∙ n)
 reads_a_file A words (Link linked) name r a n h some then =
     no_reader name (codes "link") r refl refl refl (sym a.names ∙ n)
+reads_a_file A words (Bridge bridged) name r a n h some then =
+    no_reader name (codes "bridge") r refl refl refl (sym a.names ∙ n)
 
 -- words that ask for a command are declined for want of memory alone
 pub not_declined : {C : Type 0} (r : Result C Declined) (d : Declined) → r ≡ Err d → d ≢ Memory
@@ -162,6 +192,7 @@ is_station (Pair scripted) = false
 is_station (Station served) = true
 is_station (Tap tapped) = false
 is_station (Link linked) = false
+is_station (Bridge bridged) = false
 
 abbrev pub is_tap : Command → Bool
 is_tap (Explain explained) = false
@@ -170,6 +201,7 @@ is_tap (Pair scripted) = false
 is_tap (Station served) = false
 is_tap (Tap tapped) = true
 is_tap (Link linked) = false
+is_tap (Bridge bridged) = false
 
 abbrev pub is_link : Command → Bool
 is_link (Explain explained) = false
@@ -178,6 +210,16 @@ is_link (Pair scripted) = false
 is_link (Station served) = false
 is_link (Tap tapped) = false
 is_link (Link linked) = true
+is_link (Bridge bridged) = false
+
+abbrev pub is_bridge : Command → Bool
+is_bridge (Explain explained) = false
+is_bridge (Simulate scripted) = false
+is_bridge (Pair scripted) = false
+is_bridge (Station served) = false
+is_bridge (Tap tapped) = false
+is_bridge (Link linked) = false
+is_bridge (Bridge bridged) = true
 
 -- a command that is one isn't another
 pub differ : {A : Type 0} {command one another : Command} (test : Command → Bool) → command ≡ one

@@ -1,3 +1,4 @@
+pub mod BridgeLaws
 pub mod CommandLaws
 pub mod ScriptLaws
 pub mod StationLaws

@@ -33,7 +33,7 @@ use Rattle.std.specs.Str.{bytes_eq}
 use Rattle.clap.specs.Words.{Text}
 use Rattle.ddcmp_words.specs.declared.command.Command.{Command}
 use Rattle.ddcmp_words.specs.declared.command.Command.TheVariants.{Explain, Simulate, Pair, Station}
-use Rattle.ddcmp_words.specs.declared.command.Command.TheVariants.{Tap, Link}
+use Rattle.ddcmp_words.specs.declared.command.Command.TheVariants.{Tap, Link, Bridge}
 use Rattle.ddcmp_words.specs.declared.explained.Explained.{Explained}
 use Rattle.ddcmp_words.specs.declared.scripted.Scripted.{Scripted}
 use Rattle.ddcmp_words.specs.declared.served.Served.{Served}
@@ -62,6 +62,7 @@ use Rattle.ddcmp_tap.specs.Pumping.{Says, head_of}
 use Rattle.ddcmp_tap.specs.InTurn.{Lasts, SaysInTurn}
 use Rattle.ddcmp_tap.specs.declared.tap_fault.TapFault.{TapFault}
 use Rattle.ddcmp_cli.specs.LinkEndings.{IsLinkEnding}
+use Rattle.ddcmp_cli.specs.BridgeEndings.{Bridges}
 use Rattle.hex.specs.Hex.{decode_of}
 use Rattle.hex.specs.declared.error.FromHexError.{FromHexError}
 
@@ -246,6 +247,7 @@ file_named (Pair scripted) = option_map (λ name. name.now) scripted.file
 file_named (Station served) = None
 file_named (Tap tapped) = None
 file_named (Link linked) = None
+file_named (Bridge bridged) = None
 
 -- a command of this name may be given a file
 abbrev pub ReadsFiles : Text → Type 0
@@ -269,6 +271,7 @@ CanRun (Pair scripted) = first_refusal scripted.config ≡ None
 CanRun (Station served) = ⊤
 CanRun (Tap tapped) = (1 ≤ tapped.max) × (tapped.max ≤ MAX_COUNT)
 CanRun (Link linked) = ⊤
+CanRun (Bridge bridged) = ⊤
 
 -- A script was played between two new ends of these sizes, over a carrier that is direct or not,
 -- and the ending tells the answer; or there was no memory for the ends.
@@ -446,6 +449,8 @@ Performs held peers (Station served) s ending =
 Performs held peers (Tap tapped) s ending =
     (s.left ≡ Some s.input) × TapsAsked tapped s.before s.after ending
 Performs held peers (Link linked) s ending = IsLinkEnding ending
+Performs held peers (Bridge bridged) s ending =
+    (s.left ≡ Some s.input) × Bridges s.before s.after ending
 
 -- a text was written whole, or a write failed
 abbrev pub Shows : List ℕ → Known → Known → Ending → Type 0
@@ -500,3 +505,4 @@ pub record RunsAs (held : List ℕ → Known) (peers : Peers) (words : List Text
       → Unread × TapsOrNoMemory words sink.before sink.after ending
       × (IsTrue sink.broken → ending ≡ Faulted Write)
   pub links : IsAsked words (codes "link") → IsLinkEnding ending
+  pub bridges : IsAsked words (codes "bridge") → Unread × Bridges sink.before sink.after ending

@@ -1,3 +1,4 @@
+pub mod BridgeEndings
 pub mod Connections
 pub mod Endings
 pub mod LinkEndings

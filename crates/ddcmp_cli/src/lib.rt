@@ -1,6 +1,7 @@
 //! The command `ddcmp`: runs the command that its arguments name, and turns faults into statuses.
 #![tactic(auto)]
 
+mod bridge_command;
 pub mod connections;
 pub mod ending;
 mod explain_command;
@@ -23,15 +24,15 @@ pub use ddcmp_net::{SERVED_MAX, ServeFault, serve, serve_fault, serving};
 pub use ddcmp_service::{LineName, Options, Served as LinkServed, ServiceFault};
 pub use ddcmp_tap::{TapFault, tap_fault};
 pub use ddcmp_words::{
-    Command, Declined, Linked, Role, Scripted, Served, Tapped, View, command, declined, linked,
-    read_words, scripted, served, tapped, view,
+    Bridged, Command, Declined, Linked, Role, Scripted, Served, Tapped, View, bridged, command,
+    declined, linked, read_words, scripted, served, tapped, view,
 };
 pub use ending::Ending;
 pub use fault::Fault;
 pub use inputs::Inputs;
 pub use link_command::Lines;
 pub use program::{
-    explain_is_asked, link_is_asked, pair_is_asked, run, run_args, simulate_is_asked,
-    station_is_asked, tap_is_asked,
+    bridge_is_asked, explain_is_asked, link_is_asked, pair_is_asked, run, run_args,
+    simulate_is_asked, station_is_asked, tap_is_asked,
 };
 pub use standard::{StandIns, report};

@@ -7,7 +7,10 @@ use crate::ending::Ending;
 use crate::fault::Fault;
 use crate::usage::usage;
 use ddcmp_io::{Sink, Source};
-use ddcmp_service::{LineName, NotOpened, Options, Served, ServiceFault, serve_link};
+use ddcmp_service::{
+    BridgeEnd, BridgeFault, LineName, NotOpened, Options, Served, ServiceFault, bridge_lines,
+    serve_link,
+};
 use ddcmp_words::Linked;
 use std::alloc::Global;
 
@@ -43,6 +46,15 @@ pub trait Lines {
         writer: &mut W,
     ) -> Result<Served, ServiceFault<'a>>
         ensures broken { (result ≡ Err Write) ↔ IsTrue (W.broken writer.new) };
+
+    /// Opens two lines and passes frames on between them, for at most so many seconds.
+    fn bridge<'a>(
+        &self,
+        alloc: Global,
+        first: LineName<'a>,
+        second: LineName<'a>,
+        seconds: u32,
+    ) -> Result<BridgeEnd, BridgeFault<'a>>;
 }
 
 impl Lines for HostRuntime {
@@ -55,6 +67,16 @@ impl Lines for HostRuntime {
         writer: &mut W,
     ) -> Result<Served, ServiceFault<'a>> {
         serve_link(self, alloc, line, options, reader, writer)
+    }
+
+    fn bridge<'a>(
+        &self,
+        alloc: Global,
+        first: LineName<'a>,
+        second: LineName<'a>,
+        seconds: u32,
+    ) -> Result<BridgeEnd, BridgeFault<'a>> {
+        bridge_lines(self, alloc, first, second, seconds)
     }
 }
 

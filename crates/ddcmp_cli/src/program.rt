@@ -12,9 +12,12 @@ ghost use Rattle.ddcmp_cli.specs.Endings.{file_named, Stations};
 ghost use Rattle.ddcmp_cli.specs.Endings.{TapsAsked};
 ghost use Rattle.ddcmp_words.specs.declared.linked.Linked.{Linked as LinkedValue};
 ghost use Rattle.ddcmp_cli.specs.LinkEndings.{IsLinkEnding};
+ghost use Rattle.ddcmp_words.specs.declared.bridged.Bridged.{Bridged as BridgedValue};
+ghost use Rattle.ddcmp_cli.specs.BridgeEndings.{Bridges};
 ghost use Rattle.ddcmp_cli.specs.Endings.{RunsAs};
 ghost use Rattle.ddcmp_io.specs.Change.{sink_change, source_change};
 
+use crate::bridge_command::bridge;
 use crate::connections::Connections;
 use crate::ending::Ending;
 use crate::explain_command::explain_asked;
@@ -27,8 +30,8 @@ use crate::tap_command::tap;
 use ddcmp_io::{Sink, Source, Worst, write_all};
 use ddcmp_words::{Command, Declined, read_words};
 pub use ddcmp_words::{
-    explain_is_asked, link_is_asked, pair_is_asked, simulate_is_asked, station_is_asked,
-    tap_is_asked,
+    bridge_is_asked, explain_is_asked, link_is_asked, pair_is_asked, simulate_is_asked,
+    station_is_asked, tap_is_asked,
 };
 use std::alloc::{AllocError, Global};
 use std::io::{Eprint, ErrorKind};
@@ -69,6 +72,9 @@ fn perform<
         × (IsTrue (W.broken writer.new) → result ≡ Ending.Fault Fault.Write) }
     ensures links { (linked : LinkedValue) → command.entry ≡ Command.Link linked
         → IsLinkEnding result }
+    ensures bridges { (bridged : BridgedValue) → command.entry ≡ Command.Bridge bridged
+        → (reader.new ≡ reader.old)
+        × Bridges (W.contents writer.old) (W.contents writer.new) result }
 {
     match command {
         Command::Explain(explained) => { explain_asked(system, alloc, &explained, reader, writer) }
@@ -77,6 +83,7 @@ fn perform<
         Command::Station(served) => station(system, alloc, &served, writer),
         Command::Tap(tapped) => tap(system, alloc, &tapped, writer),
         Command::Link(linked) => link(system, alloc, &linked, reader, writer),
+        Command::Bridge(bridged) => bridge(system, alloc, &bridged, writer),
     }
 }
 

@@ -2,6 +2,9 @@
 //! output and a `Session` of `ddcmp_session`, which decides all else.
 #![tactic(auto)]
 
+mod bridge;
+mod bridge_side;
+mod bridge_way;
 mod datagram;
 mod ending;
 mod event;
@@ -16,6 +19,8 @@ mod socket;
 mod system;
 mod waiting;
 
+pub use bridge::{BridgeEnd, BridgeFault, bridge_lines};
+pub use ddcmp_bridge::Counts;
 pub use ddcmp_session::{Form, Options};
 pub use fault::{Attempt, Cause, NotOpened, ServiceFault};
 pub use line_name::LineName;

@@ -4,6 +4,7 @@ use mio::net::{TcpStream, UdpSocket};
 use std::fs::File;
 use std::io::{self, ErrorKind, Read, Write};
 use std::net::SocketAddr;
+use std::os::fd::{AsRawFd, RawFd};
 
 /// A line that is open.
 pub(crate) enum Line {
@@ -88,5 +89,19 @@ impl Line {
             }
             Line::Device(file) => moved_by(file.write(bytes)),
         }
+    }
+
+    /// The descriptor that the system knows it by.
+    pub(crate) fn number(&self) -> RawFd {
+        match self {
+            Line::Stream(stream) => stream.as_raw_fd(),
+            Line::Datagrams(socket, _) => socket.as_raw_fd(),
+            Line::Device(file) => file.as_raw_fd(),
+        }
+    }
+
+    /// Whether what is written at once arrives at once, or not at all.
+    pub(crate) fn has_datagrams(&self) -> bool {
+        matches!(self, Line::Datagrams(_, _))
     }
 }

@@ -41,7 +41,7 @@ impl Ready {
     };
 
     /// It is ready for this, too.
-    fn add(&mut self, told: Ready) {
+    pub(crate) fn add(&mut self, told: Ready) {
         self.to_read = self.to_read || told.to_read;
         self.to_write = self.to_write || told.to_write;
     }
@@ -59,7 +59,7 @@ pub(crate) struct Descriptor {
 
 impl Descriptor {
     /// Has it reported from now on, if the system reports such a descriptor.
-    fn new(poll: &Poll, number: RawFd, token: Token, interest: Interest) -> Descriptor {
+    pub(crate) fn new(poll: &Poll, number: RawFd, token: Token, interest: Interest) -> Descriptor {
         let is_told = poll
             .registry()
             .register(&mut SourceFd(&number), token, interest)
@@ -83,7 +83,7 @@ impl Descriptor {
     }
 
     /// Has the next wait report it, if it is needed and not known to be ready.
-    fn ask(&mut self, poll: &Poll, to_read: bool, to_write: bool) {
+    pub(crate) fn ask(&mut self, poll: &Poll, to_read: bool, to_write: bool) {
         let reads = to_read && !self.ready.to_read;
         let writes = to_write && !self.ready.to_write;
         let interest = match (reads, writes) {

@@ -31,7 +31,7 @@ use Rattle.ddcmp_words.specs.declared.scripted.Scripted.{Scripted}
 use Rattle.ddcmp_words.specs.declared.view.View.{View}
 use Rattle.ddcmp_words.specs.declared.command.Command.{Command}
 use Rattle.ddcmp_words.specs.declared.command.Command.TheVariants.{Explain, Simulate, Pair, Station}
-use Rattle.ddcmp_words.specs.declared.command.Command.TheVariants.{Tap, Link}
+use Rattle.ddcmp_words.specs.declared.command.Command.TheVariants.{Tap, Link, Bridge}
 
 pub program-simple : is_simple program ≡ true
 unfolding clap_on_literals
@@ -171,6 +171,11 @@ has_options_as o p t u (Tap tapped) e w h = record {
 has_options_as o p t u (Link linked) e w h = record {
   line = h.line ∙ ap (λ x. unwrap_or x []) (w (codes "line"));
   options = link_as linked.line.now o p linked.options e h.options;
+}
+has_options_as o p t u (Bridge bridged) e w h = record {
+  first = h.first ∙ ap (λ x. unwrap_or x []) (w (codes "first"));
+  second = h.second ∙ ap (λ x. unwrap_or x []) (w (codes "second"));
+  seconds = subst (λ t. HasNumber 1 MOST MOST t bridged.seconds) (e (codes "seconds")) h.seconds;
 }
 
 -- a command has the options that the words give

@@ -13,7 +13,7 @@ use Rattle.ddcmp_explain.specs.declared.notation.Notation.TheVariants.{Plain, Js
 use Rattle.ddcmp_explain.specs.declared.style.Style.{Style}
 use Rattle.ddcmp_words.specs.declared.command.Command.{Command}
 use Rattle.ddcmp_words.specs.declared.command.Command.TheVariants.{Explain, Simulate, Pair, Station}
-use Rattle.ddcmp_words.specs.declared.command.Command.TheVariants.{Tap, Link}
+use Rattle.ddcmp_words.specs.declared.command.Command.TheVariants.{Tap, Link, Bridge}
 use Rattle.ddcmp_words.specs.declared.explained.Explained.{Explained}
 use Rattle.ddcmp_words.specs.declared.scripted.Scripted.{Scripted}
 use Rattle.ddcmp_words.specs.declared.served.Role.{Role}
@@ -21,6 +21,7 @@ use Rattle.ddcmp_words.specs.declared.served.Role.TheVariants.{Connect, Listen}
 use Rattle.ddcmp_words.specs.declared.served.Served.{Served}
 use Rattle.ddcmp_words.specs.declared.tapped.Tapped.{Tapped}
 use Rattle.ddcmp_words.specs.declared.linked.Linked.{Linked}
+use Rattle.ddcmp_words.specs.declared.bridged.Bridged.{Bridged}
 use Rattle.ddcmp_session.specs.declared.messages.Form.{Form as MessageForm}
 use Rattle.ddcmp_session.specs.declared.messages.Form.TheVariants.{Digits, Binary}
 use Rattle.ddcmp_session.specs.declared.options.Options.{Options}
@@ -149,6 +150,14 @@ link_app =
     (flag_rule (codes "clock")))
     (flag_rule (codes "json"))
 
+-- `ddcmp bridge`
+abbrev pub bridge_app : App
+bridge_app =
+    with_rule (with_rule (with_rule (new_app (codes "bridge"))
+    (required (place_rule (codes "first"))))
+    (required (place_rule (codes "second"))))
+    (number_rule (codes "seconds") 1 MOST)
+
 -- `ddcmp`, which wants a command
 abbrev pub bare_app : App
 bare_app =
@@ -157,10 +166,10 @@ bare_app =
 
 abbrev pub program : App
 program =
-    with_subcommand (with_subcommand (with_subcommand (with_subcommand
+    with_subcommand (with_subcommand (with_subcommand (with_subcommand (with_subcommand
     (with_subcommand (with_subcommand bare_app explain_app.top) (script_app (codes "simulate")).top)
     (script_app (codes "pair")).top)
-    station_app.top) tap_app.top) link_app.top
+    station_app.top) tap_app.top) link_app.top) bridge_app.top
 
 -- the word that names a command
 abbrev pub name_of : Command → Text
@@ -170,11 +179,13 @@ name_of (Pair scripted) = codes "pair"
 name_of (Station served) = codes "station"
 name_of (Tap tapped) = codes "tap"
 name_of (Link linked) = codes "link"
+name_of (Bridge bridged) = codes "bridge"
 
 abbrev pub IsName : Text → Type 0
 IsName name =
     (name ≡ codes "explain") ⊎ (name ≡ codes "simulate") ⊎ (name ≡ codes "pair")
     ⊎ (name ≡ codes "station") ⊎ (name ≡ codes "tap") ⊎ (name ≡ codes "link")
+    ⊎ (name ≡ codes "bridge")
 
 -- the command that the words name
 unfoldable pub named_by : List Text → Option Text
@@ -320,6 +331,12 @@ pub record HasLink (option text : Text → Option Text) (linked : Linked) : Type
   pub line : linked.line.now ≡ unwrap_or (text (codes "line")) []
   pub options : HasLinkOptions linked.line.now option linked.options
 
+-- The words of a bridge. Its lines are always there.
+pub record HasBridge (option text : Text → Option Text) (bridged : Bridged) : Type 0 where
+  pub first : bridged.first.now ≡ unwrap_or (text (codes "first")) []
+  pub second : bridged.second.now ≡ unwrap_or (text (codes "second")) []
+  pub seconds : HasNumber 1 MOST MOST (option (codes "seconds")) bridged.seconds
+
 -- a command with the options that were given: as they are read, and as they were written
 abbrev pub HasOptions : (option text : Text → Option Text) → Command → Type 0
 HasOptions option text (Explain explained) = HasExplain option text explained
@@ -328,6 +345,7 @@ HasOptions option text (Pair scripted) = HasScript option text scripted
 HasOptions option text (Station served) = HasStation option text served
 HasOptions option text (Tap tapped) = HasTap option text tapped
 HasOptions option text (Link linked) = HasLink option text linked
+HasOptions option text (Bridge bridged) = HasBridge option text bridged
 
 -- the words ask for this command, and clap finds no fault with them
 abbrev pub Asks : List Text → Text → Type 0

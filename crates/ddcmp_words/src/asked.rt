@@ -123,3 +123,18 @@ pub fn link_is_asked()
         (codes "timer-ms") ≡ Some (codes "500") }
     ensures incomplete { takes program (codes "ddcmp" ∷ codes "link" ∷ []) ≡ false }
 {}
+
+/// The words `ddcmp bridge` with two lines ask for the command that passes frames on between them;
+/// the names of the lines are read as they were written.
+pub fn bridge_is_asked()
+    ensures plain { IsAsked (codes "ddcmp" ∷ codes "bridge" ∷ codes "listen:127.0.0.1:7000"
+        ∷ codes "device:/dev/ttyS0" ∷ []) (codes "bridge") }
+    ensures first { text_in (codes "ddcmp" ∷ codes "bridge" ∷ codes "listen:127.0.0.1:7000"
+        ∷ codes "device:/dev/ttyS0" ∷ []) (codes "first") ≡ Some (codes "listen:127.0.0.1:7000") }
+    ensures second { text_in (codes "ddcmp" ∷ codes "bridge" ∷ codes "listen:127.0.0.1:7000"
+        ∷ codes "device:/dev/ttyS0" ∷ []) (codes "second") ≡ Some (codes "device:/dev/ttyS0") }
+    ensures seconds { option_in (codes "ddcmp" ∷ codes "bridge" ∷ codes "--seconds=60" ∷ [])
+        (codes "seconds") ≡ Some (codes "60") }
+    ensures incomplete { takes program (codes "ddcmp" ∷ codes "bridge"
+        ∷ codes "listen:127.0.0.1:7000" ∷ []) ≡ false }
+{}

@@ -14,6 +14,8 @@ ghost use Rattle.clap.specs.Words.{App, kind_of, app_of, new_app, first_of, firs
 ghost use Rattle.clap.specs.Words.{one_of, one_text, subcommand_name_of, subcommand_rows_of};
 ghost use Rattle.clap.specs.declared.builder.command.Command.TheViews.{out-Command as fields_of};
 
+use crate::bridge_words::{bridge_given, bridge_parser};
+use crate::bridged::Bridged;
 use crate::declined::Declined;
 use crate::explained::Explained;
 use crate::link_words::{link_given, link_parser};
@@ -47,6 +49,8 @@ pub enum Command<'a> {
     Tap(Tapped<'a>),
     /// Run a station over a line, with messages on standard input and output.
     Link(Linked<'a>),
+    /// Stand between two lines, and pass good frames on.
+    Bridge(Bridged<'a>),
 }
 
 /// `explain` without its options.
@@ -351,6 +355,7 @@ fn program_parser<'a>(alloc: Global) -> Parser<'a>
         .subcommand(station_parser(alloc))
         .subcommand(tap_parser(alloc))
         .subcommand(link_parser(alloc))
+        .subcommand(bridge_parser(alloc))
 }
 
 /// A usage error as this crate reports it.
@@ -565,8 +570,11 @@ fn asked<'a>(matches: &ArgMatches<'a>) -> Option<Command<'a>>
     if let Some(options) = matches.subcommand_matches("tap") {
         return Some(Command::Tap(tap_given(options)));
     }
-    let options = matches.subcommand_matches("link")?;
-    Some(Command::Link(link_given(options)))
+    if let Some(options) = matches.subcommand_matches("link") {
+        return Some(Command::Link(link_given(options)));
+    }
+    let options = matches.subcommand_matches("bridge")?;
+    Some(Command::Bridge(bridge_given(options)))
 }
 
 /// Reads the words of a command line, of which the first is the program's name.

@@ -2,6 +2,8 @@
 #![tactic(auto)]
 
 mod asked;
+mod bridge_words;
+pub mod bridged;
 pub mod command;
 pub mod declined;
 pub mod explained;
@@ -16,9 +18,10 @@ pub mod tapped;
 pub mod view;
 
 pub use asked::{
-    explain_is_asked, link_is_asked, pair_is_asked, simulate_is_asked, station_is_asked,
-    tap_is_asked,
+    bridge_is_asked, explain_is_asked, link_is_asked, pair_is_asked, simulate_is_asked,
+    station_is_asked, tap_is_asked,
 };
+pub use bridged::Bridged;
 pub use command::{Command, read_words};
 pub use declined::Declined;
 pub use explained::Explained;

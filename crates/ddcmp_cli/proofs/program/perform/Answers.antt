@@ -1,7 +1,9 @@
 use Rattle.std.proofs.Common.{◌∙◌, ap, refl, rules, sym}
 use Rattle.ddcmp_words.specs.Words.{name_of}
 use Rattle.ddcmp_cli.specs.Endings.{file_named}
-use Rattle.ddcmp_cli.proofs.CommandLaws.{differ, is_link, is_station, is_tap, unbroken}
+use Rattle.ddcmp_cli.proofs.CommandLaws.{differ, is_bridge, is_link, is_station, is_tap}
+use Rattle.ddcmp_cli.proofs.CommandLaws.{unbroken}
+use Rattle.ddcmp_cli.proofs.BridgeLaws.{not-read}
 use Rattle.ddcmp_cli.proofs.program.perform.Goals as goal
 
 pub returns-in-Explain : goal.returns-in-Explain
@@ -17,6 +19,7 @@ returns-in-Explain g c = record {
   stations = λ _ are. differ is_station c.in-Explain.is refl are refl;
   taps = λ _ are. differ is_tap c.in-Explain.is refl are refl;
   links = λ _ are. differ is_link c.in-Explain.is refl are refl;
+  bridges = λ _ are. differ is_bridge c.in-Explain.is refl are refl;
 }
 
 pub returns-in-Simulate : goal.returns-in-Simulate
@@ -32,6 +35,7 @@ returns-in-Simulate g c = record {
   stations = λ _ are. differ is_station c.in-Simulate.is refl are refl;
   taps = λ _ are. differ is_tap c.in-Simulate.is refl are refl;
   links = λ _ are. differ is_link c.in-Simulate.is refl are refl;
+  bridges = λ _ are. differ is_bridge c.in-Simulate.is refl are refl;
 }
 
 pub returns-in-Pair : goal.returns-in-Pair
@@ -47,6 +51,7 @@ returns-in-Pair g c = record {
   stations = λ _ are. differ is_station c.in-Pair.is refl are refl;
   taps = λ _ are. differ is_tap c.in-Pair.is refl are refl;
   links = λ _ are. differ is_link c.in-Pair.is refl are refl;
+  bridges = λ _ are. differ is_bridge c.in-Pair.is refl are refl;
 }
 
 pub returns-in-Station : goal.returns-in-Station
@@ -60,6 +65,7 @@ returns-in-Station g c = record {
   stations = search rules;
   taps = λ _ are. differ is_tap c.in-Station.is refl are refl;
   links = λ _ are. differ is_link c.in-Station.is refl are refl;
+  bridges = λ _ are. differ is_bridge c.in-Station.is refl are refl;
 }
 
 pub returns-in-Tap : goal.returns-in-Tap
@@ -73,6 +79,7 @@ returns-in-Tap g c = record {
   stations = λ _ are. differ is_station c.in-Tap.is refl are refl;
   taps = search rules;
   links = λ _ are. differ is_link c.in-Tap.is refl are refl;
+  bridges = λ _ are. differ is_bridge c.in-Tap.is refl are refl;
 }
 
 pub returns-in-Link : goal.returns-in-Link
@@ -86,4 +93,19 @@ returns-in-Link g c = record {
   stations = λ _ are. differ is_station c.in-Link.is refl are refl;
   taps = λ _ are. differ is_tap c.in-Link.is refl are refl;
   links = λ _ _. c.link.ensures.ending;
+  bridges = λ _ are. differ is_bridge c.in-Link.is refl are refl;
+}
+
+pub returns-in-Bridge : goal.returns-in-Bridge
+returns-in-Bridge g c = record {
+  performs = λ input left. rw (c.in-Bridge.is) (left, c.bridge.ensures.bridges);
+  read = λ _ e. absurd (e c.requires.fine);
+  read_only = λ _ _ _ _ e. absurd (not-read _ _ _ c.bridge.ensures.bridges e);
+  write = λ _ _. c.bridge.ensures.write;
+  whole = unbroken _ _ c.bridge.ensures.write.1;
+  untouched = λ _. refl;
+  stations = λ _ are. differ is_station c.in-Bridge.is refl are refl;
+  taps = λ _ are. differ is_tap c.in-Bridge.is refl are refl;
+  links = λ _ are. differ is_link c.in-Bridge.is refl are refl;
+  bridges = λ _ _. (refl, c.bridge.ensures.bridges);
 }

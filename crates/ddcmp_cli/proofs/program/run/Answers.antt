@@ -3,8 +3,8 @@ use Rattle.std.proofs.KnownBytes.{Keeps-refl}
 use Rattle.ddcmp_words.specs.declared.declined.Declined.TheVariants.{Memory}
 use borrow.Author.Rules.{rules}
 use Rattle.ddcmp_words.specs.Words.{IsAsked, IsName}
-use Rattle.ddcmp_cli.proofs.CommandLaws.{linked, not_declined, performed, stationed, tapped}
-use Rattle.ddcmp_cli.proofs.CommandLaws.{reads_a_file, reads_no_file}
+use Rattle.ddcmp_cli.proofs.CommandLaws.{bridged, linked, not_declined, performed, stationed}
+use Rattle.ddcmp_cli.proofs.CommandLaws.{reads_a_file, reads_no_file, tapped}
 use Rattle.ddcmp_cli.proofs.program.run.Goals as goal
 
 pub returns-in-Ok : goal.returns-in-Ok
@@ -33,6 +33,8 @@ returns-in-Ok g c = record {
   taps = λ asked. tapped _ _ c.in-Ok.command _ _ _ _ _ asked c.in-Ok.ensures.reads.1
       c.in-Ok.ensures.reads.2 c.perform.ensures.taps;
   links = λ asked. linked _ _ c.in-Ok.command asked c.in-Ok.ensures.reads.1 c.perform.ensures.links;
+  bridges = λ asked. bridged _ _ c.in-Ok.command asked c.in-Ok.ensures.reads.1
+      c.perform.ensures.bridges;
 }
 
 pub returns-in-Err-Help : goal.returns-in-Err-Help
@@ -53,6 +55,8 @@ returns-in-Err-Help g c =
       stations = λ asked. absurd (not_asked (codes "station") (inr (inr (inr (inl refl)))) asked);
       taps = λ asked. absurd (not_asked (codes "tap") (inr (inr (inr (inr (inl refl))))) asked);
       links = search rules;
+      bridges = λ asked.
+          absurd (not_asked (codes "bridge") (inr (inr (inr (inr (inr (inr refl)))))) asked);
     }
 
 pub returns-in-Err-Version : goal.returns-in-Err-Version
@@ -73,6 +77,8 @@ returns-in-Err-Version g c =
       stations = λ asked. absurd (not_asked (codes "station") (inr (inr (inr (inl refl)))) asked);
       taps = λ asked. absurd (not_asked (codes "tap") (inr (inr (inr (inr (inl refl))))) asked);
       links = search rules;
+      bridges = λ asked.
+          absurd (not_asked (codes "bridge") (inr (inr (inr (inr (inr (inr refl)))))) asked);
     }
 
 pub returns-in-Err-Usage : goal.returns-in-Err-Usage
@@ -93,6 +99,8 @@ returns-in-Err-Usage g c =
       stations = λ asked. absurd (not_asked (codes "station") (inr (inr (inr (inl refl)))) asked);
       taps = λ asked. absurd (not_asked (codes "tap") (inr (inr (inr (inr (inl refl))))) asked);
       links = search rules;
+      bridges = λ asked.
+          absurd (not_asked (codes "bridge") (inr (inr (inr (inr (inr (inr refl)))))) asked);
     }
 
 pub returns-in-Err-Memory : goal.returns-in-Err-Memory
@@ -108,4 +116,5 @@ returns-in-Err-Memory g c = record {
   stations = search rules;
   taps = search rules;
   links = search rules;
+  bridges = λ _. (refl, Keeps-refl (g.W.Sink.contents c.args.writer.now));
 }

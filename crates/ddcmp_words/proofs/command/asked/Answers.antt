@@ -1,7 +1,7 @@
 use Rattle.clap.specs.Words.{first_value, found_of, one_text, subcommand_rows_of}
 use Rattle.ddcmp_words.proofs.CommandLaws.{met, met_text, option_met, text_met, has_options_as}
 use Rattle.ddcmp_words.specs.declared.command.Command.TheVariants.{Explain, Simulate, Pair, Station}
-use Rattle.ddcmp_words.specs.declared.command.Command.TheVariants.{Tap, Link}
+use Rattle.ddcmp_words.specs.declared.command.Command.TheVariants.{Tap, Link, Bridge}
 use Rattle.ddcmp_words.proofs.command.asked.Goals as goal
 
 pub returns-in-Some-clause-options : goal.returns-in-Some-clause-options
@@ -55,11 +55,21 @@ returns-in-Some-subcommand_matches-4-clause-options c =
     (met rows found c.in-Some-subcommand_matches-4.ensures.rows)
     (met_text rows found c.in-Some-subcommand_matches-4.ensures.rows) c.tap_given.ensures
 
+pub returns-in-Some-subcommand_matches-5-clause-options
+    : goal.returns-in-Some-subcommand_matches-5-clause-options
+returns-in-Some-subcommand_matches-5-clause-options c =
+    let rows = subcommand_rows_of c.args.matches.now in
+    let found = found_of c.in-Some-subcommand_matches-5.options.now in
+    has_options_as (one_text found) (option_met rows) (first_value found) (text_met rows)
+    (Link c.link_given.result)
+    (met rows found c.in-Some-subcommand_matches-5.ensures.rows)
+    (met_text rows found c.in-Some-subcommand_matches-5.ensures.rows) c.link_given.ensures
+
 pub returns-clause-options : goal.returns-clause-options
 returns-clause-options c =
     let rows = subcommand_rows_of c.args.matches.now in
     let found = found_of c.in_ok-options.options.now in
     has_options_as (one_text found) (option_met rows) (first_value found) (text_met rows)
-    (Link c.link_given.result)
+    (Bridge c.bridge_given.result)
     (met rows found c.in_ok-options.ensures.rows) (met_text rows found c.in_ok-options.ensures.rows)
-    c.link_given.ensures
+    c.bridge_given.ensures

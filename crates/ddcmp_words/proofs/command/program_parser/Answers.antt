@@ -10,4 +10,5 @@ returns c =
     let three = c.subcommand-3.ensures _ _ two c.script_parser-2.ensures in
     let four = c.subcommand-4.ensures _ _ three c.station_parser.ensures in
     let five = c.subcommand-5.ensures _ _ four c.tap_parser.ensures in
-    c.subcommand-6.ensures _ _ five c.link_parser.ensures
+    let six = c.subcommand-6.ensures _ _ five c.link_parser.ensures in
+    c.subcommand-7.ensures _ _ six c.bridge_parser.ensures

@@ -1,0 +1,253 @@
+"""Bridges between lines of each kind: two links over one, and what of junk and damaged frames comes out."""
+import socket
+import subprocess
+import threading
+import time
+
+from links.kit import LONG, Link, checked, drawn, exchange, free_port, messages_of, server, terminals, wants, wrong
+from links.peer import control, data
+
+START = {0x05: 0, 0x81: 1, 0x90: 1}
+
+
+class Bridge(Link):
+    """A bridge that runs; the line that Link names first is its first."""
+
+    WORDS = ["bridge"]
+
+    def ports(self, count):
+        """The ports that it listens at."""
+        self.waits(lambda it: it.told.count(b"listening ") >= count and it.told.endswith(b"\n"), 10)
+        return [int(it.rsplit(":", 1)[1]) for it in self.errors() if it.startswith("listening ")]
+
+    def counts(self):
+        """What it counted: frames, skipped bytes and damaged frames, there and back."""
+        lines = [it.split() for it in self.lines()]
+        if [it[0] for it in lines] != [">", "<"] or any(len(it) != 4 for it in lines):
+            wrong(f"{self.lines()}")
+            return (0, 0, 0), (0, 0, 0)
+        return tuple(tuple(int(it.split("=")[1]) for it in line[1:]) for line in lines)
+
+
+def good_frames(text):
+    """The good frames of some bytes, and how many damaged ones and headers are between them."""
+    found, damaged, lost, at = [], 0, False, 0
+    while at < len(text):
+        if text[at] not in START:
+            at += 1
+            continue
+        head = text[at:at + 8]
+        if len(head) < 8:
+            break
+        if checked(head[:6]) != head:
+            damaged += not lost
+            lost, at = True, at + 1
+            continue
+        count = head[1] | (head[2] & 63) << 8
+        if START[head[0]] and count:
+            body = text[at + 8:at + 10 + count]
+            if len(body) < count + 2:
+                break
+            is_good, length = checked(body[:-2]) == body, 10 + count
+        else:
+            is_good, length = not START[head[0]] and head[1] in (1, 2, 3, 6, 7), 8
+        if is_good:
+            found.append(text[at:at + length])
+        else:
+            damaged += 1
+        lost, at = False, at + length
+    return found, damaged
+
+
+def frame():
+    """A drawn frame, whole, damaged or cut off, and what follows it."""
+    kind = drawn.randrange(6)
+    if kind < 2:
+        made = control(drawn.choice([1, 2, 3, 6, 7, 7, 9]), drawn.randrange(64), drawn.randrange(256), drawn.randrange(256))
+    elif kind == 2:
+        message = drawn.randbytes(drawn.randrange(1, 40))
+        made = checked(bytes([0x90, len(message), 0xC0, 0, 0, 1])) + checked(message)
+    else:
+        size = drawn.choice([1, 2, 60, 300, 16383]) if kind == 5 else drawn.randrange(1, 60)
+        made = data(drawn.randbytes(size), drawn.randrange(256), drawn.randrange(256))
+    fate = drawn.randrange(8)
+    if fate == 0:
+        at = drawn.randrange(len(made))
+        made = made[:at] + bytes([made[at] ^ drawn.randrange(1, 256)]) + made[at + 1:]
+    elif fate == 1:
+        made = made[:drawn.randrange(len(made))]
+    return made + drawn.randbytes(drawn.choice([0, 0, 0, 3])) + b"\x96" * drawn.randrange(3)
+
+
+def text_of(count):
+    return b"".join(frame() for _ in range(count))
+
+
+def sends(peer, text, most):
+    at = 0
+    while at < len(text):
+        size = drawn.randrange(1, most)
+        peer.sendall(text[at:at + size])
+        at += size
+
+
+def takes(peer):
+    return b"".join(iter(lambda: peer.recv(1 << 16), b""))
+
+
+def counted(text):
+    frames, damaged = good_frames(text)
+    return len(frames), len(text) - sum(map(len, frames)), damaged
+
+
+def junk():
+    """Of junk and damaged frames both ways the good frames alone come out, in their order, and the rest is counted."""
+    for most in (3, 200, 1 << 16):
+        count = 40 if most == 3 else 400
+        there = text_of(count)
+        back = text_of(count) + b"\x96" * 33000 + control(1)  # ends whatever is open, so it is read to its end
+        first, second = server(), server()
+        names = [f"connect:127.0.0.1:{it.getsockname()[1]}" for it in (first, second)]
+        bridge = Bridge(*names)
+        one, two = first.accept()[0], second.accept()[0]
+        got = {}
+        threads = [
+            threading.Thread(target=sends, args=(one, there, most)), threading.Thread(target=sends, args=(two, back, most)),
+            threading.Thread(target=lambda peer=two: got.update(there=takes(peer))),
+        ]
+        for it in threads:
+            it.start()
+        wanted = [b"".join(good_frames(it)[0]) for it in (there, back)]
+        came = b""
+        one.settimeout(LONG)
+        while len(came) < len(wanted[1]) and (piece := one.recv(1 << 16)):
+            came += piece
+        for it in threads[:2]:
+            it.join(LONG)
+        one.shutdown(socket.SHUT_WR)
+        if bridge.ended() != 0:
+            wrong(f"{most}: {bridge.errors()}")
+        threads[2].join(LONG)
+        if got.get("there") != wanted[0] or came != wanted[1]:
+            wrong(f"{most}: {len(got.get('there', b''))} and {len(came)} bytes, not {[len(it) for it in wanted]}")
+        if bridge.counts() != (counted(there), counted(back)):
+            wrong(f"{most}: {bridge.counts()}, not {counted(there), counted(back)}")
+        for it in (one, two, first, second):
+            it.close()
+
+
+def datagrams():
+    """Each frame goes in a datagram of its own; none goes on in the next; those of others aren't read."""
+    peers = [socket.socket(socket.AF_INET, socket.SOCK_DGRAM) for _ in range(3)]
+    for it in peers:
+        it.bind(("127.0.0.1", 0))
+        it.settimeout(10)
+    one, two, other = peers
+    ports = [free_port(socket.SOCK_DGRAM) for _ in range(2)]
+    words = [f"udp:127.0.0.1:{port},127.0.0.1:{it.getsockname()[1]}" for port, it in zip(ports, peers)]
+    bridge = Bridge(*words, "--seconds", "2")
+    time.sleep(0.5)
+    longest, short, cut = data(drawn.randbytes(16383), 1), control(1), data(b"abc", 2)
+    other.sendto(short, ("127.0.0.1", ports[0]))
+    for it in (longest, b"\x96" + short + longest + b"junk", cut[:10], cut[10:] + short):
+        one.sendto(it, ("127.0.0.1", ports[0]))
+    got = [two.recv(1 << 16) for _ in range(4)]
+    if got != [longest, short, longest, short]:
+        wrong(f"{[len(it) for it in got]}")
+    two.sendto(cut, ("127.0.0.1", ports[1]))
+    if one.recv(1 << 16) != cut:
+        wrong("another frame came back")
+    if bridge.ended(10) != 0 or bridge.counts() != ((4, 5 + len(cut), 0), (1, 0, 0)):
+        wrong(f"{bridge.errors()} {bridge.lines()}")
+    for it in peers:
+        it.close()
+
+
+def slow_side():
+    """A side that takes nothing holds the other back: memory stays flat, and nothing is lost."""
+    first, second = server(), server()
+    bridge = Bridge(*(f"connect:127.0.0.1:{it.getsockname()[1]}" for it in (first, second)))
+    one, two = first.accept()[0], second.accept()[0]
+    text = b"".join(data(drawn.randbytes(16383), it) for it in range(256)) * 8
+    sending = threading.Thread(target=sends, args=(one, text, 1 << 16))
+    sending.start()
+    time.sleep(1)
+    before, used = bridge.memory(), bridge.processor_time()
+    time.sleep(1)
+    if bridge.memory() > before + 512 or bridge.processor_time() - used > 0.1 or not sending.is_alive():
+        wrong(f"memory {before} and {bridge.memory()} kB, {bridge.processor_time() - used} s")
+    pieces = []
+    two.settimeout(LONG)
+    while sum(map(len, pieces)) < len(text) and (piece := two.recv(1 << 20)):
+        pieces.append(piece)
+    got = b"".join(pieces)
+    sending.join(LONG)
+    one.close()
+    if got != text or bridge.ended() != 0 or bridge.counts()[0] != (2048, 0, 0):
+        wrong(f"{len(got)} of {len(text)} bytes, {bridge.lines()} {bridge.errors()}")
+    two.close()
+
+
+def between(name, bridge, one, two, most=1500):
+    """Messages both ways between two links over a bridge."""
+    exchange(name, one, two, messages_of(40, most), messages_of(40, most))
+    status = bridge.ended()
+    there, back = bridge.counts()
+    if status != 0 or min(there[0], back[0]) < 40 or there[2] or back[2]:
+        wrong(f"{name}: {status} {bridge.lines()} {bridge.errors()}")
+
+
+def tcp_tcp():
+    """Two links that call, with the longest messages."""
+    bridge = Bridge("listen:127.0.0.1:0", "listen:127.0.0.1:0")
+    one, two = (Link(f"connect:127.0.0.1:{it}", "--binary", "--max", "16383") for it in bridge.ports(2))
+    between("tcp", bridge, one, two, 16383)
+
+
+def udp_tcp():
+    """One link calls, and one has datagrams."""
+    near, far = (free_port(socket.SOCK_DGRAM) for _ in range(2))
+    bridge = Bridge(f"udp:127.0.0.1:{near},127.0.0.1:{far}", "listen:127.0.0.1:0")
+    one = Link(f"udp:127.0.0.1:{far},127.0.0.1:{near}", "--binary")
+    two = Link(f"connect:127.0.0.1:{bridge.ports(1)[0]}", "--binary")
+    between("udp and tcp", bridge, one, two)
+
+
+def device_udp():
+    """One link has a serial device, and one datagrams: only the time ends such a bridge."""
+    with terminals() as ends:
+        if not ends:
+            return
+        near, far = (free_port(socket.SOCK_DGRAM) for _ in range(2))
+        bridge = Bridge(f"device:{ends[0]}", f"udp:127.0.0.1:{near},127.0.0.1:{far}", "--seconds", "6")
+        one = Link(f"device:{ends[1]}", "--binary")
+        two = Link(f"udp:127.0.0.1:{far},127.0.0.1:{near}", "--binary")
+        between("device and udp", bridge, one, two)
+
+
+def ends():
+    """A line that can't be opened, words that are none, a limit of time, and a line that fails."""
+    port = free_port()
+    refused = f"ddcmp: connect 127.0.0.1:{port}: connection refused"
+    wants("refused", Bridge("listen:127.0.0.1:0", f"connect:127.0.0.1:{port}", "--seconds", "1"), 0)
+    wants("refused", Bridge(f"connect:127.0.0.1:{port}", "listen:127.0.0.1:0"), 3, refused)
+    wants("no device", Bridge("listen:127.0.0.1:0", "device:/dev/nothing", "--seconds", "1"), 0)
+    wants("no line", Bridge("listen:127.0.0.1:0", "device"), 2)
+    it = server()
+    bridge = Bridge("listen:127.0.0.1:0", f"connect:127.0.0.1:{it.getsockname()[1]}")
+    one = socket.create_connection(("127.0.0.1", bridge.ports(1)[0]))
+    two = it.accept()[0]
+    two.setsockopt(socket.SOL_SOCKET, socket.SO_LINGER, b"\1\0\0\0\0\0\0\0")
+    two.close()
+    wants("reset", bridge, 3, "ddcmp: ended")
+    if "second line down: connection reset" not in bridge.errors() or bridge.counts() != ((0, 0, 0), (0, 0, 0)):
+        wrong(f"{bridge.errors()} {bridge.lines()}")
+    one.close()
+    output = subprocess.Popen(["true"], stdin=subprocess.PIPE)
+    output.wait()
+    bridge = Bridge("udp:127.0.0.1:0,127.0.0.1:9", "udp:127.0.0.1:0,127.0.0.1:9", "--seconds", "1", stdout=output.stdin)
+    wants("closed output", bridge, 3, "ddcmp: write")
+
+
+TRIALS = [junk, slow_side, device_udp, udp_tcp, tcp_tcp, datagrams, ends]
+LONG_TRIALS = []

@@ -1,0 +1,56 @@
+//! `bridge`: the good frames of each of two lines go to the other.
+ghost use Rattle.std.specs.Prelude.{◌≡◌, ◌↔◌, IsTrue, false};
+ghost use Rattle.ddcmp_cli.specs.BridgeEndings.{Bridges};
+
+use crate::ending::Ending;
+use crate::fault::Fault;
+use crate::link_command::{Lines, no_line};
+use crate::usage::usage;
+use ddcmp_bridge::write_report;
+use ddcmp_io::Sink;
+use ddcmp_service::{BridgeEnd, BridgeFault, LineName};
+use ddcmp_words::Bridged;
+use std::alloc::Global;
+
+/// The usage error for a word that is no line.
+const NO_LINE: &str =
+    "a LINE is connect:HOST:PORT, listen:HOST:PORT, udp:LOCAL,REMOTE or device:PATH";
+
+/// Writes what a bridge has counted.
+fn report<W: Sink>(end: &BridgeEnd, writer: &mut W) -> Ending
+    requires whole { W.broken writer.old ≡ false }
+    ensures bridges { Bridges (W.contents writer.old) (W.contents writer.new) result }
+    ensures write { (result ≡ Ending.Fault Fault.Write) ↔ IsTrue (W.broken writer.new) }
+{
+    match write_report(writer, &end.there, &end.back) {
+        Ok(()) => match end.has_failed {
+            true => Ending::Fault(Fault::Ended),
+            false => Ending::Done,
+        },
+        Err(_failed) => Ending::Fault(Fault::Write),
+    }
+}
+
+/// Passes frames on between two lines until one of them ends, and writes what was counted.
+pub(crate) fn bridge<S: Lines, W: Sink>(
+    system: &S,
+    alloc: Global,
+    bridged: &Bridged<'_>,
+    writer: &mut W,
+) -> Ending
+    requires whole { W.broken writer.old ≡ false }
+    ensures bridges { Bridges (W.contents writer.old) (W.contents writer.new) result }
+    ensures write { (result ≡ Ending.Fault Fault.Write) ↔ IsTrue (W.broken writer.new) }
+{
+    let Some(first) = LineName::read(bridged.first) else {
+        return usage(alloc, NO_LINE);
+    };
+    let Some(second) = LineName::read(bridged.second) else {
+        return usage(alloc, NO_LINE);
+    };
+    match system.bridge(alloc, first, second, bridged.seconds) {
+        Ok(end) => report(&end, writer),
+        Err(BridgeFault::Open(fault)) => no_line(alloc, &fault),
+        Err(BridgeFault::Memory) => Ending::Fault(Fault::Memory),
+    }
+}

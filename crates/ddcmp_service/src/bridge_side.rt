@@ -1,0 +1,166 @@
+//! The two lines of a bridge, and waiting for both.
+use crate::line::Line;
+use crate::waiting::{Descriptor, Ready};
+use ddcmp_session::{Down, Moved};
+use mio::{Events, Interest, Poll, Token};
+use std::alloc::Global;
+use std::io;
+use std::net::Net;
+use std::time::Duration;
+
+const FIRST: Token = Token(0);
+
+const SECOND: Token = Token(1);
+
+/// The longest wait at once, in milliseconds.
+const HOUR_MS: u64 = 3_600_000;
+
+/// A line of a bridge.
+pub(crate) struct Side {
+    line: Line,
+    pub(crate) ready: Descriptor,
+    /// Why it is down, if it is.
+    pub(crate) down: Option<Down>,
+}
+
+// By hand, so that it is dropped by a call: a derived one is written out at each such place.
+impl Drop for Side {
+    fn drop(self) {
+        let Side {
+            line: _line,
+            ready: _,
+            down: _,
+        } = self;
+    }
+}
+
+impl Side {
+    /// Reads what has come; none if nothing has, or the line is down.
+    pub(crate) fn read(&mut self, space: &mut [u8]) -> Option<usize> {
+        if self.down.is_some() || !self.ready.ready.to_read {
+            return None;
+        }
+        match self.line.read(space) {
+            Moved::Bytes(n) => Some(n.min(space.len())),
+            Moved::Interrupted => Some(0),
+            Moved::Nothing => {
+                self.ready.has_read();
+                None
+            }
+            Moved::Ended(why) => {
+                self.down = Some(why);
+                None
+            }
+        }
+    }
+
+    /// Writes bytes from the front of `bytes`; none if there is no room, or the line is down.
+    pub(crate) fn write(&mut self, bytes: &[u8]) -> Option<usize> {
+        if self.down.is_some() || !self.ready.ready.to_write {
+            return None;
+        }
+        match self.line.write(bytes) {
+            Moved::Bytes(n) => Some(n.min(bytes.len())),
+            Moved::Interrupted => Some(0),
+            Moved::Nothing => {
+                self.ready.has_written();
+                None
+            }
+            Moved::Ended(why) => {
+                self.down = Some(why);
+                None
+            }
+        }
+    }
+
+    /// Whether it is one of datagrams.
+    pub(crate) fn has_datagrams(&self) -> bool {
+        self.line.has_datagrams()
+    }
+}
+
+/// What is needed of a side.
+#[derive(Clone, Copy)]
+pub(crate) struct Needs {
+    pub(crate) to_read: bool,
+    pub(crate) to_write: bool,
+}
+
+/// Both lines.
+pub(crate) struct Sides {
+    poll: Poll,
+    events: Events,
+    pub(crate) first: Side,
+    pub(crate) second: Side,
+}
+
+// By hand, so that they are dropped by a call: a derived one is written out at each such place.
+impl Drop for Sides {
+    fn drop(self) {
+        let Sides {
+            poll: _poll,
+            events: _events,
+            first: _first,
+            second: _second,
+        } = self;
+    }
+}
+
+/// A line that is waited for from now on.
+fn side_of(poll: &Poll, line: Line, token: Token) -> Side {
+    let both = Interest::READABLE | Interest::WRITABLE;
+    let mut ready = Descriptor::new(poll, line.number(), token, both);
+    ready.ready = Ready::BOTH;
+    Side {
+        line,
+        ready,
+        down: None,
+    }
+}
+
+impl Sides {
+    pub(crate) fn new<N: Net>(
+        net: &N,
+        alloc: Global,
+        first: Line,
+        second: Line,
+    ) -> io::Result<Sides> {
+        let poll = Poll::new(net)?;
+        let events = Events::with_capacity(alloc, 2)?;
+        let first = side_of(&poll, first, FIRST);
+        let second = side_of(&poll, second, SECOND);
+        Ok(Sides {
+            poll,
+            events,
+            first,
+            second,
+        })
+    }
+
+    /// Waits until something that is needed of a side is ready, at most this many milliseconds:
+    /// whether it could wait.
+    pub(crate) fn wait(&mut self, first: Needs, second: Needs, most_ms: u64) -> bool {
+        self.first
+            .ready
+            .ask(&self.poll, first.to_read, first.to_write);
+        self.second
+            .ready
+            .ask(&self.poll, second.to_read, second.to_write);
+        let most = Some(Duration::from_millis(most_ms.min(HOUR_MS)));
+        if self.poll.poll(&mut self.events, most).is_err() {
+            return false;
+        }
+        for event in self.events.iter() {
+            let told = Ready {
+                to_read: event.is_readable() || event.is_read_closed() || event.is_error(),
+                to_write: event.is_writable() || event.is_write_closed() || event.is_error(),
+            };
+            match event.token() {
+                FIRST => self.first.ready.ready.add(told),
+                SECOND => self.second.ready.ready.add(told),
+                _ => {}
+            }
+        }
+        true
+    }
+}

@@ -1,0 +1,24 @@
+use Rattle.std.proofs.Common.{refl}
+use Rattle.clap.proofs.OnLiterals.{clap_on_literals}
+use Rattle.ddcmp_words.specs.Words.{named_by, option_in, text_in}
+use Rattle.ddcmp_words.proofs.asked.bridge_is_asked.Goals as goal
+
+pub returns-clause-plain : goal.returns-clause-plain
+unfolding clap_on_literals named_by
+returns-clause-plain c = record { in_order = refl; names = refl }
+
+pub returns-clause-first : goal.returns-clause-first
+unfolding clap_on_literals text_in
+returns-clause-first c = refl
+
+pub returns-clause-second : goal.returns-clause-second
+unfolding clap_on_literals text_in
+returns-clause-second c = refl
+
+pub returns-clause-seconds : goal.returns-clause-seconds
+unfolding clap_on_literals option_in
+returns-clause-seconds c = refl
+
+pub returns-clause-incomplete : goal.returns-clause-incomplete
+unfolding clap_on_literals
+returns-clause-incomplete c = refl

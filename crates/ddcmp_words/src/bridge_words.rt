@@ -1,0 +1,82 @@
+//! The words of a bridge.
+ghost use Rattle.std.specs.Prelude.{◌≡◌, codes, false};
+ghost use Rattle.clap.specs.Words.{app_of, first_value, found_of, new_app, one_text};
+ghost use Rattle.clap.specs.declared.builder.command.Command.TheViews.{out-Command as fields_of};
+ghost use Rattle.ddcmp_words.specs.Making.{Makes};
+ghost use Rattle.ddcmp_words.specs.Words.{HasBridge, bridge_app};
+
+use crate::bridged::Bridged;
+use crate::command::{number_given, text_given};
+use crate::options::{CommandOption, Takes};
+use crate::parser::Parser;
+use clap::ArgMatches;
+use std::alloc::Global;
+
+/// What a bridge reads and writes, for a newcomer.
+fn bridge_help() -> &'static str {
+    "\
+LINE is one of:
+  connect:HOST:PORT      a TCP connection to this address
+  listen:HOST:PORT       a TCP connection from whoever calls
+  udp:LOCAL,REMOTE       datagrams between two addresses
+  device:PATH            a serial device that is set up already, as by stty
+Only whole good frames are passed on, unchanged; it ends with one of its lines.
+Output, at the end:
+  > frames=F skipped=S damaged=D   from the first line to the second: frames passed on,
+                                   bytes that were not, damaged frames and headers
+  < frames=F skipped=S damaged=D   the same for the other direction"
+}
+
+/// `bridge` without its options.
+fn bridge_command<'a>(alloc: Global) -> clap::Command<'a>
+    ensures app { app_of result ≡ new_app (codes "bridge") }
+    ensures local { (fields_of result).has_globals ≡ false }
+{
+    clap::Command::new(alloc, "bridge")
+        .about("Pass the good frames of each of two lines on to the other")
+        .after_help(bridge_help())
+}
+
+/// The options of a bridge.
+static BRIDGE_OPTIONS: [CommandOption; 3] = [
+    CommandOption {
+        name: "first",
+        takes: Takes::Place("LINE"),
+        is_required: true,
+        help: "First line to open, as listen:127.0.0.1:7000",
+    },
+    CommandOption {
+        name: "second",
+        takes: Takes::Place("LINE"),
+        is_required: true,
+        help: "Line to open once the first is open",
+    },
+    CommandOption {
+        name: "seconds",
+        takes: Takes::Number {
+            low: 1,
+            high: u32::MAX,
+        },
+        is_required: false,
+        help: "End after N seconds, whatever the state",
+    },
+];
+
+/// `bridge` with its options.
+pub(crate) fn bridge_parser<'a>(alloc: Global) -> Parser<'a>
+    ensures { Makes result bridge_app }
+{
+    Parser::new(alloc, bridge_command(alloc)).with(&BRIDGE_OPTIONS)
+}
+
+/// The bridge that was asked for.
+pub(crate) fn bridge_given<'a>(options: &ArgMatches<'a>) -> Bridged<'a>
+    ensures { HasBridge (one_text (found_of options.now)) (first_value (found_of options.now))
+        result }
+{
+    Bridged {
+        first: text_given(options, "first"),
+        second: text_given(options, "second"),
+        seconds: number_given(options, "seconds", 1, u32::MAX, u32::MAX),
+    }
+}
