@@ -100,7 +100,7 @@ def counted(text):
     return len(frames), len(text) - sum(map(len, frames)), damaged
 
 
-def junk():
+def bridged_junk():
     """Of junk and damaged frames both ways the good frames alone come out, in their order, and the rest is counted."""
     for most in (3, 200, 1 << 16):
         count = 40 if most == 3 else 400
@@ -136,7 +136,7 @@ def junk():
             it.close()
 
 
-def datagrams():
+def bridged_datagrams():
     """Each frame goes in a datagram of its own; none goes on in the next; those of others aren't read."""
     peers = [socket.socket(socket.AF_INET, socket.SOCK_DGRAM) for _ in range(3)]
     for it in peers:
@@ -163,7 +163,7 @@ def datagrams():
         it.close()
 
 
-def slow_side():
+def bridged_slowly():
     """A side that takes nothing holds the other back: memory stays flat, and nothing is lost."""
     first, second = server(), server()
     bridge = Bridge(*(f"connect:127.0.0.1:{it.getsockname()[1]}" for it in (first, second)))
@@ -197,14 +197,14 @@ def between(name, bridge, one, two, most=1500):
         wrong(f"{name}: {status} {bridge.lines()} {bridge.errors()}")
 
 
-def tcp_tcp():
+def tcp_to_tcp():
     """Two links that call, with the longest messages."""
     bridge = Bridge("listen:127.0.0.1:0", "listen:127.0.0.1:0")
     one, two = (Link(f"connect:127.0.0.1:{it}", "--binary", "--max", "16383") for it in bridge.ports(2))
     between("tcp", bridge, one, two, 16383)
 
 
-def udp_tcp():
+def udp_to_tcp():
     """One link calls, and one has datagrams."""
     near, far = (free_port(socket.SOCK_DGRAM) for _ in range(2))
     bridge = Bridge(f"udp:127.0.0.1:{near},127.0.0.1:{far}", "listen:127.0.0.1:0")
@@ -213,7 +213,7 @@ def udp_tcp():
     between("udp and tcp", bridge, one, two)
 
 
-def device_udp():
+def device_to_udp():
     """One link has a serial device, and one datagrams: only the time ends such a bridge."""
     with terminals() as ends:
         if not ends:
@@ -225,7 +225,7 @@ def device_udp():
         between("device and udp", bridge, one, two)
 
 
-def ends():
+def ends_of_a_bridge():
     """A line that can't be opened, words that are none, a limit of time, and a line that fails."""
     port = free_port()
     refused = f"ddcmp: connect 127.0.0.1:{port}: connection refused"
@@ -237,6 +237,7 @@ def ends():
     bridge = Bridge("listen:127.0.0.1:0", f"connect:127.0.0.1:{it.getsockname()[1]}")
     one = socket.create_connection(("127.0.0.1", bridge.ports(1)[0]))
     two = it.accept()[0]
+    bridge.waits(lambda it: it.told.count(b"connected ") == 2, 10)
     two.setsockopt(socket.SOL_SOCKET, socket.SO_LINGER, b"\1\0\0\0\0\0\0\0")
     two.close()
     wants("reset", bridge, 3, "ddcmp: ended")
@@ -249,5 +250,5 @@ def ends():
     wants("closed output", bridge, 3, "ddcmp: write")
 
 
-TRIALS = [junk, slow_side, device_udp, udp_tcp, tcp_tcp, datagrams, ends]
+TRIALS = [bridged_slowly, bridged_junk, device_to_udp, udp_to_tcp, tcp_to_tcp, bridged_datagrams, ends_of_a_bridge]
 LONG_TRIALS = []
