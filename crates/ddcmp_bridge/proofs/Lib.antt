@@ -1,2 +1,3 @@
+pub mod AmountLaws
 pub mod RelayLaws
 pub mod ReportLaws

@@ -15,7 +15,7 @@ use Rattle.ddcmp_frame.proofs.ReadingLaws.{items-nothing}
 use Rattle.ddcmp_frame.proofs.WireLaws.{length-wire}
 use Rattle.ddcmp_bridge.specs.Relaying.{RelayView, Relays, relayed, wires}
 
-good-append : (xs ys : List ReadItem)
+pub good-append : (xs ys : List ReadItem)
     → good_frames_in (xs ++ ys) ≡ good_frames_in xs ++ good_frames_in ys
 unfolding good_frames_in
 good-append [] ys = refl
@@ -23,7 +23,7 @@ good-append (x ∷ xs) ys =
     ap (λ t. good_frame_of x ++ t) (good-append xs ys)
     ∙ sym (append_assoc (good_frame_of x) (good_frames_in xs) (good_frames_in ys))
 
-wires-append : (xs ys : List (Header × List ℕ)) → wires (xs ++ ys) ≡ wires xs ++ wires ys
+pub wires-append : (xs ys : List (Header × List ℕ)) → wires (xs ++ ys) ≡ wires xs ++ wires ys
 unfolding wires
 wires-append [] ys = refl
 wires-append (f ∷ xs) ys =
@@ -31,19 +31,19 @@ wires-append (f ∷ xs) ys =
     ∙ sym (append_assoc (wire f.0 f.1) (wires xs) (wires ys))
 
 -- the frames of one item, if it is a good one or not
-one-item : (given : ReadItem) → good_frames_in (given ∷ []) ≡ good_frame_of given
+pub one-item : (given : ReadItem) → good_frames_in (given ∷ []) ≡ good_frame_of given
 unfolding good_frames_in
 one-item given = append-nil (good_frame_of given)
 
-one-wire : (header : Header) (lent : List ℕ) → wires ((header, lent) ∷ []) ≡ wire header lent
+pub one-wire : (header : Header) (lent : List ℕ) → wires ((header, lent) ∷ []) ≡ wire header lent
 unfolding wires
 one-wire header lent = append-nil (wire header lent)
 
-no-wires : wires [] ≡ []
+pub no-wires : wires [] ≡ []
 unfolding wires
 no-wires = refl
 
-no-frames : good_frames_in [] ≡ []
+pub no-frames : good_frames_in [] ≡ []
 unfolding good_frames_in
 no-frames = refl
 

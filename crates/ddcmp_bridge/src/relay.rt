@@ -1,10 +1,10 @@
 //! One direction of a bridge.
-ghost use Rattle.std.specs.Prelude.{◌≡◌, ◌≢◌, ◌⊎◌, ◌+◌, ◌<◌, ◌≤◌, ◌^◌, ◌++◌, [], List, ℕ, IfSome};
+ghost use Rattle.std.specs.Prelude.{◌≡◌, ◌⊎◌, ◌+◌, ◌<◌, ◌≤◌, ◌^◌, ◌++◌, [], List, ℕ, IfSome};
 ghost use Rattle.std.specs.Prelude.{Some, drop, length, take};
 ghost use Rattle.ddcmp_frame.specs.Reader.{LentBeside};
 ghost use Rattle.ddcmp_frame.specs.Reading.{good_frame_of};
 ghost use Rattle.ddcmp_frame.specs.Wire.{IsFrame};
-ghost use Rattle.ddcmp_bridge.specs.Relaying.{IsOneFrame, Relays, counts_of, frame_given};
+ghost use Rattle.ddcmp_bridge.specs.Relaying.{IsOneFrame, Relays, counts_of, frame_given, relayed};
 
 use crate::counts::Counts;
 use ddcmp_frame::{Header, Item, MAX_COUNT, Pushed, Reader, write_frame};
@@ -39,7 +39,7 @@ pub struct Relay {
     from: usize,
     end: usize,
     good: u64,
-    /// How many bytes the good frames have. The reader doesn't promise that they don't overlap.
+    /// How many bytes the good frames have. Those of any number of frames fit.
     bytes: u128,
     items: u64,
 }
@@ -158,7 +158,11 @@ impl Relay {
 
     /// Returns what was counted.
     pub fn counts(&self) -> Counts
-        ensures { (came taken : List ℕ) → Relays self.now came taken → result ≡ counts_of came }
+        ensures counts { (came taken : List ℕ) → Relays self.now came taken
+            → result ≡ counts_of came }
+        // Every byte that came is passed on or skipped.
+        ensures all { (came taken : List ℕ) → Relays self.now came taken
+            → length (relayed came) + result.skipped ≡ length came }
     {
         let offset = self.frames.offset();
         Counts {
