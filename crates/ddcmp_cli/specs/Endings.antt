@@ -1,5 +1,5 @@
 -- How the program ends.
-use Rattle.std.specs.Prelude.{⊤, ◌↔◌, IsTrue, not, ◌&&◌, length, ◌<◌, None, codes, string_bytes}
+use Rattle.std.specs.Prelude.{⊤, ◌↔◌, IsTrue, is_none, ◌&&◌, length, ◌<◌, None, codes, string_bytes}
 use Rattle.std.specs.Prelude.{Bool, true, false, ◌≡◌, ◌≢◌, ◌⊎◌, ◌≤◌, ℕ, List, [], Option, Some}
 use Rattle.std.specs.Prelude.{Result, Ok, Err}
 use Rattle.std.specs.Option.{option_map}
@@ -26,10 +26,9 @@ use Rattle.ddcmp_cli.specs.declared.ending.Ending.TheVariants.{Usage as Misused,
 use Rattle.ddcmp_cli.specs.declared.ending.Ending.TheVariants.{Fault as Faulted}
 use Rattle.std.specs.Borrow.{Bor}
 use Rattle.ddcmp_explain.specs.declared.form.Form.{Form}
-use Rattle.ddcmp_explain.specs.declared.form.Form.TheVariants.{Hex, Raw}
+use Rattle.ddcmp_explain.specs.declared.form.Form.TheVariants as form
 use Rattle.ddcmp_explain.specs.declared.notation.Notation.{Notation}
 use Rattle.ddcmp_explain.specs.declared.notation.Notation.TheVariants.{Plain, Json}
-use Rattle.std.specs.Str.{bytes_eq}
 use Rattle.clap.specs.Words.{Text}
 use Rattle.ddcmp_words.specs.declared.command.Command.{Command}
 use Rattle.ddcmp_words.specs.declared.command.Command.TheVariants.{Explain, Simulate, Pair, Station}
@@ -63,6 +62,9 @@ use Rattle.ddcmp_tap.specs.InTurn.{Lasts, SaysInTurn}
 use Rattle.ddcmp_tap.specs.declared.tap_fault.TapFault.{TapFault}
 use Rattle.ddcmp_cli.specs.LinkEndings.{IsLinkEnding}
 use Rattle.ddcmp_cli.specs.BridgeEndings.{Bridges}
+use Rattle.ddcmp_cli.specs.Origins.{named_by, origin_of}
+use Rattle.ddcmp_cli.specs.declared.origin.Origin.{Origin}
+use Rattle.ddcmp_cli.specs.declared.origin.Origin.TheVariants as origin
 use Rattle.hex.specs.Hex.{decode_of}
 use Rattle.hex.specs.declared.error.FromHexError.{FromHexError}
 
@@ -164,11 +166,11 @@ streams input left before after =
 abbrev pub Untouched : Streams → Type 0
 Untouched s = (s.left ≡ Some s.input) × Keeps s.before s.after
 
--- some input was explained, and the ending tells the answer
-abbrev pub ExplainsTo : Explained → Streams → Ending → Type 0
-ExplainsTo e s ending =
+-- some input of a form was explained, and the ending tells the answer
+abbrev pub ExplainsTo : Form → Explained → Streams → Ending → Type 0
+ExplainsTo by e s ending =
     (result : Result (Unit {0}) ExplainFault) × (ending ≡ ending_of explain_fault result)
-    × Explains e.form e.style e.max s.input s.left s.before s.after result
+    × Explains by e.style e.max s.input s.left s.before s.after result
 
 -- some dump was explained, and the ending tells the answer
 abbrev pub ExplainsDumpTo : Explained → Streams → Ending → Type 0
@@ -176,13 +178,14 @@ ExplainsDumpTo e s ending =
     (result : Result (Unit {0}) DumpFault) × (ending ≡ ending_of dump_fault result)
     × ExplainsDump e.style e.max s.input s.left s.before s.after result
 
--- a dump where it comes from one
-abbrev pub ExplainsBy : Option (Bor (List ℕ)) → Explained → Streams → Ending → Type 0
-ExplainsBy None e s ending = ExplainsTo e s ending
-ExplainsBy (Some word) e s ending = ExplainsDumpTo e s ending
+-- as it is written where a word names that, else in the form that is asked for
+abbrev pub ExplainsBy : Option Origin → Explained → Streams → Ending → Type 0
+ExplainsBy None e s ending = ExplainsTo e.form e s ending
+ExplainsBy (Some origin.Dump) e s ending = ExplainsDumpTo e s ending
+ExplainsBy (Some origin.Text) e s ending = ExplainsTo form.Text e s ending
 
 abbrev pub ExplainsInput : Explained → Streams → Ending → Type 0
-ExplainsInput e s ending = ExplainsBy e.from e s ending
+ExplainsInput e s ending = ExplainsBy (named_by e.from) e s ending
 
 -- the ending tells that the file of this name can't be opened
 abbrev pub IsUnopened : List ℕ → Ending → Type 0
@@ -216,9 +219,10 @@ ExplainsFrom held (Some name) e s ending =
 -- whether the word for what the input comes from is none that is known, or stands beside bytes as
 -- they are
 abbrev pub is_misused : Form → Option (Bor (List ℕ)) → Bool
-is_misused form None = false
-is_misused Raw (Some word) = true
-is_misused Hex (Some word) = not (bytes_eq word.now (codes "hexdump"))
+is_misused asked None = false
+is_misused form.Raw (Some word) = true
+is_misused form.Hex (Some word) = is_none (origin_of word.now)
+is_misused form.Text (Some word) = is_none (origin_of word.now)
 
 -- these words are usage, and nothing is read or written; else the input is explained
 abbrev pub UnlessMisused : Bool → (Ending → Type 0) → (Ending → Type 0) → Ending → Type 0

@@ -1,5 +1,6 @@
 pub mod BridgeEndings
 pub mod Connections
+pub mod Origins
 pub mod Endings
 pub mod LinkEndings
 pub mod TapEndings

@@ -4,14 +4,15 @@ ghost use Rattle.std.specs.Prelude.{Some};
 ghost use Rattle.ddcmp_core.specs.Limits.{MAX_COUNT};
 ghost use Rattle.ddcmp_io.specs.Change.{source_change};
 ghost use Rattle.ddcmp_io.specs.Input.{GaveMost};
-ghost use Rattle.ddcmp_cli.specs.Endings.{ExplainsAsked, ExplainsInput, ReadsFile, TellsDevices};
-ghost use Rattle.ddcmp_cli.specs.Endings.{streams};
+ghost use Rattle.ddcmp_cli.specs.Endings.{ExplainsAsked, ExplainsInput, ExplainsTo, ReadsFile};
+ghost use Rattle.ddcmp_cli.specs.Endings.{TellsDevices, streams};
 ghost use Rattle.std.specs.Option.{option_map};
 ghost use Rattle.ddcmp_cli.specs.Endings.{is_misused as is_misused_by};
 
 use crate::ending::Ending;
 use crate::fault::Fault;
 use crate::inputs::{Inputs, unopened};
+use crate::origin::{Origin, named, origin_of};
 use crate::usage::usage;
 use ddcmp_explain::{Form, explain_dump, explain_with};
 use ddcmp_io::{Sink, Source, Worst};
@@ -22,18 +23,42 @@ use std::alloc::Global;
 const TWO_FORMS: &str = "'--raw' and '--from' can't be used together";
 
 /// The usage error for another value of `--from`.
-const NO_DUMP: &str = "'--from' is hexdump";
+const NO_ORIGIN: &str = "'--from' is hexdump, xxd, od or text";
 
 /// What is typed at a terminal.
 fn typed(explained: &Explained<'_>) -> &'static str {
-    match (explained.from, explained.form) {
-        (Some(_dump), _) => "a dump",
-        (None, Form::Hex) => "hexadecimal digits",
+    match (named(explained.from), explained.form) {
+        (Some(Origin::Dump), _) => "a dump",
+        (Some(Origin::Text), _) | (None, Form::Hex | Form::Text) => "hexadecimal digits",
         (None, Form::Raw) => "bytes",
     }
 }
 
-/// Explains a source: a dump, or what its form says.
+/// Explains a source of a form.
+fn explain_form<R: Source, W: Sink>(
+    alloc: Global,
+    explained: &Explained<'_>,
+    form: Form,
+    reader: &mut R,
+    writer: &mut W,
+) -> Ending
+    requires fine { R.state reader.old ≡ Worst.Fine }
+    requires whole { W.broken writer.old ≡ false }
+    requires max { (1 ≤ explained.now.max) × (explained.now.max ≤ MAX_COUNT) }
+    ensures explains { (input : List ℕ) → R.left reader.old ≡ Some input
+        → ExplainsTo form explained.now (streams input (R.left reader.new) (W.contents writer.old)
+        (W.contents writer.new)) result }
+    ensures devices { TellsDevices (source_change (R.left reader.old) (R.left reader.new)
+        (R.state reader.new)) (W.broken writer.new) result }
+{
+    let Explained { style, max, .. } = *explained;
+    match explain_with(alloc, reader, writer, form, style, max) {
+        Ok(()) => Ending::Done,
+        Err(fault) => Ending::Fault(Fault::from(fault)),
+    }
+}
+
+/// Explains a source: what `--from` names, or what its form says.
 fn explain_source<R: Source, W: Sink>(
     alloc: Global,
     explained: &Explained<'_>,
@@ -56,15 +81,13 @@ fn explain_source<R: Source, W: Sink>(
         max,
         ..
     } = *explained;
-    match from {
-        Some(_dump) => match explain_dump(alloc, reader, writer, style, max) {
+    match named(from) {
+        Some(Origin::Dump) => match explain_dump(alloc, reader, writer, style, max) {
             Ok(()) => Ending::Done,
             Err(fault) => Ending::Fault(Fault::from(fault)),
         },
-        None => match explain_with(alloc, reader, writer, form, style, max) {
-            Ok(()) => Ending::Done,
-            Err(fault) => Ending::Fault(Fault::from(fault)),
-        },
+        Some(Origin::Text) => explain_form(alloc, explained, Form::Text, reader, writer),
+        None => explain_form(alloc, explained, form, reader, writer),
     }
 }
 
@@ -97,7 +120,7 @@ fn is_misused(form: Form, from: Option<&str>) -> bool
         None => false,
         Some(word) => match form {
             Form::Raw => true,
-            Form::Hex => word != "hexdump",
+            Form::Hex | Form::Text => origin_of(word).is_none(),
         },
     }
 }
@@ -106,7 +129,7 @@ fn is_misused(form: Form, from: Option<&str>) -> bool
 fn misuse(form: Form) -> &'static str {
     match form {
         Form::Raw => TWO_FORMS,
-        Form::Hex => NO_DUMP,
+        Form::Hex | Form::Text => NO_ORIGIN,
     }
 }
 

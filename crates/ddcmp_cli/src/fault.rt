@@ -13,7 +13,7 @@ use std::fmt;
 pub enum Fault {
     /// The number of digits to explain is odd.
     Odd,
-    /// The index of the first byte that is neither a digit nor blank, counted from 0.
+    /// The index of the first byte that isn't allowed where it stands, counted from 0.
     NotHex(u64),
     /// A line isn't one of a dump.
     Dump(NotDumped),

@@ -8,6 +8,7 @@ mod explain_command;
 pub mod fault;
 pub mod inputs;
 mod link_command;
+mod origin;
 pub mod program;
 mod script_command;
 mod standard;

@@ -6,12 +6,10 @@ use Rattle.std.specs.List.{filter_map, take_while, position_from, cons_option}
 use Rattle.std.proofs.lemmas.List.Sums.{take_while-cons}
 use Rattle.std.proofs.lemmas.List.{append-nil}
 use Rattle.std.proofs.lemmas.List.Elements.{filter_map-append}
-use Rattle.ddcmp_explain.specs.declared.form.Form.{Form}
-use Rattle.ddcmp_explain.specs.declared.form.Form.TheVariants.{Hex, Raw}
 use Rattle.ddcmp_explain.specs.Digits.{hex_value, is_blank, is_readable, first_unexpected, digits}
-use Rattle.ddcmp_explain.specs.Digits.{pairs, left_over, bytes_of, unexpected_in, left_in}
+use Rattle.ddcmp_explain.specs.Digits.{pairs, left_over}
 
-none-some : {n : ℕ} → ◌≡◌ {A = Option ℕ} None (Some n) → ⊥
+pub none-some : {n : ℕ} → ◌≡◌ {A = Option ℕ} None (Some n) → ⊥
 none-some h = cc
 
 some-none : {n : ℕ} → ◌≡◌ {A = Option ℕ} (Some n) None → ⊥
@@ -170,22 +168,3 @@ readable-blank b e = ap (λ x. x || is_some (hex_value b)) e
 
 pub readable-neither : (b : ℕ) → is_blank b ≡ false → hex_value b ≡ None → is_readable b ≡ false
 readable-neither b e h = ap (λ x. x || is_some (hex_value b)) e ∙ ap is_some h
-
--- ---- in either form
-
-pub unexpected-stays : (form : Form) (s t : List ℕ) (n : ℕ) → unexpected_in form s ≡ Some n
-    → unexpected_in form (s ++ t) ≡ Some n
-unexpected-stays Hex s t n e = unexpected-more s t n e
-unexpected-stays Raw s t n e = absurd (none-some e)
-
-pub nothing-unexpected : (form : Form) → unexpected_in form [] ≡ None
-nothing-unexpected Hex = unexpected-none
-nothing-unexpected Raw = refl
-
-pub nothing-spelled : (form : Form) → bytes_of form [] ≡ []
-nothing-spelled Hex = ap pairs digits-none
-nothing-spelled Raw = refl
-
-pub nothing-left : (form : Form) → left_in form [] ≡ []
-nothing-left Hex = ap left_over digits-none
-nothing-left Raw = refl

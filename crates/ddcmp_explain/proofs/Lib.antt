@@ -3,6 +3,9 @@ pub mod HexValues
 pub mod ByteTexts
 pub mod DigitLaws
 pub mod DecodingLaws
+pub mod FormLaws
+pub mod LogLaws
+pub mod LogGrammar
 pub mod LinesLaws
 pub mod ExplainLaws
 pub mod TakeLaws

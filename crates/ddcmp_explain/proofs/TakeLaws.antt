@@ -17,7 +17,7 @@ use Rattle.ddcmp_explain.specs.Digits.{unexpected_in, left_in}
 use Rattle.ddcmp_io.specs.Input.{GaveMost}
 use Rattle.ddcmp_explain.specs.Explains.{refusal, refusal_by, Tells, Explains}
 use Rattle.ddcmp_explain.specs.Progress.{Progress}
-use Rattle.ddcmp_explain.proofs.DigitLaws.{unexpected-stays}
+use Rattle.ddcmp_explain.proofs.FormLaws.{unexpected-stays}
 
 -- so far, and each whole byte of it has been told
 pub record SoFar (max : ℕ) (start before left : Option (List ℕ)) (at : Explainer) (broken : Bool)

@@ -4,7 +4,7 @@ use Rattle.std.specs.Prelude.{option_to_list, Option, Some, None}
 use Rattle.std.specs.Simd.Lanes.{Each1, chunk}
 use Rattle.std.specs.Option.{option_map}
 use Rattle.ddcmp_explain.specs.declared.form.Form.{Form}
-use Rattle.ddcmp_explain.specs.declared.form.Form.TheVariants.{Hex, Raw}
+use Rattle.ddcmp_explain.specs.declared.form.Form.TheVariants.{Hex, Text, Raw}
 use Rattle.ddcmp_explain.specs.declared.decoder.Decoded.{Decoded}
 use Rattle.ddcmp_explain.specs.declared.hex_digits.TheConstants.{HEX_VALUES}
 use Rattle.ddcmp_explain.specs.Digits.{bytes_of, hex_value, left_in, pairs, unexpected_in}
@@ -12,6 +12,7 @@ use Rattle.ddcmp_explain.specs.Digits.{bytes_of, hex_value, left_in, pairs, unex
 -- where the bytes of a piece are: raw ones in the piece, those of digits in another array
 abbrev pub place_of : Form → List ℕ → List ℕ → List ℕ
 place_of Hex piece bytes = bytes
+place_of Text piece bytes = bytes
 place_of Raw piece bytes = piece
 
 -- a piece after what was seen: the further bytes that the two spell, their first unexpected byte,

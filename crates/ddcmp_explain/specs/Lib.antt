@@ -1,5 +1,6 @@
 pub mod Dumps
 pub mod Digits
+pub mod Logs
 pub mod Decoding
 pub mod Text
 pub mod Json

@@ -8,7 +8,7 @@ use Rattle.ddcmp_io.specs.Written.{Holds, Known}
 use Rattle.ddcmp_explain.specs.declared.explain_fault.ExplainFault.{ExplainFault}
 use Rattle.ddcmp_explain.specs.declared.lines.Lines.{Lines}
 use Rattle.ddcmp_explain.specs.declared.explainer.Explainer.{Explainer}
-use Rattle.ddcmp_explain.specs.Digits.{bytes_of, left_in, unexpected_in}
+use Rattle.ddcmp_explain.specs.Digits.{bytes_of, left_in, spot_in, unexpected_in}
 use Rattle.ddcmp_explain.specs.Discarded.{lines_in, reached}
 use Rattle.ddcmp_explain.specs.Explains.{Tells}
 use Rattle.ddcmp_explain.specs.Heads.{Heads}
@@ -41,6 +41,7 @@ pub record Progress (max : ℕ) (start : Known) (seen : List ℕ) (at : Explaine
     (sink : Known) : Type 0 where
   pub expected : unexpected_in at.decoder.form seen ≡ None
   pub left : left_in at.decoder.form seen ≡ option_to_list at.decoder.high
+  pub spot : spot_in at.decoder.form seen ≡ at.decoder.spot
   pub long : length seen ≡ at.seen
   pub told : HasTold max start (bytes_of at.decoder.form seen) at.lines broken sink
   pub written : Appends start sink (lines_in at.lines.style max (bytes_of at.decoder.form seen))

@@ -1,29 +1,33 @@
 //! The bytes that an input spells, piece by piece.
-ghost use Rattle.std.specs.Prelude.{◌≡◌, ◌≤◌, ◌<◌, IfSome, List, ℕ, None, Some, get_or, length};
-ghost use Rattle.std.specs.Prelude.{option_to_list, take};
+ghost use Rattle.std.specs.Prelude.{◌≡◌, ◌+◌, ◌≤◌, ◌<◌, ◌++◌, IfSome, List, ℕ, None, Some, length};
+ghost use Rattle.std.specs.Prelude.{get_or, option_to_list, take};
 ghost use Rattle.std.specs.Option.{ForSome};
-ghost use Rattle.ddcmp_explain.specs.Digits.{is_blank as is_blank_byte};
-ghost use Rattle.ddcmp_explain.specs.Digits.{hex_value as hex_value_of, left_in, unexpected_in};
+ghost use Rattle.ddcmp_explain.specs.Digits.{IsSmall, hex_value as hex_value_of, left_in, spot_in};
+ghost use Rattle.ddcmp_explain.specs.Digits.{unexpected_in};
 
 use crate::form::Form;
-use crate::hex_digits::hex_value;
+use crate::hex_digits::{hex_value, is_blank};
 use crate::hex_values::put_eight;
+use crate::spot::Spot;
 
 /// After how many bytes sixteen digits are looked for again.
 const SHORTEST: usize = 16;
 
 const LONGEST: usize = 1024;
 
-/// Turns an input in either form into bytes, and keeps the digit that is left over.
+/// Turns an input in one of the forms into bytes, and keeps the digit that is left over, and of a
+/// log where it stands.
 #[derive(Drop)]
 pub(crate) struct Decoder {
     pub(crate) form: Form,
     pub(crate) high: Option<u8>,
+    pub(crate) spot: Spot,
     ghost digit: { ForSome high (λ v. v < 16) },
+    ghost small: { IsSmall spot },
 }
 
 /// What came of a piece: how many bytes it made whole, and the index in the piece of its first
-/// byte that is neither a digit nor blank.
+/// byte that isn't allowed where it stands.
 #[derive(Clone, Copy)]
 pub(crate) struct Decoded {
     pub(crate) count: usize,
@@ -37,8 +41,13 @@ impl Decoder {
     pub(crate) fn new(form: Form) -> Self
         ensures form { result.form ≡ form }
         ensures none { result.high ≡ None }
+        ensures spot { result.spot ≡ Spot.Between }
     {
-        Decoder { form, high: None }
+        Decoder {
+            form,
+            high: None,
+            spot: Spot::Between,
+        }
     }
 
     /// Decodes a piece: of digits, into the front of `bytes`. Raw bytes stay where they are.
@@ -49,11 +58,16 @@ impl Decoder {
         ensures inside { IfSome result.unexpected (λ i. i < length piece.now) }
         ensures decodes { (seen : List ℕ) → unexpected_in self.old.form seen ≡ None
             → left_in self.old.form seen ≡ option_to_list self.old.high
+            → spot_in self.old.form seen ≡ self.old.spot
             → Decodes self.old.form seen piece.now result
             (place_of self.old.form piece.now bytes.new) self.new.high }
+        ensures spot { (seen : List ℕ) → unexpected_in self.old.form seen ≡ None
+            → spot_in self.old.form seen ≡ self.old.spot → result.unexpected ≡ None
+            → spot_in self.old.form (seen ++ piece.now) ≡ self.new.spot }
     {
         match self.form {
             Form::Hex => self.pair(piece, bytes),
+            Form::Text => self.spell(piece, bytes),
             Form::Raw => Decoded {
                 count: piece.len(),
                 unexpected: None,
@@ -68,7 +82,7 @@ impl Decoder {
         ensures { result.now ≡ take count (place_of self.now.form piece.now bytes.now) }
     {
         match self.form {
-            Form::Hex => &bytes[..count],
+            Form::Hex | Form::Text => &bytes[..count],
             Form::Raw => &piece[..count],
         }
     }
@@ -82,6 +96,7 @@ impl Decoder {
         ensures decodes { (seen : List ℕ) → unexpected_in Form.Hex seen ≡ None
             → left_in Form.Hex seen ≡ option_to_list self.old.high
             → Decodes Form.Hex seen piece.now result bytes.new self.new.high }
+        ensures spot { self.new.spot ≡ self.old.spot }
     {
         let mut count = 0;
         let mut i = 0;
@@ -133,6 +148,55 @@ impl Decoder {
             unexpected: None,
         }
     }
+
+    /// Makes bytes of a log, up to the first character that has no meaning where it stands.
+    fn spell(&mut self, piece: &[u8], bytes: &mut [u8]) -> Decoded
+        requires { length piece.now ≤ length bytes.old }
+        ensures form { self.new.form ≡ self.old.form }
+        ensures within { result.count ≤ length piece.now }
+        ensures inside { IfSome result.unexpected (λ i. i < length piece.now) }
+        ensures decodes { (seen : List ℕ) → unexpected_in Form.Text seen ≡ None
+            → spot_in Form.Text seen ≡ self.old.spot
+            → Decodes Form.Text seen piece.now result bytes.new self.new.high }
+        ensures spot { (seen : List ℕ) → unexpected_in Form.Text seen ≡ None
+            → spot_in Form.Text seen ≡ self.old.spot → result.unexpected ≡ None
+            → spot_in Form.Text (seen ++ piece.now) ≡ self.new.spot }
+    {
+        let mut count = 0;
+        let mut i = 0;
+        while i < piece.len() {
+            count = put(bytes, count, self.spot.complete(piece[i]));
+            self.spot = self.spot.after(piece[i]);
+            if self.spot.is_wrong() {
+                return Decoded {
+                    count,
+                    unexpected: Some(i),
+                };
+            }
+            i += 1;
+        }
+        self.high = self.spot.half();
+        Decoded {
+            count,
+            unexpected: None,
+        }
+    }
+}
+
+/// Puts a byte after others if one was completed, and returns how many there are then.
+#[inline(always)]
+fn put(bytes: &mut [u8], count: usize, completed: Option<u8>) -> usize
+    requires { count < length bytes.old }
+    ensures within { result ≤ count + 1 }
+    ensures put { take result bytes.new ≡ take count bytes.old ++ option_to_list completed }
+{
+    match completed {
+        Some(byte) => {
+            bytes[count] = byte;
+            count + 1
+        }
+        None => count,
+    }
 }
 
 /// Returns the value of the digit at `i`, if one is there.
@@ -146,11 +210,4 @@ fn value_at(piece: &[u8], i: usize) -> Option<u8>
     } else {
         None
     }
-}
-
-/// Space, tab, CR or LF.
-fn is_blank(byte: u8) -> bool
-    ensures { result ≡ is_blank_byte byte }
-{
-    byte == b' ' || byte == b'\t' || byte == b'\r' || byte == b'\n'
 }

@@ -1,6 +1,6 @@
 //! The values of hexadecimal digits.
 ghost use Rattle.std.specs.Prelude.{◌≡◌, ◌<◌, IfSome};
-ghost use Rattle.ddcmp_explain.specs.Digits.{hex_value as value_of};
+ghost use Rattle.ddcmp_explain.specs.Digits.{hex_value as value_of, is_blank as is_blank_byte};
 
 /// Returns the value of a hexadecimal digit of either case. It goes by a table, since digits of
 /// data come in no order that a branch could foresee.
@@ -11,6 +11,13 @@ pub(crate) fn hex_value(byte: u8) -> Option<u8>
 {
     let value = HEX_VALUES[usize::from(byte)];
     if value < 16 { Some(value) } else { None }
+}
+
+/// Space, tab, CR or LF.
+pub(crate) fn is_blank(byte: u8) -> bool
+    ensures { result ≡ is_blank_byte byte }
+{
+    byte == b' ' || byte == b'\t' || byte == b'\r' || byte == b'\n'
 }
 
 // Entry `b` is the value of the digit `b`, and 0xFF if `b` is none.

@@ -22,6 +22,7 @@ pub mod notation;
 mod put;
 mod reasons;
 mod skipped;
+mod spot;
 pub mod style;
 mod text;
 

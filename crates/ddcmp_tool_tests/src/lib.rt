@@ -1,5 +1,5 @@
 //! Tests of the tools from outside. Of `ddcmp_explain`: its text at every cut, size and fault, over
-//! streams and of dumps. Of `ddcmp_tap`, which explains a direction of a line: what that forwards,
+//! streams, of dumps and of logs. Of `ddcmp_tap`, which explains a direction of a line: what that forwards,
 //! its room and its text. Of `ddcmp_session`: two over bad lines, through days, its loop and its
 //! reports.
 //! Of the program: its words, its texts and its ends.
@@ -13,6 +13,8 @@ mod directions;
 mod dumps;
 #[cfg(test)]
 mod explains;
+#[cfg(test)]
+mod logs;
 #[cfg(test)]
 mod loops;
 #[cfg(test)]

@@ -77,9 +77,9 @@ static EXPLAIN_OPTIONS: [CommandOption; 6] = [
     },
     CommandOption {
         name: "from",
-        takes: Takes::Text("FORMAT"),
+        takes: Takes::Text("hexdump|xxd|od|text"),
         is_required: false,
-        help: "Read hexdump: the output of hexdump -C, xxd or od -A x -t x1",
+        help: "Read a dump, or digits as logs have them",
     },
     CommandOption {
         name: "json",

@@ -51,6 +51,7 @@ loop-i-preserved c =
     elim c.match-hex_value.branch [
       | in-Some+in-Some-high w ↦ record {
         form = ap (λ s. s.form) w.self-is ∙ c.loop-i.invariant.form;
+        spot = ap (λ s. s.spot) w.self-is ∙ c.loop-i.invariant.spot;
         within = omega (arith, w.count-is, w.i-is, c.loop-i.invariant.within);
         inside = omega (arith, w.i-is, inside);
         waits = waits;
@@ -76,6 +77,7 @@ loop-i-preserved c =
       }
       | in-Some+in-None-high+in-Some-value_at w ↦ record {
         form = ap (λ s. s.form) w.self-is ∙ c.loop-i.invariant.form;
+        spot = ap (λ s. s.spot) w.self-is ∙ c.loop-i.invariant.spot;
         within = omega (arith, w.count-is, w.i-is, c.loop-i.invariant.within);
         inside = omega (arith, w.i-is, w.in-Some-value_at.ensures.inside.1);
         waits = waits;
@@ -102,6 +104,7 @@ loop-i-preserved c =
       }
       | in-Some+in-None-high+in-None-value_at w ↦ record {
         form = ap (λ s. s.form) w.self-is ∙ c.loop-i.invariant.form;
+        spot = ap (λ s. s.spot) w.self-is ∙ c.loop-i.invariant.spot;
         within = omega (arith, w.count-is, w.i-is, c.loop-i.invariant.within);
         inside = omega (arith, w.i-is, inside);
         waits = waits;
@@ -119,6 +122,7 @@ loop-i-preserved c =
       }
       | in-None+else-not-is_blank w ↦ record {
         form = ap (λ s. s.form) w.self-is ∙ c.loop-i.invariant.form;
+        spot = ap (λ s. s.spot) w.self-is ∙ c.loop-i.invariant.spot;
         within = omega (arith, w.count-is, w.i-is, c.loop-i.invariant.within);
         inside = omega (arith, w.i-is, inside);
         waits = waits;
@@ -141,6 +145,7 @@ loop-i-preserved-then-put_eight c =
     let put = c.put_eight.ensures.put c.if-put_eight.true in
     record {
       form = c.loop-i.invariant.form;
+      spot = c.loop-i.invariant.spot;
       within = omega (arith, c.loop-i.invariant.within);
       inside = put.inside;
       waits = omega arith;

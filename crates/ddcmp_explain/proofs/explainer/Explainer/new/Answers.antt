@@ -4,7 +4,8 @@ use Rattle.std.specs.Io.KnownBytes.{Appends}
 use Rattle.std.proofs.KnownBytes.{Appends-nil}
 use Rattle.ddcmp_explain.specs.Discarded.{lines_in}
 use Rattle.ddcmp_explain.specs.Progress.{HasTold}
-use Rattle.ddcmp_explain.proofs.DigitLaws.{nothing-unexpected, nothing-spelled, nothing-left}
+use Rattle.ddcmp_explain.proofs.FormLaws.{nothing-begun, nothing-left, nothing-spelled}
+use Rattle.ddcmp_explain.proofs.FormLaws.{nothing-unexpected}
 use Rattle.ddcmp_explain.proofs.LinesLaws.{lines-nothing}
 use Rattle.ddcmp_explain.proofs.explainer.Explainer.new.Goals as goal
 
@@ -16,6 +17,7 @@ returns-clause-progress c = λ start.
     record {
       expected = nothing-unexpected c.new.result.form;
       left = nothing-left c.new.result.form ∙ ap option_to_list (sym c.new.ensures.none);
+      spot = nothing-begun c.new.result.form ∙ sym c.new.ensures.spot;
       long = refl;
       told =
           subst (λ b. HasTold max start b c.new-2.result false start) (sym none)

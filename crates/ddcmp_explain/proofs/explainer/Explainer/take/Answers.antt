@@ -14,7 +14,7 @@ returns-in-Some-2-clause-takes g c = λ max start seen p left.
     let form = c.args.self.now.decoder.form in
     let style = c.push_all.new.self.style in
     let piece = c.args.piece.now in
-    let decoded = c.decode-decoded.ensures.decodes seen p.expected p.left in
+    let decoded = c.decode-decoded.ensures.decodes seen p.expected p.left p.spot in
     let whole =
     spelled-by c.decode-decoded.new.bytes decoded c.decode-decoded.ensures.form
     c.decoded-whole.ensures in
@@ -40,7 +40,7 @@ returns-in-Err-clause-takes g c = λ max start seen p left.
     let form = c.args.self.now.decoder.form in
     let style = c.push_all.new.self.style in
     let piece = c.args.piece.now in
-    let decoded = c.decode-decoded.ensures.decodes seen p.expected p.left in
+    let decoded = c.decode-decoded.ensures.decodes seen p.expected p.left p.spot in
     let whole =
     spelled-by c.decode-decoded.new.bytes decoded c.decode-decoded.ensures.form
     c.decoded-whole.ensures in
@@ -58,7 +58,7 @@ returns-in-Err-clause-takes g c = λ max start seen p left.
 
 pub returns-in-None-clause-takes : goal.returns-in-None-clause-takes
 returns-in-None-clause-takes g c = λ max start seen p.
-    let decoded = c.decode-decoded.ensures.decodes seen p.expected p.left in
+    let decoded = c.decode-decoded.ensures.decodes seen p.expected p.left p.spot in
     let whole =
     spelled-by c.decode-decoded.new.bytes decoded c.decode-decoded.ensures.form
     c.decoded-whole.ensures in
@@ -68,6 +68,9 @@ returns-in-None-clause-takes g c = λ max start seen p.
           decoded.unexpected ∙ ap (option_map _) c.in-None.is
           );
       left = rw (c.decode-decoded.ensures.form) (decoded.left c.in-None.is);
+      spot = rw (c.decode-decoded.ensures.form) (
+          c.decode-decoded.ensures.spot seen p.expected p.spot c.in-None.is
+          );
       long = length-append seen c.args.piece.now ∙ omega (arith, p.long);
       told = rw (c.decode-decoded.ensures.form, whole) told.0;
       written = rw (c.flush.ensures.style, c.decode-decoded.ensures.form, whole) told.1;
@@ -75,7 +78,7 @@ returns-in-None-clause-takes g c = λ max start seen p.
 
 pub returns-in-Some-clause-takes : goal.returns-in-Some-clause-takes
 returns-in-Some-clause-takes g c = λ max start seen p left.
-    let decoded = c.decode-decoded.ensures.decodes seen p.expected p.left in
+    let decoded = c.decode-decoded.ensures.decodes seen p.expected p.left p.spot in
     let whole =
     spelled-by c.decode-decoded.new.bytes decoded c.decode-decoded.ensures.form
     c.decoded-whole.ensures in
