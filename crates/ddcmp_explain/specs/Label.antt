@@ -7,12 +7,16 @@ use Rattle.ddcmp_frame.specs.declared.header.Header.TheVariants.{Data, Maint, Co
 use Rattle.ddcmp_frame.specs.declared.item.Item.{Item}
 use Rattle.ddcmp_frame.specs.declared.item.Item.TheVariants.{Good, HeaderCheck, DataCheck, TooLong}
 use Rattle.ddcmp_frame.specs.declared.item.Item.TheVariants.{Format}
+use Rattle.ddcmp_frame.specs.Naks.{reason_of}
+use Rattle.ddcmp_explain.specs.Json.{reason_in_words}
 use Rattle.ddcmp_explain.specs.Text.{fault_text}
 
--- of a control frame the fields that it means
+-- of a control frame the fields that it means, and why a NAK was sent
 abbrev pub control_label : ControlType → ℕ → ℕ → ℕ → List ℕ
 control_label Ack sub resp num = codes "ACK resp=" ++ decimal resp
-control_label Nak sub resp num = codes "NAK " ++ decimal sub ++ codes " resp=" ++ decimal resp
+control_label Nak sub resp num =
+    codes "NAK " ++ decimal sub ++ codes " (" ++ reason_in_words (reason_of sub) ++ codes ") resp="
+    ++ decimal resp
 control_label Rep sub resp num = codes "REP " ++ decimal num
 control_label Strt sub resp num = codes "STRT"
 control_label Stack sub resp num = codes "STACK"

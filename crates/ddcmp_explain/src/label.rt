@@ -1,24 +1,31 @@
 //! The short labels of frames, for pictures.
 ghost use Rattle.std.specs.Prelude.{◌+◌, ◌≤◌, ◌++◌, codes, decimal, if◌then◌else◌, ◌==◌};
+ghost use Rattle.ddcmp_frame.specs.Naks.{reason_of};
+ghost use Rattle.ddcmp_explain.specs.Json.{reason_in_words};
 ghost use Rattle.ddcmp_explain.specs.Label.{control_label, count_label, frame_label, item_label};
 ghost use Rattle.ddcmp_explain.specs.Putting.{Puts};
 
-use crate::put::{LINE, put, put_byte, put_number};
+use crate::put::{LINE, put, put_byte, put_number, put_slice};
+use crate::reasons::reason_name;
 use crate::text::put_fault;
-use ddcmp_frame::{ControlType, Header, Item};
+use ddcmp_frame::{ControlType, Header, Item, Nak};
 
 /// More than the label of an item takes.
 pub const LABEL_ROOM: usize = 192;
 
+/// A NAK with its reason, from its SUBTYPE.
 fn put_nak_label(line: &mut [u8; LINE], at: usize, sub: u8, resp: u8) -> usize
-    requires { at + 16 ≤ LINE }
+    requires { at + 49 ≤ LINE }
     ensures puts { Puts line.old at line.new result
-        (codes "NAK " ++ decimal sub ++ codes " resp=" ++ decimal resp) }
-    ensures within { result ≤ at + 16 }
+        (codes "NAK " ++ decimal sub ++ codes " (" ++ reason_in_words (reason_of sub)
+        ++ codes ") resp=" ++ decimal resp) }
+    ensures within { result ≤ at + 49 }
 {
     let at_sub = put(line, at, b"NAK ");
     let behind_sub = put_byte(line, at_sub, sub);
-    let at_resp = put(line, behind_sub, b" resp=");
+    let at_reason = put(line, behind_sub, b" (");
+    let behind_reason = put_slice(line, at_reason, reason_name(Nak::of(sub)));
+    let at_resp = put(line, behind_reason, b") resp=");
     put_byte(line, at_resp, resp)
 }
 
@@ -31,9 +38,9 @@ fn put_control_label(
     resp: u8,
     num: u8,
 ) -> usize
-    requires { at + 16 ≤ LINE }
+    requires { at + 49 ≤ LINE }
     ensures puts { Puts line.old at line.new result (control_label kind sub resp num) }
-    ensures within { result ≤ at + 16 }
+    ensures within { result ≤ at + 49 }
 {
     match kind {
         ControlType::Ack => {
@@ -90,9 +97,9 @@ fn put_data_label(line: &mut [u8; LINE], at: usize, num: u8, resp: u8, count: u1
 
 /// Returns the label of a frame, by its header.
 fn put_frame_label(line: &mut [u8; LINE], at: usize, header: &Header) -> usize
-    requires { at + 46 ≤ LINE }
+    requires { at + 49 ≤ LINE }
     ensures puts { Puts line.old at line.new result (frame_label header.now) }
-    ensures within { result ≤ at + 46 }
+    ensures within { result ≤ at + 49 }
 {
     match header {
         Header::Data(h) => put_data_label(line, at, h.num, h.resp, h.count),
@@ -107,7 +114,7 @@ fn put_frame_label(line: &mut [u8; LINE], at: usize, header: &Header) -> usize
 /// Puts the label of a frame; returns where it ends.
 pub fn label_frame(line: &mut [u8; LABEL_ROOM], header: &Header) -> usize
     ensures puts { Puts line.old 0 line.new result (frame_label header.now) }
-    ensures within { result ≤ 46 }
+    ensures within { result ≤ 49 }
 {
     put_frame_label(line, 0, header)
 }
