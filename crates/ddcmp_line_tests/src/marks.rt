@@ -74,12 +74,13 @@ const USUAL: Config = Config {
 
 fn script() -> &'static [u8] {
     b"start A\npoll A\ncut A 3\nlose A\nlose A\npass A\npoll A\nexpire A\npoll A\n\
-    damage A 0 01\nraw B 05\ntake B\nstate B\nclear\n"
+    damage A 3 01\npass A\nexpire A\npoll A\ndamage A 0 01\nraw B 05\ntake B\nstate B\nclear\n"
 }
 
 fn marks() -> &'static [u8] {
     b"A start, now IStart\nA sends STRT\nA cut: STRT, 3 of 8\nA lost: STRT, rest\n\
     A nothing to lose\nA nothing to pass\nA idle\nA expired\nA sends STRT\n\
+    A arrived: STRT, damaged\nB header check wrong\nA expired\nA sends STRT\n\
     B gets bytes: 05\nB nothing to take\nB Halted R=0 N=0 A=0 T=1\nB out=0 in=0 timer=off\n\
     line not cleared: not halted\nA on its way: STRT, damaged\n"
 }

@@ -1,7 +1,8 @@
 -- What labels and notes say.
-use Rattle.std.specs.Prelude.{ℕ, ◌-◌, if◌then◌else◌, nat_lt, ◌&&◌, ◌==◌, List, [], ◌∷◌}
+use Rattle.std.specs.Prelude.{ℕ, Bool, ◌-◌, if◌then◌else◌, nat_lt, ◌&&◌, ◌==◌, List, [], ◌∷◌}
 use Rattle.std.specs.Prelude.{length, take, slice_index, codes, decimal, Option, Some, None}
 use Rattle.ddcmp_core.specs.Table.{StationState, is_on}
+use Rattle.ddcmp_core.specs.declared.counters.Counters.{Counters}
 use Rattle.ddcmp_core.specs.declared.notice.Notice.{Notice}
 use Rattle.ddcmp_explain.specs.Label.{frame_label}
 use Rattle.ddcmp_frame.specs.Spelling.{parsed}
@@ -13,7 +14,7 @@ use Rattle.ddcmp_script_text.specs.ScriptText.{start_refusal_text, clear_refusal
 use Rattle.ddcmp_script_text.specs.ScriptText.{send_refusal_text, expired_text}
 use Rattle.ddcmp_station_text.specs.StationText.{notice_word, notice_number, state_text}
 use Rattle.ddcmp_picture.specs.declared.short_text.ShortText.{ShortText}
-use Rattle.ddcmp_picture.specs.ShortTexts.{no_text, with_text, bytes_shown}
+use Rattle.ddcmp_picture.specs.ShortTexts.{no_text, is_blank, with_text, bytes_shown}
 
 -- a short text of these words
 abbrev pub words : List ℕ → ShortText
@@ -53,6 +54,19 @@ with_count t (Some n) = with_number t n
 abbrev pub notice_label : Notice → ShortText
 notice_label notice =
     with_count (with_text (words (codes "notice ")) (notice_word notice)) (notice_number notice)
+
+-- what an end saw in what arrived, by what it has counted before and now; each fault is named once
+unfoldable pub with_fault : Bool → List ℕ → ShortText → ShortText
+with_fault is_there fault t =
+    if is_there then with_text (if is_blank t then t else with_text t (codes ", ")) fault else t
+
+abbrev pub faults_label : Counters → Counters → ShortText
+faults_label before now =
+    with_fault (nat_lt before.formats now.formats) (codes "header format error")
+    (with_fault (nat_lt before.too_longs now.too_longs) (codes "message too long")
+    (with_fault (nat_lt before.data_checks now.data_checks) (codes "data check wrong")
+    (with_fault (nat_lt before.header_checks now.header_checks) (codes "header check wrong")
+    no_text)))
 
 -- the state of a station and its numbers
 abbrev pub numbers_label : StationState → ShortText

@@ -1,7 +1,7 @@
 -- The marks that the steps of a run put into a picture.
-use Rattle.std.specs.Prelude.{ℕ, Bool, true, false, ◌||◌, ◌==◌, if◌then◌else◌, nat_lt, List, []}
-use Rattle.std.specs.Prelude.{◌∷◌}
-use Rattle.std.specs.Prelude.{◌++◌, length, map, drop, min, codes, decimal, Option, Some, None}
+use Rattle.std.specs.Prelude.{ℕ, Bool, true, false, ◌||◌, ◌&&◌, ◌==◌, if◌then◌else◌, nat_lt}
+use Rattle.std.specs.Prelude.{List, [], ◌∷◌, ◌++◌, length, map, drop, min, codes, decimal, Option, Some, None}
+use Rattle.ddcmp_core.specs.Core.{CoreView}
 use Rattle.ddcmp_core.specs.Table.{StationState}
 use Rattle.ddcmp_core.specs.declared.notice.Notice.{Notice}
 use Rattle.ddcmp_core.specs.declared.notice.Notice.TheVariants as notice
@@ -30,11 +30,12 @@ use Rattle.ddcmp_picture.specs.declared.mark.Fate.TheVariants.{Arrived, Cut, Los
 use Rattle.ddcmp_picture.specs.declared.mark.Mark.{Mark}
 use Rattle.ddcmp_picture.specs.declared.mark.Mark.TheVariants.{Note, Across, Departs, Ends, Appears}
 use Rattle.ddcmp_picture.specs.declared.mark.Trip.{Trip}
+use Rattle.ddcmp_picture.specs.declared.states.Seen.{Seen}
 use Rattle.ddcmp_picture.specs.declared.states.States.{States}
 use Rattle.ddcmp_picture.specs.declared.short_text.ShortText.{ShortText}
 use Rattle.ddcmp_picture.specs.Labels.{words, label_of, line_of, notice_label, reply_label}
-use Rattle.ddcmp_picture.specs.Labels.{numbers_label, holding_label}
-use Rattle.ddcmp_picture.specs.ShortTexts.{with_text, bytes_shown}
+use Rattle.ddcmp_picture.specs.Labels.{numbers_label, holding_label, faults_label}
+use Rattle.ddcmp_picture.specs.ShortTexts.{is_blank, with_text, bytes_shown}
 use Rattle.ddcmp_picture.specs.Trips.{Trips, no_trips, trips_of, with_trips, with_first, rest_of}
 use Rattle.ddcmp_picture.specs.Trips.{damaged_by}
 
@@ -61,16 +62,26 @@ unfoldable pub name_state : List Notice → State → Bool
 name_state [] now = false
 name_state (it ∷ rest) now = names_state it now || name_state rest now
 
+-- the state of an end, and what it has counted
+abbrev pub seen_of : CoreView → Seen
+seen_of c = record { state = c.station.state; counters = c.counters }
+
+abbrev pub seen_now : End → PairState → Seen
+seen_now e p = seen_of (at e p).core
+
 abbrev pub state_of : End → PairState → State
 state_of e p = (at e p).core.station.state
 
--- the states of both ends
+-- of both ends
 abbrev pub states_in : PairState → States
-states_in p = record { a = p.a.core.station.state; b = p.b.core.station.state }
+states_in p = record { a = seen_of p.a.core; b = seen_of p.b.core }
+
+abbrev pub seen_at : End → States → Seen
+seen_at A states = states.a
+seen_at B states = states.b
 
 abbrev pub state_at : End → States → State
-state_at A states = states.a
-state_at B states = states.b
+state_at e states = (seen_at e states).state
 
 -- ---- notes
 
@@ -86,15 +97,25 @@ notice_marks to is_beside [] = []
 notice_marks to is_beside (it ∷ rest) =
     Note to (notice_label it) is_beside ∷ notice_marks to false rest
 
--- and the state, if it is another and no notice says so
-abbrev pub now_marks : End → List Notice → State → State → List Mark
-now_marks to notices before now =
-    if same_state before now || name_state notices now then []
-    else Note to (with_text (words (codes "now ")) (state_text now)) (length notices == 0) ∷ []
+-- what was wrong with what arrived
+abbrev pub fault_marks : End → Bool → ShortText → List Mark
+fault_marks to is_beside faults =
+    if is_blank faults then [] else Note to faults is_beside ∷ []
 
-abbrev pub told_marks : End → List Notice → State → State → List Mark
+-- and the state, if it is another and no notice says so
+abbrev pub now_marks : End → Bool → List Notice → State → State → List Mark
+now_marks to is_beside notices before now =
+    if same_state before now || name_state notices now then []
+    else Note to (with_text (words (codes "now ")) (state_text now)) is_beside ∷ []
+
+-- what an end made of an arrival: its notices, the faults that it saw, and its state
+abbrev pub told_marks : End → List Notice → Seen → Seen → List Mark
 told_marks to notices before now =
-    notice_marks to true notices ++ now_marks to notices before now
+    notice_marks to true notices
+    ++ fault_marks to (length notices == 0) (faults_label before.counters now.counters)
+    ++ now_marks to
+    ((length notices == 0) && is_blank (faults_label before.counters now.counters)) notices
+    before.state now.state
 
 abbrev pub sent_label : List ℕ → Reply → ShortText
 sent_label message (reply.Accepted number) =
@@ -187,8 +208,8 @@ abbrev pub notices_in : Reply → List Notice
 notices_in (reply.Notices notices) = notices
 notices_in r = []
 
--- what a picture has before a step: what the line asks for, the row of the next mark, the states of
--- both ends, and the frames in flight
+-- what a picture has before a step: what the line asks for, the row of the next mark, what was seen
+-- of both ends, and the frames in flight
 pub record Sight : Type 0 where
   pub asked : Asked
   pub row : ℕ
@@ -209,7 +230,7 @@ step_marks (event.Expire e) r now s =
     expired_marks e (is_settle s.asked) r (state_at e s.states) (state_of e now)
 step_marks (event.Arrive to bytes) r now s =
     arrived_marks s.asked to bytes s.trips
-    ++ told_marks to (notices_in r) (state_at to s.states) (state_of to now)
+    ++ told_marks to (notices_in r) (seen_at to s.states) (seen_now to now)
 
 -- and the frames in flight after it
 abbrev pub step_trips : Event → Reply → Sight → Trips

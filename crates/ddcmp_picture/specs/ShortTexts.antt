@@ -1,12 +1,15 @@
 -- Short texts: what labels and notes are made of.
-use Rattle.std.specs.Prelude.{ℕ, ◌+◌, if◌then◌else◌, nat_lt, List, [], ◌∷◌, ◌++◌, length, take, min}
-use Rattle.std.specs.Prelude.{slice_set, codes, decimal, replicate}
+use Rattle.std.specs.Prelude.{ℕ, Bool, ◌+◌, ◌==◌, if◌then◌else◌, nat_lt, List, [], ◌∷◌, ◌++◌}
+use Rattle.std.specs.Prelude.{length, take, min, slice_set, codes, decimal, replicate}
 use Rattle.hex.specs.Hex.{encode_lower}
 use Rattle.ddcmp_picture.specs.declared.short_text.ShortText.{ShortText}
 
 -- no text
 abbrev pub no_text : ShortText
 no_text = record { bytes = replicate 96 32; len = 0 }
+
+abbrev pub is_blank : ShortText → Bool
+is_blank t = t.len == 0
 
 -- the bytes that are in it
 abbrev pub text_in : ShortText → List ℕ

@@ -7,7 +7,8 @@ ghost use Rattle.ddcmp_picture.specs.Marks.{is_settle, polled_marks, polled_trip
 ghost use Rattle.ddcmp_picture.specs.Marks.{arrived_marks, arrived_trips, carry_asked, carry_marks};
 ghost use Rattle.ddcmp_picture.specs.Marks.{cleared_marks, cleared_trips, expired_marks};
 ghost use Rattle.ddcmp_picture.specs.Marks.{notices_in};
-ghost use Rattle.ddcmp_picture.specs.Marks.{settle_marks, state_at, state_of, told_marks};
+ghost use Rattle.ddcmp_picture.specs.Marks.{seen_at, seen_now, settle_marks, state_at, state_of};
+ghost use Rattle.ddcmp_picture.specs.Marks.{told_marks};
 ghost use Rattle.ddcmp_picture.specs.Trips.{no_trips};
 ghost use Rattle.ddcmp_picture.specs.Marks.{settled_label, step_marks, step_trips, states_in};
 
@@ -19,7 +20,7 @@ use crate::mark::{Fate, Mark, Trip};
 use crate::notes::{across, answer, look, note, sent, tell};
 use crate::paper::Paper;
 use crate::replies::{answer_text, words};
-use crate::states::States;
+use crate::states::{Seen, States};
 use ddcmp_pair::{End, Event, Pair, Recovered, Reply, Settled};
 use ddcmp_script_text::ScriptCommand;
 use std::alloc::Global;
@@ -29,7 +30,7 @@ use std::alloc::Global;
 pub struct Drawing<P> {
     pub(crate) flights: Flights,
     pub paper: P,
-    /// The states before the next step.
+    /// What was seen of both ends before the next step.
     pub(crate) states: States,
     pub(crate) asked: Asked,
     /// Whether there was memory for all frames in flight.
@@ -123,7 +124,7 @@ impl<P: Paper + Drop> Drawing<P> {
                 return;
             }
         }
-        let (before, now) = (self.states.at(end), pair.station(end).state());
+        let (before, now) = (self.states.at(end).state, pair.station(end).state());
         answer(&mut self.paper, end, reply, before, now);
     }
 
@@ -173,22 +174,22 @@ impl<P: Paper + Drop> Drawing<P> {
         }
     }
 
-    /// The notices of an arrival.
+    /// What an end made of an arrival.
     fn noticed(&mut self, pair: &Pair, to: End, reply: &Reply)
         ensures marks { Logs (P.drawn self.old.paper) (P.drawn self.new.paper)
-            (told_marks to (notices_in reply.now) (state_at to self.old.states)
-            (state_of to pair.now)) }
+            (told_marks to (notices_in reply.now) (seen_at to self.old.states)
+            (seen_now to pair.now)) }
         ensures trips { self.new.flights ≡ self.old.flights }
         ensures whole { self.new.is_whole ≡ self.old.is_whole }
         ensures states { self.new.states ≡ self.old.states }
         ensures asked { self.new.asked ≡ self.old.asked }
     {
-        let (before, now) = (self.states.at(to), pair.station(to).state());
+        let (before, now) = (self.states.at(to), Seen::of(pair, to));
         match reply {
             Reply::Notices(notices) => {
-                tell(&mut self.paper, to, notices.as_slice(), before, now);
+                tell(&mut self.paper, to, notices.as_slice(), before, &now);
             }
-            _ => tell(&mut self.paper, to, &[], before, now),
+            _ => tell(&mut self.paper, to, &[], before, &now),
         }
     }
 
@@ -219,7 +220,7 @@ impl<P: Paper + Drop> Drawing<P> {
             Event::Send(end, message) => sent(&mut self.paper, *end, message.as_slice(), reply),
             Event::Clear => self.cleared(reply),
             Event::Start(end) | Event::Halt(end) => {
-                let (before, now) = (self.states.at(*end), pair.station(*end).state());
+                let (before, now) = (self.states.at(*end).state, pair.station(*end).state());
                 answer(&mut self.paper, *end, reply, before, now);
             }
             Event::Expire(end) => self.expired(pair, *end, reply),

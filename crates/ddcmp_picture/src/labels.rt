@@ -1,12 +1,14 @@
 //! The labels of frames, and the words for what ends do.
 ghost use Rattle.std.specs.Prelude.{◌≡◌, ◌≤◌, ◌<◌, length, take, drop, MatchOption};
 ghost use Rattle.ddcmp_picture.specs.Labels.{after_fill, header_in, label_of as label, line_of};
-ghost use Rattle.ddcmp_picture.specs.Labels.{notice_label, numbers_label, holding_label};
+ghost use Rattle.ddcmp_picture.specs.Labels.{faults_label, notice_label, numbers_label};
+ghost use Rattle.ddcmp_picture.specs.Labels.{holding_label, with_fault};
 
 use crate::short_text::ShortText;
 use ddcmp_explain::{LABEL_ROOM, label_frame};
 use ddcmp_frame::Header;
 use ddcmp_pair::{Notice, Station};
+use ddcmp_proto::Counters;
 use ddcmp_station_text::{notice_name, notice_number, state_name};
 
 /// The fill before a frame.
@@ -74,6 +76,36 @@ pub(crate) fn notice_text(notice: Notice) -> ShortText
         Some(number) => text.with_number(number as u64),
         None => text,
     }
+}
+
+/// The same, followed by a fault if it is there.
+#[tactic(auto, unfolding(crate::specs::Labels::with_fault))]
+fn with_fault_text(text: ShortText, is_there: bool, fault: &[u8]) -> ShortText
+    ensures { result ≡ with_fault is_there fault.now text }
+{
+    if !is_there {
+        return text;
+    }
+    let front = if text.is_blank() {
+        text
+    } else {
+        text.with(b", ")
+    };
+    front.with(fault)
+}
+
+/// What an end saw in what arrived, by what it has counted before and now.
+pub(crate) fn faults_text(before: &Counters, now: &Counters) -> ShortText
+    ensures { result ≡ faults_label before.now now.now }
+{
+    let is_header = before.header_checks < now.header_checks;
+    let is_data = before.data_checks < now.data_checks;
+    let is_long = before.too_longs < now.too_longs;
+    let is_format = before.formats < now.formats;
+    let header = with_fault_text(ShortText::new(), is_header, b"header check wrong");
+    let data = with_fault_text(header, is_data, b"data check wrong");
+    let long = with_fault_text(data, is_long, b"message too long");
+    with_fault_text(long, is_format, b"header format error")
 }
 
 /// The state of a station and its numbers.

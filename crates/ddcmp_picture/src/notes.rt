@@ -2,14 +2,16 @@
 ghost use Rattle.std.specs.Prelude.{◌≡◌, [], ◌∷◌, true, false};
 ghost use Rattle.ddcmp_io.specs.Device.{Logs};
 ghost use Rattle.ddcmp_picture.specs.Labels.{reply_label};
-ghost use Rattle.ddcmp_picture.specs.Marks.{answer_label, look_marks, name_state, names_state};
+ghost use Rattle.ddcmp_picture.specs.Marks.{answer_label, fault_marks, look_marks, name_state};
+ghost use Rattle.ddcmp_picture.specs.Marks.{names_state, now_marks};
 ghost use Rattle.ddcmp_picture.specs.Marks.{notice_marks, same_state, sent_label, told_marks};
 
-use crate::labels::{holding_text, notice_text, numbers_text};
+use crate::labels::{faults_text, holding_text, notice_text, numbers_text};
 use crate::mark::Mark;
 use crate::paper::Paper;
 use crate::replies::{answer_text, words};
 use crate::short_text::ShortText;
+use crate::states::Seen;
 use ddcmp_pair::{End, Notice, Reply, State, Station};
 use ddcmp_station_text::state_name;
 
@@ -103,21 +105,47 @@ fn tell_notices<P: Paper>(paper: &mut P, to: End, notices: &[Notice])
     }
 }
 
-/// The notices of an arrival, in its row and below, and the state if no notice says it.
-#[tactic(auto, using(crate::proofs::NoteLaws::logs_then, crate::proofs::NoteLaws::logs_only))]
-pub(crate) fn tell<P: Paper>(paper: &mut P, to: End, notices: &[Notice], before: State, now: State)
-    ensures { Logs (P.drawn paper.old) (P.drawn paper.new)
-        (told_marks to notices.now before now) }
+/// What was wrong with an arrival, if anything was.
+#[tactic(auto, using(crate::proofs::NoteLaws::logs_none))]
+fn tell_faults<P: Paper>(paper: &mut P, to: End, is_beside: bool, faults: ShortText)
+    ensures { Logs (P.drawn paper.old) (P.drawn paper.new) (fault_marks to is_beside faults) }
 {
-    tell_notices(paper, to, notices);
-    if !is_same(before, now) && !name(notices, now) {
-        note(
-            paper,
-            to,
-            words(b"now ").with(state_name(now)),
-            notices.is_empty(),
-        );
+    if !faults.is_blank() {
+        note(paper, to, faults, is_beside);
     }
+}
+
+/// The state after an arrival, if it is another and no notice says so.
+#[tactic(auto, using(crate::proofs::NoteLaws::logs_none))]
+fn tell_state<P: Paper>(
+    paper: &mut P,
+    to: End,
+    is_beside: bool,
+    notices: &[Notice],
+    before: State,
+    now: State,
+)
+    ensures { Logs (P.drawn paper.old) (P.drawn paper.new)
+        (now_marks to is_beside notices.now before now) }
+{
+    if !is_same(before, now) && !name(notices, now) {
+        let text = words(b"now ").with(state_name(now));
+        note(paper, to, text, is_beside);
+    }
+}
+
+/// What an end made of an arrival, in its row and below: its notices, the faults that it saw, and
+/// the state if no notice says it.
+#[tactic(auto, using(crate::proofs::NoteLaws::logs_then))]
+pub(crate) fn tell<P: Paper>(paper: &mut P, to: End, notices: &[Notice], before: &Seen, now: &Seen)
+    ensures { Logs (P.drawn paper.old) (P.drawn paper.new)
+        (told_marks to notices.now before.now now.now) }
+{
+    let faults = faults_text(&before.counters, &now.counters);
+    let is_beside = notices.is_empty() && faults.is_blank();
+    tell_notices(paper, to, notices);
+    tell_faults(paper, to, notices.is_empty(), faults);
+    tell_state(paper, to, is_beside, notices, before.state, now.state);
 }
 
 /// The state of a station and its numbers, and what it holds.

@@ -2,7 +2,7 @@
 ghost use Rattle.std.specs.Prelude.{◌≡◌, ◌<◌, decimal, slice_index};
 ghost use Rattle.hex.specs.Hex.{lower_digits};
 ghost use Rattle.ddcmp_picture.specs.ShortTexts.{no_text, text_in, with_byte, with_text};
-ghost use Rattle.ddcmp_picture.specs.ShortTexts.{bytes_shown};
+ghost use Rattle.ddcmp_picture.specs.ShortTexts.{bytes_shown, is_blank};
 
 use itoa::Buffer;
 
@@ -36,6 +36,12 @@ impl ShortText {
             bytes: [b' '; ROOM],
             len: 0,
         }
+    }
+
+    pub(crate) fn is_blank(&self) -> bool
+        ensures { result ≡ is_blank self.now }
+    {
+        self.len == 0
     }
 
     pub fn as_slice(&self) -> &[u8]
