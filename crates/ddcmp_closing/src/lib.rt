@@ -43,8 +43,8 @@ fn write_last_line<W: Sink>(page: &mut Page, writer: &mut W, pair: &Pair)
     page.write(writer, b"\n");
 }
 
-/// A line of the counters of each station.
-fn write_both_counters<W: Sink>(page: &mut Page, writer: &mut W, pair: &Pair)
+/// Writes the counters of both stations, a line each.
+pub fn write_both_counters<W: Sink>(page: &mut Page, writer: &mut W, pair: &Pair)
     ensures { HandsOver (output_of W.broken W.contents writer.old page.old)
         (output_of W.broken W.contents writer.new page.new) (counters_lines pair.now) }
 {

@@ -3,3 +3,4 @@ pub mod ShortTexts
 pub mod Labels
 pub mod Trips
 pub mod Marks
+pub mod Captions

@@ -1,6 +1,7 @@
 //! What is drawn on: a terminal, or the sheet of a document.
 ghost use Rattle.std.specs.Prelude.{◌≡◌, false, IsTrue};
 
+use crate::caption::write_caption_text;
 use crate::ladder::{write_ladder, write_ladder_head};
 use crate::mark::Mark;
 use crate::paper::Paper;
@@ -76,14 +77,32 @@ impl Canvas {
     ) -> bool {
         let is_drawn = self.draft.flush(&mut self.sheet).is_ok();
         let mut caption = MemorySink::new(alloc);
-        if let Some(pair) = closing {
-            write_closing(&mut self.draft, &mut caption, pair, counted);
-        }
+        let is_counted = match closing {
+            Some(pair) => self.write_closing(alloc, &mut caption, pair, counted),
+            None => true,
+        };
         let is_said = self.draft.flush(&mut caption).is_ok();
         let mut page = Page::new();
         self.write_out(&mut page, writer, caption.bytes.as_slice());
         let _the_writer_tells = page.flush(writer);
-        is_drawn && is_said
+        is_drawn && is_counted && is_said
+    }
+
+    /// Writes what has been done, all of it below a ladder; returns whether there was memory.
+    fn write_closing(
+        &mut self,
+        alloc: Global,
+        caption: &mut MemorySink,
+        pair: &Pair,
+        counted: bool,
+    ) -> bool {
+        match self.picture {
+            Picture::Ladder => {
+                write_closing(&mut self.draft, caption, pair, counted);
+                true
+            }
+            Picture::Svg => write_caption_text(alloc, &mut self.draft, caption, pair, counted),
+        }
     }
 
     /// Hands over the rest of a ladder, or the whole document, and the caption below it.

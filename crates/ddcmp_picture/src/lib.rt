@@ -9,6 +9,7 @@
 
 mod asked;
 mod canvas;
+mod caption;
 mod drawing;
 mod endings;
 mod flights;

@@ -1,4 +1,5 @@
 //! A time-sequence diagram in SVG: two upright lines, and time goes down, a row a step.
+use crate::caption::{caption_lines, first_line};
 use crate::mark::{Fate, Mark, Trip};
 use ddcmp_io::text::write_number;
 use ddcmp_io::{Page, Sink};
@@ -18,9 +19,6 @@ const STEP: u64 = 24;
 
 /// How far a label may be turned: if a frame was long in flight, it stands level.
 const STEEPEST: u64 = 640;
-
-/// A line of the caption has about this many characters.
-const CAPTION: usize = 110;
 
 const STYLE: &[u8] = b"<style>\
 .end{stroke:#555;stroke-width:1.5}\
@@ -411,17 +409,6 @@ pub(crate) fn write_element<W: Sink>(page: &mut Page, writer: &mut W, row: u64, 
     }
 }
 
-/// Returns the first line of a caption, which a long one has up to a blank, and what comes after
-/// it.
-fn first_line(text: &[u8]) -> (&[u8], &[u8]) {
-    for i in 0..text.len() {
-        if text[i] == b'\n' || (i >= CAPTION && text[i] == b' ') {
-            return (&text[..i], &text[i + 1..]);
-        }
-    }
-    (text, &text[text.len()..])
-}
-
 /// Writes a caption line by line.
 fn write_caption<W: Sink>(page: &mut Page, writer: &mut W, top: u64, text: &[u8]) {
     let mut y = top;
@@ -435,21 +422,6 @@ fn write_caption<W: Sink>(page: &mut Page, writer: &mut W, top: u64, text: &[u8]
         y = y.saturating_add(18);
         rest = behind;
     }
-}
-
-/// Returns how many lines a caption has.
-fn caption_lines(text: &[u8]) -> u64 {
-    let mut lines: u64 = 0;
-    let mut rest = text;
-    for _byte in 0..text.len() {
-        if rest.is_empty() {
-            return lines;
-        }
-        let (_line, behind) = first_line(rest);
-        lines = lines.saturating_add(1);
-        rest = behind;
-    }
-    lines
 }
 
 /// The line of an end.
