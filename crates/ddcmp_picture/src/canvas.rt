@@ -3,6 +3,7 @@ ghost use Rattle.std.specs.Prelude.{◌≡◌, false, IsTrue};
 
 use crate::caption::write_caption_text;
 use crate::ladder::{write_ladder, write_ladder_head};
+use crate::lettering::Lettering;
 use crate::mark::Mark;
 use crate::paper::Paper;
 use crate::svg::{write_document, write_element};
@@ -27,6 +28,8 @@ pub(crate) struct Canvas {
     draft: Page,
     /// What is drawn and hasn't been written.
     sheet: MemorySink,
+    /// What lies over the arrows of a document.
+    lettering: Lettering,
     /// How many rows there are so far.
     rows: u64,
 }
@@ -38,6 +41,7 @@ impl Drop for Canvas {
             picture: _,
             draft: _draft,
             sheet: _sheet,
+            lettering: _lettering,
             rows: _,
         } = self;
     }
@@ -58,6 +62,7 @@ impl Canvas {
             picture,
             draft: Page::new(),
             sheet: MemorySink::new(alloc),
+            lettering: Lettering::new(alloc),
             rows: 0,
         };
         if picture == Picture::Ladder {
@@ -75,7 +80,7 @@ impl Canvas {
         closing: Option<&Pair>,
         counted: bool,
     ) -> bool {
-        let is_drawn = self.draft.flush(&mut self.sheet).is_ok();
+        let is_drawn = self.draft.flush(&mut self.sheet).is_ok() && self.lettering.end();
         let mut caption = MemorySink::new(alloc);
         let is_counted = match closing {
             Some(pair) => self.write_closing(alloc, &mut caption, pair, counted),
@@ -113,7 +118,10 @@ impl Canvas {
                 page.write(writer, sheet);
                 page.write(writer, caption);
             }
-            Picture::Svg => write_document(page, writer, sheet, self.rows, caption),
+            Picture::Svg => {
+                let texts = self.lettering.sheet.bytes.as_slice();
+                write_document(page, writer, sheet, texts, self.rows, caption);
+            }
         }
     }
 }
@@ -128,7 +136,10 @@ impl Paper for Canvas {
     fn put(&mut self, mark: &Mark) {
         match self.picture {
             Picture::Ladder => write_ladder(&mut self.draft, &mut self.sheet, mark),
-            Picture::Svg => write_element(&mut self.draft, &mut self.sheet, self.rows, mark),
+            Picture::Svg => {
+                let (page, sheet) = (&mut self.draft, &mut self.sheet);
+                write_element(page, sheet, &mut self.lettering, self.rows, mark);
+            }
         }
         self.rows = self.rows.saturating_add(rows_of(mark));
     }

@@ -11,7 +11,7 @@ use ddcmp_pair::Pair;
 use std::alloc::Global;
 
 /// The most bytes that a line has; a document is wide enough for as many digits.
-const WIDTH: usize = 105;
+const WIDTH: usize = 125;
 
 /// Whether words end at this byte.
 fn is_gap(byte: u8) -> bool

@@ -7,14 +7,17 @@
 //! ```
 #![tactic(auto)]
 
+mod arrow;
 mod asked;
 mod canvas;
 mod caption;
 mod drawing;
+mod elements;
 mod endings;
 mod flights;
 mod labels;
 mod ladder;
+mod lettering;
 mod mark;
 mod notes;
 mod paper;
