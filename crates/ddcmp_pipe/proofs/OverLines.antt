@@ -5,9 +5,11 @@ use Rattle.ddcmp_run.specs.declared.event.End.TheVariants.{A}
 use Rattle.ddcmp_session.specs.Session.{SessionView}
 use Rattle.ddcmp_session.specs.Calls.{SessionStep}
 use Rattle.ddcmp_session.specs.Connections.{AreDone, Connection, after_all, after_step}
-use Rattle.ddcmp_session.specs.Devices.{Agrees, BuffersView, GoesOver, Traffic, nothing_read}
+use Rattle.ddcmp_session.specs.Devices.{Agrees, BuffersView, Traffic, nothing_read}
+use Rattle.ddcmp_session.specs.Lines.{GoesOver}
 use Rattle.ddcmp_pipe.specs.Connections.{AreCalls, Connections, first_connection}
-use Rattle.ddcmp_pipe.specs.Loops.{HasRunOver, no_traffic}
+use Rattle.ddcmp_pipe.specs.Loops.{no_traffic}
+use Rattle.ddcmp_pipe.specs.OverLines.{HasRunOver}
 use Rattle.ddcmp_pipe.specs.Pipe.{Made, session_of}
 use Rattle.ddcmp_pipe.specs.Sessions.{texts_of}
 use Rattle.ddcmp_pipe.proofs.Anew.{Stays, follows, stays_first}

@@ -7,9 +7,7 @@ use Rattle.ddcmp_session.specs.declared.messages.Form.TheVariants as form
 use Rattle.ddcmp_session.specs.Session.{SessionView, is_delivered}
 use Rattle.ddcmp_session.specs.Calls.{SessionHistory, SessionStep, IsSessionHistory}
 use Rattle.ddcmp_session.specs.Calls.{after_session_steps}
-use Rattle.ddcmp_session.specs.Connections.{AreDone, after_all}
 use Rattle.ddcmp_session.specs.Devices.{Agrees, BuffersView, Traffic}
-use Rattle.ddcmp_pipe.specs.Connections.{first_connection}
 use Rattle.ddcmp_pipe.specs.Pipe.{Made, session_of, undelivered}
 
 -- Nothing was given or taken yet.
@@ -50,12 +48,3 @@ DevicesPipeAll made other giver taker = made.options.form ≡ form.Binary → ot
     → t.read ≡ in_binary messages → held.input ≡ [] → is_delivered giver.session ≡ true
     → undelivered taker ≡ [] → taker.session.output.waiting ≡ []
     → other_t.written ≡ in_binary messages
-
--- A history of a session from its beginning, over as many lines as it was connected on, which
--- agrees with its devices at its end.
-pub record HasRunOver (made : Made) (new : SessionView) (held : BuffersView) (t : Traffic) : Type 0
-  where
-    pub steps : List SessionStep
-    pub calls : AreDone steps (first_connection made)
-    pub session : (after_all steps (first_connection made)).history.session ≡ new
-    pub agrees : Agrees held (after_all steps (first_connection made)).history t

@@ -6,11 +6,12 @@ ghost use Rattle.ddcmp_run.specs.declared.event.End.TheVariants.{A};
 ghost use Rattle.ddcmp_session.specs.Calls.{SessionDoes, SessionStep, Connected};
 ghost use Rattle.ddcmp_session.specs.Calls.{after_session_steps};
 ghost use Rattle.ddcmp_session.specs.Connections.{AreDone, after_all};
-ghost use Rattle.ddcmp_session.specs.Devices.{BuffersView, GoesOn, GoesOver, Traffic};
+ghost use Rattle.ddcmp_session.specs.Devices.{BuffersView, GoesOn, Traffic};
+ghost use Rattle.ddcmp_session.specs.Lines.{GoesOver};
 ghost use Rattle.ddcmp_session.specs.Devices.{nothing_read};
 ghost use Rattle.ddcmp_pipe.specs.Connections.{AreCalls, first_connection, first_connections};
 ghost use Rattle.ddcmp_pipe.specs.Loops.{DevicesPipe, DevicesPipeAll, HasRun, no_traffic};
-ghost use Rattle.ddcmp_pipe.specs.Loops.{HasRunOver};
+ghost use Rattle.ddcmp_pipe.specs.OverLines.{HasRunOver};
 ghost use Rattle.ddcmp_pipe.specs.Pipe.{IsKeptByPipes, IsKeptOverConnections, Made, session_of};
 ghost use Rattle.ddcmp_pipe.specs.Sessions.{texts_of};
 

@@ -10,8 +10,10 @@ use Rattle.ddcmp_session.specs.Calls.{LineTook, TimedOut, Delivered, OutputTook,
 use Rattle.ddcmp_session.specs.Calls.{HasClosed, HasLeft, IsSessionHistory, after_session_step}
 use Rattle.ddcmp_session.specs.Calls.{after_session_steps}
 use Rattle.ddcmp_session.specs.Connections.{Connection, Does, AreDone, after_all, after_step}
-use Rattle.ddcmp_session.specs.Devices.{Agrees, AreOfRun, Becomes, BuffersView, GoesOn, GoesOver}
-use Rattle.ddcmp_session.specs.Devices.{IsOfRun, Traffic, WentOver, line_begun, none_received}
+use Rattle.ddcmp_session.specs.Devices.{Agrees, AreOfRun, Becomes, BuffersView, GoesOn}
+use Rattle.ddcmp_session.specs.Lines.{GoesOver}
+use Rattle.ddcmp_session.specs.Devices.{IsOfRun, Traffic}
+use Rattle.ddcmp_session.specs.Lines.{WentOver, line_begun, none_received}
 use Rattle.ddcmp_session.proofs.GoingLaws.{end-is, quiet-agrees}
 
 -- ---- over the line that there is

@@ -17,7 +17,6 @@ use Rattle.ddcmp_session.specs.Session.{room_for_mail}
 use Rattle.ddcmp_session.specs.Calls.{SessionCall, Connected, LineEnded, Closed}
 use Rattle.ddcmp_session.specs.Calls.{SessionHistory, SessionStep, IsSessionHistory}
 use Rattle.ddcmp_session.specs.Calls.{after_session_steps, end_in}
-use Rattle.ddcmp_session.specs.Connections.{Connection, AreDone, after_all}
 
 -- What devices have given and taken: the bytes that were read of the input, and whether it has
 -- ended; those that came of the line; those that the line took; those that the output took; and
@@ -164,29 +163,3 @@ pub record Rests (held : BuffersView) (s : SessionView) : Type 0 where
   pub told : (held.is_over ≡ false) ⊎ (wants_input s ≡ false)
   pub fed : (held.received ≡ []) ⊎ (wants_line s ≡ false)
   pub delivered : HoldsMail s
-
--- ---- one line after the other
-
--- a line was opened: what it gives and takes begins anew
-abbrev pub line_begun : Traffic → Traffic
-line_begun t = record t { came = []; gone = [] }
-
--- nothing has come over it yet
-abbrev pub none_received : BuffersView → BuffersView
-none_received held = record held { received = []; down = None }
-
--- The history of a session went on to this one, over as many lines as it was connected on, and
--- agrees with its devices again.
-pub record WentOver (c : Connection) (new : SessionView) (held : BuffersView) (t : Traffic)
-    : Type 0 where
-  pub steps : List SessionStep
-  pub calls : AreDone steps c
-  pub session : (after_all steps c).history.session ≡ new
-  pub agrees : Agrees held (after_all steps c).history t
-
-abbrev pub GoesOver : BuffersView → SessionView → Option Traffic
-    → BuffersView → SessionView → Option Traffic → Type 0
-GoesOver held old before new_held new after =
-    (c : Connection) (t : Traffic) → c.history.session ≡ old → before ≡ Some t
-    → Agrees held c.history t
-    → (t' : Traffic) × (after ≡ Some t') × WentOver c new new_held t'

@@ -54,8 +54,9 @@ impl Drop for Buffers {
 impl Buffers {
     ghost use Rattle.std.specs.Prelude.{◌≡◌, Bool, Option, true, false, []};
     ghost use Rattle.ddcmp_session.specs.Calls.{HasClosed};
-    ghost use Rattle.ddcmp_session.specs.Devices.{Becomes, GoesOver, Traffic, line_begun};
-    ghost use Rattle.ddcmp_session.specs.Devices.{none_received};
+    ghost use Rattle.ddcmp_session.specs.Devices.{Becomes, Traffic};
+    ghost use Rattle.ddcmp_session.specs.Lines.{GoesOver, line_begun};
+    ghost use Rattle.ddcmp_session.specs.Lines.{none_received};
     ghost use Rattle.ddcmp_session.specs.Session.{after_connected};
 
     /// Makes empty ones. They take all the memory that they will need.

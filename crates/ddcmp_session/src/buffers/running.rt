@@ -1,6 +1,7 @@
 //! The loop of a session over its devices.
 ghost use Rattle.std.specs.Prelude.{◌≡◌, ◌≢◌, [], Err, Ok};
-ghost use Rattle.ddcmp_session.specs.Devices.{BuffersView, GoesOn, GoesOver, HoldsMail, Reports};
+ghost use Rattle.ddcmp_session.specs.Devices.{BuffersView, GoesOn, HoldsMail, Reports};
+ghost use Rattle.ddcmp_session.specs.Lines.{GoesOver};
 ghost use Rattle.ddcmp_session.specs.declared.devices.Fault.{Fault as FaultValue};
 
 use crate::buffers::Buffers;

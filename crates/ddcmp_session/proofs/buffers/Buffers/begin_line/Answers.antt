@@ -1,5 +1,5 @@
 use Rattle.std.proofs.Common.{None, subst, sym}
-use Rattle.ddcmp_session.specs.Devices.{GoesOver}
+use Rattle.ddcmp_session.specs.Lines.{GoesOver}
 use Rattle.ddcmp_session.specs.contracts.buffers.Buffers as buffers
 use Rattle.ddcmp_session.proofs.LinesGo.{line-connected}
 use Rattle.ddcmp_session.proofs.buffers.Buffers.begin_line.Goals as goal

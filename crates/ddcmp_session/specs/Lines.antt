@@ -1,0 +1,30 @@
+-- How a session goes on over its devices, over one line after the other.
+use Rattle.std.specs.Prelude.{◌≡◌, List, [], Option, Some, None}
+use Rattle.ddcmp_session.specs.Session.{SessionView}
+use Rattle.ddcmp_session.specs.Calls.{SessionStep}
+use Rattle.ddcmp_session.specs.Connections.{Connection, AreDone, after_all}
+use Rattle.ddcmp_session.specs.Devices.{Agrees, BuffersView, Traffic}
+
+-- a line was opened: what it gives and takes begins anew
+abbrev pub line_begun : Traffic → Traffic
+line_begun t = record t { came = []; gone = [] }
+
+-- nothing has come over it yet
+abbrev pub none_received : BuffersView → BuffersView
+none_received held = record held { received = []; down = None }
+
+-- The history of a session went on to this one, over as many lines as it was connected on, and
+-- agrees with its devices again.
+pub record WentOver (c : Connection) (new : SessionView) (held : BuffersView) (t : Traffic)
+    : Type 0 where
+  pub steps : List SessionStep
+  pub calls : AreDone steps c
+  pub session : (after_all steps c).history.session ≡ new
+  pub agrees : Agrees held (after_all steps c).history t
+
+abbrev pub GoesOver : BuffersView → SessionView → Option Traffic
+    → BuffersView → SessionView → Option Traffic → Type 0
+GoesOver held old before new_held new after =
+    (c : Connection) (t : Traffic) → c.history.session ≡ old → before ≡ Some t
+    → Agrees held c.history t
+    → (t' : Traffic) × (after ≡ Some t') × WentOver c new new_held t'
