@@ -22,7 +22,9 @@ pub use ddcmp_explain::{
     explain_as, explain_dump, explain_fault, explain_with, explaining, form, notation, style,
 };
 pub use ddcmp_net::{SERVED_MAX, ServeFault, serve, serve_fault, serving};
-pub use ddcmp_service::{LineName, Options, Served as LinkServed, ServiceFault};
+pub use ddcmp_service::{
+    BridgeEnd, BridgeFault, LineName, Options, Served as LinkServed, ServiceFault,
+};
 pub use ddcmp_tap::{TapFault, tap_fault};
 pub use ddcmp_words::{
     Bridged, Command, Declined, Linked, Role, Scripted, Served, Tapped, View, bridged, command,

@@ -2,8 +2,8 @@
 // fails. What they write else is the matter of `worked_commands`.
 use crate::same::is;
 use ddcmp_cli::{
-    Connection, Connections, Ending, Fault, Inputs, LineName, Lines, LinkServed, Options, Role,
-    ServiceFault, run,
+    BridgeEnd, BridgeFault, Connection, Connections, Ending, Fault, Inputs, LineName, Lines,
+    LinkServed, Options, Role, ServiceFault, run,
 };
 use ddcmp_frame::failing::{Pieces, Taken};
 use ddcmp_frame::{Sink, Source};
@@ -138,6 +138,16 @@ impl<S: Lines> Lines for Poor<'_, S> {
         writer: &mut W,
     ) -> Result<LinkServed, ServiceFault<'a>> {
         self.system.serve_line(alloc, line, options, reader, writer)
+    }
+
+    fn bridge<'a>(
+        &self,
+        alloc: Global,
+        first: LineName<'a>,
+        second: LineName<'a>,
+        seconds: u32,
+    ) -> Result<BridgeEnd, BridgeFault<'a>> {
+        self.system.bridge(alloc, first, second, seconds)
     }
 }
 
