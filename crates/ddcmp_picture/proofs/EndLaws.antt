@@ -6,7 +6,7 @@ use Rattle.std.proofs.lemmas.List.{append-nil}
 use Rattle.ddcmp_io.specs.Device.{Logs}
 use Rattle.ddcmp_run.specs.declared.event.End.{End}
 use Rattle.ddcmp_run.specs.declared.event.End.TheVariants.{A, B}
-use Rattle.ddcmp_picture.proofs.NoteLaws.{logs_then}
+use Rattle.ddcmp_picture.proofs.NoteLaws.{logs_none, logs_then}
 use Rattle.ddcmp_picture.specs.Marks.{ends_by}
 use Rattle.ddcmp_picture.specs.Trips.{Trips, trips_of, with_trips, first_trip}
 use Rattle.ddcmp_picture.specs.declared.mark.Fate.{Fate}
@@ -54,6 +54,21 @@ one-less : (t : Trip) (rest xs : List Trip) (n m : ℕ) → t ∷ rest ≡ xs �
     → length rest + (n + 1) ≡ m
 one-less t rest xs n m e h =
     let k : suc (length rest) ≡ length xs = ap length e in omega arith
+
+with-same : (end : End) (v : Trips) → v ≡ with_trips end (trips_of end v) v
+with-same A v = refl
+with-same B v = refl
+
+-- none was put
+pub ends_start : (end : End) (fate : Fate) (start : Option (List Mark)) (old : Trips)
+    → HasEnded end fate start start old old 0
+ends_start end fate start old = record {
+  before = [];
+  logs = logs_none start;
+  marks = refl;
+  trips = with-same end old;
+  count = omega arith;
+}
 
 -- and one more
 pub ends_one : (end : End) (fate : Fate) (start now after : Option (List Mark))

@@ -1,4 +1,4 @@
-pub mod ShortTextLaws
+pub mod TextLaws
 pub mod LabelLaws
 pub mod NoteLaws
 pub mod EndLaws

@@ -1,6 +1,7 @@
 -- The marks that the steps of a run put into a picture.
 use Rattle.std.specs.Prelude.{ℕ, Bool, true, false, ◌||◌, ◌&&◌, ◌==◌, if◌then◌else◌, nat_lt}
-use Rattle.std.specs.Prelude.{List, [], ◌∷◌, ◌++◌, length, map, drop, min, codes, decimal, Option, Some, None}
+use Rattle.std.specs.Prelude.{List, [], ◌∷◌, ◌++◌, length, map, drop, min, codes, decimal, Option}
+use Rattle.std.specs.Prelude.{Some, None}
 use Rattle.ddcmp_core.specs.Core.{CoreView}
 use Rattle.ddcmp_core.specs.Table.{StationState}
 use Rattle.ddcmp_core.specs.declared.notice.Notice.{Notice}

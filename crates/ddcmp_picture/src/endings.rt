@@ -81,7 +81,7 @@ pub(crate) fn damage<P: Paper>(
 }
 
 /// All frames of an end leave its line.
-#[tactic(auto, using(crate::proofs::EndLaws::ends_none, crate::proofs::EndLaws::ends_all, crate::proofs::NoteLaws::logs_none))]
+#[tactic(auto, using(crate::proofs::EndLaws::ends_none, crate::proofs::EndLaws::ends_all))]
 fn end_of<P: Paper>(paper: &mut P, flights: &mut Flights, end: End, fate: Fate)
     ensures marks { Logs (P.drawn paper.old) (P.drawn paper.new)
         (map (ends_by fate) (trips_of end flights.old)) }

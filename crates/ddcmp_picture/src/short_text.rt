@@ -1,6 +1,6 @@
 //! Short texts: labels and notes.
 ghost use Rattle.std.specs.Prelude.{◌≡◌, ◌<◌, decimal, slice_index};
-ghost use Rattle.hex.specs.Hex.{lower_digits};
+ghost use Rattle.hex.specs.Hex.{encode_lower, lower_digits};
 ghost use Rattle.ddcmp_picture.specs.ShortTexts.{no_text, text_in, with_byte, with_text};
 ghost use Rattle.ddcmp_picture.specs.ShortTexts.{bytes_shown, is_blank};
 
@@ -60,7 +60,7 @@ impl ShortText {
     }
 
     /// The same, followed by this text.
-    #[tactic(auto, using(crate::proofs::ShortTextLaws::with_step, crate::proofs::ShortTextLaws::with_none))]
+    #[tactic(auto, using(crate::proofs::TextLaws::with_step, crate::proofs::TextLaws::with_none))]
     pub(crate) fn with(mut self, text: &[u8]) -> Self
         ensures { result ≡ with_text self text.now }
     {
@@ -78,23 +78,31 @@ impl ShortText {
         self.with(buffer.format(number).as_bytes())
     }
 
-    /// The same, followed by bytes in hexadecimal digits; of many the first alone.
-    #[tactic(auto, using(crate::proofs::ShortTextLaws::digits_step, crate::proofs::ShortTextLaws::digits_none, crate::proofs::ShortTextLaws::with_append))]
-    pub(crate) fn with_bytes(mut self, bytes: &[u8]) -> Self
-        ensures { result ≡ with_text self (bytes_shown bytes.now) }
+    /// The same, followed by bytes in hexadecimal digits.
+    #[tactic(auto, using(crate::proofs::TextLaws::hex_step, crate::proofs::TextLaws::hex_none))]
+    fn with_hex(mut self, bytes: &[u8]) -> Self
+        ensures { result ≡ with_text self (encode_lower bytes.now) }
     {
-        let is_long = bytes.len() > 10;
-        let shown = if is_long { &bytes[..6] } else { bytes };
-        for byte in shown {
+        for byte in bytes {
             self.push(digit(*byte / 16));
             self.push(digit(*byte % 16));
         }
+        self
+    }
+
+    /// The same, followed by bytes in hexadecimal digits; of many the first alone.
+    #[tactic(auto, using(crate::proofs::TextLaws::with_append))]
+    pub(crate) fn with_bytes(self, bytes: &[u8]) -> Self
+        ensures { result ≡ with_text self (bytes_shown bytes.now) }
+    {
+        let is_long = bytes.len() > 10;
         if is_long {
             return self
+                .with_hex(&bytes[..6])
                 .with(b".. (")
                 .with_number(bytes.len() as u64)
                 .with(b" bytes)");
         }
-        self
+        self.with_hex(bytes)
     }
 }

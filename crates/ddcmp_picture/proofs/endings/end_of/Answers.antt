@@ -1,6 +1,9 @@
 use Rattle.std.proofs.Common.{sym, ◌∙◌}
-use Rattle.ddcmp_picture.proofs.EndLaws.{ends_one}
+use Rattle.ddcmp_picture.proofs.EndLaws.{ends_one, ends_start}
 use Rattle.ddcmp_picture.proofs.endings.end_of.Goals as goal
+
+pub loop-trip-init : goal.loop-trip-init
+loop-trip-init g c = ends_start _ _ _ _
 
 pub loop-trip-preserved : goal.loop-trip-preserved
 loop-trip-preserved g c =

@@ -27,14 +27,14 @@ unfolding with_text
 with_none t text i k = ap (with_text t) (drop_all i text k)
 
 -- and in digits
-pub digits_step : (t : ShortText) (bytes : List ℕ) (i : ℕ) → i < length bytes
+pub hex_step : (t : ShortText) (bytes : List ℕ) (i : ℕ) → i < length bytes
     → with_text t (encode_lower (drop i bytes))
     ≡ with_text (with_byte (with_byte t (slice_index lower_digits (slice_index bytes i / 16)))
     (slice_index lower_digits (slice_index bytes i % 16))) (encode_lower (drop (i + 1) bytes))
 unfolding with_text encode_with
-digits_step t bytes i k = ap (λ x. with_text t (encode_lower x)) (drop-one bytes i k)
+hex_step t bytes i k = ap (λ x. with_text t (encode_lower x)) (drop-one bytes i k)
 
-pub digits_none : (t : ShortText) (bytes : List ℕ) (i : ℕ) → length bytes ≤ i
+pub hex_none : (t : ShortText) (bytes : List ℕ) (i : ℕ) → length bytes ≤ i
     → with_text t (encode_lower (drop i bytes)) ≡ t
 unfolding with_text encode_with
-digits_none t bytes i k = ap (λ x. with_text t (encode_lower x)) (drop_all i bytes k)
+hex_none t bytes i k = ap (λ x. with_text t (encode_lower x)) (drop_all i bytes k)
