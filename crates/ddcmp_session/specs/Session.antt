@@ -1,6 +1,6 @@
 -- A session as its users see it, and what each call does.
 use Rattle.std.specs.Prelude.{◌≡◌, ◌⊎◌, ℕ, ◌+◌, ◌*◌, ◌<◌, Bool, true, false, ◌&&◌, not, nat_le}
-use Rattle.std.specs.Prelude.{if◌then◌else◌, List, [], ◌∷◌, length, Option, None, is_some, is_ok}
+use Rattle.std.specs.Prelude.{if◌then◌else◌, List, [], ◌∷◌, length, Option, Some, None, is_some, is_ok}
 use Rattle.std.specs.Prelude.{option_to_list}
 use Rattle.ddcmp_core.specs.Table.{has_room, after_halt, answer_to_start}
 use Rattle.ddcmp_core.specs.declared.notice.Notice.{Notice}
@@ -10,6 +10,8 @@ use Rattle.ddcmp_frame.specs.Reader.{ReaderView}
 use Rattle.ddcmp_station.specs.Driving.{expires_at}
 use Rattle.ddcmp_station.specs.Linking.{LinkView, link_made, takes_message, after_offered, anew}
 use Rattle.ddcmp_station.specs.Linking.{delivered, puts_frame, carries_message, after_wake}
+use Rattle.ddcmp_station.specs.Linking.{totals_after_feed}
+use Rattle.ddcmp_station.specs.declared.link.Totals.{Totals}
 use Rattle.ddcmp_session.specs.declared.course.Course.{Course}
 use Rattle.ddcmp_session.specs.declared.messages.Form.{Form}
 use Rattle.ddcmp_session.specs.declared.messages.Form.TheVariants as form
@@ -178,6 +180,11 @@ course_received s link notices =
     then after_notices notices
     (after_looked s.options.timer_ms s.link.station.core.counters.nak_received link s.course)
     else s.course
+
+-- so many bytes of the line were used, and these notices came, of which there is at most one
+abbrev pub totals_received : ℕ → List Notice → Totals → Totals
+totals_received used [] t = totals_after_feed used None t
+totals_received used (notice ∷ rest) t = totals_after_feed used (Some notice) t
 
 -- ---- the end
 

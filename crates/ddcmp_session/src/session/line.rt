@@ -16,7 +16,7 @@ impl Session {
     ghost use Rattle.ddcmp_session.specs.Session.{form_of, lost_by_end, reports_loss, wants_line};
     ghost use Rattle.ddcmp_session.specs.Course.{after_notice, lost_more};
     ghost use Rattle.ddcmp_session.specs.Session.{IsFilled, after_connected, course_received};
-    ghost use Rattle.ddcmp_session.specs.Session.{is_paused};
+    ghost use Rattle.ddcmp_session.specs.Session.{is_paused, totals_received};
     ghost use Rattle.ddcmp_session.specs.Text.{Wrote, notice_text, notices_text, reported_lost};
     ghost use Rattle.ddcmp_session.specs.declared.text.TheConstants.{LINE_ROOM};
 
@@ -113,6 +113,11 @@ impl Session {
         ensures course { (text : List ℕ) → StandsFor self.old.link.station.line text
             → self.new.course ≡ course_received self.old self.new.link
             (notices_of_piece text (take result bytes.now) self.old.link.station.core) }
+        ensures totals { wants_line self.old ≡ true → (text : List ℕ)
+            → StandsFor self.old.link.station.line text → self.new.link.totals
+            ≡ totals_received result
+            (notices_of_piece text (take result bytes.now) self.old.link.station.core)
+            self.old.link.totals }
         ensures syn { self.new.link.station.syn ≡ self.old.link.station.syn }
         ensures link { self.new.link ≡ record self.old.link {
           station = self.new.link.station;
