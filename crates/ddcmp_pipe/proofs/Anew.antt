@@ -37,14 +37,15 @@ use Rattle.ddcmp_session.specs.Session.{after_connected}
 use Rattle.ddcmp_pipe.specs.Sessions.{messages_of, mail_in, link_steps_of, offers_of, frames_put}
 use Rattle.ddcmp_pipe.specs.Sessions.{texts_of}
 use Rattle.ddcmp_pipe.specs.Pipe.{Made, links_made, steps_at_end}
-use Rattle.ddcmp_pipe.specs.Connections.{Connection, first_connection}
-use Rattle.ddcmp_pipe.specs.Connections.{after_step, Does, Connections, first_connections, at}
+use Rattle.ddcmp_session.specs.Connections as connections
+use Rattle.ddcmp_session.specs.Connections.{Connection, Does, after_step, after_all}
+use Rattle.ddcmp_pipe.specs.Connections.{Connections, first_connection, first_connections, at}
 use Rattle.ddcmp_pipe.specs.Connections.{after_step_at, AreCalls, after_steps, link_steps}
 use Rattle.ddcmp_pipe.specs.Connections.{read_since, delivered_since, PipesAnew, PipesAllAnew}
 use Rattle.ddcmp_pipe.specs.Connections.{WritesAnew}
 use Rattle.ddcmp_pipe.proofs.Holding.{Holds, link_history, parts}
 use Rattle.ddcmp_pipe.proofs.Outcomes.{binary_more, last_true}
-use Rattle.ddcmp_pipe.proofs.Texts.{only_mail}
+use Rattle.ddcmp_pipe.proofs.Texts.{IsText, only_mail}
 use Rattle.ddcmp_pipe.proofs.LinkSteps.{begins, step_leads, link_only, same_link, with_line}
 use Rattle.ddcmp_pipe.proofs.LinkSteps.{holds_with_line}
 
@@ -164,12 +165,12 @@ since made c k =
     (delivered_since c) k
 
 -- what stays
-pub record Stays (made : Made) (c : Connection) : Type 0 where
-  pub holds : Holds made.options.form made.options.config.max c.history
-  pub read
+record Stays (made : Made) (c : Connection) : Type 0 where
+  holds : Holds made.options.form made.options.config.max c.history
+  read
       : messages_of made.options.form made.options.config.max c.history.input
       ≡ messages_of made.options.form made.options.config.max c.input_before ++ read_since made c
-  pub delivered : mail_in c.history.shown ≡ mail_in c.shown_before ++ delivered_since c
+  delivered : mail_in c.history.shown ≡ mail_in c.shown_before ++ delivered_since c
 
 -- a call of a session leads its link from one history since it was connected to the next
 abbrev Follows : Made → List LinkStep → Connection → ℕ → Connection → Type 0
@@ -275,7 +276,7 @@ begins_anew made new c k is stays =
       },
     )
 
-pub follows : (made : Made) (one : SessionStep) (c : Connection) (k : ℕ)
+follows : (made : Made) (one : SessionStep) (c : Connection) (k : ℕ)
     → Does one.call c.history.used c.history.session one.session → Stays made c
     → Follows made (link_steps_of one.call c.history.session one.session.link) c k
     (after_step one c)
@@ -439,12 +440,29 @@ writes_anew made c s is =
 
 -- ---- from two new sessions
 
-pub stays_first : (made : Made) → Stays made (first_connection made)
+stays_first : (made : Made) → Stays made (first_connection made)
 stays_first made = record {
   holds = (begins made.options made.kind made.line).0;
   read = none_since (messages_of made.options.form made.options.config.max []);
   delivered = none_since (mail_in []);
 }
+
+-- whatever was done, the output is the text of what was delivered and reported
+stays_all : (made : Made) (steps : List SessionStep) (c : Connection)
+    → connections.AreDone steps c → Stays made c → Stays made (after_all steps c)
+unfolding after_all
+stays_all made [] c does stays = stays
+stays_all made (step ∷ rest) c does stays =
+    stays_all made rest (after_step step c) does.1 (follows made step c 0 does.0 stays).2
+
+pub text_of_all : (made : Made) (steps : List SessionStep)
+    → connections.AreDone steps (first_connection made)
+    → IsText made.options.form
+    (after_all steps (first_connection made)).history.written
+    (after_all steps (first_connection made)).history.session.output
+    (after_all steps (first_connection made)).history.shown
+text_of_all made steps does =
+    (stays_all made steps (first_connection made) does (stays_first made)).holds.text
 
 since_first : (made : Made)
     → links.new_history made.options.config made.options.timer_ms made.line

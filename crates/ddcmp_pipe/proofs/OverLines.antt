@@ -12,7 +12,7 @@ use Rattle.ddcmp_pipe.specs.Loops.{no_traffic}
 use Rattle.ddcmp_pipe.specs.OverLines.{HasRunOver}
 use Rattle.ddcmp_pipe.specs.Pipe.{Made, session_of}
 use Rattle.ddcmp_pipe.specs.Sessions.{texts_of}
-use Rattle.ddcmp_pipe.proofs.Anew.{Stays, follows, stays_first}
+use Rattle.ddcmp_pipe.proofs.Anew.{text_of_all}
 
 agrees_first : (made : Made) → StandsFor made.line []
     → Agrees nothing_read (session_of made) no_traffic
@@ -46,13 +46,6 @@ are_calls_of_a [] p does = tt
 are_calls_of_a (step ∷ rest) p does =
     (does.0, are_calls_of_a rest (record { a = after_step step p.a; b = p.b }) does.1)
 
-stays_all : (made : Made) (steps : List SessionStep) (c : Connection) → AreDone steps c
-    → Stays made c → Stays made (after_all steps c)
-unfolding after_all
-stays_all made [] c does stays = stays
-stays_all made (step ∷ rest) c does stays =
-    stays_all made rest (after_step step c) does.1 (follows made step c 0 does.0 stays).2
-
 pub is_text_over : (made : Made) (now : SessionView) (held : BuffersView) (t : Traffic)
     (ran : HasRunOver made now held t)
     → t.written ++ now.output.waiting
@@ -62,4 +55,4 @@ is_text_over made now held t ran =
     let c = after_all ran.steps (first_connection made) in
     ap (λ xs. xs ++ now.output.waiting) ran.agrees.written
     ∙ ap (λ (s : SessionView). c.history.written ++ s.output.waiting) (sym ran.session)
-    ∙ (stays_all made ran.steps (first_connection made) ran.calls (stays_first made)).holds.text
+    ∙ text_of_all made ran.steps ran.calls

@@ -13,7 +13,7 @@ ghost use Rattle.ddcmp_session.specs.Session.{reports_loss};
 ghost use Rattle.ddcmp_session.specs.Calls.{SessionDoes, Typed, InputEnded, Connected, LineEnded};
 ghost use Rattle.ddcmp_session.specs.Calls.{Received, Filled, LineTook, TimedOut, Delivered};
 ghost use Rattle.ddcmp_session.specs.Calls.{OutputTook, Closed, new_session};
-ghost use Rattle.ddcmp_pipe.specs.Connections.{Does};
+ghost use Rattle.ddcmp_session.specs.Connections.{Does};
 
 use ddcmp_session::{LineKind, Options, Session};
 use ddcmp_station::ConfigRefusal;
