@@ -29,7 +29,8 @@ use Rattle.ddcmp_callers.specs.LinkRestarts as restarts
 use Rattle.ddcmp_callers.specs.StationRuns.{run_station_calls}
 use Rattle.ddcmp_callers.proofs.LinkRestarts.{anew-to-b, anew-to-a, anew-all-to-b, anew-all-to-a}
 use Rattle.ddcmp_session.specs.Calls.{SessionCall, Typed, InputEnded, Connected, LineEnded}
-use Rattle.ddcmp_session.specs.Calls.{Received, Filled, LineTook, TimedOut, Delivered, OutputTook}
+use Rattle.ddcmp_session.specs.Calls.{Received, Filled, LineTook, TimedOut, TimePassed, Delivered}
+use Rattle.ddcmp_session.specs.Calls.{OutputTook}
 use Rattle.ddcmp_session.specs.Calls.{Closed, SessionDoes, SessionStep}
 use Rattle.ddcmp_session.specs.Calls.{after_session_step}
 use Rattle.ddcmp_session.specs.Course.{after_connecting}
@@ -315,6 +316,7 @@ follows made one c k does stays = by one.call one.session does
         goes_on made (record { call = LineTook n; session = new }) c k d stays (tt, tt)
     by (TimedOut now) new d =
         goes_on made (record { call = TimedOut now; session = new }) c k d stays (tt, tt)
+    by TimePassed new d = goes_on made (record { call = TimePassed; session = new }) c k d stays tt
     by (Delivered true) new d =
         goes_on made (record { call = Delivered true; session = new }) c k d stays (tt, tt)
     by (Delivered false) new d =

@@ -35,7 +35,8 @@ use Rattle.ddcmp_callers.specs.Links.{Takes, HasDone, HasFed, new_history}
 use Rattle.ddcmp_callers.specs.Links.{after_step, after_history}
 use Rattle.ddcmp_callers.specs.Links.{offered_in}
 use Rattle.ddcmp_session.specs.Calls.{SessionCall, Typed, InputEnded, Connected, LineEnded}
-use Rattle.ddcmp_session.specs.Calls.{Received, Filled, LineTook, TimedOut, Delivered, OutputTook}
+use Rattle.ddcmp_session.specs.Calls.{Received, Filled, LineTook, TimedOut, TimePassed, Delivered}
+use Rattle.ddcmp_session.specs.Calls.{OutputTook}
 use Rattle.ddcmp_session.specs.Calls.{Closed, HasReceived, HasDelivered, HasLeft, HasClosed}
 use Rattle.ddcmp_session.specs.Calls.{SessionDoes, Shown, Mail, Reports, SessionHistory}
 use Rattle.ddcmp_session.specs.Calls.{new_session, SessionStep, end_in, losses}
@@ -335,6 +336,15 @@ step_leads f max step h k does holds = by step.call step.session does
         (after_wake now h.session.link) (holds_with_line f max b c h holds) d
         (ap (λ (x : SessionView). x.link) d)
         (wake_longest now h.session.link) refl refl
+    by TimePassed new d =
+        output_step f max (with_line h.session.has_line new.course h) new k (h.written ++ [])
+        (h.shown ++ []) (holds_with_line f max h.session.has_line new.course h holds)
+        (d.stays
+        ∙ ap (λ q. record h.session { course = new.course; output = q })
+        (sym (ap (λ (x : SessionView). x.output) d.stays)))
+        (quiet_mail h.shown)
+        (took f h.written 0 h.shown h.session.output new.output holds.text
+        (ap (λ (x : SessionView). x.output.waiting) d.stays))
     by (Delivered true) new d = delivered_step f max h new k holds d
     by (Delivered false) new d =
         output_step f max h new k (h.written ++ []) (h.shown ++ []) holds d.stays

@@ -15,7 +15,8 @@ use Rattle.ddcmp_callers.specs.Links.{LinkStep, IsHistory, after_history, after_
 use Rattle.ddcmp_callers.specs.Links.{Links, after_steps, starts_in_call, link_starts}
 use Rattle.ddcmp_callers.specs.LinkLines.{AreLinkCalls}
 use Rattle.ddcmp_session.specs.Calls.{SessionCall, Typed, InputEnded, Connected, LineEnded}
-use Rattle.ddcmp_session.specs.Calls.{Received, Filled, LineTook, TimedOut, Delivered, OutputTook}
+use Rattle.ddcmp_session.specs.Calls.{Received, Filled, LineTook, TimedOut, TimePassed, Delivered}
+use Rattle.ddcmp_session.specs.Calls.{OutputTook}
 use Rattle.ddcmp_session.specs.Calls.{Closed, SessionDoes, SessionStep}
 use Rattle.ddcmp_pipe.specs.Sessions.{offers_of, frames_put, link_steps_of}
 use Rattle.ddcmp_pipe.specs.Pipe.{Made, Sessions, session_at}
@@ -172,6 +173,7 @@ call_starts (Received used) s new = refl
 call_starts (Filled frames) s new = frames_start_none frames s.link
 call_starts (LineTook n) s new = refl
 call_starts (TimedOut now) s new = refl
+call_starts TimePassed s new = refl
 call_starts (Delivered true) s new = refl
 call_starts (Delivered false) s new = refl
 call_starts (OutputTook n) s new = refl

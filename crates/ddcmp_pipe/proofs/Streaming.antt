@@ -17,7 +17,8 @@ use Rattle.ddcmp_callers.specs.Links.{LinkCall, Starts, BeginsAnew, Halts, Wakes
 use Rattle.ddcmp_callers.specs.Links.{IsSent, Feeds, Takes, used_by, gone_by, LinkOverStreams}
 use Rattle.ddcmp_callers.specs.Links.{Links}
 use Rattle.ddcmp_session.specs.Calls.{SessionCall, Typed, InputEnded, Connected, LineEnded}
-use Rattle.ddcmp_session.specs.Calls.{Received, Filled, LineTook, TimedOut, Delivered, OutputTook}
+use Rattle.ddcmp_session.specs.Calls.{Received, Filled, LineTook, TimedOut, TimePassed, Delivered}
+use Rattle.ddcmp_session.specs.Calls.{OutputTook}
 use Rattle.ddcmp_session.specs.Calls.{Closed, SessionDoes, SessionStep}
 use Rattle.ddcmp_pipe.specs.Sessions.{link_step, offers_of, frames_put, link_steps_of}
 use Rattle.ddcmp_pipe.specs.Pipe.{Made, Sessions, session_at}
@@ -130,6 +131,7 @@ shape (Received used) s new = inr (link_step (Feeds used) new, refl)
 shape (Filled frames) s new = inl (frames_still frames s.link)
 shape (LineTook n) s new = inr (link_step (IsSent n) new, refl)
 shape (TimedOut now) s new = inl (tt, tt)
+shape TimePassed s new = inl tt
 shape (Delivered true) s new = inl (tt, tt)
 shape (Delivered false) s new = inl tt
 shape (OutputTook n) s new = inl tt

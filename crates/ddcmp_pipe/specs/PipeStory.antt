@@ -20,7 +20,8 @@ use Rattle.ddcmp_laws.specs.Story.{strt_bytes, stack_bytes, first_bytes, ack_1_b
 use Rattle.ddcmp_laws.specs.Vectors.{abc}
 use Rattle.ddcmp_callers.specs.LinkStory.{small}
 use Rattle.ddcmp_session.specs.Calls.{SessionCall, Typed, InputEnded, Connected, LineEnded}
-use Rattle.ddcmp_session.specs.Calls.{Received, Filled, LineTook, TimedOut, Delivered, OutputTook}
+use Rattle.ddcmp_session.specs.Calls.{Received, Filled, LineTook, TimedOut, TimePassed, Delivered}
+use Rattle.ddcmp_session.specs.Calls.{OutputTook}
 use Rattle.ddcmp_session.specs.Calls.{Closed, SessionHistory, SessionStep}
 use Rattle.ddcmp_session.specs.Calls.{shown_in}
 use Rattle.ddcmp_pipe.specs.Sessions.{texts_of}
@@ -62,6 +63,7 @@ session_after (Filled frames) h =
     record h.session { link = after_frames frames h.session.link }
 session_after (LineTook n) h = record h.session { link = after_sent n h.session.link }
 session_after (TimedOut now) h = after_timeout now h.session
+session_after TimePassed h = h.session
 session_after (Delivered true) h = after_shown (Delivered true) h
     (record h.session { link = after_taking h.session.link })
 session_after (Delivered false) h = h.session

@@ -14,7 +14,8 @@ use Rattle.ddcmp_session.specs.Text.{mail_text, notice_text, lost_text}
 use Rattle.ddcmp_callers.specs.Links.{LinkCall, BeginsAnew, Halts, Wakes, Offers, FillsOne}
 use Rattle.ddcmp_callers.specs.Links.{IsSent, Feeds, Takes, LinkStep, LinkHistory}
 use Rattle.ddcmp_session.specs.Calls.{SessionCall, Typed, InputEnded, Connected, LineEnded}
-use Rattle.ddcmp_session.specs.Calls.{Received, Filled, LineTook, TimedOut, Delivered, OutputTook}
+use Rattle.ddcmp_session.specs.Calls.{Received, Filled, LineTook, TimedOut, TimePassed, Delivered}
+use Rattle.ddcmp_session.specs.Calls.{OutputTook}
 use Rattle.ddcmp_session.specs.Calls.{Closed, Shown, Mail, Reports, Loses, SessionHistory}
 use Rattle.ddcmp_session.specs.Calls.{SessionStep, after_session_step}
 use Rattle.ddcmp_input.specs.HexLines as hex
@@ -85,6 +86,7 @@ link_steps_of (Received used) s new = link_step (Feeds used) new ∷ []
 link_steps_of (Filled frames) s new = frames_put frames s.link
 link_steps_of (LineTook n) s new = link_step (IsSent n) new ∷ []
 link_steps_of (TimedOut now) s new = link_step (Wakes now) new ∷ []
+link_steps_of TimePassed s new = []
 link_steps_of (Delivered true) s new = link_step Takes new ∷ []
 link_steps_of (Delivered false) s new = []
 link_steps_of (OutputTook n) s new = []

@@ -4,22 +4,15 @@ ghost use Rattle.std.specs.Prelude.{◌≡◌, ◌≢◌, ℕ};
 use crate::fault::{Attempt, Cause, NotOpened, ServiceFault};
 use crate::line_name::LineName;
 use crate::opening::OpenRefusal;
-use ddcmp_session::Fault;
+use ddcmp_session::{Fault, Stop};
 use std::io::ErrorKind;
 
 /// Why a run ended before all was delivered. The name of the line is added at last.
 #[derive(Clone, Copy)]
 pub(crate) enum Ended {
-    /// The line couldn't be opened.
-    NotOpened(OpenRefusal),
     /// The system can't wait for several devices, for this reason.
     CannotWait(ErrorKind),
-    /// A device has ended or failed, or its time is over.
-    Device(Fault),
-    /// The line was left, and isn't opened again.
-    Left,
-    /// This many messages were read and not acknowledged.
-    Lost(u64),
+    Stopped(Stop<OpenRefusal>),
     /// An allocation failed.
     Memory,
 }
@@ -28,20 +21,24 @@ impl Ended {
     /// Returns the fault of a service over a line of this name whose output is whole.
     pub(crate) fn fault(self, line: LineName<'_>) -> ServiceFault<'_>
         ensures whole { result ≢ ServiceFault.Write }
-        ensures read { self ≡ Ended.Device Fault.Input → result ≡ ServiceFault.Read }
+        ensures read { self ≡ Ended.Stopped (Stop.Device Fault.Input)
+            → result ≡ ServiceFault.Read }
         ensures memory { self ≡ Ended.Memory → result ≡ ServiceFault.Memory }
-        ensures lost { (count : ℕ) → self ≡ Ended.Lost count → result ≡ ServiceFault.Lost count }
+        ensures lost { (count : ℕ) → self ≡ Ended.Stopped (Stop.Lost count)
+            → result ≡ ServiceFault.Lost count }
     {
         match self {
-            Ended::NotOpened(refused) => ServiceFault::Open(line.not_opened(refused)),
             Ended::CannotWait(kind) => ServiceFault::Open(NotOpened {
                 attempt: Attempt::Open,
                 name: "epoll",
                 cause: Cause::System(kind),
             }),
-            Ended::Device(Fault::Input) => ServiceFault::Read,
-            Ended::Device(_) | Ended::Left => ServiceFault::Ended,
-            Ended::Lost(count) => ServiceFault::Lost(count),
+            Ended::Stopped(Stop::NotOpened(refused)) => {
+                ServiceFault::Open(line.not_opened(refused))
+            }
+            Ended::Stopped(Stop::Device(Fault::Input)) => ServiceFault::Read,
+            Ended::Stopped(Stop::Device(_) | Stop::Left) => ServiceFault::Ended,
+            Ended::Stopped(Stop::Lost(count)) => ServiceFault::Lost(count),
             Ended::Memory => ServiceFault::Memory,
         }
     }

@@ -1,6 +1,8 @@
 //! The devices of a link: what the system gives a session.
 use crate::datagram::Framing;
+use crate::event::Event;
 use crate::line::Line;
+use crate::opening::{OpenRefusal, Opened, Opener};
 use crate::outlet::Outlet;
 use crate::system::System;
 use crate::waiting::{Descriptor, Waiting};
@@ -13,9 +15,10 @@ use std::io::{Eprint, ErrorKind};
 
 /// Standard input, output and error, a line and a clock.
 pub(crate) struct Live<'a, S, C, R, W> {
-    pub(crate) system: &'a S,
-    pub(crate) waiting: Waiting,
-    pub(crate) line: Option<Line>,
+    system: &'a S,
+    waiting: Waiting,
+    opener: Opener<'a>,
+    line: Option<Line>,
     clock: C,
     reader: &'a mut R,
     writer: &'a mut W,
@@ -31,6 +34,7 @@ impl<S, C: Drop, R, W> Drop for Live<'_, S, C, R, W> {
         let Live {
             system: _,
             waiting: _waiting,
+            opener: _opener,
             line: _line,
             clock: _clock,
             reader: _,
@@ -46,6 +50,7 @@ impl<S, C: Drop, R, W> Drop for Live<'_, S, C, R, W> {
 pub(crate) struct Parts<'a, S, C, R, W> {
     pub(crate) system: &'a S,
     pub(crate) waiting: Waiting,
+    pub(crate) opener: Opener<'a>,
     pub(crate) clock: C,
     pub(crate) reader: &'a mut R,
     pub(crate) writer: &'a mut W,
@@ -62,6 +67,7 @@ impl<'a, S: System, C: Clock + Drop, R: Source, W: Sink> Live<'a, S, C, R, W> {
         let Parts {
             system,
             waiting,
+            opener,
             clock,
             reader,
             writer,
@@ -73,6 +79,7 @@ impl<'a, S: System, C: Clock + Drop, R: Source, W: Sink> Live<'a, S, C, R, W> {
         Ok(Live {
             system,
             waiting,
+            opener,
             line: None,
             clock,
             reader,
@@ -81,12 +88,6 @@ impl<'a, S: System, C: Clock + Drop, R: Source, W: Sink> Live<'a, S, C, R, W> {
             errors: Outlet::new(system, "/dev/stderr"),
             framing,
         })
-    }
-
-    /// Has no line any more.
-    pub(crate) fn forget_line(&mut self) {
-        self.line = None;
-        self.waiting.forget_line();
     }
 
     /// Has the owner of standard output write some of what waits.
@@ -138,6 +139,40 @@ impl<S: System, C: Clock + Drop, R: Source, W: Sink> Devices for Live<'_, S, C, 
     ghost use Rattle.std.specs.Prelude.{None};
 
     ghost traffic = { λ _. None };
+
+    type Refusal = OpenRefusal;
+
+    fn begin_lines(&mut self, session: &mut Session) -> Result<(), OpenRefusal> {
+        if let Some(addr) = self.opener.listen(self.system, &mut self.waiting)? {
+            session.report(&Event::Listening(addr));
+        }
+        Ok(())
+    }
+
+    fn open_line(&mut self, session: &mut Session) -> Result<bool, OpenRefusal> {
+        match self.opener.open(self.system, &mut self.waiting)? {
+            Opened::Line(line) => self.line = Some(line),
+            Opened::Connected(line, peer) => {
+                session.report(&Event::Connected(peer));
+                self.line = Some(line);
+            }
+            Opened::Connecting(peer) => {
+                session.report(&Event::Connecting(peer));
+                return Ok(false);
+            }
+            Opened::NotYet => return Ok(false),
+        }
+        Ok(true)
+    }
+
+    fn report_retry(&mut self, session: &mut Session, refusal: OpenRefusal, seconds: u64) {
+        session.report(&Event::Retry(self.opener.fault(refusal), seconds));
+    }
+
+    fn close_line(&mut self) {
+        self.line = None;
+        self.waiting.forget_line();
+    }
 
     fn read_input(&mut self, space: &mut [u8]) -> Got {
         if !self.waiting.input.ready.to_read {

@@ -1,20 +1,22 @@
 -- How a session goes on over one line after the other.
 use Rattle.std.proofs.Common.{◌≡◌, ◌∙◌, ap, sym, subst, refl, ℕ, Bool, true, List, [], ◌∷◌, ◌++◌}
-use Rattle.std.proofs.Common.{append-nil, Option, Some, None}
+use Rattle.std.proofs.Common.{◌⊎◌, append-nil, inl, inr, false, Option, Some, None, Result, Ok, Err}
 use Rattle.ddcmp_frame.specs.Reader.{StandsFor}
 use Rattle.ddcmp_station.specs.Linking.{LinkView}
-use Rattle.ddcmp_session.specs.Session.{SessionView, after_connected, form_of}
+use Rattle.ddcmp_session.specs.Session.{SessionView, after_connected, after_time, form_of}
 use Rattle.ddcmp_session.specs.Calls.{SessionCall, SessionStep, SessionHistory, SessionDoes}
 use Rattle.ddcmp_session.specs.Calls.{Typed, InputEnded, Connected, LineEnded, Received, Filled}
-use Rattle.ddcmp_session.specs.Calls.{LineTook, TimedOut, Delivered, OutputTook, Closed}
+use Rattle.ddcmp_session.specs.Calls.{LineTook, TimedOut, TimePassed, Delivered, OutputTook, Closed}
 use Rattle.ddcmp_session.specs.Calls.{HasClosed, HasLeft, IsSessionHistory, after_session_step}
 use Rattle.ddcmp_session.specs.Calls.{after_session_steps}
 use Rattle.ddcmp_session.specs.Connections.{Connection, Does, AreDone, after_all, after_step}
 use Rattle.ddcmp_session.specs.Devices.{Agrees, AreOfRun, Becomes, BuffersView, GoesOn}
-use Rattle.ddcmp_session.specs.Lines.{GoesOver}
-use Rattle.ddcmp_session.specs.Devices.{IsOfRun, Traffic}
-use Rattle.ddcmp_session.specs.Lines.{WentOver, line_begun, none_received}
-use Rattle.ddcmp_session.proofs.GoingLaws.{end-is, quiet-agrees}
+use Rattle.ddcmp_session.specs.Devices.{HasReported, IsOfRun, Reports, Traffic}
+use Rattle.ddcmp_session.specs.Lines.{GoesOver, ReportsOver, WentOver, line_begun, none_received}
+use Rattle.ddcmp_session.specs.Timing.{PassesTime, after_failure, after_line}
+use Rattle.ddcmp_session.specs.declared.buffers.lines.Stop.TheVariants.{the_data, Device}
+use Rattle.ddcmp_session.specs.declared.devices.Fault.{Fault}
+use Rattle.ddcmp_session.proofs.GoingLaws.{end-is, quiet-agrees, stays}
 
 -- ---- over the line that there is
 
@@ -32,6 +34,7 @@ one-over (LineTook n) new c of does = (does, refl)
 one-over (TimedOut now) new c of does = (does, refl)
 one-over (Delivered has) new c of does = (does, refl)
 one-over (OutputTook n) new c of does = (does, refl)
+one-over TimePassed new c of does = absurd of
 one-over Connected new c of does = absurd of
 one-over (LineEnded reported) new c of does = absurd of
 one-over (Closed left over reported) new c of does = absurd of
@@ -126,6 +129,24 @@ module _ {held : BuffersView} {known : Option Traffic} (old new : SessionView)
         },
       )
 
+  pub passed-over : PassesTime old new → GoesOver held old known held new known
+  unfolding after_all
+  passed-over does = λ c t is was a.
+      let h = c.history in (
+        t,
+        was,
+        record {
+          steps = record { call = TimePassed; session = new } ∷ [];
+          calls = (subst (λ (x : SessionView). PassesTime x new) (sym is) does, tt);
+          session = refl;
+          agrees =
+              quiet-agrees TimePassed held known h new t refl refl refl refl refl
+              (form ∙ sym (same-view (λ x. form_of x.messages) h.session old is))
+              (λ e. reads (sym (same-view (λ x. x.is_read) h.session old is) ∙ e))
+              (line ∙ sym (same-view (λ x. x.link.station.line) h.session old is)) a;
+        },
+      )
+
   pub closed-over : (left : List ℕ) (over reported : Bool) → HasClosed left over reported old new
       → GoesOver held old known held new known
   unfolding after_all
@@ -155,6 +176,16 @@ line-left reported old new does =
     (λ e. same-view (λ x. x.is_read) new _ does.stays ∙ e)
     (ap (λ (d : LinkView). d.station.line) does.link)
     reported does
+
+-- a moment passed without a line
+pub time-passed : {held : BuffersView} {known : Option Traffic} (old new : SessionView)
+    → PassesTime old new → GoesOver held old known held new known
+time-passed old new does =
+    passed-over old new
+    (same-view (λ x. form_of x.messages) new _ does.stays)
+    (λ e. same-view (λ x. x.is_read) new _ does.stays ∙ e)
+    (same-view (λ x. x.link.station.line) new _ does.stays)
+    does
 
 -- the run was ended
 pub run-closed : {held : BuffersView} {known : Option Traffic} (left : List ℕ)
@@ -207,3 +238,86 @@ line-connected {held} {k} {k'} old new does clear becomes = λ c t is was a.
         };
       },
     )
+
+-- ---- nothing was done, and faults
+
+-- what GoesOver says of a session that stays as it is
+pub none-over : {held : BuffersView} {s s' : SessionView} {k k' : Option Traffic}
+    → s' ≡ s → k' ≡ k → GoesOver held s k held s' k'
+none-over same known = goes-over (stays same known)
+
+pub reports-over : {h0 h1 : BuffersView} {s0 s1 : SessionView} {k0 k1 k2 : Option Traffic}
+    {fault : Fault} → GoesOver h0 s0 k0 h1 s1 k1 → Reports h1 s1 k1 k2 fault
+    → ReportsOver h0 s0 k0 k2 fault
+reports-over p q = λ c t now is was agrees at.
+    let a = p c t is was agrees in
+    q (after_all a.2.steps c).history a.0 now a.2.session a.1 a.2.agrees at
+
+pub reports-later : {h0 h1 : BuffersView} {s0 s1 : SessionView} {k0 k1 k2 : Option Traffic}
+    {fault : Fault} → GoesOver h0 s0 k0 h1 s1 k1 → ReportsOver h1 s1 k1 k2 fault
+    → ReportsOver h0 s0 k0 k2 fault
+reports-later p q = λ c t now is was agrees at.
+    let a = p c t is was agrees in
+    q (after_all a.2.steps c) a.0 now a.2.session a.1 a.2.agrees at
+
+-- ---- no line
+
+pub passed-now : {held : BuffersView} {known : Option Traffic} (now : ℕ) (old new : SessionView)
+    → new ≡ after_time now old → GoesOver held old known held new known
+passed-now now old new does =
+    let course = same-view (λ x. x.course) new (after_time now old) does in
+    time-passed old new (record {
+      now = now;
+      course = inl course;
+      stays = does ∙ ap (λ c. record old { course = c }) (sym course);
+    })
+
+pub failed : {held : BuffersView} {known : Option Traffic} (now : ℕ) (old new : SessionView)
+    → new ≡ after_failure (after_time now old) → GoesOver held old known held new known
+failed now old new does =
+    let course = same-view (λ x. x.course) new (after_failure (after_time now old)) does in
+    time-passed old new (record {
+      now = now;
+      course = inr (inl course);
+      stays = does ∙ ap (λ c. record old { course = c }) (sym course);
+    })
+
+pub paused : {held : BuffersView} {known : Option Traffic} (now : ℕ) (old new : SessionView)
+    → new ≡ after_line (after_time now old) → GoesOver held old known held new known
+paused now old new does =
+    let course = same-view (λ x. x.course) new (after_line (after_time now old)) does in
+    time-passed old new (record {
+      now = now;
+      course = inr (inr course);
+      stays = does ∙ ap (λ c. record old { course = c }) (sym course);
+    })
+
+-- ---- how a line was opened, and a run ended
+
+pub not-open : {R : Type 0} {b : Bool} → b ≡ false → ◌≡◌ {A = Result Bool R} (Ok b) (Ok true) → ⊥
+not-open shut e = cc
+
+pub refused : {R : Type 0} {r : R} → ◌≡◌ {A = Result Bool R} (Err r) (Ok true) → ⊥
+refused e = cc
+
+pub same-fault : {A B R : Type 0} {f f' : Fault}
+    → ◌≡◌ {A = Result A (the_data R)} (Err (Device f)) (Err (Device f'))
+    → ◌≡◌ {A = Result B Fault} (Err f) (Err f')
+same-fault e = cc
+
+pub same-err : {A B E : Type 0} {x y : E} → ◌≡◌ {A = Result A E} (Err x) (Err y)
+    → ◌≡◌ {A = Result B E} (Err x) (Err y)
+same-err e = cc
+
+pub reports-at : {h : BuffersView} {s : SessionView} {k0 k1 k2 : Option Traffic} {fault : Fault}
+    → k2 ≡ k1 → ReportsOver h s k0 k1 fault → ReportsOver h s k0 k2 fault
+reports-at {h} {s} {k0} {k1} {k2} {fault} same reports =
+    subst (λ k. ReportsOver h s k0 k fault) (sym same) reports
+
+-- the fault is that of the run, or one that came after it
+pub reports-by : {P : Type 0} {h0 h1 : BuffersView} {s0 s1 : SessionView}
+    {k0 k1 k2 : Option Traffic} {fault : Fault} → GoesOver h0 s0 k0 h1 s1 k1
+    → (P → ReportsOver h0 s0 k0 k1 fault) → (P × (k2 ≡ k1)) ⊎ Reports h1 s1 k1 k2 fault
+    → ReportsOver h0 s0 k0 k2 fault
+reports-by over ran (inl same) = reports-at same.1 (ran same.0)
+reports-by over ran (inr later) = reports-over over later

@@ -21,11 +21,13 @@ use Rattle.ddcmp_session.specs.Session.{lost_among, lost_at_end}
 use Rattle.ddcmp_session.specs.declared.options.LineKind.{LineKind}
 use Rattle.ddcmp_session.specs.declared.options.Options.{Options}
 use Rattle.ddcmp_session.specs.Text.{Wrote, mail_text, notices_text, reported_lost}
+use Rattle.ddcmp_session.specs.Timing.{PassesTime}
 
 -- A call of a session, by its name: with the bytes of its input or of its line that it used, how
 -- many frames it put, how many bytes a device took, the moment that it was passed, whether it
--- delivered a message, or what was left of its input, and whether that is its end. Of the other calls `write_end` appends the last lines of a run to an output
--- of lines; they change nothing else of a session's view.
+-- delivered a message, or what was left of its input, and whether that is its end. `TimePassed` is
+-- what is called while there is no line. Of the other calls `write_end` appends the last lines of a
+-- run to an output of lines; they change nothing else of a session's view.
 pub data SessionCall : Type 0 where
   Typed : (used : List ℕ) → SessionCall
   InputEnded : SessionCall
@@ -35,6 +37,7 @@ pub data SessionCall : Type 0 where
   Filled : (frames : ℕ) → SessionCall
   LineTook : (n : ℕ) → SessionCall
   TimedOut : (now : ℕ) → SessionCall
+  TimePassed : SessionCall
   Delivered : (has_mail : Bool) → SessionCall
   OutputTook : (n : ℕ) → SessionCall
   Closed : (left : List ℕ) (is_at_end is_reported : Bool) → SessionCall
@@ -122,6 +125,7 @@ SessionDoes (Filled frames) text old new =
     (new ≡ record old { link = after_frames frames old.link }) × IsFilled new
 SessionDoes (LineTook n) text old new = new ≡ record old { link = after_sent n old.link }
 SessionDoes (TimedOut now) text old new = new ≡ after_timeout now old
+SessionDoes TimePassed text old new = PassesTime old new
 SessionDoes (Delivered true) text old new = HasDelivered old new
 SessionDoes (Delivered false) text old new = HasWritten [] old new
 SessionDoes (OutputTook n) text old new = new ≡ record old { output = after_taken n old.output }

@@ -14,7 +14,7 @@ use Rattle.ddcmp_session.specs.declared.devices.Moved.TheVariants.{Ended}
 use Rattle.ddcmp_window.specs.Store.{first_message}
 use Rattle.ddcmp_session.specs.Session.{SessionView, form_of, IsFilled, wants_input, wants_line}
 use Rattle.ddcmp_session.specs.Session.{room_for_mail}
-use Rattle.ddcmp_session.specs.Calls.{SessionCall, Connected, LineEnded, Closed}
+use Rattle.ddcmp_session.specs.Calls.{SessionCall, Connected, TimePassed, LineEnded, Closed}
 use Rattle.ddcmp_session.specs.Calls.{SessionHistory, SessionStep, IsSessionHistory}
 use Rattle.ddcmp_session.specs.Calls.{after_session_steps, end_in}
 
@@ -116,6 +116,7 @@ pub record Agrees (held : BuffersView) (h : SessionHistory) (t : Traffic) : Type
 -- a call of a session that leaves its line and its run as they are
 abbrev pub IsOfRun : SessionCall → Type 0
 IsOfRun Connected = ⊥
+IsOfRun TimePassed = ⊥
 IsOfRun (LineEnded is_reported) = ⊥
 IsOfRun (Closed left is_at_end is_reported) = ⊥
 IsOfRun _ = ⊤

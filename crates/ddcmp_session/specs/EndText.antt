@@ -38,3 +38,7 @@ down_text Closed = codes "closed by the other end"
 down_text (Failed kind.BrokenPipe) = codes "broken pipe"
 down_text (Failed kind.Other) = codes "input or output error"
 down_text (Failed other) = cause_words other
+
+-- a line is opened again
+abbrev pub pause_text : ℕ → List ℕ
+pause_text seconds = codes "retry in " ++ decimal seconds ++ codes " s"

@@ -1,5 +1,5 @@
 -- When the line of a session is left, until when it waits, and when a line is opened again.
-use Rattle.std.specs.Prelude.{ℕ, ◌-◌, ◌*◌, Bool, true, false, ◌&&◌, ◌||◌, not, ◌==◌, nat_le, nat_lt}
+use Rattle.std.specs.Prelude.{◌≡◌, ◌⊎◌, ℕ, ◌-◌, ◌*◌, Bool, true, false, ◌&&◌, ◌||◌, not, ◌==◌, nat_le, nat_lt}
 use Rattle.std.specs.Prelude.{min, if◌then◌else◌, Option, None, Some}
 use Rattle.ddcmp_core.specs.Table.{is_running}
 use Rattle.ddcmp_station.specs.Driving.{later}
@@ -10,7 +10,7 @@ use Rattle.ddcmp_session.specs.declared.session.End.{End}
 use Rattle.ddcmp_session.specs.declared.session.End.TheVariants.{Delivered, Time, Restarted}
 use Rattle.ddcmp_session.specs.declared.session.End.TheVariants.{GivenUp}
 use Rattle.ddcmp_session.specs.Course.{after_opening_failed, never}
-use Rattle.ddcmp_session.specs.Session.{SessionView, is_delivered}
+use Rattle.ddcmp_session.specs.Session.{SessionView, after_time, is_delivered}
 
 -- ---- the end
 
@@ -103,3 +103,16 @@ abbrev pub seconds_after_line : SessionView → Option ℕ
 seconds_after_line s =
     if s.course.has_run_here || is_listener s.kind then None
     else Some (after_opening_failed s.course).retry_seconds
+
+-- a line couldn't be opened
+abbrev pub after_failure : SessionView → SessionView
+after_failure s = record s { course = after_opening_failed s.course }
+
+-- A moment passed without a line; then one couldn't be opened, or one that was left is to be opened
+-- again. Nothing else changes.
+pub record PassesTime (old new : SessionView) : Type 0 where
+  pub now : ℕ
+  pub course : (new.course ≡ (after_time now old).course)
+      ⊎ ((new.course ≡ (after_failure (after_time now old)).course)
+      ⊎ (new.course ≡ (after_line (after_time now old)).course))
+  pub stays : new ≡ record old { course = new.course }

@@ -2,22 +2,23 @@
 ghost use Rattle.std.specs.Prelude.{◌≡◌, [], IfOk};
 ghost use Rattle.ddcmp_session.specs.Devices.{nothing_read};
 
+mod lines;
 mod passing;
 mod running;
 
 use crate::chunk::Chunk;
 use crate::devices::{Down, Wanted};
 use crate::session::Session;
-pub use passing::write_errors;
-pub use running::{drain_errors, drain_output, leave_line};
+pub use lines::Stop;
+pub use running::{drain_errors, drain_output};
 use std::alloc::{AllocError, Global};
 use std::marker::Model;
 
 /// What was read for a session and not used yet. `run` moves bytes between the session and its
 /// devices, and decides nothing.
 ///
-/// Call `begin_line` once a line is open, then `run` until the line is left, and then `leave_line`.
-/// `drain_output` and `drain_errors` write what waits, as at the end.
+/// `run_lines` runs a session from its first line to its last and closes it, and `run` over one line
+/// after `begin_line`. `drain_output` and `drain_errors` write what waits, as at the end.
 pub struct Buffers {
     input: Chunk,
     received: Chunk,

@@ -9,16 +9,43 @@ use ddcmp_io::cause::words_of;
 use std::fmt;
 use std::io::ErrorKind;
 
-/// The devices that a session runs over. Of these calls only `rest` and `wait` wait.
+/// The devices that a session runs over. Of these calls only `rest` and `wait` wait. A line that was
+/// opened is read and written until `close_line`.
 pub trait Devices {
     ghost use Rattle.ddcmp_session.specs.Devices.{Traffic, Becomes, after_read, after_came};
     ghost use Rattle.std.specs.Prelude.{None};
     ghost use Rattle.ddcmp_session.specs.Devices.{Rests, count_moved, count_read};
     ghost use Rattle.ddcmp_session.specs.Timing.{end, wait_ms};
     ghost use Rattle.ddcmp_session.specs.Devices.{after_gone, after_wait, after_written};
+    ghost use Rattle.ddcmp_session.specs.Lines.{line_begun};
+    ghost use Rattle.std.specs.Prelude.{◌≢◌, Ok, true};
 
     // What they have given and taken, if that is known.
     ghost traffic: { Self → Option Traffic };
+
+    /// Why a line can't be opened.
+    type Refusal: Copy;
+
+    /// Begins what all lines need, as listening for whoever calls, and reports that.
+    fn begin_lines(&mut self, session: &mut Session) -> Result<(), Self::Refusal>
+        ensures session { session.new ≡ session.old }
+        ensures devices { traffic self.new ≡ traffic self.old };
+
+    /// Opens a line as far as that doesn't wait, and reports to whom; returns whether it is open.
+    fn open_line(&mut self, session: &mut Session) -> Result<bool, Self::Refusal>
+        ensures session { session.new ≡ session.old }
+        ensures opened { result ≡ Ok true
+            → Becomes (traffic self.old) (traffic self.new) line_begun }
+        ensures not_opened { result ≢ Ok true → traffic self.new ≡ traffic self.old };
+
+    /// Reports why a line couldn't be opened, which is tried again after this many seconds.
+    fn report_retry(&mut self, session: &mut Session, refusal: Self::Refusal, seconds: u64)
+        ensures session { session.new ≡ session.old }
+        ensures devices { traffic self.new ≡ traffic self.old };
+
+    /// Closes the line, if one is open: the peer learns of that at once.
+    fn close_line(&mut self)
+        ensures { traffic self.new ≡ traffic self.old };
 
     /// Reads the input into the front of `space`, if it has something. No bytes are its end.
     fn read_input(&mut self, space: &mut [u8]) -> Got

@@ -15,7 +15,7 @@ mod skipped;
 mod text;
 mod trace;
 
-pub use buffers::{Buffers, drain_errors, drain_output, leave_line, write_errors};
+pub use buffers::{Buffers, Stop, drain_errors, drain_output};
 pub use devices::{Devices, Down, Fault, Moved, Wanted};
 pub use messages::Form;
 pub use options::{LineKind, Options};

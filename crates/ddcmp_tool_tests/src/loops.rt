@@ -3,7 +3,9 @@ ghost use Rattle.std.specs.Prelude.{◌≤◌, length};
 
 use crate::sessions::{append, messages, options, session};
 use ddcmp_io::Got;
-use ddcmp_session::{Buffers, Devices, End, Moved, Session, Wanted, drain_output};
+use ddcmp_session::{
+    Buffers, Devices, Down, End, LineKind, Moved, Options, Session, Stop, Wanted, drain_output,
+};
 use std::process::Abort;
 use test_kit::Draws;
 
@@ -30,6 +32,11 @@ impl Way {
         n
     }
 
+    fn clear(&mut self) {
+        self.bytes.clear();
+        self.at = 0;
+    }
+
     fn take(&mut self, bytes: &[u8]) {
         let _has_memory = self.bytes.extend_from_slice(bytes);
     }
@@ -39,6 +46,9 @@ impl Way {
 #[derive(Drop)]
 struct Desk {
     draws: Draws,
+    /// One of how many reads finds that the line was closed; 0 is none.
+    cuts: usize,
+    is_open: bool,
     now: u64,
     input: Way,
     from_line: Way,
@@ -95,6 +105,34 @@ impl Devices for Desk {
 
     ghost traffic = { λ _. None };
 
+    type Refusal = ();
+
+    fn begin_lines(&mut self, _session: &mut Session) -> Result<(), ()> {
+        Ok(())
+    }
+
+    fn open_line(&mut self, _session: &mut Session) -> Result<bool, ()> {
+        match self.draws.below(4) {
+            0 => Err(()),
+            1 => Ok(false),
+            _ => {
+                self.from_line.clear();
+                self.to_line.clear();
+                self.is_open = self.peer.connected();
+                Ok(self.is_open)
+            }
+        }
+    }
+
+    fn report_retry(&mut self, _session: &mut Session, _refusal: (), _seconds: u64) {}
+
+    fn close_line(&mut self) {
+        if self.is_open {
+            let _has_room = self.peer.line_ended();
+            self.is_open = false;
+        }
+    }
+
     fn read_input(&mut self, space: &mut [u8]) -> Got {
         if self.draws.below(3) == 0 {
             return Got::Idle;
@@ -108,6 +146,9 @@ impl Devices for Desk {
     }
 
     fn read_line(&mut self, space: &mut [u8]) -> Moved {
+        if self.cuts > 0 && self.draws.below(self.cuts) == 0 {
+            return Moved::Ended(Down::Closed);
+        }
         let most = self.draws.below(900);
         match self.from_line.give(most, space) {
             0 if self.draws.below(2) == 0 => Moved::Interrupted,
@@ -166,6 +207,8 @@ fn exchanges(rt: &(impl Abort + AllocGlobal), seed: u64) {
     append(rt, &mut expected.1, answer.as_slice());
     let mut desk = Desk {
         draws,
+        cuts: 0,
+        is_open: true,
         now: 0,
         input: fresh(input),
         from_line: fresh(Vec::new(rt.alloc())),
@@ -192,4 +235,78 @@ fn outputs_are_inputs(rt: HostRuntime) {
     for seed in 1..9u64 {
         exchanges(&rt, seed);
     }
+}
+
+/// The first message of some bytes with its length, and what follows it.
+fn first_message(bytes: &[u8]) -> Option<(&[u8], &[u8])> {
+    let (high, low) = (*bytes.first()?, *bytes.get(1)?);
+    let end = 2 + u16::from_be_bytes([high, low]) as usize;
+    Some((bytes.get(..end)?, bytes.get(end..)?))
+}
+
+/// Returns how many messages of `read` weren't written; none if others were, or in another order.
+fn missing(read: &[u8], written: &[u8]) -> Option<u64> {
+    let mut read = read;
+    let mut written = written;
+    let mut count = 0u64;
+    while let Some((message, rest)) = first_message(read) {
+        if let Some((next, later)) = first_message(written) && next == message {
+            written = later;
+        } else {
+            count += 1;
+        }
+        read = rest;
+    }
+    if written.is_empty() { Some(count) } else { None }
+}
+
+/// A session over one line after the other, each of which may be closed at any time: what wasn't
+/// acknowledged is lost, and all else arrives. Returns how many messages didn't.
+fn exchanges_over_lines(rt: &(impl Abort + AllocGlobal), seed: u64) -> u64 {
+    let mut draws = Draws { state: seed };
+    let input = messages(rt, &mut draws, 40);
+    let mut expected = Vec::new(rt.alloc());
+    append(rt, &mut expected, input.as_slice());
+    let answer = messages(rt, &mut draws, 5);
+    let mut desk = Desk {
+        draws,
+        cuts: 60,
+        is_open: false,
+        now: 0,
+        input: fresh(input),
+        from_line: fresh(Vec::new(rt.alloc())),
+        to_line: fresh(Vec::new(rt.alloc())),
+        output: fresh(Vec::new(rt.alloc())),
+        peer: session(rt, options(60_000, 86_400)),
+        peer_input: fresh(answer),
+        peer_output: fresh(Vec::new(rt.alloc())),
+    };
+    let options = Options {
+        again: true,
+        ..options(1000, 86_400)
+    };
+    let Ok(mut own) = Session::new(rt.alloc(), options, LineKind::Connect) else {
+        panic!(rt; "no memory");
+    };
+    let Ok(mut buffers) = Buffers::new(rt.alloc()) else {
+        panic!(rt; "no memory");
+    };
+    let ended = buffers.run_lines(&mut own, &mut desk);
+    let lost = own.lost();
+    let expected_end = if lost == 0 { Ok(()) } else { Err(Stop::Lost(lost)) };
+    assert!(rt; ended == expected_end);
+    let Some(missing) = missing(expected.as_slice(), desk.peer_output.bytes.as_slice()) else {
+        panic!(rt; "another message was written");
+    };
+    assert!(rt; missing <= lost);
+    missing
+}
+
+#[test]
+fn all_but_the_lost_arrive(rt: HostRuntime) {
+    let mut missing = 0;
+    for seed in 1..17u64 {
+        missing += exchanges_over_lines(&rt, seed);
+    }
+    assert!(&rt; missing > 0);
 }

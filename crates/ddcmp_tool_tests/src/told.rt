@@ -54,6 +54,22 @@ impl Devices for Told {
       faults = [];
     }) };
 
+    type Refusal = ();
+
+    fn begin_lines(&mut self, _session: &mut Session) -> Result<(), ()> {
+        Ok(())
+    }
+
+    fn open_line(&mut self, _session: &mut Session) -> Result<bool, ()> {
+        self.came.clear();
+        self.gone.clear();
+        Ok(true)
+    }
+
+    fn report_retry(&mut self, _session: &mut Session, _refusal: (), _seconds: u64) {}
+
+    fn close_line(&mut self) {}
+
     fn read_input(&mut self, space: &mut [u8]) -> Got {
         let n = give(self.input.as_slice(), &mut self.read, space);
         self.is_over = n == 0;

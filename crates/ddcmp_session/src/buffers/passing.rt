@@ -282,7 +282,7 @@ pub(super) fn write_output<D: Devices>(
 }
 
 /// Writes what standard error has room for.
-pub fn write_errors<D: Devices>(session: &mut Session, devices: &mut D) -> bool
+pub(super) fn write_errors<D: Devices>(session: &mut Session, devices: &mut D) -> bool
     ensures session { session.new ≡ session.old }
     ensures devices { D.traffic devices.new ≡ D.traffic devices.old }
 {

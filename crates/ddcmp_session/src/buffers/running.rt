@@ -1,7 +1,7 @@
 //! The loop of a session over its devices.
 ghost use Rattle.std.specs.Prelude.{◌≡◌, ◌≢◌, [], Err, Ok};
 ghost use Rattle.ddcmp_session.specs.Devices.{BuffersView, GoesOn, HoldsMail, Reports};
-ghost use Rattle.ddcmp_session.specs.Lines.{GoesOver};
+ghost use Rattle.ddcmp_session.specs.Lines.{GoesOver, ReportsOver};
 ghost use Rattle.ddcmp_session.specs.declared.devices.Fault.{Fault as FaultValue};
 
 use crate::buffers::Buffers;
@@ -58,9 +58,12 @@ impl Buffers {
 const LINE_END_MS: u64 = 80;
 
 /// Leaves a line that has ended: what came over it is written, and what was lost is reported.
-pub fn leave_line<D: Devices>(session: &mut Session, devices: &mut D) -> Result<(), Fault>
+pub(super) fn leave_line<D: Devices>(session: &mut Session, devices: &mut D) -> Result<(), Fault>
     ensures over { (held : BuffersView) → GoesOver held session.old (D.traffic devices.old)
         held session.new (D.traffic devices.new) }
+    ensures reports { (held : BuffersView) (fault : FaultValue) → fault ≢ Fault.Time
+        → result ≡ Err fault → ReportsOver held session.old (D.traffic devices.old)
+        (D.traffic devices.new) fault }
     ensures drained { result ≡ Ok tt → session.new.output.waiting ≡ [] }
 {
     match drain_output(session, devices) {

@@ -1,4 +1,5 @@
-use Rattle.ddcmp_session.proofs.LinesGo.{goes-over, line-left, over-then}
+use Rattle.std.proofs.Common.{refl}
+use Rattle.ddcmp_session.proofs.LinesGo.{goes-over, line-left, none-over, over-then, reports-over}
 use Rattle.ddcmp_session.proofs.buffers.running.leave_line.Goals as goal
 
 pub returns-in-Err-clause-over : goal.returns-in-Err-clause-over
@@ -27,3 +28,20 @@ returns-clause-over g c = λ held.
     }))
     (over-then (goes-over (c.drain_output-2.ensures.on held))
     (goes-over (c.drain_errors.ensures.on held))))
+
+pub returns-in-Err-clause-reports : goal.returns-in-Err-clause-reports
+returns-in-Err-clause-reports g c = λ held fault untimed e.
+    reports-over (none-over {held = held} refl refl)
+    (c.in-Err.ensures.reports held fault e untimed)
+
+pub returns-in-Err-drain_output-clause-reports : goal.returns-in-Err-drain_output-clause-reports
+returns-in-Err-drain_output-clause-reports g c = λ held fault untimed e.
+    reports-over
+    (over-then (goes-over (c.drain_output.ensures.on held))
+    (line-left c.line_ended-has_room.result c.drain_output.new.session
+    c.line_ended-has_room.new.self (record {
+      link = c.line_ended-has_room.ensures.link;
+      wrote = c.line_ended-has_room.ensures.wrote;
+      stays = c.line_ended-has_room.ensures.stays;
+    })))
+    (c.in-Err-drain_output.ensures.reports held fault e untimed)

@@ -1,0 +1,51 @@
+use Rattle.std.proofs.Common.{refl}
+use Rattle.ddcmp_session.proofs.LinesGo.{none-over, over-then, passed-now}
+use Rattle.ddcmp_session.proofs.buffers.Buffers.begin.Goals as goal
+
+pub loop-try-init : goal.loop-try-init
+loop-try-init g c = none-over refl refl
+
+pub returns-then-run_ends_at-now-clause-over : goal.returns-then-run_ends_at-now-clause-over
+returns-then-run_ends_at-now-clause-over g c =
+    over-then c.loop-try.invariant
+    (over-then (none-over refl c.now-now.ensures)
+    (passed-now c.now-now.result c.loop-try.session c.pass_time.new.self c.pass_time.ensures))
+
+pub returns-in-Ok-true-clause-over : goal.returns-in-Ok-true-clause-over
+returns-in-Ok-true-clause-over g c =
+    over-then c.loop-try.invariant
+    (over-then (none-over refl c.now-now.ensures)
+    (over-then
+    (passed-now c.now-now.result c.loop-try.session c.pass_time.new.self c.pass_time.ensures)
+    c.try_line.ensures.over))
+
+pub returns-in-Err-clause-over : goal.returns-in-Err-clause-over
+returns-in-Err-clause-over g c =
+    over-then c.loop-try.invariant
+    (over-then (none-over refl c.now-now.ensures)
+    (over-then
+    (passed-now c.now-now.result c.loop-try.session c.pass_time.new.self c.pass_time.ensures)
+    c.try_line.ensures.over))
+
+pub returns-then-not-wait_between_lines-clause-over : goal.returns-then-not-wait_between_lines-clause-over
+returns-then-not-wait_between_lines-clause-over g c =
+    over-then c.loop-try.invariant
+    (over-then (none-over refl c.now-now.ensures)
+    (over-then
+    (passed-now c.now-now.result c.loop-try.session c.pass_time.new.self c.pass_time.ensures)
+    (over-then c.try_line.ensures.over
+    (over-then (none-over c.write_errors.ensures.session c.write_errors.ensures.devices)
+    (c.wait_between_lines.ensures.over _)))))
+
+pub loop-try-preserved : goal.loop-try-preserved
+loop-try-preserved g c =
+    over-then c.loop-try.invariant
+    (over-then (none-over refl c.now-now.ensures)
+    (over-then
+    (passed-now c.now-now.result c.loop-try.session c.pass_time.new.self c.pass_time.ensures)
+    (over-then c.try_line.ensures.over
+    (over-then (none-over c.write_errors.ensures.session c.write_errors.ensures.devices)
+    (c.wait_between_lines.ensures.over _)))))
+
+pub returns-clause-over : goal.returns-clause-over
+returns-clause-over g c = c.loop-try.invariant

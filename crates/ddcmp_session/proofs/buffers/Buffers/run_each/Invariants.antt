@@ -1,0 +1,7 @@
+use Rattle.ddcmp_session.specs.Lines.{GoesOver}
+use Rattle.ddcmp_session.proofs.buffers.Buffers.run_each.Given as goal
+
+abbrev pub invariant-loop-line : goal.invariant-loop-line
+invariant-loop-line g l =
+    GoesOver l.fn.self l.fn.session (g.D.Devices.traffic l.fn.devices) l.self l.session
+    (g.D.Devices.traffic l.devices)

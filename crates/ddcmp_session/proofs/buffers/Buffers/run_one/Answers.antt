@@ -1,0 +1,28 @@
+use Rattle.std.proofs.Common.{refl}
+use Rattle.ddcmp_session.proofs.LinesGo.{goes-over, none-over, over-then, reports-over, same-fault}
+use Rattle.ddcmp_session.proofs.buffers.Buffers.run_one.Goals as goal
+
+pub returns-in-Ok-Delivered-clause-over : goal.returns-in-Ok-Delivered-clause-over
+returns-in-Ok-Delivered-clause-over g c =
+    over-then c.begin.ensures.over (goes-over c.run.ensures.on)
+
+pub returns-in-Ok-Restarted-clause-over : goal.returns-in-Ok-Restarted-clause-over
+returns-in-Ok-Restarted-clause-over g c =
+    over-then c.begin.ensures.over (goes-over c.run.ensures.on)
+
+pub returns-in-Ok-Time-clause-over : goal.returns-in-Ok-Time-clause-over
+returns-in-Ok-Time-clause-over g c =
+    over-then c.begin.ensures.over (goes-over c.run.ensures.on)
+
+pub returns-in-Err-Line-clause-over : goal.returns-in-Err-Line-clause-over
+returns-in-Err-Line-clause-over g c =
+    over-then c.begin.ensures.over
+    (over-then (goes-over c.run.ensures.on) (none-over c.report_down.ensures refl))
+
+pub returns-in-Err-run : goal.returns-in-Err-run
+returns-in-Err-run g c = record {
+  over = over-then c.begin.ensures.over (goes-over c.run.ensures.on);
+  reports = λ fault untimed e.
+      reports-over c.begin.ensures.over (c.in-Err-run.ensures.reports fault (same-fault e));
+  unjudged = λ count e. cc;
+}

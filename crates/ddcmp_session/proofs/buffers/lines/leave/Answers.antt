@@ -1,0 +1,18 @@
+use Rattle.std.proofs.Common.{refl}
+use Rattle.ddcmp_session.proofs.LinesGo.{none-over, over-then, paused}
+use Rattle.ddcmp_session.proofs.buffers.lines.leave.Goals as goal
+
+pub returns-in-Some-clause-over : goal.returns-in-Some-clause-over
+returns-in-Some-clause-over g c = λ held.
+    over-then (c.leave_line.ensures.over held)
+    (over-then (none-over refl c.now-now.ensures)
+    (over-then
+    (paused c.now-now.result c.leave_line.new.session c.pause_after_line.new.self
+    c.pause_after_line.ensures.state) (none-over c.report.ensures refl)))
+
+pub returns-in_default-clause-over : goal.returns-in_default-clause-over
+returns-in_default-clause-over g c = λ held.
+    over-then (c.leave_line.ensures.over held)
+    (over-then (none-over refl c.now-now.ensures)
+    (paused c.now-now.result c.leave_line.new.session c.pause_after_line.new.self
+    c.pause_after_line.ensures.state))

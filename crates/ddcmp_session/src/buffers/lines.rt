@@ -1,0 +1,300 @@
+//! A session over one line after the other.
+ghost use Rattle.std.specs.Prelude.{◌≡◌, ◌≢◌, ◌<◌, Err, Ok, ℕ, false, true};
+ghost use Rattle.ddcmp_session.specs.Devices.{BuffersView};
+ghost use Rattle.ddcmp_session.specs.Lines.{GoesOver, ReportsOver};
+ghost use Rattle.ddcmp_session.specs.declared.devices.Fault.{Fault as FaultValue};
+
+use crate::buffers::Buffers;
+use crate::buffers::passing::write_errors;
+use crate::buffers::running::leave_line;
+use crate::devices::{Devices, Fault, Wanted};
+use crate::session::{End, Session};
+use std::fmt;
+
+/// Why a run ended before all was delivered.
+#[derive(Clone, Copy, Debug, PartialEq, Eq)]
+pub enum Stop<R> {
+    /// The line couldn't be opened, for this reason.
+    NotOpened(R),
+    /// A device failed, or its time was over.
+    Device(Fault),
+    /// The line was left, and isn't opened again; over none the station has run.
+    Left,
+    /// So many messages were read and never acknowledged.
+    Lost(u64),
+}
+
+impl Buffers {
+    ghost use Rattle.std.specs.Prelude.{◌≡◌, ◌≢◌, ◌⊎◌, ◌<◌, Err, Ok, ℕ, false};
+    ghost use Rattle.ddcmp_session.specs.Devices.{GoesOn, Reports};
+    ghost use Rattle.ddcmp_session.specs.Session.{SessionView};
+    ghost use Rattle.ddcmp_session.specs.Lines.{Ends, GoesOver, ReportsOver};
+    ghost use Rattle.ddcmp_session.specs.declared.devices.Fault.{Fault as FaultValue};
+
+    /// Runs a new session over one line after the other, until all of the input is delivered or a
+    /// line ends for good, and closes it: what was read and isn't acknowledged is lost then. If
+    /// nothing is, all is delivered although the line has ended or the time is over.
+    pub fn run_lines<D: Devices>(
+        &mut self,
+        session: &mut Session,
+        devices: &mut D,
+    ) -> Result<(), Stop<D::Refusal>>
+        ensures ends { Ends self.old session.old (D.traffic devices.old)
+            self.new session.new (D.traffic devices.new) }
+        ensures whole { result ≡ Ok tt → session.new.course.lost ≡ 0 }
+        ensures lost { (count : ℕ) → result ≡ Err (Stop.Lost count)
+            → (count ≡ session.new.course.lost) × (0 < count) }
+        ensures left { result ≡ Err Stop.Left → session.new.course.has_run ≡ false }
+        ensures reports { (fault : FaultValue) → fault ≢ Fault.Time
+            → result ≡ Err (Stop.Device fault) → ReportsOver self.old session.old
+            (D.traffic devices.old) (D.traffic devices.new) fault }
+    {
+        let ran = self.run_each(session, devices);
+        devices.close_line();
+        self.judge(session, devices, ran)
+    }
+
+    /// Runs a session over one line after the other, until all is delivered or a line ends for
+    /// good.
+    fn run_each<D: Devices>(
+        &mut self,
+        session: &mut Session,
+        devices: &mut D,
+    ) -> Result<(), Stop<D::Refusal>>
+        ensures over { GoesOver self.old session.old (D.traffic devices.old)
+            self.new session.new (D.traffic devices.new) }
+        ensures reports { (fault : FaultValue) → fault ≢ Fault.Time
+            → result ≡ Err (Stop.Device fault) → ReportsOver self.old session.old
+            (D.traffic devices.old) (D.traffic devices.new) fault }
+        ensures unjudged { (count : ℕ) → result ≢ Err (Stop.Lost count) }
+    {
+        match devices.begin_lines(session) {
+            Ok(()) => {}
+            Err(refusal) => return Err(Stop::NotOpened(refusal)),
+        }
+        for _line in 0..u64::MAX {
+            match self.run_one(session, devices) {
+                Ok(true) => return Ok(()),
+                Ok(false) if session.reopens() => {}
+                Ok(false) => return Err(Stop::Left),
+                Err(stop) => return Err(stop),
+            }
+            devices.close_line();
+            match leave(session, devices) {
+                Ok(()) => {}
+                Err(fault) => return Err(Stop::Device(fault)),
+            }
+        }
+        Err(Stop::Left)
+    }
+
+    /// Runs a session over a line: returns whether all is delivered, or the line was left.
+    fn run_one<D: Devices>(
+        &mut self,
+        session: &mut Session,
+        devices: &mut D,
+    ) -> Result<bool, Stop<D::Refusal>>
+        ensures over { GoesOver self.old session.old (D.traffic devices.old)
+            self.new session.new (D.traffic devices.new) }
+        ensures reports { (fault : FaultValue) → fault ≢ Fault.Time
+            → result ≡ Err (Stop.Device fault) → ReportsOver self.old session.old
+            (D.traffic devices.old) (D.traffic devices.new) fault }
+        ensures unjudged { (count : ℕ) → result ≢ Err (Stop.Lost count) }
+    {
+        match self.begin(session, devices) {
+            Ok(()) => {}
+            Err(stop) => return Err(stop),
+        }
+        match self.run(session, devices) {
+            Ok(End::Delivered) => Ok(true),
+            Ok(End::Restarted | End::GivenUp) => Ok(false),
+            Ok(End::Time) => Err(Stop::Device(Fault::Time)),
+            Err(Fault::Line(why)) => {
+                session.report_down(&why);
+                Ok(false)
+            }
+            Err(fault) => Err(Stop::Device(fault)),
+        }
+    }
+
+    /// Opens a line and connects the session to it, unless the time of the run is over first. One
+    /// that can't be opened is tried again if that is asked for.
+    fn begin<D: Devices>(
+        &mut self,
+        session: &mut Session,
+        devices: &mut D,
+    ) -> Result<(), Stop<D::Refusal>>
+        ensures over { GoesOver self.old session.old (D.traffic devices.old)
+            self.new session.new (D.traffic devices.new) }
+        ensures time { (fault : FaultValue) → result ≡ Err (Stop.Device fault)
+            → fault ≡ Fault.Time }
+        ensures unjudged { (count : ℕ) → result ≢ Err (Stop.Lost count) }
+    {
+        for _try in 0..u64::MAX {
+            let now = devices.now();
+            session.pass_time(now);
+            if session.run_ends_at() <= now {
+                return Err(Stop::Device(Fault::Time));
+            }
+            match self.try_line(session, devices, now) {
+                Ok(true) => return Ok(()),
+                Ok(false) => {}
+                Err(stop) => return Err(stop),
+            }
+            write_errors(session, devices);
+            if !wait_between_lines(session, devices, now) {
+                return Err(Stop::Device(Fault::Time));
+            }
+        }
+        Err(Stop::Device(Fault::Time))
+    }
+
+    /// Opens a line once it is time to: returns whether the session was connected to it.
+    fn try_line<D: Devices>(
+        &mut self,
+        session: &mut Session,
+        devices: &mut D,
+        now: u64,
+    ) -> Result<bool, Stop<D::Refusal>>
+        ensures over { GoesOver self.old session.old (D.traffic devices.old)
+            self.new session.new (D.traffic devices.new) }
+        ensures open { (fault : FaultValue) → result ≢ Err (Stop.Device fault) }
+        ensures unjudged { (count : ℕ) → result ≢ Err (Stop.Lost count) }
+    {
+        if now < session.opens_at() {
+            return Ok(false);
+        }
+        match devices.open_line(session) {
+            Ok(true) if self.begin_line(session) => Ok(true),
+            Ok(true) => Err(Stop::Left),
+            Ok(false) => Ok(false),
+            Err(refusal) if !session.retries() => Err(Stop::NotOpened(refusal)),
+            Err(refusal) => {
+                let seconds = session.open_failed(now);
+                devices.report_retry(session, refusal, seconds);
+                Ok(false)
+            }
+        }
+    }
+
+    /// Closes the session after its lines, and judges how they ended.
+    fn judge<D: Devices>(
+        &mut self,
+        session: &mut Session,
+        devices: &mut D,
+        ran: Result<(), Stop<D::Refusal>>,
+    ) -> Result<(), Stop<D::Refusal>>
+        requires unjudged { (count : ℕ) → ran ≢ Err (Stop.Lost count) }
+        ensures ends { Ends self.old session.old (D.traffic devices.old)
+            self.new session.new (D.traffic devices.new) }
+        ensures whole { result ≡ Ok tt → session.new.course.lost ≡ 0 }
+        ensures lost { (count : ℕ) → result ≡ Err (Stop.Lost count)
+            → (count ≡ session.new.course.lost) × (0 < count) }
+        ensures left { result ≡ Err Stop.Left → session.new.course.has_run ≡ false }
+        ensures reports { (fault : FaultValue) → fault ≢ Fault.Time
+            → result ≡ Err (Stop.Device fault)
+            → ((ran ≡ result) × (D.traffic devices.new ≡ D.traffic devices.old))
+            ⊎ Reports self.old session.old (D.traffic devices.old) (D.traffic devices.new) fault }
+    {
+        let has_run = session.has_run();
+        let read = self.read_if(devices, has_run && is_over(&ran));
+        self.close(session);
+        match read {
+            Ok(()) => verdict(ran, has_run, session.lost()),
+            Err(fault) => Err(Stop::Device(fault)),
+        }
+    }
+
+    /// Reads what the input has at this moment, if it is to be read.
+    fn read_if<D: Devices>(&mut self, devices: &mut D, reads: bool) -> Result<(), Fault>
+        ensures on { (session : SessionView) → GoesOn self.old session (D.traffic devices.old)
+            self.new session (D.traffic devices.new) }
+        ensures reports { (session : SessionView) (fault : FaultValue) → result ≡ Err fault
+            → Reports self.old session (D.traffic devices.old) (D.traffic devices.new) fault }
+        ensures stays { reads ≡ false → D.traffic devices.new ≡ D.traffic devices.old }
+    {
+        if reads {
+            self.read_the_rest(devices)
+        } else {
+            Ok(())
+        }
+    }
+}
+
+/// Whether lines ended so that all may be delivered nevertheless.
+fn is_over<R>(ran: &Result<(), Stop<R>>) -> bool
+    ensures device { (fault : FaultValue) → fault ≢ Fault.Time
+        → ran.now ≡ Err (Stop.Device fault) → result ≡ false }
+    ensures left { ran.now ≡ Err Stop.Left → result ≡ true }
+{
+    matches!(ran, Err(Stop::Left | Stop::Device(Fault::Time)))
+}
+
+/// Returns how a run ended whose lines ended so, and in which so many messages were lost.
+fn verdict<R: Copy>(ran: Result<(), Stop<R>>, has_run: bool, lost: u64) -> Result<(), Stop<R>>
+    requires unjudged { (count : ℕ) → ran ≢ Err (Stop.Lost count) }
+    ensures whole { result ≡ Ok tt → lost ≡ 0 }
+    ensures lost { (count : ℕ) → result ≡ Err (Stop.Lost count)
+        → (count ≡ lost) × (0 < count) }
+    ensures left { result ≡ Err Stop.Left → has_run ≡ false }
+    ensures device { (fault : FaultValue) → result ≡ Err (Stop.Device fault) → ran ≡ result }
+{
+    let is_over = is_over(&ran);
+    if lost > 0 && (is_over || ran.is_ok()) {
+        return Err(Stop::Lost(lost));
+    }
+    if is_over && has_run {
+        return Ok(());
+    }
+    ran
+}
+
+/// Waits while there is no line: returns whether it could.
+fn wait_between_lines<D: Devices>(session: &Session, devices: &mut D, now: u64) -> bool
+    ensures over { (held : BuffersView) → GoesOver held session.now (D.traffic devices.old)
+        held session.now (D.traffic devices.new) }
+{
+    let wanted = if session.to_errors().is_empty() {
+        Wanted::NOTHING
+    } else {
+        Wanted::ERRORS
+    };
+    let moment = session.wakes_without_line_at(now);
+    devices.wait(wanted, moment.saturating_sub(now))
+}
+
+/// Leaves a line that has ended, and pauses before the next one is opened, if that is to be.
+fn leave<D: Devices>(session: &mut Session, devices: &mut D) -> Result<(), Fault>
+    ensures over { (held : BuffersView) → GoesOver held session.old (D.traffic devices.old)
+        held session.new (D.traffic devices.new) }
+    ensures reports { (held : BuffersView) (fault : FaultValue) → fault ≢ Fault.Time
+        → result ≡ Err fault → ReportsOver held session.old (D.traffic devices.old)
+        (D.traffic devices.new) fault }
+{
+    match leave_line(session, devices) {
+        Ok(()) => {}
+        Err(fault) => return Err(fault),
+    }
+    let now = devices.now();
+    if let Some(seconds) = session.pause_after_line(now) {
+        session.report(&Pause { seconds });
+    }
+    Ok(())
+}
+
+/// A line is opened again after this many seconds.
+#[derive(Drop)]
+struct Pause {
+    seconds: u64,
+}
+
+impl fmt::Display for Pause {
+    ghost use Rattle.std.specs.Prelude.{Some};
+    ghost use Rattle.ddcmp_session.specs.EndText.{pause_text};
+
+    ghost output = { λ p. Some (pause_text p.seconds) };
+
+    fn fmt<W: fmt::Write>(&self, f: &mut fmt::Formatter<W>) -> fmt::Result {
+        write!(f, "retry in {} s", self.seconds)
+    }
+}
