@@ -217,16 +217,27 @@ starts_b (step ∷ rest) q = by step.0 step.1 (starts_b rest (after_step_at step
 
 -- ---- from two new links
 
-pub delivered_all : (x y : EndState) (h k : LinkHistory) → IsSameEnd x h → IsSameEnd y k → Delivers x y
-    → IsAcknowledged x → delivered h.link ≡ true → received k ≡ h.accepted
-delivered_all x y h k s t d told e =
+-- no message is left to be acknowledged
+abbrev pub NoneOut : LinkHistory → Type 0
+NoneOut h = length h.link.station.core.station.out ≡ 0
+
+acknowledged_all : (x y : EndState) (h k : LinkHistory) → IsSameEnd x h → IsSameEnd y k
+    → Delivers x y → IsAcknowledged x → NoneOut h → received k ≡ h.accepted
+acknowledged_all x y h k s t d told e =
     let none : length x.core.station.out ≡ 0 =
-    ap (λ (c : CoreView). length c.station.out) s.core
-    ∙ first_of_three (length h.link.station.core.station.out) _ _ e in
+    ap (λ (c : CoreView). length c.station.out) s.core ∙ e in
     sym
     (ap (λ ys. ys ++ y.core.station.inbox) t.taken
     ∙ ap (λ (c : CoreView). k.taken ++ c.station.inbox) t.core)
     ∙ all_up x y d (told none) ∙ s.given
+
+pub none_out : (h : LinkHistory) → delivered h.link ≡ true → NoneOut h
+none_out h e = first_of_three (length h.link.station.core.station.out) _ _ e
+
+pub delivered_all : (x y : EndState) (h k : LinkHistory) → IsSameEnd x h → IsSameEnd y k → Delivers x y
+    → IsAcknowledged x → delivered h.link ≡ true → received k ≡ h.accepted
+delivered_all x y h k s t d told e =
+    acknowledged_all x y h k s t d told (none_out h e)
 
 pub reaches : (x y : EndState) (h k : LinkHistory) → IsSameEnd x h → IsSameEnd y k → Delivers x y
     → LinkReaches h k
@@ -281,19 +292,27 @@ module _ (first second : Config) (ms other_ms : ℕ) (line other_line : ReaderVi
       reaches _ _ _ _ ends.b ends.a
       ((calls_in_order first second calls f g).where_clean honest clean).b_to_a
 
-  pub all_to_b : delivered (after_steps steps links).a.link ≡ true
+  pub acknowledged_to_b : NoneOut (after_steps steps links).a
       → received (after_steps steps links).b ≡ (after_steps steps links).a.accepted
-  all_to_b =
-      delivered_all _ _ _ _ ends.a ends.b
+  acknowledged_to_b =
+      acknowledged_all _ _ _ _ ends.a ends.b
       ((calls_in_order first second calls f g).where_clean honest clean).a_to_b
       (calls_acknowledged first second calls f g honest clean).0
 
-  pub all_to_a : delivered (after_steps steps links).b.link ≡ true
+  pub acknowledged_to_a : NoneOut (after_steps steps links).b
       → received (after_steps steps links).a ≡ (after_steps steps links).b.accepted
-  all_to_a =
-      delivered_all _ _ _ _ ends.b ends.a
+  acknowledged_to_a =
+      acknowledged_all _ _ _ _ ends.b ends.a
       ((calls_in_order first second calls f g).where_clean honest clean).b_to_a
       (calls_acknowledged first second calls f g honest clean).1
+
+  pub all_to_b : delivered (after_steps steps links).a.link ≡ true
+      → received (after_steps steps links).b ≡ (after_steps steps links).a.accepted
+  all_to_b e = acknowledged_to_b (none_out (after_steps steps links).a e)
+
+  pub all_to_a : delivered (after_steps steps links).b.link ≡ true
+      → received (after_steps steps links).a ≡ (after_steps steps links).b.accepted
+  all_to_a e = acknowledged_to_a (none_out (after_steps steps links).b e)
 
 -- ---- a stream is an honest line
 

@@ -6,7 +6,7 @@ use Rattle.std.proofs.Math.Seq.{drop-append_seam}
 use Rattle.ddcmp_input.specs.declared.entry.Entry.{Entry}
 use Rattle.ddcmp_input.specs.declared.entry.Entry.TheVariants.{Message, NotHexadecimal, TooLong}
 use Rattle.ddcmp_input.specs.declared.entry.Entry.TheVariants.{Empty}
-use Rattle.std.specs.Prelude.{is_ok}
+use Rattle.std.specs.Prelude.{◌||◌, is_ok}
 use Rattle.ddcmp_core.specs.Table.{after_halt, answer_to_start}
 use Rattle.ddcmp_proto.specs.Config.{first_refusal}
 use Rattle.ddcmp_input.specs.InBinary.{in_binary}
@@ -256,7 +256,8 @@ begins_anew made new c k is stays =
     let f = made.options.form in
     let max = made.options.config.max in
     let h = c.history in
-    let b = is_ok (answer_to_start (after_halt h.session.link.station.core.station)) in
+    let b = is_ok (answer_to_start (after_halt h.session.link.station.core.station))
+        || h.session.has_line in
     let course = after_connecting h.session.course in
     let input = messages_of f max (h.input ++ []) in
     let mail = mail_in (h.shown ++ []) in (

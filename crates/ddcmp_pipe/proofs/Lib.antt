@@ -4,6 +4,7 @@ pub mod Holding
 pub mod Inputs
 pub mod Limits
 pub mod LinkSteps
+pub mod Losing
 pub mod LoopLaws
 pub mod Outcomes
 pub mod OverLines

@@ -1,7 +1,8 @@
 -- What a session has lost: one that has no line is halted, and if nothing was lost then all that it
 -- accepted is acknowledged.
-use Rattle.std.proofs.Common.{◌≡◌, ◌∙◌, ap, sym, refl, ℕ, ◌+◌, Bool, true, false, cond, List, []}
-use Rattle.std.proofs.Common.{◌∷◌, ◌++◌, length, zero, suc, Option, Some, None, Result, Ok, Err, arith}
+use Rattle.std.proofs.Common.{◌≡◌, ◌∙◌, ◌⊎◌, inl, inr, ap, sym, refl, ℕ, ◌+◌, Bool, true, false}
+use Rattle.std.proofs.Common.{cond, List, [], ◌∷◌, ◌++◌, length, zero, suc, Option, Some, None, arith}
+use Rattle.std.proofs.Common.{option_to_list}
 use Rattle.std.specs.Prelude.{◌&&◌, ◌||◌, not, nat_lt, is_none, is_ok, min}
 use Rattle.ddcmp_frame.specs.Reader.{ReaderView}
 use Rattle.ddcmp_frame.specs.Reading.{ReadItem}
@@ -9,7 +10,7 @@ use Rattle.ddcmp_frame.specs.declared.nak.Nak.{Nak}
 use Rattle.ddcmp_input.specs.declared.entry.Entry.{Entry}
 use Rattle.ddcmp_input.specs.declared.entry.Entry.TheVariants.{Message, NotHexadecimal, TooLong}
 use Rattle.ddcmp_input.specs.declared.entry.Entry.TheVariants.{Empty}
-use Rattle.ddcmp_window.specs.Sender.{answer_unless}
+use Rattle.ddcmp_window.specs.Sender.{accept_refusal, answer_unless}
 use Rattle.ddcmp_window.specs.declared.sender.SendRefusal.TheVariants.{WrongState}
 use Rattle.ddcmp_core.specs.declared.counters.NakCounts.{NakCounts}
 use Rattle.ddcmp_core.specs.declared.notice.Notice.{Notice}
@@ -17,18 +18,27 @@ use Rattle.ddcmp_core.specs.declared.notice.Notice.TheVariants as notice
 use Rattle.ddcmp_core.specs.declared.state.State.{State}
 use Rattle.ddcmp_core.specs.declared.state.State.TheVariants.{Halted}
 use Rattle.ddcmp_core.specs.declared.state.State.TheVariants as state
-use Rattle.ddcmp_core.specs.declared.start_refusal.StartRefusal.{StartRefusal}
-use Rattle.ddcmp_core.specs.declared.timer.Timer.{Timer}
-use Rattle.ddcmp_core.specs.declared.timer.Timer.TheVariants as timer
+use Rattle.ddcmp_core.specs.declared.station_core.StartRefusal.{StartRefusal}
+use Rattle.ddcmp_core.specs.declared.state.Timer.{Timer}
+use Rattle.ddcmp_core.specs.declared.state.Timer.TheVariants as timer
 use Rattle.ddcmp_core.specs.Core.{CoreView}
-use Rattle.ddcmp_core.specs.Table.{StationState, Limits, Received, accept_refusal, after_accept}
+use Rattle.ddcmp_core.specs.Table.{StationState, Limits, Received, after_accept}
 use Rattle.ddcmp_core.specs.Table.{after_expire_in, after_expire_with, after_halt, after_next}
 use Rattle.ddcmp_core.specs.Table.{after_start, is_on, is_running, may_send, may_start, next}
 use Rattle.ddcmp_core.specs.Table.{next_by, on, on_by, outgoing, start_refusal, answer_to_start}
-use Rattle.ddcmp_proto.specs.Bytes.{after_item, after_items, received_of, items_added}
+use Rattle.ddcmp_proto.specs.Bytes.{after_item, after_items, items_added, notices_of_piece}
+use Rattle.ddcmp_proto.specs.Bytes.{received_of}
 use Rattle.ddcmp_station.specs.Driving.{core_after_expire, core_after_take_arm, deadline_at, is_due}
+use Rattle.ddcmp_io.specs.Queue.{after_taken}
 use Rattle.ddcmp_station.specs.Linking.{LinkView, after_frame, after_frames, after_offered}
-use Rattle.ddcmp_station.specs.Linking.{after_polled, after_wake, polls, total_plus, with_state}
+use Rattle.ddcmp_station.specs.Linking.{after_sent, after_taking}
+use Rattle.ddcmp_station.specs.Linking.{after_polled, after_wake, polls, state_of, total_plus}
+use Rattle.ddcmp_station.specs.Linking.{with_state}
+use Rattle.ddcmp_session.specs.Calls.{SessionCall, Typed, InputEnded, Connected, LineEnded}
+use Rattle.ddcmp_session.specs.Calls.{Received as Heard, Filled, LineTook, TimedOut, TimePassed}
+use Rattle.ddcmp_session.specs.Calls.{Delivered, OutputTook, Closed, SessionDoes, HasClosed, HasLeft}
+use Rattle.ddcmp_session.specs.Messages.{after_input, after_last, entries_of_input}
+use Rattle.ddcmp_session.specs.Messages.{entry_of_last, is_message_unfinished}
 use Rattle.ddcmp_session.specs.declared.course.Course.{Course}
 use Rattle.ddcmp_session.specs.declared.course.Progress.{Progress}
 use Rattle.ddcmp_session.specs.Session.{SessionView, after_connected, after_entry, after_entries}
@@ -38,8 +48,14 @@ use Rattle.ddcmp_session.specs.Session.{course_received, lost_among, lost_at_end
 use Rattle.ddcmp_session.specs.Session.{wants_input, wants_line}
 use Rattle.ddcmp_session.specs.Course.{after_looked, after_notice, after_notices, lost_more}
 use Rattle.ddcmp_session.specs.Course.{after_acknowledged, after_refusal, after_noise}
-use Rattle.ddcmp_session.specs.Course.{after_progress, after_state, try_counted, has_received, is_at}
+use Rattle.ddcmp_session.specs.Course.{after_progress, after_state, is_at, progress_of}
+use Rattle.ddcmp_session.specs.Course.{refusal_between, try_counted}
 use Rattle.ddcmp_session.specs.Timing.{PassesTime, after_failure, after_line}
+use Rattle.ddcmp_session.specs.Calls.{SessionStep}
+use Rattle.ddcmp_run.specs.declared.event.End.{End}
+use Rattle.ddcmp_run.specs.declared.event.End.TheVariants.{A, B}
+use Rattle.ddcmp_pipe.specs.Pipe.{AreSessionCalls, Made, Sessions, after_session_at}
+use Rattle.ddcmp_pipe.specs.Pipe.{after_sessions, session_at, session_of}
 
 -- ---- a station that is halted
 
@@ -47,7 +63,7 @@ record Halts (lost : ℕ) (s : StationState) : Type 0 where
   pub state : s.state ≡ Halted
   pub none : lost ≡ 0 → s.out ≡ []
 
-pub station_of : SessionView → StationState
+abbrev pub station_of : SessionView → StationState
 station_of s = s.link.station.core.station
 
 -- a session without a line is halted, and has counted all that isn't acknowledged
@@ -187,3 +203,336 @@ none-of a n e = (omega (arith, e), omega (arith, e))
 none-out : (xs : List (List ℕ)) → length xs ≡ 0 → xs ≡ []
 none-out [] e = refl
 none-out (x ∷ xs) e = cc
+
+-- ---- what stays of that
+
+if-lost : (b : Bool) (x y : Course) (n : ℕ) → x.lost ≡ n → y.lost ≡ n → (cond b x y).lost ≡ n
+if-lost true x y n e f = e
+if-lost false x y n e f = f
+
+refusal-lost : (ms : ℕ) (why : Option Nak) (c : Course) → (after_refusal ms why c).lost ≡ c.lost
+refusal-lost ms None c = refl
+refusal-lost ms (Some reason) c =
+    if-lost c.is_refused _ _ c.lost
+    (if-lost (is_none c.pause) (try_counted (Some reason) c) c c.lost refl refl) refl
+
+state-lost : (s : State) (c : Course) → (after_state s c).lost ≡ c.lost
+state-lost state.Halted c = refl
+state-lost state.IStart c = refl
+state-lost state.AStart c = refl
+state-lost state.Running c = refl
+state-lost state.Maintenance c = refl
+
+progress-lost : (p : Progress) (c : Course) → (after_progress p c).lost ≡ c.lost
+progress-lost p c = if-lost (is_at p c.progress) _ _ c.lost refl refl
+
+noise-lost : (p : Progress) (c : Course) → (after_noise p c).lost ≡ c.lost
+noise-lost p c = if-lost _ (record c { quiet_since = c.moment }) c c.lost refl refl
+
+acknowledged-lost : (n : ℕ) (c : Course) → (after_acknowledged n c).lost ≡ c.lost
+acknowledged-lost n c = if-lost _ c _ c.lost refl refl
+
+looked-lost : (ms : ℕ) (before : NakCounts) (d : LinkView) (c : Course)
+    → (after_looked ms before d c).lost ≡ c.lost
+unfolding after_looked
+looked-lost ms before d c =
+    let one = after_acknowledged d.totals.acknowledged c in
+    let why = refusal_between before d.station.core.counters.nak_received in
+    let two = after_refusal ms why one in
+    let three = after_noise (progress_of d) two in
+    let four = after_progress (progress_of d) three in
+    state-lost (state_of d).state four ∙ progress-lost (progress_of d) three
+    ∙ noise-lost (progress_of d) two ∙ refusal-lost ms why one
+    ∙ acknowledged-lost d.totals.acknowledged c
+
+notice-lost : (n : Notice) (c : Course) → (after_notice n c).lost ≡ 0 → c.lost ≡ 0
+notice-lost notice.Running c e = e
+notice-lost notice.RunningAndHandedUp c e = e
+notice-lost (notice.Acknowledged m) c e = e
+notice-lost notice.HandedUp c e = e
+notice-lost (notice.HandedUpAndAcknowledged m) c e = e
+notice-lost notice.PeerStarts c e = e
+notice-lost notice.PeerRestarted c e = e
+notice-lost (notice.Restarted count) c e = (none-of c.lost count e).0
+notice-lost notice.MaintenanceSeen c e = e
+notice-lost notice.MaintenanceHandedUp c e = e
+notice-lost notice.MaintenanceDropped c e = e
+
+notices-lost : (ns : List Notice) (c : Course) → (after_notices ns c).lost ≡ 0 → c.lost ≡ 0
+unfolding after_notices
+notices-lost [] c e = e
+notices-lost (n ∷ rest) c e = notice-lost n c (notices-lost rest (after_notice n c) e)
+
+received-lost : (s : SessionView) (d : LinkView) (ns : List Notice)
+    → (course_received s d ns).lost ≡ 0 → s.course.lost ≡ 0
+received-lost s d ns = by (wants_line s)
+  where
+    by : (b : Bool)
+        → (cond b
+        (after_notices ns
+        (after_looked s.options.timer_ms s.link.station.core.counters.nak_received d s.course))
+        s.course).lost
+        ≡ 0
+        → s.course.lost ≡ 0
+    by true e =
+        sym (looked-lost s.options.timer_ms s.link.station.core.counters.nak_received d s.course)
+        ∙ notices-lost ns _ e
+    by false e = e
+
+timeout-lost : (now : ℕ) (s : SessionView) → (after_timeout now s).course.lost ≡ s.course.lost
+timeout-lost now s =
+    if-lost _ _ _ s.course.lost
+    (if-lost (expires now s && not (awaits_peer s)) _ _ s.course.lost refl refl)
+    (if-lost (expires now s && not (awaits_peer s)) _ _ s.course.lost refl refl)
+
+line-lost : (s : SessionView) → (after_line s).course.lost ≡ s.course.lost
+line-lost s =
+    if-lost s.course.has_run_here _ _ s.course.lost refl
+    (if-lost _ s.course _ s.course.lost refl refl)
+
+passes-lost : (old new : SessionView) → PassesTime old new → new.course.lost ≡ old.course.lost
+passes-lost old new p = by p.course
+  where
+    by : (new.course ≡ (after_time p.now old).course)
+        ⊎ ((new.course ≡ (after_failure (after_time p.now old)).course)
+        ⊎ (new.course ≡ (after_line (after_time p.now old)).course))
+        → new.course.lost ≡ old.course.lost
+    by (inl e) = ap (λ (c : Course). c.lost) e
+    by (inr (inl e)) = ap (λ (c : Course). c.lost) e
+    by (inr (inr e)) = ap (λ (c : Course). c.lost) e ∙ line-lost (after_time p.now old)
+
+-- ---- each call
+
+typed-counts : (used : List ℕ) (old new : SessionView) → new ≡ after_typed used old → Counted old
+    → Counted new
+typed-counts used old new does =
+    let es = entries_of_input used old.messages in
+    let s : SessionView = record old { messages = after_input used old.messages } in
+    let k = entries-keep es s in
+    kept old new
+    (λ e. sym (ap (λ (x : SessionView). x.has_line) does ∙ k.0) ∙ e)
+    (λ halted. same-stays (station_of old) (station_of new) halted
+    (ap station_of does
+    ∙ ap (λ (d : LinkView). d.station.core.station) (entries-halted es s halted)))
+    (λ e. sym (ap (λ (x : SessionView). x.course.lost) does ∙ ap (λ (c : Course). c.lost) k.1) ∙ e)
+
+last-keeps : (s : SessionView)
+    → ((after_unfinished s).has_line ≡ s.has_line) × ((after_unfinished s).course ≡ s.course)
+last-keeps s = by (is_message_unfinished s.messages)
+  where
+    by : (b : Bool)
+        → ((cond b (record s { was_refused = true }) s).has_line ≡ s.has_line)
+        × ((cond b (record s { was_refused = true }) s).course ≡ s.course)
+    by true = (refl, refl)
+    by false = (refl, refl)
+
+end-keeps : (s : SessionView)
+    → ((after_input_end s).has_line ≡ s.has_line) × ((after_input_end s).course ≡ s.course)
+end-keeps s = by (wants_input s)
+  where
+    last : SessionView
+    last = record s { messages = after_last s.messages; is_read = true }
+
+    k : ((after_last_line s).has_line ≡ s.has_line) × ((after_last_line s).course ≡ s.course)
+    k = entries-keep (option_to_list (entry_of_last s.messages)) last
+
+    u : ((after_unfinished (after_last_line s)).has_line ≡ (after_last_line s).has_line)
+        × ((after_unfinished (after_last_line s)).course ≡ (after_last_line s).course)
+    u = last-keeps (after_last_line s)
+
+    by : (b : Bool)
+        → ((cond b (after_unfinished (after_last_line s)) s).has_line ≡ s.has_line)
+        × ((cond b (after_unfinished (after_last_line s)) s).course ≡ s.course)
+    by true = (u.0 ∙ k.0, u.1 ∙ k.1)
+    by false = (refl, refl)
+
+ended-counts : (old new : SessionView) → new ≡ after_input_end old → Counted old → Counted new
+ended-counts old new does =
+    let k = end-keeps old in
+    kept old new
+    (λ e. sym (ap (λ (x : SessionView). x.has_line) does ∙ k.0) ∙ e)
+    (λ halted. same-stays (station_of old) (station_of new) halted
+    (ap station_of does
+    ∙ ap (λ b. station_of (cond b (after_unfinished (after_last_line old)) old))
+    (input-halted old halted)))
+    (λ e. sym (ap (λ (x : SessionView). x.course.lost) does ∙ ap (λ (c : Course). c.lost) k.1) ∙ e)
+
+or-false : (a b : Bool) → a || b ≡ false → (a ≡ false) × (b ≡ false)
+or-false true b e = cc
+or-false false b e = (refl, e)
+
+not-started : (why : Option StartRefusal) (n : ℕ) → is_ok (answer_unless why n) ≡ false
+    → is_none why ≡ false
+not-started None n e = e
+not-started (Some refusal) n e = refl
+
+connected-counts : (old new : SessionView) → new ≡ after_connected new.link.station.line old
+    → Counted old → Counted new
+unfolding Counted
+connected-counts old new does was = λ shut.
+    let to = after_connected new.link.station.line old in
+    let halted = after_halt old.link.station.core.station in
+    let parts = or-false (is_ok (answer_to_start halted)) old.has_line
+        (sym (ap (λ (x : SessionView). x.has_line) does) ∙ shut) in
+    let w = was parts.1 in
+    let stays : station_of new ≡ halted =
+        ap station_of does
+        ∙ ap (λ b. cond b (after_start halted) halted)
+        (not-started (start_refusal halted) (length halted.out) parts.0) in
+    record {
+      state = ap (λ (s : StationState). s.state) stays;
+      none = λ e. ap (λ (s : StationState). s.out) stays
+          ∙ w.none (sym (ap (λ (x : SessionView). x.course.lost) does) ∙ e);
+    }
+
+-- the station was halted, and what it has is counted
+left-none : (old : SessionView) → old.course.lost ≡ 0 → lost_by_end old ≡ 0
+    → Counted old → old.link.station.core.station.out ≡ []
+unfolding Counted
+left-none old none_lost none_by was = by old.has_line refl none_by
+  where
+    by : (b : Bool) → old.has_line ≡ b
+        → cond b (length old.link.station.core.station.out) 0 ≡ 0
+        → old.link.station.core.station.out ≡ []
+    by true is e = none-out old.link.station.core.station.out e
+    by false is e = (was is).none none_lost
+
+left-counts : (r : Bool) (old new : SessionView) → HasLeft r old new → Counted old → Counted new
+unfolding Counted
+left-counts r old new does was = λ shut. record {
+  state = ap (λ (d : LinkView). d.station.core.station.state) does.link;
+  none = λ e.
+      let n = none-of old.course.lost (lost_by_end old)
+          (sym (ap (λ (x : SessionView). x.course.lost) does.stays) ∙ e) in
+      ap (λ (d : LinkView). d.station.core.station.out) does.link
+      ∙ left-none old n.0 n.1 was;
+}
+
+-- a session that was closed, and had lost nothing, had no message left to be acknowledged, and none
+-- in what was left of its input
+pub closed-none : (left : List ℕ) (over r : Bool) (old new : SessionView)
+    → HasClosed left over r old new → new.course.lost ≡ 0 → Counted old
+    → (old.link.station.core.station.out ≡ []) × (lost_among left old ≡ 0)
+    × (lost_at_end left over old ≡ 0)
+closed-none left over r old new does e was =
+    let lost = (lost_more (lost_at_end left over old)
+        (lost_more (lost_among left old) old.course)).lost in
+    let n = none-of lost (lost_by_end old)
+        (sym (ap (λ (c : Course). c.lost) does.course) ∙ e) in
+    let m = none-of (lost_more (lost_among left old) old.course).lost
+        (lost_at_end left over old) n.0 in
+    let l = none-of old.course.lost (lost_among left old) m.0 in
+    (left-none old l.0 n.1 was, l.1, m.1)
+
+closed-counts : (left : List ℕ) (over r : Bool) (old new : SessionView)
+    → HasClosed left over r old new → Counted old → Counted new
+unfolding Counted
+closed-counts left over r old new does was = λ shut. record {
+  state = ap (λ (d : LinkView). d.station.core.station.state) does.link;
+  none = λ e.
+      ap (λ (d : LinkView). d.station.core.station.out) does.link
+      ∙ (closed-none left over r old new does e was).0;
+}
+
+link-counts : (old new : SessionView)
+    → (new.has_line ≡ old.has_line) × (new.course.lost ≡ old.course.lost)
+    → (old.link.station.core.station.state ≡ Halted → Stays (station_of old) (station_of new))
+    → Counted old → Counted new
+link-counts old new same station =
+    kept old new (λ e. sym same.0 ∙ e) station (λ e. sym same.1 ∙ e)
+
+same-in : {A : Type 0} (f : SessionView → A) (a b : SessionView) → a ≡ b → f a ≡ f b
+same-in f a b e = ap f e
+
+pub step-counts : (call : SessionCall) (text : List ℕ) (old new : SessionView)
+    → SessionDoes call text old new → Counted old → Counted new
+step-counts (Typed used) text old new d = typed-counts used old new d.state
+step-counts InputEnded text old new d = ended-counts old new d
+step-counts Connected text old new d = connected-counts old new d.0
+step-counts (LineEnded r) text old new d = left-counts r old new d
+step-counts (Heard used) text old new d =
+    let to = record old { link = new.link; course = new.course; output = new.output } in
+    kept old new (λ e. sym (same-in (λ x. x.has_line) new to d.stays) ∙ e)
+    (λ halted. same-stays (station_of old) (station_of new) halted
+    (ap (λ (k : CoreView). k.station) d.core
+    ∙ items-halted (items_added old.link.station.core.limits.longest text used)
+    old.link.station.core halted))
+    (λ e. received-lost old new.link
+    (notices_of_piece text used old.link.station.core)
+    (sym (ap (λ (c : Course). c.lost) d.course) ∙ e))
+step-counts (Filled n) text old new d =
+    let to = record old { link = after_frames n old.link } in
+    link-counts old new
+    (same-in (λ x. x.has_line) new to d.0, same-in (λ x. x.course.lost) new to d.0)
+    (λ halted. same-stays (station_of old) (station_of new) halted
+    (ap station_of d.0 ∙ frames-halted n old.link halted))
+step-counts (LineTook n) text old new d =
+    let to = record old { link = after_sent n old.link } in
+    link-counts old new
+    (same-in (λ x. x.has_line) new to d, same-in (λ x. x.course.lost) new to d)
+    (λ halted. same-stays (station_of old) (station_of new) halted (ap station_of d))
+step-counts (TimedOut now) text old new d =
+    let to = after_timeout now old in
+    link-counts old new
+    (same-in (λ x. x.has_line) new to d,
+    same-in (λ x. x.course.lost) new to d ∙ timeout-lost now old)
+    (λ halted. let w = wake-halted now old.link halted in (
+      same-in (λ x. (station_of x).state) new to d ∙ w.0,
+      same-in (λ x. (station_of x).out) new to d ∙ w.1,
+    ))
+step-counts TimePassed text old new d =
+    let to = record old { course = new.course } in
+    link-counts old new
+    (same-in (λ x. x.has_line) new to d.stays, passes-lost old new d)
+    (λ halted. same-stays (station_of old) (station_of new) halted (ap station_of d.stays))
+step-counts (Delivered true) text old new d =
+    let to = record old { link = new.link; output = new.output } in
+    link-counts old new
+    (same-in (λ x. x.has_line) new to d.stays, same-in (λ x. x.course.lost) new to d.stays)
+    (λ halted. (
+      ap (λ (k : LinkView). k.station.core.station.state) d.link ∙ halted,
+      ap (λ (k : LinkView). k.station.core.station.out) d.link,
+    ))
+step-counts (Delivered false) text old new d =
+    let to = record old { output = new.output } in
+    link-counts old new
+    (same-in (λ x. x.has_line) new to d.stays, same-in (λ x. x.course.lost) new to d.stays)
+    (λ halted. same-stays (station_of old) (station_of new) halted (ap station_of d.stays))
+step-counts (OutputTook n) text old new d =
+    let to = record old { output = after_taken n old.output } in
+    link-counts old new
+    (same-in (λ x. x.has_line) new to d, same-in (λ x. x.course.lost) new to d)
+    (λ halted. same-stays (station_of old) (station_of new) halted (ap station_of d))
+step-counts (Closed left over r) text old new d = closed-counts left over r old new d
+
+-- ---- of two sessions
+
+pub new-counts : (made : Made) → Counted (session_of made).session
+unfolding Counted
+new-counts made = λ shut. record { state = refl; none = λ e. refl }
+
+pub counts-a : (steps : List (End × SessionStep)) (p : Sessions) → AreSessionCalls steps p
+    → Counted p.a.session → Counted (after_sessions steps p).a.session
+unfolding after_sessions
+counts-a [] p does was = was
+counts-a (step ∷ rest) p does was =
+    counts-a rest (after_session_at step.0 step.1 p) does.1 (by step.0 step.1 does.0)
+  where
+    by : (end : End) (one : SessionStep)
+        → SessionDoes one.call (session_at end p).used (session_at end p).session one.session
+        → Counted (after_session_at end one p).a.session
+    by A one d = step-counts one.call p.a.used p.a.session one.session d was
+    by B one d = was
+
+pub counts-b : (steps : List (End × SessionStep)) (p : Sessions) → AreSessionCalls steps p
+    → Counted p.b.session → Counted (after_sessions steps p).b.session
+unfolding after_sessions
+counts-b [] p does was = was
+counts-b (step ∷ rest) p does was =
+    counts-b rest (after_session_at step.0 step.1 p) does.1 (by step.0 step.1 does.0)
+  where
+    by : (end : End) (one : SessionStep)
+        → SessionDoes one.call (session_at end p).used (session_at end p).session one.session
+        → Counted (after_session_at end one p).b.session
+    by A one d = was
+    by B one d = step-counts one.call p.b.used p.b.session one.session d was

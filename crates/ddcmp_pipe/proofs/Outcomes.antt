@@ -1,6 +1,6 @@
 -- What comes out of two sessions.
 use Rattle.std.proofs.Common.{◌≡◌, ℕ, Bool, true, false, List, [], ◌∷◌}
-use Rattle.std.proofs.Common.{◌++◌, map, refl, sym, ◌∙◌, ap, subst, arith, append_assoc}
+use Rattle.std.proofs.Common.{◌++◌, length, map, refl, sym, ◌∙◌, ap, subst, arith, append_assoc}
 use Rattle.std.proofs.Common.{append-nil, None}
 use Rattle.std.specs.Prelude.{◌&&◌}
 use Rattle.std.specs.List.{All}
@@ -20,7 +20,8 @@ use Rattle.ddcmp_callers.specs.Links.{LinkOverStreams}
 use Rattle.ddcmp_callers.specs.Links.{Links, after_steps}
 use Rattle.ddcmp_callers.specs.Links.{AreStartedOnce, received, LinkReaches}
 use Rattle.ddcmp_callers.specs.LinkLines.{AreLinkCalls, calls_of_steps}
-use Rattle.ddcmp_callers.proofs.TwoLinks.{reaches_a, reaches_b, all_to_a, all_to_b, kept}
+use Rattle.ddcmp_callers.proofs.TwoLinks.{NoneOut, acknowledged_to_a, acknowledged_to_b, kept}
+use Rattle.ddcmp_callers.proofs.TwoLinks.{none_out, reaches_a, reaches_b}
 use Rattle.ddcmp_session.specs.Calls.{SessionHistory, SessionStep}
 use Rattle.ddcmp_pipe.specs.Sessions.{messages_of, mail_in, got_in, texts_of}
 use Rattle.ddcmp_pipe.specs.Loops.{DevicesPipe, DevicesPipeAll}
@@ -28,13 +29,15 @@ use Rattle.ddcmp_pipe.proofs.LoopLaws.{devices_pipe, devices_pipe_all}
 use Rattle.ddcmp_pipe.specs.Pipe.{Made, Sessions, new_sessions, links_made}
 use Rattle.ddcmp_pipe.specs.Pipe.{after_session_at, AreSessionCalls, after_sessions}
 use Rattle.ddcmp_pipe.specs.Pipe.{link_steps_at, AreConnectedOnce}
-use Rattle.ddcmp_pipe.specs.Pipe.{undelivered, Pipes, PipesAll, PipesBytes, PipesWhole}
+use Rattle.ddcmp_pipe.specs.Pipe.{undelivered, Pipes, PipesAll, PipesBytes, PipesClosed}
+use Rattle.ddcmp_pipe.specs.Pipe.{PipesWhole}
 use Rattle.ddcmp_pipe.specs.Pipe.{IsKeptByPipes, SessionsOverStreams}
 use Rattle.ddcmp_pipe.specs.Pipe.{IsKeptOverConnections}
 use Rattle.ddcmp_pipe.proofs.Inputs.{got_more}
 use Rattle.ddcmp_pipe.proofs.Texts.{only_mail}
 use Rattle.ddcmp_pipe.proofs.Holding.{Holds, link_history}
 use Rattle.ddcmp_pipe.proofs.LinkSteps.{begins}
+use Rattle.ddcmp_pipe.proofs.Losing.{closed-none, counts-a, counts-b, new-counts}
 use Rattle.ddcmp_pipe.proofs.Pipes.{BothHold, Keeps, keeps_steps, links_of, starts_a, starts_b}
 use Rattle.ddcmp_pipe.proofs.Streaming.{stream_steps}
 
@@ -140,8 +143,8 @@ bytes_whole made other giver taker holds all is other_is messages fit file over 
 pub record LinksDo (q : Links) : Type 0 where
   pub to_b : LinkReaches q.a q.b
   pub to_a : LinkReaches q.b q.a
-  pub all_b : delivered q.a.link ≡ true → received q.b ≡ q.a.accepted
-  pub all_a : delivered q.b.link ≡ true → received q.a ≡ q.b.accepted
+  pub all_b : NoneOut q.a → received q.b ≡ q.a.accepted
+  pub all_a : NoneOut q.b → received q.a ≡ q.b.accepted
 
 -- the links of two sessions after their calls
 abbrev pub links_after : Made → Made → List (End × SessionStep) → Links
@@ -192,10 +195,10 @@ module _ (first second : Made) (steps : List (End × SessionStep)) where
             reaches_a first.options.config second.options.config first.options.timer_ms second.options.timer_ms first.line
             second.line calls f g are honest started;
         all_b =
-            all_to_b first.options.config second.options.config first.options.timer_ms second.options.timer_ms first.line
+            acknowledged_to_b first.options.config second.options.config first.options.timer_ms second.options.timer_ms first.line
             second.line calls f g are honest started;
         all_a =
-            all_to_a first.options.config second.options.config first.options.timer_ms second.options.timer_ms first.line
+            acknowledged_to_a first.options.config second.options.config first.options.timer_ms second.options.timer_ms first.line
             second.line calls f g are honest started;
       }
 
@@ -217,11 +220,11 @@ module _ (first second : Made) (steps : List (End × SessionStep)) where
             kept (λ q. LinkReaches q.b q.a) reaches_a first.options.config second.options.config first.options.timer_ms
             second.options.timer_ms first.line second.line calls f g are started;
         all_b =
-            kept (λ q. delivered q.a.link ≡ true → received q.b ≡ q.a.accepted) all_to_b
+            kept (λ q. NoneOut q.a → received q.b ≡ q.a.accepted) acknowledged_to_b
             first.options.config second.options.config first.options.timer_ms second.options.timer_ms first.line
             second.line calls f g are started;
         all_a =
-            kept (λ q. delivered q.b.link ≡ true → received q.a ≡ q.b.accepted) all_to_a
+            kept (λ q. NoneOut q.b → received q.a ≡ q.b.accepted) acknowledged_to_a
             first.options.config second.options.config first.options.timer_ms second.options.timer_ms first.line
             second.line calls f g are started;
       }
@@ -257,13 +260,33 @@ module _ (first second : Made) (steps : List (End × SessionStep)) where
         (after_sessions steps (new_sessions first second)).b
     all_b over =
         let s = (after_sessions steps (new_sessions first second)).a.session in
-        done.all_b (last_true s.is_read (delivered s.link) over)
+        done.all_b
+        (none_out (links_of first second (after_sessions steps (new_sessions first second))
+        keeps.1.0 keeps.1.1).a (last_true s.is_read (delivered s.link) over))
 
     pub all_a : PipesAll second (after_sessions steps (new_sessions first second)).b
         (after_sessions steps (new_sessions first second)).a
     all_a over =
         let s = (after_sessions steps (new_sessions first second)).b.session in
-        done.all_a (last_true s.is_read (delivered s.link) over)
+        done.all_a
+        (none_out (links_of first second (after_sessions steps (new_sessions first second))
+        keeps.1.0 keeps.1.1).b (last_true s.is_read (delivered s.link) over))
+
+    pub closed_b : PipesClosed first (after_sessions steps (new_sessions first second)).a
+        (after_sessions steps (new_sessions first second)).b
+    closed_b left over r closed is none =
+        let s = (after_sessions steps (new_sessions first second)).a.session in
+        let nothing = closed-none left over r s closed is none
+            (counts-a steps (new_sessions first second) does (new-counts first)) in
+        (done.all_b (ap length nothing.0), nothing.1, nothing.2)
+
+    pub closed_a : PipesClosed second (after_sessions steps (new_sessions first second)).b
+        (after_sessions steps (new_sessions first second)).a
+    closed_a left over r closed is none =
+        let s = (after_sessions steps (new_sessions first second)).b.session in
+        let nothing = closed-none left over r s closed is none
+            (counts-b steps (new_sessions first second) does (new-counts second)) in
+        (done.all_a (ap length nothing.0), nothing.1, nothing.2)
 
     pub bytes_b : PipesBytes first second (after_sessions steps (new_sessions first second)).a
         (after_sessions steps (new_sessions first second)).b

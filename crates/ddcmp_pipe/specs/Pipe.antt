@@ -1,5 +1,5 @@
 -- Two sessions on a line, as pipes: what comes out of one is what went into the other.
-use Rattle.std.specs.Prelude.{◌≡◌, ℕ, ◌+◌, ◌≤◌, true, List, [], ◌∷◌, ◌++◌, map, None}
+use Rattle.std.specs.Prelude.{◌≡◌, ℕ, ◌+◌, ◌≤◌, Bool, true, List, [], ◌∷◌, ◌++◌, map, None}
 use Rattle.std.specs.List.{All}
 use Rattle.ddcmp_frame.specs.Reader.{ReaderView}
 use Rattle.ddcmp_input.specs.InBinary.{in_binary, Fits}
@@ -12,11 +12,12 @@ use Rattle.ddcmp_laws.specs.Faithful.{Begins}
 use Rattle.ddcmp_session.specs.declared.messages.Form.TheVariants as form
 use Rattle.ddcmp_session.specs.declared.options.LineKind.{LineKind}
 use Rattle.ddcmp_session.specs.declared.options.Options.{Options}
-use Rattle.ddcmp_session.specs.Session.{is_delivered}
+use Rattle.ddcmp_session.specs.Session.{SessionView, is_delivered, lost_among, lost_at_end}
 use Rattle.ddcmp_callers.specs.Calls.{run_calls}
 use Rattle.ddcmp_callers.specs.Links.{LinkStep, Links, new_links, count_if}
 use Rattle.ddcmp_callers.specs.LinkLines.{calls_of_steps}
-use Rattle.ddcmp_session.specs.Calls.{SessionCall, Connected, SessionDoes, SessionHistory}
+use Rattle.ddcmp_session.specs.Calls.{HasClosed, SessionCall, Connected, SessionDoes}
+use Rattle.ddcmp_session.specs.Calls.{SessionHistory}
 use Rattle.ddcmp_session.specs.Calls.{new_session, SessionStep, after_session_step}
 use Rattle.ddcmp_pipe.specs.Sessions.{messages_of, mail_in, link_steps_of}
 
@@ -137,6 +138,16 @@ abbrev pub PipesAll : Made → SessionHistory → SessionHistory → Type 0
 PipesAll made giver taker = is_delivered giver.session ≡ true
     → mail_in taker.shown ++ undelivered taker
     ≡ messages_of made.options.form made.options.config.max giver.input
+
+-- If one session is closed then, and nothing was lost, the other has received all of the messages
+-- that its input has, and what was left of the input has none.
+abbrev pub PipesClosed : Made → SessionHistory → SessionHistory → Type 0
+PipesClosed made giver taker = (left : List ℕ) (is_at_end is_reported : Bool) (closed : SessionView)
+    → HasClosed left is_at_end is_reported giver.session closed → closed.course.lost ≡ 0
+    → (mail_in taker.shown ++ undelivered taker
+    ≡ messages_of made.options.form made.options.config.max giver.input)
+    × (lost_among left giver.session ≡ 0)
+    × (lost_at_end left is_at_end giver.session ≡ 0)
 
 -- In binary, if what was read of one's input begins a file of messages that fit, then what the
 -- other's output took begins that file too.

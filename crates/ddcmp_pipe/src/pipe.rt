@@ -7,7 +7,8 @@ ghost use Rattle.ddcmp_callers.specs.LinkLines.{calls_of_steps};
 ghost use Rattle.ddcmp_callers.specs.LinkRestarts.{calls_of_links};
 ghost use Rattle.ddcmp_callers.specs.LinkStory.{small};
 ghost use Rattle.ddcmp_callers.specs.StationRuns.{run_station_calls};
-ghost use Rattle.ddcmp_pipe.specs.Pipe.{IsKeptByPipes, Pipes, PipesAll, PipesBytes, PipesWhole};
+ghost use Rattle.ddcmp_pipe.specs.Pipe.{IsKeptByPipes, Pipes, PipesAll, PipesBytes};
+ghost use Rattle.ddcmp_pipe.specs.Pipe.{PipesClosed, PipesWhole};
 ghost use Rattle.ddcmp_pipe.specs.Pipe.{IsKeptOverConnections, SessionsOverStreams};
 ghost use Rattle.ddcmp_pipe.specs.Pipe.{AreConnectedOnce, link_steps_at, links_made};
 ghost use Rattle.ddcmp_pipe.specs.Pipe.{after_sessions};
@@ -32,6 +33,19 @@ pub fn pipe()
 pub fn pipe_is_whole()
     ensures to_b { IsKeptByPipes (λ first second p. PipesAll first p.a p.b) }
     ensures to_a { IsKeptByPipes (λ first second p. PipesAll second p.b p.a) }
+{}
+
+/// If one of two such sessions is closed and had lost nothing by then, as
+/// `ddcmp_session::Buffers::run_lines` returns `Ok` for, the other has received all messages that
+/// its input has: although the line ended, or the time was over, before it saw the last
+/// acknowledgement answered.
+pub fn closed_without_loss()
+    ensures to_b { IsKeptByPipes (λ first second p. PipesClosed first p.a p.b) }
+    ensures to_a { IsKeptByPipes (λ first second p. PipesClosed second p.b p.a) }
+    ensures connected_to_b { IsKeptOverConnections
+        (λ first second p. PipesClosed first p.a p.b) }
+    ensures connected_to_a { IsKeptOverConnections
+        (λ first second p. PipesClosed second p.b p.a) }
 {}
 
 /// The same in bytes, if both have their messages in binary: if what was

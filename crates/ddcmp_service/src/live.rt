@@ -2,6 +2,7 @@
 use crate::datagram::Framing;
 use crate::event::Event;
 use crate::line::Line;
+use crate::line_name::LineName;
 use crate::opening::{OpenRefusal, Opened, Opener};
 use crate::outlet::Outlet;
 use crate::system::System;
@@ -17,6 +18,7 @@ use std::io::{Eprint, ErrorKind};
 pub(crate) struct Live<'a, S, C, R, W> {
     system: &'a S,
     waiting: Waiting,
+    name: LineName<'a>,
     opener: Opener<'a>,
     line: Option<Line>,
     clock: C,
@@ -34,6 +36,7 @@ impl<S, C: Drop, R, W> Drop for Live<'_, S, C, R, W> {
         let Live {
             system: _,
             waiting: _waiting,
+            name: _,
             opener: _opener,
             line: _line,
             clock: _clock,
@@ -50,7 +53,7 @@ impl<S, C: Drop, R, W> Drop for Live<'_, S, C, R, W> {
 pub(crate) struct Parts<'a, S, C, R, W> {
     pub(crate) system: &'a S,
     pub(crate) waiting: Waiting,
-    pub(crate) opener: Opener<'a>,
+    pub(crate) name: LineName<'a>,
     pub(crate) clock: C,
     pub(crate) reader: &'a mut R,
     pub(crate) writer: &'a mut W,
@@ -67,7 +70,7 @@ impl<'a, S: System, C: Clock + Drop, R: Source, W: Sink> Live<'a, S, C, R, W> {
         let Parts {
             system,
             waiting,
-            opener,
+            name,
             clock,
             reader,
             writer,
@@ -79,7 +82,8 @@ impl<'a, S: System, C: Clock + Drop, R: Source, W: Sink> Live<'a, S, C, R, W> {
         Ok(Live {
             system,
             waiting,
-            opener,
+            name,
+            opener: Opener::new(name),
             line: None,
             clock,
             reader,
@@ -166,7 +170,8 @@ impl<S: System, C: Clock + Drop, R: Source, W: Sink> Devices for Live<'_, S, C, 
     }
 
     fn report_retry(&mut self, session: &mut Session, refusal: OpenRefusal, seconds: u64) {
-        session.report(&Event::Retry(self.opener.fault(refusal), seconds));
+        let name = self.name;
+        session.report(&Event::Retry(name.not_opened(refusal), seconds));
     }
 
     fn close_line(&mut self) {

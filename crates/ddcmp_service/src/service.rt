@@ -6,7 +6,6 @@ use crate::event::Event;
 use crate::fault::ServiceFault;
 use crate::line_name::LineName;
 use crate::live::{Live, Parts};
-use crate::opening::Opener;
 use crate::system::System;
 use crate::waiting::Waiting;
 use ddcmp_io::{Sink, Source};
@@ -92,7 +91,7 @@ fn serve<S: System, R: Source, W: Sink>(
     let parts = Parts {
         system,
         waiting,
-        opener: Opener::new(line),
+        name: line,
         clock: Elapsed::new(system),
         reader,
         writer,

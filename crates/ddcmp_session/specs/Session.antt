@@ -1,5 +1,6 @@
 -- A session as its users see it, and what each call does.
-use Rattle.std.specs.Prelude.{◌≡◌, ◌⊎◌, ℕ, ◌+◌, ◌*◌, ◌<◌, Bool, true, false, ◌&&◌, not, nat_le}
+use Rattle.std.specs.Prelude.{◌≡◌, ◌⊎◌, ℕ, ◌+◌, ◌*◌, ◌<◌, Bool, true, false, ◌&&◌, ◌||◌, not}
+use Rattle.std.specs.Prelude.{nat_le}
 use Rattle.std.specs.Prelude.{if◌then◌else◌, List, [], ◌∷◌, length, Option, Some, None, is_some, is_ok}
 use Rattle.std.specs.Prelude.{option_to_list}
 use Rattle.ddcmp_core.specs.Table.{has_room, after_halt, answer_to_start}
@@ -129,11 +130,12 @@ reports_loss s = nat_le LOST_ROOM s.output.room
 
 -- ---- the line begins, and is looked after
 
--- A session was connected, and starts if all received messages were delivered.
+-- A session was connected, and starts if all received messages were delivered. If not, what it had
+-- on the line before is lost when this one ends.
 abbrev pub after_connected : ReaderView → SessionView → SessionView
 after_connected line s = record s {
   link = anew line s.link;
-  has_line = is_ok (answer_to_start (after_halt s.link.station.core.station));
+  has_line = is_ok (answer_to_start (after_halt s.link.station.core.station)) || s.has_line;
   course = after_connecting s.course;
 }
 

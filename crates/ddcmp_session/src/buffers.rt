@@ -53,7 +53,8 @@ impl Drop for Buffers {
 }
 
 impl Buffers {
-    ghost use Rattle.std.specs.Prelude.{◌≡◌, Bool, Option, true, false, []};
+    ghost use Rattle.std.specs.Prelude.{◌≡◌, Bool, Option, true, false, [], is_ok};
+    ghost use Rattle.ddcmp_core.specs.Table.{after_halt, answer_to_start};
     ghost use Rattle.ddcmp_session.specs.Calls.{HasClosed};
     ghost use Rattle.ddcmp_session.specs.Devices.{Becomes, Traffic};
     ghost use Rattle.ddcmp_session.specs.Lines.{GoesOver, line_begun};
@@ -78,7 +79,8 @@ impl Buffers {
         ensures state { self.new ≡ none_received self.old }
         ensures connected { session.new
             ≡ after_connected session.new.link.station.line session.old }
-        ensures answer { result ≡ session.new.has_line }
+        ensures answer { result
+            ≡ is_ok (answer_to_start (after_halt session.old.link.station.core.station)) }
         ensures over { (before after : Option Traffic) → Becomes before after line_begun
             → GoesOver self.old session.old before self.new session.new after }
     {

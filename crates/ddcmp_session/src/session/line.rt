@@ -29,8 +29,9 @@ impl Session {
             ≡ is_ok (answer_to_start (after_halt self.old.link.station.core.station)) }
     {
         self.course.connect();
-        self.has_line = self.link.begin_anew().is_ok();
-        self.has_line
+        let starts = self.link.begin_anew().is_ok();
+        self.has_line |= starts;
+        starts
     }
 
     /// Takes the end of the line and halts the station: what was sent and not acknowledged is lost.
