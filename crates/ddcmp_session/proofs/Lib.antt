@@ -1,5 +1,6 @@
 pub mod CourseLaws
 pub mod DeliverLaws
+pub mod DrainLaws
 pub mod DropLaws
 pub mod FrameLaws
 pub mod GoingLaws

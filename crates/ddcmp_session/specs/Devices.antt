@@ -149,6 +149,11 @@ Reports held old before after fault = (h : SessionHistory) (t now : Traffic)
     → h.session ≡ old → before ≡ Some t → Agrees held h t → after ≡ Some now
     → HasReported fault now
 
+-- Received messages were delivered and output was written, and nothing else.
+pub record OnlyDelivers (old new : SessionView) : Type 0 where
+  pub out : new.link.station.core.station.out ≡ old.link.station.core.station.out
+  pub stays : new ≡ record old { link = new.link; output = new.output }
+
 -- no received message waits, or the output has no room for one of any length
 abbrev pub HoldsMail : SessionView → Type 0
 HoldsMail s =

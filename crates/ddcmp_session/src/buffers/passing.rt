@@ -1,7 +1,8 @@
 //! One pass over the devices of a session: each step moves bytes between a device and the session,
 //! without waiting, and returns whether it moved any.
 ghost use Rattle.std.specs.Prelude.{◌≡◌, Err, Ok, Option, false};
-ghost use Rattle.ddcmp_session.specs.Devices.{BuffersView, GoesOn, HoldsMail, Reports, Traffic};
+ghost use Rattle.ddcmp_session.specs.Devices.{BuffersView, GoesOn, HoldsMail, OnlyDelivers};
+ghost use Rattle.ddcmp_session.specs.Devices.{Reports, Traffic};
 ghost use Rattle.ddcmp_session.specs.declared.devices.Fault.{Fault as FaultValue};
 
 use crate::buffers::Buffers;
@@ -19,6 +20,7 @@ pub(super) fn deliver_all(session: &mut Session) -> bool
         → GoesOn held session.old known held session.new known }
     ensures idle { result ≡ false
         → session.new ≡ record session.old { output = session.new.output } }
+    ensures only { OnlyDelivers session.old session.new }
     ensures left { result ≡ false → HoldsMail session.new }
 {
     let mut moved = false;
@@ -268,6 +270,7 @@ pub(super) fn write_output<D: Devices>(
     ensures reports { (held : BuffersView) (fault : FaultValue) → result ≡ Err fault
         → Reports held session.old (D.traffic devices.old) (D.traffic devices.new) fault }
     ensures idle { result ≡ Ok false → session.new ≡ session.old }
+    ensures output { session.new ≡ record session.old { output = session.new.output } }
 {
     if session.to_output().is_empty() {
         return Ok(false);

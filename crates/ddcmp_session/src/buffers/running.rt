@@ -1,6 +1,9 @@
 //! The loop of a session over its devices.
-ghost use Rattle.std.specs.Prelude.{◌≡◌, ◌≢◌, [], Err, Ok};
-ghost use Rattle.ddcmp_session.specs.Devices.{BuffersView, GoesOn, HoldsMail, Reports};
+ghost use Rattle.std.specs.Prelude.{◌≡◌, ◌≢◌, [], Err, Ok, false};
+ghost use Rattle.ddcmp_session.specs.Course.{lost_more};
+ghost use Rattle.ddcmp_session.specs.Devices.{BuffersView, GoesOn, HoldsMail, OnlyDelivers};
+ghost use Rattle.ddcmp_session.specs.Devices.{Reports};
+ghost use Rattle.ddcmp_session.specs.Session.{lost_by_end};
 ghost use Rattle.ddcmp_session.specs.Lines.{GoesOver, ReportsOver};
 ghost use Rattle.ddcmp_session.specs.declared.devices.Fault.{Fault as FaultValue};
 
@@ -65,6 +68,9 @@ pub(super) fn leave_line<D: Devices>(session: &mut Session, devices: &mut D) -> 
         → result ≡ Err fault → ReportsOver held session.old (D.traffic devices.old)
         (D.traffic devices.new) fault }
     ensures drained { result ≡ Ok tt → session.new.output.waiting ≡ [] }
+    ensures left { result ≡ Ok tt → session.new.has_line ≡ false }
+    ensures counted { result ≡ Ok tt
+        → session.new.course ≡ lost_more (lost_by_end session.old) session.old.course }
 {
     match drain_output(session, devices) {
         Ok(()) => {}
@@ -113,6 +119,7 @@ pub fn drain_output<D: Devices>(session: &mut Session, devices: &mut D) -> Resul
     ensures reports { (held : BuffersView) (fault : FaultValue) → result ≡ Err fault
         → fault ≢ Fault.Time
         → Reports held session.old (D.traffic devices.old) (D.traffic devices.new) fault }
+    ensures only { OnlyDelivers session.old session.new }
     ensures drained { result ≡ Ok tt → session.new.output.waiting ≡ [] }
     ensures left { result ≡ Ok tt → HoldsMail session.new }
 {

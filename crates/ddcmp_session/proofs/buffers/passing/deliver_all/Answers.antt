@@ -1,9 +1,14 @@
 use Rattle.std.proofs.Common.{refl}
+use Rattle.ddcmp_session.proofs.DrainLaws.{only-delivered, only-none, only-then}
 use Rattle.ddcmp_session.proofs.GoingLaws.{stays, goes-then, delivered-goes, not-delivered}
 use Rattle.ddcmp_session.proofs.buffers.passing.deliver_all.Goals as goal
 
 pub loop-message-init : goal.loop-message-init
-loop-message-init c = record { on = λ held known. stays refl refl; idle = λ e. refl }
+loop-message-init c = record {
+  on = λ held known. stays refl refl;
+  only = only-none _;
+  idle = λ e. refl;
+}
 
 pub loop-message-preserved : goal.loop-message-preserved
 loop-message-preserved c = record {
@@ -12,6 +17,10 @@ loop-message-preserved c = record {
       (delivered-goes c.deliver.result c.loop-message.session c.deliver.new.self
       c.deliver.ensures.link c.deliver.ensures.wrote c.deliver.ensures.waits
       c.deliver.ensures.stays);
+  only =
+      only-then c.loop-message.invariant.only
+      (only-delivered c.deliver.result c.loop-message.session c.deliver.new.self
+      c.deliver.ensures.link c.deliver.ensures.stays);
   idle = λ e. cc;
 }
 
@@ -22,6 +31,10 @@ returns-then-not-deliver c = record {
       (delivered-goes c.deliver.result c.loop-message.session c.deliver.new.self
       c.deliver.ensures.link c.deliver.ensures.wrote c.deliver.ensures.waits
       c.deliver.ensures.stays);
+  only =
+      only-then c.loop-message.invariant.only
+      (only-delivered c.deliver.result c.loop-message.session c.deliver.new.self
+      c.deliver.ensures.link c.deliver.ensures.stays);
   idle = λ e.
       not-delivered c.args.session.now c.loop-message.session c.deliver.new.self
       c.if-not-deliver.ensures.link c.deliver.ensures.stays (c.loop-message.invariant.idle e);

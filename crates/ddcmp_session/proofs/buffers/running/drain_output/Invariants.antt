@@ -1,8 +1,10 @@
-use Rattle.ddcmp_session.specs.Devices.{BuffersView, GoesOn}
+use Rattle.ddcmp_session.specs.Devices.{BuffersView, GoesOn, OnlyDelivers}
 use Rattle.ddcmp_session.proofs.buffers.running.drain_output.Given as goal
 
 abbrev pub invariant-loop-write : goal.invariant-loop-write
-invariant-loop-write g l =
-    (held : BuffersView)
-    → GoesOn held l.fn.session (g.D.Devices.traffic l.fn.devices) held l.session
-    (g.D.Devices.traffic l.devices)
+invariant-loop-write g l = record {
+  on : (held : BuffersView)
+      → GoesOn held l.fn.session (g.D.Devices.traffic l.fn.devices) held l.session
+      (g.D.Devices.traffic l.devices);
+  only : OnlyDelivers l.fn.session l.session;
+}

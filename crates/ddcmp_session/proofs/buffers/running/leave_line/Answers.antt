@@ -1,4 +1,7 @@
-use Rattle.std.proofs.Common.{refl}
+use Rattle.std.proofs.Common.{◌∙◌, ap, refl}
+use Rattle.ddcmp_session.specs.Session.{SessionView}
+use Rattle.ddcmp_session.proofs.DrainLaws.{counted-once}
+use Rattle.ddcmp_session.proofs.GoingLaws.{same-at}
 use Rattle.ddcmp_session.proofs.LinesGo.{goes-over, line-left, none-over, over-then, reports-over}
 use Rattle.ddcmp_session.proofs.buffers.running.leave_line.Goals as goal
 
@@ -45,3 +48,17 @@ returns-in-Err-drain_output-clause-reports g c = λ held fault untimed e.
       stays = c.line_ended-has_room.ensures.stays;
     })))
     (c.in-Err-drain_output.ensures.reports held fault e untimed)
+
+pub returns-clause-left : goal.returns-clause-left
+returns-clause-left g c = λ e.
+    ap (λ (x : SessionView). x.has_line) c.drain_errors.ensures.session
+    ∙ same-at (λ x. x.has_line) c.drain_output-2.new.session _ c.drain_output-2.ensures.only.stays
+    ∙ same-at (λ x. x.has_line) c.line_ended-has_room.new.self _ c.line_ended-has_room.ensures.stays
+
+pub returns-clause-counted : goal.returns-clause-counted
+returns-clause-counted g c = λ e.
+    ap (λ (x : SessionView). x.course) c.drain_errors.ensures.session
+    ∙ counted-once c.args.session.now c.drain_output.new.session c.line_ended-has_room.new.self
+    c.drain_output-2.new.session c.drain_output.ensures.only
+    (same-at (λ x. x.course) c.line_ended-has_room.new.self _ c.line_ended-has_room.ensures.stays)
+    c.drain_output-2.ensures.only

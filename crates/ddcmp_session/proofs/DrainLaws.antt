@@ -1,0 +1,54 @@
+-- What draining an output leaves as it is.
+use Rattle.std.proofs.Common.{◌≡◌, ◌∙◌, ap, sym, refl, Bool, true, false, cond, length}
+use Rattle.ddcmp_station.specs.Linking.{LinkView, after_taking}
+use Rattle.ddcmp_session.specs.declared.course.Course.{Course}
+use Rattle.ddcmp_session.specs.Course.{lost_more}
+use Rattle.ddcmp_session.specs.Devices.{OnlyDelivers}
+use Rattle.ddcmp_session.specs.Session.{SessionView, lost_by_end}
+use Rattle.ddcmp_session.proofs.GoingLaws.{same-at}
+
+pub only-none : (s : SessionView) → OnlyDelivers s s
+only-none s = record { out = refl; stays = refl }
+
+pub only-then : {a b c : SessionView} → OnlyDelivers a b → OnlyDelivers b c → OnlyDelivers a c
+only-then {a} {b} {c} p q = record {
+  out = q.out ∙ p.out;
+  stays =
+      q.stays
+      ∙ ap {B = SessionView} (λ (x : SessionView). record x { link = c.link; output = c.output })
+      p.stays;
+}
+
+pub only-delivered : (has : Bool) (old new : SessionView)
+    → new.link ≡ cond has (after_taking old.link) old.link
+    → new ≡ record old { link = new.link; output = new.output } → OnlyDelivers old new
+only-delivered true old new link stays = record {
+  out = ap (λ (d : LinkView). d.station.core.station.out) link;
+  stays = stays;
+}
+only-delivered false old new link stays = record {
+  out = ap (λ (d : LinkView). d.station.core.station.out) link;
+  stays = stays;
+}
+
+pub only-wrote : (old new : SessionView) → new ≡ record old { output = new.output }
+    → OnlyDelivers old new
+only-wrote old new is =
+    let link = same-at (λ x. x.link) new (record old { output = new.output }) is in
+    record {
+      out = ap (λ (d : LinkView). d.station.core.station.out) link;
+      stays = is ∙ ap (λ d. record old { link = d; output = new.output }) (sym link);
+    }
+
+-- the same is lost by the end of its line, and counted so
+pub counted-once : (s0 s1 s2 s3 : SessionView) → OnlyDelivers s0 s1
+    → s2.course ≡ lost_more (lost_by_end s1) s1.course → OnlyDelivers s2 s3
+    → s3.course ≡ lost_more (lost_by_end s0) s0.course
+counted-once s0 s1 s2 s3 p is q =
+    same-at (λ x. x.course) s3 (record s2 { link = s3.link; output = s3.output }) q.stays
+    ∙ is
+    ∙ ap (λ b. lost_more (cond b (length s1.link.station.core.station.out) 0) s1.course)
+    (same-at (λ x. x.has_line) s1 (record s0 { link = s1.link; output = s1.output }) p.stays)
+    ∙ ap (λ xs. lost_more (cond s0.has_line (length xs) 0) s1.course) p.out
+    ∙ ap (λ c. lost_more (lost_by_end s0) c)
+    (same-at (λ x. x.course) s1 (record s0 { link = s1.link; output = s1.output }) p.stays)
