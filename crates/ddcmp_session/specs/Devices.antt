@@ -1,6 +1,6 @@
 -- The devices of a session, what they have given and taken, and how a session goes on over them.
 use Rattle.std.specs.Prelude.{◌≡◌, ℕ, ◌==◌, ◌<◌, ◌⊎◌, Bool, true, false, if◌then◌else◌, List, []}
-use Rattle.std.specs.Prelude.{◌++◌, take}
+use Rattle.std.specs.Prelude.{◌++◌, ◌&&◌, is_none, length, not, take}
 use Rattle.std.specs.Prelude.{Option, Some, None, ⊤, ◌∷◌}
 use Rattle.ddcmp_frame.specs.Reader.{StandsFor}
 use Rattle.ddcmp_io.specs.declared.device.Got.{Got}
@@ -9,6 +9,7 @@ use Rattle.ddcmp_session.specs.declared.devices.Down.{Down}
 use Rattle.ddcmp_session.specs.declared.devices.Fault.{Fault}
 use Rattle.ddcmp_session.specs.declared.devices.Fault.TheVariants.{Line, Input, Output}
 use Rattle.ddcmp_session.specs.declared.devices.Moved.{Moved}
+use Rattle.ddcmp_session.specs.declared.devices.Wanted.{Wanted}
 use Rattle.ddcmp_session.specs.declared.devices.Moved.TheVariants.{Bytes, Nothing, Interrupted}
 use Rattle.ddcmp_session.specs.declared.devices.Moved.TheVariants.{Ended}
 use Rattle.ddcmp_window.specs.Store.{first_message}
@@ -148,6 +149,28 @@ abbrev pub Reports : BuffersView → SessionView → Option Traffic → Option T
 Reports held old before after fault = (h : SessionHistory) (t now : Traffic)
     → h.session ≡ old → before ≡ Some t → Agrees held h t → after ≡ Some now
     → HasReported fault now
+
+-- ---- which devices are waited for
+
+-- the input, if a message is wanted and what was read before is used
+abbrev pub reads_input : BuffersView → SessionView → Bool
+reads_input held s = not held.is_over && (length held.input == 0) && wants_input s
+
+-- the line, if what came before is used
+abbrev pub reads_line : BuffersView → SessionView → Bool
+reads_line held s = (length held.received == 0) && wants_line s
+
+-- each of them; and standard error, if something waits for it
+abbrev pub wanted : Bool → BuffersView → SessionView → Wanted
+wanted errors held s = record {
+  input = reads_input held s;
+  output = not (length s.output.waiting == 0);
+  errors = errors;
+  from_line = reads_line held s;
+  to_line = is_none held.down && not (length s.link.outbox.waiting == 0);
+}
+
+-- ---- how it goes on
 
 -- Received messages were delivered and output was written, and nothing else.
 pub record OnlyDelivers (old new : SessionView) : Type 0 where

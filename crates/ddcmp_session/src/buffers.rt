@@ -56,7 +56,8 @@ impl Buffers {
     ghost use Rattle.std.specs.Prelude.{◌≡◌, Bool, Option, true, false, [], is_ok};
     ghost use Rattle.ddcmp_core.specs.Table.{after_halt, answer_to_start};
     ghost use Rattle.ddcmp_session.specs.Calls.{HasClosed};
-    ghost use Rattle.ddcmp_session.specs.Devices.{Becomes, Traffic};
+    ghost use Rattle.ddcmp_session.specs.Devices.{Becomes, Traffic, reads_input, reads_line};
+    ghost use Rattle.ddcmp_session.specs.Devices.{wanted};
     ghost use Rattle.ddcmp_session.specs.Lines.{GoesOver, line_begun};
     ghost use Rattle.ddcmp_session.specs.Lines.{none_received};
     ghost use Rattle.ddcmp_session.specs.Session.{after_connected};
@@ -90,7 +91,9 @@ impl Buffers {
     }
 
     /// Returns which devices are to be waited for.
-    pub fn wanted(&self, session: &Session) -> Wanted {
+    pub fn wanted(&self, session: &Session) -> Wanted
+        ensures { result ≡ wanted result.errors self.now session.now }
+    {
         Wanted {
             input: self.wants_input(session),
             output: !session.to_output().is_empty(),
@@ -104,13 +107,15 @@ impl Buffers {
     fn wants_input(&self, session: &Session) -> bool
         ensures empty { result ≡ true → self.now.input ≡ [] }
         ensures goes_on { result ≡ true → self.now.is_over ≡ false }
+        ensures exact { result ≡ reads_input self.now session.now }
     {
         !self.input_is_over && self.input.is_empty() && session.wants_input()
     }
 
     /// Whether the line is to be read.
     fn wants_line(&self, session: &Session) -> bool
-        ensures { result ≡ true → self.now.received ≡ [] }
+        ensures used { result ≡ true → self.now.received ≡ [] }
+        ensures exact { result ≡ reads_line self.now session.now }
     {
         self.received.is_empty() && session.wants_line()
     }

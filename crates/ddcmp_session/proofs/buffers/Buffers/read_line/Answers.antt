@@ -14,7 +14,7 @@ returns-clause-on g c =
     (goes-then
     (line-given c.read_line-got.result c.read_line-got.ensures.0 c.read_line-got.new.self
     (subst (λ (v : BuffersView). v.received ≡ []) (sym c.self.view_is)
-    (c.wants_line.ensures c.if-not-wants_line.false)) c.read_line-got.ensures.1
+    (c.wants_line.ensures.used c.if-not-wants_line.false)) c.read_line-got.ensures.1
     c.read_line-got.ensures.2)
     (stays c.log_received.ensures refl))
 
@@ -22,7 +22,7 @@ pub returns-clause-idle : goal.returns-clause-idle
 returns-clause-idle g c =
     let empty =
     subst (λ (v : BuffersView). v.received ≡ []) (sym c.self.view_is)
-    (c.wants_line.ensures c.if-not-wants_line.false) in
+    (c.wants_line.ensures.used c.if-not-wants_line.false) in
     rw (sym c.self.view_is)
     (λ e.
     ap (λ xs. record (buffers.the_view c.self.inside) { received = xs })
