@@ -54,11 +54,20 @@ struct Caller {
 
 /// Returns the next connection to a listener.
 fn accept_next<L: OpenListener<Stream = net::TcpStream>>(listener: &L) -> io::Result<Caller> {
-    let (stream, peer) = listener.accept()?;
-    Ok(Caller {
-        stream: prompt(stream)?,
-        peer,
-    })
+    for _caller in 0..u64::MAX {
+        match listener.accept() {
+            Ok((stream, peer)) => {
+                let stream = prompt(stream)?;
+                return Ok(Caller { stream, peer });
+            }
+            // Who called has left again.
+            Err(error) => match error.kind() {
+                ErrorKind::ConnectionAborted | ErrorKind::Interrupted => {}
+                _ => return Err(error),
+            },
+        }
+    }
+    Err(io::Error::from(ErrorKind::Interrupted))
 }
 
 /// Returns the first connection to an address.
