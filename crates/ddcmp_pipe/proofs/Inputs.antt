@@ -30,7 +30,6 @@ use Rattle.ddcmp_session.specs.declared.messages.Form.TheVariants as form
 use Rattle.ddcmp_session.specs.declared.messages.Messages.{Messages}
 use Rattle.ddcmp_session.specs.declared.messages.Messages.TheVariants.{Digits, Binary}
 use Rattle.ddcmp_session.specs.Messages.{messages_begun, message_in, after_input, entries_of_input}
-use Rattle.ddcmp_session.specs.Session.{form_of}
 use Rattle.ddcmp_session.specs.Calls.{CompletesLast}
 use Rattle.ddcmp_pipe.specs.Sessions.{got, got_in, messages_of}
 
@@ -181,10 +180,6 @@ after_more form.Digits max input used m is =
 after_more form.Binary max input used m is =
     ap (after_input used) is
     ∙ ap Binary (sym (length_laws.after_more input used (lengths.begun max)))
-
-pub form_stays : (used : List ℕ) (m : Messages) → form_of (after_input used m) ≡ form_of m
-form_stays used (Digits v) = refl
-form_stays used (Binary v) = refl
 
 -- ---- no message is too long: in binary
 

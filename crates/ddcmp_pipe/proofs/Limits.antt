@@ -3,7 +3,6 @@ use Rattle.std.proofs.Common.{◌≡◌, ℕ, zero, suc, Bool, true, false, cond
 use Rattle.std.proofs.Common.{length, refl, ◌∙◌, ap}
 use Rattle.std.proofs.Common.{arith, Some, None}
 use Rattle.std.specs.Prelude.{◌&&◌, ◌==◌, nat_le, nat_lt, is_none}
-use Rattle.ddcmp_frame.specs.Reader.{ReaderView}
 use Rattle.ddcmp_window.specs.declared.sender.SendRefusal.TheVariants.{Empty as NoBytes}
 use Rattle.ddcmp_window.specs.declared.sender.SendRefusal.TheVariants.{TooLong as Long, WindowFull}
 use Rattle.ddcmp_window.specs.declared.sender.SendRefusal.TheVariants.{WrongState}
@@ -33,21 +32,6 @@ pub frames_longest : (n : ℕ) (d : LinkView) → longest_of (after_frames n d) 
 unfolding after_frames
 frames_longest zero d = refl
 frames_longest (suc n) d = frame_longest (after_frames n d) ∙ frames_longest n d
-
-abbrev pub line_of : LinkView → ReaderView
-line_of d = d.station.line
-
-pub frame_line : (d : LinkView) → line_of (after_frame d) ≡ line_of d
-frame_line d = by (polls d)
-  where
-    by : (b : Bool) → line_of (cond b (after_polled d) d) ≡ line_of d
-    by true = refl
-    by false = refl
-
-pub frames_line : (n : ℕ) (d : LinkView) → line_of (after_frames n d) ≡ line_of d
-unfolding after_frames
-frames_line zero d = refl
-frames_line (suc n) d = frame_line (after_frames n d) ∙ frames_line n d
 
 pub wake_longest : (now : ℕ) (d : LinkView) → longest_of (after_wake now d) ≡ longest_of d
 wake_longest now d =

@@ -1,7 +1,7 @@
 -- The calls of a session are calls of its link, and the histories of both keep together.
 use Rattle.std.proofs.Common.{◌≡◌, ℕ, Bool, true, false, cond, List, [], ◌∷◌}
 use Rattle.std.proofs.Common.{◌++◌, map, take, refl, sym, ◌∙◌, ap}
-use Rattle.std.proofs.Common.{append-nil, option_to_list, Option, None}
+use Rattle.std.proofs.Common.{append-nil, option_to_list}
 use Rattle.std.specs.Prelude.{◌||◌, is_ok}
 use Rattle.ddcmp_core.specs.Table.{after_halt, answer_to_start}
 use Rattle.ddcmp_frame.specs.Reader.{ReaderView}
@@ -13,7 +13,6 @@ use Rattle.ddcmp_input.specs.InBinary.{Fits}
 use Rattle.ddcmp_input.specs.InLines as lines
 use Rattle.ddcmp_input.specs.Lengths as lengths
 use Rattle.ddcmp_proto.specs.Bytes.{notices_of_piece}
-use Rattle.ddcmp_proto.specs.declared.config.Config.{Config}
 use Rattle.ddcmp_station.specs.Linking.{LinkView}
 use Rattle.ddcmp_station.specs.Linking.{after_frames, after_wake, after_sent}
 use Rattle.ddcmp_station.specs.Linking.{anew}

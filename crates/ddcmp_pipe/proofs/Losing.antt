@@ -1,10 +1,9 @@
 -- What a session has lost: one that has no line is halted, and if nothing was lost then all that it
 -- accepted is acknowledged.
-use Rattle.std.proofs.Common.{◌≡◌, ◌∙◌, ◌⊎◌, inl, inr, ap, sym, refl, ℕ, ◌+◌, Bool, true, false}
-use Rattle.std.proofs.Common.{cond, List, [], ◌∷◌, ◌++◌, length, zero, suc, Option, Some, None, arith}
+use Rattle.std.proofs.Common.{◌≡◌, ◌∙◌, ◌⊎◌, inl, inr, ap, sym, refl, ℕ, Bool, true, false}
+use Rattle.std.proofs.Common.{cond, List, [], ◌∷◌, length, zero, suc, Option, Some, None, arith}
 use Rattle.std.proofs.Common.{option_to_list}
-use Rattle.std.specs.Prelude.{◌&&◌, ◌||◌, not, nat_lt, is_none, is_ok, min}
-use Rattle.ddcmp_frame.specs.Reader.{ReaderView}
+use Rattle.std.specs.Prelude.{◌&&◌, ◌||◌, not, nat_lt, is_none, is_ok}
 use Rattle.ddcmp_frame.specs.Reading.{ReadItem}
 use Rattle.ddcmp_frame.specs.declared.nak.Nak.{Nak}
 use Rattle.ddcmp_input.specs.declared.entry.Entry.{Entry}
@@ -22,16 +21,16 @@ use Rattle.ddcmp_core.specs.declared.station_core.StartRefusal.{StartRefusal}
 use Rattle.ddcmp_core.specs.declared.state.Timer.{Timer}
 use Rattle.ddcmp_core.specs.declared.state.Timer.TheVariants as timer
 use Rattle.ddcmp_core.specs.Core.{CoreView}
-use Rattle.ddcmp_core.specs.Table.{StationState, Limits, Received, after_accept}
+use Rattle.ddcmp_core.specs.Table.{StationState, after_accept}
 use Rattle.ddcmp_core.specs.Table.{after_expire_in, after_expire_with, after_halt, after_next}
-use Rattle.ddcmp_core.specs.Table.{after_start, is_on, is_running, may_send, may_start, next}
+use Rattle.ddcmp_core.specs.Table.{after_start, is_on, is_running, next}
 use Rattle.ddcmp_core.specs.Table.{next_by, on, on_by, outgoing, start_refusal, answer_to_start}
 use Rattle.ddcmp_proto.specs.Bytes.{after_item, after_items, items_added, notices_of_piece}
 use Rattle.ddcmp_proto.specs.Bytes.{received_of}
 use Rattle.ddcmp_station.specs.Driving.{core_after_expire, core_after_take_arm, deadline_at, is_due}
 use Rattle.ddcmp_io.specs.Queue.{after_taken}
 use Rattle.ddcmp_station.specs.Linking.{LinkView, after_frame, after_frames, after_offered}
-use Rattle.ddcmp_station.specs.Linking.{after_sent, after_taking}
+use Rattle.ddcmp_station.specs.Linking.{after_sent}
 use Rattle.ddcmp_station.specs.Linking.{after_polled, after_wake, polls, state_of, total_plus}
 use Rattle.ddcmp_station.specs.Linking.{with_state}
 use Rattle.ddcmp_session.specs.Calls.{SessionCall, Typed, InputEnded, Connected, LineEnded}

@@ -4,7 +4,7 @@ use Rattle.ddcmp_frame.specs.Reader.{StandsFor}
 use Rattle.ddcmp_run.specs.declared.event.End.TheVariants.{A}
 use Rattle.ddcmp_session.specs.Session.{SessionView}
 use Rattle.ddcmp_session.specs.Calls.{SessionStep}
-use Rattle.ddcmp_session.specs.Connections.{AreDone, Connection, after_all, after_step}
+use Rattle.ddcmp_session.specs.Connections.{AreDone, after_all, after_step}
 use Rattle.ddcmp_session.specs.Devices.{Agrees, BuffersView, Traffic, nothing_read}
 use Rattle.ddcmp_session.specs.Lines.{GoesOver}
 use Rattle.ddcmp_pipe.specs.Connections.{AreCalls, Connections, first_connection}

@@ -23,7 +23,8 @@ use Rattle.ddcmp_callers.specs.Links.{after_history}
 use Rattle.ddcmp_callers.specs.Links.{offered_in}
 use Rattle.ddcmp_session.specs.Calls.{CompletesLast, HasTyped, SessionHistory, end_in}
 use Rattle.ddcmp_pipe.specs.Sessions.{messages_of, link_step, offers_of}
-use Rattle.ddcmp_pipe.proofs.Inputs.{read_by, read_more, after_more, form_stays, read_fits}
+use Rattle.ddcmp_session.proofs.InputLaws.{form-stays}
+use Rattle.ddcmp_pipe.proofs.Inputs.{read_by, read_more, after_more, read_fits}
 use Rattle.ddcmp_pipe.proofs.Inputs.{IfMessage}
 use Rattle.ddcmp_pipe.proofs.Limits.{accepts, both, longest_of, offered_longest}
 use Rattle.ddcmp_pipe.proofs.Holding.{Holds, Leads, link_history, no_input, parts, quiet_mail}
@@ -100,7 +101,7 @@ pub read_holds : {told : Bool} (f : Form) (max : ℕ) (h : SessionHistory) (used
     (session_parts told new (h.used ++ []) (h.gone ++ []) (h.input ++ used) (h.written ++ [])
     (h.shown ++ []))
 read_holds {told} f max h used es message new k r = record {
-  kind = ap form_of r.messages ∙ form_stays used h.session.messages ∙ k.kind;
+  kind = ap form_of r.messages ∙ form-stays used h.session.messages ∙ k.kind;
   longest = entered_longest es message h.session.link new.link r.link ∙ k.longest;
   reads = λ going. r.messages
       ∙ after_more f max h.input used h.session.messages (k.reads (r.going going));

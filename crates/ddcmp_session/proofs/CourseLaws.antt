@@ -1,5 +1,5 @@
 -- How the run gets on after bytes of the line.
-use Rattle.std.proofs.Common.{◌≡◌, ◌∙◌, ap, sym, refl, ℕ, ◌≤◌, arith, Bool, true, false, ◌&&◌, not}
+use Rattle.std.proofs.Common.{◌≡◌, ◌∙◌, ap, sym, refl, ℕ, arith, Bool, true, false, ◌&&◌, not}
 use Rattle.std.proofs.Common.{List, [], ◌∷◌, cond, Some, None, nat_le}
 use Rattle.std.proofs.lemmas.Bool.{le-leb}
 use Rattle.ddcmp_core.specs.declared.counters.NakCounts.{NakCounts}

@@ -1,7 +1,6 @@
 -- What draining an output leaves as it is.
 use Rattle.std.proofs.Common.{◌≡◌, ◌∙◌, ap, sym, refl, Bool, true, false, cond, length}
 use Rattle.ddcmp_station.specs.Linking.{LinkView, after_taking}
-use Rattle.ddcmp_session.specs.declared.course.Course.{Course}
 use Rattle.ddcmp_session.specs.Course.{lost_more}
 use Rattle.ddcmp_session.specs.Devices.{OnlyDelivers}
 use Rattle.ddcmp_session.specs.Session.{SessionView, lost_by_end}

@@ -2,14 +2,13 @@
 use Rattle.std.proofs.Common.{◌≡◌, ◌∙◌, ◌≤◌, ◌<◌, ◌+◌, ◌-◌, ℕ, zero, suc, refl, ap, sym, subst, arith, length}
 use Rattle.std.proofs.Common.{List, [], ◌∷◌, ◌++◌, take, drop, take-add, take_all, length-drop}
 use Rattle.std.proofs.Common.{Option, Some, None, option_to_list}
-use Rattle.std.proofs.lemmas.List.{length-take}
 use Rattle.ddcmp_input.specs.declared.entry.Entry.{Entry}
 use Rattle.ddcmp_input.specs.declared.entry.Entry.TheVariants as entry
 use Rattle.ddcmp_input.proofs.LengthsLaws as length_laws
 use Rattle.ddcmp_input.proofs.HexLinesLaws as line_laws
 use Rattle.ddcmp_session.specs.declared.messages.Messages.{Messages}
 use Rattle.ddcmp_session.specs.declared.messages.Messages.TheVariants.{Digits, Binary}
-use Rattle.ddcmp_session.specs.Messages.{after_input, count_message, count_of, entries_of_input}
+use Rattle.ddcmp_session.specs.Messages.{after_input, count_of, entries_of_input}
 use Rattle.ddcmp_session.specs.Messages.{messages_among}
 use Rattle.ddcmp_session.specs.Session.{SessionView, lost_among}
 use Rattle.ddcmp_session.proofs.InputLaws.{no-entries, nothing-read}

@@ -1,6 +1,6 @@
 -- How a session goes on over one line after the other.
 use Rattle.std.proofs.Common.{◌≡◌, ◌∙◌, ap, sym, subst, refl, ℕ, Bool, true, List, [], ◌∷◌, ◌++◌}
-use Rattle.std.proofs.Common.{◌⊎◌, append-nil, inl, inr, false, Option, Some, None, Result, Ok, Err}
+use Rattle.std.proofs.Common.{◌⊎◌, append-nil, inl, inr, false, Option, Result, Ok, Err}
 use Rattle.ddcmp_frame.specs.Reader.{StandsFor}
 use Rattle.ddcmp_station.specs.Linking.{LinkView}
 use Rattle.ddcmp_session.specs.Session.{SessionView, after_connected, after_time, form_of}
@@ -11,8 +11,8 @@ use Rattle.ddcmp_session.specs.Calls.{HasClosed, HasLeft, IsSessionHistory, afte
 use Rattle.ddcmp_session.specs.Calls.{after_session_steps}
 use Rattle.ddcmp_session.specs.Connections.{Connection, Does, AreDone, after_all, after_step}
 use Rattle.ddcmp_session.specs.Devices.{Agrees, AreOfRun, Becomes, BuffersView, GoesOn}
-use Rattle.ddcmp_session.specs.Devices.{HasReported, IsOfRun, Reports, Traffic}
-use Rattle.ddcmp_session.specs.Lines.{GoesOver, ReportsOver, WentOver, line_begun, none_received}
+use Rattle.ddcmp_session.specs.Devices.{IsOfRun, Reports, Traffic}
+use Rattle.ddcmp_session.specs.Lines.{GoesOver, ReportsOver, line_begun, none_received}
 use Rattle.ddcmp_session.specs.Timing.{PassesTime, after_failure, after_line}
 use Rattle.ddcmp_session.specs.declared.buffers.lines.Stop.TheVariants.{the_data, Device}
 use Rattle.ddcmp_session.specs.declared.devices.Fault.{Fault}

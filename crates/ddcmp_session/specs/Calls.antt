@@ -1,6 +1,6 @@
 -- The calls of a session: what the contract of each says, and the history of a session.
 use Rattle.std.specs.Prelude.{◌≡◌, ◌||◌, ℕ, Bool, true, false, if◌then◌else◌, List, [], ◌∷◌, ◌++◌}
-use Rattle.std.specs.Prelude.{map, take, None, Some, option_to_list}
+use Rattle.std.specs.Prelude.{map, take, Some, option_to_list}
 use Rattle.ddcmp_window.specs.Store.{first_message}
 use Rattle.ddcmp_core.specs.Table.{after_halt}
 use Rattle.ddcmp_core.specs.declared.notice.Notice.{Notice}

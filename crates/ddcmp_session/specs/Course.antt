@@ -1,6 +1,6 @@
 -- How the run of a session gets on: what its line has done, in moments and in tries.
 use Rattle.std.specs.Prelude.{ℕ, ◌+◌, ◌-◌, ◌*◌, ◌%◌, Bool, true, false, ◌&&◌, ◌||◌, not, ◌==◌}
-use Rattle.std.specs.Prelude.{nat_le, nat_lt, if◌then◌else◌, min, max, List, [], ◌∷◌}
+use Rattle.std.specs.Prelude.{nat_le, if◌then◌else◌, min, max, List, [], ◌∷◌}
 use Rattle.std.specs.Prelude.{Option, Some, None, is_none}
 use Rattle.ddcmp_frame.specs.declared.nak.Nak.{Nak}
 use Rattle.ddcmp_frame.specs.declared.nak.Nak.TheVariants as nak
@@ -10,7 +10,6 @@ use Rattle.ddcmp_core.specs.declared.notice.Notice.TheVariants.{PeerRestarted, R
 use Rattle.ddcmp_core.specs.declared.state.State.{State}
 use Rattle.ddcmp_core.specs.declared.state.State.TheVariants.{Halted, IStart, AStart, Running}
 use Rattle.ddcmp_core.specs.declared.state.State.TheVariants.{Maintenance}
-use Rattle.ddcmp_core.specs.Table.{is_running}
 use Rattle.ddcmp_station.specs.Driving.{is_due, later}
 use Rattle.ddcmp_station.specs.Linking.{LinkView, state_of, total_plus}
 use Rattle.ddcmp_session.specs.declared.course.Course.{Course}

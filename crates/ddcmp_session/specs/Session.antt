@@ -1,7 +1,7 @@
 -- A session as its users see it, and what each call does.
 use Rattle.std.specs.Prelude.{◌≡◌, ◌⊎◌, ℕ, ◌+◌, ◌*◌, ◌<◌, Bool, true, false, ◌&&◌, ◌||◌, not}
 use Rattle.std.specs.Prelude.{nat_le}
-use Rattle.std.specs.Prelude.{if◌then◌else◌, List, [], ◌∷◌, length, Option, Some, None, is_some, is_ok}
+use Rattle.std.specs.Prelude.{if◌then◌else◌, List, [], ◌∷◌, length, Some, None, is_some, is_ok}
 use Rattle.std.specs.Prelude.{option_to_list}
 use Rattle.ddcmp_core.specs.Table.{has_room, after_halt, answer_to_start}
 use Rattle.ddcmp_core.specs.declared.notice.Notice.{Notice}

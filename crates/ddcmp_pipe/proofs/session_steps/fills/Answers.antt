@@ -1,12 +1,12 @@
 use Rattle.std.proofs.Common.{ap, ◌∙◌}
 use Rattle.ddcmp_session.specs.Session.{SessionView}
-use Rattle.ddcmp_pipe.proofs.Limits.{frames_line}
+use Rattle.ddcmp_session.proofs.FrameLaws.{frames-line}
 use Rattle.ddcmp_pipe.proofs.session_steps.fills.Goals as goal
 
 pub returns-clause-line : goal.returns-clause-line
 returns-clause-line c =
     ap (λ (s : SessionView). s.link.station.line) c.fill.ensures.frames.1
-    ∙ frames_line c.fill.ensures.frames.0 c.args.session.now.link
+    ∙ frames-line c.fill.ensures.frames.0 c.args.session.now.link
 
 pub returns-clause-done : goal.returns-clause-done
 returns-clause-done c = λ text.

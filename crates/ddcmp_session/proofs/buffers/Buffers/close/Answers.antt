@@ -1,4 +1,4 @@
-use Rattle.std.proofs.Common.{◌≡◌, ◌∙◌, ap, ℕ, List, Bool}
+use Rattle.std.proofs.Common.{◌∙◌, ap, ℕ, List, Bool}
 use Rattle.ddcmp_session.specs.declared.course.Course.{Course}
 use Rattle.ddcmp_session.specs.Course.{lost_more}
 use Rattle.ddcmp_session.specs.Devices.{BuffersView}

@@ -1,10 +1,9 @@
-use Rattle.std.proofs.Common.{◌∙◌, ap, sym, subst, take}
+use Rattle.std.proofs.Common.{◌∙◌, ap, sym, take}
 use Rattle.std.specs.Prelude.{option_to_list}
 use Rattle.ddcmp_core.specs.declared.counters.Counters.{Counters}
 use Rattle.ddcmp_proto.proofs.FeedLaws.{after_piece-none, notices_of_piece-none}
 use Rattle.ddcmp_proto.specs.Bytes.{notices_of_piece}
-use Rattle.ddcmp_session.specs.Session.{SessionView, course_received, form_of, wants_line}
-use Rattle.ddcmp_session.specs.Text.{Wrote, notice_text, notices_text}
+use Rattle.ddcmp_session.specs.Session.{SessionView, course_received, wants_line}
 use Rattle.ddcmp_session.proofs.CourseLaws.{received-none, received-one}
 use Rattle.ddcmp_session.proofs.NoticeLaws.{wrote-none, wrote-one}
 use Rattle.ddcmp_session.specs.contracts.session.Session as session
