@@ -14,7 +14,7 @@ use ddcmp_core::{
 };
 use ddcmp_frame::codes::SYN;
 use ddcmp_frame::{Reader, write_frame};
-use ddcmp_window::RingStore;
+use ddcmp_window::SlotStore;
 pub use feeding::Fed;
 use std::alloc::Global;
 use std::marker::Model;
@@ -30,7 +30,7 @@ const FILL: [u8; 16] = [SYN; 16];
 /// `take_arm` returns true, which is to be asked after each `poll` and `feed`, set a deadline; if
 /// `timer_on` returns true when it comes, call `expire`.
 pub struct Station {
-    core: Core<RingStore>,
+    core: Core<SlotStore>,
     reader: Reader,
     config: Config,
     /// Room for the message of a frame that is written.
@@ -80,7 +80,7 @@ fn write_line(syn: u8, header: &Header, message: &[u8], out: &mut [u8]) -> usize
 
 /// Writes SYN fill and the next frame at the front of `out`, by way of `message`.
 fn write_next(
-    core: &mut Core<RingStore>,
+    core: &mut Core<SlotStore>,
     syn: u8,
     message: &mut [u8],
     out: &mut [u8],
@@ -133,8 +133,8 @@ impl Station {
         ensures made { IfSome result (λ s. (s.core ≡ core_made config) × (s.syn ≡ config.syn)) }
         ensures stands { IfSome result (λ s. StandsFor s.line []) }
     {
-        let out = RingStore::new(alloc, config.window as u8, config.max).ok()?;
-        let inbox = RingStore::new(alloc, config.inbox as u8, config.max).ok()?;
+        let out = SlotStore::new(alloc, config.window as u8, config.max).ok()?;
+        let inbox = SlotStore::new(alloc, config.inbox as u8, config.max).ok()?;
         let reader = Reader::new(alloc, config.max).ok()?;
         let message = Vec::from_elem(alloc, 0, config.max as usize).ok()?;
         Some(Station {
