@@ -12,12 +12,26 @@ pub fn write_frame(header: &Header, data: &[u8], out: &mut [u8]) -> usize
     ensures length { result ≡ length (wire header.now «data».now) }
     ensures written { out.new ≡ wire header.now «data».now ++ drop result out.old }
 {
-    let end = put(out, 0, &header.write());
+    let _end = put(out, 8, data);
+    write_around(header, data.len(), out)
+}
+
+/// Writes a frame at the front of `out`, where its `count` bytes of data are already, after eight
+/// bytes for the header; returns how many bytes it has.
+pub fn write_around(header: &Header, count: usize, out: &mut [u8]) -> usize
+    requires frame { IsFrame header.now (take count (drop 8 out.old)) }
+    requires room { length (wire header.now (take count (drop 8 out.old))) ≤ length out.old }
+    ensures length { result ≡ length (wire header.now (take count (drop 8 out.old))) }
+    ensures written { out.new
+        ≡ wire header.now (take count (drop 8 out.old)) ++ drop result out.old }
+{
+    let start = put(out, 0, &header.write());
     match header {
-        Header::Control(_) => end,
+        Header::Control(_) => start,
         Header::Data(_) | Header::Maint(_) => {
-            let end = put(out, end, data);
-            put(out, end, &check_bytes(check(data)))
+            let end = start + count;
+            let right = check_bytes(check(&out[start..end]));
+            put(out, end, &right)
         }
     }
 }

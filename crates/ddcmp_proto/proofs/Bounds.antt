@@ -1,5 +1,5 @@
 -- How large the numbers of a station get.
-use Rattle.std.proofs.Common.{ℕ, ◌+◌, ◌*◌, ◌≤◌, List, length, arith}
+use Rattle.std.proofs.Common.{ℕ, ◌+◌, ◌*◌, ◌≤◌, List, length, ap, arith}
 use Rattle.std.proofs.Math.Nat.{mul-le-mul}
 use Rattle.ddcmp_frame.specs.declared.header.Header.{Header}
 use Rattle.ddcmp_frame.specs.declared.header.Header.TheVariants.{Data, Maint, Control}
@@ -18,3 +18,10 @@ pub frame_most : (h : Header) (message : List ℕ) → IsFrame h message
 frame_most (Data h) message f = omega (arith, f)
 frame_most (Maint h) message f = omega (arith, f)
 frame_most (Control h) message f = omega arith
+
+-- and at least eight
+pub frame_least : (h : Header) (message : List ℕ) → IsFrame h message
+    → length message + 8 ≤ frame_length h
+frame_least (Data h) message f = omega (arith, f)
+frame_least (Maint h) message f = omega (arith, f)
+frame_least (Control h) message f = omega (arith, ap length f)

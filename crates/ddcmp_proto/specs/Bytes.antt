@@ -1,5 +1,6 @@
 -- A station over bytes: what the items of a text do to it, and how its frames go on the line.
-use Rattle.std.specs.Prelude.{ℕ, List, [], ◌∷◌, ◌++◌, length, drop, replicate, option_to_list}
+use Rattle.std.specs.Prelude.{ℕ, List, [], ◌∷◌, ◌++◌, length, take, drop, replicate}
+use Rattle.std.specs.Prelude.{option_to_list}
 use Rattle.ddcmp_frame.specs.declared.codes.TheConstants.{SYN}
 use Rattle.ddcmp_frame.specs.declared.item.Item.TheVariants as item
 use Rattle.ddcmp_frame.specs.Reading.{ReadItem, items}
@@ -53,6 +54,10 @@ abbrev pub notices_of_piece : List ℕ → List ℕ → CoreView → List Notice
 notices_of_piece text piece k = notices_of_items (items_added k.limits.longest text piece) k
 
 -- ---- what is sent
+
+-- the data of a frame that is put together after SYN fill: eight bytes are left for its header
+abbrev pub data_in : ℕ → ℕ → List ℕ → List ℕ
+data_in syn count out = take count (drop 8 (drop syn out))
 
 -- a frame on the line: SYN fill, and its bytes
 abbrev pub frame_on_line : ℕ → Frame → List ℕ

@@ -6,14 +6,15 @@ ghost use Rattle.std.specs.Prelude.{IfSome};
 ghost use Rattle.ddcmp_frame.specs.Wire.{wire, IsFrame};
 ghost use Rattle.ddcmp_window.specs.Store.{with_front};
 ghost use Rattle.ddcmp_core.specs.Table.{next, next_frame};
-ghost use Rattle.ddcmp_proto.specs.Bytes.{frame_on_line, after_poll};
+ghost use Rattle.ddcmp_proto.specs.Bytes.{data_in, frame_on_line, after_poll};
 
 use crate::config::{Config, ConfigRefusal, MAX_SYN};
 use ddcmp_core::{
     Core, Counters, Header, MAX_COUNT, Numbers, SendRefusal, Seq, StartRefusal, State,
 };
+use ddcmp_frame::Reader;
 use ddcmp_frame::codes::SYN;
-use ddcmp_frame::{Reader, write_frame};
+use ddcmp_frame::writer::write_around;
 use ddcmp_window::SlotStore;
 pub use feeding::Fed;
 use std::alloc::Global;
@@ -33,8 +34,6 @@ pub struct Station {
     core: Core<SlotStore>,
     reader: Reader,
     config: Config,
-    /// Room for the message of a frame that is written.
-    message: Vec<u8>,
 }
 
 // Manual, since a derived `Drop` is expanded wherever a station is dropped.
@@ -44,13 +43,12 @@ impl Drop for Station {
             core: _core,
             reader: _reader,
             config: _,
-            message: _message,
         } = self;
     }
 }
 
 impl Model for Station {
-    ghost use Rattle.std.specs.Prelude.{◌≡◌, ◌≤◌, vec_len};
+    ghost use Rattle.std.specs.Prelude.{◌≡◌, ◌≤◌};
     ghost use Rattle.ddcmp_proto.specs.declared.config.TheConstants.{MAX_SYN};
     ghost use Rattle.ddcmp_proto.specs.Config.{limits_of};
     ghost use Rattle.ddcmp_proto.specs.Station.{StationView};
@@ -60,33 +58,28 @@ impl Model for Station {
     ghost view = { λ s. record { core = s.core; syn = s.config.syn; line = s.reader } };
 
     ghost invariant = { λ s. (s.reader.max ≡ s.core.limits.longest)
-        × (vec_len s.message ≡ s.core.limits.longest) × (s.config.syn ≤ MAX_SYN)
-        × (s.core.limits ≡ limits_of s.config) };
+        × (s.config.syn ≤ MAX_SYN) × (s.core.limits ≡ limits_of s.config) };
 }
 
-/// Writes SYN fill and a frame at the front of `out`; returns how many bytes they have.
-fn write_line(syn: u8, header: &Header, message: &[u8], out: &mut [u8]) -> usize
-    requires syn { syn ≤ MAX_SYN }
-    requires frame { IsFrame header.now message.now }
-    requires room { syn + length (wire header.now message.now) ≤ length out.old }
-    ensures length { result ≡ length (replicate syn SYN ++ wire header.now message.now) }
-    ensures written { out.new ≡ (replicate syn SYN ++ wire header.now message.now)
-        ++ drop result out.old }
+/// Writes SYN fill and a frame at the front of `out`, where its `count` bytes of data are already;
+/// returns how many bytes they have.
+fn write_line(syn: u8, header: &Header, count: usize, out: &mut [u8]) -> usize
+    requires syn { (syn ≤ MAX_SYN) × (syn ≤ length out.old) }
+    requires frame { IsFrame header.now (data_in syn count out.old) }
+    requires room { syn + length (wire header.now (data_in syn count out.old)) ≤ length out.old }
+    ensures length { result
+        ≡ length (replicate syn SYN ++ wire header.now (data_in syn count out.old)) }
+    ensures written { out.new
+        ≡ (replicate syn SYN ++ wire header.now (data_in syn count out.old)) ++ drop result out.old }
 {
     let (fill, frame) = out.split_at_mut(syn as usize);
     fill.copy_from_slice(&FILL[..syn as usize]);
-    fill.len() + write_frame(header, message, frame)
+    fill.len() + write_around(header, count, frame)
 }
 
-/// Writes SYN fill and the next frame at the front of `out`, by way of `message`.
-fn write_next(
-    core: &mut Core<SlotStore>,
-    syn: u8,
-    message: &mut [u8],
-    out: &mut [u8],
-) -> Option<usize>
+/// Writes SYN fill and the next frame at the front of `out`.
+fn write_next(core: &mut Core<SlotStore>, syn: u8, out: &mut [u8]) -> Option<usize>
     requires syn { syn ≤ MAX_SYN }
-    requires longest { core.old.limits.longest ≤ length message.old }
     requires room { syn + core.old.limits.longest + 10 ≤ length out.old }
     ensures state { core.new ≡ after_poll core.old }
     ensures length { result
@@ -96,9 +89,9 @@ fn write_next(
     ensures out { out.new
         ≡ with_front (option_map (frame_on_line syn) (next_frame (next core.old.station))) out.old }
 {
-    match core.next(message) {
+    match core.next(&mut out[syn as usize + 8..]) {
         None => None,
-        Some((header, length)) => Some(write_line(syn, &header, &message[..length], out)),
+        Some((header, count)) => Some(write_line(syn, &header, count, out)),
     }
 }
 
@@ -136,12 +129,10 @@ impl Station {
         let out = SlotStore::new(alloc, config.window as u8, config.max).ok()?;
         let inbox = SlotStore::new(alloc, config.inbox as u8, config.max).ok()?;
         let reader = Reader::new(alloc, config.max).ok()?;
-        let message = Vec::from_elem(alloc, 0, config.max as usize).ok()?;
         Some(Station {
             core: Core::new(out, inbox, config.restart),
             reader,
             config,
-            message,
         })
     }
 }
@@ -268,7 +259,7 @@ impl Station {
             (next self.old.core.station))) out.old }
         ensures within { IfSome result (λ n. n ≤ MAX_COUNT + 10 + MAX_SYN) }
     {
-        write_next(&mut self.core, self.config.syn, &mut self.message, out)
+        write_next(&mut self.core, self.config.syn, out)
     }
 
     /// Returns the header of the frame that `poll` would write.

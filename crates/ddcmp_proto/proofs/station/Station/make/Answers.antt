@@ -60,12 +60,6 @@ returns-in_err-reader-clause-made c = rw c.from_residual-in_err-reader.ensures t
 pub returns-in_err-reader-clause-stands : goal.returns-in_err-reader-clause-stands
 returns-in_err-reader-clause-stands c = rw c.from_residual-in_err-reader.ensures tt
 
-pub returns-in_err-message-clause-made : goal.returns-in_err-message-clause-made
-returns-in_err-message-clause-made c = rw c.from_residual-in_err-message.ensures tt
-
-pub returns-in_err-message-clause-stands : goal.returns-in_err-message-clause-stands
-returns-in_err-message-clause-stands c = rw c.from_residual-in_err-message.ensures tt
-
 pub new-requires-4-clause-out_empty : goal.new-requires-4-clause-out_empty
 new-requires-4-clause-out_empty c =
     rw (was_made _ _ c.in_ok-out.ensures.value) at c.new.ensures.messages
@@ -86,9 +80,8 @@ invariant_of-result c =
     let max = rw (was_made _ _ c.in_ok-out.ensures.value) at c.new.ensures.longest in
     let inbox = rw (was_made _ _ c.in_ok-inbox.ensures.value) at c.new-2.ensures.limit in
     let reader = rw (was_made _ _ c.in_ok-reader.ensures.value) at c.new-3.ensures.max in
-    let message = rw (was_made _ _ c.in_ok-message.ensures.value) at c.from_elem.ensures in
     let syn = (in_range c.args.config c.requires).syn in
-    rw (c.new-4.ensures, window, max, inbox) (reader, message.len, syn, refl)
+    rw (c.new-4.ensures, window, max, inbox) (reader, syn, refl)
 
 pub returns-clause-made : goal.returns-clause-made
 returns-clause-made c =
