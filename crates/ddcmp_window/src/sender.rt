@@ -148,7 +148,8 @@ impl<S: Store> Sender<S> {
         ensures newly { result ≡ count_acknowledged self.old.outgoing number.0 }
         ensures sound { IsSoundSender self.new }
     {
-        if !Seq::within(self.acknowledged, number, self.sent) {
+        // Most frames acknowledge nothing new.
+        if number == self.acknowledged || !Seq::within(self.acknowledged, number, self.sent) {
             return 0;
         }
         let newly = Seq::distance(self.acknowledged, number);
