@@ -8,6 +8,7 @@ use Rattle.std.proofs.Math.Seq.{take-add}
 use Rattle.ddcmp_frame.specs.declared.item.Item.{Item}
 use Rattle.ddcmp_frame.specs.Reading.{items}
 use Rattle.ddcmp_frame.specs.Reader.{ReaderView, StandsFor, EndsWith, items_given, Grows}
+use Rattle.ddcmp_frame.specs.Reader.{PushesAll}
 use Rattle.ddcmp_frame.specs.Scan.{GrowsBy, TakesPiece, TakesAll}
 use Rattle.ddcmp_frame.proofs.Tests.{some-none}
 
@@ -124,3 +125,23 @@ one-byte v w b used given text t s =
     subst (λ n. GrowsBy (record v { lent = [] }) (take n (b ∷ [])) given w text) single
     (t.grows text (stands-unlent v [] text s)) in
     record { stands = grows.stands; items = grows.items; wire = grows.wire }
+
+-- what a step that gives an item does to a reader
+pub pushes-piece : (v w : ReaderView) (piece : List ℕ) (used : ℕ) (item : Item)
+    → TakesPiece v piece used (Some item) w
+    → PushesAll v piece (record { used = used; item = Some item }) w
+pushes-piece v w piece used item t = record {
+  counted = t.counted;
+  max = t.max;
+  stands = λ text s. (t.grows text s).stands;
+  item = λ text s. (t.grows text s).items;
+  first = λ text n s few.
+      ap (λ x. items v.max (text ++ x)) (sym (take-take n used piece (omega (arith, few))))
+      ∙ (t.grows text s).first n (omega (arith, few, length-take-le used piece t.within));
+  used = t.within;
+  whole = λ none. absurd (some-none none);
+  some = λ more. t.some;
+  lent = t.lent;
+  within = t.lent_within;
+  wire = λ text s. (t.grows text s).wire;
+}

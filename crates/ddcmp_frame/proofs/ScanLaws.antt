@@ -2,12 +2,18 @@
 use Rattle.std.proofs.Common.{◌≡◌, ℕ, zero, suc, ◌+◌, ◌-◌, ◌<◌, ◌≤◌, Bool, true, false, List, []}
 use Rattle.std.proofs.Common.{◌∷◌, ◌++◌, length, take, drop, slice_index, refl, sym, ◌∙◌, ap, subst}
 use Rattle.std.proofs.Common.{arith, Ok, Err, Some, None, Option, inl, inr, append_assoc}
-use Rattle.std.proofs.Common.{append-nil, length-append, length-drop}
+use Rattle.std.proofs.Common.{append-nil, length-append, length-drop, take_all, ◌⊎◌}
 use Rattle.std.specs.Prelude.{nat_lt, if◌then◌else◌, vec_capacity}
 use Rattle.std.proofs.lemmas.List.{take-append-le, drop-append-le, drop_all, length-take-le}
-use Rattle.std.proofs.lemmas.List.{take-append-drop}
+use Rattle.std.proofs.lemmas.List.{take-append-drop, length-take, take-take, drop-take}
+use Rattle.std.proofs.lemmas.Bool.{cases_lt}
 use Rattle.ddcmp_num.specs.declared.limits.TheConstants.{MAX_COUNT}
 use Rattle.ddcmp_frame.specs.declared.header.Header.{Header}
+use Rattle.ddcmp_frame.specs.declared.header.Header.TheVariants.{Data}
+use Rattle.ddcmp_frame.specs.Fields.{CountedFields}
+use Rattle.ddcmp_frame.specs.Wire.{six_bytes, wire, IsFrame}
+use Rattle.ddcmp_frame.specs.declared.codes.TheConstants.{DATA_START}
+use Rattle.std.proofs.Math.Seq.{take-append_seam}
 use Rattle.ddcmp_frame.specs.declared.header.HeaderFault.TheVariants.{Check}
 use Rattle.ddcmp_frame.specs.declared.item.Item.{Item}
 use Rattle.ddcmp_frame.specs.declared.item.Item.TheVariants.{Good, HeaderCheck, DataCheck, TooLong}
@@ -20,11 +26,13 @@ use Rattle.ddcmp_frame.specs.Reading.{is_data_right, by_length, by_count, read, 
 use Rattle.ddcmp_frame.specs.Reading.{with_more}
 use Rattle.ddcmp_frame.specs.Resume.{from_start}
 use Rattle.ddcmp_frame.specs.Reader.{ReaderView, Summarises, StandsFor, LentBeside, EndsWith}
-use Rattle.ddcmp_frame.specs.Reader.{items_given, candidate_length, bytes_to_come}
+use Rattle.ddcmp_frame.specs.Reader.{items_given, candidate_length, bytes_to_come, BeginsWith}
 use Rattle.ddcmp_frame.specs.Scan.{IsSoundScan, HasHeader, HasFrame, FitsPhase, bytes_in}
 use Rattle.ddcmp_frame.specs.Scan.{skipped_in, left_in, view_of, GrowsBy, TakesPiece}
+use Rattle.ddcmp_frame.specs.Scan.{IsDataFrame}
 use Rattle.ddcmp_frame.proofs.Tests.{ltb-is, ltb-isnt, false-true}
-use Rattle.ddcmp_frame.proofs.WireLaws.{frame_length-counted}
+use Rattle.ddcmp_frame.proofs.WireLaws.{frame_length-counted, counted-whole, length-wire}
+use Rattle.ddcmp_frame.proofs.WireLaws.{wire-front, wire-right, eight-parsed}
 use Rattle.ddcmp_frame.proofs.ReadingLaws.{read-none, read-some, read-nothing, items-more}
 use Rattle.ddcmp_frame.proofs.ReadingLaws.{ending-more, ending-offset, ending-suffix, row-nothing}
 use Rattle.ddcmp_frame.proofs.ReadingLaws.{row-passes, row-waits, row-by}
@@ -773,3 +781,96 @@ takes-item v w piece used given within some counted same lent lent_within grows 
   lent_within = lent_within;
   grows = grows;
 }
+
+-- ---- a whole data frame at the front of a piece, where nothing is held
+
+frame-quiet : (s : Scan) (h : CountedFields) (u : List ℕ) → IsDataFrame s.max h u → (k : ℕ)
+    → k < length u → (k < 8) ⊎ (8 ≤ k) → row s.max (next_place s.offset s.lost (take k u)) ≡ None
+frame-quiet s h u f zero less few = row-nothing s.max (next_place s.offset s.lost []) refl
+frame-quiet s h u f (suc k) less (inl few) =
+    row-waits s.max (next_place s.offset s.lost (take (suc k) u))
+    (ap is_start (index-take (suc k) 0 u (omega arith)) ∙ f.start)
+    (omega (arith, length-take-le (suc k) u (omega arith)))
+frame-quiet s h u f (suc k) less (inr more) =
+    let l = length-take-le (suc k) u (omega arith) in
+    row-short s.max s.offset s.lost (take (suc k) u) (Data h) h.count
+    (ap is_start (index-take (suc k) 0 u (omega arith)) ∙ f.start) (omega (arith, l, more))
+    (ap parsed (take-take 8 (suc k) u (omega (arith, more))) ∙ f.is) refl f.taken
+    (omega (arith, l, f.size))
+
+pub takes-frame : (s : Scan) (w : ReaderView) (piece : List ℕ) (h : CountedFields)
+    → s.phase ≡ phase.Seeking → IsDataFrame s.max h (take (h.count + 10) piece)
+    → w.lent ≡ take h.count (drop 8 piece)
+    → After (view_of s) w (take (h.count + 10) piece) false [] 0 0
+    → TakesPiece (view_of s) piece (h.count + 10) (Some (Good s.offset (Data h))) w
+takes-frame s w piece h phase f lent a =
+    let n = h.count in
+    let u = take (n + 10) piece in
+    let size = f.size in
+    let within : n + 10 ≤ length piece = omega (arith, length-take (n + 10) piece, size) in
+    let nothing : bytes_in s.phase s.buffer.items ≡ [] =
+    ap (λ p. bytes_in p s.buffer.items) phase in
+    let d : take n (drop 8 u) ≡ take n (drop 8 piece) =
+    ap (λ k. take n (drop 8 (take k piece))) (omega arith)
+    ∙ ap (take n) (drop-take 8 (n + 2) piece) ∙ take-take n (n + 2) (drop 8 piece) (omega arith) in
+    let lent_is : w.lent ≡ take n (drop 8 u) = lent ∙ sym d in
+    let whole = counted-whole (Data h) n u f.bytes (omega (arith, size)) f.is refl f.right in
+    let all = take_all (n + 10) u (omega (arith, size)) in
+    let row_is =
+    row-whole s.max s.offset s.lost u (Data h) n true f.start (omega (arith, size)) f.is refl
+    f.taken (omega (arith, size)) f.right in
+    let place = next_place s.offset s.lost u in
+    let m : More (view_of s) u u s.offset = record {
+      none = ap left_in phase;
+      bytes = ap (λ t. t ++ u) (sym nothing);
+      at_front = omega (arith, ap length nothing);
+    } in
+    takes-item (view_of s) w piece (n + 10) (Some (Good s.offset (Data h))) within (omega arith)
+    (omega (arith, a.counted, size)) a.max (subst (IsFrame (Data h)) (sym lent_is) whole.0)
+    (omega (arith, ap length lent_is, length-take n (drop 8 u), f.taken)) (λ text.
+    gives (view_of s) w text u u s.offset (Good s.offset (Data h)) (n + 10) m
+    (row_is
+    ∙ ap (λ l. Some ((Good s.offset (Data h), l) ∷ [], place_after (n + 10) false place))
+    (sym lent_is)) (omega (arith, size))
+    (λ k less. ap (λ t. row s.max (next_place s.offset s.lost (t ++ take k u))) nothing
+    ∙ frame-quiet s h u f k less (cases_lt k 8))
+    (λ y ends. ends ∙ sym all ∙ whole.1 ∙ ap (wire (Data h)) (sym lent_is)) a)
+
+-- nothing is held between two frames alone
+pub seeking : (s : Scan) → IsSoundScan s → bytes_in s.phase s.buffer.items ≡ []
+    → left_in s.phase ≡ 0 → s.phase ≡ phase.Seeking
+seeking s sound none past = by s.phase sound.fits none past
+  where
+    by : (p : Phase) → FitsPhase s.max p s.buffer.items → bytes_in p s.buffer.items ≡ []
+        → left_in p ≡ 0 → p ≡ phase.Seeking
+    by phase.Seeking fits none past = refl
+    by phase.Header fits none past = absurd (omega (arith, fits.some, ap length none))
+    by (phase.Frame h n) fits none past = absurd (omega (arith, fits.full, ap length none))
+    by (phase.TooLong skipped left) fits none past = absurd (omega (arith, fits.0, past))
+
+-- what a reader finds of a data frame with which a piece begins
+pub record Begun (piece : List ℕ) (h : CountedFields) : Type 0 where
+  pub long : h.count + 10 ≤ length piece
+  pub first : slice_index (take 8 piece) 0 ≡ DATA_START
+  pub is : parsed (take 8 piece) ≡ Ok (Data h)
+  pub right : is_data_right h.count (take (h.count + 10) piece) ≡ true
+
+wire-first : (h : CountedFields) (message rest : List ℕ)
+    → slice_index (take 8 (wire (Data h) message ++ rest)) 0 ≡ DATA_START
+unfolding wire six_bytes
+wire-first h message rest = refl
+
+pub begun : (max : ℕ) (piece : List ℕ) (h : CountedFields) (message rest : List ℕ)
+    → BeginsWith max piece h message rest → Begun piece h
+begun max piece h message rest b =
+    let w = wire (Data h) message in
+    let lw = length-wire (Data h) message b.frame in
+    let front : take (h.count + 10) piece ≡ w =
+    ap (λ k. take k piece) (sym lw) ∙ ap (take (length w)) b.is ∙ take-append_seam w rest in
+    record {
+      long = omega (arith, ap length b.is, length-append w rest, lw);
+      first = ap (λ t. slice_index (take 8 t) 0) b.is ∙ wire-first h message rest;
+      is = ap (λ t. parsed (take 8 t)) b.is ∙ ap parsed (wire-front (Data h) message rest)
+          ∙ eight-parsed (Data h) b.range;
+      right = ap (is_data_right h.count) front ∙ wire-right (Data h) h.count message refl b.frame;
+    }

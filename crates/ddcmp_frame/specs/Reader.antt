@@ -12,6 +12,7 @@ use Rattle.ddcmp_frame.specs.declared.item.Pushed.{Pushed}
 use Rattle.ddcmp_frame.specs.declared.reader.ReaderRefusal.{ReaderRefusal}
 use Rattle.ddcmp_frame.specs.declared.reader.ReaderRefusal.TheVariants.{MaxZero, MaxAbove16383}
 use Rattle.ddcmp_frame.specs.declared.reader.ReaderRefusal.TheVariants.{Memory}
+use Rattle.ddcmp_frame.specs.Fields.{CountedFields}
 use Rattle.ddcmp_frame.specs.Spelling.{IsInRange, parsed}
 use Rattle.ddcmp_frame.specs.Wire.{wire, IsFrame}
 use Rattle.ddcmp_frame.specs.Reading.{ReadItem, Place, items, ending}
@@ -146,3 +147,18 @@ pub record PushesAll (old : ReaderView) (piece : List ℕ) (pushed : Pushed) (ne
   pub within : length new.lent ≤ old.max
   pub wire : (text : List ℕ) → StandsFor old text
       → EndsWith pushed.item new.lent (text ++ take pushed.used piece)
+
+-- a piece begins with a data frame that a reader of at most max bytes of data takes
+pub record BeginsWith (max : ℕ) (piece : List ℕ) (h : CountedFields) (message rest : List ℕ)
+    : Type 0 where
+  pub is : piece ≡ wire (Data h) message ++ rest
+  pub frame : IsFrame (Data h) message
+  pub range : IsInRange (Data h)
+  pub taken : h.count ≤ max
+
+-- a reader takes the data frame at the front of a piece, as above, but its data stay there
+abbrev pub PushesFrame : ReaderView → List ℕ → CountedFields → ReaderView → Type 0
+PushesFrame old piece h new =
+    PushesAll old piece
+    (record { used = h.count + 10; item = Some (Good old.offset (Data h)) })
+    (record new { lent = take h.count (drop 8 piece) })

@@ -4,16 +4,19 @@ use Rattle.std.specs.Prelude.{length, take, drop, slice_index, Option, Some, Non
 use Rattle.std.specs.Prelude.{vec_capacity}
 use Rattle.ddcmp_num.specs.declared.limits.TheConstants.{MAX_COUNT}
 use Rattle.ddcmp_frame.specs.declared.header.Header.{Header as HeaderValue}
+use Rattle.ddcmp_frame.specs.declared.header.Header.TheVariants.{Data}
 use Rattle.ddcmp_frame.specs.declared.header.HeaderFault.TheVariants.{Check}
 use Rattle.ddcmp_frame.specs.declared.item.Item.{Item}
+use Rattle.ddcmp_frame.specs.declared.item.Item.TheVariants.{Good}
 use Rattle.ddcmp_frame.specs.declared.item.Pushed.{Pushed}
 use Rattle.ddcmp_frame.specs.declared.scan.Phase.{Phase}
 use Rattle.ddcmp_frame.specs.declared.scan.Phase.TheVariants.{Seeking, Header, Frame, TooLong}
 use Rattle.ddcmp_frame.specs.declared.scan.Candidate.{Candidate}
 use Rattle.ddcmp_frame.specs.declared.scan.Candidate.TheVariants.{Fails, Gives, Begins, Announces}
 use Rattle.ddcmp_frame.specs.declared.scan.Scan.{Scan}
-use Rattle.ddcmp_frame.specs.Spelling.{is_start, parsed}
-use Rattle.ddcmp_frame.specs.Reading.{place_after, count_of, by_verdict, items}
+use Rattle.ddcmp_frame.specs.Fields.{CountedFields}
+use Rattle.ddcmp_frame.specs.Spelling.{IsBytes, is_start, parsed}
+use Rattle.ddcmp_frame.specs.Reading.{place_after, count_of, by_verdict, is_data_right, items}
 use Rattle.ddcmp_frame.specs.Reader.{ReaderView, StandsFor, LentBeside, EndsWith, items_given}
 use Rattle.ddcmp_frame.specs.Step.{place_untold}
 
@@ -133,6 +136,21 @@ pub record TakesPiece (old : ReaderView) (piece : List ℕ) (used : ℕ) (given 
 abbrev pub Takes : Scan → List ℕ → Pushed → Scan → Type 0
 Takes old piece pushed new =
     TakesPiece (view_of old) piece pushed.used pushed.item (view_of new)
+
+-- a whole data frame, both of whose checks are right
+pub record IsDataFrame (max : ℕ) (h : CountedFields) (text : List ℕ) : Type 0 where
+  pub bytes : IsBytes text
+  pub size : length text ≡ h.count + 10
+  pub start : is_start (slice_index text 0) ≡ true
+  pub is : parsed (take 8 text) ≡ Ok (Data h)
+  pub taken : h.count ≤ max
+  pub right : is_data_right h.count text ≡ true
+
+-- a step that takes one from the front of a piece, where its data stay
+abbrev pub TakesFrame : Scan → List ℕ → CountedFields → Scan → Type 0
+TakesFrame old piece h new =
+    TakesPiece (view_of old) piece (h.count + 10) (Some (Good old.offset (Data h)))
+    (record (view_of new) { lent = take h.count (drop 8 piece) })
 
 -- what all steps over a piece do, up to an item
 pub record TakesAll (old : ReaderView) (piece : List ℕ) (used : ℕ) (given : Option Item)

@@ -21,4 +21,4 @@ pub use header::{ControlType, Counted, Flags, Header, HeaderFault, Short};
 pub use item::{Item, Pushed};
 pub use nak::Nak;
 pub use reader::{Reader, ReaderRefusal};
-pub use writer::write_frame;
+pub use writer::{write_around, write_frame};

@@ -1,9 +1,12 @@
 //! A reader of frames that takes the bytes of a line in pieces.
-ghost use Rattle.std.specs.Prelude.{◌≡◌, ◌+◌, ◌<◌, ◌≤◌, ◌^◌, ℕ, List, [], length};
+ghost use Rattle.std.specs.Prelude.{◌≡◌, ◌+◌, ◌<◌, ◌≤◌, ◌^◌, ℕ, List, [], length, Some, None};
+ghost use Rattle.std.specs.Prelude.{IsSome, IfSome};
+ghost use Rattle.ddcmp_frame.specs.Fields.{CountedFields};
 ghost use Rattle.ddcmp_frame.specs.Reading.{open_at_end, kept_at_end};
 ghost use Rattle.ddcmp_frame.specs.Reader.{StandsFor, MakesReader, Pushes, PushesAll, open_of};
-ghost use Rattle.ddcmp_frame.specs.Reader.{kept_of};
+ghost use Rattle.ddcmp_frame.specs.Reader.{kept_of, BeginsWith, PushesFrame};
 
+use crate::header::Counted;
 use crate::held::frame_buffer;
 use crate::item::{Item, Pushed};
 use crate::scan::{Phase, Scan};
@@ -80,6 +83,22 @@ impl Reader {
     {
         self.scan.lent = 0;
         self.scan.take_all(piece)
+    }
+
+    /// Takes the data frame at the front of a chunk, if none is unfinished and this one is whole and
+    /// right; returns its fields. It does what `push_all` does, but its data stay in the chunk, after
+    /// the eight bytes of the header.
+    #[inline(always)]
+    pub fn push_frame(&mut self, piece: &[u8]) -> Option<Counted>
+        requires { self.old.offset + length piece.now < 2 ^ 64 }
+        ensures none { result ≡ None → self.new ≡ self.old }
+        ensures unlent { IsSome result → self.new.lent ≡ [] }
+        ensures pushes { IfSome result (λ h. PushesFrame self.old piece.now h self.new) }
+        ensures found { (h : CountedFields) (message rest : List ℕ) → self.old.bytes ≡ []
+            → self.old.left ≡ 0 → BeginsWith self.old.max piece.now h message rest
+            → result ≡ Some h }
+    {
+        self.scan.take_frame(piece)
     }
 
     /// Returns the data of the good item that the last push completed, else none.

@@ -1,13 +1,16 @@
 //! A scan of a line for frames, step by step. `Reader` is what callers see of it.
 ghost use Rattle.std.specs.Prelude.{◌≡◌, ◌+◌, ◌<◌, ◌≤◌, ◌^◌, ◌++◌, ℕ, true, false, length};
-ghost use Rattle.std.specs.Prelude.{slice_index, take, None, vec_len, vec_capacity};
-ghost use Rattle.ddcmp_frame.specs.Spelling.{is_start as is_start_byte};
-ghost use Rattle.ddcmp_frame.specs.Reader.{open_of, kept_of};
+ghost use Rattle.std.specs.Prelude.{slice_index, take, List, Some, None, IsSome, IfSome, vec_len};
+ghost use Rattle.std.specs.Prelude.{vec_capacity};
+ghost use Rattle.ddcmp_frame.specs.Fields.{CountedFields};
+ghost use Rattle.ddcmp_frame.specs.Spelling.{IsBytes, is_start as is_start_byte};
+ghost use Rattle.ddcmp_frame.specs.Reading.{is_data_right};
+ghost use Rattle.ddcmp_frame.specs.Reader.{open_of, kept_of, BeginsWith};
 ghost use Rattle.ddcmp_frame.specs.Scan.{IsSoundScan, IsReady, IsCandidate, Takes, TakesAll};
-ghost use Rattle.ddcmp_frame.specs.Scan.{view_of};
+ghost use Rattle.ddcmp_frame.specs.Scan.{view_of, IsDataFrame, TakesFrame};
 
 use crate::codes::{CONTROL_START, DATA_START, MAINT_START};
-use crate::header::{Header, HeaderFault, is_start};
+use crate::header::{Counted, Header, HeaderFault, is_start};
 use crate::held::{count_of, data_right, loss, resume};
 use crate::item::{Item, Pushed};
 use memchr::memchr3;
@@ -76,6 +79,34 @@ impl Scan {
             }
         }
         Pushed { used, item: None }
+    }
+
+    /// Takes the data frame at the front of a chunk, if none is unfinished and this one is whole and
+    /// right; returns its fields.
+    #[inline(always)]
+    pub(crate) fn take_frame(&mut self, piece: &[u8]) -> Option<Counted>
+        requires sound { IsSoundScan self.old }
+        requires fits { self.old.offset + length piece.now < 2 ^ 64 }
+        ensures sound { IsSoundScan self.new }
+        ensures none { result ≡ None → self.new ≡ self.old }
+        ensures unlent { IsSome result → self.new.lent ≡ 0 }
+        ensures takes { IfSome result (λ h. TakesFrame self.old piece.now h self.new) }
+        ensures found { (h : CountedFields) (message rest : List ℕ) → self.old.phase ≡ Phase.Seeking
+            → BeginsWith self.old.max piece.now h message rest → result ≡ Some h }
+    {
+        match self.phase {
+            Phase::Seeking => {}
+            Phase::Header | Phase::Frame { .. } | Phase::TooLong { .. } => return None,
+        }
+        match data_frame(piece, self.max) {
+            Some(fields) => {
+                self.offset += fields.count as u64 + 10;
+                self.lost = false;
+                self.lent = 0;
+                Some(fields)
+            }
+            None => None,
+        }
     }
 
     /// Takes at least one byte of a piece, and at most those that belong to the same phase.
@@ -327,6 +358,43 @@ fn keep(buffer: &mut Vec<u8>, bytes: &[u8])
         Ok(()) => {}
         Err(_) => unreachable!(),
     }
+}
+
+/// Returns the fields of the data frame at the front of a chunk, if it is whole and right and has at
+/// most `max` bytes of data.
+#[inline(always)]
+fn data_frame(piece: &[u8], max: u16) -> Option<Counted>
+    ensures is { IfSome result (λ h. IsDataFrame max h (take (h.count + 10) piece.now)) }
+    ensures found { (h : CountedFields) (message rest : List ℕ)
+        → BeginsWith max piece.now h message rest → result ≡ Some h }
+{
+    let Some(front) = piece.first_chunk::<8>() else {
+        return None;
+    };
+    if front[0] != DATA_START {
+        return None;
+    }
+    let Ok(header) = Header::parse(front) else {
+        return None;
+    };
+    match &header {
+        Header::Data(fields) if is_whole(piece, fields.count, max) => Some(*fields),
+        _ => None,
+    }
+}
+
+/// Returns whether the frame at the front of a chunk, whose header says this COUNT, is there whole,
+/// with the right check of its data, which are at most `max` bytes.
+#[inline(always)]
+fn is_whole(piece: &[u8], count: u16, max: u16) -> bool
+    ensures bytes { result ≡ true → IsBytes (take (count + 10) piece.now) }
+    ensures fits { result ≡ true → (count ≤ max) × (count + 10 ≤ length piece.now) }
+    ensures right { result ≡ true → is_data_right count (take (count + 10) piece.now) ≡ true }
+    ensures found { count ≤ max → count + 10 ≤ length piece.now
+        → is_data_right count (take (count + 10) piece.now) ≡ true → result ≡ true }
+{
+    let end = count as usize + 10;
+    count <= max && end <= piece.len() && data_right(&piece[..end], count as usize)
 }
 
 /// What eight bytes are that begin with a start byte, at the offset `at`.

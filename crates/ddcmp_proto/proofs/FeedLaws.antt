@@ -8,6 +8,7 @@ use Rattle.std.proofs.lemmas.List.{length-take-le, take-take}
 use Rattle.std.proofs.Math.Seq.{drop-append_seam, drop-length, take-add}
 use Rattle.ddcmp_frame.specs.Reading.{ReadItem, items}
 use Rattle.ddcmp_frame.proofs.ReadingLaws.{items-more}
+use Rattle.ddcmp_frame.proofs.PartLaws.{stands-unlent}
 use Rattle.ddcmp_frame.specs.declared.item.Item.{Item}
 use Rattle.ddcmp_frame.specs.Reader.{ReaderView, StandsFor, items_given}
 use Rattle.ddcmp_core.specs.declared.notice.Notice.{Notice}
@@ -171,22 +172,25 @@ part-none core syn line after bytes m p = record {
   syn = refl;
 }
 
-pub part-some : (core : CoreView) (syn : ℕ) (line after : ReaderView) (bytes : List ℕ) (item : Item)
-    (new : StationView) (notice : Option Notice)
-    → line.max ≡ core.limits.longest → Pushed line after bytes ((item, after.lent) ∷ [])
-    → new ≡ record { core = after_item (item, after.lent) core; syn = syn; line = after }
-    → option_to_list notice ≡ notices_of_item (item, after.lent) core
+-- what is lent beside the item lies in the reader, or in the piece
+pub part-some : (core : CoreView) (syn : ℕ) (line after : ReaderView) (lent bytes : List ℕ)
+    (item : Item) (new : StationView) (notice : Option Notice)
+    → line.max ≡ core.limits.longest
+    → Pushed line (record after { lent = lent }) bytes ((item, lent) ∷ [])
+    → new ≡ record { core = after_item (item, lent) core; syn = syn; line = after }
+    → option_to_list notice ≡ notices_of_item (item, lent) core
     → acknowledged_by notice + length new.core.station.out ≤ length core.station.out
     → TakesPart (record { core = core; syn = syn; line = line }) bytes new notice
-part-some core syn line after bytes item new notice m p e t left =
+part-some core syn line after lent bytes item new notice m p e t left =
     subst (λ v. TakesPart (record { core = core; syn = syn; line = line }) bytes v notice) (sym e)
     (record {
-      given = (item, after.lent) ∷ [];
-      stands = p.stands;
+      given = (item, lent) ∷ [];
+      stands = λ text s. stands-unlent (record after { lent = lent }) after.lent (text ++ bytes)
+          (p.stands text s);
       items_are = p.item;
       first = p.first;
-      core = sym (after_items-single (item, after.lent) core);
-      told = t ∙ sym (notices_of_items-single (item, after.lent) core);
+      core = sym (after_items-single (item, lent) core);
+      told = t ∙ sym (notices_of_items-single (item, lent) core);
       leaves =
           subst (λ v. acknowledged_by notice + length v.core.station.out ≤ length core.station.out)
           e left;

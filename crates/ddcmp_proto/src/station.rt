@@ -12,9 +12,8 @@ use crate::config::{Config, ConfigRefusal, MAX_SYN};
 use ddcmp_core::{
     Core, Counters, Header, MAX_COUNT, Numbers, SendRefusal, Seq, StartRefusal, State,
 };
-use ddcmp_frame::Reader;
 use ddcmp_frame::codes::SYN;
-use ddcmp_frame::writer::write_around;
+use ddcmp_frame::{Reader, write_around};
 use ddcmp_window::SlotStore;
 pub use feeding::Fed;
 use std::alloc::Global;

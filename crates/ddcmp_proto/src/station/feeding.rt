@@ -2,7 +2,7 @@
 ghost use Rattle.std.specs.Prelude.{◌≡◌};
 
 use crate::station::Station;
-use ddcmp_core::{Input, Notice};
+use ddcmp_core::{Header, Input, Notice};
 use ddcmp_frame::{Item, Pushed};
 
 /// What a station made of a piece of its line.
@@ -69,6 +69,12 @@ impl Station {
         ensures some { 0 < result.0 }
         ensures takes { TakesPart self.old (take result.0 piece.now) self.new result.1 }
     {
+        // The data of a frame that the piece has whole are copied to the inbox alone.
+        if let Some(fields) = self.reader.push_frame(piece) {
+            let end = fields.count as usize + 8;
+            let input = Input::Good(Header::Data(fields), &piece[8..end]);
+            return (end + 2, self.core.on(&input));
+        }
         let Pushed { used, item } = self.reader.push_all(piece);
         match item {
             None => (used, None),

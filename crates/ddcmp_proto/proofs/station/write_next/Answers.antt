@@ -5,7 +5,6 @@ use Rattle.std.proofs.lemmas.List.{length-replicate}
 use Rattle.ddcmp_frame.specs.Wire.{wire, IsFrame}
 use Rattle.ddcmp_frame.proofs.WireLaws.{length-wire}
 use Rattle.ddcmp_window.specs.Store.{with_front}
-use Rattle.ddcmp_proto.specs.Bytes.{data_in}
 use Rattle.ddcmp_proto.proofs.Bounds.{frame_most, frame_least}
 use Rattle.ddcmp_proto.proofs.PollLaws.{next_is, line_is, placed}
 use Rattle.ddcmp_proto.proofs.station.write_next.Goals as goal
