@@ -94,6 +94,10 @@ impl Scan {
         ensures found { (h : CountedFields) (message rest : List ℕ) → self.old.phase ≡ Phase.Seeking
             → BeginsWith self.old.max piece.now h message rest → result ≡ Some h }
     {
+        // A frame of another kind costs this test alone.
+        if piece.is_empty() || piece[0] != DATA_START {
+            return None;
+        }
         match self.phase {
             Phase::Seeking => {}
             Phase::Header | Phase::Frame { .. } | Phase::TooLong { .. } => return None,
@@ -128,7 +132,8 @@ impl Scan {
         }
     }
 
-    /// Passes over bytes up to the next start byte, which is the first of a header.
+    /// Passes over bytes up to the next start byte, or takes the one at the front as the first of a
+    /// header that isn't whole here, or is none.
     fn seek(&mut self, piece: &[u8]) -> Pushed
         requires ready { IsReady self.old piece.now }
         requires phase { self.old.phase ≡ Phase.Seeking }
@@ -137,7 +142,7 @@ impl Scan {
         ensures takes { Takes self.old piece.now result self.new }
     {
         let other = before_start(piece);
-        if other == piece.len() {
+        if other > 0 {
             self.offset += other as u64;
             return Pushed {
                 used: other,
@@ -145,11 +150,11 @@ impl Scan {
             };
         }
         self.buffer.clear();
-        keep(&mut self.buffer, &piece[other..other + 1]);
-        self.offset += other as u64 + 1;
+        keep(&mut self.buffer, &piece[..1]);
+        self.offset += 1;
         self.phase = Phase::Header;
         Pushed {
-            used: other + 1,
+            used: 1,
             item: None,
         }
     }
@@ -348,7 +353,9 @@ fn phase_of(held: &[u8]) -> Phase
     }
 }
 
-/// Appends bytes for which there is room.
+/// Appends bytes for which there is room. Inlined, it would have each item prepare for a copy, which
+/// few need.
+#[inline(never)]
 fn keep(buffer: &mut Vec<u8>, bytes: &[u8])
     requires room { vec_len buffer.old + length bytes.now ≤ vec_capacity buffer.old }
     ensures items { buffer.new.items ≡ buffer.old.items ++ bytes.now }

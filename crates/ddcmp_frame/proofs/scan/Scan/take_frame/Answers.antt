@@ -1,6 +1,8 @@
-use Rattle.std.proofs.Common.{◌+◌, refl, sym, ap, take, ◌∙◌}
+use Rattle.std.proofs.Common.{◌≡◌, ◌+◌, refl, sym, ◌∙◌, ap, arith, rules, take, slice_index}
 use Rattle.ddcmp_frame.specs.Scan.{bytes_in, skipped_in, left_in, IsDataFrame}
-use Rattle.ddcmp_frame.proofs.ScanLaws.{takes-frame}
+use Rattle.ddcmp_frame.proofs.ScanLaws.{begun, index-take, takes-frame}
+use Rattle.ddcmp_frame.proofs.scan.Scan.take_frame.Goals.{then-is_empty-via-then-is_empty}
+use Rattle.ddcmp_frame.proofs.scan.Scan.take_frame.Goals.{then-is_empty-via-else-is_empty+then-piece}
 use Rattle.ddcmp_frame.proofs.scan.Scan.take_frame.Goals as goal
 
 pub returns-in-Some-clause-takes : goal.returns-in-Some-clause-takes
@@ -17,3 +19,14 @@ returns-in-Some-clause-takes c =
       skipped = ap skipped_in c.in-Seeking.is;
       left = ap left_in c.in-Seeking.is;
     })
+
+pub returns-then-is_empty-clause-found : goal.returns-then-is_empty-clause-found
+returns-then-is_empty-clause-found c h message rest phase b =
+    let piece = c.args.piece.now in
+    let k = begun c.args.self.now.max piece h message rest b in
+    let long = k.long in
+    let first : slice_index piece 0 ≡ 129 = sym (index-take 8 0 piece (omega arith)) ∙ k.first in
+    elim c.then-is_empty.branch [
+      | then-is_empty-via-then-is_empty w ↦ search rules
+      | then-is_empty-via-else-is_empty+then-piece w ↦ search rules
+    ]
