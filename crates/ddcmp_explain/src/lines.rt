@@ -16,7 +16,7 @@ use crate::notation::{write_item, write_item_by, write_last};
 use crate::put::LINE;
 use crate::skipped::{Reached, reached_by};
 use crate::style::Style;
-use ddcmp_frame::{Item, Pushed, Reader};
+use ddcmp_frame::{Header, Item, Pushed, Reader};
 use ddcmp_io::{Page, Sink, WriteFailed};
 
 /// The lines of the bytes so far, in order, for a sink.
@@ -73,6 +73,23 @@ impl Lines {
     {
         if self.style.discarded {
             return self.push_one(writer, bytes[0]);
+        }
+        // The data of a frame that the bytes have whole are written from there.
+        let at = self.frames.offset();
+        if let Some(fields) = self.frames.push_frame(bytes) {
+            self.items += 1;
+            let end = fields.count as usize + 8;
+            let item = Item::Good(at, Header::Data(fields));
+            let data = &bytes[8..end];
+            write_item_by(
+                line,
+                &mut self.page,
+                writer,
+                self.style.notation,
+                &item,
+                data,
+            );
+            return end + 2;
         }
         let Pushed { used, item } = self.frames.push_all(bytes);
         match item {
