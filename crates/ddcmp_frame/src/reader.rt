@@ -85,9 +85,9 @@ impl Reader {
         self.scan.take_all(piece)
     }
 
-    /// Takes the data frame at the front of a chunk, if none is unfinished and this one is whole and
-    /// right; returns its fields. It does what `push_all` does, but its data stay in the chunk, after
-    /// the eight bytes of the header.
+    /// Takes the data frame at the front of a chunk, if none is unfinished and this one is whole
+    /// and right; returns its fields. It does what `push_all` does, but the data stay in the chunk,
+    /// after the eight bytes of the header.
     #[inline(always)]
     pub fn push_frame(&mut self, piece: &[u8]) -> Option<Counted>
         requires { self.old.offset + length piece.now < 2 ^ 64 }

@@ -81,8 +81,8 @@ impl Scan {
         Pushed { used, item: None }
     }
 
-    /// Takes the data frame at the front of a chunk, if none is unfinished and this one is whole and
-    /// right; returns its fields.
+    /// Takes the data frame at the front of a chunk, if none is unfinished and this one is whole
+    /// and right; returns its fields.
     #[inline(always)]
     pub(crate) fn take_frame(&mut self, piece: &[u8]) -> Option<Counted>
         requires sound { IsSoundScan self.old }
@@ -353,8 +353,8 @@ fn phase_of(held: &[u8]) -> Phase
     }
 }
 
-/// Appends bytes for which there is room. Inlined, it would have each item prepare for a copy, which
-/// few need.
+/// Appends bytes for which there is room. Inlined, it would have each item prepare for a copy,
+/// which few need.
 #[inline(never)]
 fn keep(buffer: &mut Vec<u8>, bytes: &[u8])
     requires room { vec_len buffer.old + length bytes.now ≤ vec_capacity buffer.old }
@@ -367,8 +367,8 @@ fn keep(buffer: &mut Vec<u8>, bytes: &[u8])
     }
 }
 
-/// Returns the fields of the data frame at the front of a chunk, if it is whole and right and has at
-/// most `max` bytes of data.
+/// Returns the fields of the data frame at the front of a chunk, if it is whole and right and has
+/// at most `max` bytes of data.
 #[inline(always)]
 fn data_frame(piece: &[u8], max: u16) -> Option<Counted>
     ensures is { IfSome result (λ h. IsDataFrame max h (take (h.count + 10) piece.now)) }
@@ -390,8 +390,8 @@ fn data_frame(piece: &[u8], max: u16) -> Option<Counted>
     }
 }
 
-/// Returns whether the frame at the front of a chunk, whose header says this COUNT, is there whole,
-/// with the right check of its data, which are at most `max` bytes.
+/// Returns whether the frame at the front of a chunk, whose header has this COUNT, is whole, with
+/// the right check of its data, which are at most `max` bytes.
 #[inline(always)]
 fn is_whole(piece: &[u8], count: u16, max: u16) -> bool
     ensures bytes { result ≡ true → IsBytes (take (count + 10) piece.now) }

@@ -69,7 +69,8 @@ fn write_line(syn: u8, header: &Header, count: usize, out: &mut [u8]) -> usize
     ensures length { result
         ≡ length (replicate syn SYN ++ wire header.now (data_in syn count out.old)) }
     ensures written { out.new
-        ≡ (replicate syn SYN ++ wire header.now (data_in syn count out.old)) ++ drop result out.old }
+        ≡ (replicate syn SYN ++ wire header.now (data_in syn count out.old))
+        ++ drop result out.old }
 {
     let (fill, frame) = out.split_at_mut(syn as usize);
     fill.copy_from_slice(&FILL[..syn as usize]);

@@ -1,5 +1,5 @@
-use Rattle.std.proofs.Common.{◌≡◌, ◌+◌, ◌-◌, ◌≤◌, ℕ, ◌++◌, List, length, take, drop, sym, ◌∙◌, ap, subst}
-use Rattle.std.proofs.Common.{arith, append_assoc, length-append}
+use Rattle.std.proofs.Common.{◌≡◌, ◌+◌, ◌-◌, ◌≤◌, ℕ, ◌++◌, List, length, take, drop, sym, ◌∙◌, ap}
+use Rattle.std.proofs.Common.{subst, arith, append_assoc, length-append}
 use Rattle.std.proofs.Math.Seq.{take-append_seam, drop-append_seam}
 use Rattle.std.proofs.lemmas.List.{length-take}
 use Rattle.ddcmp_frame.specs.declared.header.Header.{Header}
@@ -50,16 +50,16 @@ pub write_around-requires-clause-frame : goal.write_around-requires-clause-frame
 write_around-requires-clause-frame c =
     let d = c.args.«data».now in
     let p =
-    placed c.args.out.now c.put-end.new.out d c.put-end.result (room _ d _ c.requires.frame c.requires.room)
-    c.put-end.ensures.end c.put-end.ensures.put in
+    placed c.args.out.now c.put-end.new.out d c.put-end.result
+    (room _ d _ c.requires.frame c.requires.room) c.put-end.ensures.end c.put-end.ensures.put in
     subst (IsFrame c.args.header.now) (sym p.is) c.requires.frame
 
 pub returns-clause-length : goal.returns-clause-length
 returns-clause-length c =
     let d = c.args.«data».now in
     let p =
-    placed c.args.out.now c.put-end.new.out d c.put-end.result (room _ d _ c.requires.frame c.requires.room)
-    c.put-end.ensures.end c.put-end.ensures.put in
+    placed c.args.out.now c.put-end.new.out d c.put-end.result
+    (room _ d _ c.requires.frame c.requires.room) c.put-end.ensures.end c.put-end.ensures.put in
     c.write_around.ensures.length ∙ ap (λ x. length (wire c.args.header.now x)) p.is
 
 pub returns-clause-written : goal.returns-clause-written
@@ -68,8 +68,8 @@ returns-clause-written c =
     let d = c.args.«data».now in
     let r = c.write_around.result in
     let p =
-    placed c.args.out.now c.put-end.new.out d c.put-end.result (room _ d _ c.requires.frame c.requires.room)
-    c.put-end.ensures.end c.put-end.ensures.put in
+    placed c.args.out.now c.put-end.new.out d c.put-end.result
+    (room _ d _ c.requires.frame c.requires.room) c.put-end.ensures.end c.put-end.ensures.put in
     let r_is : r ≡ length (wire h d) =
     c.write_around.ensures.length ∙ ap (λ x. length (wire h x)) p.is in
     c.write_around.ensures.written ∙ ap (λ x. wire h x ++ drop r c.put-end.new.out) p.is

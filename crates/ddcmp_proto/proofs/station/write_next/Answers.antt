@@ -1,5 +1,5 @@
-use Rattle.std.proofs.Common.{take, drop, replicate, ◌++◌, ◌∙◌, ap, subst, arith, length, ℕ, ◌≡◌, ◌+◌, ◌≤◌, sym}
-use Rattle.std.proofs.Common.{length-append, length-drop, take_all, Some}
+use Rattle.std.proofs.Common.{◌≡◌, ◌+◌, ◌≤◌, ℕ, ◌++◌, length, take, drop, replicate, sym, ◌∙◌, ap}
+use Rattle.std.proofs.Common.{subst, arith, length-append, length-drop, take_all, Some}
 use Rattle.std.specs.Prelude.{option_map}
 use Rattle.std.proofs.lemmas.List.{length-replicate}
 use Rattle.ddcmp_frame.specs.Wire.{wire, IsFrame}

@@ -1,4 +1,5 @@
-use Rattle.std.proofs.Common.{◌≡◌, ◌+◌, ◌++◌, [], slice_index, refl, sym, ◌∙◌, ap, arith, take, drop}
+use Rattle.std.proofs.Common.{◌≡◌, ◌+◌, ◌++◌, [], slice_index, refl, sym, ◌∙◌, ap, arith, take}
+use Rattle.std.proofs.Common.{drop}
 use Rattle.std.proofs.lemmas.List.{length-take-le, drop_all}
 use Rattle.ddcmp_frame.specs.Spelling.{is_start}
 use Rattle.ddcmp_frame.specs.Scan.{bytes_in, skipped_in, left_in, view_of}
@@ -40,8 +41,8 @@ returns-clause-takes c =
     let lu = length-take-le 1 piece (omega (arith, c.requires.ready.some)) in
     let nothing : bytes_in s.phase s.buffer.items ≡ [] =
     ap (λ p. bytes_in p s.buffer.items) c.requires.phase in
-    takes-nothing (view_of s) _ piece 1 (omega (arith, c.requires.ready.some)) (omega arith) refl refl
-    (ap (λ k. take k (drop 8 c.keep.new.buffer.items)) c.requires.ready.lent) (λ text.
+    takes-nothing (view_of s) _ piece 1 (omega (arith, c.requires.ready.some)) (omega arith) refl
+    refl (ap (λ k. take k (drop 8 c.keep.new.buffer.items)) c.requires.ready.lent) (λ text.
     seeks (view_of s) _ text u 0 nothing (ap left_in c.requires.phase) (omega arith)
     (λ i few. absurd (omega (arith, few)))
     (row-waits s.max (next_place (s.offset + 0) s.lost u)
