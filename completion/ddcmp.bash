@@ -15,7 +15,7 @@ _ddcmp() {
     :*) words='explain simulate pair station tap link bridge help -h --help -V --version' ;;
     help:help) words='explain simulate pair station tap link bridge' ;;
     explain:--max) ;;
-    explain:--from) words='hexdump xxd od text' ;;
+    explain:--from) words='hexdump xxd od text auto' ;;
     explain:*) words='--raw --from --json --discarded --max -h --help' files=yes ;;
     simulate:--window | simulate:--inbox | simulate:--max | simulate:--syn) ;;
     simulate:*) words='--window --inbox --max --syn --restart --svg --ladder --counters -h --help' files=yes ;;

@@ -6,6 +6,8 @@ use Rattle.std.specs.Option.{option_map}
 use Rattle.std.specs.Io.KnownBytes.{Appends, Keeps}
 use Rattle.ddcmp_explain.specs.declared.explain_fault.ExplainFault.{ExplainFault}
 use Rattle.ddcmp_explain.specs.declared.explain_fault.ExplainFault.TheVariants as explaining
+use Rattle.ddcmp_explain.specs.declared.detected_fault.DetectedFault.{DetectedFault}
+use Rattle.ddcmp_explain.specs.declared.detected_fault.DetectedFault.TheVariants as detecting
 use Rattle.ddcmp_explain.specs.declared.dump_fault.DumpFault.{DumpFault}
 use Rattle.ddcmp_explain.specs.declared.dump_fault.DumpFault.TheVariants as dumping
 use Rattle.ddcmp_script_text.specs.declared.script_fault.ScriptFault.{ScriptFault}
@@ -52,6 +54,7 @@ use Rattle.ddcmp_words.specs.declared.view.View.{View}
 use Rattle.ddcmp_words.specs.Words.{HasExplain, HasStation, HasTap, Reads, option_in, text_in}
 use Rattle.ddcmp_words.specs.Words.{Asks, IsAsked, IsOutOfOrder, file_of}
 use Rattle.ddcmp_core.specs.Limits.{MAX_COUNT}
+use Rattle.ddcmp_explain.specs.Detection.{ExplainsDetected}
 use Rattle.ddcmp_explain.specs.Dumps.{ExplainsDump}
 use Rattle.ddcmp_explain.specs.Explains.{Explains}
 use Rattle.ddcmp_net.specs.Serving.{Serves}
@@ -82,6 +85,15 @@ dump_fault (dumping.Line line) = Dump line
 dump_fault dumping.Read = Read
 dump_fault dumping.Write = Write
 dump_fault dumping.Memory = NoMemory
+
+-- and one of an input whose form was detected
+abbrev pub detected_fault : DetectedFault → Fault
+detected_fault detecting.Odd = Odd
+detected_fault (detecting.NotHex index) = NotHex index
+detected_fault (detecting.Line line) = Dump line
+detected_fault detecting.Read = Read
+detected_fault detecting.Write = Write
+detected_fault detecting.Memory = NoMemory
 
 -- and one of a script
 abbrev pub script_fault : ScriptFault → Fault
@@ -178,11 +190,18 @@ ExplainsDumpTo e s ending =
     (result : Result (Unit {0}) DumpFault) × (ending ≡ ending_of dump_fault result)
     × ExplainsDump e.style e.max s.input s.left s.before s.after result
 
+-- some input was explained as what its first bytes are, and the ending tells the answer
+abbrev pub ExplainsDetectedTo : Explained → Streams → Ending → Type 0
+ExplainsDetectedTo e s ending =
+    (result : Result (Unit {0}) DetectedFault) × (ending ≡ ending_of detected_fault result)
+    × ExplainsDetected e.style e.max s.input s.left s.before s.after result
+
 -- as it is written where a word names that, else in the form that is asked for
 abbrev pub ExplainsBy : Option Origin → Explained → Streams → Ending → Type 0
 ExplainsBy None e s ending = ExplainsTo e.form e s ending
 ExplainsBy (Some origin.Dump) e s ending = ExplainsDumpTo e s ending
 ExplainsBy (Some origin.Text) e s ending = ExplainsTo form.Text e s ending
+ExplainsBy (Some origin.Auto) e s ending = ExplainsDetectedTo e s ending
 
 abbrev pub ExplainsInput : Explained → Streams → Ending → Type 0
 ExplainsInput e s ending = ExplainsBy (named_by e.from) e s ending

@@ -13,6 +13,7 @@ origin_of word =
     if bytes_eq word (codes "hexdump") || bytes_eq word (codes "xxd") || bytes_eq word (codes "od")
     then Some origin.Dump
     else if bytes_eq word (codes "text") then Some origin.Text
+    else if bytes_eq word (codes "auto") then Some origin.Auto
     else None
 
 abbrev pub named_by : Option (Bor (List ℕ)) → Option Origin

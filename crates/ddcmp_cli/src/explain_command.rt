@@ -14,7 +14,7 @@ use crate::fault::Fault;
 use crate::inputs::{Inputs, unopened};
 use crate::origin::{Origin, named, origin_of};
 use crate::usage::usage;
-use ddcmp_explain::{Form, explain_dump, explain_with};
+use ddcmp_explain::{Form, explain_detected, explain_dump, explain_with};
 use ddcmp_io::{Sink, Source, Worst};
 use ddcmp_words::Explained;
 use std::alloc::Global;
@@ -23,12 +23,13 @@ use std::alloc::Global;
 const TWO_FORMS: &str = "'--raw' and '--from' can't be used together";
 
 /// The usage error for another value of `--from`.
-const NO_ORIGIN: &str = "'--from' is hexdump, xxd, od or text";
+const NO_ORIGIN: &str = "'--from' is hexdump, xxd, od, text or auto";
 
 /// What is typed at a terminal.
 fn typed(explained: &Explained<'_>) -> &'static str {
     match (named(explained.from), explained.form) {
         (Some(Origin::Dump), _) => "a dump",
+        (Some(Origin::Auto), _) => "hexadecimal digits, a dump or bytes",
         (Some(Origin::Text), _) | (None, Form::Hex | Form::Text) => "hexadecimal digits",
         (None, Form::Raw) => "bytes",
     }
@@ -87,6 +88,10 @@ fn explain_source<R: Source, W: Sink>(
             Err(fault) => Ending::Fault(Fault::from(fault)),
         },
         Some(Origin::Text) => explain_form(alloc, explained, Form::Text, reader, writer),
+        Some(Origin::Auto) => match explain_detected(alloc, reader, writer, style, max) {
+            Ok(()) => Ending::Done,
+            Err(fault) => Ending::Fault(Fault::from(fault)),
+        },
         None => explain_form(alloc, explained, form, reader, writer),
     }
 }

@@ -1,8 +1,9 @@
 //! Why a command didn't complete.
 ghost use Rattle.std.specs.Prelude.{◌≡◌};
-ghost use Rattle.ddcmp_cli.specs.Endings.{dump_fault, explain_fault, script_fault, serve_fault};
+ghost use Rattle.ddcmp_cli.specs.Endings.{detected_fault, dump_fault, explain_fault};
+ghost use Rattle.ddcmp_cli.specs.Endings.{script_fault, serve_fault};
 
-use ddcmp_explain::{DumpFault, ExplainFault, NotDumped};
+use ddcmp_explain::{DetectedFault, DumpFault, ExplainFault, NotDumped};
 use ddcmp_line::ScriptFault;
 use ddcmp_net::ServeFault;
 use ddcmp_station::LineFault;
@@ -57,6 +58,21 @@ impl From<DumpFault> for Fault {
             DumpFault::Read => Fault::Read,
             DumpFault::Write => Fault::Write,
             DumpFault::Memory => Fault::Memory,
+        }
+    }
+}
+
+impl From<DetectedFault> for Fault {
+    ghost from_gives = { λ fault made. made ≡ detected_fault fault };
+
+    fn from(fault: DetectedFault) -> Fault {
+        match fault {
+            DetectedFault::Odd => Fault::Odd,
+            DetectedFault::NotHex(index) => Fault::NotHex(index),
+            DetectedFault::Line(line) => Fault::Dump(line),
+            DetectedFault::Read => Fault::Read,
+            DetectedFault::Write => Fault::Write,
+            DetectedFault::Memory => Fault::Memory,
         }
     }
 }

@@ -9,6 +9,8 @@ pub enum Origin {
     Dump,
     /// Digits as logs have them.
     Text,
+    /// One of these, or bytes as they are: what its first bytes say.
+    Auto,
 }
 
 /// Returns what a word of `--from` names.
@@ -19,6 +21,8 @@ pub(crate) fn origin_of(word: &str) -> Option<Origin>
         Some(Origin::Dump)
     } else if word == "text" {
         Some(Origin::Text)
+    } else if word == "auto" {
+        Some(Origin::Auto)
     } else {
         None
     }

@@ -36,7 +36,7 @@ shown-nothing : (p : Place) (s : List ℕ) → s ≡ [] → shown_from p s ≡ [
 unfolding shown_from
 shown-nothing p s e = ap (shown_from p) e
 
-consumes-none : (known : Option (List ℕ)) → Consumes known known []
+pub consumes-none : (known : Option (List ℕ)) → Consumes known known []
 consumes-none None = tt
 consumes-none (Some xs) = refl
 
@@ -305,3 +305,45 @@ read-only-dump style max n dump before left old new explained result Worse s a o
       | inl worse ↦ inl worse
       | inr most ↦ inr (gave-most-dump style max n dump before left old new explained s most)
     ]
+
+-- read and write are answered where the digits' answers are these
+pub read-dump
+    : (Worse : Type 0) (dump : DumpView) (explained : Answer) (result : Result (Unit {0}) DumpFault)
+    → result ≡ dump_answer dump explained → (Worse → explained ≡ Err Read)
+    → Worse → result ≡ Err dumping.Read
+read-dump Worse dump explained result a read worse = a ∙ ap (dump_answer dump) (read worse)
+
+write-answered : (dump : DumpView) (explained : Answer)
+    → dump_answer dump explained ≡ Err dumping.Write → explained ≡ Err Write
+write-answered dump (Ok u) h =
+    let bad : ◌≡◌ {A = Result (Unit {0}) DumpFault} (Ok u) (Err dumping.Write) = h in
+    cc
+write-answered dump (Err Odd) h =
+    let bad
+    : ◌≡◌ {A = Result (Unit {0}) DumpFault} (Err (dumping.Line (not_dumped dump)))
+    (Err dumping.Write) =
+    h in
+    cc
+write-answered dump (Err (NotHex index)) h =
+    let bad
+    : ◌≡◌ {A = Result (Unit {0}) DumpFault} (Err (dumping.Line (not_dumped dump)))
+    (Err dumping.Write) =
+    h in
+    cc
+write-answered dump (Err Read) h =
+    let bad : ◌≡◌ {A = Result (Unit {0}) DumpFault} (Err dumping.Read) (Err dumping.Write) = h in
+    cc
+write-answered dump (Err Write) h = refl
+write-answered dump (Err Memory) h =
+    let bad : ◌≡◌ {A = Result (Unit {0}) DumpFault} (Err dumping.Memory) (Err dumping.Write) = h in
+    cc
+
+pub write-dump
+    : (Fails : Type 0) (dump : DumpView) (explained : Answer)
+    (result : Result (Unit {0}) DumpFault)
+    → result ≡ dump_answer dump explained → (explained ≡ Err Write) ↔ Fails
+    → (result ≡ Err dumping.Write) ↔ Fails
+write-dump Fails dump explained result a write = (
+  (λ e. write.0 (write-answered dump explained (sym a ∙ e))),
+  λ f. a ∙ ap (dump_answer dump) (write.1 f),
+)

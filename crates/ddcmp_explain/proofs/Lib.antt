@@ -9,6 +9,7 @@ pub mod LogGrammar
 pub mod LinesLaws
 pub mod ExplainLaws
 pub mod TakeLaws
+pub mod DetectionLaws
 pub mod PuttingLaws
 pub mod HeadLaws
 pub mod RestLaws

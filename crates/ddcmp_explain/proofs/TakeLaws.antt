@@ -3,7 +3,11 @@ use Rattle.std.proofs.Common.{◌≡◌, ◌≢◌, ℕ, ◌+◌, ◌-◌, ◌<�
 use Rattle.std.proofs.Common.{◌++◌, length, refl, sym, ◌∙◌, ap, subst, arith, Option, Some, None}
 use Rattle.std.proofs.Common.{Result, Ok, Err, length-append, inl, inr}
 use Rattle.std.specs.Prelude.{◌⊎◌, ◌↔◌, IsOk, IsTrue}
-use Rattle.std.specs.Io.KnownBytes.{Consumes}
+use Rattle.std.specs.Io.KnownBytes.{Consumes, Keeps}
+use Rattle.std.proofs.KnownBytes.{Consumes-kept}
+use Rattle.ddcmp_io.specs.Device.{ReadGives}
+use Rattle.ddcmp_io.specs.declared.device.Got.{Got}
+use Rattle.ddcmp_io.specs.declared.device.Got.TheVariants as got
 use Rattle.std.proofs.lemmas.List.{append-nil}
 use Rattle.ddcmp_io.specs.declared.device.Worst.{Worst}
 use Rattle.ddcmp_io.specs.declared.device.Worst.TheVariants.{Fine, Idle, Failed}
@@ -167,3 +171,15 @@ module _ (form : Form) (style : Style) (max : ℕ) (input : List ℕ) (left old 
       → (result ≡ Err Write) ↔ IsTrue broken → IsOk result ↔ Succeeds result
   ok-exactly result s read only write =
       (whole_input result s read write.1, only_then result s only write.0)
+
+-- a read that gave no bytes consumed none
+pub consumes-unread : (before left later : Option (List ℕ)) (seen : List ℕ) (answer : Got)
+    (buf : List ℕ)
+    → (answer ≡ got.Idle) ⊎ (answer ≡ got.Failed) → ReadGives left later answer buf
+    → Consumes before left seen → Consumes before later seen
+consumes-unread before left later seen answer buf is gives c =
+    let kept : Keeps left later = elim is [
+      | inl idle ↦ subst (λ g. ReadGives left later g buf) idle gives
+      | inr failed ↦ subst (λ g. ReadGives left later g buf) failed gives
+    ] in
+    Consumes-kept before left later seen c kept

@@ -8,6 +8,8 @@ pub mod Output
 pub mod Discarded
 pub mod Heads
 pub mod Explains
+pub mod Detection
+pub mod Openings
 pub mod Progress
 pub mod Putting
 pub mod Label

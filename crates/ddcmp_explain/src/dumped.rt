@@ -1,12 +1,14 @@
 //! Explains the bytes of a dump, as `hexdump -C`, `xxd` and `od -A x -t x1` write it.
 ghost use Rattle.std.specs.Prelude.{◌≡◌, ◌≢◌, ◌⊎◌, ◌↔◌, ◌+◌, ◌-◌, ◌<◌, ◌≤◌, ◌^◌, ◌++◌, [], false};
 ghost use Rattle.std.specs.Prelude.{IsOk, IsTrue, List, ℕ, None, Option, Some, length};
-ghost use Rattle.std.specs.Io.KnownBytes.{Consumes};
+ghost use Rattle.std.specs.Io.KnownBytes.{Consumes, IsAtEnd};
 ghost use Rattle.ddcmp_input.specs.Dump.{dump_after, shown, shown_from};
 ghost use Rattle.ddcmp_frame.specs.Limits.{MAX_COUNT};
-ghost use Rattle.ddcmp_explain.specs.Dumps.{ExplainsDump, dump_answer};
+ghost use Rattle.ddcmp_frame.specs.Reader.{StandsFor};
+ghost use Rattle.ddcmp_explain.specs.Dumps.{ExplainsDump, IsDumpExplained, dump_answer};
 ghost use Rattle.ddcmp_explain.specs.Explains.{Tells, refusal};
 ghost use Rattle.ddcmp_explain.specs.Progress.{Progress, Takes};
+ghost use Rattle.ddcmp_io.specs.Change.{sink_change, source_change};
 ghost use Rattle.ddcmp_io.specs.Input.{GaveMost};
 
 use crate::dump_fault::DumpFault;
@@ -46,24 +48,30 @@ fn take_piece<W: Sink>(
     explainer.take(writer, piece, bytes)
 }
 
-/// Takes a dump to its end.
+/// Takes a dump to its end, of which `first` was read, and all of it if it `is_ended`.
 fn take_dump<R: Source, W: Sink>(
     explainer: &mut Explainer,
     dump: &mut Dump,
+    first: &mut [u8],
+    is_ended: bool,
     reader: &mut R,
     writer: &mut W,
 ) -> Result<(), ExplainFault>
     requires fine { R.state reader.old ≡ Worst.Fine }
     requires whole { W.broken writer.old ≡ false }
+    requires ended { IsTrue is_ended → IsAtEnd (R.left reader.old) }
+    requires size { length first.old ≤ 64 }
+    requires begins { explainer.old.seen ≡ 0 }
     ensures read { R.state reader.new ≢ Worst.Fine → result ≡ Err ExplainFault.Read }
     ensures read_only { result ≡ Err ExplainFault.Read
         → (R.state reader.new ≢ Worst.Fine) ⊎ (explainer.new.seen ≡ 2 ^ 64 - 1) }
     ensures write { (result ≡ Err ExplainFault.Write) ↔ IsTrue (W.broken writer.new) }
-    ensures tells { (max : ℕ)
+    ensures tells { (max : ℕ) (before : Option (List ℕ))
         → Progress max (W.contents writer.old) [] explainer.old
         (W.broken writer.old) (W.contents writer.old)
+        → Consumes before (R.left reader.old) first.old
         → (seen : List ℕ) × (length seen ≡ explainer.new.seen)
-        × Consumes (R.left reader.old) (R.left reader.new) seen
+        × Consumes before (R.left reader.new) seen
         × (dump.new ≡ dump_after dump.old seen)
         × Tells explainer.old.decoder.form explainer.old.lines.style max
         (shown_from dump.old.place seen) (R.left reader.new)
@@ -71,6 +79,10 @@ fn take_dump<R: Source, W: Sink>(
 {
     let mut piece = [0; PIECE];
     let mut bytes = [0; PIECE];
+    take_piece(explainer, dump, writer, first, &mut bytes)?;
+    if is_ended {
+        return explainer.finish(writer);
+    }
     while explainer.seen < u64::MAX {
         match read_within(reader, &mut piece, u64::MAX - explainer.seen) {
             Got::Bytes(0) => return explainer.finish(writer),
@@ -93,6 +105,31 @@ fn answer(explained: Result<(), ExplainFault>, dump: &Dump) -> Result<(), DumpFa
         Err(ExplainFault::Write) => Err(DumpFault::Write),
         Err(ExplainFault::Memory) => Err(DumpFault::Memory),
     }
+}
+
+/// Explains a dump of which `first` was read, and all of it if it `is_ended`.
+pub(crate) fn explain_opened_dump<R: Source, W: Sink>(
+    frames: Reader,
+    first: &mut [u8],
+    is_ended: bool,
+    reader: &mut R,
+    writer: &mut W,
+    style: Style,
+) -> Result<(), DumpFault>
+    requires stands { StandsFor frames [] }
+    requires fine { R.state reader.old ≡ Worst.Fine }
+    requires whole { W.broken writer.old ≡ false }
+    requires ended { IsTrue is_ended → IsAtEnd (R.left reader.old) }
+    requires size { length first.old ≤ 64 }
+    ensures { (before : Option (List ℕ)) → Consumes before (R.left reader.old) first.old
+        → IsDumpExplained style frames.max
+        (source_change before (R.left reader.new) (R.state reader.new))
+        (sink_change (W.contents writer.old) (W.contents writer.new) (W.broken writer.new)) result }
+{
+    let mut dump = Dump::new();
+    let mut explainer = Explainer::new(frames, Form::Hex, style);
+    let explained = take_dump(&mut explainer, &mut dump, first, is_ended, reader, writer);
+    answer(explained, &dump)
 }
 
 /// Writes the line of each item of the bytes that a dump shows, and a last line of totals, in a
@@ -125,12 +162,7 @@ pub fn explain_dump<R: Source, W: Sink>(
     ensures write { (result ≡ Err DumpFault.Write) ↔ IsTrue (W.broken writer.new) }
 {
     match Reader::new(alloc, max) {
-        Ok(frames) => {
-            let mut dump = Dump::new();
-            let mut explainer = Explainer::new(frames, Form::Hex, style);
-            let explained = take_dump(&mut explainer, &mut dump, reader, writer);
-            answer(explained, &dump)
-        }
+        Ok(frames) => explain_opened_dump(frames, &mut [], false, reader, writer, style),
         Err(_refused) => Err(DumpFault::Memory),
     }
 }

@@ -35,6 +35,7 @@ impl Explainer {
         requires { StandsFor frames [] }
         ensures form { result.decoder.form ≡ form }
         ensures style { result.lines.style ≡ style }
+        ensures begins { result.seen ≡ 0 }
         ensures progress { (start : Option (List ℕ))
             → Progress frames.max start [] result false start }
     {
@@ -102,28 +103,38 @@ impl Explainer {
         }
     }
 
-    /// Takes the input to its end.
+    /// Takes the input to its end, of which `first` was read, and all of it if it `is_ended`.
     pub(crate) fn take_all<R: Source, W: Sink>(
         &mut self,
+        first: &[u8],
+        is_ended: bool,
         reader: &mut R,
         writer: &mut W,
     ) -> Result<(), ExplainFault>
         requires fine { R.state reader.old ≡ Worst.Fine }
         requires whole { W.broken writer.old ≡ false }
+        requires ended { IsTrue is_ended → IsAtEnd (R.left reader.old) }
+        requires size { length first.now ≤ 64 }
+        requires begins { self.old.seen ≡ 0 }
         ensures read { R.state reader.new ≢ Worst.Fine → result ≡ Err ExplainFault.Read }
         ensures read_only { result ≡ Err ExplainFault.Read
             → (R.state reader.new ≢ Worst.Fine) ⊎ (self.new.seen ≡ 2 ^ 64 - 1) }
         ensures write { (result ≡ Err ExplainFault.Write) ↔ IsTrue (W.broken writer.new) }
-        ensures tells { (max : ℕ)
+        ensures tells { (max : ℕ) (before : Option (List ℕ))
             → Progress max (W.contents writer.old) [] self.old
             (W.broken writer.old) (W.contents writer.old)
+            → Consumes before (R.left reader.old) first.now
             → (seen : List ℕ) × (length seen ≡ self.new.seen)
-            × Consumes (R.left reader.old) (R.left reader.new) seen
+            × Consumes before (R.left reader.new) seen
             × Tells self.old.decoder.form self.old.lines.style max seen (R.left reader.new)
             (W.contents writer.old) (W.contents writer.new) result }
     {
         let mut piece = [0; PIECE];
         let mut bytes = [0; PIECE];
+        self.take(writer, first, &mut bytes)?;
+        if is_ended {
+            return self.finish(writer);
+        }
         while self.seen < u64::MAX {
             match read_within(reader, &mut piece, u64::MAX - self.seen) {
                 Got::Bytes(0) => return self.finish(writer),

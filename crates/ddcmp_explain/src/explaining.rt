@@ -1,5 +1,7 @@
 //! Explains a text of bytes, line by line.
-ghost use Rattle.std.specs.Prelude.{◌≡◌, ◌<◌, ◌≤◌, false};
+ghost use Rattle.std.specs.Prelude.{◌≡◌, ◌<◌, ◌≤◌, [], false, IsTrue, List, ℕ, Option, length};
+ghost use Rattle.std.specs.Io.KnownBytes.{Consumes, IsAtEnd};
+ghost use Rattle.ddcmp_frame.specs.Reader.{StandsFor};
 ghost use Rattle.ddcmp_frame.specs.Limits.{MAX_COUNT};
 ghost use Rattle.ddcmp_explain.specs.Discarded.{items_in};
 ghost use Rattle.ddcmp_explain.specs.Explains.{IsExplained};
@@ -51,6 +53,30 @@ pub fn explain_as<R: Source, W: Sink>(
     explain_with(alloc, reader, writer, form, Style::items(notation), max)
 }
 
+/// Explains an input of which `first` was read, and all of it if it `is_ended`.
+pub(crate) fn explain_opened<R: Source, W: Sink>(
+    frames: Reader,
+    first: &[u8],
+    is_ended: bool,
+    reader: &mut R,
+    writer: &mut W,
+    form: Form,
+    style: Style,
+) -> Result<(), ExplainFault>
+    requires stands { StandsFor frames [] }
+    requires fine { R.state reader.old ≡ Worst.Fine }
+    requires whole { W.broken writer.old ≡ false }
+    requires ended { IsTrue is_ended → IsAtEnd (R.left reader.old) }
+    requires size { length first.now ≤ 64 }
+    ensures { (before : Option (List ℕ)) → Consumes before (R.left reader.old) first.now
+        → IsExplained form style frames.max
+        (source_change before (R.left reader.new) (R.state reader.new))
+        (sink_change (W.contents writer.old) (W.contents writer.new) (W.broken writer.new)) result }
+{
+    let mut explainer = Explainer::new(frames, form, style);
+    explainer.take_all(first, is_ended, reader, writer)
+}
+
 /// Writes the line of each item of what the input spells, and a last line of totals, in a style:
 /// with or without lines of the bytes that no item takes.
 pub fn explain_with<R: Source, W: Sink>(
@@ -69,10 +95,7 @@ pub fn explain_with<R: Source, W: Sink>(
         (sink_change (W.contents writer.old) (W.contents writer.new) (W.broken writer.new)) result }
 {
     match Reader::new(alloc, max) {
-        Ok(frames) => {
-            let mut explainer = Explainer::new(frames, form, style);
-            explainer.take_all(reader, writer)
-        }
+        Ok(frames) => explain_opened(frames, &[], false, reader, writer, form, style),
         Err(_refused) => Err(ExplainFault::Memory),
     }
 }

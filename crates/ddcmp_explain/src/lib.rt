@@ -4,6 +4,9 @@
 
 mod byte_texts;
 mod decoder;
+pub mod detected_fault;
+pub mod detection;
+pub mod detector;
 mod discarded;
 pub mod dump_fault;
 pub mod dumped;
@@ -19,6 +22,7 @@ pub mod label;
 pub mod laws;
 mod lines;
 pub mod notation;
+mod opening;
 mod put;
 mod reasons;
 mod skipped;
@@ -27,6 +31,9 @@ pub mod style;
 mod text;
 
 pub use ddcmp_input::NotDumped;
+pub use detected_fault::DetectedFault;
+pub use detection::Detected;
+pub use detector::explain_detected;
 pub use discarded::write_discarded;
 pub use dump_fault::DumpFault;
 pub use dumped::explain_dump;

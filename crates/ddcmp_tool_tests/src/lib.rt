@@ -1,12 +1,14 @@
 //! Tests of the tools from outside. Of `ddcmp_explain`: its text at every cut, size and fault, over
-//! streams, of dumps and of logs. Of `ddcmp_tap`, which explains a direction of a line: what that forwards,
-//! its room and its text. Of `ddcmp_session`: two over bad lines, through days, its loop and its
-//! reports.
+//! streams, of dumps, of logs and of a form that it detects. Of `ddcmp_tap`, which explains a
+//! direction of a line: what that forwards, its room and its text. Of `ddcmp_session`: two over bad
+//! lines, through days, its loop and its reports.
 //! Of the program: its words, its texts and its ends.
 #![tactic(auto)]
 
 #[cfg(test)]
 mod days;
+#[cfg(test)]
+mod detected;
 #[cfg(test)]
 mod directions;
 #[cfg(test)]

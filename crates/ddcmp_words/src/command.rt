@@ -77,9 +77,9 @@ static EXPLAIN_OPTIONS: [CommandOption; 6] = [
     },
     CommandOption {
         name: "from",
-        takes: Takes::Text("hexdump|xxd|od|text"),
+        takes: Takes::Text("hexdump|xxd|od|text|auto"),
         is_required: false,
-        help: "Read a dump, or digits as logs have them",
+        help: "Read a dump or a log's digits; auto detects the form",
     },
     CommandOption {
         name: "json",
@@ -100,7 +100,7 @@ static EXPLAIN_OPTIONS: [CommandOption; 6] = [
             high: MAX_COUNT as u32,
         },
         is_required: false,
-        help: "Longest data of a frame in bytes, 1 to 16383 [default: 16383]",
+        help: "Longest data of a frame, 1 to 16383 bytes [default: 16383]",
     },
 ];
 

@@ -5,8 +5,9 @@ use ddcmp_explain::{Form, Style};
 #[derive(Clone, Copy, Debug, PartialEq, Eq)]
 pub struct Explained<'a> {
     pub form: Form,
-    /// How the input is written, if a word names that: `hexdump`, `xxd` or `od` a dump, and `text`
-    /// digits as logs have them. It can't be used with bytes as they are.
+    /// How the input is written, if a word names that: `hexdump`, `xxd` or `od` a dump, `text`
+    /// digits as logs have them, and `auto` one of these or raw bytes. It can't be used with bytes
+    /// as they are.
     pub from: Option<&'a str>,
     pub style: Style,
     /// The most bytes of data of a frame that is read.

@@ -77,7 +77,7 @@ static TAP_OPTIONS: [CommandOption; 7] = [
             high: MAX_COUNT as u32,
         },
         is_required: false,
-        help: "Longest data of a frame in bytes, 1 to 16383 [default: 16383]",
+        help: "Longest data of a frame, 1 to 16383 bytes [default: 16383]",
     },
 ];
 

@@ -1,4 +1,5 @@
-use Rattle.std.proofs.Common.{◌≡◌, ◌-◌, ◌^◌, [], ℕ, length, false}
+use Rattle.std.proofs.Common.{◌≡◌, ◌-◌, ◌^◌, [], ℕ, List, Option, length, false}
+use Rattle.std.specs.Io.KnownBytes.{Consumes}
 use Rattle.ddcmp_io.specs.declared.device.Worst.TheVariants.{Fine}
 use Rattle.ddcmp_explain.specs.Progress.{Progress}
 use Rattle.ddcmp_explain.proofs.DumpLaws.{SoFarDumped}
@@ -9,13 +10,14 @@ invariant-loop-explainer g l = record {
   fine : g.R.Source.state l.reader ≡ Fine;
   whole : g.W.Sink.broken l.writer ≡ false;
   room : length l.piece ≡ 16384;
-  form : l.explainer.decoder.form ≡ l.initial.explainer.decoder.form;
-  style : l.explainer.lines.style ≡ l.initial.explainer.lines.style;
-  so_far : (max : ℕ)
-      → Progress max (g.W.Sink.contents l.initial.writer) [] l.initial.explainer
-      (g.W.Sink.broken l.initial.writer) (g.W.Sink.contents l.initial.writer)
-      → SoFarDumped max (g.W.Sink.contents l.initial.writer) (g.R.Source.left l.initial.reader)
-      (g.R.Source.left l.reader) l.initial.dump l.dump l.explainer (g.W.Sink.broken l.writer)
+  form : l.explainer.decoder.form ≡ l.fn.explainer.decoder.form;
+  style : l.explainer.lines.style ≡ l.fn.explainer.lines.style;
+  so_far : (max : ℕ) (before : Option (List ℕ))
+      → Progress max (g.W.Sink.contents l.fn.writer) [] l.fn.explainer
+      (g.W.Sink.broken l.fn.writer) (g.W.Sink.contents l.fn.writer)
+      → Consumes before (g.R.Source.left l.fn.reader) l.fn.first
+      → SoFarDumped max (g.W.Sink.contents l.fn.writer) before
+      (g.R.Source.left l.reader) l.fn.dump l.dump l.explainer (g.W.Sink.broken l.writer)
       (g.W.Sink.contents l.writer);
 }
 

@@ -1,4 +1,5 @@
-use Rattle.std.proofs.Common.{◌≡◌, ◌-◌, ◌^◌, [], ℕ, length, false}
+use Rattle.std.proofs.Common.{◌≡◌, ◌-◌, ◌^◌, [], ℕ, List, Option, length, false}
+use Rattle.std.specs.Io.KnownBytes.{Consumes}
 use Rattle.ddcmp_io.specs.declared.device.Worst.TheVariants.{Fine}
 use Rattle.ddcmp_explain.specs.Progress.{Progress}
 use Rattle.ddcmp_explain.proofs.TakeLaws.{SoFar}
@@ -9,13 +10,14 @@ invariant-loop-self g l = record {
   fine : g.R.Source.state l.reader ≡ Fine;
   whole : g.W.Sink.broken l.writer ≡ false;
   room : length l.piece ≡ 16384;
-  form : l.self.decoder.form ≡ l.initial.self.decoder.form;
-  style : l.self.lines.style ≡ l.initial.self.lines.style;
-  so_far : (max : ℕ)
-      → Progress max (g.W.Sink.contents l.initial.writer) [] l.initial.self
-      (g.W.Sink.broken l.initial.writer) (g.W.Sink.contents l.initial.writer)
-      → SoFar max (g.W.Sink.contents l.initial.writer) (g.R.Source.left l.initial.reader)
-      (g.R.Source.left l.reader) l.self (g.W.Sink.broken l.writer) (g.W.Sink.contents l.writer);
+  form : l.self.decoder.form ≡ l.fn.self.decoder.form;
+  style : l.self.lines.style ≡ l.fn.self.lines.style;
+  so_far : (max : ℕ) (before : Option (List ℕ))
+      → Progress max (g.W.Sink.contents l.fn.writer) [] l.fn.self
+      (g.W.Sink.broken l.fn.writer) (g.W.Sink.contents l.fn.writer)
+      → Consumes before (g.R.Source.left l.fn.reader) l.fn.first
+      → SoFar max (g.W.Sink.contents l.fn.writer) before (g.R.Source.left l.reader) l.self
+      (g.W.Sink.broken l.writer) (g.W.Sink.contents l.writer);
 }
 
 abbrev pub decreases-loop-self : goal.decreases-loop-self

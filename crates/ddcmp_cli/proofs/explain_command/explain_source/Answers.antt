@@ -1,0 +1,35 @@
+use Rattle.std.proofs.Common.{◌≡◌, Err, Ok, Some, ap, refl, subst, sym, ◌∙◌}
+use Rattle.ddcmp_cli.specs.Endings.{ExplainsBy, streams}
+use Rattle.ddcmp_cli.specs.Origins.{named_by}
+use Rattle.ddcmp_cli.specs.declared.ending.Ending.TheVariants.{Done, Fault}
+use Rattle.ddcmp_cli.specs.declared.origin.Origin.TheVariants.{Auto}
+use Rattle.ddcmp_cli.proofs.explain_command.explain_source.Goals as goal
+
+pub returns-in-Ok-explain_detected-clause-explains
+    : goal.returns-in-Ok-explain_detected-clause-explains
+returns-in-Ok-explain_detected-clause-explains g c = λ input e.
+    let asked : named_by c.args.explained.now.from ≡ Some Auto =
+    sym c.named.ensures ∙ c.in-Some-Auto.is ∙ ap Some c.in-Some-Auto.field-0-is in
+    subst (λ o. ExplainsBy o c.args.explained.now
+    (streams input (g.R.Source.left c.explain_detected.new.reader)
+    (g.W.Sink.contents c.args.writer.now) (g.W.Sink.contents c.explain_detected.new.writer)) Done)
+    (sym asked) (
+      Ok c.in-Ok-explain_detected.field-0,
+      refl,
+      c.in-Ok-explain_detected.ensures.told input e,
+    )
+
+pub returns-in-Err-explain_detected-clause-explains
+    : goal.returns-in-Err-explain_detected-clause-explains
+returns-in-Err-explain_detected-clause-explains g c = λ input e.
+    let asked : named_by c.args.explained.now.from ≡ Some Auto =
+    sym c.named.ensures ∙ c.in-Some-Auto.is ∙ ap Some c.in-Some-Auto.field-0-is in
+    subst (λ o. ExplainsBy o c.args.explained.now
+    (streams input (g.R.Source.left c.explain_detected.new.reader)
+    (g.W.Sink.contents c.args.writer.now) (g.W.Sink.contents c.explain_detected.new.writer))
+    (Fault c.from-in-Err-explain_detected.result))
+    (sym asked) (
+      Err c.in-Err-explain_detected.fault,
+      ap Fault c.from-in-Err-explain_detected.ensures,
+      c.in-Err-explain_detected.ensures.told input e,
+    )

@@ -1,0 +1,134 @@
+//! What an input is by its first bytes.
+ghost use Rattle.std.specs.Prelude.{◌≡◌};
+ghost use Rattle.ddcmp_explain.specs.Detection.{address_then, blanks_then, colon_then};
+ghost use Rattle.ddcmp_explain.specs.Detection.{detected_at, detected_first};
+ghost use Rattle.ddcmp_explain.specs.Detection.{is_text as is_text_byte, sight_after, start_then};
+
+/// What an input is by its first bytes.
+#[derive(Clone, Copy, Debug, PartialEq, Eq)]
+pub enum Detected {
+    /// The bytes as they are.
+    Raw,
+    /// A dump of `hexdump -C`, `xxd` or `od -A x -t x1`.
+    Dump,
+    /// Digits as logs have them.
+    Text,
+}
+
+/// What the bytes so far may be the beginning of.
+#[derive(Clone, Copy, Debug, PartialEq, Eq)]
+pub(crate) enum Sight {
+    /// Nothing but ends of lines was taken.
+    Start,
+    /// This many digits of an address were taken.
+    Address(u8),
+    /// At the colon after an address of `xxd`.
+    Colon,
+    /// In the blanks after an address.
+    Blanks,
+    /// A digit of data follows an address.
+    Dump,
+    /// The first line begins with no address.
+    Text,
+    /// A byte is none of a text.
+    Raw,
+}
+
+impl Sight {
+    /// Returns what the bytes may begin with a byte more.
+    #[tactic(auto, unfolding(crate::specs::Detection::sight_after))]
+    fn after(self, byte: u8) -> Sight
+        ensures { result ≡ sight_after self byte }
+    {
+        if !is_text(byte) {
+            return Sight::Raw;
+        }
+        match self {
+            Sight::Start => at_start(byte),
+            Sight::Address(count) => in_address(count, byte),
+            Sight::Colon => at_colon(byte),
+            Sight::Blanks => in_blanks(byte),
+            Sight::Dump | Sight::Text | Sight::Raw => self,
+        }
+    }
+
+    /// Returns what an input is of which these are the first bytes.
+    fn detected(self) -> Detected
+        ensures { result ≡ detected_at self }
+    {
+        match self {
+            Sight::Raw => Detected::Raw,
+            Sight::Dump => Detected::Dump,
+            Sight::Start | Sight::Address(_) | Sight::Colon | Sight::Blanks | Sight::Text =>
+                Detected::Text,
+        }
+    }
+}
+
+/// Returns whether a byte is printable ASCII, tab, CR or LF.
+fn is_text(byte: u8) -> bool
+    ensures { result ≡ is_text_byte byte }
+{
+    (b' '..=b'~').contains(&byte) || byte == b'\t' || byte == b'\r' || byte == b'\n'
+}
+
+fn at_start(byte: u8) -> Sight
+    ensures { result ≡ start_then byte }
+{
+    if byte.is_ascii_hexdigit() {
+        Sight::Address(1)
+    } else if byte == b'\n' || byte == b'\r' {
+        Sight::Start
+    } else {
+        Sight::Text
+    }
+}
+
+fn in_address(count: u8, byte: u8) -> Sight
+    ensures { result ≡ address_then count byte }
+{
+    if byte.is_ascii_hexdigit() {
+        if count < 15 {
+            Sight::Address(count + 1)
+        } else {
+            Sight::Text
+        }
+    } else if count < 6 {
+        Sight::Text
+    } else if byte == b':' {
+        Sight::Colon
+    } else {
+        at_colon(byte)
+    }
+}
+
+fn at_colon(byte: u8) -> Sight
+    ensures { result ≡ colon_then byte }
+{
+    if byte == b' ' {
+        Sight::Blanks
+    } else {
+        Sight::Text
+    }
+}
+
+fn in_blanks(byte: u8) -> Sight
+    ensures { result ≡ blanks_then byte }
+{
+    if byte.is_ascii_hexdigit() {
+        Sight::Dump
+    } else {
+        at_colon(byte)
+    }
+}
+
+/// Returns what an input is that begins with these bytes.
+pub(crate) fn detect(first: &[u8]) -> Detected
+    ensures { result ≡ detected_first first.now }
+{
+    let mut sight = Sight::Start;
+    for byte in first.iter() {
+        sight = sight.after(*byte);
+    }
+    sight.detected()
+}
