@@ -74,4 +74,7 @@ complete -c ddcmp -n '__fish_seen_subcommand_from link' -l clock -d 'Begin each 
 complete -c ddcmp -n '__fish_seen_subcommand_from link' -l json -d 'Write reports as JSON objects'
 complete -c ddcmp -n '__fish_seen_subcommand_from link' -s h -l help -d 'Print help'
 complete -c ddcmp -n '__fish_seen_subcommand_from bridge' -l seconds -x -d 'End after N seconds, whatever the state'
+complete -c ddcmp -n '__fish_seen_subcommand_from bridge' -l lose -x -d 'Lose N percent of the good frames [default: 0]'
+complete -c ddcmp -n '__fish_seen_subcommand_from bridge' -l damage -x -d 'Change a byte in N percent of the others [default: 0]'
+complete -c ddcmp -n '__fish_seen_subcommand_from bridge' -l seed -x -d 'Draw the faults by N, the same by the same N [default: 1]'
 complete -c ddcmp -n '__fish_seen_subcommand_from bridge' -s h -l help -d 'Print help'

@@ -1,10 +1,14 @@
-"""Bridges between lines of each kind: two links over one, and what of junk and damaged frames comes out."""
+"""Bridges between lines of each kind: two links over one, what of junk and damaged frames comes out, and the faults
+that a bridge makes."""
+import re
 import socket
 import subprocess
+import tempfile
 import threading
 import time
 
-from links.kit import LONG, Link, checked, drawn, exchange, free_port, messages_of, server, terminals, wants, wrong
+from links.kit import LONG, PROGRAM, TOP, Link, checked, drawn, exchange, free_port, messages_of, server, terminals
+from links.kit import wants, wrong
 from links.peer import control, data
 
 START = {0x05: 0, 0x81: 1, 0x90: 1}
@@ -21,12 +25,40 @@ class Bridge(Link):
         return [int(it.rsplit(":", 1)[1]) for it in self.errors() if it.startswith("listening ")]
 
     def counts(self):
-        """What it counted: frames, skipped bytes and damaged frames, there and back."""
+        """What it counted: frames, skipped bytes, damaged frames, and lost and altered ones, there and back."""
         lines = [it.split() for it in self.lines()]
-        if [it[0] for it in lines] != [">", "<"] or any(len(it) != 4 for it in lines):
+        if [it[0] for it in lines] != [">", "<"] or any(len(it) != 6 for it in lines):
             wrong(f"{self.lines()}")
-            return (0, 0, 0), (0, 0, 0)
+            return NOTHING, NOTHING
         return tuple(tuple(int(it.split("=")[1]) for it in line[1:]) for line in lines)
+
+
+NOTHING = (0, 0, 0, 0, 0)
+
+
+class Draws:
+    """What becomes of the frames of a direction, by the PCG32 of its seed."""
+
+    def __init__(self, direction, lose=0, damage=0, seed=1):
+        self.lose, self.damage = lose, damage
+        self.step = direction << 1 | 1
+        self.state = seed + self.step
+        self.word()
+
+    def word(self):
+        old, self.state = self.state, (self.state * 6364136223846793005 + self.step) % 2**64
+        mixed, turn = (old >> 18 ^ old) >> 27 & 0xFFFFFFFF, old >> 59
+        return (mixed >> turn | mixed << (-turn & 31)) & 0xFFFFFFFF
+
+    def left_of(self, frame):
+        """What is left of the next frame."""
+        first, second = self.word(), self.word()
+        if first % 100 < self.lose:
+            return b""
+        if first // 100 % 100 < self.damage:
+            at = 1 + second % (len(frame) - 1)
+            return frame[:at] + bytes([frame[at] ^ 1 + second // 65536 % 255]) + frame[at + 1:]
+        return frame
 
 
 def good_frames(text):
@@ -97,7 +129,7 @@ def takes(peer):
 
 def counted(text):
     frames, damaged = good_frames(text)
-    return len(frames), len(text) - sum(map(len, frames)), damaged
+    return len(frames), len(text) - sum(map(len, frames)), damaged, 0, 0
 
 
 def bridged_junk():
@@ -157,7 +189,7 @@ def bridged_datagrams():
     two.sendto(cut, ("127.0.0.1", ports[1]))
     if one.recv(1 << 16) != cut:
         wrong("another frame came back")
-    if bridge.ended(10) != 0 or bridge.counts() != ((4, 5 + len(cut), 0), (1, 0, 0)):
+    if bridge.ended(10) != 0 or bridge.counts() != ((4, 5 + len(cut), 0, 0, 0), (1, 0, 0, 0, 0)):
         wrong(f"{bridge.errors()} {bridge.lines()}")
     for it in peers:
         it.close()
@@ -183,18 +215,67 @@ def bridged_slowly():
     got = b"".join(pieces)
     sending.join(LONG)
     one.close()
-    if got != text or bridge.ended() != 0 or bridge.counts()[0] != (2048, 0, 0):
+    if got != text or bridge.ended() != 0 or bridge.counts()[0] != (2048, 0, 0, 0, 0):
         wrong(f"{len(got)} of {len(text)} bytes, {bridge.lines()} {bridge.errors()}")
     two.close()
 
 
+def faulty(*faults):
+    """Frames both ways over a bridge that makes these faults: just those of its seed, and as many as it counts."""
+    words = [word for name, value in zip(("--lose", "--damage", "--seed"), faults) for word in (name, str(value))]
+    first, second = server(), server()
+    bridge = Bridge(*(f"connect:127.0.0.1:{it.getsockname()[1]}" for it in (first, second)), *words)
+    ends = first.accept()[0], second.accept()[0]
+    wanted, counts, got = [], [], {}
+    for direction, end in enumerate(ends):
+        frames = [data(drawn.randbytes(drawn.randrange(1, 60)), it % 256) for it in range(300)]
+        draws = Draws(direction, *faults)
+        left = [draws.left_of(it) for it in frames]
+        wanted.append(b"".join(left))
+        altered = sum(it not in (b"", frame) for it, frame in zip(left, frames))
+        counts.append((300, 0, 0, left.count(b""), altered))
+        end.sendall(b"".join(frames))
+    for end, text in zip(ends, reversed(wanted)):
+        end.settimeout(LONG)
+        got[end] = b""
+        while len(got[end]) < len(text) and (piece := end.recv(1 << 16)):
+            got[end] += piece
+    time.sleep(0.2)
+    for it in ends:
+        it.close()
+    if bridge.ended() != 0 or bridge.counts() != tuple(counts) or [got[it] for it in ends] != wanted[::-1]:
+        wrong(f"{words}: {bridge.counts()}, not {counts}, {bridge.errors()}, {[len(it) for it in got.values()]}")
+    for it in (first, second):
+        it.close()
+    return counts
+
+
+def faults_by_a_seed():
+    """Frames are lost and damaged by the seed alone; 1 is that of a bridge that is given none; other ones differ."""
+    made = [faulty(10), faulty(10, 0, 1), faulty(0, 20, 1), faulty(10, 20, 4294967295), faulty(10, 20, 0)]
+    if made[0] != made[1] or made[3] == made[4] or faulty(0, 0, 7) != [(300, 0, 0, 0, 0)] * 2:
+        wrong(f"{made}")
+    if faulty(100) != [(300, 0, 0, 300, 0)] * 2 or faulty(0, 100) != [(300, 0, 0, 0, 300)] * 2:
+        wrong("not all frames are lost or altered")
+
+
 def between(name, bridge, one, two, most=1500):
-    """Messages both ways between two links over a bridge."""
+    """Messages both ways between two links over a bridge; returns what it counted."""
     exchange(name, one, two, messages_of(40, most), messages_of(40, most))
     status = bridge.ended()
     there, back = bridge.counts()
     if status != 0 or min(there[0], back[0]) < 40 or there[2] or back[2]:
         wrong(f"{name}: {status} {bridge.lines()} {bridge.errors()}")
+    return there, back
+
+
+def over_faults():
+    """Two links over a bridge that loses and damages frames: all arrives."""
+    bridge = Bridge("listen:127.0.0.1:0", "listen:127.0.0.1:0", "--lose", "10", "--damage", "5", "--seed", "7")
+    links = [Link(f"connect:127.0.0.1:{it}", "--binary", "--timer-ms", "100") for it in bridge.ports(2)]
+    counts = between("faults", bridge, *links)
+    if not all(it[3] and it[4] for it in counts):
+        wrong(f"faults: {counts}")
 
 
 def tcp_to_tcp():
@@ -225,6 +306,24 @@ def device_to_udp():
         between("device and udp", bridge, one, two)
 
 
+def the_example():
+    """The commands of docs/USING.md over a bridge that makes faults: all messages arrive."""
+    with open(f"{TOP}/docs/USING.md", encoding="utf-8") as it:
+        lines = it.read().split("\n")
+    first = next(at for at, line in enumerate(lines) if line.startswith("    ./ddcmp bridge --lose "))
+    last = next(at for at in range(first, len(lines)) if not lines[at].startswith("    "))
+    commands = "\n".join(lines[first:last]).replace("./ddcmp", " ".join(PROGRAM))
+    for port in re.findall(r":(\d+) ", commands):
+        commands = commands.replace(f":{port}", f":{free_port()}")
+    with tempfile.TemporaryDirectory() as folder:
+        run = subprocess.run(["sh", "-c", f"{commands}\nwait"], cwd=folder, capture_output=True, timeout=LONG, check=False)
+        with open(f"{folder}/received", encoding="ascii") as it:
+            mails = [line.split()[1] for line in it if line.startswith("mail ")]
+    said = run.stdout.decode().splitlines()
+    if mails != [str(it) for it in range(1000, 1100)] or not any(re.match("> frames=.* lost=[1-9]", it) for it in said):
+        wrong(f"the example: {len(mails)} messages, {said[-4:]}, {run.stderr.decode()[-500:]}")
+
+
 def ends_of_a_bridge():
     """A line that can't be opened, words that are none, a limit of time, and a line that fails."""
     port = free_port()
@@ -241,7 +340,7 @@ def ends_of_a_bridge():
     two.setsockopt(socket.SOL_SOCKET, socket.SO_LINGER, b"\1\0\0\0\0\0\0\0")
     two.close()
     wants("reset", bridge, 3, "ddcmp: ended")
-    if "second line down: connection reset" not in bridge.errors() or bridge.counts() != ((0, 0, 0), (0, 0, 0)):
+    if "second line down: connection reset" not in bridge.errors() or bridge.counts() != (NOTHING, NOTHING):
         wrong(f"{bridge.errors()} {bridge.lines()}")
     one.close()
     output = subprocess.Popen(["true"], stdin=subprocess.PIPE)
@@ -250,5 +349,8 @@ def ends_of_a_bridge():
     wants("closed output", bridge, 3, "ddcmp: write")
 
 
-TRIALS = [bridged_slowly, bridged_junk, device_to_udp, udp_to_tcp, tcp_to_tcp, bridged_datagrams, ends_of_a_bridge]
+TRIALS = [
+    over_faults, the_example, bridged_slowly, bridged_junk, device_to_udp, faults_by_a_seed, udp_to_tcp, tcp_to_tcp,
+    bridged_datagrams, ends_of_a_bridge,
+]
 LONG_TRIALS = []

@@ -6,7 +6,8 @@ use Rattle.ddcmp_bridge.specs.declared.counts.Counts.{Counts}
 abbrev pub direction_line : List ℕ → Counts → List ℕ
 direction_line mark counts =
     mark ++ codes " frames=" ++ decimal counts.frames ++ codes " skipped=" ++ decimal counts.skipped
-    ++ codes " damaged=" ++ decimal counts.damaged ++ codes "\n"
+    ++ codes " damaged=" ++ decimal counts.damaged ++ codes " lost=" ++ decimal counts.lost
+    ++ codes " altered=" ++ decimal counts.altered ++ codes "\n"
 
 -- the direction from the first line to the second, and that back
 abbrev pub bridge_report : Counts → Counts → List ℕ

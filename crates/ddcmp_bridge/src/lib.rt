@@ -1,12 +1,14 @@
 //! A bridge between two lines, without the lines. `Relay` takes the bytes of one line and has those
-//! of its good frames for the other, one frame at a time; `write_report` writes what both
-//! directions have counted.
+//! of its good frames for the other, one frame at a time, as far as the `Faults` that it is to make
+//! leave them; `write_report` writes what both directions have counted.
 #![tactic(auto)]
 
 pub mod counts;
+pub mod faults;
 mod relay;
 mod report;
 
 pub use counts::Counts;
+pub use faults::{Fate, Faults};
 pub use relay::Relay;
 pub use report::write_report;

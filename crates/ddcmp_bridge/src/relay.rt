@@ -4,10 +4,15 @@ ghost use Rattle.std.specs.Prelude.{Some, drop, length, take};
 ghost use Rattle.ddcmp_frame.specs.Reader.{LentBeside};
 ghost use Rattle.ddcmp_frame.specs.Reading.{good_frame_of};
 ghost use Rattle.ddcmp_frame.specs.Wire.{IsFrame};
-ghost use Rattle.ddcmp_bridge.specs.Relaying.{IsOneFrame, Relays, counts_of, frame_given, relayed};
+ghost use Rattle.rand_pcg.specs.Lcg.{Lcg};
+ghost use Rattle.ddcmp_bridge.specs.Faults.{alters, loses, start_of};
+ghost use Rattle.ddcmp_bridge.specs.Relaying.{IsOfOneFrame, Relays, counts_of, frame_given};
+ghost use Rattle.ddcmp_bridge.specs.Relaying.{relayed};
 
 use crate::counts::Counts;
+use crate::faults::{Fate, Faults, draw_fate, start_draws, suffer};
 use ddcmp_frame::{Header, Item, MAX_COUNT, Pushed, Reader, write_frame};
+use rand_pcg::Pcg32;
 use std::alloc::Global;
 use std::marker::Model;
 
@@ -27,6 +32,28 @@ fn good_header(item: &Item) -> Option<Header>
     }
 }
 
+/// Returns how many frames of this fate are lost: 1 or 0.
+fn is_lost(fate: &Fate) -> u64
+    ensures value { result ≡ loses fate.now }
+    ensures most { result ≤ 1 }
+{
+    match fate {
+        Fate::Lost => 1,
+        Fate::Passed | Fate::Altered { .. } => 0,
+    }
+}
+
+/// Returns how many frames of this fate are altered: 1 or 0.
+fn is_altered(fate: &Fate) -> u64
+    ensures value { result ≡ alters fate.now }
+    ensures most { result ≤ 1 }
+{
+    match fate {
+        Fate::Altered { .. } => 1,
+        Fate::Passed | Fate::Lost => 0,
+    }
+}
+
 /// What comes over one line on its way to the other. It takes frames of any length, and doesn't
 /// allocate once it is made.
 ///
@@ -42,6 +69,10 @@ pub struct Relay {
     /// How many bytes the good frames have. Those of any number of frames fit.
     bytes: u128,
     items: u64,
+    faults: Faults,
+    draws: Pcg32,
+    lost: u64,
+    altered: u64,
 }
 
 // By hand, so that a relay is dropped by a call: a derived one is written out at each such place.
@@ -55,6 +86,10 @@ impl Drop for Relay {
             good: _,
             bytes: _,
             items: _,
+            faults: _,
+            draws: _draws,
+            lost: _,
+            altered: _,
         } = self;
     }
 }
@@ -73,17 +108,25 @@ impl Model for Relay {
       good = r.good;
       bytes = r.bytes;
       items = r.items;
+      faults = r.faults;
+      draws = r.draws;
+      lost = r.lost;
+      altered = r.altered;
     } };
 
     ghost invariant = { λ r. (r.frames.max ≡ MAX_COUNT) × (vec_len r.frame ≡ FRAME)
         × (r.from ≤ r.end) × (r.end ≤ FRAME) × (r.good ≤ r.items)
-        × (r.items ≤ r.frames.offset) × (r.bytes ≤ FRAME * r.items) };
+        × (r.items ≤ r.frames.offset) × (r.bytes ≤ FRAME * r.items)
+        × (r.lost ≤ r.good) × (r.altered ≤ r.good) };
 }
 
 impl Relay {
-    /// Makes a relay that no bytes have come to; none if an allocation failed.
-    pub fn new(alloc: Global) -> Option<Relay>
-        ensures { IfSome result (λ made. Relays made [] []) }
+    /// Makes a relay that no bytes have come to; none if an allocation failed. The draws of its
+    /// faults are those of this direction: 0 or 1.
+    pub fn new(alloc: Global, faults: Faults, direction: u64) -> Option<Relay>
+        ensures relays { IfSome result (λ made.
+            Relays (start_of faults.seed direction) made [] []) }
+        ensures faults { IfSome result (λ made. made.faults ≡ faults) }
     {
         let Ok(frames) = Reader::new(alloc, MAX_COUNT) else {
             return None;
@@ -99,6 +142,10 @@ impl Relay {
             good: 0,
             bytes: 0,
             items: 0,
+            faults,
+            draws: start_draws(faults.seed, direction),
+            lost: 0,
+            altered: 0,
         })
     }
 
@@ -110,7 +157,7 @@ impl Relay {
     }
 
     /// Takes bytes that came, up to the first that completes a frame or shows that one is damaged:
-    /// returns how many. A frame that is good waits then.
+    /// returns how many. What its fate leaves of a good frame waits then.
     pub fn push(&mut self, bytes: &[u8]) -> usize
         requires idle { self.old.waiting ≡ [] }
         requires bytes { 0 < length bytes.now }
@@ -118,9 +165,10 @@ impl Relay {
         ensures used { result ≤ length bytes.now }
         ensures some { 0 < result }
         ensures offset { self.new.frames.offset ≡ self.old.frames.offset + result }
-        ensures relays { (came taken : List ℕ) → Relays self.old came taken
-            → Relays self.new (came ++ take result bytes.now) taken }
-        ensures one { (self.new.waiting ≡ []) ⊎ IsOneFrame self.new.waiting }
+        ensures relays { (start : Lcg) (came taken : List ℕ) → Relays start self.old came taken
+            → Relays start self.new (came ++ take result bytes.now) taken }
+        ensures faults { self.new.faults ≡ self.old.faults }
+        ensures one { (self.new.waiting ≡ []) ⊎ IsOfOneFrame self.new.waiting }
     {
         let Pushed { used, item } = self.frames.push_all(bytes);
         let Some(item) = item else {
@@ -131,16 +179,23 @@ impl Relay {
             return used;
         };
         let length = write_frame(&header, self.frames.data(), self.frame.as_mut_slice());
+        let fate = draw_fate(&self.faults, &mut self.draws, length);
         self.from = 0;
-        self.end = length;
+        self.end = suffer(self.frame.as_mut_slice(), length, fate);
         self.good += 1;
         self.bytes += length as u128;
+        self.lost += is_lost(&fate);
+        self.altered += is_altered(&fate);
         used
     }
 
     /// Returns what waits of the frame that is passed on.
     pub fn waiting(&self) -> &[u8]
-        ensures { result.now ≡ self.now.waiting }
+        ensures value { result.now ≡ self.now.waiting }
+        // If it is to make no faults, it passes on what came.
+        ensures faultless { (start : Lcg) (came taken : List ℕ) → Relays start self.now came taken
+            → self.now.faults.lose ≡ 0 → self.now.faults.damage ≡ 0
+            → relayed came ≡ taken ++ self.now.waiting }
     {
         &self.frame[self.from..self.end]
     }
@@ -148,8 +203,9 @@ impl Relay {
     /// The other line took the first `n` bytes of what waits.
     pub fn took(&mut self, n: usize)
         requires { n ≤ length self.old.waiting }
-        ensures relays { (came taken : List ℕ) → Relays self.old came taken
-            → Relays self.new came (taken ++ take n self.old.waiting) }
+        ensures relays { (start : Lcg) (came taken : List ℕ) → Relays start self.old came taken
+            → Relays start self.new came (taken ++ take n self.old.waiting) }
+        ensures faults { self.new.faults ≡ self.old.faults }
         ensures waiting { self.new.waiting ≡ drop n self.old.waiting }
         ensures offset { self.new.frames.offset ≡ self.old.frames.offset }
     {
@@ -158,10 +214,10 @@ impl Relay {
 
     /// Returns what was counted.
     pub fn counts(&self) -> Counts
-        ensures counts { (came taken : List ℕ) → Relays self.now came taken
-            → result ≡ counts_of came }
-        // Every byte that came is passed on or skipped.
-        ensures all { (came taken : List ℕ) → Relays self.now came taken
+        ensures counts { (start : Lcg) (came taken : List ℕ) → Relays start self.now came taken
+            → result ≡ counts_of self.now.faults start came }
+        // Every byte that came is one of a good frame or skipped.
+        ensures all { (start : Lcg) (came taken : List ℕ) → Relays start self.now came taken
             → length (relayed came) + result.skipped ≡ length came }
     {
         let offset = self.frames.offset();
@@ -169,6 +225,8 @@ impl Relay {
             frames: self.good,
             skipped: u128::from(offset).saturating_sub(self.bytes) as u64,
             damaged: self.items - self.good,
+            lost: self.lost,
+            altered: self.altered,
         }
     }
 }

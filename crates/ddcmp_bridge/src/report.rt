@@ -19,6 +19,10 @@ fn write_direction<W: Sink>(page: &mut Page, writer: &mut W, mark: &[u8], counts
     write_number(page, writer, counts.skipped);
     page.write(writer, b" damaged=");
     write_number(page, writer, counts.damaged);
+    page.write(writer, b" lost=");
+    write_number(page, writer, counts.lost);
+    page.write(writer, b" altered=");
+    write_number(page, writer, counts.altered);
     page.write(writer, b"\n");
 }
 

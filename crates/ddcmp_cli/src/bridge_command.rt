@@ -8,7 +8,7 @@ use crate::link_command::{Lines, no_line};
 use crate::usage::usage;
 use ddcmp_bridge::write_report;
 use ddcmp_io::Sink;
-use ddcmp_service::{BridgeEnd, BridgeFault, LineName};
+use ddcmp_service::{BridgeEnd, BridgeFault, BridgeOptions, LineName};
 use ddcmp_words::Bridged;
 use std::alloc::Global;
 
@@ -48,7 +48,11 @@ pub(crate) fn bridge<S: Lines, W: Sink>(
     let Some(second) = LineName::read(bridged.second) else {
         return usage(alloc, NO_LINE);
     };
-    match system.bridge(alloc, first, second, bridged.seconds) {
+    let options = BridgeOptions {
+        seconds: bridged.seconds,
+        faults: bridged.faults,
+    };
+    match system.bridge(alloc, first, second, options) {
         Ok(end) => report(&end, writer),
         Err(BridgeFault::Open(fault)) => no_line(alloc, &fault),
         Err(BridgeFault::Memory) => Ending::Fault(Fault::Memory),

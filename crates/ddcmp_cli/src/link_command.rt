@@ -8,8 +8,8 @@ use crate::fault::Fault;
 use crate::usage::usage;
 use ddcmp_io::{Sink, Source};
 use ddcmp_service::{
-    BridgeEnd, BridgeFault, LineName, NotOpened, Options, Served, ServiceFault, bridge_lines,
-    serve_link,
+    BridgeEnd, BridgeFault, BridgeOptions, LineName, NotOpened, Options, Served, ServiceFault,
+    bridge_lines, serve_link,
 };
 use ddcmp_words::Linked;
 use std::alloc::Global;
@@ -47,13 +47,13 @@ pub trait Lines {
     ) -> Result<Served, ServiceFault<'a>>
         ensures broken { (result ≡ Err Write) ↔ IsTrue (W.broken writer.new) };
 
-    /// Opens two lines and passes frames on between them, for at most so many seconds.
+    /// Opens two lines and passes frames on between them.
     fn bridge<'a>(
         &self,
         alloc: Global,
         first: LineName<'a>,
         second: LineName<'a>,
-        seconds: u32,
+        options: BridgeOptions,
     ) -> Result<BridgeEnd, BridgeFault<'a>>;
 }
 
@@ -74,9 +74,9 @@ impl Lines for HostRuntime {
         alloc: Global,
         first: LineName<'a>,
         second: LineName<'a>,
-        seconds: u32,
+        options: BridgeOptions,
     ) -> Result<BridgeEnd, BridgeFault<'a>> {
-        bridge_lines(self, alloc, first, second, seconds)
+        bridge_lines(self, alloc, first, second, options)
     }
 }
 

@@ -2,8 +2,8 @@
 // fails. What they write else is the matter of `worked_commands`.
 use crate::same::is;
 use ddcmp_cli::{
-    BridgeEnd, BridgeFault, Connection, Connections, Ending, Fault, Inputs, LineName, Lines,
-    LinkServed, Options, Role, ServiceFault, run,
+    BridgeEnd, BridgeFault, BridgeOptions, Connection, Connections, Ending, Fault, Inputs,
+    LineName, Lines, LinkServed, Options, Role, ServiceFault, run,
 };
 use ddcmp_frame::failing::{Pieces, Taken};
 use ddcmp_frame::{Sink, Source};
@@ -145,9 +145,9 @@ impl<S: Lines> Lines for Poor<'_, S> {
         alloc: Global,
         first: LineName<'a>,
         second: LineName<'a>,
-        seconds: u32,
+        options: BridgeOptions,
     ) -> Result<BridgeEnd, BridgeFault<'a>> {
-        self.system.bridge(alloc, first, second, seconds)
+        self.system.bridge(alloc, first, second, options)
     }
 }
 

@@ -8,7 +8,7 @@ use crate::line_name::LineName;
 use crate::opening::{OpenRefusal, Opened, Opener};
 use crate::system::System;
 use crate::waiting::Waiting;
-use ddcmp_bridge::Counts;
+use ddcmp_bridge::{Counts, Faults};
 use ddcmp_session::{Down, Wanted};
 use ddcmp_station::{Clock, Elapsed};
 use std::alloc::Global;
@@ -36,14 +36,22 @@ pub enum BridgeFault<'a> {
     Memory,
 }
 
-/// Passes the good frames that come over each line on to the other, until one of them ends, or so
-/// many seconds have passed.
+/// How a bridge runs.
+#[derive(Clone, Copy, Debug, PartialEq, Eq)]
+pub struct BridgeOptions {
+    /// After how many seconds it ends, if no line has ended before.
+    pub seconds: u32,
+    pub faults: Faults,
+}
+
+/// Passes the good frames that come over each line on to the other, but for the faults that it is
+/// to make, until one of them ends, or its time is over.
 pub fn bridge_lines<'a, S>(
     system: &S,
     alloc: Global,
     first: LineName<'a>,
     second: LineName<'a>,
-    seconds: u32,
+    options: BridgeOptions,
 ) -> Result<BridgeEnd, BridgeFault<'a>>
 where
     S: Net<Stream = net::TcpStream, Listener = net::TcpListener>
@@ -51,12 +59,14 @@ where
         + Eprint
         + time::Clock,
 {
-    let (Some(there), Some(back)) = (Way::new(alloc), Way::new(alloc)) else {
+    let there = Way::new(alloc, options.faults, 0);
+    let back = Way::new(alloc, options.faults, 1);
+    let (Some(there), Some(back)) = (there, back) else {
         return Err(BridgeFault::Memory);
     };
     let mut ways = Ways { there, back };
     let mut clock = Elapsed::new(system);
-    let ends_at = 1000 * seconds as u64;
+    let ends_at = 1000 * u64::from(options.seconds);
     let mut one = Opening::new(system, alloc, first)?;
     let mut two = Opening::new(system, alloc, second)?;
     one.listen(system)?;

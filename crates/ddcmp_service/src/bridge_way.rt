@@ -3,7 +3,7 @@ ghost use Rattle.std.specs.Prelude.{◌≡◌, [], false};
 
 use crate::bridge_side::Side;
 use crate::datagram::Framing;
-use ddcmp_bridge::{Counts, Relay};
+use ddcmp_bridge::{Counts, Faults, Relay};
 use std::alloc::Global;
 
 /// How much is read at once: a datagram has no more.
@@ -37,10 +37,11 @@ impl Drop for Way {
 }
 
 impl Way {
-    /// Takes all memory that it will need; none if an allocation failed.
-    pub(crate) fn new(alloc: Global) -> Option<Way> {
+    /// Takes all memory that it will need; none if an allocation failed. Its faults are drawn as
+    /// those of this direction.
+    pub(crate) fn new(alloc: Global, faults: Faults, direction: u64) -> Option<Way> {
         Some(Way {
-            relay: Relay::new(alloc)?,
+            relay: Relay::new(alloc, faults, direction)?,
             came: vec![in alloc; 0; MOST].ok()?,
             from: 0,
             end: 0,

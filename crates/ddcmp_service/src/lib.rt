@@ -19,7 +19,7 @@ mod socket;
 mod system;
 mod waiting;
 
-pub use bridge::{BridgeEnd, BridgeFault, bridge_lines};
+pub use bridge::{BridgeEnd, BridgeFault, BridgeOptions, bridge_lines};
 pub use ddcmp_bridge::Counts;
 pub use ddcmp_session::{Form, Options};
 pub use fault::{Attempt, Cause, NotOpened, ServiceFault};

@@ -176,6 +176,13 @@ has_options_as o p t u (Bridge bridged) e w h = record {
   first = h.first ∙ ap (λ x. unwrap_or x []) (w (codes "first"));
   second = h.second ∙ ap (λ x. unwrap_or x []) (w (codes "second"));
   seconds = subst (λ t. HasNumber 1 MOST MOST t bridged.seconds) (e (codes "seconds")) h.seconds;
+  faults = record {
+    lose = subst (λ t. HasNumber 0 100 0 t bridged.faults.lose) (e (codes "lose")) h.faults.lose;
+    damage =
+        subst (λ t. HasNumber 0 100 0 t bridged.faults.damage) (e (codes "damage"))
+        h.faults.damage;
+    seed = subst (λ t. HasNumber 0 MOST 1 t bridged.faults.seed) (e (codes "seed")) h.faults.seed;
+  };
 }
 
 -- a command has the options that the words give

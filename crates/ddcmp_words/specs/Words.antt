@@ -22,6 +22,7 @@ use Rattle.ddcmp_words.specs.declared.served.Served.{Served}
 use Rattle.ddcmp_words.specs.declared.tapped.Tapped.{Tapped}
 use Rattle.ddcmp_words.specs.declared.linked.Linked.{Linked}
 use Rattle.ddcmp_words.specs.declared.bridged.Bridged.{Bridged}
+use Rattle.ddcmp_bridge.specs.declared.faults.Faults.{Faults}
 use Rattle.ddcmp_session.specs.declared.messages.Form.{Form as MessageForm}
 use Rattle.ddcmp_session.specs.declared.messages.Form.TheVariants.{Digits, Binary}
 use Rattle.ddcmp_session.specs.declared.options.Options.{Options}
@@ -153,10 +154,13 @@ link_app =
 -- `ddcmp bridge`
 abbrev pub bridge_app : App
 bridge_app =
-    with_rule (with_rule (with_rule (new_app (codes "bridge"))
+    with_rule (with_rule (with_rule (with_rule (with_rule (with_rule (new_app (codes "bridge"))
     (required (place_rule (codes "first"))))
     (required (place_rule (codes "second"))))
-    (number_rule (codes "seconds") 1 MOST)
+    (number_rule (codes "seconds") 1 MOST))
+    (number_rule (codes "lose") 0 100))
+    (number_rule (codes "damage") 0 100))
+    (number_rule (codes "seed") 0 MOST)
 
 -- `ddcmp`, which wants a command
 abbrev pub bare_app : App
@@ -331,11 +335,18 @@ pub record HasLink (option text : Text → Option Text) (linked : Linked) : Type
   pub line : linked.line.now ≡ unwrap_or (text (codes "line")) []
   pub options : HasLinkOptions linked.line.now option linked.options
 
+-- the faults that a bridge is to make
+pub record HasFaults (option : Text → Option Text) (faults : Faults) : Type 0 where
+  pub lose : HasNumber 0 100 0 (option (codes "lose")) faults.lose
+  pub damage : HasNumber 0 100 0 (option (codes "damage")) faults.damage
+  pub seed : HasNumber 0 MOST 1 (option (codes "seed")) faults.seed
+
 -- The words of a bridge. Its lines are always there.
 pub record HasBridge (option text : Text → Option Text) (bridged : Bridged) : Type 0 where
   pub first : bridged.first.now ≡ unwrap_or (text (codes "first")) []
   pub second : bridged.second.now ≡ unwrap_or (text (codes "second")) []
   pub seconds : HasNumber 1 MOST MOST (option (codes "seconds")) bridged.seconds
+  pub faults : HasFaults option bridged.faults
 
 -- a command with the options that were given: as they are read, and as they were written
 abbrev pub HasOptions : (option text : Text → Option Text) → Command → Type 0

@@ -125,7 +125,8 @@ pub fn link_is_asked()
 {}
 
 /// The words `ddcmp bridge` with two lines ask for the command that passes frames on between them;
-/// the names of the lines are read as they were written.
+/// the names of the lines are read as they were written, and `--seconds`, `--lose`, `--damage` and
+/// `--seed` as numbers.
 pub fn bridge_is_asked()
     ensures plain { IsAsked (codes "ddcmp" ∷ codes "bridge" ∷ codes "listen:127.0.0.1:7000"
         ∷ codes "device:/dev/ttyS0" ∷ []) (codes "bridge") }
@@ -135,6 +136,13 @@ pub fn bridge_is_asked()
         ∷ codes "device:/dev/ttyS0" ∷ []) (codes "second") ≡ Some (codes "device:/dev/ttyS0") }
     ensures seconds { option_in (codes "ddcmp" ∷ codes "bridge" ∷ codes "--seconds=60" ∷ [])
         (codes "seconds") ≡ Some (codes "60") }
+    ensures lose { option_in (codes "ddcmp" ∷ codes "bridge" ∷ codes "--lose=10" ∷ [])
+        (codes "lose") ≡ Some (codes "10") }
+    ensures damage { option_in (codes "ddcmp" ∷ codes "bridge" ∷ codes "--damage=5" ∷ [])
+        (codes "damage") ≡ Some (codes "5") }
+    ensures seed { option_in (codes "ddcmp" ∷ codes "bridge" ∷ codes "--seed=7" ∷ [])
+        (codes "seed") ≡ Some (codes "7") }
+    ensures no_seed { option_in (codes "ddcmp" ∷ codes "bridge" ∷ []) (codes "seed") ≡ None }
     ensures incomplete { takes program (codes "ddcmp" ∷ codes "bridge"
         ∷ codes "listen:127.0.0.1:7000" ∷ []) ≡ false }
 {}

@@ -10,6 +10,7 @@ use crate::command::{number_given, text_given};
 use crate::options::{CommandOption, Takes};
 use crate::parser::Parser;
 use clap::ArgMatches;
+use ddcmp_bridge::Faults;
 use std::alloc::Global;
 
 /// What a bridge reads and writes, for a newcomer.
@@ -20,11 +21,14 @@ LINE is one of:
   listen:HOST:PORT       a TCP connection from whoever calls
   udp:LOCAL,REMOTE       datagrams between two addresses
   device:PATH            a serial device that is set up already, as by stty
-Only whole good frames are passed on, unchanged; it ends with one of its lines.
+Only whole good frames are passed on, unchanged but for the faults that are asked for;
+it ends with one of its lines.
 Output, at the end:
-  > frames=F skipped=S damaged=D   from the first line to the second: frames passed on,
-                                   bytes that were not, damaged frames and headers
-  < frames=F skipped=S damaged=D   the same for the other direction"
+  > frames=F skipped=S damaged=D lost=L altered=A
+      from the first line to the second: good frames, bytes that are in none, frames
+      and headers that came damaged; and how many good frames were lost and altered
+  < frames=F skipped=S damaged=D lost=L altered=A
+      the same for the other direction"
 }
 
 /// `bridge` without its options.
@@ -38,7 +42,7 @@ fn bridge_command<'a>(alloc: Global) -> clap::Command<'a>
 }
 
 /// The options of a bridge.
-static BRIDGE_OPTIONS: [CommandOption; 3] = [
+static BRIDGE_OPTIONS: [CommandOption; 6] = [
     CommandOption {
         name: "first",
         takes: Takes::Place("LINE"),
@@ -60,6 +64,27 @@ static BRIDGE_OPTIONS: [CommandOption; 3] = [
         is_required: false,
         help: "End after N seconds, whatever the state",
     },
+    CommandOption {
+        name: "lose",
+        takes: Takes::Number { low: 0, high: 100 },
+        is_required: false,
+        help: "Lose N percent of the good frames [default: 0]",
+    },
+    CommandOption {
+        name: "damage",
+        takes: Takes::Number { low: 0, high: 100 },
+        is_required: false,
+        help: "Change a byte in N percent of the others [default: 0]",
+    },
+    CommandOption {
+        name: "seed",
+        takes: Takes::Number {
+            low: 0,
+            high: u32::MAX,
+        },
+        is_required: false,
+        help: "Draw the faults by N, the same by the same N [default: 1]",
+    },
 ];
 
 /// `bridge` with its options.
@@ -78,5 +103,10 @@ pub(crate) fn bridge_given<'a>(options: &ArgMatches<'a>) -> Bridged<'a>
         first: text_given(options, "first"),
         second: text_given(options, "second"),
         seconds: number_given(options, "seconds", 1, u32::MAX, u32::MAX),
+        faults: Faults {
+            lose: number_given(options, "lose", 0, 100, 0),
+            damage: number_given(options, "damage", 0, 100, 0),
+            seed: number_given(options, "seed", 0, u32::MAX, 1),
+        },
     }
 }

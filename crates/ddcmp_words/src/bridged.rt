@@ -1,4 +1,5 @@
 //! What the bridge of the command line is asked to be.
+use ddcmp_bridge::Faults;
 
 /// A bridge between two lines, as the words ask for it.
 #[derive(Clone, Copy, Debug, PartialEq, Eq)]
@@ -8,4 +9,5 @@ pub struct Bridged<'a> {
     pub second: &'a str,
     /// After how many seconds it ends, if no line has ended before.
     pub seconds: u32,
+    pub faults: Faults,
 }

@@ -19,6 +19,22 @@ pub returns-clause-seconds : goal.returns-clause-seconds
 unfolding clap_on_literals option_in
 returns-clause-seconds c = refl
 
+pub returns-clause-lose : goal.returns-clause-lose
+unfolding clap_on_literals option_in
+returns-clause-lose c = refl
+
+pub returns-clause-damage : goal.returns-clause-damage
+unfolding clap_on_literals option_in
+returns-clause-damage c = refl
+
+pub returns-clause-seed : goal.returns-clause-seed
+unfolding clap_on_literals option_in
+returns-clause-seed c = refl
+
+pub returns-clause-no_seed : goal.returns-clause-no_seed
+unfolding clap_on_literals option_in
+returns-clause-no_seed c = refl
+
 pub returns-clause-incomplete : goal.returns-clause-incomplete
 unfolding clap_on_literals
 returns-clause-incomplete c = refl

@@ -4,7 +4,7 @@ use Rattle.ddcmp_bridge.proofs.AmountLaws.{good-within}
 use Rattle.ddcmp_bridge.proofs.relay.Relay.counts.Goals as goal
 
 pub returns-clause-all : goal.returns-clause-all
-returns-clause-all c = λ came taken r.
+returns-clause-all c = λ start came taken r.
     omega (
       arith,
       good-within MAX_COUNT came,
