@@ -1,12 +1,29 @@
 -- How a bridge ends.
-use Rattle.std.proofs.Common.{◌≡◌, subst}
+use Rattle.std.proofs.Common.{◌≡◌, ◌∙◌, Bool, true, false, inl, inr, Ok, Err, subst, sym}
+use Rattle.std.specs.Prelude.{if◌then◌else◌}
 use Rattle.ddcmp_io.specs.Written.{Known}
-use Rattle.ddcmp_cli.specs.declared.fault.Fault.TheVariants.{Read}
+use Rattle.ddcmp_service.specs.declared.bridge.BridgeFault.TheVariants as bridging
+use Rattle.ddcmp_cli.specs.declared.fault.Fault.TheVariants.{Read, Write, Memory, Ended}
 use Rattle.ddcmp_cli.specs.declared.ending.Ending.{Ending}
-use Rattle.ddcmp_cli.specs.declared.ending.Ending.TheVariants.{Fault as Faulted}
-use Rattle.ddcmp_cli.specs.BridgeEndings.{Bridges}
+use Rattle.ddcmp_cli.specs.declared.ending.Ending.TheVariants.{Done, Fault as Faulted}
+use Rattle.ddcmp_cli.specs.BridgeEndings.{Bridges, IsNoLine}
+use Rattle.ddcmp_cli.specs.TapEndings.{IsUnopened}
+
+no-write : Faulted Write ≡ Faulted Read → ⊥
+no-write e = cc
+
+no-memory : Faulted Memory ≡ Faulted Read → ⊥
+no-memory e = cc
+
+no-end : (b : Bool) → (if b then Faulted Ended else Done) ≡ Faulted Read → ⊥
+no-end true e = cc
+no-end false e = cc
 
 -- it reads nothing, so no read fails
 pub not-read : (old new : Known) (ending : Ending) → Bridges old new ending
     → ending ≡ Faulted Read → ⊥
-not-read old new ending h e = subst (Bridges old new) e h
+not-read old new ending (inl h) e = subst IsNoLine e h.0
+not-read old new ending (inr (Ok end, inl h)) e = no-end end.has_failed (sym h.0 ∙ e)
+not-read old new ending (inr (Ok end, inr h)) e = no-write (sym h.0 ∙ e)
+not-read old new ending (inr (Err (bridging.Open why), h)) e = subst IsUnopened e h.0
+not-read old new ending (inr (Err bridging.Memory, h)) e = no-memory (sym h.0 ∙ e)

@@ -1,6 +1,6 @@
 //! `bridge`: the good frames of each of two lines go to the other.
 ghost use Rattle.std.specs.Prelude.{◌≡◌, ◌↔◌, IsTrue, false};
-ghost use Rattle.ddcmp_cli.specs.BridgeEndings.{Bridges};
+ghost use Rattle.ddcmp_cli.specs.BridgeEndings.{BridgeEnds, Bridges, Reports};
 
 use crate::ending::Ending;
 use crate::fault::Fault;
@@ -16,10 +16,27 @@ use std::alloc::Global;
 const NO_LINE: &str =
     "a LINE is connect:HOST:PORT, listen:HOST:PORT, udp:LOCAL,REMOTE or device:PATH";
 
+/// How the program ends if a bridge ended so: what it counted is written first.
+fn ending_of<W: Sink>(
+    alloc: Global,
+    ended: Result<BridgeEnd, BridgeFault<'_>>,
+    writer: &mut W,
+) -> Ending
+    requires whole { W.broken writer.old ≡ false }
+    ensures ends { BridgeEnds (W.contents writer.old) (W.contents writer.new) ended.entry result }
+    ensures write { (result ≡ Ending.Fault Fault.Write) ↔ IsTrue (W.broken writer.new) }
+{
+    match ended {
+        Ok(end) => report(&end, writer),
+        Err(BridgeFault::Open(fault)) => no_line(alloc, &fault),
+        Err(BridgeFault::Memory) => Ending::Fault(Fault::Memory),
+    }
+}
+
 /// Writes what a bridge has counted.
 fn report<W: Sink>(end: &BridgeEnd, writer: &mut W) -> Ending
     requires whole { W.broken writer.old ≡ false }
-    ensures bridges { Bridges (W.contents writer.old) (W.contents writer.new) result }
+    ensures reports { Reports (W.contents writer.old) (W.contents writer.new) end.now result }
     ensures write { (result ≡ Ending.Fault Fault.Write) ↔ IsTrue (W.broken writer.new) }
 {
     match write_report(writer, &end.there, &end.back) {
@@ -52,9 +69,6 @@ pub(crate) fn bridge<S: Lines, W: Sink>(
         seconds: bridged.seconds,
         faults: bridged.faults,
     };
-    match system.bridge(alloc, first, second, options) {
-        Ok(end) => report(&end, writer),
-        Err(BridgeFault::Open(fault)) => no_line(alloc, &fault),
-        Err(BridgeFault::Memory) => Ending::Fault(Fault::Memory),
-    }
+    let ended = system.bridge(alloc, first, second, options);
+    ending_of(alloc, ended, writer)
 }

@@ -116,5 +116,5 @@ returns-in-Err-Memory g c = record {
   stations = search rules;
   taps = search rules;
   links = search rules;
-  bridges = λ _. (refl, Keeps-refl (g.W.Sink.contents c.args.writer.now));
+  bridges = λ _. (refl, inl (tt, Keeps-refl (g.W.Sink.contents c.args.writer.now)));
 }

@@ -1,4 +1,4 @@
-use Rattle.std.proofs.Common.{◌≡◌, ◌∙◌, ap, subst, List, ℕ, map, string_bytes, Err, refl}
+use Rattle.std.proofs.Common.{◌≡◌, ◌∙◌, ap, subst, List, ℕ, map, string_bytes, Err, inl, refl}
 use Rattle.std.proofs.KnownBytes.{Keeps-refl}
 use Rattle.ddcmp_words.specs.declared.declined.Declined.TheVariants.{Memory}
 use Rattle.ddcmp_io.specs.Change.{source_change, sink_change}
@@ -50,7 +50,7 @@ returns-in_default g c = record {
     stations = search rules;
     taps = search rules;
     links = search rules;
-    bridges = λ _. (refl, Keeps-refl (g.W.Sink.contents c.args.writer.now));
+    bridges = λ _. (refl, inl (tt, Keeps-refl (g.W.Sink.contents c.args.writer.now)));
   });
   no_memory = rw (c.in-Ok.is) tt;
   not_text = rw (c.in-Ok.is) tt;
