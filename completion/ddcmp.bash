@@ -30,7 +30,7 @@ _ddcmp() {
     link:--line) words='connect: listen: udp: device:' ;;
     link:*) words='--line --window --inbox --max --syn --restart --timer-ms --attempts --linger-ms --seconds --report --binary --stay --again --counters --trace --clock --json -h --help' ;;
     bridge:--seconds | bridge:--lose | bridge:--damage | bridge:--seed) ;;
-    bridge:*) words='--seconds --lose --damage --seed -h --help' ;;
+    bridge:*) words='--seconds --lose --damage --seed --trace --ladder -h --help' ;;
   esac
   mapfile -t COMPREPLY < <(compgen -W "$words" -- "$word")
   if [ -n "$files" ] && [[ $word != -* ]]; then

@@ -77,4 +77,6 @@ complete -c ddcmp -n '__fish_seen_subcommand_from bridge' -l seconds -x -d 'End 
 complete -c ddcmp -n '__fish_seen_subcommand_from bridge' -l lose -x -d 'Lose N percent of the good frames [default: 0]'
 complete -c ddcmp -n '__fish_seen_subcommand_from bridge' -l damage -x -d 'Change a byte in N percent of the others [default: 0]'
 complete -c ddcmp -n '__fish_seen_subcommand_from bridge' -l seed -x -d 'Draw the faults by N, the same by the same N [default: 1]'
+complete -c ddcmp -n '__fish_seen_subcommand_from bridge' -l trace -d 'Print each frame that comes on standard error'
+complete -c ddcmp -n '__fish_seen_subcommand_from bridge' -l ladder -d 'Draw each frame that comes, as a ladder on standard error'
 complete -c ddcmp -n '__fish_seen_subcommand_from bridge' -s h -l help -d 'Print help'

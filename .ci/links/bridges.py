@@ -7,8 +7,8 @@ import tempfile
 import threading
 import time
 
-from links.kit import LONG, PROGRAM, TOP, Link, checked, drawn, exchange, free_port, messages_of, server, terminals
-from links.kit import wants, wrong
+from links.kit import LONG, PROGRAM, TOP, Link, checked, drawn, exchange, explained, free_port, messages_of, server
+from links.kit import terminals, wants, wrong
 from links.peer import control, data
 
 START = {0x05: 0, 0x81: 1, 0x90: 1}
@@ -31,6 +31,12 @@ class Bridge(Link):
             wrong(f"{self.lines()}")
             return NOTHING, NOTHING
         return tuple(tuple(int(it.split("=")[1]) for it in line[1:]) for line in lines)
+
+
+    def traces(self):
+        """The moments and the rest of the lines of its trace."""
+        found = [re.match(r"(\d+) ([<>] .*)", it) for it in self.errors()]
+        return [(int(it[1]), it[2]) for it in found if it]
 
 
 NOTHING = (0, 0, 0, 0, 0)
@@ -259,6 +265,37 @@ def faults_by_a_seed():
         wrong("not all frames are lost or altered")
 
 
+def traced():
+    """Each frame and fault that comes is printed in the words of explain, with what the bridge does to it."""
+    first, second = server(), server()
+    names = [f"connect:127.0.0.1:{it.getsockname()[1]}" for it in (first, second)]
+    bridge = Bridge(*names, "--trace", "--lose", "20", "--damage", "20")
+    ends, wanted = (first.accept()[0], second.accept()[0]), {}
+    for direction, (mark, end) in enumerate(zip("><", ends)):
+        frames = [data(drawn.randbytes(drawn.randrange(1, 40)), it) for it in range(60)]
+        frames.insert(30, control(9))
+        text, draws = b"".join(frames), Draws(direction, 20, 20)
+        wanted[mark] = []
+        for number, (frame, line) in enumerate(zip(frames, explained(text))):
+            left = frame if number == 30 else draws.left_of(frame)
+            wanted[mark].append(f"{mark} {line}")
+            if left != frame:
+                at = next((at for at, it in enumerate(left) if it != frame[at]), None)
+                wanted[mark].append(f"{mark} lost" if at is None else f"{mark} altered byte {at}")
+        end.sendall(text)
+    bridge.waits(lambda it: len(it.traces()) == sum(map(len, wanted.values())), 10)
+    for it in ends:
+        it.close()
+    status, lines = bridge.ended(), bridge.traces()
+    for mark, wants_lines in wanted.items():
+        if [it[1] for it in lines if it[1].startswith(mark)] != wants_lines:
+            wrong(f"{mark}: {lines}, not {wants_lines}")
+    if status != 0 or [it[0] for it in lines] != sorted(it[0] for it in lines):
+        wrong(f"{status}, {lines}")
+    for it in (first, second):
+        it.close()
+
+
 def between(name, bridge, one, two, most=1500):
     """Messages both ways between two links over a bridge; returns what it counted."""
     exchange(name, one, two, messages_of(40, most), messages_of(40, most))
@@ -351,6 +388,6 @@ def ends_of_a_bridge():
 
 TRIALS = [
     over_faults, the_example, bridged_slowly, bridged_junk, device_to_udp, faults_by_a_seed, udp_to_tcp, tcp_to_tcp,
-    bridged_datagrams, ends_of_a_bridge,
+    bridged_datagrams, traced, ends_of_a_bridge,
 ]
 LONG_TRIALS = []

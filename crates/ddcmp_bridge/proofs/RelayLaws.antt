@@ -130,6 +130,45 @@ pub relays-faultless : (start : Lcg) (r : RelayView) (came taken : List ℕ)
 relays-faultless start r came taken h l d =
     sym (all-spared r.faults start (good_frames MAX_COUNT came) l d) ∙ h.passes
 
+-- the fates of what came with an item more, or with none
+module _ (came more lent : List ℕ) (item : Item)
+    (adds : items MAX_COUNT (came ++ more) ≡ items MAX_COUNT came ++ ((item, lent) ∷ []))
+    (start : Lcg) (old : RelayView) (taken : List ℕ) (r : Relays start old came taken) where
+  good-more : good_frames MAX_COUNT (came ++ more)
+      ≡ good_frames MAX_COUNT came ++ good_frame_of (item, lent)
+  good-more =
+      ap good_frames_in adds ∙ good-append (items MAX_COUNT came) ((item, lent) ∷ [])
+      ∙ ap (λ t. good_frames MAX_COUNT came ++ t) (one-item (item, lent))
+
+  pub fate-none : good_frame_of (item, lent) ≡ []
+      → fates_in old.faults start (came ++ more) ≡ fates_in old.faults start came ++ []
+  fate-none e =
+      ap (fates old.faults start)
+      (good-more ∙ ap (λ t. good_frames MAX_COUNT came ++ t) e
+      ∙ append-nil (good_frames MAX_COUNT came))
+      ∙ sym (append-nil (fates_in old.faults start came))
+
+  pub fate-one : (header : Header) (fate : Fate)
+      → good_frame_of (item, lent) ≡ (header, lent) ∷ []
+      → fate ≡ fate_drawn old.faults old.draws (length (wire header lent))
+      → fates_in old.faults start (came ++ more) ≡ fates_in old.faults start came ++ fate ∷ []
+  fate-one header fate e drawn =
+      let was = good_frames MAX_COUNT came in
+      ap (fates old.faults start) (good-more ∙ ap (λ t. was ++ t) e)
+      ∙ fates-more old.faults start was (header, lent)
+      ∙ ap (λ g. fates old.faults start was
+      ++ fate_drawn old.faults g (length (wire header lent)) ∷ []) (sym r.draws)
+      ∙ ap (λ x. fates old.faults start was ++ x ∷ []) (sym drawn)
+
+pub fate-nothing : (max : ℕ) (came more : List ℕ) (faults : Faults) (start : Lcg)
+    → max ≡ MAX_COUNT → items max (came ++ more) ≡ items max came ++ []
+    → fates_in faults start (came ++ more) ≡ fates_in faults start came ++ []
+fate-nothing max came more faults start e h =
+    let here : items MAX_COUNT (came ++ more) ≡ items MAX_COUNT came ++ [] =
+    subst (λ m. items m (came ++ more) ≡ items m came ++ []) e h in
+    ap (λ i. fates faults start (good_frames_in i)) (here ∙ append-nil (items MAX_COUNT came))
+    ∙ sym (append-nil (fates_in faults start came))
+
 module _ (came more lent : List ℕ) (item : Item)
     (adds : items MAX_COUNT (came ++ more) ≡ items MAX_COUNT came ++ ((item, lent) ∷ []))
     (start : Lcg) (old new : RelayView) (taken : List ℕ) (r : Relays start old came taken)

@@ -30,6 +30,11 @@ relayed came = wires (good_frames MAX_COUNT came)
 abbrev pub fates_in : Faults → Lcg → List ℕ → List Fate
 fates_in faults start came = fates faults start (good_frames MAX_COUNT came)
 
+-- the fate of one good frame, if there was one
+abbrev pub fate_given : Option Fate → List Fate
+fate_given None = []
+fate_given (Some fate) = fate ∷ []
+
 -- what is passed on: of each good frame, in order, what its fate leaves
 abbrev pub passed_on : Faults → Lcg → List ℕ → List ℕ
 passed_on faults start came = left_of (good_frames MAX_COUNT came) (fates_in faults start came)

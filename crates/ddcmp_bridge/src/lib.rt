@@ -10,5 +10,5 @@ mod report;
 
 pub use counts::Counts;
 pub use faults::{Fate, Faults};
-pub use relay::Relay;
+pub use relay::{Relay, Taken};
 pub use report::write_report;

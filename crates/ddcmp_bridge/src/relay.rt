@@ -7,7 +7,7 @@ ghost use Rattle.ddcmp_frame.specs.Wire.{IsFrame};
 ghost use Rattle.rand_pcg.specs.Lcg.{Lcg};
 ghost use Rattle.ddcmp_bridge.specs.Faults.{alters, loses, start_of};
 ghost use Rattle.ddcmp_bridge.specs.Relaying.{IsOfOneFrame, Relays, counts_of, frame_given};
-ghost use Rattle.ddcmp_bridge.specs.Relaying.{relayed};
+ghost use Rattle.ddcmp_bridge.specs.Relaying.{fate_given, fates_in, relayed};
 
 use crate::counts::Counts;
 use crate::faults::{Fate, Faults, draw_fate, start_draws, suffer};
@@ -54,10 +54,19 @@ fn is_altered(fate: &Fate) -> u64
     }
 }
 
+/// What a relay took of received bytes.
+#[derive(Clone, Copy, Debug, PartialEq, Eq)]
+pub struct Taken {
+    /// How many.
+    pub used: usize,
+    /// What becomes of the good frame that they complete; none if they complete none.
+    pub fate: Option<Fate>,
+}
+
 /// What comes over one line on its way to the other. It takes frames of any length, and doesn't
 /// allocate once it is made.
 ///
-/// Pass received bytes to `push`, and what it didn't use again, as long as nothing waits; have the
+/// Pass received bytes to `push`, and what it didn't take again, as long as nothing waits; have the
 /// other line take what waits, and report that by `took`.
 pub struct Relay {
     frames: Reader,
@@ -156,27 +165,30 @@ impl Relay {
         u64::MAX - self.frames.offset()
     }
 
-    /// Takes bytes that came, up to the first that completes a frame or shows that one is damaged:
-    /// returns how many. What its fate leaves of a good frame waits then.
-    pub fn push(&mut self, bytes: &[u8]) -> usize
+    /// Takes bytes that came, up to the first that completes a frame or shows that one is damaged.
+    /// What its fate leaves of a good frame waits then.
+    pub fn push(&mut self, bytes: &[u8]) -> Taken
         requires idle { self.old.waiting ≡ [] }
         requires bytes { 0 < length bytes.now }
         requires countable { self.old.frames.offset + length bytes.now < 2 ^ 64 }
-        ensures used { result ≤ length bytes.now }
-        ensures some { 0 < result }
-        ensures offset { self.new.frames.offset ≡ self.old.frames.offset + result }
+        ensures used { result.used ≤ length bytes.now }
+        ensures some { 0 < result.used }
+        ensures offset { self.new.frames.offset ≡ self.old.frames.offset + result.used }
         ensures relays { (start : Lcg) (came taken : List ℕ) → Relays start self.old came taken
-            → Relays start self.new (came ++ take result bytes.now) taken }
+            → Relays start self.new (came ++ take result.used bytes.now) taken }
+        ensures fate { (start : Lcg) (came taken : List ℕ) → Relays start self.old came taken
+            → fates_in self.old.faults start (came ++ take result.used bytes.now)
+            ≡ fates_in self.old.faults start came ++ fate_given result.fate }
         ensures faults { self.new.faults ≡ self.old.faults }
         ensures one { (self.new.waiting ≡ []) ⊎ IsOfOneFrame self.new.waiting }
     {
         let Pushed { used, item } = self.frames.push_all(bytes);
         let Some(item) = item else {
-            return used;
+            return Taken { used, fate: None };
         };
         self.items += 1;
         let Some(header) = good_header(&item) else {
-            return used;
+            return Taken { used, fate: None };
         };
         let length = write_frame(&header, self.frames.data(), self.frame.as_mut_slice());
         let fate = draw_fate(&self.faults, &mut self.draws, length);
@@ -186,7 +198,10 @@ impl Relay {
         self.bytes += length as u128;
         self.lost += is_lost(&fate);
         self.altered += is_altered(&fate);
-        used
+        Taken {
+            used,
+            fate: Some(fate),
+        }
     }
 
     /// Returns what waits of the frame that is passed on.

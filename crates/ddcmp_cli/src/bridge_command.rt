@@ -1,6 +1,6 @@
 //! `bridge`: the good frames of each of two lines go to the other.
 ghost use Rattle.std.specs.Prelude.{◌≡◌, ◌↔◌, IsTrue, false};
-ghost use Rattle.ddcmp_cli.specs.BridgeEndings.{BridgeEnds, Bridges, Reports};
+ghost use Rattle.ddcmp_cli.specs.BridgeEndings.{BridgeEnds, Bridges, Reports, trace_of};
 
 use crate::ending::Ending;
 use crate::fault::Fault;
@@ -9,6 +9,7 @@ use crate::usage::usage;
 use ddcmp_bridge::write_report;
 use ddcmp_io::Sink;
 use ddcmp_service::{BridgeEnd, BridgeFault, BridgeOptions, LineName};
+use ddcmp_tap::Notation;
 use ddcmp_words::Bridged;
 use std::alloc::Global;
 
@@ -48,6 +49,17 @@ fn report<W: Sink>(end: &BridgeEnd, writer: &mut W) -> Ending
     }
 }
 
+/// How the frames that come are printed: drawn if they are to be drawn and printed.
+fn traced_as(bridged: &Bridged<'_>) -> Option<Notation>
+    ensures { result ≡ trace_of bridged.now }
+{
+    match (bridged.ladder, bridged.trace) {
+        (true, _) => Some(Notation::Ladder),
+        (false, true) => Some(Notation::Plain),
+        (false, false) => None,
+    }
+}
+
 /// Passes frames on between two lines until one of them ends, and writes what was counted.
 pub(crate) fn bridge<S: Lines, W: Sink>(
     system: &S,
@@ -68,6 +80,7 @@ pub(crate) fn bridge<S: Lines, W: Sink>(
     let options = BridgeOptions {
         seconds: bridged.seconds,
         faults: bridged.faults,
+        trace: traced_as(bridged),
     };
     let ended = system.bridge(alloc, first, second, options);
     ending_of(alloc, ended, writer)

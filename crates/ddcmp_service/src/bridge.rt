@@ -1,5 +1,6 @@
 //! A bridge over two lines, from their opening to its end.
 use crate::bridge_side::{Needs, Sides};
+use crate::bridge_trace::Trace;
 use crate::bridge_way::Way;
 use crate::event::Event;
 use crate::fault::{Attempt, Cause, NotOpened};
@@ -11,6 +12,7 @@ use crate::waiting::Waiting;
 use ddcmp_bridge::{Counts, Faults};
 use ddcmp_session::{Down, Wanted};
 use ddcmp_station::{Clock, Elapsed};
+use ddcmp_tap::{NoMemory, Notation, Side};
 use std::alloc::Global;
 use std::fs::{File, Files};
 use std::io::{Eprint, ErrorKind};
@@ -42,6 +44,8 @@ pub struct BridgeOptions {
     /// After how many seconds it ends, if no line has ended before.
     pub seconds: u32,
     pub faults: Faults,
+    /// How the frames that come are printed on standard error, if they are.
+    pub trace: Option<Notation>,
 }
 
 /// Passes the good frames that come over each line on to the other, but for the faults that it is
@@ -59,12 +63,9 @@ where
         + Eprint
         + time::Clock,
 {
-    let there = Way::new(alloc, options.faults, 0);
-    let back = Way::new(alloc, options.faults, 1);
-    let (Some(there), Some(back)) = (there, back) else {
+    let Some(mut ways) = Ways::new(alloc, &options) else {
         return Err(BridgeFault::Memory);
     };
-    let mut ways = Ways { there, back };
     let mut clock = Elapsed::new(system);
     let ends_at = 1000 * u64::from(options.seconds);
     let mut one = Opening::new(system, alloc, first)?;
@@ -190,7 +191,25 @@ impl Drop for Ways {
     }
 }
 
+/// Makes a log of what comes from a side, if one is asked for.
+fn trace_of(alloc: Global, options: &BridgeOptions, side: Side) -> Result<Option<Trace>, NoMemory> {
+    match options.trace {
+        Some(notation) => Ok(Some(Trace::new(alloc, notation, side)?)),
+        None => Ok(None),
+    }
+}
+
 impl Ways {
+    /// Takes all memory that both directions will need; none if an allocation failed.
+    fn new(alloc: Global, options: &BridgeOptions) -> Option<Ways> {
+        let there = trace_of(alloc, options, Side::Caller).ok()?;
+        let back = trace_of(alloc, options, Side::Called).ok()?;
+        Some(Ways {
+            there: Way::new(alloc, options.faults, 0, there)?,
+            back: Way::new(alloc, options.faults, 1, back)?,
+        })
+    }
+
     /// Passes frames on both ways, until a line is down and all that came over it was passed on, or
     /// the time is over.
     fn run<E: Eprint, C: Clock>(
@@ -201,8 +220,13 @@ impl Ways {
         ends_at: u64,
     ) -> BridgeEnd {
         for _turn in 0..u64::MAX {
-            let went = self.there.pass(&mut sides.first, &mut sides.second);
-            let came = self.back.pass(&mut sides.second, &mut sides.first);
+            let now = clock.now();
+            let went = self
+                .there
+                .pass(&mut sides.first, &mut sides.second, system, now);
+            let came = self
+                .back
+                .pass(&mut sides.second, &mut sides.first, system, now);
             let left = ends_at.saturating_sub(clock.now());
             if self.is_over(sides) || left == 0 {
                 break;

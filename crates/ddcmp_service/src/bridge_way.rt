@@ -2,9 +2,11 @@
 ghost use Rattle.std.specs.Prelude.{◌≡◌, [], false};
 
 use crate::bridge_side::Side;
+use crate::bridge_trace::Trace;
 use crate::datagram::Framing;
-use ddcmp_bridge::{Counts, Faults, Relay};
+use ddcmp_bridge::{Counts, Faults, Relay, Taken};
 use std::alloc::Global;
+use std::io::Eprint;
 
 /// How much is read at once: a datagram has no more.
 const MOST: usize = 65536;
@@ -20,6 +22,7 @@ pub(crate) struct Way {
     framing: Framing,
     /// How many bytes were dropped for that.
     cut: u64,
+    trace: Option<Trace>,
 }
 
 // By hand, so that it is dropped by a call: a derived one is written out at each such place.
@@ -32,6 +35,7 @@ impl Drop for Way {
             end: _,
             framing: _framing,
             cut: _,
+            trace: _trace,
         } = self;
     }
 }
@@ -39,7 +43,12 @@ impl Drop for Way {
 impl Way {
     /// Takes all memory that it will need; none if an allocation failed. Its faults are drawn as
     /// those of this direction.
-    pub(crate) fn new(alloc: Global, faults: Faults, direction: u64) -> Option<Way> {
+    pub(crate) fn new(
+        alloc: Global,
+        faults: Faults,
+        direction: u64,
+        trace: Option<Trace>,
+    ) -> Option<Way> {
         Some(Way {
             relay: Relay::new(alloc, faults, direction)?,
             came: vec![in alloc; 0; MOST].ok()?,
@@ -47,15 +56,23 @@ impl Way {
             end: 0,
             framing: Framing::new(alloc, ddcmp_frame::MAX_COUNT).ok()?,
             cut: 0,
+            trace,
         })
     }
 
-    /// Reads once and writes once, as far as neither waits: whether anything moved.
-    pub(crate) fn pass(&mut self, from: &mut Side, to: &mut Side) -> bool {
+    /// Reads once and writes once, as far as neither waits: whether anything moved. What it logs has
+    /// this moment.
+    pub(crate) fn pass<E: Eprint>(
+        &mut self,
+        from: &mut Side,
+        to: &mut Side,
+        system: &E,
+        now: u64,
+    ) -> bool {
         let came = self.wants_more() && self.read(from);
-        self.take();
+        self.take(system, now);
         let went = self.write(to);
-        self.take();
+        self.take(system, now);
         came || went
     }
 
@@ -88,7 +105,7 @@ impl Way {
     }
 
     /// Has the relay take what came, up to a frame that waits.
-    fn take(&mut self) {
+    fn take<E: Eprint>(&mut self, system: &E, now: u64) {
         for _item in 0..u64::MAX {
             if self.has_waiting() {
                 return;
@@ -99,7 +116,11 @@ impl Way {
                 self.from = self.end;
                 return;
             }
-            self.from = self.from.saturating_add(self.relay.push(came));
+            let Taken { used, fate } = self.relay.push(came);
+            if let Some(trace) = &mut self.trace {
+                trace.tell(system, now, came.get(..used).unwrap_or(&[]), fate);
+            }
+            self.from = self.from.saturating_add(used);
         }
     }
 

@@ -4,6 +4,7 @@
 
 mod bridge;
 mod bridge_side;
+mod bridge_trace;
 mod bridge_way;
 mod datagram;
 mod ending;

@@ -183,6 +183,8 @@ has_options_as o p t u (Bridge bridged) e w h = record {
         h.faults.damage;
     seed = subst (λ t. HasNumber 0 MOST 1 t bridged.faults.seed) (e (codes "seed")) h.faults.seed;
   };
+  trace = subst (λ t. HasFlag t bridged.trace) (e (codes "trace")) h.trace;
+  ladder = subst (λ t. HasFlag t bridged.ladder) (e (codes "ladder")) h.ladder;
 }
 
 -- a command has the options that the words give

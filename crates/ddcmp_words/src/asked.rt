@@ -126,7 +126,7 @@ pub fn link_is_asked()
 
 /// The words `ddcmp bridge` with two lines ask for the command that passes frames on between them;
 /// the names of the lines are read as they were written, and `--seconds`, `--lose`, `--damage` and
-/// `--seed` as numbers.
+/// `--seed` as numbers; `--trace` and `--ladder` are read.
 pub fn bridge_is_asked()
     ensures plain { IsAsked (codes "ddcmp" ∷ codes "bridge" ∷ codes "listen:127.0.0.1:7000"
         ∷ codes "device:/dev/ttyS0" ∷ []) (codes "bridge") }
@@ -143,6 +143,8 @@ pub fn bridge_is_asked()
     ensures seed { option_in (codes "ddcmp" ∷ codes "bridge" ∷ codes "--seed=7" ∷ [])
         (codes "seed") ≡ Some (codes "7") }
     ensures no_seed { option_in (codes "ddcmp" ∷ codes "bridge" ∷ []) (codes "seed") ≡ None }
+    ensures trace { IsSwitch (codes "bridge") (codes "--trace") (codes "trace") }
+    ensures ladder { IsSwitch (codes "bridge") (codes "--ladder") (codes "ladder") }
     ensures incomplete { takes program (codes "ddcmp" ∷ codes "bridge"
         ∷ codes "listen:127.0.0.1:7000" ∷ []) ≡ false }
 {}

@@ -6,7 +6,7 @@ ghost use Rattle.ddcmp_words.specs.Making.{Makes};
 ghost use Rattle.ddcmp_words.specs.Words.{HasBridge, bridge_app};
 
 use crate::bridged::Bridged;
-use crate::command::{number_given, text_given};
+use crate::command::{flag_given, number_given, text_given};
 use crate::options::{CommandOption, Takes};
 use crate::parser::Parser;
 use clap::ArgMatches;
@@ -42,7 +42,7 @@ fn bridge_command<'a>(alloc: Global) -> clap::Command<'a>
 }
 
 /// The options of a bridge.
-static BRIDGE_OPTIONS: [CommandOption; 6] = [
+static BRIDGE_OPTIONS: [CommandOption; 8] = [
     CommandOption {
         name: "first",
         takes: Takes::Place("LINE"),
@@ -85,6 +85,18 @@ static BRIDGE_OPTIONS: [CommandOption; 6] = [
         is_required: false,
         help: "Draw the faults by N, the same by the same N [default: 1]",
     },
+    CommandOption {
+        name: "trace",
+        takes: Takes::Nothing,
+        is_required: false,
+        help: "Print each frame that comes on standard error",
+    },
+    CommandOption {
+        name: "ladder",
+        takes: Takes::Nothing,
+        is_required: false,
+        help: "Draw each frame that comes, as a ladder on standard error",
+    },
 ];
 
 /// `bridge` with its options.
@@ -108,5 +120,7 @@ pub(crate) fn bridge_given<'a>(options: &ArgMatches<'a>) -> Bridged<'a>
             damage: number_given(options, "damage", 0, 100, 0),
             seed: number_given(options, "seed", 0, u32::MAX, 1),
         },
+        trace: flag_given(options, "trace"),
+        ladder: flag_given(options, "ladder"),
     }
 }

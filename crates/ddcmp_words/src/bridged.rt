@@ -10,4 +10,8 @@ pub struct Bridged<'a> {
     /// After how many seconds it ends, if no line has ended before.
     pub seconds: u32,
     pub faults: Faults,
+    /// Whether the frames that come are printed.
+    pub trace: bool,
+    /// Whether they are drawn as a ladder.
+    pub ladder: bool,
 }

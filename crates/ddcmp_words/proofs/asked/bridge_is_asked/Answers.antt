@@ -35,6 +35,14 @@ pub returns-clause-no_seed : goal.returns-clause-no_seed
 unfolding clap_on_literals option_in
 returns-clause-no_seed c = refl
 
+pub returns-clause-trace : goal.returns-clause-trace
+unfolding clap_on_literals option_in
+returns-clause-trace c = (refl, refl)
+
+pub returns-clause-ladder : goal.returns-clause-ladder
+unfolding clap_on_literals option_in
+returns-clause-ladder c = (refl, refl)
+
 pub returns-clause-incomplete : goal.returns-clause-incomplete
 unfolding clap_on_literals
 returns-clause-incomplete c = refl

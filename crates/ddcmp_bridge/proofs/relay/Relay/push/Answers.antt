@@ -1,12 +1,12 @@
-use Rattle.std.proofs.Common.{◌∙◌, ◌+◌, ◌++◌, ap, arith, drop, inr, length, refl, subst, sym, take}
+use Rattle.std.proofs.Common.{◌≡◌, ◌∙◌, ◌∷◌, [], ◌+◌, ◌++◌, ap, arith, drop, inr, length, refl, subst, sym, take}
 use Rattle.std.specs.Vec.{with_items}
 use Rattle.std.proofs.lemmas.List.{with_items_is}
 use Rattle.ddcmp_frame.specs.Reader.{LentBeside}
 use Rattle.ddcmp_frame.specs.Wire.{wire}
 use Rattle.ddcmp_bridge.specs.Faults.{after_fate, fate_drawn}
-use Rattle.ddcmp_bridge.specs.Relaying.{Relays}
+use Rattle.ddcmp_bridge.specs.Relaying.{Relays, fates_in}
 use Rattle.ddcmp_bridge.proofs.RelayLaws.{adds-one, at-front, fits, has-bytes, relays-bad}
-use Rattle.ddcmp_bridge.proofs.RelayLaws.{relays-good}
+use Rattle.ddcmp_bridge.proofs.RelayLaws.{fate-none, fate-one, relays-good}
 use Rattle.ddcmp_bridge.proofs.relay.Relay.push.Goals as goal
 
 pub overflow_add-self : goal.overflow_add-self
@@ -154,3 +154,54 @@ returns-clause-one c =
           (subst (λ i. LentBeside i lent) c.in-Some.is e.lent);
       is = waits;
     })
+
+pub returns-clause-fate : goal.returns-clause-fate
+returns-clause-fate c = λ start came taken r.
+    let inv = c.self.invariant in
+    let e = c.push_all-used.ensures in
+    let lent = c.push_all-used.new.self.lent in
+    let v = c.self.view_is in
+    let was = subst (λ w. Relays start w came taken) (sym v) r in
+    let idle = ap (λ w. w.waiting) v ∙ c.requires.idle in
+    let adds =
+    adds-one _ came _ lent _ c.in-Some.item inv.0 c.in-Some.is (e.item came was.stands) in
+    let header = c.in-Some-good_header.header in
+    let same = ap (wire header) c.data.ensures in
+    let w = c.write_frame-length.ensures in
+    let n = w.length ∙ ap length same in
+    let front =
+    at-front _ (wire header lent) _ _ n
+    (w.written ∙ ap (λ t. t ++ drop c.write_frame-length.result c.as_mut_slice.result.now) same) in
+    let out =
+    with_items_is c.self.inside.frame c.write_frame-length.new.out
+    (c.write_frame-length.auto.out ∙ c.as_mut_slice.ensures.len) in
+    let left =
+    with_items_is (with_items c.self.inside.frame c.write_frame-length.new.out)
+    c.suffer-self-inside.new.space
+    (c.suffer-self-inside.auto.space ∙ c.as_mut_slice-2.ensures.len) in
+    let fate = c.draw_fate-fate.result in
+    let waits =
+    ap (take c.suffer-self-inside.result) left ∙ c.suffer-self-inside.ensures.left
+    ∙ ap (after_fate fate)
+    (ap (take c.write_frame-length.result) (c.as_mut_slice-2.ensures.value ∙ out) ∙ front) in
+    let drawn =
+    c.draw_fate-fate.ensures.fate
+    ∙ ap (fate_drawn c.self.inside.faults c.self.inside.draws) n in
+    subst (λ w. fates_in w.faults start (came ++ take c.push_all-used.result.used c.args.bytes.now)
+    ≡ fates_in w.faults start came ++ fate ∷ []) v
+    (fate-one came _ lent c.in-Some.item adds start _ taken was header fate
+    (c.in-Some-good_header.ensures.frame lent) drawn)
+
+pub returns-in_default-good_header-clause-fate : goal.returns-in_default-good_header-clause-fate
+returns-in_default-good_header-clause-fate c = λ start came taken r.
+    let inv = c.self.invariant in
+    let e = c.push_all-used.ensures in
+    let lent = c.push_all-used.new.self.lent in
+    let v = c.self.view_is in
+    let was = subst (λ w. Relays start w came taken) (sym v) r in
+    let idle = ap (λ w. w.waiting) v ∙ c.requires.idle in
+    let adds =
+    adds-one _ came _ lent _ c.in-Some.item inv.0 c.in-Some.is (e.item came was.stands) in
+    subst (λ w. fates_in w.faults start (came ++ take c.push_all-used.result.used c.args.bytes.now) ≡ fates_in w.faults start came ++ []) v
+    (fate-none came _ lent c.in-Some.item adds start _ taken was
+    (c.in_default-good_header.ensures.frame lent))

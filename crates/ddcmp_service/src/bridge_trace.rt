@@ -1,0 +1,60 @@
+//! What a bridge logs of the frames that come over its lines.
+use ddcmp_bridge::Fate;
+use ddcmp_frame::MAX_COUNT;
+use ddcmp_tap::{Direction, NoMemory, Notation, Side};
+use std::alloc::Global;
+use std::io::Eprint;
+use std::str;
+
+/// The log of one direction: the lines of a tap, and what the bridge did to a frame.
+pub(crate) struct Trace {
+    direction: Direction,
+    side: Side,
+}
+
+// By hand, so that it is dropped by a call: a derived one is written out at each such place.
+impl Drop for Trace {
+    fn drop(self) {
+        let Trace {
+            direction: _direction,
+            side: _,
+        } = self;
+    }
+}
+
+impl Trace {
+    /// Takes all memory but that of its lines.
+    pub(crate) fn new(alloc: Global, notation: Notation, side: Side) -> Result<Trace, NoMemory> {
+        let direction = Direction::new(alloc, side, notation, MAX_COUNT)?;
+        Ok(Trace { direction, side })
+    }
+
+    /// Prints the lines of bytes that came, and the fate of the frame that they completed. What
+    /// there is no memory for isn't printed.
+    pub(crate) fn tell<E: Eprint>(
+        &mut self,
+        system: &E,
+        now: u64,
+        bytes: &[u8],
+        fate: Option<Fate>,
+    ) {
+        if bytes.len() > self.direction.room() {
+            return;
+        }
+        self.direction.push(bytes);
+        self.direction.took(self.direction.waiting().len());
+        if self.direction.explain(Some(now)).is_ok() {
+            let text = str::from_utf8(self.direction.text()).unwrap_or("");
+            let _ = eprint!(system; "{text}");
+        }
+        let mark = match self.side {
+            Side::Caller => ">",
+            Side::Called => "<",
+        };
+        let _ = match fate {
+            Some(Fate::Lost) => eprintln!(system; "{now} {mark} lost"),
+            Some(Fate::Altered { at, .. }) => eprintln!(system; "{now} {mark} altered byte {at}"),
+            Some(Fate::Passed) | None => Ok(()),
+        };
+    }
+}
