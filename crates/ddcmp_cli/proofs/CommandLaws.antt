@@ -178,7 +178,7 @@ not_declined (Ok x) d e n h = let bad : Ok x ≡ Err d = e in cc
 not_declined (Err f) d e n (inl ok) = let bad : ◌≡◌ {A = Bool} false true = ok in cc
 not_declined (Err f) d e n (inr m) = let same : d ≡ Memory = cc in n same
 
--- where broken writes are told, nothing that is done left the sink broken
+-- if broken writes are reported, nothing that is done left the sink broken
 pub unbroken : (ending : Ending) (broken : Bool) → (IsTrue broken → ending ≡ Faulted Write)
     → ending ≡ Done → broken ≡ false
 unbroken ending true told done = let bad : Done ≡ Faulted Write = sym done ∙ told refl in cc

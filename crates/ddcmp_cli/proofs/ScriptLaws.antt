@@ -18,7 +18,7 @@ use Rattle.ddcmp_io.specs.Input.{GaveMost}
 use Rattle.ddcmp_cli.specs.Endings.{script_fault, IsUnopened, ReadsFile, ShowsBy, Streams}
 use Rattle.ddcmp_cli.specs.Endings.{TellsDevices, Untouched, is_refusal, streams}
 
--- a fault that the script answered is the one that the program tells
+-- a fault that the script returned is the one that the program reports
 pub told : (r : Result (Unit {0}) ScriptFault) (fault known : ScriptFault) (made : Fault)
     → r ≡ Err fault → made ≡ script_fault fault → r ≡ Err known
     → Faulted made ≡ Faulted (script_fault known)
@@ -52,13 +52,13 @@ same a b e =
     sym (called a) ∙ ap script_fault_of both ∙ called b in
     cc
 
--- a fault that the program tells is the one that the script answered
+-- a fault that the program reports is the one that the script returned
 pub told-back : (r : Result (Unit {0}) ScriptFault) (fault known : ScriptFault) (made : Fault)
     → r ≡ Err fault → made ≡ script_fault fault → Faulted made ≡ Faulted (script_fault known)
     → r ≡ Err known
 told-back r fault known made e m k = e ∙ ap Err (same fault known (ap Faulted (sym m) ∙ k))
 
--- what a carrier that tells nothing did is known of none
+-- what a carrier that reports nothing did is known of none
 pub untold : (counted : Bool) (input : List ℕ) (before p q : PairState) (is_direct : Bool)
     (t u : Option (List Carriage)) (Wrote WrotePart : List ℕ → Type 0)
     (r : Result (Unit {0}) ScriptFault)
@@ -79,7 +79,7 @@ shows-as true false R D E W V d f h = d h
 shows-as false true R D E W V d f h = d h
 shows-as false false R D E W V d f h = f h
 
--- what a script tells of its devices the ending tells
+-- what a script reports of its devices the ending reports
 pub tells : (source : SourceChange) (broken : Bool) (r : Result (Unit {0}) ScriptFault)
     (fault : ScriptFault) (made : Fault) → r ≡ Err fault → made ≡ script_fault fault
     → (source.state ≢ Fine → r ≡ Err scripting.Read)

@@ -24,7 +24,7 @@ decoded peers role served (Ok bytes) message old new ending e c =
 decoded peers role served (Err refused) message old new ending e c =
     let e' : ◌≡◌ (Some message) None = e in cc
 
--- an ending that tells want of memory is an answer of want of memory
+-- an ending that reports an allocation failure is the result of one
 pub want-of : (answer : Result (Unit {0}) ServeFault)
     → ending_of serve_fault answer ≡ Faulted NoMemory
     → (answer ≡ Err serving.Config) ⊎ (answer ≡ Err (serving.Line line.Memory))

@@ -178,19 +178,19 @@ streams input left before after =
 abbrev pub Untouched : Streams → Type 0
 Untouched s = (s.left ≡ Some s.input) × Keeps s.before s.after
 
--- some input of a form was explained, and the ending tells the answer
+-- some input of a form was explained, and the ending reports the result
 abbrev pub ExplainsTo : Form → Explained → Streams → Ending → Type 0
 ExplainsTo by e s ending =
     (result : Result (Unit {0}) ExplainFault) × (ending ≡ ending_of explain_fault result)
     × Explains by e.style e.max s.input s.left s.before s.after result
 
--- some dump was explained, and the ending tells the answer
+-- some dump was explained, and the ending reports the result
 abbrev pub ExplainsDumpTo : Explained → Streams → Ending → Type 0
 ExplainsDumpTo e s ending =
     (result : Result (Unit {0}) DumpFault) × (ending ≡ ending_of dump_fault result)
     × ExplainsDump e.style e.max s.input s.left s.before s.after result
 
--- some input was explained as what its first bytes are, and the ending tells the answer
+-- some input was explained as what its first bytes are, and the ending reports the result
 abbrev pub ExplainsDetectedTo : Explained → Streams → Ending → Type 0
 ExplainsDetectedTo e s ending =
     (result : Result (Unit {0}) DetectedFault) × (ending ≡ ending_of detected_fault result)
@@ -206,7 +206,7 @@ ExplainsBy (Some origin.Auto) e s ending = ExplainsDetectedTo e s ending
 abbrev pub ExplainsInput : Explained → Streams → Ending → Type 0
 ExplainsInput e s ending = ExplainsBy (named_by e.from) e s ending
 
--- the ending tells that the file of this name can't be opened
+-- the ending reports that the file of this name can't be opened
 abbrev pub IsUnopened : List ℕ → Ending → Type 0
 IsUnopened name Done = ⊥
 IsUnopened name SomeRefused = ⊥
@@ -297,7 +297,7 @@ CanRun (Link linked) = ⊤
 CanRun (Bridge bridged) = ⊤
 
 -- A script was played between two new ends of these sizes, over a carrier that is direct or not,
--- and the ending tells the answer; or there was no memory for the ends.
+-- and the ending reports the result; or there was no memory for the ends.
 abbrev pub PlaysBetween : Bool → Config → Bool → Streams → Ending → Type 0
 PlaysBetween is_direct config counted s ending =
     ((ending ≡ Faulted NoMemory) × (s.left ≡ Some s.input) × Appends s.before s.after [])
@@ -371,8 +371,8 @@ PairsAsked held it s ending =
     ShowsFrom held it.file it.view (DrawsPaired it.config) (Pairs it.config it.view.counters) s
     ending
 
--- The ending tells that a read failed exactly where the source isn't fine or has given 2^64 - 1
--- bytes, and that a write failed exactly where one has.
+-- The ending reports that a read failed exactly if the source isn't fine or has returned 2^64 - 1
+-- bytes, and that a write failed exactly if one has.
 pub record TellsDevices (source : SourceChange) (broken : Bool) (ending : Ending) : Type 0 where
   pub read : source.state ≢ Fine → ending ≡ Faulted Read
   pub read_only : ending ≡ Faulted Read
@@ -380,7 +380,7 @@ pub record TellsDevices (source : SourceChange) (broken : Bool) (ending : Ending
   pub write : (ending ≡ Faulted Write) ↔ IsTrue broken
 
 -- A station was served over a connection, of which this comes where that is known, with this
--- message to send, and the ending tells the answer. Where there was no memory nothing was written.
+-- message to send, and the ending reports the result. On an allocation failure nothing was written.
 pub record ServesOver (gives : Known) (served : Served) (message : List ℕ) (old new : Known)
     (ending : Ending) : Type 0 where
   pub answer : Result (Unit {0}) ServeFault
@@ -409,8 +409,8 @@ SendsDecoded peers role served (Err refused) old new ending =
     (ending ≡ Faulted Message) × Keeps old new
 
 -- What became of a station that was asked for. A word that names no role and the digits of more
--- than 1500 bytes are usage, or find no memory to be told; then come digits that spell no bytes,
--- and then the connection. Only a station that is served writes.
+-- than 1500 bytes are usage errors, or allocation fails as they are reported; then come digits that
+-- spell no bytes, and then the connection. Only a station that is served writes.
 abbrev pub Stations : Peers → Served → Known → Known → Ending → Type 0
 Stations peers served old new ending =
     (((served.role ≡ None) ⊎ (3000 < length served.send.now))
@@ -429,15 +429,15 @@ abbrev pub is_json : Notation → Bool
 is_json Plain = false
 is_json Json = true
 
--- some pieces of what both sides said were told, below the head of a ladder, and the ending tells
--- the answer
+-- some pieces of what both sides said were reported, below the head of a ladder, and the ending
+-- reports the result
 abbrev pub Taps : Tapped → Known → Known → Ending → Type 0
 Taps tapped old new ending =
     (result : Result (Unit {0}) TapFault) × TapEnds result ending
     × Says (head_of (told_as tapped)) (told_as tapped) tapped.time tapped.max old new result
 
--- callers were carried one after another until a fault that isn't of one side, and the ending tells
--- it
+-- callers were carried one after another until a fault that isn't of one side, and the ending
+-- reports it
 abbrev pub TapsInTurn : Tapped → Known → Known → Ending → Type 0
 TapsInTurn tapped old new ending =
     (fault : TapFault) × TapEnds (Err fault) ending × Lasts fault
@@ -461,8 +461,8 @@ TapsOrNoMemory words old new ending =
     ⊎ ((tapped : Tapped) × HasTap (option_in words) (text_in words) tapped
     × TapsAsked tapped old new ending)
 
--- A command was run, and the ending tells its answer. Of each name `held` says what the file holds,
--- and `peers` what is known of connections.
+-- A command was run, and the ending reports its result. Of each name `held` says what the file
+-- holds, and `peers` what is known of connections.
 abbrev pub Performs : (List ℕ → Known) → Peers → Command → Streams → Ending → Type 0
 Performs held peers (Explain explained) s ending = ExplainsAsked held explained s ending
 Performs held peers (Simulate scripted) s ending = SimulatesAsked held scripted s ending

@@ -1,4 +1,4 @@
--- How a tap of the command line tells what passes, and how it ends.
+-- How a tap of the command line reports what passes, and how it ends.
 use Rattle.std.specs.Prelude.{◌≡◌, ⊤, if◌then◌else◌, Result, Ok, Err}
 use Rattle.ddcmp_explain.specs.declared.notation.Notation.{Notation}
 use Rattle.ddcmp_explain.specs.declared.notation.Notation.TheVariants.{Plain, Json}

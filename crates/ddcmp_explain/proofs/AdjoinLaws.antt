@@ -48,12 +48,12 @@ adjoin-passed end a b l = go (nat_lt a b) refl
 
 -- ---- a place in the reading
 
--- what is told from an offset on, up to where the reading ends
+-- what is reported from an offset on, up to where the reading ends
 abbrev told_from : ℕ → RowResult ReadItem Place → List Part
 told_from at o = parts_from at o.items ++ passed (reached at o.items) o.place.offset
 
--- Up to this place all bytes are in a line: those before it where nothing was told, and else those
--- before the frame that was told to be too long, which is taken up to `at`.
+-- Up to this place all bytes are in a line: those before it if nothing was reported, and else those
+-- before the frame that was reported to be too long, which is taken up to `at`.
 abbrev Fits : ℕ → Place → ℕ → Type 0
 Fits max p at =
     (p.told ≡ false → at ≤ p.offset)
@@ -114,7 +114,7 @@ whole : (end : ℕ) (g : ReadItem) → behind g.0 ≤ end
     → item_offset g.0 + count_in end (Told g) ≡ behind g.0
 whole end g l = let t = ltb-isnt end (behind g.0) l in rw t refl
 
--- one row that goes on n bytes later, where nothing was told
+-- one row that goes on n bytes later, where nothing was reported
 module _ (max : ℕ) (p : Place) (lost : Bool) (n : ℕ) (o : RowResult ReadItem Place)
     (h : Covers max (place_after n lost p) o) where
   later : p.offset ≤ o.place.offset
@@ -177,7 +177,7 @@ module _ (max : ℕ) (p : Place) (h : Header) (n : ℕ) (start : is_start (slice
       let number : n ≡ w.1 = same_count h w.0 n w.1 header counted w.4 in
       (omega (arith, w.5, number), omega (arith, w.6, number))
 
-  -- it is told to be too long
+  -- it is reported to be too long
   tells : p.told ≡ false → max < n
       → Step max p ((TooLong p.offset h, []) ∷ [], record p { told = true })
   tells u above o k = (

@@ -1,4 +1,4 @@
--- What was seen of a dump, and what an answer tells of the whole dump.
+-- What was seen of a dump, and what a result reports of the whole dump.
 use Rattle.std.proofs.Common.{◌≡◌, ◌≢◌, ℕ, ◌+◌, ◌-◌, ◌<◌, ◌^◌, Bool, true, false, List, [], ◌∷◌}
 use Rattle.std.proofs.Common.{◌++◌, length, take, refl, sym, ◌∙◌, ap, subst, arith, Option, Some}
 use Rattle.std.proofs.Common.{None, Result, Ok, Err, length-append, inl, inr}
@@ -52,7 +52,7 @@ consumes-end before left later seen n buf e a b =
     subst (Consumes before later) (append-nil seen)
     (Consumes-trans before left later seen [] a (subst (Consumes left later) (take-none n buf e) b))
 
--- so far, and each whole byte of it has been told
+-- so far, and each whole byte of it has been reported
 pub record SoFarDumped (max : ℕ) (start before left : Option (List ℕ)) (begun now : DumpView)
     (at : Explainer) (broken : Bool) (sink : Option (List ℕ))
     : Type 0 where
@@ -123,7 +123,7 @@ so-far-none max start before begun at broken sink p = record {
 
 -- ---- the whole dump
 
--- what was seen, n bytes, and what was told of it
+-- what was seen, n bytes, and what was reported of it
 abbrev pub SawFrom : Form → Style → ℕ → ℕ → DumpView → DumpView → Option (List ℕ) → Option (List ℕ)
     → Option (List ℕ) → Option (List ℕ) → Answer → Type 0
 SawFrom form style max n begun dump before left old new explained =

@@ -1,4 +1,4 @@
--- What an answer tells of the input that was seen, and of the whole input.
+-- What a result reports of the input that was seen, and of the whole input.
 use Rattle.std.proofs.Common.{◌≡◌, ℕ, ◌-◌, ◌<◌, ◌^◌, Bool, true, false, List, [], ◌++◌, length, sym}
 use Rattle.std.proofs.Common.{◌∙◌, ap, subst, Option, Some, None, Ok, Err}
 use Rattle.std.specs.Prelude.{option_to_list, is_none, is_some, if◌then◌else◌}

@@ -1,4 +1,4 @@
--- What a byte, the flush of the page and the last line add to what was told.
+-- What a byte, the flush of the page and the last line add to what was reported.
 use Rattle.std.proofs.Common.{◌≡◌, ℕ, ◌+◌, ◌-◌, Bool, true, false, List, [], ◌++◌, length, take}
 use Rattle.std.proofs.Common.{take_all, drop, sym, ◌∙◌, ap, subst, arith, Option, Result, Ok, Err}
 use Rattle.std.proofs.Common.{append_assoc, length-append, length-drop, ◌∷◌, refl}

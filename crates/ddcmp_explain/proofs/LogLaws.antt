@@ -70,7 +70,7 @@ pub nowhere : (p : Spot) → spot_from p [] ≡ p
 unfolding spot_from
 nowhere p = refl
 
--- behind a wrong character nothing is read
+-- after a wrong character nothing is read
 none-behind : (xs : List ℕ) → logged_from Wrong xs ≡ []
 unfolding logged_from spot_after completed_at
 none-behind [] = refl
@@ -100,7 +100,7 @@ one-wrong p n c = refl
 
 -- ---- a piece, up to a place in it
 
--- what was read of a piece behind what was seen: the bytes that it completes, and where it ends
+-- what was read of a piece after what was seen: the bytes that it completes, and where it ends
 pub record Logs (seen piece : List ℕ) (i n : ℕ) (bytes : List ℕ) (spot : Spot) : Type 0 where
   pub whole : logged_from Between (seen ++ take i piece)
       ≡ logged_from Between seen ++ take n bytes

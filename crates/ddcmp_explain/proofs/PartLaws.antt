@@ -1,4 +1,4 @@
--- Parts of items that come behind others, and their lines.
+-- Parts of items that come after others, and their lines.
 use Rattle.std.proofs.Common.{◌≡◌, ℕ, ◌<◌, arith, length, Bool, true, false, List}
 use Rattle.std.proofs.Common.{[], ◌∷◌, ◌++◌, refl, sym, ◌∙◌, ap, append_assoc, Some, None}
 use Rattle.std.specs.List.{flat_map}
@@ -34,7 +34,7 @@ pub lines-append : (notation : Notation) (xs ys : List Part)
 unfolding part_lines
 lines-append notation xs ys = flat_map-append (part_line notation) xs ys
 
--- what items that come behind others add to the lines
+-- what items that come after others add to the lines
 abbrev pub added : Bool → Notation → ℕ → List ReadItem → List ℕ
 added false notation at given = flat_map (line_in notation) given
 added true notation at given = part_lines notation (parts_from at given)

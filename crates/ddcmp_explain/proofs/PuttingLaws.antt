@@ -1,4 +1,4 @@
--- Texts that are put one behind another, and the digits of numbers.
+-- Texts that are put one after another, and the digits of numbers.
 use Rattle.std.proofs.Common.{◌≡◌, ℕ, zero, suc, ◌+◌, ◌-◌, ◌/◌, ◌%◌, ◌^◌, ◌<◌, ◌≤◌, List, [], ◌∷◌}
 use Rattle.std.proofs.Common.{◌++◌, length, take, map, get_or, refl, sym, ◌∙◌, ap, drop, subst}
 use Rattle.std.proofs.Common.{arith, append_assoc, length-append, Bool, true, false, inl, inr}
@@ -16,7 +16,7 @@ use Rattle.std.proofs.lemmas.List.FromFn.{get_or-map-range_with_len}
 use Rattle.ddcmp_explain.specs.declared.put.TheConstants.{POWERS}
 use Rattle.ddcmp_explain.specs.Putting.{Puts}
 
--- one text behind another
+-- one text after another
 pub puts-then : {a b c : List ℕ} {i j k : ℕ} {s t : List ℕ} → Puts a i b j s → Puts b j c k t
     → Puts a i c k (s ++ t)
 puts-then {a} {b} {c} {i} {j} {k} {s} {t} p q = record {
@@ -27,7 +27,7 @@ puts-then {a} {b} {c} {i} {j} {k} {s} {t} p q = record {
 pub puts-as : {a b : List ℕ} {i j : ℕ} {s t : List ℕ} → s ≡ t → Puts a i b j s → Puts a i b j t
 puts-as {a} {b} {i} {j} e p = subst (λ t. Puts a i b j t) e p
 
--- the front of a text: what stands behind it is of no account
+-- the front of a text: what comes after it is of no account
 pub puts-front : {a b : List ℕ} {i j : ℕ} {s : List ℕ} (k : ℕ) → i ≤ length a → k ≤ length s
     → Puts a i b j s → Puts a i b (i + k) (take k s)
 puts-front {a} {b} {i} {j} {s} k inside short p =

@@ -1,4 +1,4 @@
--- What was seen of an input, and what an answer tells of the whole input.
+-- What was seen of an input, and what a result reports of the whole input.
 use Rattle.std.proofs.Common.{◌≡◌, ◌≢◌, ℕ, ◌+◌, ◌-◌, ◌<◌, ◌^◌, Bool, true, false, List, [], ◌∷◌}
 use Rattle.std.proofs.Common.{◌++◌, length, refl, sym, ◌∙◌, ap, subst, arith, Option, Some, None}
 use Rattle.std.proofs.Common.{Result, Ok, Err, length-append, inl, inr}
@@ -23,7 +23,7 @@ use Rattle.ddcmp_explain.specs.Explains.{refusal, refusal_by, Tells, Explains}
 use Rattle.ddcmp_explain.specs.Progress.{Progress}
 use Rattle.ddcmp_explain.proofs.FormLaws.{unexpected-stays}
 
--- so far, and each whole byte of it has been told
+-- so far, and each whole byte of it has been reported
 pub record SoFar (max : ℕ) (start before left : Option (List ℕ)) (at : Explainer) (broken : Bool)
     (sink : Option (List ℕ))
     : Type 0 where
@@ -31,7 +31,7 @@ pub record SoFar (max : ℕ) (start before left : Option (List ℕ)) (at : Expla
   pub consumed : Consumes before left seen
   pub progress : Progress max start seen at broken sink
 
--- what was seen, n bytes, and what was told of it
+-- what was seen, n bytes, and what was reported of it
 abbrev pub Saw : Form → Style → ℕ → ℕ → Option (List ℕ) → Option (List ℕ) → Option (List ℕ)
     → Option (List ℕ) → Result (Unit {0}) ExplainFault → Type 0
 Saw form style max n before left old new result =

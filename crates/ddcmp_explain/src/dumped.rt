@@ -22,8 +22,8 @@ use ddcmp_io::input::read_within;
 use ddcmp_io::{Got, Sink, Source, Worst};
 use std::alloc::Global;
 
-/// Takes a piece of a dump as digits, with all blank but those of its data. `bytes` is room for what
-/// they spell.
+/// Takes a piece of a dump as digits, with all blank but those of its data. `bytes` is room for
+/// what they spell.
 fn take_piece<W: Sink>(
     explainer: &mut Explainer,
     dump: &mut Dump,

@@ -1,5 +1,5 @@
-//! What holds of inputs and of the lines that are written: functions that do nothing, whose contracts are the
-//! laws.
+//! What holds of inputs and of the lines that are written: functions that do nothing, whose
+//! contracts are the laws.
 ghost use Rattle.std.specs.Prelude.{◌≡◌, List, ℕ, None, length};
 ghost use Rattle.ddcmp_frame.specs.Reading.{ending};
 ghost use Rattle.ddcmp_explain.specs.Digits.{bytes_of};
