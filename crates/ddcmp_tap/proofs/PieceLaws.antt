@@ -33,7 +33,7 @@ text-told notation side max stamp told more text t =
     ∙ ap (tapped_lines notation stamp side)
     (sym (ap (drop (length (items max told))) t.adds ∙ drop-append_seam (items max told) t.given))
 
--- a direction whose bytes moved since its pieces were told
+-- a direction whose bytes moved since its pieces were reported
 pub record HasCome (start now : FlowView) (told : List ℕ) : Type 0 where
   pub came : List ℕ
   pub handed : List ℕ
@@ -84,7 +84,7 @@ moved-still start was now l s h = record {
   in_order = h.in_order;
 }
 
--- a beginning of what comes behind a text
+-- a beginning of what comes after a text
 pub part-behind : (a b c : Known) (text more : List ℕ) → Appends a b text → AppendsPart b c more
     → AppendsPart a c (text ++ more)
 part-behind a b c text more one two = (
@@ -244,7 +244,7 @@ begins-runs notation timed max up down start u d = record {
 
 module _ (notation : Notation) (timed : Bool) (max : ℕ) (stamp : Option ℕ)
     (stamped : is_some stamp ≡ timed) (up0 down0 : FlowView) (start : Known) where
-  -- the one direction was told, and the other not yet
+  -- the one direction was reported, and the other not yet
   pub record Half (up down : FlowView) (now : Known) : Type 0 where
     pub pieces : List Piece
     pub marked : AreStamped timed pieces
@@ -530,7 +530,7 @@ module _ (notation : Notation) (timed : Bool) (max : ℕ) (stamp : Option ℕ)
       (moved-still up0 ua ub ul us (has-moved up0 ua (said Caller r.pieces) r.rising))
       (moved-still down0 da db dl ds (has-moved down0 da (said Called r.pieces) r.falling))
 
-  -- what the last line of a direction is where it is told
+  -- what the last line of a direction is if it is reported
   abbrev TellsLast : DirectionView → Known → Known → Result (Unit {0}) TapFault → Type 0
   TellsLast d old new result =
       (told : List ℕ) → HasTold d.frames d.items told
@@ -578,7 +578,7 @@ module _ (notation : Notation) (timed : Bool) (max : ℕ) (stamp : Option ℕ)
       (last-of Caller up0 ua w0 w1 (Ok tt) (said Caller r.pieces) r.up_is r.rising one)
       (last-of Called down0 da w1 w2 (Ok tt) (said Called r.pieces) r.down_is r.falling two)
 
--- a moment, where one is told
+-- a moment, if one is reported
 pub moment : Bool → Option ℕ
 moment true = Some 0
 moment false = None

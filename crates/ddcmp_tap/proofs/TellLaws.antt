@@ -1,4 +1,4 @@
--- What further bytes add to what was told.
+-- What further bytes add to what was reported.
 use Rattle.std.proofs.Common.{◌≡◌, ℕ, ◌+◌, List, [], ◌∷◌, ◌++◌, length, sym, ◌∙◌, ap, subst}
 use Rattle.std.proofs.Common.{append_assoc, length-append, Option}
 use Rattle.std.specs.List.{flat_map}

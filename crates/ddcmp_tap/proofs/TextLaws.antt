@@ -52,7 +52,7 @@ brace (DataCheck o h) lent = refl
 brace (TooLong o h) lent = refl
 brace (Format o f) lent = refl
 
--- where a line was put behind members, a comma takes the place of its brace
+-- if a line was put after members, a comma takes the place of its brace
 pub joined : (was begun now front line : List ℕ) (c : ℕ) → begun ≡ was ++ front
     → now ≡ begun ++ line → line ≡ c ∷ drop 1 line
     → set now (length begun) 44 ≡ was ++ (front ++ (codes "," ++ drop 1 line))

@@ -44,7 +44,7 @@ tapped_line Plain stamp side given = fronted Plain stamp side (line_in wording.P
 tapped_line Json stamp side given = fronted Json stamp side (line_in wording.Json given)
 tapped_line Ladder stamp side given = rung_of stamp side given.0
 
--- the lines of items that were told at the same time
+-- the lines of items that were reported at the same time
 unfoldable pub tapped_lines : Notation → Option ℕ → Side → List ReadItem → List ℕ
 tapped_lines notation stamp side given = flat_map (tapped_line notation stamp side) given
 

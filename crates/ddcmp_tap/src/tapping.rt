@@ -109,8 +109,8 @@ fn no_waiting(error: &io::Error) -> TapFault
 }
 
 /// Waits at one address until someone connects, connects to the other, and forwards between the two
-/// until both have ended. The log goes to the writer, line by line, as bytes come; why a side failed
-/// goes to standard error.
+/// until both have ended. The log goes to the writer, line by line, as bytes come; why a side
+/// failed goes to standard error.
 pub fn tap<S: Net<Stream = net::TcpStream> + Eprint + time::Clock, W: Sink>(
     system: &S,
     alloc: Global,
