@@ -296,7 +296,7 @@ impl<P: Paper + Drop> Drawing<P> {
         }
     }
 
-    /// Draws the frames that are still on their way when the run is over.
+    /// Draws the frames that are still in flight when the run is over.
     pub fn end_flights(&mut self)
         ensures marks { Logs (P.drawn self.old.paper) (P.drawn self.new.paper)
             (all_end Fate.OnItsWay self.old.flights) }

@@ -56,7 +56,7 @@ number_rule name low high = record (new_rule name) {
 abbrev pub text_rule : Text → Rule
 text_rule name = record (new_rule name) { long = Some name; value_names = 1 }
 
--- a word that stands for itself, behind no name
+-- a word that stands for itself, after no name
 abbrev pub place_rule : Text → Rule
 place_rule name = record (new_rule name) { value_names = 1 }
 
@@ -75,7 +75,7 @@ explain_app =
     (flag_rule (codes "discarded")))
     (number_rule (codes "max") 1 MAX_COUNT)
 
--- the sizes of both ends, and whether they begin anew by themselves
+-- the sizes of both ends, and whether they restart by themselves
 abbrev pub with_sizes : App → App
 with_sizes app =
     with_rule (with_rule (with_rule (with_rule (with_rule app
@@ -136,8 +136,8 @@ line_app = with_rule (new_app (codes "link")) (required (text_rule (codes "line"
 
 abbrev pub link_app : App
 link_app =
-    with_rule (with_rule (with_rule (with_rule (with_rule (with_rule (with_rule (with_rule (with_rule
-    (with_rule (with_rule (with_rule (with_sizes line_app)
+    with_rule (with_rule (with_rule (with_rule (with_rule (with_rule (with_rule (with_rule
+    (with_rule (with_rule (with_rule (with_rule (with_sizes line_app)
     (number_rule (codes "timer-ms") 1 MOST))
     (number_rule (codes "attempts") 0 MOST))
     (number_rule (codes "linger-ms") 0 MOST))
@@ -211,7 +211,7 @@ option_in words id = option_and_then (λ named. one_of id named.1) (subcommand_o
 unfoldable pub text_in : List Text → Text → Option Text
 text_in words id = option_and_then (λ named. first_of id named.1) (subcommand_of program words)
 
--- An option of a command is off unless its word stands behind the name of the command.
+-- An option of a command is off unless its word comes after the name of the command.
 abbrev pub IsSwitch : Text → Text → Text → Type 0
 IsSwitch command word id =
     (option_in (codes "ddcmp" ∷ command ∷ []) id ≡ Some (codes "false"))
