@@ -1,4 +1,4 @@
--- Links that begin anew.
+-- Links that restart.
 use Rattle.std.proofs.Common.{◌≡◌, ℕ, true, List, [], ◌∷◌, ◌++◌, length, map, refl, sym}
 use Rattle.std.proofs.Common.{◌∙◌, ap, subst, arith, None}
 use Rattle.std.specs.Prelude.{◌==◌, if◌then◌else◌}
@@ -185,9 +185,9 @@ module _ (first second : Config) (ms other_ms : ℕ) (line other_line : ReaderVi
       delivered_all _ _ _ _ ends.b ends.a
       ((station-calls-in-order first second calls f g).where_clean honest clean).b_to_a told.1
 
--- ---- a link that begins anew on a line that the other end hasn't heard
+-- ---- a link that restarts on a line that the other end hasn't heard
 
--- how often an end with this inbox was started after it began anew
+-- how often an end with this inbox was started after it restarted
 abbrev starts_anew : EndState → List (List ℕ) → ℕ
 starts_anew x inbox =
     let s = record (after_halt x.core.station) { inbox = inbox } in

@@ -72,7 +72,7 @@ parts-go (step ∷ rest) l =
     goes-append (events_in (at_one step.0 (calls_of_part step.1 (driven_at step.0 l))))
     (events_of_parts rest m) (part-goes step.0 step.1 (driven_at step.0 l)) (parts-go rest m)
 
--- ---- a timer that expires in a turn runs out
+-- ---- a timer that is due in a turn expires
 
 runs-append : (end : End) (first second : List Event)
     → runs_out end (first ++ second) ≡ (runs_out end first || runs_out end second)

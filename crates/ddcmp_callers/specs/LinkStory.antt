@@ -60,7 +60,7 @@ carried_from_a n bytes = (A, FillsOne) ∷ (A, IsSent n) ∷ (B, Feeds bytes) �
 abbrev pub carried_from_b : ℕ → List ℕ → List (End × LinkCall)
 carried_from_b n bytes = (B, FillsOne) ∷ (B, IsSent n) ∷ (A, Feeds bytes) ∷ []
 
--- B is started as well when the STRT of A comes, and answers with a STACK. A runs then, and accepts
+-- B is started as well when the STRT of A comes, and replies with a STACK. A runs then, and accepts
 -- a message, whose acknowledgement comes back.
 abbrev pub story_calls : List (End × LinkCall)
 story_calls =

@@ -1,4 +1,4 @@
--- Where a station hears that its peer began anew, and what stops it.
+-- Where a station hears that its peer restarted, and what stops it.
 use Rattle.std.proofs.Common.{◌≡◌, ◌≢◌, ℕ, Bool, true, false, cond, refl, sym, ◌∙◌, ap, Option}
 use Rattle.std.proofs.Common.{Some, None}
 use Rattle.std.specs.Prelude.{◌==◌}

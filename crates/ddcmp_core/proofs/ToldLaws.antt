@@ -72,7 +72,7 @@ zero_told : (b : Bool) (x y : Notice) → acknowledged_by (Some x) ≡ 0 → ack
 zero_told true x y hx hy = hx
 zero_told false x y hx hy = hy
 
--- each row tells at most what leaves
+-- each row reports at most what leaves
 pub told_row : (l : Limits) (s : StationState) (h : Received) → distance s.a s.n ≤ length s.out
     → (acknowledged_by (notice_of l s h) ≤ distance s.a s.n)
     × (acknowledged_by (notice_of l s h) + length (on l s h).out ≤ length s.out)

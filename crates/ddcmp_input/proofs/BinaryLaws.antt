@@ -98,7 +98,7 @@ inside (b ∷ c ∷ more) n max held e h =
         let joined = append_assoc held (b ∷ []) (c ∷ more) in
         (r.0 ∙ ap (at max Start) joined, r.1 ∙ ap (λ ys. Got ys ∷ []) joined)
 
--- the bytes of one that is passed over
+-- the bytes of one that is skipped
 passing : (message : List ℕ) (n max : ℕ) (held : List ℕ) → n ≡ length message → 1 ≤ n
     → (after_bytes message (at max (Passing n) held) ≡ at max Start held)
     × (told_in message (at max (Passing n) held) ≡ [])
@@ -180,7 +180,7 @@ told_same (b ∷ rest) max (Passing left) held other o =
     told_same rest max (cond (is_last left) Start (Passing (left - 1))) held other
     (before_outside (is_last left) (left - 1))
 
--- ---- a message behind its length
+-- ---- a message after its length
 
 split : (n : ℕ) → n / 256 * 256 + n % 256 ≡ n
 split n = omega arith

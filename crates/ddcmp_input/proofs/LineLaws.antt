@@ -55,7 +55,7 @@ told_last u byte v e =
     ∙ ap (λ ts. ts ++ (told_by_byte byte (after_bytes u v) ++ [])) (told_nothing u v e)
     ∙ append-nil (told_by_byte byte (after_bytes u v))
 
--- what no byte has been told of begins a line where its next byte does
+-- a text of which nothing was reported begins a line if its next byte does
 abbrev if_line : ℕ → HexView → HexView
 if_line byte u =
     cond (byte == 10) (line_ended u)
@@ -264,7 +264,7 @@ unfolding told_in
 end_empty true max number = refl
 end_empty false max number = refl
 
--- behind the end of a line
+-- after the end of a line
 behind
     : (rest : List ℕ) (returns : Bool) (max number : ℕ) (message : List ℕ) (told : List (ℕ × Told))
     → told_in (line_end returns) (even_at max number message) ≡ told
@@ -457,7 +457,7 @@ so_far line max number f =
     line_more line [] max number (line_at max number) f
     (even [] [] false refl refl tt (omega arith))
 
--- within a line nothing is told
+-- within a line nothing is reported
 quiet : (line : List ℕ) (v : HexView) → All (λ byte. byte ≢ 10) line → told_in line v ≡ []
 unfolding told_in
 quiet [] v f = refl

@@ -167,7 +167,7 @@ in_place l s h e =
     by (TooLong b) = (e, refl)
     by BadFormat = (e, refl)
 
--- a timer that runs out in Maintenance
+-- a timer that expires in Maintenance
 expired_in : (s : StationState) → s.state ≡ Maintenance
     → ((after_expire s).state ≡ Maintenance)
     × (((after_expire s).out ≡ s.out) × ((after_expire s).inbox ≡ s.inbox))

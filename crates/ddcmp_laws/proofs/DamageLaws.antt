@@ -55,7 +55,7 @@ check_of-register text =
     (sym (add-zeros [] (bits text ++ replicate 16 false) 16 (omega arith)))
     ∙ divided (bits text) (replicate 16 false) (length-replicate 16 false))
 
--- ---- one step of the register tells what it was
+-- ---- one step of the register determines what it was
 
 snoc_once : (xs ys : List Bool) (a b : Bool) → length xs ≡ length ys → xs ++ a ∷ [] ≡ ys ++ b ∷ []
     → (xs ≡ ys) × (a ≡ b)

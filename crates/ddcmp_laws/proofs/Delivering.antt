@@ -308,7 +308,7 @@ module _ (Knows : Bool → Bool → View → View → List Flight → List Fligh
             (λ i. (sym same i, sym left i)) c.carried;
       }
 
-  -- ---- the timer of x runs out, and its user takes and gives
+  -- ---- the timer of x expires, and its user takes and gives
 
   pub flies-expires : (p q : Bool) (x y : EndState) (here there : List ℕ) → IsTimed x.core.station
       → Flies p q x y here there → Flies true q (after_expire_here x) y here there

@@ -67,7 +67,7 @@ abbrev pub raised : Flight → ℕ → ℕ
 raised (data_flies q k m) most = max most k
 raised _ most = most
 
--- a position is less than a window behind what may be delivered then, and was sent; a REP tells no
+-- a position is less than a window behind what may be delivered then, and was sent; a REP reports no
 -- less than that
 abbrev pub IsNear : ℕ → ℕ → ℕ → Flight → Type 0
 IsNear w n most (data_flies q k m) = (most < k + w) × (k ≤ n)
@@ -78,7 +78,7 @@ unfoldable pub Near : ℕ → ℕ → ℕ → List Flight → Type 0
 Near w n most [] = most ≤ n
 Near w n most (f ∷ fs) = IsNear w n most f × Near w n (raised f most) fs
 
--- If a message that comes is delivered, or a REP tells that all is, what was sent after it leads
+-- If a message that comes is delivered, or a REP reports that all is, what was sent after it leads
 -- on to the next one to send.
 abbrev pub LeadsOn : ℕ → ℕ → Flight → List Flight → Type 0
 LeadsOn u next (data_flies q k m) fs = u < k → next ≤ reach k fs + 1
@@ -257,7 +257,7 @@ near-less w n n' most less (rep_flies k ∷ fs) h g r =
 near-less w n n' most less (strt_flies ∷ fs) h g r = (tt, near-less w n n' most less fs h g r.1)
 near-less w n n' most less (stack_flies ∷ fs) h g r = (tt, near-less w n n' most less fs h g r.1)
 
--- no message, and a REP tells the highest position sent
+-- no message, and a REP reports the highest position sent
 abbrev pub TellsSent : ℕ → Flight → Type 0
 TellsSent n (data_flies q k m) = ⊥
 TellsSent n (rep_flies k) = k ≡ n
@@ -391,7 +391,7 @@ chained-data u next q m (nak_flies why q' ∷ fs) c = (tt, chained-data u next q
 chained-data u next q m (strt_flies ∷ fs) c = (tt, chained-data u next q m fs c.1)
 chained-data u next q m (stack_flies ∷ fs) c = (tt, chained-data u next q m fs c.1)
 
--- another frame is sent: a REP tells the highest position sent
+-- another frame is sent: a REP reports the highest position sent
 abbrev pub TellsAll : ℕ → Flight → Type 0
 TellsAll next (data_flies q k m) = ⊥
 TellsAll next (rep_flies n) = next ≤ n + 1

@@ -19,7 +19,7 @@ use Rattle.ddcmp_laws.proofs.Traffic.{h_ack, h_nak, h_rep_all, h_rep, h_up, h_fu
 use Rattle.ddcmp_laws.proofs.Traffic.{h_passes, Expires, x_asks, x_told, x_repeats, x_back}
 use Rattle.ddcmp_laws.proofs.Traffic.{Base}
 
--- v knows what is up at w, or will: an answer is owed, or the last count in flight tells it, or it
+-- v knows what is up at w, or will: an answer is owed, or the last count in flight reports it, or it
 -- asks. Before its timer expired (expired) it may also sleep, and hears nothing.
 pub data Learns (expired : Bool) (v w : View) (fl gl : List Flight) : Type 0 where
   l_owed : is_quiet w.reply ≡ false → Learns expired v w fl gl
@@ -58,7 +58,7 @@ learns-polls W x v w fl gl b _ _ (p_ack s r t room) (l_sleeps n u e) = l_sleeps 
 
 -- ---- w sends
 
--- a frame with a count tells what is up
+-- a frame with a count reports what is up
 counted : (x : Bool) (v w w' : View) (fl gl : List Flight) (f : Flight) → w'.up ≡ w.up
     → ((low : ℕ) → told f low ≡ w.up) → Learns x v w' fl (gl ++ f ∷ [])
 counted x v w w' fl gl f u t = l_latest (latest-behind v.acked gl f ∙ t (latest v.acked gl) ∙ sym u)

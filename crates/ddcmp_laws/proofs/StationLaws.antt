@@ -442,7 +442,7 @@ acknowledges_all l s e =
     running_on l s (Good (Rep s.r)) e
     ∙ ap (λ b. record s { reply = cond b Ack (Nak reason.ReplyToRep) }) same
 
--- ---- the peer begins anew
+-- ---- the peer restarts
 
 pub restarting : (l : Limits) (s : StationState) → s.state ≡ Running → l.restart ≡ true
     → s.inbox ≡ [] → BeginsAnew s (on l s (Good Strt)) (notice_of l s (Good Strt))

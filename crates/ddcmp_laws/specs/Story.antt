@@ -180,8 +180,8 @@ startup =
     ∷ (event.Poll B, reply.Idle)
     ∷ []
 
--- A sends two messages, and the first is lost. Its timer expires, so it asks by a REP, is told by
--- a NAK, and sends both again.
+-- A sends two messages, and the first is lost. Its timer expires, so it asks by a REP, gets a NAK,
+-- and retransmits both.
 abbrev pub loss : List Happening
 loss =
     (event.Send A abc, reply.Accepted (number 1))
@@ -204,7 +204,7 @@ loss =
     )
     ∷ []
 
--- B answers by a message that carries the acknowledgement of both.
+-- B replies with a message that carries the acknowledgement of both.
 abbrev pub answer : List Happening
 answer =
     (event.Send B f, reply.Accepted (number 1))

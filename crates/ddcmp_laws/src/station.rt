@@ -103,7 +103,7 @@ pub fn receives_in_step()
         → HandsUpNothing s (on l s h) (notice_of l s h) }
 {}
 
-/// Data with RESP 0 end the handshake of a station that answers a STRT, and are received as a
+/// Data with RESP 0 end the handshake of a station that replies to a STRT, and are received as a
 /// running station receives them: the message that is next is delivered at once if there is room,
 /// and no other is. Data with another RESP leave the handshake as it was.
 pub fn data_end_a_startup()
@@ -181,9 +181,9 @@ pub fn refuses_for_the_first_reason()
         → answer_to_send_maintenance l s message ≡ Err why }
 {}
 
-/// A station that starts answers a STRT by a STACK. A STACK makes it run and owe an ACK, and an ACK
-/// with RESP 0 makes one run that answered a STRT. Nothing else but data with RESP 0 changes it, so
-/// no fault, NAK or REP of that time has a reply once it runs.
+/// A station that starts replies to a STRT with a STACK. A STACK makes it run and owe an ACK, and
+/// an ACK with RESP 0 makes one run that replied to a STRT. Nothing else but data with RESP 0
+/// changes it, so no fault, NAK or REP of that time has a reply once it runs.
 pub fn starts_by_what_answers_it()
     ensures strt { (l : Limits) (s : StationState) → is_starting s.state ≡ true
         → next_frame (next (on l s (Good Strt))) ≡ Some Stack }

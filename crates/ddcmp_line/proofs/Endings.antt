@@ -1,4 +1,4 @@
--- What the answers to a script say.
+-- What the results of a script say.
 use Rattle.std.proofs.Common.{inl, inr, ◌<◌, arith, length-append, ◌≡◌, ◌≢◌, ℕ, ◌+◌, Bool, true}
 use Rattle.std.proofs.Common.{false, List, [], ◌∷◌, ◌++◌, length, take, refl, sym, ap, subst, ◌∙◌}
 use Rattle.std.proofs.Common.{Option, Some, None, Result, Ok, Err}

@@ -39,7 +39,7 @@ text_then p done = text_of_lines done (scene_with p)
 abbrev pub carriages_then : PairState → List DoneLine → List Carriage
 carriages_then p done = carriages_of_lines done (scene_with p)
 
--- A pair before and after a call, whether its carrier is direct, and what the carrier had told
+-- A pair before and after a call, whether its carrier is direct, and what the carrier had reported
 -- before and after.
 pub record Around : Type 0 where
   pub pair : PairState

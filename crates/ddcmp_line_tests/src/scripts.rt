@@ -109,8 +109,7 @@ fn begins_anew(rt: &impl Abort, link: &mut Link) {
     starts(rt, link);
 }
 
-/// Something seldom: a start, a halt, a frame that comes twice, a repair, or a line that begins
-/// anew.
+/// Something seldom: a start, a halt, a frame that comes twice, a repair, or a line that restarts.
 fn upsets(rt: &(impl Abort + AllocGlobal), link: &mut Link, draws: &mut Draws, end: End) {
     match draws.below(8) {
         0 => {

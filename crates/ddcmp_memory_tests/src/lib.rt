@@ -1,5 +1,5 @@
-//! Memory is refused to sessions of a link and to taps, at one allocation after another: outside the
-//! gate, where none is.
+//! Memory is refused to sessions of a link and to taps, at one allocation after another: outside
+//! the gate, where none is.
 #![tactic(auto)]
 
 #[cfg(test)]

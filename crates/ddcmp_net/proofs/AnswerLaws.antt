@@ -1,4 +1,4 @@
--- What a station's answer tells of the line and of the report, by how driving it ended.
+-- What a station's result says of the line and of the report, by how driving it ended.
 use Rattle.std.proofs.Common.{◌≡◌, ◌⊎◌, inl, inr, refl, Bool, true, false, Ok, Err, Result}
 use Rattle.std.specs.Prelude.{◌↔◌}
 use Rattle.ddcmp_io.specs.declared.device.LineFault.{LineFault}
@@ -28,7 +28,7 @@ done_is_no_line {u = u} fault e = let bad : Is (Ok u) (Err (Line fault)) = e in 
 pub report_is_no_line : IsNoLine (Err Report)
 report_is_no_line fault e = let bad : Is (Err Report) (Err (Line fault)) = e in cc
 
--- a station that was driven tells no fault of the line
+-- a station that was driven reports no fault of the line
 pub off_line : {D : Type 0} {driven : D} {fault : LineFault} {X : Type 0} (r : Answer) → IsNoLine r
     → DrivingIs {D = D} (Ok driven) (Err fault) ↔ X → Is r (Err (Line fault)) ↔ X
 off_line {D = D} {driven = driven} {fault = fault} r none h = (
@@ -36,7 +36,7 @@ off_line {D = D} {driven = driven} {fault = fault} r none h = (
   λ x. let bad : DrivingIs {D = D} (Ok driven) (Err fault) = h.1 x in cc,
 )
 
--- and one that wasn't tells its fault
+-- and one that wasn't reports its fault
 pub on_line : {D : Type 0} {told fault : LineFault} {X : Type 0}
     → DrivingIs {D = D} (Err told) (Err fault) ↔ X → Is (Err (Line told)) (Err (Line fault)) ↔ X
 on_line {D = D} {told = told} {fault = fault} h = (

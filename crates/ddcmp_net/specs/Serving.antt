@@ -80,7 +80,7 @@ served_answer (Ok driven) true = Err Report
 served_answer (Err fault) failed = Err (Line fault)
 
 -- A station that had just started was driven over these devices. Its user sent the message once
--- and reported all that it was told and handed, and the result says what came of it. `counted` is
+-- and reported each notice and message, and the result says what came of it. `counted` is
 -- whether the counters are asked for, and `failed` whether a write of the report has failed.
 pub record Serves (milliseconds turns : ℕ) (restart counted : Bool) (send : List ℕ)
     (devices : Devices) (failed : Bool) (report report_after : Known)

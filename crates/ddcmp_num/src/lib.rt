@@ -29,8 +29,8 @@ pub fn check(text: &[u8]) -> u16
     check.value()
 }
 
-/// Returns the CRC of six bytes, which are those of a header: each by a table of its own, so that no
-/// look-up waits for another.
+/// Returns the CRC of six bytes, which are those of a header: each by a table of its own, so that
+/// no look-up waits for another.
 #[inline(always)]
 pub fn check_six(bytes: &[u8; 6]) -> u16
     ensures { result ≡ check_of bytes.now }

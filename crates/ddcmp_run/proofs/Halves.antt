@@ -290,7 +290,7 @@ module _ (Holds : PairState → Type 0) (k : IsKept Holds) (W : ℕ) (p : PairSt
       out_length p.a.core.station p.a.core.limits.window p.a.given p.a.acknowledged here.sent
       here.next (length (handed_up p.a)) c
 
-  -- all that is up here may be told there
+  -- all that is up here may be reported there
   told : length (handed_up p.a) ≤ there.sent
   told = there.high
 

@@ -198,7 +198,7 @@ linked-poll x y h =
 
 -- ---- bytes arrive
 
--- no end begins anew where none is reported
+-- no end restarts where none is reported
 pub none-anew : (notices : List Notice) → NoRestart notices → restarts_in notices ≡ 0
 none-anew [] q = refl
 none-anew (n ∷ notices) q =

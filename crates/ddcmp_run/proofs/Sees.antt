@@ -42,7 +42,7 @@ looks s acked taken given = record {
   given = length given;
 }
 
--- ---- how many messages a notice tells acknowledged
+-- ---- how many messages a notice reports acknowledged
 
 number_none : (b : Bool)
     → acknowledged_by (Some (cond b notice.RunningAndHandedUp notice.Running)) ≡ 0

@@ -19,7 +19,7 @@ abbrev pub is_quiet : Owed → Bool
 is_quiet Quiet = true
 is_quiet _ = false
 
--- v knows what is up at w, or will be told
+-- v knows what is up at w, or will learn it
 abbrev pub Learns : View → View → Type 0
 Learns v w = (v.acked ≡ w.up) ⊎ ((is_quiet w.reply ≡ false) ⊎ (v.rep ≡ true))
 

@@ -32,7 +32,7 @@ use Rattle.ddcmp_run.specs.Run.{EndState, whole_frame, acknowledged_in, restarts
 use Rattle.ddcmp_run.specs.Run.{after_arrival_here, notices_at}
 use Rattle.ddcmp_run.proofs.Subsequences.{place-decides}
 
--- how often a notice tells a restart
+-- how often a notice reports a restart
 abbrev pub restarts_told : Option Notice → ℕ
 restarts_told None = 0
 restarts_told (Some n) = restarts_by n

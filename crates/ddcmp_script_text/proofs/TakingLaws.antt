@@ -21,7 +21,7 @@ worsens old new (Bytes n) fine not w = absurd (not n refl)
 worsens old new Idle fine not w = λ e. absurd (cc (sym e ∙ w ∙ ap (λ o. worse o Idle) fine))
 worsens old new Failed fine not w = λ e. absurd (cc (sym e ∙ w ∙ ap (λ o. worse o Failed) fine))
 
--- the answers are apart, and a fault is that of its answer
+-- the results are distinct, and a fault is that of its result
 pub write_or_read : ◌≡◌ {A = Result (Unit {0}) ScriptFault} (Err Write) (Err Read) → ⊥
 write_or_read e = cc
 

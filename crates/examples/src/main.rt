@@ -1,5 +1,5 @@
-//! Examples of stations: two that exchange messages by hand, one that is driven, two that are driven
-//! over a connection, and two links as pipes.
+//! Examples of stations: two that exchange messages by hand, one that is driven, two that are
+//! driven over a connection, and two links as pipes.
 #![tactic(auto)]
 
 mod driven;

@@ -12,7 +12,7 @@ use Rattle.ddcmp_pair.specs.declared.pair.PairRefusal.TheVariants as pair_refusa
 use Rattle.ddcmp_pair.specs.declared.running.RunRefusal.TheVariants.{First, Second, Memory}
 use Rattle.ddcmp_pair.proofs.running.run.Goals as goal
 
--- what a refusal on an allocation failure tells
+-- what a refusal on an allocation failure reports
 done_of : Result PairState RunRefusal → ℕ
 done_of (Err (Memory done _)) = done
 done_of _ = 0
