@@ -284,15 +284,15 @@ def traced():
                 wanted[mark].append(f"{mark} lost" if at is None else f"{mark} altered byte {at}")
         end.sendall(text)
     bridge.waits(lambda it: len(it.traces()) == sum(map(len, wanted.values())), 10)
-    for it in ends:
-        it.close()
+    ends[0].shutdown(socket.SHUT_WR)
     status, lines = bridge.ended(), bridge.traces()
-    for mark, wants_lines in wanted.items():
-        if [it[1] for it in lines if it[1].startswith(mark)] != wants_lines:
-            wrong(f"{mark}: {lines}, not {wants_lines}")
+    for mark, text in wanted.items():
+        got = [it[1] for it in lines if it[1].startswith(mark)]
+        if got != text:
+            wrong(f"{mark}: {[it for it in zip(got, text) if it[0] != it[1]][:3]}, {len(got)} and {len(text)} lines")
     if status != 0 or [it[0] for it in lines] != sorted(it[0] for it in lines):
-        wrong(f"{status}, {lines}")
-    for it in (first, second):
+        wrong(f"{status}, {[it[0] for it in lines]}, {bridge.errors()[-3:]}")
+    for it in (*ends, first, second):
         it.close()
 
 
