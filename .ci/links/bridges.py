@@ -209,9 +209,11 @@ def bridged_slowly():
     text = b"".join(data(drawn.randbytes(16383), it) for it in range(256)) * 8
     sending = threading.Thread(target=sends, args=(one, text, 1 << 16))
     sending.start()
-    time.sleep(1)
-    before, used = bridge.memory(), bridge.processor_time()
-    time.sleep(1)
+    for _second in range(20):  # until the buffers of both lines are full
+        before, used = bridge.memory(), bridge.processor_time()
+        time.sleep(1)
+        if bridge.processor_time() - used <= 0.1:
+            break
     if bridge.memory() > before + 512 or bridge.processor_time() - used > 0.1 or not sending.is_alive():
         wrong(f"memory {before} and {bridge.memory()} kB, {bridge.processor_time() - used} s")
     pieces = []
