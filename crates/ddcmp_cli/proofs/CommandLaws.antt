@@ -1,6 +1,8 @@
 -- What the words ask for, once the command that they name was run.
 use Rattle.ddcmp_cli.specs.Endings.{Performs, ExplainsOrNoMemory, Streams, file_named, Stations}
-use Rattle.ddcmp_cli.specs.Endings.{ReadsFiles, StationsOrNoMemory, TapsAsked, TapsOrNoMemory}
+use Rattle.ddcmp_cli.specs.Endings.{LinksOrNoMemory, ReadsFiles, StationsOrNoMemory, TapsAsked}
+use Rattle.ddcmp_cli.specs.Endings.{TapsOrNoMemory}
+use Rattle.ddcmp_cli.specs.LinkEndings.{LinesKnown, Links}
 use Rattle.ddcmp_cli.specs.declared.ending.Ending.{Ending}
 use Rattle.ddcmp_cli.specs.declared.ending.Ending.TheVariants.{Done, Fault as Faulted}
 use Rattle.ddcmp_cli.specs.declared.fault.Fault.TheVariants.{Write}
@@ -29,22 +31,23 @@ other a b differ e =
     let same : a ≡ b = cc in
     let bad : ◌≡◌ {A = Bool} false true = sym differ ∙ (bytes_eq-Decides a b).1 same in cc
 
-pub performed : (held : Text → Option (List ℕ)) (peers : Peers) (words : List Text)
+pub performed : (held : Text → Option (List ℕ)) (peers : Peers) (lines : LinesKnown)
+    (words : List Text)
     (command : Command) (s : Streams) (ending : Ending) → IsAsked words (codes "explain")
     → named_by words ≡ Some (name_of command) → HasOptions (option_in words) (text_in words) command
-    → Performs held peers command s ending → ExplainsOrNoMemory held words s ending
-performed held peers words (Explain e) s ending a n h p = inr (e, h, p)
-performed held peers words (Simulate scripted) s ending a n h p =
+    → Performs held peers lines command s ending → ExplainsOrNoMemory held words s ending
+performed held peers lines words (Explain e) s ending a n h p = inr (e, h, p)
+performed held peers lines words (Simulate scripted) s ending a n h p =
     absurd (other (codes "explain") (codes "simulate") refl (sym a.names ∙ n))
-performed held peers words (Pair scripted) s ending a n h p =
+performed held peers lines words (Pair scripted) s ending a n h p =
     absurd (other (codes "explain") (codes "pair") refl (sym a.names ∙ n))
-performed held peers words (Station served) s ending a n h p =
+performed held peers lines words (Station served) s ending a n h p =
     absurd (other (codes "explain") (codes "station") refl (sym a.names ∙ n))
-performed held peers words (Tap tapped) s ending a n h p =
+performed held peers lines words (Tap tapped) s ending a n h p =
     absurd (other (codes "explain") (codes "tap") refl (sym a.names ∙ n))
-performed held peers words (Link linked) s ending a n h p =
+performed held peers lines words (Link linked) s ending a n h p =
     absurd (other (codes "explain") (codes "link") refl (sym a.names ∙ n))
-performed held peers words (Bridge bridged) s ending a n h p =
+performed held peers lines words (Bridge bridged) s ending a n h p =
     absurd (other (codes "explain") (codes "bridge") refl (sym a.names ∙ n))
 
 -- words that ask for a station are answered by it
@@ -96,20 +99,23 @@ tapped F words (Bridge b) reader after old new ending a n h p =
     absurd (other (codes "tap") (codes "bridge") refl (sym a.names ∙ n))
 
 -- words that ask for a link are answered by it
-pub linked : (Answered : Type 0) (words : List Text) (command : Command)
+pub linked : (lines : LinesKnown) (words : List Text) (command : Command) (ending : Ending)
     → IsAsked words (codes "link") → named_by words ≡ Some (name_of command)
-    → ((linked : Linked) → command ≡ Link linked → Answered) → Answered
-linked A words (Explain e) a n p =
+    → HasOptions (option_in words) (text_in words) command
+    → ((linked : Linked) → command ≡ Link linked → Links lines linked ending)
+    → LinksOrNoMemory lines words ending
+linked lines words (Explain e) ending a n h p =
     absurd (other (codes "link") (codes "explain") refl (sym a.names ∙ n))
-linked A words (Simulate scripted) a n p =
+linked lines words (Simulate scripted) ending a n h p =
     absurd (other (codes "link") (codes "simulate") refl (sym a.names ∙ n))
-linked A words (Pair scripted) a n p =
+linked lines words (Pair scripted) ending a n h p =
     absurd (other (codes "link") (codes "pair") refl (sym a.names ∙ n))
-linked A words (Station served) a n p =
+linked lines words (Station served) ending a n h p =
     absurd (other (codes "link") (codes "station") refl (sym a.names ∙ n))
-linked A words (Tap t) a n p = absurd (other (codes "link") (codes "tap") refl (sym a.names ∙ n))
-linked A words (Link l) a n p = p l refl
-linked A words (Bridge b) a n p =
+linked lines words (Tap t) ending a n h p =
+    absurd (other (codes "link") (codes "tap") refl (sym a.names ∙ n))
+linked lines words (Link l) ending a n h p = inr (l, h, p l refl)
+linked lines words (Bridge b) ending a n h p =
     absurd (other (codes "link") (codes "bridge") refl (sym a.names ∙ n))
 
 -- words that ask for a bridge are answered by it

@@ -43,6 +43,7 @@ use Rattle.ddcmp_cli.specs.Connections.{Peers}
 use Rattle.ddcmp_net.specs.declared.serve_fault.ServeFault.{ServeFault}
 use Rattle.ddcmp_net.specs.declared.serve_fault.ServeFault.TheVariants as serving
 use Rattle.ddcmp_io.specs.declared.device.LineFault.TheVariants as line
+use Rattle.ddcmp_words.specs.declared.linked.Linked.{Linked}
 use Rattle.ddcmp_words.specs.declared.tapped.Tapped.{Tapped}
 use Rattle.ddcmp_words.specs.declared.declined.Declined.{Declined}
 use Rattle.ddcmp_words.specs.declared.declined.Declined.TheVariants.{Help, Version, Usage, Memory}
@@ -51,7 +52,8 @@ use Rattle.ddcmp_io.specs.Change.{SourceChange, SinkChange}
 use Rattle.ddcmp_io.specs.Input.{GaveMost}
 use Rattle.ddcmp_io.specs.Written.{AppendsPart, Known}
 use Rattle.ddcmp_words.specs.declared.view.View.{View}
-use Rattle.ddcmp_words.specs.Words.{HasExplain, HasStation, HasTap, Reads, option_in, text_in}
+use Rattle.ddcmp_words.specs.Words.{HasExplain, HasLink, HasStation, HasTap, Reads, option_in}
+use Rattle.ddcmp_words.specs.Words.{text_in}
 use Rattle.ddcmp_words.specs.Words.{Asks, IsAsked, IsOutOfOrder, file_of}
 use Rattle.ddcmp_core.specs.Limits.{MAX_COUNT}
 use Rattle.ddcmp_explain.specs.Detection.{ExplainsDetected}
@@ -63,7 +65,7 @@ use Rattle.ddcmp_cli.specs.TapEndings.{TapEnds, told_as}
 use Rattle.ddcmp_tap.specs.Pumping.{Says, head_of}
 use Rattle.ddcmp_tap.specs.InTurn.{Lasts, SaysInTurn}
 use Rattle.ddcmp_tap.specs.declared.tap_fault.TapFault.{TapFault}
-use Rattle.ddcmp_cli.specs.LinkEndings.{IsLinkEnding}
+use Rattle.ddcmp_cli.specs.LinkEndings.{LinesKnown, Links}
 use Rattle.ddcmp_cli.specs.BridgeEndings.{Bridges}
 use Rattle.ddcmp_cli.specs.Origins.{named_by, origin_of}
 use Rattle.ddcmp_cli.specs.declared.origin.Origin.{Origin}
@@ -461,18 +463,25 @@ TapsOrNoMemory words old new ending =
     ⊎ ((tapped : Tapped) × HasTap (option_in words) (text_in words) tapped
     × TapsAsked tapped old new ending)
 
+-- the link was that of the words, or there was no memory for them
+abbrev pub LinksOrNoMemory : LinesKnown → List Text → Ending → Type 0
+LinksOrNoMemory lines words ending =
+    (ending ≡ Faulted NoMemory)
+    ⊎ ((linked : Linked) × HasLink (option_in words) (text_in words) linked
+    × Links lines linked ending)
+
 -- A command was run, and the ending reports its result. Of each name `held` says what the file
--- holds, and `peers` what is known of connections.
-abbrev pub Performs : (List ℕ → Known) → Peers → Command → Streams → Ending → Type 0
-Performs held peers (Explain explained) s ending = ExplainsAsked held explained s ending
-Performs held peers (Simulate scripted) s ending = SimulatesAsked held scripted s ending
-Performs held peers (Pair scripted) s ending = PairsAsked held scripted s ending
-Performs held peers (Station served) s ending =
+-- holds, `peers` what is known of connections, and `lines` of lines.
+abbrev pub Performs : (List ℕ → Known) → Peers → LinesKnown → Command → Streams → Ending → Type 0
+Performs held peers lines (Explain explained) s ending = ExplainsAsked held explained s ending
+Performs held peers lines (Simulate scripted) s ending = SimulatesAsked held scripted s ending
+Performs held peers lines (Pair scripted) s ending = PairsAsked held scripted s ending
+Performs held peers lines (Station served) s ending =
     (s.left ≡ Some s.input) × Stations peers served s.before s.after ending
-Performs held peers (Tap tapped) s ending =
+Performs held peers lines (Tap tapped) s ending =
     (s.left ≡ Some s.input) × TapsAsked tapped s.before s.after ending
-Performs held peers (Link linked) s ending = IsLinkEnding ending
-Performs held peers (Bridge bridged) s ending =
+Performs held peers lines (Link linked) s ending = Links lines linked ending
+Performs held peers lines (Bridge bridged) s ending =
     (s.left ≡ Some s.input) × Bridges s.before s.after ending
 
 -- a text was written whole, or a write failed
@@ -482,35 +491,35 @@ Shows text old new ending =
 
 -- What became of words that were read: `before` and `left` are what the source had and has left,
 -- old and new what the sink held and holds. Only a command reads, and usage writes nothing here.
-abbrev pub Answers : (List ℕ → Known) → Peers → Result Command Declined → Known → Known → Known
+abbrev pub Answers : (List ℕ → Known) → Peers → LinesKnown → Result Command Declined → Known → Known → Known
     → Known → Ending → Type 0
-Answers held peers (Ok command) before left old new ending =
+Answers held peers lines (Ok command) before left old new ending =
     (input : List ℕ) → before ≡ Some input
-    → Performs held peers command (streams input left old new) ending
-Answers held peers (Err (Help text)) before left old new ending =
+    → Performs held peers lines command (streams input left old new) ending
+Answers held peers lines (Err (Help text)) before left old new ending =
     (left ≡ before) × Shows (string_bytes text) old new ending
-Answers held peers (Err (Version text)) before left old new ending =
+Answers held peers lines (Err (Version text)) before left old new ending =
     (left ≡ before) × Shows (string_bytes text) old new ending
-Answers held peers (Err (Usage text)) before left old new ending =
+Answers held peers lines (Err (Usage text)) before left old new ending =
     (left ≡ before) × Keeps old new × (ending ≡ Misused text)
-Answers held peers (Err Memory) before left old new ending =
+Answers held peers lines (Err Memory) before left old new ending =
     (left ≡ before) × Keeps old new × (ending ≡ Faulted NoMemory)
 
 -- the ending that words come to, whatever they are
-abbrev pub Ends : (List ℕ → Known) → Peers → List Text → Known → Known → Known → Known → Ending
+abbrev pub Ends : (List ℕ → Known) → Peers → LinesKnown → List Text → Known → Known → Known → Known → Ending
     → Type 0
-Ends held peers words before left old new ending =
+Ends held peers lines words before left old new ending =
     (read : Result Command Declined) × Reads words read
-    × Answers held peers read before left old new ending
+    × Answers held peers lines read before left old new ending
 
 -- What a run of the program did, as these words ask. `Unread` and `Unwritten` say that its input
 -- and its output are as they were.
-pub record RunsAs (held : List ℕ → Known) (peers : Peers) (words : List Text)
+pub record RunsAs (held : List ℕ → Known) (peers : Peers) (lines : LinesKnown) (words : List Text)
     (source : SourceChange) (sink : SinkChange) (Unread Unwritten : Type 0) (ending : Ending)
     : Type 0 where
   pub explains : (input : List ℕ) → source.before ≡ Some input → IsAsked words (codes "explain")
       → ExplainsOrNoMemory held words (streams input source.after sink.before sink.after) ending
-  pub ends : Ends held peers words source.before source.after sink.before sink.after ending
+  pub ends : Ends held peers lines words source.before source.after sink.before sink.after ending
   pub refused : IsOutOfOrder words → IsTrue (is_refusal ending) × Unread × Unwritten
   pub read : (Asks words (codes "link") → ⊥) → source.state ≢ Fine → ending ≡ Faulted Read
   pub read_only : (Asks words (codes "station") → ⊥) → (Asks words (codes "tap") → ⊥)
@@ -527,5 +536,5 @@ pub record RunsAs (held : List ℕ → Known) (peers : Peers) (words : List Text
   pub taps : IsAsked words (codes "tap")
       → Unread × TapsOrNoMemory words sink.before sink.after ending
       × (IsTrue sink.broken → ending ≡ Faulted Write)
-  pub links : IsAsked words (codes "link") → IsLinkEnding ending
+  pub links : IsAsked words (codes "link") → LinksOrNoMemory lines words ending
   pub bridges : IsAsked words (codes "bridge") → Unread × Bridges sink.before sink.after ending

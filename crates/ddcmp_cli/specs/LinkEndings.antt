@@ -1,38 +1,28 @@
 -- How a link of the command line ends.
-use Rattle.std.specs.Prelude.{◌≡◌, ⊤, Result, Ok, Err}
+use Rattle.std.specs.Prelude.{◌≡◌, ◌≢◌, ◌⊎◌, ℕ, List, Option, Some, None, Result, Ok, Err}
+use Rattle.ddcmp_session.specs.declared.options.Options.{Options}
+use Rattle.ddcmp_service.specs.LineNames.{word_of}
 use Rattle.ddcmp_service.specs.declared.fault.ServiceFault.{ServiceFault}
 use Rattle.ddcmp_service.specs.declared.fault.ServiceFault.TheVariants as service
+use Rattle.ddcmp_service.specs.declared.line_name.LineName.{LineName}
 use Rattle.ddcmp_service.specs.declared.service.Served.{Served}
 use Rattle.ddcmp_service.specs.declared.service.Served.TheVariants as served
-use Rattle.ddcmp_cli.specs.declared.fault.Fault.TheVariants.{Odd, NotHex, Dump, Line, Hex, Message}
-use Rattle.ddcmp_cli.specs.declared.fault.Fault.TheVariants.{Read, Write, Memory, Carrier, Ended}
-use Rattle.ddcmp_cli.specs.declared.fault.Fault.TheVariants.{Lost}
+use Rattle.ddcmp_words.specs.declared.linked.Linked.{Linked}
+use Rattle.ddcmp_cli.specs.declared.fault.Fault.TheVariants.{Read, Write, Memory, Ended, Lost}
 use Rattle.ddcmp_cli.specs.declared.ending.Ending.{Ending}
-use Rattle.ddcmp_cli.specs.declared.ending.Ending.TheVariants.{Done, SomeRefused, NoLine, Unopened}
-use Rattle.ddcmp_cli.specs.declared.ending.Ending.TheVariants.{Usage, NotText, Fault as Faulted}
+use Rattle.ddcmp_cli.specs.declared.ending.Ending.TheVariants.{Done, SomeRefused}
+use Rattle.ddcmp_cli.specs.declared.ending.Ending.TheVariants.{Fault as Faulted}
+use Rattle.ddcmp_cli.specs.BridgeEndings.{IsNoLine}
 use Rattle.ddcmp_cli.specs.TapEndings.{IsUnopened}
 
--- All was delivered, or all that was a message; the line isn't one, or can't be opened, or has
--- ended; messages were lost; standard input or output failed; or an allocation failed.
-abbrev pub IsLinkEnding : Ending → Type 0
-IsLinkEnding Done = ⊤
-IsLinkEnding SomeRefused = ⊤
-IsLinkEnding (NoLine why) = ⊤
-IsLinkEnding (Usage text) = ⊤
-IsLinkEnding (Faulted Ended) = ⊤
-IsLinkEnding (Faulted (Lost count)) = ⊤
-IsLinkEnding (Faulted Read) = ⊤
-IsLinkEnding (Faulted Write) = ⊤
-IsLinkEnding (Faulted Memory) = ⊤
-IsLinkEnding (Unopened name why) = ⊥
-IsLinkEnding NotText = ⊥
-IsLinkEnding (Faulted Odd) = ⊥
-IsLinkEnding (Faulted (NotHex index)) = ⊥
-IsLinkEnding (Faulted (Dump line)) = ⊥
-IsLinkEnding (Faulted (Line line)) = ⊥
-IsLinkEnding (Faulted (Hex line)) = ⊥
-IsLinkEnding (Faulted Message) = ⊥
-IsLinkEnding (Faulted Carrier) = ⊥
+-- What is known of the lines of a system: how a link over the line of this word, with these
+-- options, comes to its end.
+pub record LinesKnown : Type 0 where
+  pub links : List ℕ → Options → Option (Result Served ServiceFault)
+
+-- a system of whose lines nothing is known
+abbrev pub no_lines_known : LinesKnown
+no_lines_known = record { links = λ word options. None }
 
 -- how a link ends that was served so
 abbrev pub LinkEnds : Result Served ServiceFault → Ending → Type 0
@@ -44,3 +34,14 @@ LinkEnds (Err (service.Lost count)) ending = ending ≡ Faulted (Lost count)
 LinkEnds (Err service.Read) ending = ending ≡ Faulted Read
 LinkEnds (Err service.Write) ending = ending ≡ Faulted Write
 LinkEnds (Err service.Memory) ending = ending ≡ Faulted Memory
+
+-- What became of a link that was asked for. A word that names no line is refused; else a link was
+-- run over the line of that word, with these options, and the program ends as that did.
+abbrev pub Links : LinesKnown → Linked → Ending → Type 0
+Links lines linked ending =
+    (((line : LineName) → word_of line ≢ linked.line.now) × IsNoLine ending)
+    ⊎ ((line : LineName) × (word_of line ≡ linked.line.now)
+    × (ended : Result Served ServiceFault)
+    × ((known : Result Served ServiceFault)
+    → lines.links (word_of line) linked.options ≡ Some known → ended ≡ known)
+    × LinkEnds ended ending)

@@ -1,6 +1,6 @@
 //! `link`: messages between a line and the program's streams.
 ghost use Rattle.std.specs.Prelude.{◌≡◌, ◌≢◌, ◌↔◌, Err, IsTrue, false};
-ghost use Rattle.ddcmp_cli.specs.LinkEndings.{IsLinkEnding, LinkEnds};
+ghost use Rattle.ddcmp_cli.specs.LinkEndings.{LinkEnds, Links};
 ghost use Rattle.ddcmp_cli.specs.TapEndings.{IsUnopened};
 
 use crate::ending::Ending;
@@ -20,7 +20,6 @@ const NO_LINE: &str =
 
 /// The ending if the line can't be opened.
 pub(crate) fn no_line(alloc: Global, fault: &NotOpened<'_>) -> Ending
-    ensures ending { IsLinkEnding result }
     ensures told { result ≢ Ending.Fault Fault.Write }
     ensures unopened { IsUnopened result }
 {
@@ -32,8 +31,15 @@ pub(crate) fn no_line(alloc: Global, fault: &NotOpened<'_>) -> Ending
 
 /// A system that lines of links are opened on.
 pub trait Lines {
-    ghost use Rattle.std.specs.Prelude.{◌≡◌, ◌↔◌, Err, IsTrue};
+    ghost use Rattle.std.specs.Prelude.{◌≡◌, ◌↔◌, Err, IsTrue, Result, Some};
+    ghost use Rattle.ddcmp_service.specs.LineNames.{word_of};
+    ghost use Rattle.ddcmp_service.specs.declared.fault.ServiceFault.{ServiceFault as FaultValue};
     ghost use Rattle.ddcmp_service.specs.declared.fault.ServiceFault.TheVariants.{Write};
+    ghost use Rattle.ddcmp_service.specs.declared.service.Served.{Served as ServedValue};
+    ghost use Rattle.ddcmp_cli.specs.LinkEndings.{LinesKnown};
+
+    // What is known of its lines.
+    ghost lines: { Self → LinesKnown };
 
     /// Opens a line and runs a link over it, between standard input and output, which `reader` and
     /// `writer` read and write.
@@ -45,7 +51,10 @@ pub trait Lines {
         reader: &mut R,
         writer: &mut W,
     ) -> Result<Served, ServiceFault<'a>>
-        ensures broken { (result ≡ Err Write) ↔ IsTrue (W.broken writer.new) };
+        ensures broken { (result ≡ Err Write) ↔ IsTrue (W.broken writer.new) }
+        ensures known { (ended : Result ServedValue FaultValue)
+            → (lines self.now).links (word_of line.entry) options ≡ Some ended
+            → result ≡ ended };
 
     /// Opens two lines and passes frames on between them.
     fn bridge<'a>(
@@ -58,6 +67,10 @@ pub trait Lines {
 }
 
 impl Lines for HostRuntime {
+    ghost use Rattle.ddcmp_cli.specs.LinkEndings.{no_lines_known};
+
+    ghost lines = { λ _. no_lines_known };
+
     fn serve_line<'a, R: Source, W: Sink>(
         &self,
         alloc: Global,
@@ -89,7 +102,7 @@ pub(crate) fn link<S: Lines, R: Source, W: Sink>(
     writer: &mut W,
 ) -> Ending
     requires whole { W.broken writer.old ≡ false }
-    ensures ending { IsLinkEnding result }
+    ensures links { Links (S.lines system.now) linked.now result }
     ensures write { (result ≡ Ending.Fault Fault.Write) ↔ IsTrue (W.broken writer.new) }
 {
     let Some(line) = LineName::read(linked.line) else {
@@ -102,7 +115,6 @@ pub(crate) fn link<S: Lines, R: Source, W: Sink>(
 /// How the program ends if a link ended so.
 fn ending_of(alloc: Global, ended: Result<Served, ServiceFault<'_>>) -> Ending
     ensures ends { LinkEnds ended.entry result }
-    ensures ending { IsLinkEnding result }
     ensures write { (result ≡ Ending.Fault Fault.Write) ↔ (ended.entry ≡ Err ServiceFault.Write) }
 {
     match ended {

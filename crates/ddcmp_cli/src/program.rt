@@ -11,7 +11,7 @@ ghost use Rattle.ddcmp_words.specs.declared.tapped.Tapped.{Tapped as TappedValue
 ghost use Rattle.ddcmp_cli.specs.Endings.{file_named, Stations};
 ghost use Rattle.ddcmp_cli.specs.Endings.{TapsAsked};
 ghost use Rattle.ddcmp_words.specs.declared.linked.Linked.{Linked as LinkedValue};
-ghost use Rattle.ddcmp_cli.specs.LinkEndings.{IsLinkEnding};
+ghost use Rattle.ddcmp_cli.specs.LinkEndings.{Links};
 ghost use Rattle.ddcmp_words.specs.declared.bridged.Bridged.{Bridged as BridgedValue};
 ghost use Rattle.ddcmp_cli.specs.BridgeEndings.{Bridges};
 ghost use Rattle.ddcmp_cli.specs.Endings.{RunsAs};
@@ -48,7 +48,8 @@ fn perform<
     requires whole { W.broken writer.old ≡ false }
     requires runs { CanRun command }
     ensures performs { (input : List ℕ) → R.left reader.old ≡ Some input
-        → Performs (S.held system.now) (S.peers system.now) command.entry (streams input
+        → Performs (S.held system.now) (S.peers system.now) (S.lines system.now) command.entry
+        (streams input
         (R.left reader.new) (W.contents writer.old) (W.contents writer.new)) result }
     ensures read { name_of command.entry ≢ codes "link"
         → R.state reader.new ≢ Worst.Fine → result ≡ Ending.Fault Fault.Read }
@@ -71,7 +72,7 @@ fn perform<
         × TapsAsked tapped (W.contents writer.old) (W.contents writer.new) result
         × (IsTrue (W.broken writer.new) → result ≡ Ending.Fault Fault.Write) }
     ensures links { (linked : LinkedValue) → command.entry ≡ Command.Link linked
-        → IsLinkEnding result }
+        → Links (S.lines system.now) linked result }
     ensures bridges { (bridged : BridgedValue) → command.entry ≡ Command.Bridge bridged
         → (reader.new ≡ reader.old)
         × Bridges (W.contents writer.old) (W.contents writer.new) result }
@@ -108,7 +109,8 @@ pub fn run<
 >(system: &S, alloc: Global, words: &[&str], reader: &mut R, writer: &mut W) -> Ending
     requires fine { R.state reader.old ≡ Worst.Fine }
     requires whole { W.broken writer.old ≡ false }
-    ensures { RunsAs (S.held system.now) (S.peers system.now) (map (λ word. word.now) words.now)
+    ensures { RunsAs (S.held system.now) (S.peers system.now) (S.lines system.now)
+        (map (λ word. word.now) words.now)
         (source_change (R.left reader.old) (R.left reader.new) (R.state reader.new))
         (sink_change (W.contents writer.old) (W.contents writer.new) (W.broken writer.new))
         (reader.new ≡ reader.old) (writer.new ≡ writer.old) result }
@@ -148,7 +150,7 @@ pub fn run_args<
     requires fine { R.state reader.old ≡ Worst.Fine }
     requires whole { W.broken writer.old ≡ false }
     ensures runs { IfOk args (λ words. RunsAs (S.held system.now) (S.peers system.now)
-        (map string_bytes words.items)
+        (S.lines system.now) (map string_bytes words.items)
         (source_change (R.left reader.old) (R.left reader.new) (R.state reader.new))
         (sink_change (W.contents writer.old) (W.contents writer.new) (W.broken writer.new))
         (reader.new ≡ reader.old) (writer.new ≡ writer.old) result) }

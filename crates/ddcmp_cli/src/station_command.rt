@@ -3,7 +3,6 @@ ghost use Rattle.std.specs.Prelude.{◌≡◌, ◌≢◌, ◌≤◌, ◌*◌, le
 ghost use Rattle.std.specs.Result.{result_ok};
 ghost use Rattle.hex.specs.Hex.{decode_of};
 ghost use Rattle.ddcmp_cli.specs.Endings.{is_refusal, Stations};
-ghost use Rattle.ddcmp_cli.specs.LinkEndings.{IsLinkEnding};
 
 use crate::connections::Connections;
 use crate::ending::Ending;

@@ -1,7 +1,7 @@
 //! Arguments that can't be used.
 ghost use Rattle.std.specs.Prelude.{◌≡◌, ◌≢◌, true};
 ghost use Rattle.ddcmp_cli.specs.Endings.{is_refusal};
-ghost use Rattle.ddcmp_cli.specs.LinkEndings.{IsLinkEnding};
+ghost use Rattle.ddcmp_cli.specs.BridgeEndings.{IsNoLine};
 
 use crate::ending::Ending;
 use crate::fault::Fault;
@@ -10,7 +10,7 @@ use std::alloc::{AllocError, Global};
 /// A usage error that says what is wrong, and where to look.
 pub(crate) fn usage(alloc: Global, what: &str) -> Ending
     ensures refusal { is_refusal result ≡ true }
-    ensures kept { IsLinkEnding result × (result ≢ Ending.Fault Fault.Write) }
+    ensures kept { IsNoLine result × (result ≢ Ending.Fault Fault.Write) }
 {
     match usage_text(alloc, what) {
         Ok(text) => Ending::Usage(text),

@@ -129,6 +129,8 @@ impl<S> Connections for Poor<'_, S> {
 }
 
 impl<S: Lines> Lines for Poor<'_, S> {
+    ghost lines = { λ s. S.lines s.system.now };
+
     fn serve_line<'a, R: Source, W: Sink>(
         &self,
         alloc: Global,

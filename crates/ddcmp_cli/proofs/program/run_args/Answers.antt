@@ -10,7 +10,7 @@ pub returns-clause-runs : goal.returns-clause-runs
 returns-clause-runs g c = rw (c.in-Ok.is)
     (subst
     (λ (ws : List (List ℕ)). RunsAs (g.S.Inputs.held c.args.system.now)
-    (g.S.Connections.peers c.args.system.now) ws
+    (g.S.Connections.peers c.args.system.now) (g.S.Lines.lines c.args.system.now) ws
     (source_change (g.R.Source.left c.args.reader.now) (g.R.Source.left c.run.new.reader)
     (g.R.Source.state c.run.new.reader))
     (sink_change (g.W.Sink.contents c.args.writer.now) (g.W.Sink.contents c.run.new.writer)
