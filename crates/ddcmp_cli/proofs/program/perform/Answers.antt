@@ -84,7 +84,7 @@ returns-in-Tap g c = record {
 
 pub returns-in-Link : goal.returns-in-Link
 returns-in-Link g c = record {
-  performs = λ input left. rw (c.in-Link.is) c.link.ensures.ending;
+  performs = λ input left. rw (c.in-Link.is) c.link.ensures.links;
   read = λ no_link. absurd (no_link (ap name_of c.in-Link.is));
   read_only = λ _ _ no_link. absurd (no_link (ap name_of c.in-Link.is));
   write = λ _ _. c.link.ensures.write;
@@ -92,7 +92,7 @@ returns-in-Link g c = record {
   untouched = λ some. absurd (some (ap file_named c.in-Link.is));
   stations = λ _ are. differ is_station c.in-Link.is refl are refl;
   taps = λ _ are. differ is_tap c.in-Link.is refl are refl;
-  links = λ _ _. c.link.ensures.ending;
+  links = search rules;
   bridges = λ _ are. differ is_bridge c.in-Link.is refl are refl;
 }
 

@@ -9,8 +9,9 @@ use Rattle.ddcmp_cli.proofs.program.run.Goals as goal
 
 pub returns-in-Ok : goal.returns-in-Ok
 returns-in-Ok g c = record {
-  explains = λ input e asked. performed _ _ _ _ c.in-Ok.command _ _ asked c.in-Ok.ensures.reads.1
-      c.in-Ok.ensures.reads.2 (c.perform.ensures.performs input e);
+  explains = λ input e asked.
+      performed _ _ (g.S.Lines.lines c.args.system.now) _ c.in-Ok.command _ _ asked
+      c.in-Ok.ensures.reads.1 c.in-Ok.ensures.reads.2 (c.perform.ensures.performs input e);
   ends = (Ok c.in-Ok.command, c.in-Ok.ensures.reads, c.perform.ensures.performs);
   refused = λ out. absurd (out.some c.in-Ok.ensures.reads.0);
   read = λ no_link e.
@@ -32,8 +33,9 @@ returns-in-Ok g c = record {
       c.in-Ok.ensures.reads.2 c.perform.ensures.stations;
   taps = λ asked. tapped _ _ c.in-Ok.command _ _ _ _ _ asked c.in-Ok.ensures.reads.1
       c.in-Ok.ensures.reads.2 c.perform.ensures.taps;
-  links = λ asked. linked _ _ c.in-Ok.command _ asked c.in-Ok.ensures.reads.1
-      c.in-Ok.ensures.reads.2 c.perform.ensures.links;
+  links = λ asked.
+      linked (g.S.Lines.lines c.args.system.now) _ c.in-Ok.command _ asked
+      c.in-Ok.ensures.reads.1 c.in-Ok.ensures.reads.2 c.perform.ensures.links;
   bridges = λ asked. bridged _ _ c.in-Ok.command asked c.in-Ok.ensures.reads.1
       c.perform.ensures.bridges;
 }
