@@ -257,7 +257,7 @@ begins_anew made new c k is stays =
     let max = made.options.config.max in
     let h = c.history in
     let b = is_ok (answer_to_start (after_halt h.session.link.station.core.station))
-        || h.session.has_line in
+    || h.session.has_line in
     let course = after_connecting h.session.course in
     let input = messages_of f max (h.input ++ []) in
     let mail = mail_in (h.shown ++ []) in (

@@ -317,7 +317,7 @@ step_leads f max step h k does holds = by step.call step.session does
     by InputEnded new d = ended_step f max h new k holds d
     by Connected new d =
         let b = is_ok (answer_to_start (after_halt h.session.link.station.core.station))
-            || h.session.has_line in
+        || h.session.has_line in
         let c = after_connecting h.session.course in
         link_step_leads f max (with_line b c h) new k BeginsAnew (h.used ++ []) (h.gone ++ [])
         (anew new.link.station.line h.session.link) (holds_with_line f max b c h holds) d.0

@@ -372,12 +372,12 @@ connected-counts old new does was = λ shut.
     let to = after_connected new.link.station.line old in
     let halted = after_halt old.link.station.core.station in
     let parts = or-false (is_ok (answer_to_start halted)) old.has_line
-        (sym (ap (λ (x : SessionView). x.has_line) does) ∙ shut) in
+    (sym (ap (λ (x : SessionView). x.has_line) does) ∙ shut) in
     let w = was parts.1 in
     let stays : station_of new ≡ halted =
-        ap station_of does
-        ∙ ap (λ b. cond b (after_start halted) halted)
-        (not-started (start_refusal halted) (length halted.out) parts.0) in
+    ap station_of does
+    ∙ ap (λ b. cond b (after_start halted) halted)
+    (not-started (start_refusal halted) (length halted.out) parts.0) in
     record {
       state = ap (λ (s : StationState). s.state) stays;
       none = λ e. ap (λ (s : StationState). s.out) stays
@@ -402,7 +402,7 @@ left-counts r old new does was = λ shut. record {
   state = ap (λ (d : LinkView). d.station.core.station.state) does.link;
   none = λ e.
       let n = none-of old.course.lost (lost_by_end old)
-          (sym (ap (λ (x : SessionView). x.course.lost) does.stays) ∙ e) in
+      (sym (ap (λ (x : SessionView). x.course.lost) does.stays) ∙ e) in
       ap (λ (d : LinkView). d.station.core.station.out) does.link
       ∙ left-none old n.0 n.1 was;
 }
@@ -415,11 +415,11 @@ pub closed-none : (left : List ℕ) (over r : Bool) (old new : SessionView)
     × (lost_at_end left over old ≡ 0)
 closed-none left over r old new does e was =
     let lost = (lost_more (lost_at_end left over old)
-        (lost_more (lost_among left old) old.course)).lost in
+    (lost_more (lost_among left old) old.course)).lost in
     let n = none-of lost (lost_by_end old)
-        (sym (ap (λ (c : Course). c.lost) does.course) ∙ e) in
+    (sym (ap (λ (c : Course). c.lost) does.course) ∙ e) in
     let m = none-of (lost_more (lost_among left old) old.course).lost
-        (lost_at_end left over old) n.0 in
+    (lost_at_end left over old) n.0 in
     let l = none-of old.course.lost (lost_among left old) m.0 in
     (left-none old l.0 n.1 was, l.1, m.1)
 
@@ -472,9 +472,10 @@ step-counts (LineTook n) text old new d =
     (λ halted. same-stays (station_of old) (station_of new) halted (ap station_of d))
 step-counts (TimedOut now) text old new d =
     let to = after_timeout now old in
-    link-counts old new
-    (same-in (λ x. x.has_line) new to d,
-    same-in (λ x. x.course.lost) new to d ∙ timeout-lost now old)
+    link-counts old new (
+      same-in (λ x. x.has_line) new to d,
+      same-in (λ x. x.course.lost) new to d ∙ timeout-lost now old,
+    )
     (λ halted. let w = wake-halted now old.link halted in (
       same-in (λ x. (station_of x).state) new to d ∙ w.0,
       same-in (λ x. (station_of x).out) new to d ∙ w.1,

@@ -277,7 +277,7 @@ module _ (first second : Made) (steps : List (End × SessionStep)) where
     closed_b left over r closed is none =
         let s = (after_sessions steps (new_sessions first second)).a.session in
         let nothing = closed-none left over r s closed is none
-            (counts-a steps (new_sessions first second) does (new-counts first)) in
+        (counts-a steps (new_sessions first second) does (new-counts first)) in
         (done.all_b (ap length nothing.0), nothing.1, nothing.2)
 
     pub closed_a : PipesClosed second (after_sessions steps (new_sessions first second)).b
@@ -285,7 +285,7 @@ module _ (first second : Made) (steps : List (End × SessionStep)) where
     closed_a left over r closed is none =
         let s = (after_sessions steps (new_sessions first second)).b.session in
         let nothing = closed-none left over r s closed is none
-            (counts-b steps (new_sessions first second) does (new-counts second)) in
+        (counts-b steps (new_sessions first second) does (new-counts second)) in
         (done.all_a (ap length nothing.0), nothing.1, nothing.2)
 
     pub bytes_b : PipesBytes first second (after_sessions steps (new_sessions first second)).a

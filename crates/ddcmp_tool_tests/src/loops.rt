@@ -249,15 +249,24 @@ fn missing(read: &[u8], written: &[u8]) -> Option<u64> {
     let mut read = read;
     let mut written = written;
     let mut count = 0u64;
-    while let Some((message, rest)) = first_message(read) {
-        if let Some((next, later)) = first_message(written) && next == message {
+    for _message in 0..u64::MAX {
+        let Some((message, rest)) = first_message(read) else {
+            break;
+        };
+        if let Some((next, later)) = first_message(written)
+            && next == message
+        {
             written = later;
         } else {
-            count += 1;
+            count = count.saturating_add(1);
         }
         read = rest;
     }
-    if written.is_empty() { Some(count) } else { None }
+    if written.is_empty() {
+        Some(count)
+    } else {
+        None
+    }
 }
 
 /// A session over one line after the other, each of which may be closed at any time: what wasn't
@@ -293,7 +302,11 @@ fn exchanges_over_lines(rt: &(impl Abort + AllocGlobal), seed: u64) -> u64 {
     };
     let ended = buffers.run_lines(&mut own, &mut desk);
     let lost = own.lost();
-    let expected_end = if lost == 0 { Ok(()) } else { Err(Stop::Lost(lost)) };
+    let expected_end = if lost == 0 {
+        Ok(())
+    } else {
+        Err(Stop::Lost(lost))
+    };
     assert!(rt; ended == expected_end);
     let Some(missing) = missing(expected.as_slice(), desk.peer_output.bytes.as_slice()) else {
         panic!(rt; "another message was written");
@@ -304,9 +317,9 @@ fn exchanges_over_lines(rt: &(impl Abort + AllocGlobal), seed: u64) -> u64 {
 
 #[test]
 fn all_but_the_lost_arrive(rt: HostRuntime) {
-    let mut missing = 0;
+    let mut missing = 0u64;
     for seed in 1..17u64 {
-        missing += exchanges_over_lines(&rt, seed);
+        missing = exchanges_over_lines(&rt, seed).saturating_add(missing);
     }
     assert!(&rt; missing > 0);
 }
