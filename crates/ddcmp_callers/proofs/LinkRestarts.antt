@@ -27,7 +27,7 @@ use Rattle.ddcmp_callers.specs.StationRuns.{run_station_calls, station_call, has
 use Rattle.ddcmp_callers.proofs.LinkCalls.{step_same, new_same}
 use Rattle.ddcmp_callers.proofs.Acknowledged.{IsAcknowledged}
 use Rattle.ddcmp_callers.proofs.StationRuns.{station-calls-acknowledged, station-calls-in-order}
-use Rattle.ddcmp_callers.proofs.TwoLinks.{AreSame, delivered_all, reaches}
+use Rattle.ddcmp_callers.proofs.TwoLinks.{AreSame, NoneOut, acknowledged_all, none_out, reaches}
 
 -- ---- calls at one end
 
@@ -173,17 +173,25 @@ module _ (first second : Config) (ms other_ms : ℕ) (line other_line : ReaderVi
       × IsAcknowledged (run_station_calls calls (new_pair first second)).b
   told = station-calls-acknowledged first second calls f g honest clean
 
+  pub anew-acknowledged-to-b : NoneOut (after_links steps links).a
+      → received (after_links steps links).b ≡ (after_links steps links).a.accepted
+  anew-acknowledged-to-b =
+      acknowledged_all _ _ _ _ ends.a ends.b
+      ((station-calls-in-order first second calls f g).where_clean honest clean).a_to_b told.0
+
+  pub anew-acknowledged-to-a : NoneOut (after_links steps links).b
+      → received (after_links steps links).a ≡ (after_links steps links).b.accepted
+  anew-acknowledged-to-a =
+      acknowledged_all _ _ _ _ ends.b ends.a
+      ((station-calls-in-order first second calls f g).where_clean honest clean).b_to_a told.1
+
   pub anew-all-to-b : delivered (after_links steps links).a.link ≡ true
       → received (after_links steps links).b ≡ (after_links steps links).a.accepted
-  anew-all-to-b =
-      delivered_all _ _ _ _ ends.a ends.b
-      ((station-calls-in-order first second calls f g).where_clean honest clean).a_to_b told.0
+  anew-all-to-b e = anew-acknowledged-to-b (none_out (after_links steps links).a e)
 
   pub anew-all-to-a : delivered (after_links steps links).b.link ≡ true
       → received (after_links steps links).a ≡ (after_links steps links).b.accepted
-  anew-all-to-a =
-      delivered_all _ _ _ _ ends.b ends.a
-      ((station-calls-in-order first second calls f g).where_clean honest clean).b_to_a told.1
+  anew-all-to-a e = anew-acknowledged-to-a (none_out (after_links steps links).b e)
 
 -- ---- a link that restarts on a line that the other end hasn't heard
 

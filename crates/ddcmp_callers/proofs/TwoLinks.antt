@@ -221,7 +221,7 @@ starts_b (step ∷ rest) q = by step.0 step.1 (starts_b rest (after_step_at step
 abbrev pub NoneOut : LinkHistory → Type 0
 NoneOut h = length h.link.station.core.station.out ≡ 0
 
-acknowledged_all : (x y : EndState) (h k : LinkHistory) → IsSameEnd x h → IsSameEnd y k
+pub acknowledged_all : (x y : EndState) (h k : LinkHistory) → IsSameEnd x h → IsSameEnd y k
     → Delivers x y → IsAcknowledged x → NoneOut h → received k ≡ h.accepted
 acknowledged_all x y h k s t d told e =
     let none : length x.core.station.out ≡ 0 =
@@ -233,11 +233,6 @@ acknowledged_all x y h k s t d told e =
 
 pub none_out : (h : LinkHistory) → delivered h.link ≡ true → NoneOut h
 none_out h e = first_of_three (length h.link.station.core.station.out) _ _ e
-
-pub delivered_all : (x y : EndState) (h k : LinkHistory) → IsSameEnd x h → IsSameEnd y k → Delivers x y
-    → IsAcknowledged x → delivered h.link ≡ true → received k ≡ h.accepted
-delivered_all x y h k s t d told e =
-    acknowledged_all x y h k s t d told (none_out h e)
 
 pub reaches : (x y : EndState) (h k : LinkHistory) → IsSameEnd x h → IsSameEnd y k → Delivers x y
     → LinkReaches h k

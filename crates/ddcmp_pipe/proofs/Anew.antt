@@ -28,6 +28,8 @@ use Rattle.ddcmp_callers.specs.LinkRestarts.{calls_of_links, history_at}
 use Rattle.ddcmp_callers.specs.LinkRestarts as restarts
 use Rattle.ddcmp_callers.specs.StationRuns.{run_station_calls}
 use Rattle.ddcmp_callers.proofs.LinkRestarts.{anew-to-b, anew-to-a, anew-all-to-b, anew-all-to-a}
+use Rattle.ddcmp_callers.proofs.LinkRestarts.{anew-acknowledged-to-b, anew-acknowledged-to-a}
+use Rattle.ddcmp_callers.proofs.TwoLinks.{NoneOut}
 use Rattle.ddcmp_session.specs.Calls.{SessionCall, Typed, InputEnded, Connected, LineEnded}
 use Rattle.ddcmp_session.specs.Calls.{Received, Filled, LineTook, TimedOut, TimePassed, Delivered}
 use Rattle.ddcmp_session.specs.Calls.{OutputTook}
@@ -43,7 +45,9 @@ use Rattle.ddcmp_session.specs.Connections.{Connection, Does, after_step, after_
 use Rattle.ddcmp_pipe.specs.Connections.{Connections, first_connection, first_connections, at}
 use Rattle.ddcmp_pipe.specs.Connections.{after_step_at, AreCalls, after_steps, link_steps}
 use Rattle.ddcmp_pipe.specs.Connections.{read_since, delivered_since, PipesAnew, PipesAllAnew}
-use Rattle.ddcmp_pipe.specs.Connections.{WritesAnew}
+use Rattle.ddcmp_pipe.specs.Connections.{PipesClosedAnew, WritesAnew}
+use Rattle.ddcmp_pipe.proofs.Losing.{closed-none, new-counts}
+use Rattle.ddcmp_pipe.proofs.LosingAnew.{counts-anew-a, counts-anew-b}
 use Rattle.ddcmp_pipe.proofs.Holding.{Holds, link_history, parts}
 use Rattle.ddcmp_pipe.proofs.Outcomes.{binary_more, last_true}
 use Rattle.ddcmp_pipe.proofs.Texts.{IsText, only_mail}
@@ -166,12 +170,12 @@ since made c k =
     (delivered_since c) k
 
 -- what stays
-record Stays (made : Made) (c : Connection) : Type 0 where
-  holds : Holds made.options.form made.options.config.max c.history
-  read
+pub record Stays (made : Made) (c : Connection) : Type 0 where
+  pub holds : Holds made.options.form made.options.config.max c.history
+  pub read
       : messages_of made.options.form made.options.config.max c.history.input
       ≡ messages_of made.options.form made.options.config.max c.input_before ++ read_since made c
-  delivered : mail_in c.history.shown ≡ mail_in c.shown_before ++ delivered_since c
+  pub delivered : mail_in c.history.shown ≡ mail_in c.shown_before ++ delivered_since c
 
 -- a call of a session leads its link from one history since it was connected to the next
 abbrev Follows : Made → List LinkStep → Connection → ℕ → Connection → Type 0
@@ -180,7 +184,7 @@ Follows made xs c k next =
     × ((m : ℕ) × (after_done xs (since made c k) ≡ since made next m))
     × Stays made next
 
-left_out : (a b x : List (List ℕ)) → b ≡ a ++ x → drop (length a) b ≡ x
+pub left_out : (a b x : List (List ℕ)) → b ≡ a ++ x → drop (length a) b ≡ x
 left_out a b x e = ap (drop (length a)) e ∙ drop-append_seam a x
 
 -- a call that doesn't connect it
@@ -559,6 +563,45 @@ module _ (first second : Made) (steps : List (End × SessionStep))
       (anew-all-to-a first.options.config second.options.config first.options.timer_ms second.options.timer_ms first.line
       second.line (link_steps steps (first_connections first second)) f g are honest clean)
       (last_true s.is_read (delivered s.link) over)
+
+  pub closed_anew_b
+      : PipesClosedAnew first (after_steps steps (first_connections first second)).a
+      (after_steps steps (first_connections first second)).b
+  closed_anew_b left over r closed is none =
+      let s = (after_steps steps (first_connections first second)).a.history.session in
+      let nothing = closed-none left over r s closed is none
+      (counts-anew-a steps (first_connections first second) does (new-counts first)) in (
+        subst (λ (q : Links). NoneOut q.a → received q.b ≡ q.a.accepted) done
+            (anew-acknowledged-to-b first.options.config second.options.config first.options.timer_ms
+            second.options.timer_ms first.line second.line
+            (link_steps steps (first_connections first second)) f g are honest clean)
+            (ap length nothing.0),
+        nothing.1,
+        nothing.2,
+      )
+
+  pub closed_anew_a
+      : PipesClosedAnew second (after_steps steps (first_connections first second)).b
+      (after_steps steps (first_connections first second)).a
+  closed_anew_a left over r closed is none =
+      let s = (after_steps steps (first_connections first second)).b.history.session in
+      let nothing = closed-none left over r s closed is none
+      (counts-anew-b steps (first_connections first second) does (new-counts second)) in (
+        subst (λ (q : Links). NoneOut q.b → received q.a ≡ q.b.accepted) done
+            (anew-acknowledged-to-a first.options.config second.options.config first.options.timer_ms
+            second.options.timer_ms first.line second.line
+            (link_steps steps (first_connections first second)) f g are honest clean)
+            (ap length nothing.0),
+        nothing.1,
+        nothing.2,
+      )
+
+  -- what stays of each
+  pub stays_a : Stays first (after_steps steps (first_connections first second)).a
+  stays_a = keeps.2
+
+  pub stays_b : Stays second (after_steps steps (first_connections first second)).b
+  stays_b = keeps.3
 
   pub writes_anew_a : WritesAnew first (after_steps steps (first_connections first second)).a
   writes_anew_a =

@@ -44,7 +44,7 @@ got_more [] ys = refl
 got_more (x ∷ xs) ys =
     ap (λ ms. got x ++ ms) (got_more xs ys) ∙ sym (append_assoc (got x) (got_in xs) (got_in ys))
 
-map_more : {A B : Type 0} (f : A → B) (xs ys : List A) → map f (xs ++ ys) ≡ map f xs ++ map f ys
+pub map_more : {A B : Type 0} (f : A → B) (xs ys : List A) → map f (xs ++ ys) ≡ map f xs ++ map f ys
 map_more f [] ys = refl
 map_more f (x ∷ xs) ys = ap (λ zs. f x ∷ zs) (map_more f xs ys)
 
@@ -62,7 +62,7 @@ last (x ∷ xs) = by (last xs)
 
 -- ---- in binary
 
-got_told : (e : Option Entry) (message : List ℕ)
+pub got_told : (e : Option Entry) (message : List ℕ)
     → got_in (map (λ x. told_of x message) (option_to_list e)) ≡ read_by (option_to_list e) message
 unfolding got_in
 got_told None message = refl
@@ -100,10 +100,10 @@ read_binary used v part = by (last used)
 
 -- ---- in lines
 
-abbrev second : ℕ × Told → Told
+abbrev pub second : ℕ × Told → Told
 second told = told.1
 
-got_told_lines : (e : Option Entry) (number : ℕ) (message : List ℕ)
+pub got_told_lines : (e : Option Entry) (number : ℕ) (message : List ℕ)
     → got_in (map second (map {B = ℕ × Told} (λ x. (number, told_of x message)) (option_to_list e)))
     ≡ read_by (option_to_list e) message
 unfolding got_in

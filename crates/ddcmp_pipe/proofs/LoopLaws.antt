@@ -27,6 +27,7 @@ module _ (made : Made) (connected : SessionView)
     read = refl;
     over = refl;
     told = λ e. cc;
+    drained = λ e. cc;
     ended = λ e. cc;
     came = refl;
     gone = refl;

@@ -365,7 +365,7 @@ not-started : (why : Option StartRefusal) (n : ℕ) → is_ok (answer_unless why
 not-started None n e = e
 not-started (Some refusal) n e = refl
 
-connected-counts : (old new : SessionView) → new ≡ after_connected new.link.station.line old
+pub connected-counts : (old new : SessionView) → new ≡ after_connected new.link.station.line old
     → Counted old → Counted new
 unfolding Counted
 connected-counts old new does was = λ shut.

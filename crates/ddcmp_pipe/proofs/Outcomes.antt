@@ -1,7 +1,7 @@
 -- What comes out of two sessions.
 use Rattle.std.proofs.Common.{◌≡◌, ℕ, Bool, true, false, List, [], ◌∷◌}
 use Rattle.std.proofs.Common.{◌++◌, length, map, refl, sym, ◌∙◌, ap, subst, arith, append_assoc}
-use Rattle.std.proofs.Common.{append-nil, None}
+use Rattle.std.proofs.Common.{append-nil, cond, None}
 use Rattle.std.specs.Prelude.{◌&&◌}
 use Rattle.std.specs.List.{All}
 use Rattle.ddcmp_input.specs.InBinary.{in_binary, behind_length, told_in, Fits}
@@ -22,9 +22,10 @@ use Rattle.ddcmp_callers.specs.Links.{AreStartedOnce, received, LinkReaches}
 use Rattle.ddcmp_callers.specs.LinkLines.{AreLinkCalls, calls_of_steps}
 use Rattle.ddcmp_callers.proofs.TwoLinks.{NoneOut, acknowledged_to_a, acknowledged_to_b, kept}
 use Rattle.ddcmp_callers.proofs.TwoLinks.{none_out, reaches_a, reaches_b}
-use Rattle.ddcmp_session.specs.Calls.{SessionHistory, SessionStep}
+use Rattle.ddcmp_session.specs.Calls.{SessionHistory, SessionStep, end_in}
 use Rattle.ddcmp_pipe.specs.Sessions.{messages_of, mail_in, got_in, texts_of}
-use Rattle.ddcmp_pipe.specs.Loops.{DevicesPipe, DevicesPipeAll}
+use Rattle.ddcmp_pipe.specs.Loops.{DevicesDeliver, DevicesPipe, DevicesPipeAll}
+use Rattle.ddcmp_pipe.specs.Loops.{DevicesPipeClosed}
 use Rattle.ddcmp_pipe.proofs.LoopLaws.{devices_pipe, devices_pipe_all}
 use Rattle.ddcmp_pipe.specs.Pipe.{Made, Sessions, new_sessions, links_made}
 use Rattle.ddcmp_pipe.specs.Pipe.{after_session_at, AreSessionCalls, after_sessions}
@@ -33,6 +34,7 @@ use Rattle.ddcmp_pipe.specs.Pipe.{undelivered, Pipes, PipesAll, PipesBytes, Pipe
 use Rattle.ddcmp_pipe.specs.Pipe.{PipesWhole}
 use Rattle.ddcmp_pipe.specs.Pipe.{IsKeptByPipes, SessionsOverStreams}
 use Rattle.ddcmp_pipe.specs.Pipe.{IsKeptOverConnections}
+use Rattle.ddcmp_pipe.proofs.Given.{gave_more, no_more, none_unread}
 use Rattle.ddcmp_pipe.proofs.Inputs.{got_more}
 use Rattle.ddcmp_pipe.proofs.Texts.{only_mail}
 use Rattle.ddcmp_pipe.proofs.Holding.{Holds, link_history}
@@ -135,6 +137,39 @@ bytes_whole made other giver taker holds all is other_is messages fit file over 
     sym (append-nil taker.written)
     ∙ ap (λ t. taker.written ++ t) (sym still)
     ∙ o
+    ∙ ap in_binary given
+
+-- all of the messages that an input gave were received, if its session was closed and lost nothing
+devices_deliver : (made : Made) (giver taker : SessionHistory)
+    → Holds made.options.form made.options.config.max giver → PipesClosed made giver taker
+    → DevicesDeliver made giver taker
+devices_deliver made giver taker holds closes held t closed first a ends none =
+    let f = made.options.form in
+    let max = made.options.config.max in
+    let p = closes held.input held.is_over ends.is_reported closed ends.closed none in
+    p.0
+    ∙ sym
+    (ap (messages_of f max) (gave_more f giver held t holds.kind a)
+    ∙ none_unread f max giver held holds first p.1 p.2)
+
+devices_pipe_closed : (made other : Made) (giver taker : SessionHistory)
+    → Holds other.options.form other.options.config.max taker → DevicesDeliver made giver taker
+    → DevicesPipeClosed made other giver taker
+devices_pipe_closed made other giver taker holds delivers is other_is messages fit held other_held
+    t other_t closed first a b ends none file no_mail still =
+    let max = made.options.config.max in
+    let mail = mail_in taker.shown in
+    let given : mail ≡ messages =
+    sym (append-nil mail)
+    ∙ ap (λ ms. mail ++ ms) (sym no_mail)
+    ∙ delivers held t closed first a ends none
+    ∙ ap (λ f. messages_of f max (t.read ++ cond t.is_over (end_in f) [])) is
+    ∙ ap (messages_of form.Binary max) (no_more t.read t.is_over ∙ file)
+    ∙ read_all max messages fit in
+    b.written
+    ∙ sym (append-nil taker.written)
+    ∙ ap (λ xs. taker.written ++ xs) (sym still)
+    ∙ output_is made other taker other_is holds
     ∙ ap in_binary given
 
 -- ---- from two new sessions
@@ -339,6 +374,34 @@ module _ (first second : Made) (steps : List (End × SessionStep)) where
     devices_all_a =
         devices_pipe_all second first (after_sessions steps (new_sessions first second)).b
         (after_sessions steps (new_sessions first second)).a keeps.2.1.kind whole_a
+
+    -- until one is closed
+
+    pub deliver_b : DevicesDeliver first (after_sessions steps (new_sessions first second)).a
+        (after_sessions steps (new_sessions first second)).b
+    deliver_b =
+        devices_deliver first (after_sessions steps (new_sessions first second)).a
+        (after_sessions steps (new_sessions first second)).b keeps.2.0 closed_b
+
+    pub deliver_a : DevicesDeliver second (after_sessions steps (new_sessions first second)).b
+        (after_sessions steps (new_sessions first second)).a
+    deliver_a =
+        devices_deliver second (after_sessions steps (new_sessions first second)).b
+        (after_sessions steps (new_sessions first second)).a keeps.2.1 closed_a
+
+    pub devices_closed_b : DevicesPipeClosed first second
+        (after_sessions steps (new_sessions first second)).a
+        (after_sessions steps (new_sessions first second)).b
+    devices_closed_b =
+        devices_pipe_closed first second (after_sessions steps (new_sessions first second)).a
+        (after_sessions steps (new_sessions first second)).b keeps.2.1 deliver_b
+
+    pub devices_closed_a : DevicesPipeClosed second first
+        (after_sessions steps (new_sessions first second)).b
+        (after_sessions steps (new_sessions first second)).a
+    devices_closed_a =
+        devices_pipe_closed second first (after_sessions steps (new_sessions first second)).b
+        (after_sessions steps (new_sessions first second)).a keeps.2.0 deliver_a
 
 -- ---- over honest lines, and over streams
 

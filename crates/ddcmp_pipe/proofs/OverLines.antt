@@ -14,12 +14,13 @@ use Rattle.ddcmp_pipe.specs.Pipe.{Made, session_of}
 use Rattle.ddcmp_pipe.specs.Sessions.{texts_of}
 use Rattle.ddcmp_pipe.proofs.Anew.{text_of_all}
 
-agrees_first : (made : Made) → StandsFor made.line []
+pub agrees_first : (made : Made) → StandsFor made.line []
     → Agrees nothing_read (session_of made) no_traffic
 agrees_first made stands = record {
   read = refl;
   over = refl;
   told = λ e. cc;
+  drained = λ e. cc;
   ended = λ e. cc;
   came = refl;
   gone = refl;

@@ -1,6 +1,6 @@
 -- Two sessions that are connected as often as their users like: what is promised since each was
 -- connected last.
-use Rattle.std.specs.Prelude.{◌≡◌, ℕ, true, List, [], ◌∷◌, ◌++◌, length, drop, None}
+use Rattle.std.specs.Prelude.{◌≡◌, ℕ, Bool, true, List, [], ◌∷◌, ◌++◌, length, drop, None}
 use Rattle.ddcmp_proto.specs.Config.{first_refusal}
 use Rattle.ddcmp_run.specs.declared.event.End.{End}
 use Rattle.ddcmp_run.specs.declared.event.End.TheVariants.{A, B}
@@ -8,11 +8,11 @@ use Rattle.ddcmp_run.specs.Prefix.{IsPrefixOf}
 use Rattle.ddcmp_run.specs.Run.{new_pair, is_clean}
 use Rattle.ddcmp_input.specs.InBinary.{in_binary}
 use Rattle.ddcmp_session.specs.declared.messages.Form.TheVariants as form
-use Rattle.ddcmp_session.specs.Session.{is_delivered}
+use Rattle.ddcmp_session.specs.Session.{SessionView, is_delivered, lost_among, lost_at_end}
 use Rattle.ddcmp_callers.specs.Links.{LinkStep}
 use Rattle.ddcmp_callers.specs.LinkRestarts.{calls_of_links}
 use Rattle.ddcmp_callers.specs.StationRuns.{run_station_calls}
-use Rattle.ddcmp_session.specs.Calls.{SessionStep}
+use Rattle.ddcmp_session.specs.Calls.{HasClosed, SessionStep}
 use Rattle.ddcmp_session.specs.Connections.{Connection, Does, after_step, first_connection_of}
 use Rattle.ddcmp_pipe.specs.Sessions.{messages_of, mail_in, link_steps_of}
 use Rattle.ddcmp_pipe.specs.Pipe.{Made, session_of, links_made, steps_at_end, undelivered}
@@ -75,6 +75,16 @@ PipesAnew made giver taker = IsPrefixOf (delivered_since taker) (read_since made
 abbrev pub PipesAllAnew : Made → Connection → Connection → Type 0
 PipesAllAnew made giver taker = is_delivered giver.history.session ≡ true
     → delivered_since taker ++ undelivered taker.history ≡ read_since made giver
+
+-- If one session is closed then, and nothing was lost, the other has received all of the messages
+-- that its input has had since, and what was left of the input has none.
+abbrev pub PipesClosedAnew : Made → Connection → Connection → Type 0
+PipesClosedAnew made giver taker =
+    (left : List ℕ) (is_at_end is_reported : Bool) (closed : SessionView)
+    → HasClosed left is_at_end is_reported giver.history.session closed → closed.course.lost ≡ 0
+    → (delivered_since taker ++ undelivered taker.history ≡ read_since made giver)
+    × (lost_among left giver.history.session ≡ 0)
+    × (lost_at_end left is_at_end giver.history.session ≡ 0)
 
 -- In binary, what the output took and what waits for it is what it had of messages before, and then
 -- those that were delivered since.

@@ -5,3 +5,4 @@ pub mod Loops
 pub mod OverLines
 pub mod Connections
 pub mod AnewStory
+pub mod Runs

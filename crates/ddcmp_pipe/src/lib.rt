@@ -4,5 +4,6 @@
 
 pub mod loops;
 pub mod pipe;
+pub mod runs;
 pub mod session_steps;
 pub mod sessions;

@@ -10,7 +10,8 @@ ghost use Rattle.ddcmp_session.specs.Devices.{BuffersView, GoesOn, Traffic};
 ghost use Rattle.ddcmp_session.specs.Lines.{GoesOver};
 ghost use Rattle.ddcmp_session.specs.Devices.{nothing_read};
 ghost use Rattle.ddcmp_pipe.specs.Connections.{AreCalls, first_connection, first_connections};
-ghost use Rattle.ddcmp_pipe.specs.Loops.{DevicesPipe, DevicesPipeAll, HasRun, no_traffic};
+ghost use Rattle.ddcmp_pipe.specs.Loops.{DevicesDeliver, DevicesPipe, DevicesPipeAll};
+ghost use Rattle.ddcmp_pipe.specs.Loops.{DevicesPipeClosed, HasRun, no_traffic};
 ghost use Rattle.ddcmp_pipe.specs.OverLines.{HasRunOver};
 ghost use Rattle.ddcmp_pipe.specs.Pipe.{IsKeptByPipes, IsKeptOverConnections, Made, session_of};
 ghost use Rattle.ddcmp_pipe.specs.Sessions.{texts_of};
@@ -56,7 +57,9 @@ pub fn runs_over_lines()
 /// binary: if what the input of one gave is the beginning of a file of messages that fit, then what
 /// the output of the other took is a beginning of that file; and it is the whole file if the input
 /// gave all of it, nothing of that is held, the one may end as delivered, and nothing waits to be
-/// delivered or written at the other. Over connections no word of frames is needed.
+/// delivered or written at the other. In either form the other has received all of the messages that
+/// the input gave if the one is closed and lost nothing, and in binary its output takes that file,
+/// too. Over connections no word of frames is needed.
 pub fn devices_are_pipes()
     ensures to_b { IsKeptByPipes (λ first second p. DevicesPipe first second p.a p.b) }
     ensures to_a { IsKeptByPipes (λ first second p. DevicesPipe second first p.b p.a) }
@@ -70,4 +73,20 @@ pub fn devices_are_pipes()
         (λ first second p. DevicesPipeAll first second p.a p.b) }
     ensures connected_all_to_a { IsKeptOverConnections
         (λ first second p. DevicesPipeAll second first p.b p.a) }
+    ensures received_at_b { IsKeptByPipes
+        (λ first second p. DevicesDeliver first p.a p.b) }
+    ensures closed_to_b { IsKeptByPipes
+        (λ first second p. DevicesPipeClosed first second p.a p.b) }
+    ensures received_at_a { IsKeptByPipes
+        (λ first second p. DevicesDeliver second p.b p.a) }
+    ensures closed_to_a { IsKeptByPipes
+        (λ first second p. DevicesPipeClosed second first p.b p.a) }
+    ensures connected_received_at_b { IsKeptOverConnections
+        (λ first second p. DevicesDeliver first p.a p.b) }
+    ensures connected_closed_to_b { IsKeptOverConnections
+        (λ first second p. DevicesPipeClosed first second p.a p.b) }
+    ensures connected_received_at_a { IsKeptOverConnections
+        (λ first second p. DevicesDeliver second p.b p.a) }
+    ensures connected_closed_to_a { IsKeptOverConnections
+        (λ first second p. DevicesPipeClosed second first p.b p.a) }
 {}

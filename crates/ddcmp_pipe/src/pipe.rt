@@ -14,7 +14,8 @@ ghost use Rattle.ddcmp_pipe.specs.Pipe.{AreConnectedOnce, link_steps_at, links_m
 ghost use Rattle.ddcmp_pipe.specs.Pipe.{after_sessions};
 ghost use Rattle.ddcmp_pipe.specs.AnewStory.{HasComeThroughAnew, small_connections, steps_anew};
 ghost use Rattle.ddcmp_pipe.specs.Connections.{AreCalls, after_steps, link_steps};
-ghost use Rattle.ddcmp_pipe.specs.Connections.{IsKeptAnew, PipesAllAnew, PipesAnew, WritesAnew};
+ghost use Rattle.ddcmp_pipe.specs.Connections.{IsKeptAnew, PipesAllAnew, PipesAnew};
+ghost use Rattle.ddcmp_pipe.specs.Connections.{PipesClosedAnew, WritesAnew};
 ghost use Rattle.ddcmp_pipe.specs.PipeStory.{small_made, small_sessions, pipe_steps};
 ghost use Rattle.ddcmp_pipe.specs.PipeStory.{HasComeThrough};
 
@@ -38,7 +39,7 @@ pub fn pipe_is_whole()
 /// If one of two such sessions is closed and had lost nothing by then, as
 /// `ddcmp_session::Buffers::run_lines` returns `Ok` for, the other has received all messages that
 /// its input has: although the line ended, or the time was over, before it saw the last
-/// acknowledgement answered.
+/// acknowledgement answered. So it is of sessions that are connected again, since they were last.
 pub fn closed_without_loss()
     ensures to_b { IsKeptByPipes (λ first second p. PipesClosed first p.a p.b) }
     ensures to_a { IsKeptByPipes (λ first second p. PipesClosed second p.b p.a) }
@@ -46,6 +47,8 @@ pub fn closed_without_loss()
         (λ first second p. PipesClosed first p.a p.b) }
     ensures connected_to_a { IsKeptOverConnections
         (λ first second p. PipesClosed second p.b p.a) }
+    ensures anew_to_b { IsKeptAnew (λ first second p. PipesClosedAnew first p.a p.b) }
+    ensures anew_to_a { IsKeptAnew (λ first second p. PipesClosedAnew second p.b p.a) }
 {}
 
 /// The same in bytes, if both have their messages in binary: if what was

@@ -133,6 +133,7 @@ module _ (call : SessionCall) (held : BuffersView) (known : Option Traffic) wher
         ∙ ap (λ xs. xs ++ held.input) (nothing-more no-input);
     over = a.over;
     told = λ e. a.told (sym (ap (λ b. b || h.is_told) no-told) ∙ e);
+    drained = λ e. a.drained (sym (ap (λ b. b || h.is_told) no-told) ∙ e);
     ended = λ e. reads (a.ended (sym (ap (λ b. b || h.is_told) no-told) ∙ e));
     came = a.came ∙ ap (λ xs. xs ++ held.received) (nothing-more no-used);
     gone = a.gone ∙ nothing-more no-gone;
@@ -261,6 +262,7 @@ faulted {held} {s} {k} {k'} fault becomes = λ h t is was a. (
     read = a.read;
     over = a.over;
     told = a.told;
+    drained = a.drained;
     ended = a.ended;
     came = a.came;
     gone = a.gone;
@@ -281,6 +283,7 @@ downed {held} {s} {k} {k'} why becomes = λ h t is was a. (
     read = a.read;
     over = a.over;
     told = a.told;
+    drained = a.drained;
     ended = a.ended;
     came = a.came;
     gone = a.gone;

@@ -1,5 +1,5 @@
 -- How a session goes on by bytes of its input, and by its end.
-use Rattle.std.proofs.Common.{◌≡◌, ◌∙◌, ap, sym, subst, refl, ℕ, ◌==◌, Bool, true}
+use Rattle.std.proofs.Common.{◌≡◌, ◌∙◌, ap, sym, subst, refl, ℕ, zero, suc, ◌==◌, Bool, true}
 use Rattle.std.proofs.Common.{false, List, [], ◌∷◌, ◌++◌, length, take, drop, Option}
 use Rattle.std.proofs.Common.{append_assoc, append-nil}
 use Rattle.std.proofs.lemmas.List.{take-append-drop, nil_from_length}
@@ -52,6 +52,7 @@ input-came {held} {s} {k} {k'} n space over empty goes becomes ends = λ h t is 
                 ∙ ap (λ xs. h.input ++ xs) empty ∙ append-nil h.input);
             over = ends;
             told = λ e. absurd (sym unread ∙ e);
+            drained = λ e. let bad : false ≡ true = sym unread ∙ e in cc;
             ended = a.ended;
             came = a.came;
             gone = a.gone;
@@ -70,6 +71,10 @@ input-came {held} {s} {k} {k'} n space over empty goes becomes ends = λ h t is 
         by : (b : Bool) → (b ≡ true → held.is_over ≡ true) → b ≡ false
         by true told = let bad : true ≡ false = sym (told refl) ∙ goes in cc
         by false told = refl
+
+none-dropped : (n : ℕ) → ◌≡◌ {A = List ℕ} (drop n []) []
+none-dropped zero = refl
+none-dropped (suc n) = refl
 
 -- a call of `typed` took bytes
 pub typed-goes : {held : BuffersView} {known : Option Traffic} (old new : SessionView) (n : ℕ)
@@ -93,6 +98,7 @@ typed-goes {held} {known} old new n does form reads line = λ h t is was a.
                 ∙ sym (append_assoc h.input used (drop n held.input));
             over = a.over;
             told = a.told;
+            drained = λ e. ap (drop n) (a.drained e) ∙ none-dropped n;
             ended = λ e. reads ∙ sym (same-at (λ x. x.is_read) h.session old is) ∙ a.ended e;
             came = a.came ∙ ap (λ xs. xs ++ held.received) (sym (append-nil h.used));
             gone = a.gone ∙ sym (append-nil h.gone);
@@ -133,6 +139,7 @@ ended-goes {held} {known} old new does wants unread empty over form reads line =
             ∙ nothing-more empty;
         over = a.over;
         told = λ e. over;
+        drained = λ e. empty;
         ended = λ e. reads;
         came = a.came ∙ ap (λ xs. xs ++ held.received) (sym (append-nil h.used));
         gone = a.gone ∙ sym (append-nil h.gone);

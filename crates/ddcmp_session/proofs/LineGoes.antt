@@ -32,6 +32,7 @@ line-moved {held} {s} {k} {k'} came empty becomes = λ h t is was a. (
         read = a.read;
         over = a.over;
         told = a.told;
+        drained = a.drained;
         ended = a.ended;
         came =
             ap (λ xs. xs ++ came)
@@ -81,6 +82,7 @@ received-goes {held} {known} old new n does line = λ h t is was a.
                 ∙ ap (λ xs. xs ++ held.input) (sym (append-nil h.input));
             over = a.over;
             told = a.told;
+            drained = a.drained;
             ended = λ e.
                 same-at (λ x. x.is_read) new
                 (record old { link = new.link; course = new.course; output = new.output }) f.stays
@@ -123,6 +125,7 @@ line-told {held} {k} {k'} old new n becomes does = λ h t is was a.
                 ∙ ap (λ xs. xs ++ held.input) (sym (append-nil h.input));
             over = a.over;
             told = a.told;
+            drained = a.drained;
             ended = λ e.
                 same-at (λ x. x.is_read) new now-is does
                 ∙ sym (same-at (λ x. x.is_read) h.session old is)
@@ -176,6 +179,7 @@ output-told {held} {k} {k'} old new n becomes does = λ h t is was a.
                 ∙ ap (λ xs. xs ++ held.input) (sym (append-nil h.input));
             over = a.over;
             told = a.told;
+            drained = a.drained;
             ended = λ e.
                 same-at (λ x. x.is_read) new now-is does
                 ∙ sym (same-at (λ x. x.is_read) h.session old is)

@@ -1,9 +1,11 @@
 -- How a session goes on over one line after the other.
 use Rattle.std.proofs.Common.{◌≡◌, ◌∙◌, ap, sym, subst, refl, ℕ, Bool, true, List, [], ◌∷◌, ◌++◌}
-use Rattle.std.proofs.Common.{◌⊎◌, append-nil, inl, inr, false, Option, Result, Ok, Err}
+use Rattle.std.proofs.Common.{◌⊎◌, append-nil, inl, inr, false, Option, None, Result, Ok, Err}
+use Rattle.std.specs.Prelude.{is_ok}
 use Rattle.ddcmp_frame.specs.Reader.{StandsFor}
 use Rattle.ddcmp_station.specs.Linking.{LinkView}
 use Rattle.ddcmp_session.specs.Session.{SessionView, after_connected, after_time, form_of}
+use Rattle.ddcmp_session.specs.Session.{is_delivered}
 use Rattle.ddcmp_session.specs.Calls.{SessionCall, SessionStep, SessionHistory, SessionDoes}
 use Rattle.ddcmp_session.specs.Calls.{Typed, InputEnded, Connected, LineEnded, Received, Filled}
 use Rattle.ddcmp_session.specs.Calls.{LineTook, TimedOut, TimePassed, Delivered, OutputTook, Closed}
@@ -12,7 +14,8 @@ use Rattle.ddcmp_session.specs.Calls.{after_session_steps}
 use Rattle.ddcmp_session.specs.Connections.{Connection, Does, AreDone, after_all, after_step}
 use Rattle.ddcmp_session.specs.Devices.{Agrees, AreOfRun, Becomes, BuffersView, GoesOn}
 use Rattle.ddcmp_session.specs.Devices.{IsOfRun, Reports, Traffic}
-use Rattle.ddcmp_session.specs.Lines.{GoesOver, ReportsOver, line_begun, none_received}
+use Rattle.ddcmp_session.specs.Lines.{AreOfOpen, Closes, GoesOver, IsOfOpen, MayEndWell}
+use Rattle.ddcmp_session.specs.Lines.{ReportsOver, line_begun, none_received}
 use Rattle.ddcmp_session.specs.Timing.{PassesTime, after_failure, after_line}
 use Rattle.ddcmp_session.specs.declared.buffers.lines.Stop.TheVariants.{the_data, Device}
 use Rattle.ddcmp_session.specs.declared.devices.Fault.{Fault}
@@ -38,6 +41,24 @@ one-over TimePassed new c of does = absurd of
 one-over Connected new c of does = absurd of
 one-over (LineEnded reported) new c of does = absurd of
 one-over (Closed left over reported) new c of does = absurd of
+
+one-open : (call : SessionCall) → IsOfRun call → IsOfOpen call
+one-open (Typed used) of = tt
+one-open InputEnded of = tt
+one-open (Received used) of = tt
+one-open (Filled n) of = tt
+one-open (LineTook n) of = tt
+one-open (TimedOut now) of = tt
+one-open (Delivered has) of = tt
+one-open (OutputTook n) of = tt
+one-open TimePassed of = tt
+one-open Connected of = tt
+one-open (LineEnded reported) of = tt
+one-open (Closed left over reported) of = absurd of
+
+all-open : (steps : List SessionStep) → AreOfRun steps → AreOfOpen steps
+all-open [] of = tt
+all-open (step ∷ rest) of = (one-open step.call of.0, all-open rest of.1)
 
 -- the same of all calls
 Over : List SessionStep → Connection → Type 0
@@ -69,6 +90,7 @@ goes-over {h0} {h1} goes = λ c t is was agrees.
       record {
         steps = w.steps;
         calls = o.0;
+        only = all-open w.steps w.only;
         session = ap (λ (x : SessionHistory). x.session) same ∙ w.session;
         agrees = subst (λ h. Agrees h1 h a.0) (sym same) w.agrees;
       },
@@ -84,6 +106,10 @@ then-over [] ys c done more = (more, refl)
 then-over (x ∷ xs) ys c done more =
     let r = then-over xs ys (after_step x c) done.1 more in ((done.0, r.0), r.1)
 
+open-then : (xs ys : List SessionStep) → AreOfOpen xs → AreOfOpen ys → AreOfOpen (xs ++ ys)
+open-then [] ys some more = more
+open-then (x ∷ xs) ys some more = (some.0, open-then xs ys some.1 more)
+
 pub over-then : {h0 h1 h2 : BuffersView} {s0 s1 s2 : SessionView} {k0 k1 k2 : Option Traffic}
     → GoesOver h0 s0 k0 h1 s1 k1 → GoesOver h1 s1 k1 h2 s2 k2 → GoesOver h0 s0 k0 h2 s2 k2
 over-then {h0} {h1} {h2} p q = λ c t is k agrees.
@@ -97,6 +123,7 @@ over-then {h0} {h1} {h2} p q = λ c t is k agrees.
       record {
         steps = w.steps ++ v.steps;
         calls = r.0;
+        only = open-then w.steps v.steps w.only v.only;
         session = ap (λ (x : Connection). x.history.session) r.1 ∙ v.session;
         agrees = subst (λ (x : Connection). Agrees h2 x.history b.0) (sym r.1) v.agrees;
       },
@@ -120,6 +147,7 @@ module _ {held : BuffersView} {known : Option Traffic} (old new : SessionView)
         record {
           steps = record { call = LineEnded reported; session = new } ∷ [];
           calls = (subst (λ (x : SessionView). HasLeft reported x new) (sym is) does, tt);
+          only = (tt, tt);
           session = refl;
           agrees =
               quiet-agrees (LineEnded reported) held known h new t refl refl refl refl refl
@@ -138,29 +166,10 @@ module _ {held : BuffersView} {known : Option Traffic} (old new : SessionView)
         record {
           steps = record { call = TimePassed; session = new } ∷ [];
           calls = (subst (λ (x : SessionView). PassesTime x new) (sym is) does, tt);
+          only = (tt, tt);
           session = refl;
           agrees =
               quiet-agrees TimePassed held known h new t refl refl refl refl refl
-              (form ∙ sym (same-view (λ x. form_of x.messages) h.session old is))
-              (λ e. reads (sym (same-view (λ x. x.is_read) h.session old is) ∙ e))
-              (line ∙ sym (same-view (λ x. x.link.station.line) h.session old is)) a;
-        },
-      )
-
-  pub closed-over : (left : List ℕ) (over reported : Bool) → HasClosed left over reported old new
-      → GoesOver held old known held new known
-  unfolding after_all
-  closed-over left over reported does = λ c t is was a.
-      let h = c.history in (
-        t,
-        was,
-        record {
-          steps = record { call = Closed left over reported; session = new } ∷ [];
-          calls =
-              (subst (λ (x : SessionView). HasClosed left over reported x new) (sym is) does, tt);
-          session = refl;
-          agrees =
-              quiet-agrees (Closed left over reported) held known h new t refl refl refl refl refl
               (form ∙ sym (same-view (λ x. form_of x.messages) h.session old is))
               (λ e. reads (sym (same-view (λ x. x.is_read) h.session old is) ∙ e))
               (line ∙ sym (same-view (λ x. x.link.station.line) h.session old is)) a;
@@ -188,14 +197,19 @@ time-passed old new does =
     does
 
 -- the run was ended
-pub run-closed : {held : BuffersView} {known : Option Traffic} (left : List ℕ)
-    (over reported : Bool) (old new : SessionView) → HasClosed left over reported old new
-    → GoesOver held old known held new known
-run-closed left over reported old new does =
-    closed-over old new does.form
-    (λ e. same-view (λ x. x.is_read) new _ does.stays)
-    (ap (λ (d : LinkView). d.station.line) does.link)
-    left over reported does
+pub run-closed : (held : BuffersView) (reported : Bool) (old new : SessionView)
+    → HasClosed held.input held.is_over reported old new → Closes held old new
+run-closed held reported old new does = record {
+  is_reported = reported;
+  closed = does;
+  agrees = λ h t is a.
+      quiet-agrees (Closed held.input held.is_over reported) held None h new t refl refl refl refl
+      refl
+      (does.form ∙ sym (same-view (λ x. form_of x.messages) h.session old is))
+      (λ e. same-view (λ x. x.is_read) new _ does.stays)
+      (ap (λ (d : LinkView). d.station.line) does.link
+      ∙ sym (same-view (λ x. x.link.station.line) h.session old is)) a;
+}
 
 -- ---- the next line
 
@@ -216,6 +230,7 @@ line-connected {held} {k} {k'} old new does clear becomes = λ c t is was a.
               does,
           tt,
         );
+        only = (tt, tt);
         session = refl;
         agrees = record {
           read =
@@ -226,6 +241,7 @@ line-connected {held} {k} {k'} old new does clear becomes = λ c t is was a.
               ∙ ap (λ xs. xs ++ held.input) (sym (append-nil h.input));
           over = a.over;
           told = a.told;
+          drained = a.drained;
           ended = λ e.
               same-view (λ x. x.is_read) new to does
               ∙ sym (same-view (λ x. x.is_read) h.session old is)
@@ -321,3 +337,21 @@ pub reports-by : {P : Type 0} {h0 h1 : BuffersView} {s0 s1 : SessionView}
     → ReportsOver h0 s0 k0 k2 fault
 reports-by over ran (inl same) = reports-at same.1 (ran same.0)
 reports-by over ran (inr later) = reports-over over later
+
+is-unit : {R : Type 0} (r : Result (Unit {0}) R) → is_ok r ≡ true → r ≡ Ok tt
+is-unit (Ok u) e = refl
+is-unit (Err r) e = cc
+
+-- a run that says that all is delivered may
+pub may-end : {R : Type 0} {ran result : Result (Unit {0}) R} {has_run : Bool} (s : SessionView)
+    → (result ≡ Ok tt → (ran ≡ result) ⊎ (has_run ≡ true))
+    → (ran ≡ Ok tt → is_delivered s ≡ true) → has_run ≡ s.course.has_run
+    → is_ok result ≡ true → MayEndWell s
+may-end {R} {ran} {result} {has_run} s well delivered is ok = by (well e)
+  where
+    e : result ≡ Ok tt
+    e = is-unit result ok
+
+    by : (ran ≡ result) ⊎ (has_run ≡ true) → MayEndWell s
+    by (inl same) = inl (delivered (same ∙ e))
+    by (inr has) = inr (sym is ∙ has)

@@ -102,11 +102,12 @@ end_of h = if h.is_told then end_in (form_of h.session.messages) else []
 
 -- What was read and what came is what the session has had, and then what it has yet to have. What
 -- the line and the output took is what the session has given. If the session was told that the
--- input has ended, a read has said so.
+-- input has ended, a read has said so, and nothing of it is held.
 pub record Agrees (held : BuffersView) (h : SessionHistory) (t : Traffic) : Type 0 where
   pub read : t.read ++ end_of h ≡ h.input ++ held.input
   pub over : held.is_over ≡ t.is_over
   pub told : h.is_told ≡ true → held.is_over ≡ true
+  pub drained : h.is_told ≡ true → held.input ≡ []
   pub ended : h.is_told ≡ true → h.session.is_read ≡ true
   pub came : t.came ≡ h.used ++ held.received
   pub gone : t.gone ≡ h.gone

@@ -1,7 +1,8 @@
--- How a session goes on over its devices, over one line after the other.
-use Rattle.std.specs.Prelude.{◌≡◌, Bool, List, [], Option, Some, None}
-use Rattle.ddcmp_session.specs.Session.{SessionView}
-use Rattle.ddcmp_session.specs.Calls.{SessionStep, HasClosed}
+-- How a session goes on over its devices, over one line after the other, and how its run ends.
+use Rattle.std.specs.Prelude.{◌≡◌, ◌⊎◌, ⊤, Bool, true, List, [], ◌∷◌, Option, Some, None}
+use Rattle.ddcmp_session.specs.Session.{SessionView, is_delivered}
+use Rattle.ddcmp_session.specs.Calls.{SessionCall, SessionHistory, SessionStep, HasClosed, Closed}
+use Rattle.ddcmp_session.specs.Calls.{after_session_step}
 use Rattle.ddcmp_session.specs.Connections.{Connection, AreDone, after_all}
 use Rattle.ddcmp_session.specs.Devices.{Agrees, BuffersView, HasReported, Traffic}
 use Rattle.ddcmp_session.specs.declared.devices.Fault.{Fault}
@@ -14,12 +15,22 @@ line_begun t = record t { came = []; gone = [] }
 abbrev pub none_received : BuffersView → BuffersView
 none_received held = record held { received = []; down = None }
 
--- The history of a session went on to this one, over as many lines as it was connected on, and
--- agrees with its devices again.
+-- a call after which the run goes on
+abbrev pub IsOfOpen : SessionCall → Type 0
+IsOfOpen (Closed left is_at_end is_reported) = ⊥
+IsOfOpen _ = ⊤
+
+abbrev pub AreOfOpen : List SessionStep → Type 0
+AreOfOpen [] = ⊤
+AreOfOpen (step ∷ rest) = IsOfOpen step.call × AreOfOpen rest
+
+-- The history of a session went on to this one, over as many lines as it was connected on, without
+-- closing it, and agrees with its devices again.
 pub record WentOver (c : Connection) (new : SessionView) (held : BuffersView) (t : Traffic)
     : Type 0 where
   pub steps : List SessionStep
   pub calls : AreDone steps c
+  pub only : AreOfOpen steps
   pub session : (after_all steps c).history.session ≡ new
   pub agrees : Agrees held (after_all steps c).history t
 
@@ -37,10 +48,25 @@ ReportsOver held old before after fault = (c : Connection) (t now : Traffic)
     → c.history.session ≡ old → before ≡ Some t → Agrees held c.history t → after ≡ Some now
     → HasReported fault now
 
--- The same, and at its end the session was closed, with what is held of its input.
-pub record Ends (held : BuffersView) (old : SessionView) (before : Option Traffic)
-    (new_held : BuffersView) (new : SessionView) (after : Option Traffic) : Type 0 where
+-- The session was closed, with what is held of its input, and agrees with its devices as before.
+pub record Closes (held : BuffersView) (old new : SessionView) : Type 0 where
+  pub is_reported : Bool
+  pub closed : HasClosed held.input held.is_over is_reported old new
+  pub agrees : (h : SessionHistory) (t : Traffic) → h.session ≡ old → Agrees held h t
+      → Agrees held (after_session_step (record {
+        call = Closed held.input held.is_over is_reported;
+        session = new;
+      }) h) t
+
+-- A run may end well once all is delivered, or if its station has run before its last line ended.
+abbrev pub MayEndWell : SessionView → Type 0
+MayEndWell s = (is_delivered s ≡ true) ⊎ (s.course.has_run ≡ true)
+
+-- A session went on over its lines, and was closed then; it may have ended well if it says so.
+pub record Ends (is_well : Bool) (held : BuffersView) (old : SessionView)
+    (before : Option Traffic) (new_held : BuffersView) (new : SessionView)
+    (after : Option Traffic) : Type 0 where
   pub unclosed : SessionView
   pub over : GoesOver held old before new_held unclosed after
-  pub is_reported : Bool
-  pub closed : HasClosed new_held.input new_held.is_over is_reported unclosed new
+  pub closes : Closes new_held unclosed new
+  pub well : is_well ≡ true → MayEndWell unclosed

@@ -53,13 +53,11 @@ impl Drop for Buffers {
 }
 
 impl Buffers {
-    ghost use Rattle.std.specs.Prelude.{◌≡◌, Bool, Option, true, false, [], is_ok};
+    ghost use Rattle.std.specs.Prelude.{◌≡◌, Option, true, false, [], is_ok};
     ghost use Rattle.ddcmp_core.specs.Table.{after_halt, answer_to_start};
-    ghost use Rattle.ddcmp_session.specs.Calls.{HasClosed};
     ghost use Rattle.ddcmp_session.specs.Devices.{Becomes, Traffic, reads_input, reads_line};
     ghost use Rattle.ddcmp_session.specs.Devices.{wanted};
-    ghost use Rattle.ddcmp_session.specs.Lines.{GoesOver, line_begun};
-    ghost use Rattle.ddcmp_session.specs.Lines.{none_received};
+    ghost use Rattle.ddcmp_session.specs.Lines.{Closes, GoesOver, line_begun, none_received};
     ghost use Rattle.ddcmp_session.specs.Session.{after_connected};
 
     /// Makes empty ones. They take all the memory that they will need.
@@ -122,10 +120,7 @@ impl Buffers {
 
     /// Ends the run of a session. The messages that were read and that it hasn't had are lost.
     pub fn close(&self, session: &mut Session)
-        ensures closed { (told : Bool)
-            × HasClosed self.now.input self.now.is_over told session.old session.new }
-        ensures over { (known : Option Traffic)
-            → GoesOver self.now session.old known self.now session.new known }
+        ensures { Closes self.now session.old session.new }
     {
         let _has_room = session.close(self.input.rest(), self.input_is_over);
     }

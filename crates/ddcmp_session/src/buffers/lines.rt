@@ -1,5 +1,5 @@
 //! A session over one line after the other.
-ghost use Rattle.std.specs.Prelude.{◌≡◌, ◌≢◌, ◌<◌, Err, Ok, ℕ, false, true};
+ghost use Rattle.std.specs.Prelude.{◌≡◌, ◌≢◌, ◌⊎◌, ◌<◌, Err, Ok, ℕ, false, true};
 ghost use Rattle.ddcmp_session.specs.Devices.{BuffersView};
 ghost use Rattle.ddcmp_session.specs.Lines.{GoesOver, ReportsOver};
 ghost use Rattle.ddcmp_session.specs.declared.devices.Fault.{Fault as FaultValue};
@@ -25,9 +25,9 @@ pub enum Stop<R> {
 }
 
 impl Buffers {
-    ghost use Rattle.std.specs.Prelude.{◌≡◌, ◌≢◌, ◌⊎◌, ◌<◌, Err, Ok, ℕ, false};
+    ghost use Rattle.std.specs.Prelude.{◌≡◌, ◌≢◌, ◌⊎◌, ◌<◌, Err, Ok, ℕ, false, is_ok, true};
     ghost use Rattle.ddcmp_session.specs.Devices.{GoesOn, Reports};
-    ghost use Rattle.ddcmp_session.specs.Session.{SessionView};
+    ghost use Rattle.ddcmp_session.specs.Session.{SessionView, is_delivered};
     ghost use Rattle.ddcmp_session.specs.Lines.{Ends, GoesOver, ReportsOver};
     ghost use Rattle.ddcmp_session.specs.declared.devices.Fault.{Fault as FaultValue};
 
@@ -39,7 +39,7 @@ impl Buffers {
         session: &mut Session,
         devices: &mut D,
     ) -> Result<(), Stop<D::Refusal>>
-        ensures ends { Ends self.old session.old (D.traffic devices.old)
+        ensures ends { Ends (is_ok result) self.old session.old (D.traffic devices.old)
             self.new session.new (D.traffic devices.new) }
         ensures whole { result ≡ Ok tt → session.new.course.lost ≡ 0 }
         ensures lost { (count : ℕ) → result ≡ Err (Stop.Lost count)
@@ -66,6 +66,7 @@ impl Buffers {
         ensures reports { (fault : FaultValue) → fault ≢ Fault.Time
             → result ≡ Err (Stop.Device fault) → ReportsOver self.old session.old
             (D.traffic devices.old) (D.traffic devices.new) fault }
+        ensures delivered { result ≡ Ok tt → is_delivered session.new ≡ true }
         ensures unjudged { (count : ℕ) → result ≢ Err (Stop.Lost count) }
     {
         match devices.begin_lines(session) {
@@ -99,6 +100,7 @@ impl Buffers {
         ensures reports { (fault : FaultValue) → fault ≢ Fault.Time
             → result ≡ Err (Stop.Device fault) → ReportsOver self.old session.old
             (D.traffic devices.old) (D.traffic devices.new) fault }
+        ensures delivered { result ≡ Ok true → is_delivered session.new ≡ true }
         ensures unjudged { (count : ℕ) → result ≢ Err (Stop.Lost count) }
     {
         match self.begin(session, devices) {
@@ -185,7 +187,8 @@ impl Buffers {
         ran: Result<(), Stop<D::Refusal>>,
     ) -> Result<(), Stop<D::Refusal>>
         requires unjudged { (count : ℕ) → ran ≢ Err (Stop.Lost count) }
-        ensures ends { Ends self.old session.old (D.traffic devices.old)
+        requires delivered { ran ≡ Ok tt → is_delivered session.old ≡ true }
+        ensures ends { Ends (is_ok result) self.old session.old (D.traffic devices.old)
             self.new session.new (D.traffic devices.new) }
         ensures whole { result ≡ Ok tt → session.new.course.lost ≡ 0 }
         ensures lost { (count : ℕ) → result ≡ Err (Stop.Lost count)
@@ -237,6 +240,7 @@ fn verdict<R: Copy>(ran: Result<(), Stop<R>>, has_run: bool, lost: u64) -> Resul
     ensures lost { (count : ℕ) → result ≡ Err (Stop.Lost count)
         → (count ≡ lost) × (0 < count) }
     ensures left { result ≡ Err Stop.Left → has_run ≡ false }
+    ensures well { result ≡ Ok tt → (ran ≡ result) ⊎ (has_run ≡ true) }
     ensures device { (fault : FaultValue) → result ≡ Err (Stop.Device fault) → ran ≡ result }
 {
     let is_over = is_over(&ran);

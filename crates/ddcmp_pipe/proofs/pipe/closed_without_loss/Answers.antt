@@ -1,3 +1,4 @@
+use Rattle.ddcmp_pipe.proofs.Anew.{closed_anew_a, closed_anew_b}
 use Rattle.ddcmp_pipe.specs.Pipe.{PipesClosed}
 use Rattle.ddcmp_pipe.proofs.Outcomes.{closed_a, closed_b, over_honest, over_streams}
 use Rattle.ddcmp_pipe.proofs.pipe.closed_without_loss.Goals as goal
@@ -15,3 +16,9 @@ returns-clause-connected_to_b c =
 pub returns-clause-connected_to_a : goal.returns-clause-connected_to_a
 returns-clause-connected_to_a c =
     over_streams (λ first second p. PipesClosed second p.b p.a) closed_a
+
+pub returns-clause-anew_to_b : goal.returns-clause-anew_to_b
+returns-clause-anew_to_b c = closed_anew_b
+
+pub returns-clause-anew_to_a : goal.returns-clause-anew_to_a
+returns-clause-anew_to_a c = closed_anew_a

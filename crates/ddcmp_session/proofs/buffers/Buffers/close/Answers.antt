@@ -12,24 +12,18 @@ closed left is_at_end s =
     lost_more (lost_by_end s)
     (lost_more (lost_at_end left is_at_end s) (lost_more (lost_among left s) s.course))
 
-pub returns-clause-closed : goal.returns-clause-closed
+pub returns : goal.returns
 unfolding closed
-returns-clause-closed c = (
-  c.close-has_room.result,
-  record {
-    link = c.close-has_room.ensures.link;
-    wrote = c.close-has_room.ensures.wrote;
-    form = c.close-has_room.ensures.form;
-    course =
-        c.close-has_room.ensures.course
-        ∙ ap (λ xs. closed xs c.self.inside.input_is_over c.args.session.now) c.rest.ensures
-        ∙ ap (λ (b : BuffersView). closed b.input b.is_over c.args.session.now) c.self.view_is;
-    stays = c.close-has_room.ensures.stays;
-  },
-)
-
-pub returns-clause-over : goal.returns-clause-over
-unfolding returns-clause-closed
-returns-clause-over c = λ known.
-    run-closed c.args.self.now.input c.args.self.now.is_over c.close-has_room.result
-    c.args.session.now c.close-has_room.new.self (returns-clause-closed c).1
+returns c =
+    run-closed c.args.self.now c.close-has_room.result c.args.session.now
+    c.close-has_room.new.self
+    (record {
+      link = c.close-has_room.ensures.link;
+      wrote = c.close-has_room.ensures.wrote;
+      form = c.close-has_room.ensures.form;
+      course =
+          c.close-has_room.ensures.course
+          ∙ ap (λ xs. closed xs c.self.inside.input_is_over c.args.session.now) c.rest.ensures
+          ∙ ap (λ (b : BuffersView). closed b.input b.is_over c.args.session.now) c.self.view_is;
+      stays = c.close-has_room.ensures.stays;
+    })

@@ -8,8 +8,8 @@ returns-clause-ends g c = record {
   over =
       over-then c.run_each-ran.ensures.over
       (over-then (none-over refl c.close_line.ensures) c.judge.ensures.ends.over);
-  is_reported = c.judge.ensures.ends.is_reported;
-  closed = c.judge.ensures.ends.closed;
+  closes = c.judge.ensures.ends.closes;
+  well = c.judge.ensures.ends.well;
 }
 
 pub returns-clause-reports : goal.returns-clause-reports

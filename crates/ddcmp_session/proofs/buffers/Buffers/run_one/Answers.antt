@@ -24,5 +24,6 @@ returns-in-Err-run g c = record {
   over = over-then c.begin.ensures.over (goes-over c.run.ensures.on);
   reports = λ fault untimed e.
       reports-over c.begin.ensures.over (c.in-Err-run.ensures.reports fault (same-fault e));
+  delivered = λ e. cc;
   unjudged = λ count e. cc;
 }

@@ -1,0 +1,75 @@
+-- What a session has lost that is connected again.
+use Rattle.std.proofs.Common.{◌≡◌, refl, sym, subst, ℕ, List, [], ◌∷◌}
+use Rattle.ddcmp_run.specs.declared.event.End.{End}
+use Rattle.ddcmp_run.specs.declared.event.End.TheVariants.{A, B}
+use Rattle.ddcmp_session.specs.Session.{SessionView}
+use Rattle.ddcmp_session.specs.Calls.{SessionCall, Typed, InputEnded, Connected, LineEnded}
+use Rattle.ddcmp_session.specs.Calls.{Received, Filled, LineTook, TimedOut, TimePassed, Delivered}
+use Rattle.ddcmp_session.specs.Calls.{OutputTook, Closed, SessionStep}
+use Rattle.ddcmp_session.specs.Connections.{Connection, Does, after_step}
+use Rattle.ddcmp_pipe.specs.Connections.{AreCalls, Connections, after_step_at, after_steps, at}
+use Rattle.ddcmp_pipe.proofs.Losing.{Counted, connected-counts, step-counts}
+
+does-counts : (call : SessionCall) (text : List ℕ) (old new : SessionView)
+    → Does call text old new → Counted old → Counted new
+does-counts Connected text old new d = connected-counts old new d
+does-counts (Typed used) text old new d = step-counts (Typed used) text old new d
+does-counts InputEnded text old new d = step-counts InputEnded text old new d
+does-counts (LineEnded r) text old new d = step-counts (LineEnded r) text old new d
+does-counts (Received used) text old new d = step-counts (Received used) text old new d
+does-counts (Filled n) text old new d = step-counts (Filled n) text old new d
+does-counts (LineTook n) text old new d = step-counts (LineTook n) text old new d
+does-counts (TimedOut now) text old new d = step-counts (TimedOut now) text old new d
+does-counts TimePassed text old new d = step-counts TimePassed text old new d
+does-counts (Delivered has) text old new d = step-counts (Delivered has) text old new d
+does-counts (OutputTook n) text old new d = step-counts (OutputTook n) text old new d
+does-counts (Closed left over r) text old new d = step-counts (Closed left over r) text old new d
+
+-- a call leads to its session
+pub session-after : (call : SessionCall) (new : SessionView) (c : Connection)
+    → (after_step (record { call = call; session = new }) c).history.session ≡ new
+session-after Connected new c = refl
+session-after (Typed used) new c = refl
+session-after InputEnded new c = refl
+session-after (LineEnded r) new c = refl
+session-after (Received used) new c = refl
+session-after (Filled n) new c = refl
+session-after (LineTook n) new c = refl
+session-after (TimedOut now) new c = refl
+session-after TimePassed new c = refl
+session-after (Delivered has) new c = refl
+session-after (OutputTook n) new c = refl
+session-after (Closed left over r) new c = refl
+
+one-counts : (one : SessionStep) (c : Connection)
+    → Does one.call c.history.used c.history.session one.session → Counted c.history.session
+    → Counted (after_step one c).history.session
+one-counts one c d was =
+    subst Counted (sym (session-after one.call one.session c))
+    (does-counts one.call c.history.used c.history.session one.session d was)
+
+pub counts-anew-a : (steps : List (End × SessionStep)) (p : Connections) → AreCalls steps p
+    → Counted p.a.history.session → Counted (after_steps steps p).a.history.session
+unfolding after_steps
+counts-anew-a [] p does was = was
+counts-anew-a (step ∷ rest) p does was =
+    counts-anew-a rest (after_step_at step.0 step.1 p) does.1 (by step.0 step.1 does.0)
+  where
+    by : (end : End) (one : SessionStep)
+        → Does one.call (at end p).history.used (at end p).history.session one.session
+        → Counted (after_step_at end one p).a.history.session
+    by A one d = one-counts one p.a d was
+    by B one d = was
+
+pub counts-anew-b : (steps : List (End × SessionStep)) (p : Connections) → AreCalls steps p
+    → Counted p.b.history.session → Counted (after_steps steps p).b.history.session
+unfolding after_steps
+counts-anew-b [] p does was = was
+counts-anew-b (step ∷ rest) p does was =
+    counts-anew-b rest (after_step_at step.0 step.1 p) does.1 (by step.0 step.1 does.0)
+  where
+    by : (end : End) (one : SessionStep)
+        → Does one.call (at end p).history.used (at end p).history.session one.session
+        → Counted (after_step_at end one p).b.history.session
+    by A one d = was
+    by B one d = one-counts one p.b d was
