@@ -14,6 +14,8 @@ use Rattle.ddcmp_core.specs.declared.notice.Notice.{Notice}
 use Rattle.ddcmp_core.specs.Table.{Frame, Limits, StationState, is_running, is_on, has_room}
 use Rattle.ddcmp_core.specs.Table.{may_start, after_start, send_refusal, may_send, after_accept}
 use Rattle.ddcmp_core.specs.Table.{after_take, next, next_frame, acknowledged_by}
+use Rattle.ddcmp_core.specs.Table.{after_enter_maintenance, send_maintenance_refusal}
+use Rattle.ddcmp_core.specs.Table.{may_send_maintenance}
 use Rattle.ddcmp_core.specs.Core.{CoreView}
 use Rattle.ddcmp_core.specs.Frames.{header_of}
 use Rattle.ddcmp_proto.specs.Bytes.{after_poll, frame_on_line}
@@ -80,6 +82,10 @@ limits_in d = d.station.core.limits
 abbrev pub started : StationState → StationState
 started s = if may_start s then after_start s else s
 
+-- enter_maintenance
+abbrev pub entered : StationState → StationState
+entered s = if may_start s then after_enter_maintenance s else s
+
 -- the deadline is looked after as `drive` does at the beginning of a turn
 abbrev pub after_wake : ℕ → LinkView → LinkView
 after_wake now d = record d {
@@ -117,6 +123,20 @@ after_offered message d =
 abbrev pub answer_to_offered : List ℕ → LinkView → Result (Unit {0}) SendRefusal
 answer_to_offered message d =
     answer_unless (send_refusal d.station.core.limits d.station.core.station message) tt
+
+-- the same in Maintenance
+abbrev pub after_offered_maintenance : List ℕ → LinkView → LinkView
+after_offered_maintenance message d =
+    if may_send_maintenance d.station.core.limits d.station.core.station message
+    then record (with_state (after_accept d.station.core.station message) d) {
+      totals = record d.totals { sent = total_plus d.totals.sent 1 };
+    }
+    else d
+
+abbrev pub answer_to_offered_maintenance : List ℕ → LinkView → Result (Unit {0}) SendRefusal
+answer_to_offered_maintenance message d =
+    answer_unless (send_maintenance_refusal d.station.core.limits d.station.core.station message)
+    tt
 
 -- ---- frames pending for the line
 
@@ -226,6 +246,19 @@ anew line d = record d {
   station = record {
     core = record d.station.core {
       station = started (core_after_halt d.station.core).station;
+    };
+    syn = d.station.syn;
+    line = line;
+  };
+  outbox = no_bytes;
+}
+
+-- the same, but for maintenance
+abbrev pub anew_for_maintenance : ReaderView → LinkView → LinkView
+anew_for_maintenance line d = record d {
+  station = record {
+    core = record d.station.core {
+      station = entered (core_after_halt d.station.core).station;
     };
     syn = d.station.syn;
     line = line;

@@ -84,7 +84,10 @@ impl Link {
     ghost use Rattle.ddcmp_station.specs.Linking.{after_frames, after_sent, countable};
     ghost use Rattle.ddcmp_station.specs.Linking.{totals_after_feed, after_taking, delivered};
     ghost use Rattle.ddcmp_station.specs.Linking.{holds_back, carries_message};
-    ghost use Rattle.ddcmp_station.specs.Driving.{expires_at};
+    ghost use Rattle.ddcmp_station.specs.Linking.{anew_for_maintenance, no_bytes, total_plus};
+    ghost use Rattle.ddcmp_station.specs.Linking.{after_offered_maintenance};
+    ghost use Rattle.ddcmp_station.specs.Linking.{answer_to_offered_maintenance};
+    ghost use Rattle.ddcmp_station.specs.Driving.{core_after_halt, expires_at};
 
     /// Makes a halted link, whose timer expires `timer_ms` milliseconds after it was started.
     pub fn new(alloc: Global, config: Config, timer_ms: u32) -> Result<Link, ConfigRefusal>
@@ -144,10 +147,36 @@ impl Link {
         ensures cleared { StandsFor self.new.station.line [] }
         ensures answer { result ≡ answer_to_start (after_halt self.old.station.core.station) }
     {
+        self.clear();
+        self.start()
+    }
+
+    /// Does the same as `begin_anew`, but enters maintenance mode, where `offer_maintenance` takes the
+    /// place of `offer`.
+    pub fn begin_maintenance(&mut self) -> Result<u8, StartRefusal>
+        ensures state { self.new ≡ anew_for_maintenance self.new.station.line self.old }
+        ensures cleared { StandsFor self.new.station.line [] }
+        ensures answer { result ≡ answer_to_start (after_halt self.old.station.core.station) }
+    {
+        self.clear();
+        self.station.enter_maintenance()
+    }
+
+    /// Halts the station, and drops what is pending for the line and the bytes received from it.
+    fn clear(&mut self)
+        ensures state { self.new ≡ record self.old {
+          station = record {
+            core = core_after_halt self.old.station.core;
+            syn = self.old.station.syn;
+            line = self.new.station.line;
+          };
+          outbox = no_bytes;
+        } }
+        ensures cleared { StandsFor self.new.station.line [] }
+    {
         self.halt();
         self.station.clear_line();
         self.outbox.clear();
-        self.start()
     }
 
     /// Handles the reply timer: returns whether it expired. Call it last before a wait, and first
@@ -188,11 +217,33 @@ impl Link {
     {
         match self.station.send(message) {
             Ok(_number) => {
-                self.totals.sent = self.totals.sent.saturating_add(1);
+                self.count_sent();
                 Ok(())
             }
             Err(refusal) => Err(refusal),
         }
+    }
+
+    /// Accepts a message to be sent in maintenance mode: once, unnumbered, and never acknowledged.
+    pub fn offer_maintenance(&mut self, message: &[u8]) -> Result<(), SendRefusal>
+        ensures state { self.new ≡ after_offered_maintenance message.now self.old }
+        ensures answer { result ≡ answer_to_offered_maintenance message.now self.old }
+    {
+        match self.station.send_maintenance(message) {
+            Ok(()) => {
+                self.count_sent();
+                Ok(())
+            }
+            Err(refusal) => Err(refusal),
+        }
+    }
+
+    fn count_sent(&mut self)
+        ensures { self.new ≡ record self.old {
+          totals = record self.old.totals { sent = total_plus self.old.totals.sent 1 };
+        } }
+    {
+        self.totals.sent = self.totals.sent.saturating_add(1);
     }
 
     /// Puts the next frame after what is pending for the line; returns whether there was one and
