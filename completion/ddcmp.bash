@@ -28,7 +28,7 @@ _ddcmp() {
     tap:*) words='--listen --connect --again --json --ladder --time --max -h --help' ;;
     link:--window | link:--inbox | link:--max | link:--syn | link:--timer-ms | link:--attempts | link:--linger-ms | link:--seconds | link:--report) ;;
     link:--line) words='connect: listen: udp: device:' ;;
-    link:*) words='--line --window --inbox --max --syn --restart --timer-ms --attempts --linger-ms --seconds --report --binary --stay --again --counters --trace --clock --json -h --help' ;;
+    link:*) words='--line --window --inbox --max --syn --restart --timer-ms --attempts --linger-ms --seconds --report --binary --maintenance --stay --again --counters --trace --clock --json -h --help' ;;
     bridge:--seconds | bridge:--lose | bridge:--damage | bridge:--seed) ;;
     bridge:*) words='--seconds --lose --damage --seed --trace --ladder -h --help' ;;
   esac

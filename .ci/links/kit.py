@@ -37,6 +37,12 @@ def is_listening(port):
         return any(it.split()[3] == "0A" and it.split()[1].endswith(f":{port:04X}") for it in lines)
 
 
+def is_bound(port):
+    """Whether a port has a socket of datagrams."""
+    with open("/proc/net/udp", encoding="ascii") as lines:
+        return any(it.split()[1].endswith(f":{port:04X}") for it in lines)
+
+
 def server(backlog=128):
     made = socket.create_server(("127.0.0.1", 0), backlog=backlog)
     made.settimeout(LONG)

@@ -1,5 +1,6 @@
 -- How a link of the command line ends.
-use Rattle.std.specs.Prelude.{◌≡◌, ◌≢◌, ◌⊎◌, ℕ, List, Option, Some, None, Result, Ok, Err}
+use Rattle.std.specs.Prelude.{◌≡◌, ◌≢◌, ◌⊎◌, ◌==◌, ◌&&◌, ◌||◌, not, ℕ, Bool, true, false, List}
+use Rattle.std.specs.Prelude.{Option, Some, None, Result, Ok, Err}
 use Rattle.ddcmp_session.specs.declared.options.Options.{Options}
 use Rattle.ddcmp_service.specs.LineNames.{word_of}
 use Rattle.ddcmp_service.specs.declared.fault.ServiceFault.{ServiceFault}
@@ -35,12 +36,22 @@ LinkEnds (Err service.Read) ending = ending ≡ Faulted Read
 LinkEnds (Err service.Write) ending = ending ≡ Faulted Write
 LinkEnds (Err service.Memory) ending = ending ≡ Faulted Memory
 
--- What became of a link that was asked for. A word that names no line is refused; else a link was
--- run over the line of that word, with these options, and the program ends as that did.
+-- There is no window in maintenance, no reply timer and no restart: their options mean nothing.
+abbrev pub means_nothing : Options → Bool
+means_nothing o =
+    o.maintenance
+    && (not (o.config.window == 7) || o.config.restart || not (o.timer_ms == 3000)
+    || not (o.attempts == 4294967295))
+
+-- What became of a link that was asked for. A word that names no line is refused, and so are
+-- options that mean nothing; else a link was run over the line of that word, with these options,
+-- and the program ends as that did.
 abbrev pub Links : LinesKnown → Linked → Ending → Type 0
 Links lines linked ending =
     (((line : LineName) → word_of line ≢ linked.line.now) × IsNoLine ending)
+    ⊎ ((means_nothing linked.options ≡ true) × IsNoLine ending)
     ⊎ ((line : LineName) × (word_of line ≡ linked.line.now)
+    × (means_nothing linked.options ≡ false)
     × (ended : Result Served ServiceFault)
     × ((known : Result Served ServiceFault)
     → lines.links (word_of line) linked.options ≡ Some known → ended ≡ known)

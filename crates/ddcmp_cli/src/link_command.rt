@@ -1,6 +1,6 @@
 //! `link`: messages between a line and the program's streams.
 ghost use Rattle.std.specs.Prelude.{◌≡◌, ◌≢◌, ◌↔◌, Err, IsTrue, false};
-ghost use Rattle.ddcmp_cli.specs.LinkEndings.{LinkEnds, Links};
+ghost use Rattle.ddcmp_cli.specs.LinkEndings.{LinkEnds, Links, means_nothing};
 ghost use Rattle.ddcmp_cli.specs.TapEndings.{IsUnopened};
 
 use crate::ending::Ending;
@@ -17,6 +17,28 @@ use std::alloc::Global;
 /// The usage error for another value of `--line`.
 const NO_LINE: &str =
     "'--line' is connect:HOST:PORT, listen:HOST:PORT, udp:LOCAL,REMOTE or device:PATH";
+
+/// The usage error for options that mean nothing in maintenance mode.
+const NOT_IN_MAINTENANCE: &str = "'--maintenance' acknowledges nothing: \
+    it takes no '--window', '--restart', '--timer-ms' or '--attempts'";
+
+/// The values of these options if they aren't given.
+const USUAL_WINDOW: u16 = 7;
+
+const USUAL_TIMER_MS: u32 = 3000;
+
+const USUAL_ATTEMPTS: u32 = u32::MAX;
+
+/// Whether options were given that mean nothing in maintenance mode.
+fn means_nothing(options: &Options) -> bool
+    ensures { result ≡ means_nothing options.now }
+{
+    options.maintenance
+        && (options.config.window != USUAL_WINDOW
+            || options.config.restart
+            || options.timer_ms != USUAL_TIMER_MS
+            || options.attempts != USUAL_ATTEMPTS)
+}
 
 /// The ending if the line can't be opened.
 pub(crate) fn no_line(alloc: Global, fault: &NotOpened<'_>) -> Ending
@@ -108,6 +130,9 @@ pub(crate) fn link<S: Lines, R: Source, W: Sink>(
     let Some(line) = LineName::read(linked.line) else {
         return usage(alloc, NO_LINE);
     };
+    if means_nothing(&linked.options) {
+        return usage(alloc, NOT_IN_MAINTENANCE);
+    }
     let ended = system.serve_line(alloc, line, linked.options, reader, writer);
     ending_of(alloc, ended)
 }

@@ -18,6 +18,7 @@ fn options(form: Form) -> Options {
         seconds: 100,
         report: 1,
         form,
+        maintenance: false,
         stay: false,
         again: true,
         counters: true,

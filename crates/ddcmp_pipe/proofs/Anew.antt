@@ -6,8 +6,7 @@ use Rattle.std.proofs.Math.Seq.{drop-append_seam}
 use Rattle.ddcmp_input.specs.declared.entry.Entry.{Entry}
 use Rattle.ddcmp_input.specs.declared.entry.Entry.TheVariants.{Message, NotHexadecimal, TooLong}
 use Rattle.ddcmp_input.specs.declared.entry.Entry.TheVariants.{Empty}
-use Rattle.std.specs.Prelude.{◌||◌, is_ok}
-use Rattle.ddcmp_core.specs.Table.{after_halt, answer_to_start}
+use Rattle.std.specs.Prelude.{◌||◌}
 use Rattle.ddcmp_proto.specs.Config.{first_refusal}
 use Rattle.ddcmp_input.specs.InBinary.{in_binary}
 use Rattle.ddcmp_station.specs.Linking.{LinkView, after_frame, anew, delivered}
@@ -36,7 +35,7 @@ use Rattle.ddcmp_session.specs.Calls.{OutputTook}
 use Rattle.ddcmp_session.specs.Calls.{Closed, SessionDoes, SessionStep}
 use Rattle.ddcmp_session.specs.Calls.{after_session_step}
 use Rattle.ddcmp_session.specs.Course.{after_connecting}
-use Rattle.ddcmp_session.specs.Session.{after_connected}
+use Rattle.ddcmp_session.specs.Session.{after_connected, starts}
 use Rattle.ddcmp_pipe.specs.Sessions.{messages_of, mail_in, link_steps_of, offers_of, frames_put}
 use Rattle.ddcmp_pipe.specs.Sessions.{texts_of}
 use Rattle.ddcmp_pipe.specs.Pipe.{Made, links_made, steps_at_end}
@@ -52,7 +51,7 @@ use Rattle.ddcmp_pipe.proofs.Holding.{Holds, link_history, parts}
 use Rattle.ddcmp_pipe.proofs.Outcomes.{binary_more, last_true}
 use Rattle.ddcmp_pipe.proofs.Texts.{IsText, only_mail}
 use Rattle.ddcmp_pipe.proofs.LinkSteps.{begins, step_leads, link_only, same_link, with_line}
-use Rattle.ddcmp_pipe.proofs.LinkSteps.{holds_with_line}
+use Rattle.ddcmp_pipe.proofs.LinkSteps.{holds_with_line, connected_is}
 
 -- ---- calls of a link that don't begin it anew
 
@@ -260,12 +259,12 @@ begins_anew made new c k is stays =
     let f = made.options.form in
     let max = made.options.config.max in
     let h = c.history in
-    let b = is_ok (answer_to_start (after_halt h.session.link.station.core.station))
-    || h.session.has_line in
+    let b = starts h.session || h.session.has_line in
+    let same = connected_is h.session new stays.holds.of_data is in
     let course = after_connecting h.session.course in
     let input = messages_of f max (h.input ++ []) in
     let mail = mail_in (h.shown ++ []) in (
-      (ap (λ (x : SessionView). x.link) is, tt),
+      (ap (λ (x : SessionView). x.link) same, tt),
       (
         0,
         λ i. parts new.link [] [] (sym (all_left_out input) i) (sym (all_left_out mail) i) 0,
@@ -275,8 +274,8 @@ begins_anew made new c k is stays =
             link_only f max (with_line b course h) new [] []
             (holds_with_line f max b course h stays.holds)
             (same_link (with_line b course h).session new
-            (anew new.link.station.line h.session.link) is)
-            (ap (λ (x : SessionView). x.link.station.core.limits.longest) is);
+            (anew new.link.station.line h.session.link) same)
+            (ap (λ (x : SessionView). x.link.station.core.limits.longest) same);
         read = none_since input;
         delivered = none_since mail;
       },
@@ -449,7 +448,7 @@ writes_anew made c s is =
 
 stays_first : (made : Made) → Stays made (first_connection made)
 stays_first made = record {
-  holds = (begins made.options made.kind made.line).0;
+  holds = (begins made.options made.kind made.line made.of_data).0;
   read = none_since (messages_of made.options.form made.options.config.max []);
   delivered = none_since (mail_in []);
 }
@@ -475,7 +474,7 @@ since_first : (made : Made)
     → links.new_history made.options.config made.options.timer_ms made.line
     ≡ since made (first_connection made) 0
 since_first made =
-    (begins made.options made.kind made.line).1
+    (begins made.options made.kind made.line made.of_data).1
     ∙ (λ i. parts (first_connection made).history.session.link [] []
     (e (messages_of made.options.form made.options.config.max []) (ap (λ (l : LinkHistory). l.accepted) begun) i)
     (e (mail_in []) (ap (λ (l : LinkHistory). l.taken) begun) i) 0)
@@ -483,7 +482,7 @@ since_first made =
     begun
         : link_history made.options.form made.options.config.max (first_connection made).history 0
         ≡ links.new_history made.options.config made.options.timer_ms made.line
-    begun = sym (begins made.options made.kind made.line).1
+    begun = sym (begins made.options made.kind made.line made.of_data).1
 
     e : (a : List (List ℕ)) → a ≡ [] → a ≡ drop (length a) a
     e a none = none ∙ sym (all_left_out a)

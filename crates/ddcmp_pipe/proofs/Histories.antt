@@ -1,5 +1,5 @@
 -- Histories of a session.
-use Rattle.std.proofs.Common.{◌≡◌, ℕ, List, [], ◌∷◌}
+use Rattle.std.proofs.Common.{◌≡◌, ℕ, false, List, [], ◌∷◌}
 use Rattle.std.proofs.Common.{◌++◌, refl, sym, ◌∙◌, ap, subst}
 use Rattle.std.proofs.Common.{append_assoc, append-nil}
 use Rattle.ddcmp_frame.specs.Reader.{ReaderView}
@@ -12,7 +12,6 @@ use Rattle.ddcmp_callers.specs.Links.{offered_in}
 use Rattle.ddcmp_session.specs.Calls.{SessionHistory, new_session, SessionStep}
 use Rattle.ddcmp_session.specs.Calls.{after_session_step, IsSessionHistory, after_session_steps}
 use Rattle.ddcmp_pipe.specs.Sessions.{messages_of, link_steps_of, link_steps_in, IsOfLink}
-use Rattle.ddcmp_pipe.proofs.Texts.{IsText}
 use Rattle.ddcmp_pipe.proofs.Holding.{Holds, Leads, StepLeads, link_history}
 use Rattle.ddcmp_pipe.proofs.LinkSteps.{begins, step_leads}
 
@@ -70,6 +69,7 @@ history_leads f max (step ∷ rest) h k does holds =
 -- ---- from a new session
 
 module _ (o : Options) (kind : LineKind) (line : ReaderView) (steps : List SessionStep)
+    (of_data : o.maintenance ≡ false)
     (does : IsSessionHistory steps (new_session o kind line)) where
   abbrev new : SessionHistory
   new = new_session o kind line
@@ -77,13 +77,13 @@ module _ (o : Options) (kind : LineKind) (line : ReaderView) (steps : List Sessi
   leads : HistoryLeads o.form o.config.max steps (new_session o kind line) 0
   leads =
       history_leads o.form o.config.max steps (new_session o kind line) 0 does
-      (begins o kind line).0
+      (begins o kind line of_data).0
 
   pub are_calls : IsHistory (link_steps_in steps (new_session o kind line))
       (new_history o.config o.timer_ms line)
   are_calls =
       subst (IsHistory (link_steps_in steps (new_session o kind line)))
-      (sym (begins o kind line).1) leads.0.0
+      (sym (begins o kind line of_data).1) leads.0.0
 
   pub are_same : IsOfLink o.form o.config.max (after_session_steps steps (new_session o kind line))
       (after_history (link_steps_in steps (new_session o kind line))
@@ -91,7 +91,7 @@ module _ (o : Options) (kind : LineKind) (line : ReaderView) (steps : List Sessi
   are_same =
       let e =
       ap (after_history (link_steps_in steps (new_session o kind line)))
-      (begins o kind line).1
+      (begins o kind line of_data).1
       ∙ leads.0.1.1 in
       record {
         link = ap (λ (l : LinkHistory). l.link) e;
@@ -107,10 +107,4 @@ module _ (o : Options) (kind : LineKind) (line : ReaderView) (steps : List Sessi
       sym
       (leads.2
       ∙ ap (λ xs. xs ++ offered_in (link_steps_in steps (new_session o kind line)))
-      (ap (λ (l : LinkHistory). l.accepted) (sym (begins o kind line).1)))
-
-  pub is_text : IsText o.form
-      (after_session_steps steps (new_session o kind line)).written
-      (after_session_steps steps (new_session o kind line)).session.output
-      (after_session_steps steps (new_session o kind line)).shown
-  is_text = leads.1.text
+      (ap (λ (l : LinkHistory). l.accepted) (sym (begins o kind line of_data).1)))

@@ -24,6 +24,7 @@ pub record Holds (f : Form) (max : ℕ) (h : SessionHistory) : Type 0 where
   pub reads : h.session.is_read ≡ false
       → h.session.messages ≡ after_input h.input (messages_begun f max)
   pub text : IsText f h.written h.session.output h.shown
+  pub of_data : h.session.options.maintenance ≡ false
 
 -- the history of its link
 abbrev pub link_history : Form → ℕ → SessionHistory → ℕ → LinkHistory
@@ -125,13 +126,15 @@ pub holds_on : {told : Bool} (f : Form) (max : ℕ) (h : SessionHistory) (new : 
     (shown : List Shown) → Holds f max h → new.messages ≡ h.session.messages
     → new.is_read ≡ h.session.is_read → longest_of new.link ≡ longest_of h.session.link
     → IsText f written new.output shown
+    → new.options.maintenance ≡ h.session.options.maintenance
     → Holds f max (session_parts told new used gone (h.input ++ []) written shown)
-holds_on {told} f max h new used gone written shown k same read longest text = record {
+holds_on {told} f max h new used gone written shown k same read longest text mode = record {
   kind = ap form_of same ∙ k.kind;
   longest = longest ∙ k.longest;
   reads = λ going. same ∙ k.reads (sym read ∙ going)
       ∙ ap (λ ys. after_input ys (messages_begun f max)) (sym (append-nil h.input));
   text = text;
+  of_data = mode ∙ k.of_data;
 }
 
 -- the text stays

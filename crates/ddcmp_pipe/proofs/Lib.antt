@@ -16,3 +16,4 @@ pub mod RunLaws
 pub mod Story
 pub mod Streaming
 pub mod Texts
+pub mod Writing

@@ -2,8 +2,7 @@
 use Rattle.std.proofs.Common.{◌≡◌, ℕ, Bool, true, false, cond, List, [], ◌∷◌}
 use Rattle.std.proofs.Common.{◌++◌, map, take, refl, sym, ◌∙◌, ap}
 use Rattle.std.proofs.Common.{append-nil, option_to_list}
-use Rattle.std.specs.Prelude.{◌||◌, is_ok}
-use Rattle.ddcmp_core.specs.Table.{after_halt, answer_to_start}
+use Rattle.std.specs.Prelude.{◌||◌}
 use Rattle.ddcmp_frame.specs.Reader.{ReaderView}
 use Rattle.ddcmp_window.specs.Store.{first_message}
 use Rattle.ddcmp_input.specs.declared.entry.Entry.{Entry}
@@ -27,7 +26,8 @@ use Rattle.ddcmp_session.specs.declared.course.Course.{Course}
 use Rattle.ddcmp_session.specs.declared.options.LineKind.{LineKind}
 use Rattle.ddcmp_session.specs.declared.options.Options.{Options}
 use Rattle.ddcmp_session.specs.Course.{after_connecting}
-use Rattle.ddcmp_session.specs.Session.{lost_by_end, after_timeout}
+use Rattle.ddcmp_session.specs.Session.{lost_by_end, after_timeout, after_connected, anew_in}
+use Rattle.ddcmp_session.specs.Session.{after_connecting_in, starts}
 use Rattle.ddcmp_session.specs.Text.{reported_lost, mail_text, notices_text}
 use Rattle.ddcmp_callers.specs.Links.{LinkCall, BeginsAnew, Halts, Wakes, IsSent, Feeds}
 use Rattle.ddcmp_callers.specs.Links.{Takes, HasDone, HasFed, new_history}
@@ -110,7 +110,8 @@ ended_step f max h new k holds e = by (wants_input h.session) refl e
       holds_on f max h new (h.used ++ []) (h.gone ++ []) (h.written ++ []) (h.shown ++ []) holds
           (ap (λ (x : SessionView). x.messages) is) (ap (λ (x : SessionView). x.is_read) is)
           (ap (λ (x : SessionView). longest_of x.link) is)
-          (text_on f max h new holds (ap (λ (x : SessionView). x.output) is)),
+          (text_on f max h new holds (ap (λ (x : SessionView). x.output) is))
+          (ap (λ (x : SessionView). x.options.maintenance) is),
       no_offer f max h.input [] refl,
     )
 
@@ -124,6 +125,7 @@ link_only {told} f max h new used gone k is longest =
     holds_on f max h new used gone (h.written ++ []) (h.shown ++ []) k
     (ap (λ (x : SessionView). x.messages) is) (ap (λ (x : SessionView). x.is_read) is) longest
     (text_on f max h new k (ap (λ (x : SessionView). x.output) is))
+    (ap (λ (x : SessionView). x.options.maintenance) is)
 
 pub same_link : (old new : SessionView) (d : LinkView) → new ≡ record old { link = d }
     → new ≡ record old { link = new.link }
@@ -197,7 +199,8 @@ received_step f max h new k used holds r =
           (fed_longest h.used used h.session.link new.link (fed_of h.used used h.session new r))
           (writes f h.written h.shown (map Reports notices) h.session.output new.output
           (notices_text (form_of h.session.messages) notices) holds.text r.wrote
-          (ap (λ g. notices_text g notices) holds.kind ∙ notices_are f notices)),
+          (ap (λ g. notices_text g notices) holds.kind ∙ notices_are f notices))
+          (ap (λ (x : SessionView). x.options.maintenance) r.stays),
       no_offer f max h.input (link_step (Feeds used) new.link ∷ []) refl,
     )
 
@@ -219,7 +222,8 @@ delivered_step f max h new k holds r =
           (ap longest_of r.link)
           (writes f h.written h.shown (map Mail messages) h.session.output new.output
           (mail_text (form_of h.session.messages) r.wrote.0) holds.text r.wrote.2
-          (ap (λ g. mail_text g r.wrote.0) holds.kind ∙ mail_text_is f first r.wrote.0 r.wrote.1)),
+          (ap (λ g. mail_text g r.wrote.0) holds.kind ∙ mail_text_is f first r.wrote.0 r.wrote.1))
+          (ap (λ (x : SessionView). x.options.maintenance) r.stays),
       no_offer f max h.input (link_step Takes new.link ∷ []) refl,
     )
 
@@ -237,7 +241,8 @@ output_step {told} f max h new k written shown holds is mail text = (
   no_call f max h new k written shown (ap (λ (x : SessionView). x.link) is) mail,
   holds_on f max h new (h.used ++ []) (h.gone ++ []) written shown holds
       (ap (λ (x : SessionView). x.messages) is) (ap (λ (x : SessionView). x.is_read) is)
-      (ap (λ (x : SessionView). longest_of x.link) is) text,
+      (ap (λ (x : SessionView). longest_of x.link) is) text
+      (ap (λ (x : SessionView). x.options.maintenance) is),
   no_offer f max h.input [] refl,
 )
 
@@ -260,7 +265,8 @@ left_step f max h r new k holds d =
           (ap longest_of d.link)
           (writes f h.written h.shown lost h.session.output new.output
           (reported_lost r (form_of h.session.messages) count) holds.text d.wrote
-          (ap (λ g. reported_lost r g count) holds.kind ∙ lost_text_is r f h.session)),
+          (ap (λ g. reported_lost r g count) holds.kind ∙ lost_text_is r f h.session))
+          (ap (λ (x : SessionView). x.options.maintenance) d.stays),
       no_offer f max h.input (link_step Halts new.link ∷ []) refl,
     )
 
@@ -285,6 +291,7 @@ closed_step f max h left over r new k holds d =
             writes f h.written h.shown lost h.session.output new.output
             (reported_lost r (form_of h.session.messages) count) holds.text d.wrote
             (ap (λ g. reported_lost r g count) holds.kind ∙ lost_text_is r f h.session);
+        of_data = ap (λ (x : SessionView). x.options.maintenance) d.stays ∙ holds.of_data;
       },
       no_offer f max h.input (link_step Halts new.link ∷ []) refl,
     )
@@ -300,7 +307,30 @@ with_line has_line course h =
 pub holds_with_line : (f : Form) (max : ℕ) (b : Bool) (c : Course) (h : SessionHistory)
     → Holds f max h → Holds f max (with_line b c h)
 holds_with_line f max b c h k =
-    record { kind = k.kind; longest = k.longest; reads = k.reads; text = k.text }
+    record {
+      kind = k.kind;
+      longest = k.longest;
+      reads = k.reads;
+      text = k.text;
+      of_data = k.of_data;
+    }
+
+-- a session of data was connected
+pub connected_is : (s new : SessionView) → s.options.maintenance ≡ false
+    → new ≡ after_connected new.link.station.line s
+    → new ≡ record s {
+      link = anew new.link.station.line s.link;
+      has_line = starts s || s.has_line;
+      course = after_connecting s.course;
+    }
+connected_is s new of_data e =
+    e
+    ∙ ap
+    (λ b. record s {
+      link = anew_in b new.link.station.line s.link;
+      has_line = starts s || s.has_line;
+      course = after_connecting_in b (starts s) s.course;
+    }) of_data
 
 pub step_leads : (f : Form) (max : ℕ) (step : SessionStep) (h : SessionHistory) (k : ℕ)
     → SessionDoes step.call h.used h.session step.session → Holds f max h
@@ -316,12 +346,12 @@ step_leads f max step h k does holds = by step.call step.session does
         (typed_reads f max h used new holds d)
     by InputEnded new d = ended_step f max h new k holds d
     by Connected new d =
-        let b = is_ok (answer_to_start (after_halt h.session.link.station.core.station))
-        || h.session.has_line in
+        let b = starts h.session || h.session.has_line in
         let c = after_connecting h.session.course in
+        let is = connected_is h.session new holds.of_data d.0 in
         link_step_leads f max (with_line b c h) new k BeginsAnew (h.used ++ []) (h.gone ++ [])
-        (anew new.link.station.line h.session.link) (holds_with_line f max b c h holds) d.0
-        (ap (λ (x : SessionView). x.link) d.0, d.1, d.2) refl refl refl
+        (anew new.link.station.line h.session.link) (holds_with_line f max b c h holds) is
+        (ap (λ (x : SessionView). x.link) is, d.1, d.2) refl refl refl
     by (LineEnded r) new d = left_step f max h r new k holds d
     by (Received used) new d = received_step f max h new k used holds d
     by (Filled frames) new d = filled_step f max h new k frames holds d.0
@@ -371,18 +401,36 @@ begun f o kind line =
     record h { session = record h.session { messages = messages_begun f o.config.max } }
 
 begun_holds : (f : Form) (o : Options) (kind : LineKind) (line : ReaderView)
+    → o.maintenance ≡ false
     → Holds f o.config.max (begun f o kind line)
     × (new_history o.config o.timer_ms line
     ≡ link_history f o.config.max (begun f o kind line) 0)
 unfolding begun got_in mail_in texts_of binary.told_in lines.told_in lengths.after_bytes hex.after_bytes
-begun_holds form.Digits o kind line =
-    (record { kind = refl; longest = refl; reads = λ going. refl; text = refl }, refl)
-begun_holds form.Binary o kind line =
-    (record { kind = refl; longest = refl; reads = λ going. refl; text = refl }, refl)
+begun_holds form.Digits o kind line of_data = (
+  record {
+    kind = refl;
+    longest = refl;
+    reads = λ going. refl;
+    text = refl;
+    of_data = of_data;
+  },
+  refl,
+)
+begun_holds form.Binary o kind line of_data = (
+  record {
+    kind = refl;
+    longest = refl;
+    reads = λ going. refl;
+    text = refl;
+    of_data = of_data;
+  },
+  refl,
+)
 
 pub begins : (o : Options) (kind : LineKind) (line : ReaderView)
+    → o.maintenance ≡ false
     → Holds o.form o.config.max (new_session o kind line)
     × (new_history o.config o.timer_ms line
     ≡ link_history o.form o.config.max (new_session o kind line) 0)
 unfolding begun
-begins o kind line = begun_holds o.form o kind line
+begins o kind line of_data = begun_holds o.form o kind line of_data

@@ -14,7 +14,7 @@ use Rattle.ddcmp_session.specs.Devices.{nothing_read}
 use Rattle.ddcmp_pipe.specs.Loops.{no_traffic, DevicesPipe, DevicesPipeAll, HasRun}
 use Rattle.ddcmp_pipe.specs.Pipe.{Made, session_of, PipesBytes, PipesWhole}
 use Rattle.ddcmp_pipe.specs.Sessions.{texts_of}
-use Rattle.ddcmp_pipe.proofs.Histories.{is_text}
+use Rattle.ddcmp_pipe.proofs.Writing.{is_text}
 
 module _ (made : Made) (connected : SessionView)
     (does : SessionDoes Connected [] (session_of made).session connected) where

@@ -3,7 +3,9 @@
 use Rattle.std.proofs.Common.{◌≡◌, ◌∙◌, ◌⊎◌, inl, inr, ap, sym, refl, ℕ, Bool, true, false}
 use Rattle.std.proofs.Common.{cond, List, [], ◌∷◌, length, zero, suc, Option, Some, None, arith}
 use Rattle.std.proofs.Common.{option_to_list}
-use Rattle.std.specs.Prelude.{◌&&◌, ◌||◌, not, nat_lt, is_none, is_ok}
+use Rattle.std.specs.Prelude.{◌&&◌, ◌||◌, ◌==◌, not, nat_lt, is_none, is_ok}
+use Rattle.ddcmp_frame.proofs.Tests.{eqb-true}
+use Rattle.ddcmp_frame.specs.Reader.{ReaderView}
 use Rattle.ddcmp_frame.specs.Reading.{ReadItem}
 use Rattle.ddcmp_frame.specs.declared.nak.Nak.{Nak}
 use Rattle.ddcmp_input.specs.declared.entry.Entry.{Entry}
@@ -24,6 +26,7 @@ use Rattle.ddcmp_core.specs.Core.{CoreView}
 use Rattle.ddcmp_core.specs.Table.{StationState, after_accept}
 use Rattle.ddcmp_core.specs.Table.{after_expire_in, after_expire_with, after_halt, after_next}
 use Rattle.ddcmp_core.specs.Table.{after_start, is_on, is_running, next}
+use Rattle.ddcmp_core.specs.Table.{after_enter_maintenance, is_maintenance}
 use Rattle.ddcmp_core.specs.Table.{next_by, on, on_by, outgoing, start_refusal, answer_to_start}
 use Rattle.ddcmp_proto.specs.Bytes.{after_item, after_items, items_added, notices_of_piece}
 use Rattle.ddcmp_proto.specs.Bytes.{received_of}
@@ -32,7 +35,7 @@ use Rattle.ddcmp_io.specs.Queue.{after_taken}
 use Rattle.ddcmp_station.specs.Linking.{LinkView, after_frame, after_frames, after_offered}
 use Rattle.ddcmp_station.specs.Linking.{after_sent}
 use Rattle.ddcmp_station.specs.Linking.{after_polled, after_wake, polls, state_of, total_plus}
-use Rattle.ddcmp_station.specs.Linking.{with_state}
+use Rattle.ddcmp_station.specs.Linking.{with_state, after_offered_maintenance}
 use Rattle.ddcmp_session.specs.Calls.{SessionCall, Typed, InputEnded, Connected, LineEnded}
 use Rattle.ddcmp_session.specs.Calls.{Received as Heard, Filled, LineTook, TimedOut, TimePassed}
 use Rattle.ddcmp_session.specs.Calls.{Delivered, OutputTook, Closed, SessionDoes, HasClosed, HasLeft}
@@ -44,7 +47,8 @@ use Rattle.ddcmp_session.specs.Session.{SessionView, after_connected, after_entr
 use Rattle.ddcmp_session.specs.Session.{after_input_end, after_last_line, after_time, after_timeout}
 use Rattle.ddcmp_session.specs.Session.{after_typed, after_unfinished, awaits_peer, expires}
 use Rattle.ddcmp_session.specs.Session.{course_received, lost_among, lost_at_end, lost_by_end}
-use Rattle.ddcmp_session.specs.Session.{wants_input, wants_line}
+use Rattle.ddcmp_session.specs.Session.{wants_input, wants_line, after_connecting_in, anew_in}
+use Rattle.ddcmp_session.specs.Session.{after_offered_in, has_gone, lost_in, starts, takes_in}
 use Rattle.ddcmp_session.specs.Course.{after_looked, after_notice, after_notices, lost_more}
 use Rattle.ddcmp_session.specs.Course.{after_acknowledged, after_refusal, after_noise}
 use Rattle.ddcmp_session.specs.Course.{after_progress, after_state, is_at, progress_of}
@@ -98,6 +102,23 @@ offered-halted message d halted =
     (outgoing d.station.core.station) message) (Some WrongState)))
     (record (with_state (after_accept d.station.core.station message) d)
     { totals = record d.totals { sent = total_plus d.totals.sent 1 } }) d) halted
+
+offered-maintenance-halted : (message : List ℕ) (d : LinkView)
+    → d.station.core.station.state ≡ Halted → after_offered_maintenance message d ≡ d
+offered-maintenance-halted message d halted =
+    ap
+    (λ st. cond
+    (is_none
+    (cond (is_maintenance st)
+    (accept_refusal d.station.core.limits.window d.station.core.limits.longest
+    (outgoing d.station.core.station) message) (Some WrongState)))
+    (record (with_state (after_accept d.station.core.station message) d)
+    { totals = record d.totals { sent = total_plus d.totals.sent 1 } }) d) halted
+
+offered-in-halted : (b : Bool) (message : List ℕ) (d : LinkView)
+    → d.station.core.station.state ≡ Halted → after_offered_in b message d ≡ d
+offered-in-halted true message d halted = offered-maintenance-halted message d halted
+offered-in-halted false message d halted = offered-halted message d halted
 
 items-halted : (xs : List ReadItem) (k : CoreView) → k.station.state ≡ Halted
     → (after_items xs k).station ≡ k.station
@@ -160,7 +181,7 @@ wake-halted now d halted =
 
 entry-halted : (e : Entry) (s : SessionView) → s.link.station.core.station.state ≡ Halted
     → (after_entry e s).link ≡ s.link
-entry-halted Message s halted = offered-halted _ s.link halted
+entry-halted Message s halted = offered-in-halted s.options.maintenance _ s.link halted
 entry-halted NotHexadecimal s halted = refl
 entry-halted TooLong s halted = refl
 entry-halted Empty s halted = refl
@@ -189,10 +210,14 @@ and-false false b e = refl
 input-halted : (s : SessionView) → s.link.station.core.station.state ≡ Halted
     → wants_input s ≡ false
 input-halted s halted =
-    and-false (not s.is_read) _
-    (ap
-    (λ st. is_running st
-    && nat_lt (length s.link.station.core.station.out) s.link.station.core.limits.window) halted)
+    and-false (not s.is_read) (takes_in s.options.maintenance s.link) (by s.options.maintenance)
+  where
+    by : (b : Bool) → takes_in b s.link ≡ false
+    by true = ap (λ st. is_maintenance st && has_gone s.link) halted
+    by false =
+        ap
+        (λ st. is_running st
+        && nat_lt (length s.link.station.core.station.out) s.link.station.core.limits.window) halted
 
 -- ---- what is counted as lost
 
@@ -365,6 +390,21 @@ not-started : (why : Option StartRefusal) (n : ℕ) → is_ok (answer_unless why
 not-started None n e = e
 not-started (Some refusal) n e = refl
 
+anew-halted : (b : Bool) (line : ReaderView) (d : LinkView)
+    → is_none (start_refusal (after_halt d.station.core.station)) ≡ false
+    → (anew_in b line d).station.core.station ≡ after_halt d.station.core.station
+anew-halted true line d refused =
+    let halted = after_halt d.station.core.station in
+    ap (λ b. cond b (after_enter_maintenance halted) halted) refused
+anew-halted false line d refused =
+    let halted = after_halt d.station.core.station in
+    ap (λ b. cond b (after_start halted) halted) refused
+
+connecting-lost : (b enters : Bool) (c : Course)
+    → (after_connecting_in b enters c).lost ≡ c.lost
+connecting-lost true enters c = refl
+connecting-lost false enters c = refl
+
 pub connected-counts : (old new : SessionView) → new ≡ after_connected new.link.station.line old
     → Counted old → Counted new
 unfolding Counted
@@ -376,13 +416,36 @@ connected-counts old new does was = λ shut.
     let w = was parts.1 in
     let stays : station_of new ≡ halted =
     ap station_of does
-    ∙ ap (λ b. cond b (after_start halted) halted)
+    ∙ anew-halted old.options.maintenance new.link.station.line old.link
     (not-started (start_refusal halted) (length halted.out) parts.0) in
     record {
       state = ap (λ (s : StationState). s.state) stays;
       none = λ e. ap (λ (s : StationState). s.out) stays
-          ∙ w.none (sym (ap (λ (x : SessionView). x.course.lost) does) ∙ e);
+          ∙ w.none
+          (sym
+          (ap (λ (x : SessionView). x.course.lost) does
+          ∙ connecting-lost old.options.maintenance (starts old) old.course)
+          ∙ e);
     }
+
+abbrev one-unless : Bool → ℕ
+one-unless b = cond b 0 1
+
+is-true : (b : Bool) → one-unless b ≡ 0 → b ≡ true
+is-true true e = refl
+is-true false e = cc
+
+first-true : (a b : Bool) → a && b ≡ true → a ≡ true
+first-true true b e = refl
+first-true false b e = cc
+
+lost-none : (b : Bool) (d : LinkView) → lost_in b d ≡ 0 → d.station.core.station.out ≡ []
+lost-none true d e =
+    none-out d.station.core.station.out
+    (eqb-true (length d.station.core.station.out) 0
+    (first-true (length d.station.core.station.out == 0) (length d.outbox.waiting == 0)
+    (is-true (has_gone d) e)))
+lost-none false d e = none-out d.station.core.station.out e
 
 -- the station was halted, and what it has is counted
 left-none : (old : SessionView) → old.course.lost ≡ 0 → lost_by_end old ≡ 0
@@ -391,9 +454,9 @@ unfolding Counted
 left-none old none_lost none_by was = by old.has_line refl none_by
   where
     by : (b : Bool) → old.has_line ≡ b
-        → cond b (length old.link.station.core.station.out) 0 ≡ 0
+        → cond b (lost_in old.options.maintenance old.link) 0 ≡ 0
         → old.link.station.core.station.out ≡ []
-    by true is e = none-out old.link.station.core.station.out e
+    by true is e = lost-none old.options.maintenance old.link e
     by false is e = (was is).none none_lost
 
 left-counts : (r : Bool) (old new : SessionView) → HasLeft r old new → Counted old → Counted new

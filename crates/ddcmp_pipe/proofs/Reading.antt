@@ -17,7 +17,8 @@ use Rattle.ddcmp_session.specs.declared.messages.Messages.TheVariants.{Digits, B
 use Rattle.ddcmp_session.specs.Messages.{message_in, after_input, entries_of_input}
 use Rattle.ddcmp_session.specs.Messages.{after_last, entry_of_last, is_message_unfinished}
 use Rattle.ddcmp_session.specs.Session.{SessionView, form_of, wants_input, after_entries}
-use Rattle.ddcmp_session.specs.Session.{after_last_line, after_unfinished}
+use Rattle.ddcmp_session.specs.Session.{after_last_line, after_unfinished, after_offered_in}
+use Rattle.ddcmp_session.specs.Session.{takes_in}
 use Rattle.ddcmp_callers.specs.Links.{Offers}
 use Rattle.ddcmp_callers.specs.Links.{after_history}
 use Rattle.ddcmp_callers.specs.Links.{offered_in}
@@ -44,43 +45,63 @@ Entered es s new =
     × IsEntered es (message_in s.messages) s.link new.link
     × (new.is_read ≡ s.is_read)
 
-pub entered : (es : List Entry) (s new : SessionView) → new ≡ after_entries es s → Entered es s new
-entered [] s new e = (
+pub entered : (es : List Entry) (s new : SessionView) → s.options.maintenance ≡ false
+    → new ≡ after_entries es s → Entered es s new
+entered [] s new of_data e = (
   ap (λ (x : SessionView). x.messages) e,
   ap (λ (x : SessionView). x.output) e,
   ap (λ (x : SessionView). x.link) e,
   ap (λ (x : SessionView). x.is_read) e,
 )
-entered (Message ∷ rest) s new e = (
+entered (Message ∷ rest) s new of_data e = (
+  ap (λ (x : SessionView). x.messages) e,
+  ap (λ (x : SessionView). x.output) e,
+  ap (λ (x : SessionView). x.link) e
+      ∙ ap (λ b. after_offered_in b (message_in s.messages) s.link) of_data,
+  ap (λ (x : SessionView). x.is_read) e,
+)
+entered (NotHexadecimal ∷ rest) s new of_data e = (
   ap (λ (x : SessionView). x.messages) e,
   ap (λ (x : SessionView). x.output) e,
   ap (λ (x : SessionView). x.link) e,
   ap (λ (x : SessionView). x.is_read) e,
 )
-entered (NotHexadecimal ∷ rest) s new e = (
+entered (TooLong ∷ rest) s new of_data e = (
   ap (λ (x : SessionView). x.messages) e,
   ap (λ (x : SessionView). x.output) e,
   ap (λ (x : SessionView). x.link) e,
   ap (λ (x : SessionView). x.is_read) e,
 )
-entered (TooLong ∷ rest) s new e = (
-  ap (λ (x : SessionView). x.messages) e,
-  ap (λ (x : SessionView). x.output) e,
-  ap (λ (x : SessionView). x.link) e,
-  ap (λ (x : SessionView). x.is_read) e,
-)
-entered (Empty ∷ rest) s new e = (
+entered (Empty ∷ rest) s new of_data e = (
   ap (λ (x : SessionView). x.messages) e,
   ap (λ (x : SessionView). x.output) e,
   ap (λ (x : SessionView). x.link) e,
   ap (λ (x : SessionView). x.is_read) e,
 )
 
+abbrev SameMode : SessionView → SessionView → Type 0
+SameMode s new = new.options.maintenance ≡ s.options.maintenance
+
+entered_mode : (es : List Entry) (s : SessionView) → SameMode s (after_entries es s)
+entered_mode [] s = refl
+entered_mode (Message ∷ rest) s = refl
+entered_mode (NotHexadecimal ∷ rest) s = refl
+entered_mode (TooLong ∷ rest) s = refl
+entered_mode (Empty ∷ rest) s = refl
+
+unfinished_mode : (s : SessionView) → SameMode s (after_unfinished s)
+unfinished_mode s = by (is_message_unfinished s.messages)
+  where
+    by : (b : Bool) → SameMode s (cond b (record s { was_refused = true }) s)
+    by true = refl
+    by false = refl
+
 -- what reading needs of what was read
 pub record HasRead (f : Form) (max : ℕ) (h : SessionHistory) (used : List ℕ) (es : List Entry)
     (message : List ℕ) (new : SessionView) : Type 0 where
   pub messages : new.messages ≡ after_input used h.session.messages
   pub output : new.output ≡ h.session.output
+  pub mode : new.options.maintenance ≡ h.session.options.maintenance
   pub going : new.is_read ≡ false → h.session.is_read ≡ false
   pub link : IsEntered es message h.session.link new.link
   pub fits : IfMessage es (Fits max message)
@@ -106,6 +127,7 @@ read_holds {told} f max h used es message new k r = record {
   reads = λ going. r.messages
       ∙ after_more f max h.input used h.session.messages (k.reads (r.going going));
   text = text_on f max h new k r.output;
+  of_data = r.mode ∙ k.of_data;
 }
 
 pub offered_is : (es : List Entry) (message : List ℕ) (d : LinkView)
@@ -212,7 +234,9 @@ pub is_reading : (f : Form) (max : ℕ) (h : SessionHistory) (used : List ℕ) �
     → (wants_input h.session ≡ false → used ≡ []) → CompletesLast used h.session.messages
     → IsReading f max h used
 is_reading f max h used k wanted part =
-    by h.session.is_read (takes_message h.session.link) wanted refl refl
+    by h.session.is_read (takes_message h.session.link)
+    (λ e. wanted (ap (λ b. not h.session.is_read && takes_in b h.session.link) k.of_data ∙ e)) refl
+    refl
   where
     by : (is_read takes : Bool) → (not is_read && takes ≡ false → used ≡ [])
         → h.session.is_read ≡ is_read → takes_message h.session.link ≡ takes
@@ -231,11 +255,15 @@ pub typed_reads : (f : Form) (max : ℕ) (h : SessionHistory) (used : List ℕ) 
     (message_in (after_input used h.session.messages)) new
 typed_reads f max h used new k t =
     let e = entered (entries_of_input used h.session.messages)
-    (record h.session { messages = after_input used h.session.messages }) new t.state in
+    (record h.session { messages = after_input used h.session.messages }) new k.of_data t.state in
     let r = is_reading f max h used k t.wanted t.part in
     record {
       messages = e.0;
       output = e.1;
+      mode =
+          ap (λ (x : SessionView). x.options.maintenance) t.state
+          ∙ entered_mode (entries_of_input used h.session.messages)
+          (record h.session { messages = after_input used h.session.messages });
       going = λ going. sym e.3 ∙ going;
       link = e.2;
       fits = r.0;
@@ -298,13 +326,18 @@ ended_reads f max h new k wants is =
     let es = option_to_list (entry_of_last m) in
     let r = last_reads m in
     let mid = after_last_line h.session in
-    let e = entered es (record h.session { messages = after_last m; is_read = true }) mid refl in
+    let last = record h.session { messages = after_last m; is_read = true } in
+    let e = entered es last mid k.of_data refl in
     let u = unfinished_keeps mid in
-    let w = both (not h.session.is_read) (takes_message h.session.link) wants in
+    let w = both (not h.session.is_read) (takes_message h.session.link)
+    (sym (ap (λ b. not h.session.is_read && takes_in b h.session.link) k.of_data) ∙ wants) in
     let going = not_true h.session.is_read w.0 in
     record {
       messages = ap (λ (x : SessionView). x.messages) is ∙ u.0 ∙ e.0 ∙ r.state;
       output = ap (λ (x : SessionView). x.output) is ∙ u.1 ∙ e.1;
+      mode =
+          ap (λ (x : SessionView). x.options.maintenance) is ∙ unfinished_mode mid
+          ∙ entered_mode es last;
       going = λ _. going;
       link =
           entered_same es (message_in (after_last m)) h.session.link mid.link new.link

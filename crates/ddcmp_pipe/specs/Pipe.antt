@@ -1,5 +1,5 @@
 -- Two sessions on a line, as pipes: what comes out of one is what went into the other.
-use Rattle.std.specs.Prelude.{◌≡◌, ℕ, ◌+◌, ◌≤◌, Bool, true, List, [], ◌∷◌, ◌++◌, map, None}
+use Rattle.std.specs.Prelude.{◌≡◌, ℕ, ◌+◌, ◌≤◌, Bool, true, false, List, [], ◌∷◌, ◌++◌, map, None}
 use Rattle.std.specs.List.{All}
 use Rattle.ddcmp_frame.specs.Reader.{ReaderView}
 use Rattle.ddcmp_input.specs.InBinary.{in_binary, Fits}
@@ -21,9 +21,10 @@ use Rattle.ddcmp_session.specs.Calls.{SessionHistory}
 use Rattle.ddcmp_session.specs.Calls.{new_session, SessionStep, after_session_step}
 use Rattle.ddcmp_pipe.specs.Sessions.{messages_of, mail_in, link_steps_of}
 
--- how a session is made
+-- how a session is made, whose messages are of data
 pub record Made : Type 0 where
   pub options : Options
+  pub of_data : options.maintenance ≡ false
   pub kind : LineKind
   pub line : ReaderView
 

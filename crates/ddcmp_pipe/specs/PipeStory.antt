@@ -1,5 +1,5 @@
 -- One run of two sessions, written out: both are connected, and one message comes through.
-use Rattle.std.specs.Prelude.{◌≡◌, ℕ, true, false, List, [], ◌∷◌, ◌++◌}
+use Rattle.std.specs.Prelude.{◌≡◌, refl, ℕ, true, false, List, [], ◌∷◌, ◌++◌}
 use Rattle.ddcmp_frame.specs.Reader.{ReaderView}
 use Rattle.ddcmp_input.specs.InBinary.{behind_length}
 use Rattle.ddcmp_core.specs.Table.{after_halt}
@@ -100,6 +100,7 @@ small_options = record {
   seconds = 10;
   report = 0;
   form = form.Binary;
+  maintenance = false;
   stay = false;
   again = false;
   counters = false;
@@ -109,7 +110,8 @@ small_options = record {
 }
 
 abbrev pub small_made : ReaderView → Made
-small_made line = record { options = small_options; kind = Connect; line = line }
+small_made line =
+    record { options = small_options; of_data = refl; kind = Connect; line = line }
 
 abbrev pub small_sessions : ReaderView → ReaderView → Sessions
 small_sessions line other_line = new_sessions (small_made line) (small_made other_line)

@@ -1,5 +1,5 @@
 //! What a session does is what its link does, and what it writes is the text of that.
-ghost use Rattle.std.specs.Prelude.{◌≡◌, ◌++◌, ℕ, List};
+ghost use Rattle.std.specs.Prelude.{◌≡◌, ◌++◌, ℕ, List, false};
 ghost use Rattle.ddcmp_frame.specs.Reader.{ReaderView};
 ghost use Rattle.ddcmp_input.specs.InBinary.{in_binary};
 ghost use Rattle.ddcmp_session.specs.declared.options.LineKind.{LineKind as LineKindValue};
@@ -11,25 +11,25 @@ ghost use Rattle.ddcmp_session.specs.Calls.{after_session_steps, Shown};
 ghost use Rattle.ddcmp_pipe.specs.Sessions.{link_steps_in, IsOfLink, messages_of, mail_in};
 ghost use Rattle.ddcmp_pipe.specs.Sessions.{texts_of};
 
-/// Each list of calls of a new session is a list of calls of its link. Of these the bytes of the
-/// line that were used and that the line took are those of the session; the messages that were
-/// offered are those of the input, in their order, each once, and all of them were accepted; and
-/// the messages that were taken are those that the session delivered.
+/// Each list of calls of a new session of data is a list of calls of its link. Of these the bytes
+/// of the line that were used and that the line took are those of the session; the messages that
+/// were offered are those of the input, in their order, each once, and all of them were accepted;
+/// and the messages that were taken are those that the session delivered.
 pub fn session_calls_are_link_calls()
     ensures calls { (options : OptionsValue) (kind : LineKindValue) (line : ReaderView)
-        (steps : List SessionStep)
+        (steps : List SessionStep) → options.maintenance ≡ false
         → IsSessionHistory steps (new_session options kind line)
         → IsHistory (link_steps_in steps (new_session options kind line))
         (new_history options.config options.timer_ms line) }
     ensures same { (options : OptionsValue) (kind : LineKindValue) (line : ReaderView)
-        (steps : List SessionStep)
+        (steps : List SessionStep) → options.maintenance ≡ false
         → IsSessionHistory steps (new_session options kind line)
         → IsOfLink options.form options.config.max
         (after_session_steps steps (new_session options kind line))
         (after_history (link_steps_in steps (new_session options kind line))
         (new_history options.config options.timer_ms line)) }
     ensures offers { (options : OptionsValue) (kind : LineKindValue) (line : ReaderView)
-        (steps : List SessionStep)
+        (steps : List SessionStep) → options.maintenance ≡ false
         → IsSessionHistory steps (new_session options kind line)
         → offered_in (link_steps_in steps (new_session options kind line))
         ≡ messages_of options.form options.config.max

@@ -1,17 +1,19 @@
 -- What draining an output leaves as it is.
 use Rattle.std.proofs.Common.{◌≡◌, ◌∙◌, ap, sym, refl, Bool, true, false, cond, length}
-use Rattle.ddcmp_station.specs.Linking.{LinkView, after_taking}
+use Rattle.std.specs.Prelude.{◌&&◌, ◌==◌}
+use Rattle.ddcmp_station.specs.Linking.{LinkView, OutboxView, after_taking}
 use Rattle.ddcmp_session.specs.Course.{lost_more}
 use Rattle.ddcmp_session.specs.Devices.{OnlyDelivers}
-use Rattle.ddcmp_session.specs.Session.{SessionView, lost_by_end}
+use Rattle.ddcmp_session.specs.Session.{SessionView, lost_by_end, lost_in}
 use Rattle.ddcmp_session.proofs.GoingLaws.{same-at}
 
 pub only-none : (s : SessionView) → OnlyDelivers s s
-only-none s = record { out = refl; stays = refl }
+only-none s = record { out = refl; outbox = refl; stays = refl }
 
 pub only-then : {a b c : SessionView} → OnlyDelivers a b → OnlyDelivers b c → OnlyDelivers a c
 only-then {a} {b} {c} p q = record {
   out = q.out ∙ p.out;
+  outbox = q.outbox ∙ p.outbox;
   stays =
       q.stays
       ∙ ap {B = SessionView} (λ (x : SessionView). record x { link = c.link; output = c.output })
@@ -23,10 +25,12 @@ pub only-delivered : (has : Bool) (old new : SessionView)
     → new ≡ record old { link = new.link; output = new.output } → OnlyDelivers old new
 only-delivered true old new link stays = record {
   out = ap (λ (d : LinkView). d.station.core.station.out) link;
+  outbox = ap (λ (d : LinkView). d.outbox) link;
   stays = stays;
 }
 only-delivered false old new link stays = record {
   out = ap (λ (d : LinkView). d.station.core.station.out) link;
+  outbox = ap (λ (d : LinkView). d.outbox) link;
   stays = stays;
 }
 
@@ -36,8 +40,17 @@ only-wrote old new is =
     let link = same-at (λ x. x.link) new (record old { output = new.output }) is in
     record {
       out = ap (λ (d : LinkView). d.station.core.station.out) link;
+      outbox = ap (λ (d : LinkView). d.outbox) link;
       stays = is ∙ ap (λ d. record old { link = d; output = new.output }) (sym link);
     }
+
+lost-same : (m : Bool) (d e : LinkView) → d.station.core.station.out ≡ e.station.core.station.out
+    → d.outbox ≡ e.outbox → lost_in m d ≡ lost_in m e
+lost-same true d e out outbox =
+    ap (λ xs. cond (length xs == 0 && length d.outbox.waiting == 0) 0 1) out
+    ∙ ap (λ (o : OutboxView).
+    cond (length e.station.core.station.out == 0 && length o.waiting == 0) 0 1) outbox
+lost-same false d e out outbox = ap length out
 
 -- the same is lost by the end of its line, and counted so
 pub counted-once : (s0 s1 s2 s3 : SessionView) → OnlyDelivers s0 s1
@@ -46,8 +59,14 @@ pub counted-once : (s0 s1 s2 s3 : SessionView) → OnlyDelivers s0 s1
 counted-once s0 s1 s2 s3 p is q =
     same-at (λ x. x.course) s3 (record s2 { link = s3.link; output = s3.output }) q.stays
     ∙ is
-    ∙ ap (λ b. lost_more (cond b (length s1.link.station.core.station.out) 0) s1.course)
-    (same-at (λ x. x.has_line) s1 (record s0 { link = s1.link; output = s1.output }) p.stays)
-    ∙ ap (λ xs. lost_more (cond s0.has_line (length xs) 0) s1.course) p.out
+    ∙ ap (λ b. lost_more (cond b (lost_in s1.options.maintenance s1.link) 0) s1.course)
+    (same-at (λ x. x.has_line) s1 to p.stays)
+    ∙ ap (λ m. lost_more (cond s0.has_line (lost_in m s1.link) 0) s1.course)
+    (same-at (λ x. x.options.maintenance) s1 to p.stays)
+    ∙ ap (λ n. lost_more (cond s0.has_line n 0) s1.course)
+    (lost-same s0.options.maintenance s1.link s0.link p.out p.outbox)
     ∙ ap (λ c. lost_more (lost_by_end s0) c)
-    (same-at (λ x. x.course) s1 (record s0 { link = s1.link; output = s1.output }) p.stays)
+    (same-at (λ x. x.course) s1 to p.stays)
+  where
+    to : SessionView
+    to = record s0 { link = s1.link; output = s1.output }

@@ -7,13 +7,15 @@ use Rattle.ddcmp_frame.proofs.Tests.{eqb-true}
 use Rattle.std.specs.Prelude.{◌&&◌, ◌||◌, not, option_to_list}
 use Rattle.ddcmp_input.specs.declared.entry.Entry.{Entry}
 use Rattle.ddcmp_input.specs.declared.entry.Entry.TheVariants as entry
-use Rattle.ddcmp_core.specs.Table.{may_send, after_accept}
-use Rattle.ddcmp_station.specs.Linking.{after_offered, with_state, total_plus, takes_message}
+use Rattle.ddcmp_core.specs.Table.{may_send, may_send_maintenance, after_accept}
+use Rattle.ddcmp_station.specs.Linking.{after_offered, after_offered_maintenance, with_state}
+use Rattle.ddcmp_station.specs.Linking.{total_plus}
 use Rattle.ddcmp_session.specs.declared.messages.Messages.{Messages}
 use Rattle.ddcmp_session.specs.declared.messages.Messages.TheVariants.{Digits, Binary}
 use Rattle.ddcmp_session.specs.Messages.{message_in, after_input, entries_of_input, after_last}
 use Rattle.ddcmp_session.specs.Messages.{entry_of_last, is_message_unfinished}
 use Rattle.ddcmp_session.specs.Session.{after_entry, after_entries, after_typed, after_unfinished}
+use Rattle.ddcmp_session.specs.Session.{after_offered_in, takes_in}
 use Rattle.ddcmp_session.proofs.InputLaws.{form-stays}
 use Rattle.std.proofs.Common.{cond}
 use Rattle.ddcmp_frame.specs.Reader.{StandsFor}
@@ -177,9 +179,28 @@ offered-line message d = by (may_send d.station.core.limits d.station.core.stati
     by true = refl
     by false = refl
 
+offered-maintenance-line : (message : List ℕ) (d : LinkView)
+    → (after_offered_maintenance message d).station.line ≡ d.station.line
+offered-maintenance-line message d =
+    by (may_send_maintenance d.station.core.limits d.station.core.station message)
+  where
+    by : (b : Bool)
+        → (cond b
+        (record (with_state (after_accept d.station.core.station message) d)
+        { totals = record d.totals { sent = total_plus d.totals.sent 1 } }) d).station.line
+        ≡ d.station.line
+    by true = refl
+    by false = refl
+
+offered-in-line : (b : Bool) (message : List ℕ) (d : LinkView)
+    → (after_offered_in b message d).station.line ≡ d.station.line
+offered-in-line true message d = offered-maintenance-line message d
+offered-in-line false message d = offered-line message d
+
 entry-line : (e : Entry) (s : SessionView)
     → (after_entry e s).link.station.line ≡ s.link.station.line
-entry-line entry.Message s = offered-line (message_in s.messages) s.link
+entry-line entry.Message s =
+    offered-in-line s.options.maintenance (message_in s.messages) s.link
 entry-line entry.NotHexadecimal s = refl
 entry-line entry.TooLong s = refl
 entry-line entry.Empty s = refl
@@ -272,7 +293,7 @@ ends {held} {known} old new does wants empty over =
     (same-at (λ x. x.link.station.line) new to done
     ∙ unfinished-line (after_entries es s) ∙ entries-line es s)
   where
-    unread : (b : Bool) → not b && takes_message old.link ≡ true → b ≡ false
+    unread : (b : Bool) → not b && takes_in old.options.maintenance old.link ≡ true → b ≡ false
     unread true e = cc
     unread false e = refl
 

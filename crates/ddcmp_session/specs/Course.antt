@@ -75,6 +75,13 @@ after_connecting c = record c {
   peer_restarted = false;
 }
 
+-- Maintenance was entered, if it was: nothing is to start.
+abbrev pub after_entering : Bool → Course → Course
+after_entering enters c = record (after_connecting c) {
+  quiet_since = c.moment;
+  has_run = enters || c.has_run;
+}
+
 -- one try more, which was refused for this reason, if it was
 abbrev pub try_counted : Option Nak → Course → Course
 try_counted refusal c = record c { tries = min (c.tries + 1) 4294967295; refusal = refusal }
@@ -133,10 +140,11 @@ abbrev pub has_received : Progress → Option Progress → Bool
 has_received p None = false
 has_received p (Some before) = not (before.received == p.received)
 
--- It isn't quiet when the station begins to run, or a message was received.
+-- It isn't quiet when the station begins to run, or in Maintenance the peer is heard first, or a
+-- message was received.
 abbrev pub after_noise : Progress → Course → Course
 after_noise p c =
-    if (p.step == 3 && not c.has_run_here) || has_received p c.progress
+    if (nat_le 3 p.step && not c.has_run_here) || has_received p c.progress
     then record c { quiet_since = c.moment }
     else c
 
@@ -148,6 +156,8 @@ after_progress p c =
 
 abbrev pub after_state : State → Course → Course
 after_state Running c =
+    record c { peer_has_started = true; has_run_here = true; has_run = true }
+after_state Maintenance c =
     record c { peer_has_started = true; has_run_here = true; has_run = true }
 after_state AStart c = record c { peer_has_started = true }
 after_state _ c = c

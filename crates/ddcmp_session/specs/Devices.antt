@@ -176,6 +176,7 @@ wanted errors held s = record {
 -- Received messages were delivered and output was written, and nothing else.
 pub record OnlyDelivers (old new : SessionView) : Type 0 where
   pub out : new.link.station.core.station.out ≡ old.link.station.core.station.out
+  pub outbox : new.link.outbox ≡ old.link.outbox
   pub stays : new ≡ record old { link = new.link; output = new.output }
 
 -- no received message waits, or the output has no room for one of any length

@@ -1,9 +1,10 @@
 -- A session as its users see it, and what each call does.
 use Rattle.std.specs.Prelude.{◌≡◌, ◌⊎◌, ℕ, ◌+◌, ◌*◌, ◌<◌, Bool, true, false, ◌&&◌, ◌||◌, not}
+use Rattle.std.specs.Prelude.{◌==◌}
 use Rattle.std.specs.Prelude.{nat_le}
 use Rattle.std.specs.Prelude.{if◌then◌else◌, List, [], ◌∷◌, length, Some, None, is_some, is_ok}
 use Rattle.std.specs.Prelude.{option_to_list}
-use Rattle.ddcmp_core.specs.Table.{has_room, after_halt, answer_to_start}
+use Rattle.ddcmp_core.specs.Table.{has_room, after_halt, answer_to_start, is_maintenance}
 use Rattle.ddcmp_core.specs.declared.notice.Notice.{Notice}
 use Rattle.ddcmp_input.specs.declared.entry.Entry.{Entry}
 use Rattle.ddcmp_input.specs.declared.entry.Entry.TheVariants.{Message, NotHexadecimal}
@@ -11,6 +12,7 @@ use Rattle.ddcmp_frame.specs.Reader.{ReaderView}
 use Rattle.ddcmp_station.specs.Driving.{expires_at}
 use Rattle.ddcmp_station.specs.Linking.{LinkView, link_made, takes_message, after_offered, anew}
 use Rattle.ddcmp_station.specs.Linking.{delivered, puts_frame, carries_message, after_wake}
+use Rattle.ddcmp_station.specs.Linking.{anew_for_maintenance, after_offered_maintenance, state_of}
 use Rattle.ddcmp_station.specs.Linking.{totals_after_feed}
 use Rattle.ddcmp_station.specs.declared.link.Totals.{Totals}
 use Rattle.ddcmp_session.specs.declared.course.Course.{Course}
@@ -23,6 +25,7 @@ use Rattle.ddcmp_session.specs.declared.options.LineKind.TheVariants.{Connect, L
 use Rattle.ddcmp_session.specs.declared.options.Options.{Options}
 use Rattle.ddcmp_session.specs.declared.text.TheConstants.{LINE_ROOM, LOST_ROOM}
 use Rattle.ddcmp_session.specs.Course.{course_begun, after_connecting, after_moment, after_pause}
+use Rattle.ddcmp_session.specs.Course.{after_entering}
 use Rattle.ddcmp_session.specs.Course.{try_counted, after_looked, after_notices}
 use Rattle.ddcmp_session.specs.Messages.{messages_begun, message_in, after_input}
 use Rattle.ddcmp_session.specs.Messages.{entries_of_input, after_last, entry_of_last}
@@ -66,14 +69,45 @@ session_made options kind line = record {
   output = no_bytes (OUTPUT_ROOM + 2 * (2 * options.config.max + LINE_ROOM));
 }
 
+-- ---- its messages are of data, or of maintenance: numbered and acknowledged, or neither
+
+-- the line has taken all that was accepted
+abbrev pub has_gone : LinkView → Bool
+has_gone d = length d.station.core.station.out == 0 && length d.outbox.waiting == 0
+
+-- A maintenance message is accepted once all before it has gone.
+abbrev pub takes_in : Bool → LinkView → Bool
+takes_in maintenance d =
+    if maintenance then is_maintenance (state_of d).state && has_gone d else takes_message d
+
+abbrev pub after_offered_in : Bool → List ℕ → LinkView → LinkView
+after_offered_in maintenance message d =
+    if maintenance then after_offered_maintenance message d else after_offered message d
+
+abbrev pub anew_in : Bool → ReaderView → LinkView → LinkView
+anew_in maintenance line d =
+    if maintenance then anew_for_maintenance line d else anew line d
+
+abbrev pub after_connecting_in : Bool → Bool → Course → Course
+after_connecting_in maintenance starts c =
+    if maintenance then after_entering starts c else after_connecting c
+
+-- how many messages are lost with a line: those that aren't acknowledged, or the maintenance
+-- message that hasn't gone
+abbrev pub lost_in : Bool → LinkView → ℕ
+lost_in maintenance d =
+    if maintenance then (if has_gone d then 0 else 1) else length d.station.core.station.out
+
 -- ---- the input
 
 abbrev pub wants_input : SessionView → Bool
-wants_input s = not s.is_read && takes_message s.link
+wants_input s = not s.is_read && takes_in s.options.maintenance s.link
 
 -- A message is sent, and a line `?` asks for a report; any other part is refused.
 abbrev pub after_entry : Entry → SessionView → SessionView
-after_entry Message s = record s { link = after_offered (message_in s.messages) s.link }
+after_entry Message s = record s {
+  link = after_offered_in s.options.maintenance (message_in s.messages) s.link;
+}
 after_entry NotHexadecimal s =
     record s { was_refused = if is_question s.messages then s.was_refused else true }
 after_entry _ s = record s { was_refused = true }
@@ -122,7 +156,7 @@ IsFilled s =
 
 -- how many accepted messages are lost if the line ends
 abbrev pub lost_by_end : SessionView → ℕ
-lost_by_end s = if s.has_line then length s.link.station.core.station.out else 0
+lost_by_end s = if s.has_line then lost_in s.options.maintenance s.link else 0
 
 -- the line of a loss has room
 abbrev pub reports_loss : SessionView → Bool
@@ -132,11 +166,14 @@ reports_loss s = nat_le LOST_ROOM s.output.room
 
 -- A session was connected, and starts if all received messages were delivered. If not, what it had
 -- on the line before is lost when this one ends.
+abbrev pub starts : SessionView → Bool
+starts s = is_ok (answer_to_start (after_halt s.link.station.core.station))
+
 abbrev pub after_connected : ReaderView → SessionView → SessionView
 after_connected line s = record s {
-  link = anew line s.link;
-  has_line = is_ok (answer_to_start (after_halt s.link.station.core.station)) || s.has_line;
-  course = after_connecting s.course;
+  link = anew_in s.options.maintenance line s.link;
+  has_line = starts s || s.has_line;
+  course = after_connecting_in s.options.maintenance (starts s) s.course;
 }
 
 -- the reply timer expires
@@ -190,7 +227,8 @@ totals_received used (notice ∷ rest) t = totals_after_feed used (Some notice) 
 
 -- ---- the end
 
--- all of the input was read, and what it had of messages is acknowledged
+-- all of the input was read, and what it had of messages is acknowledged, or has gone if these are
+-- of maintenance
 abbrev pub is_delivered : SessionView → Bool
 is_delivered s = s.is_read && delivered s.link
 

@@ -1,6 +1,7 @@
 //! How the run of a session gets on: when its line is left, and when it is opened again.
 ghost use Rattle.std.specs.Prelude.{◌≡◌};
-ghost use Rattle.ddcmp_session.specs.Course.{after_acknowledged, after_connecting, after_looked};
+ghost use Rattle.ddcmp_session.specs.Course.{after_acknowledged, after_connecting, after_entering};
+ghost use Rattle.ddcmp_session.specs.Course.{after_looked};
 ghost use Rattle.ddcmp_session.specs.Course.{after_moment, after_noise, after_opening_failed};
 ghost use Rattle.ddcmp_session.specs.Course.{after_pause, after_progress, after_refusal};
 ghost use Rattle.ddcmp_session.specs.Course.{after_state, course_begun, has_received, is_at, lost_more};
@@ -22,7 +23,7 @@ pub(crate) struct Progress {
     pub(crate) step: u8,
     /// How many messages were acknowledged.
     pub(crate) acknowledged: u64,
-    /// How many data messages were received.
+    /// How many messages were received.
     pub(crate) received: u32,
 }
 
@@ -43,7 +44,7 @@ pub(crate) struct Course {
     pub(crate) moment: u64,
     /// When the next report of the counters is due.
     pub(crate) report_at: u64,
-    /// The moment since which no data message came: at first that of the startup handshake.
+    /// The moment since which no message came: at first that of the startup handshake.
     pub(crate) quiet_since: u64,
     /// How many tries came in a row.
     pub(crate) tries: u32,
@@ -137,6 +138,15 @@ impl Course {
         self.peer_restarted = false;
     }
 
+    /// Begins in maintenance mode, if that was entered: nothing is to start there.
+    pub(crate) fn enter(&mut self, enters: bool)
+        ensures { self.new ≡ after_entering enters self.old }
+    {
+        self.connect();
+        self.quiet_since = self.moment;
+        self.has_run |= enters;
+    }
+
     /// Counts a try, which was refused for this reason, if it was.
     pub(crate) fn count_try(&mut self, refusal: Option<Nak>)
         ensures { self.new ≡ try_counted refusal self.old }
@@ -190,11 +200,12 @@ impl Course {
         self.pause = Some(self.moment.saturating_add(timer_ms as u64));
     }
 
-    /// Takes note of the moment if the station begins to run or a message was received.
+    /// Takes note of the moment if the station begins to run, in maintenance mode if the peer is
+    /// heard first, or if a message was received.
     fn note_noise(&mut self, progress: Progress)
         ensures { self.new ≡ after_noise progress self.old }
     {
-        let begins = progress.step == RUNNING && !self.has_run_here;
+        let begins = progress.step >= RUNNING && !self.has_run_here;
         if begins || has_received(progress, self.progress) {
             self.quiet_since = self.moment;
         }
@@ -216,7 +227,7 @@ impl Course {
         ensures { self.new ≡ after_state state self.old }
     {
         match state {
-            State::Running => {
+            State::Running | State::Maintenance => {
                 self.peer_has_started = true;
                 self.has_run_here = true;
                 self.has_run = true;

@@ -22,6 +22,9 @@ pub struct Options {
     /// After how many seconds each report of the counters is written; 0 is never.
     pub report: u32,
     pub form: Form,
+    /// Whether messages go as maintenance messages, each once: none is numbered, acknowledged or
+    /// retransmitted.
+    pub maintenance: bool,
     /// Whether it goes on once all of the input was delivered.
     pub stay: bool,
     /// Whether the line is opened again if it ends or can't be opened.

@@ -37,6 +37,7 @@ fn options(timer_ms: u32, seconds: u32, report: u32) -> Options {
         seconds,
         report,
         form: Form::Digits,
+        maintenance: false,
         stay: false,
         again: true,
         counters: false,

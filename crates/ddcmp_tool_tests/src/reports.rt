@@ -23,6 +23,7 @@ fn options(stay: bool) -> Options {
         seconds: 100,
         report: 1,
         form: Form::Digits,
+        maintenance: false,
         stay,
         again: true,
         counters: false,

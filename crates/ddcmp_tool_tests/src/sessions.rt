@@ -20,6 +20,7 @@ pub(crate) fn options(linger_ms: u32, seconds: u32) -> Options {
         seconds,
         report: 0,
         form: Form::Binary,
+        maintenance: false,
         stay: false,
         again: false,
         counters: false,

@@ -125,6 +125,8 @@ link_as line o p made e h = record {
   seconds = subst (λ t. HasNumber 1 MOST MOST t made.seconds) (e (codes "seconds")) h.seconds;
   report = subst (λ t. HasNumber 0 MOST 0 t made.report) (e (codes "report")) h.report;
   form = subst (λ t. HasMessages t made.form) (e (codes "binary")) h.form;
+  maintenance =
+      subst (λ t. HasFlag t made.maintenance) (e (codes "maintenance")) h.maintenance;
   stay = subst (λ t. HasFlag t made.stay) (e (codes "stay")) h.stay;
   again = subst (λ t. HasFlag t made.again) (e (codes "again")) h.again;
   counters = subst (λ t. HasFlag t made.counters) (e (codes "counters")) h.counters;

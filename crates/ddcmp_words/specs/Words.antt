@@ -137,13 +137,14 @@ line_app = with_rule (new_app (codes "link")) (required (text_rule (codes "line"
 abbrev pub link_app : App
 link_app =
     with_rule (with_rule (with_rule (with_rule (with_rule (with_rule (with_rule (with_rule
-    (with_rule (with_rule (with_rule (with_rule (with_sizes line_app)
+    (with_rule (with_rule (with_rule (with_rule (with_rule (with_sizes line_app)
     (number_rule (codes "timer-ms") 1 MOST))
     (number_rule (codes "attempts") 0 MOST))
     (number_rule (codes "linger-ms") 0 MOST))
     (number_rule (codes "seconds") 1 MOST))
     (number_rule (codes "report") 0 MOST))
     (flag_rule (codes "binary")))
+    (flag_rule (codes "maintenance")))
     (flag_rule (codes "stay")))
     (flag_rule (codes "again")))
     (flag_rule (codes "counters")))
@@ -326,6 +327,7 @@ pub record HasLinkOptions (line : Text) (option : Text → Option Text) (options
   pub seconds : HasNumber 1 MOST MOST (option (codes "seconds")) options.seconds
   pub report : HasNumber 0 MOST 0 (option (codes "report")) options.report
   pub form : HasMessages (option (codes "binary")) options.form
+  pub maintenance : HasFlag (option (codes "maintenance")) options.maintenance
   pub stay : HasFlag (option (codes "stay")) options.stay
   pub again : HasFlag (option (codes "again")) options.again
   pub counters : HasFlag (option (codes "counters")) options.counters

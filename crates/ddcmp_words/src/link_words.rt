@@ -31,7 +31,9 @@ Output, as it happens:
   state=S read=R written=W sent=M acknowledged=K handed=H
                          at the end: state, bytes of the line, messages
 With --binary each message is preceded by its length in two bytes, high byte first,
-and all else goes to standard error."
+and all else goes to standard error.
+With --maintenance, as for MOP, each message goes once: it may be lost, and is
+never damaged. Delivered is what the line has taken."
 }
 
 /// The line of a link, which can't be left out.
@@ -60,7 +62,7 @@ fn bare_command<'a>(alloc: Global) -> clap::Command<'a>
 }
 
 /// The options of a link beside its line and its sizes.
-static LINK_OPTIONS: [CommandOption; 12] = [
+static LINK_OPTIONS: [CommandOption; 13] = [
     CommandOption {
         name: "timer-ms",
         takes: Takes::Number {
@@ -111,6 +113,12 @@ static LINK_OPTIONS: [CommandOption; 12] = [
         takes: Takes::Nothing,
         is_required: false,
         help: "Read and write messages as bytes after their length",
+    },
+    CommandOption {
+        name: "maintenance",
+        takes: Takes::Nothing,
+        is_required: false,
+        help: "Exchange maintenance messages, which nobody acknowledges",
     },
     CommandOption {
         name: "stay",
@@ -191,6 +199,7 @@ pub(crate) fn link_given<'a>(options: &ArgMatches<'a>) -> Linked<'a>
         seconds: number_given(options, "seconds", 1, u32::MAX, u32::MAX),
         report: number_given(options, "report", 0, u32::MAX, 0),
         form: messages_given(options),
+        maintenance: flag_given(options, "maintenance"),
         stay: flag_given(options, "stay"),
         again: flag_given(options, "again"),
         counters: flag_given(options, "counters"),

@@ -16,6 +16,7 @@ const OPTIONS: Options = Options {
     seconds: 3600,
     report: 0,
     form: Form::Binary,
+    maintenance: false,
     stay: false,
     again: false,
     counters: false,

@@ -1,6 +1,7 @@
 //! The input of a session: messages that are sent, and parts that are none.
 use crate::session::Session;
 use ddcmp_input::Entry;
+use ddcmp_station::State;
 
 /// What is wrong with a part of the input that is no message.
 fn reason_of(entry: Entry) -> &'static [u8] {
@@ -21,14 +22,37 @@ impl Session {
     ghost use Rattle.ddcmp_session.specs.Messages.{after_input, entries_of_input};
     ghost use Rattle.ddcmp_session.specs.Messages.{count_of};
     ghost use Rattle.ddcmp_session.specs.Session.{wants_input, after_typed, after_input_end};
-    ghost use Rattle.ddcmp_session.specs.Session.{after_entries, after_unfinished, form_of};
+    ghost use Rattle.ddcmp_session.specs.Session.{after_entries, after_entry, after_unfinished};
+    ghost use Rattle.ddcmp_session.specs.Session.{form_of, takes_in};
     ghost use Rattle.ddcmp_session.specs.Session.{lost_among, lost_at_end, lost_with_last};
 
-    /// Whether bytes of the input are wanted: the station runs and takes a message.
+    /// Whether bytes of the input are wanted: the station takes a message.
     pub fn wants_input(&self) -> bool
         ensures { result ≡ wants_input self.now }
     {
-        !self.input_is_read && self.link.has_room()
+        !self.input_is_read && self.takes()
+    }
+
+    /// Whether the link takes a message: one of maintenance once the last has gone.
+    fn takes(&self) -> bool
+        ensures { result ≡ takes_in self.now.options.maintenance self.now.link }
+    {
+        if self.options.maintenance {
+            return self.link.state() == State::Maintenance && self.has_gone();
+        }
+        self.link.has_room()
+    }
+
+    /// Sends the message that was read last.
+    fn offer(&mut self)
+        ensures { self.new ≡ after_entry Entry.Message self.old }
+    {
+        let message = self.messages.message();
+        let _sent = if self.options.maintenance {
+            self.link.offer_maintenance(message)
+        } else {
+            self.link.offer(message)
+        };
     }
 
     /// Takes bytes of the input, up to the end of the first message, which it sends, or of the
@@ -77,7 +101,7 @@ impl Session {
             None => {}
             Some(Entry::Message) => {
                 self.count_entry();
-                let _sent = self.link.offer(self.messages.message());
+                self.offer();
             }
             Some(Entry::NotHexadecimal) if self.messages.is_question() => self.report_counters(),
             Some(refused) => {

@@ -13,23 +13,30 @@ impl Session {
     ghost use Rattle.ddcmp_proto.specs.Bytes.{after_piece, notices_of_piece};
     ghost use Rattle.ddcmp_station.specs.Linking.{after_frame, after_frames, after_sent};
     ghost use Rattle.ddcmp_station.specs.Linking.{countable, puts_frame, with_state};
-    ghost use Rattle.ddcmp_session.specs.Session.{form_of, lost_by_end, reports_loss, wants_line};
+    ghost use Rattle.ddcmp_session.specs.Session.{form_of, has_gone, lost_by_end, lost_in};
+    ghost use Rattle.ddcmp_session.specs.Session.{reports_loss, wants_line};
     ghost use Rattle.ddcmp_session.specs.Course.{after_notice, lost_more};
     ghost use Rattle.ddcmp_session.specs.Session.{IsFilled, after_connected, course_received};
     ghost use Rattle.ddcmp_session.specs.Session.{is_paused, totals_received};
     ghost use Rattle.ddcmp_session.specs.Text.{Wrote, notice_text, notices_text, reported_lost};
     ghost use Rattle.ddcmp_session.specs.declared.text.TheConstants.{LINE_ROOM};
 
-    /// Starts the station on a line that was opened. Returns false if received messages weren't
-    /// delivered before: `deliver` them, then call it again.
+    /// Starts the station on a line that was opened, or has it enter maintenance mode. Returns false
+    /// if received messages weren't delivered before: `deliver` them, then call it again.
     pub fn connected(&mut self) -> bool
         ensures state { self.new ≡ after_connected self.new.link.station.line self.old }
         ensures cleared { StandsFor self.new.link.station.line [] }
         ensures answer { result
             ≡ is_ok (answer_to_start (after_halt self.old.link.station.core.station)) }
     {
-        self.course.connect();
-        let starts = self.link.begin_anew().is_ok();
+        let starts = if self.options.maintenance {
+            let enters = self.link.begin_maintenance().is_ok();
+            self.course.enter(enters);
+            enters
+        } else {
+            self.course.connect();
+            self.link.begin_anew().is_ok()
+        };
         self.has_line |= starts;
         starts
     }
@@ -72,11 +79,32 @@ impl Session {
           output = self.new.output;
         } }
     {
-        let lost = if self.has_line { self.link.lost() } else { 0 };
+        let lost = if self.has_line {
+            self.lost_in_line()
+        } else {
+            0
+        };
         self.has_line = false;
         let has_room = self.report_lost(lost);
         self.link.halt();
         has_room
+    }
+
+    /// Whether the line has taken all that was accepted.
+    pub(super) fn has_gone(&self) -> bool
+        ensures { result ≡ has_gone self.now.link }
+    {
+        self.link.lost() == 0 && self.link.unsent().is_empty()
+    }
+
+    /// Returns how many messages are lost if the line ends.
+    fn lost_in_line(&self) -> u8
+        ensures { result ≡ lost_in self.now.options.maintenance self.now.link }
+    {
+        if self.options.maintenance {
+            return !self.has_gone() as u8;
+        }
+        self.link.lost()
     }
 
     /// Whether bytes of the line are wanted: a received message and its notice have room.

@@ -1,4 +1,4 @@
-use Rattle.ddcmp_pipe.proofs.Histories.{is_text}
+use Rattle.ddcmp_pipe.proofs.Writing.{is_text}
 use Rattle.ddcmp_pipe.proofs.Texts.{only_mail}
 use Rattle.ddcmp_pipe.proofs.sessions.output_is_text_of.Goals as goal
 

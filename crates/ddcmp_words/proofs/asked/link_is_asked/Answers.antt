@@ -19,6 +19,10 @@ pub returns-clause-binary : goal.returns-clause-binary
 unfolding clap_on_literals option_in
 returns-clause-binary c = (refl, refl)
 
+pub returns-clause-maintenance : goal.returns-clause-maintenance
+unfolding clap_on_literals option_in
+returns-clause-maintenance c = (refl, refl)
+
 pub returns-clause-stay : goal.returns-clause-stay
 unfolding clap_on_literals option_in
 returns-clause-stay c = (refl, refl)
