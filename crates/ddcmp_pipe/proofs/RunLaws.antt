@@ -19,6 +19,7 @@ use Rattle.ddcmp_session.specs.Connections.{AreDone, Connection, Does, after_all
 use Rattle.ddcmp_session.specs.Devices.{BuffersView, Traffic, nothing_read}
 use Rattle.ddcmp_session.specs.Lines.{AreOfOpen, Closes, Ends, IsOfOpen}
 use Rattle.ddcmp_session.specs.Messages.{after_input, entries_of_input}
+use Rattle.ddcmp_session.proofs.InputGoes.{entries-read}
 use Rattle.ddcmp_pipe.specs.Sessions.{got_in, messages_of, mail_in}
 use Rattle.ddcmp_pipe.specs.Pipe.{Made, session_of}
 use Rattle.ddcmp_pipe.specs.Connections.{AreCalls, Connections, PipesAnew, PipesClosedAnew}
@@ -33,7 +34,6 @@ use Rattle.ddcmp_pipe.proofs.Given.{gave_more, messages_more, no_more, none_unre
 use Rattle.ddcmp_pipe.proofs.LosingAnew.{session-after}
 use Rattle.ddcmp_pipe.proofs.Outcomes.{binary_more, read_all, read_first}
 use Rattle.ddcmp_pipe.proofs.OverLines.{agrees_first}
-use Rattle.ddcmp_pipe.proofs.Reading.{entered}
 
 -- ---- calls in an order
 
@@ -74,9 +74,11 @@ read-step : (call : SessionCall) (h : SessionHistory) (new : SessionView) → Is
     → Does call h.used h.session new → ReadTold h.session h.is_told
     → ReadTold new (is_told_in call h.session || h.is_told)
 read-step (Typed used) h new of d =
+    let s : SessionView =
+    record h.session { messages = after_input used h.session.messages } in
     same-read h.is_told h.session new
-    (entered (entries_of_input used h.session.messages)
-    (record h.session { messages = after_input used h.session.messages }) new d.state).3
+    (same-in (λ x. x.is_read) new _ d.state
+    ∙ entries-read (entries_of_input used h.session.messages) s)
 read-step InputEnded h new of d =
     ended-read (wants_input h.session) h.is_told h.session
     (after_unfinished (after_last_line h.session)) new d

@@ -222,7 +222,7 @@ entries-line : (es : List Entry) (s : SessionView)
 entries-line [] s = refl
 entries-line (e ∷ rest) s = entry-line e s
 
-entries-read : (es : List Entry) (s : SessionView) → (after_entries es s).is_read ≡ s.is_read
+pub entries-read : (es : List Entry) (s : SessionView) → (after_entries es s).is_read ≡ s.is_read
 entries-read [] s = refl
 entries-read (e ∷ rest) s = entry-read e s
 
