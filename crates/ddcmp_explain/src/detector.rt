@@ -1,6 +1,6 @@
 //! Explains an input whose form is detected by its first bytes.
-ghost use Rattle.std.specs.Prelude.{◌≡◌, ◌≢◌, ◌⊎◌, ◌↔◌, ◌-◌, ◌<◌, ◌≤◌, ◌^◌, [], false, IsOk, IsTrue};
-ghost use Rattle.std.specs.Prelude.{List, ℕ, None, Option, Some, length};
+ghost use Rattle.std.specs.Prelude.{◌≡◌, ◌≢◌, ◌⊎◌, ◌↔◌, ◌-◌, ◌<◌, ◌≤◌, ◌^◌, [], false};
+ghost use Rattle.std.specs.Prelude.{IsOk, IsTrue, List, ℕ, None, Option, Some, length};
 ghost use Rattle.std.specs.Io.KnownBytes.{Consumes, IsAtEnd};
 ghost use Rattle.ddcmp_frame.specs.Limits.{MAX_COUNT};
 ghost use Rattle.ddcmp_frame.specs.Reader.{StandsFor};
@@ -75,8 +75,8 @@ fn explain_first<R: Source, W: Sink>(
 }
 
 /// Writes the line of each item of an input, and a last line of totals, in a style. By its first 64
-/// bytes the input is raw, a dump or digits as logs have them; nothing is written before they or its
-/// end were read.
+/// bytes the input is raw, a dump or digits as logs have them; nothing is written before they or
+/// its end were read.
 pub fn explain_detected<R: Source, W: Sink>(
     alloc: Global,
     reader: &mut R,

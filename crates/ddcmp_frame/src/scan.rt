@@ -329,8 +329,8 @@ impl Scan {
     }
 }
 
-/// Returns how many bytes come before the first start byte. Inlined, it would have each item prepare
-/// for the search, which few need.
+/// Returns how many bytes come before the first start byte. Inlined, it would have each item
+/// prepare for the search, which few need.
 #[inline(never)]
 fn before_start(piece: &[u8]) -> usize
     ensures within { result ≤ length piece.now }

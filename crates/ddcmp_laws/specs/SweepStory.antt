@@ -32,8 +32,8 @@ abbrev pub quiet : List Event
 quiet = event.Poll A ∷ event.Poll B ∷ []
 
 -- The line is at rest. A asks by REP, which B ignores, and B repeats its STACK, which A
--- acknowledges: both run. A asks again, B replies with a NAK, and the message and its acknowledgement
--- arrive.
+-- acknowledges: both run. A asks again, B replies with a NAK, and the message and its
+-- acknowledgement arrive.
 abbrev pub at_first : List (List Event)
 at_first = quiet ∷ quiet ∷ []
 
