@@ -1,37 +1,9 @@
-//! Tests of the tools from outside. Of `ddcmp_explain`: its text at every cut, size and fault, over
-//! streams, of dumps, of logs and of a form that it detects. Of `ddcmp_tap`, which explains a
-//! direction of a line: what that forwards, its room and its text. Of `ddcmp_session`: two over bad
-//! lines, through days, its loop and its reports.
-//! Of the program: its words, its texts and its ends.
+//! Tests of the program from outside: its words, its texts and its ends.
 #![tactic(auto)]
 
 #[cfg(test)]
-mod days;
-#[cfg(test)]
-mod detected;
-#[cfg(test)]
-mod directions;
-#[cfg(test)]
-mod dumps;
-#[cfg(test)]
-mod explains;
-#[cfg(test)]
-mod logs;
-#[cfg(test)]
-mod loops;
-#[cfg(test)]
 mod programs;
-#[cfg(test)]
-mod reports;
 #[cfg(test)]
 mod same;
 #[cfg(test)]
-mod sessions;
-#[cfg(test)]
-mod sizes;
-#[cfg(test)]
-mod streams;
-#[cfg(test)]
 mod texts;
-#[cfg(test)]
-mod told;

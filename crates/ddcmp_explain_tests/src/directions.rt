@@ -32,6 +32,11 @@ fn comes(
     assert!(rt; direction.explain(stamp).is_ok());
 }
 
+/// Appends what a direction has to say.
+fn append(rt: &impl Abort, to: &mut Vec<u8>, made: &Direction) {
+    assert!(rt; to.extend_from_slice(made.text()).is_ok());
+}
+
 /// The text of bytes that come in two pieces, and their last line.
 fn said(
     rt: &(impl Abort + AllocGlobal),
@@ -44,60 +49,49 @@ fn said(
     let mut text = Vec::new(rt.alloc());
     let mut made = direction(rt, side, notation);
     comes(rt, &mut made, &BYTES[..cut], stamp);
-    assert!(rt; text.extend_from_slice(made.text()).is_ok());
+    append(rt, &mut text, &made);
     comes(rt, &mut made, &BYTES[cut..], stamp);
-    assert!(rt; text.extend_from_slice(made.text()).is_ok());
+    append(rt, &mut text, &made);
     assert!(rt; made.waiting() == BYTES);
     assert!(rt; made.finish(stamp).is_ok());
-    assert!(rt; text.extend_from_slice(made.text()).is_ok());
+    append(rt, &mut text, &made);
     text
+}
+
+/// A text has this front and this end.
+fn is_within(rt: &impl Abort, text: Vec<u8>, front: &[u8], end: &[u8]) {
+    assert!(rt; text.as_slice().starts_with(front));
+    assert!(rt; text.as_slice().ends_with(end));
 }
 
 #[test]
 fn lines_at_every_cut(rt: HostRuntime) {
     for cut in 0..BYTES.len() {
         let text = said(&rt, cut, Side::Caller, Notation::Plain, None);
-        assert!(&rt; text.as_slice().starts_with(SAID));
-        assert!(&rt; text.as_slice().ends_with(LAST));
-        assert_eq!(&rt; text.len(), SAID.len() + LAST.len());
+        assert!(&rt; text.len() == SAID.len() + LAST.len());
+        is_within(&rt, text, SAID, LAST);
     }
 }
 
 #[test]
 fn what_stands_in_front(rt: HostRuntime) {
-    let stamped = said(&rt, 3, Side::Called, Notation::Plain, Some(1207));
-    let objects = said(&rt, 3, Side::Called, Notation::Json, None);
-    let both = said(&rt, 3, Side::Caller, Notation::Json, Some(0));
-    assert!(&rt;
-        stamped
-            .as_slice()
-            .starts_with(b"1207 < 0 header check\n1207 < 1 DATA count=3 ")
+    is_within(
+        &rt,
+        said(&rt, 3, Side::Called, Notation::Plain, Some(1207)),
+        b"1207 < 0 header check\n1207 < 1 DATA count=3 ",
+        b"\n1207 < items=3 bytes=22 open=0\n",
     );
-    assert!(&rt;
-        stamped
-            .as_slice()
-            .ends_with(b"\n1207 < items=3 bytes=22 open=0\n")
+    is_within(
+        &rt,
+        said(&rt, 3, Side::Called, Notation::Json, None),
+        b"{\"from\":\"<\",\"offset\":0,\"item\":\"header check\"}\n{\"from\":\"<\",\"offset\":1,",
+        b",\"addr\":1}\n{\"from\":\"<\",\"items\":3,\"bytes\":22,\"open\":0}\n",
     );
-    assert!(&rt;
-        objects.as_slice().starts_with(
-            b"{\"from\":\"<\",\"offset\":0,\"item\":\"header check\"}\n\
-            {\"from\":\"<\",\"offset\":1,"
-        )
-    );
-    assert!(&rt;
-        objects.as_slice().ends_with(
-            b",\"addr\":1}\n{\"from\":\"<\",\"items\":3,\"bytes\":22,\"open\":0}\n"
-        )
-    );
-    assert!(&rt;
-        both.as_slice().starts_with(
-            b"{\"from\":\">\",\"ms\":0,\"offset\":0,\"item\":\"header check\"}\n"
-        )
-    );
-    assert!(&rt;
-        both.as_slice().ends_with(
-            b"\n{\"from\":\">\",\"ms\":0,\"items\":3,\"bytes\":22,\"open\":0}\n"
-        )
+    is_within(
+        &rt,
+        said(&rt, 3, Side::Caller, Notation::Json, Some(0)),
+        b"{\"from\":\">\",\"ms\":0,\"offset\":0,\"item\":\"header check\"}\n",
+        b"\n{\"from\":\">\",\"ms\":0,\"items\":3,\"bytes\":22,\"open\":0}\n",
     );
 }
 
@@ -122,18 +116,27 @@ fn ladders_of_both_sides(rt: HostRuntime) {
     assert!(&rt; down.as_slice() == DOWN);
 }
 
+/// A direction has room for so many bytes, and so many wait.
+fn holds(rt: &impl Abort, made: &Direction, room: usize, waiting: usize) {
+    assert!(rt; made.room() == room);
+    assert!(rt; made.waiting().len() == waiting);
+}
+
+/// So many bytes were forwarded.
+fn forwards(rt: &impl Abort, made: &mut Direction, n: usize) {
+    assert!(rt; n <= made.waiting().len());
+    made.took(n);
+}
+
 #[test]
 fn room_until_all_is_written(rt: HostRuntime) {
     let mut made = direction(&rt, Side::Caller, Notation::Plain);
-    let full = [0; ROOM];
-    comes(&rt, &mut made, &full, None);
-    assert_eq!(&rt; made.room(), 0);
-    assert_eq!(&rt; made.waiting().len(), ROOM);
-    made.took(ROOM - 1);
-    assert_eq!(&rt; made.room(), 0);
-    assert_eq!(&rt; made.waiting().len(), 1);
-    made.took(1);
-    assert_eq!(&rt; made.room(), ROOM);
+    comes(&rt, &mut made, &[0; ROOM], None);
+    holds(&rt, &made, 0, ROOM);
+    forwards(&rt, &mut made, ROOM - 1);
+    holds(&rt, &made, 0, 1);
+    forwards(&rt, &mut made, 1);
+    holds(&rt, &made, ROOM, 0);
     assert!(&rt; !made.has_ended());
     made.end();
     assert!(&rt; made.has_ended());

@@ -16,6 +16,10 @@ struct Way {
     at: usize,
 }
 
+fn fresh(bytes: Vec<u8>) -> Way {
+    Way { bytes, at: 0 }
+}
+
 impl Way {
     fn rest(&self) -> &[u8] {
         self.bytes.as_slice().get(self.at..).unwrap_or(&[])
@@ -70,6 +74,28 @@ fn moved(draws: &mut Draws, n: usize) -> Moved {
 }
 
 impl Desk {
+    /// The devices of an end with this input, and the other end with that one.
+    fn new(
+        rt: &(impl Abort + AllocGlobal),
+        draws: Draws,
+        input: Vec<u8>,
+        peer_input: Vec<u8>,
+    ) -> Desk {
+        Desk {
+            draws,
+            cuts: 0,
+            is_open: false,
+            now: 0,
+            input: fresh(input),
+            from_line: fresh(Vec::new(rt.alloc())),
+            to_line: fresh(Vec::new(rt.alloc())),
+            output: fresh(Vec::new(rt.alloc())),
+            peer: session(rt, options(60_000, 86_400)),
+            peer_input: fresh(peer_input),
+            peer_output: fresh(Vec::new(rt.alloc())),
+        }
+    }
+
     /// What comes of a write of these bytes.
     fn takes(&mut self, bytes: &[u8]) -> Moved {
         let n = bytes.len().min(self.draws.below(700));
@@ -193,10 +219,6 @@ impl Devices for Desk {
     }
 }
 
-fn fresh(bytes: Vec<u8>) -> Way {
-    Way { bytes, at: 0 }
-}
-
 /// Two ends exchange messages, and each end's output is the other's input.
 fn exchanges(rt: &(impl Abort + AllocGlobal), seed: u64) {
     let mut draws = Draws { state: seed };
@@ -205,19 +227,8 @@ fn exchanges(rt: &(impl Abort + AllocGlobal), seed: u64) {
     let mut expected = (Vec::new(rt.alloc()), Vec::new(rt.alloc()));
     append(rt, &mut expected.0, input.as_slice());
     append(rt, &mut expected.1, answer.as_slice());
-    let mut desk = Desk {
-        draws,
-        cuts: 0,
-        is_open: true,
-        now: 0,
-        input: fresh(input),
-        from_line: fresh(Vec::new(rt.alloc())),
-        to_line: fresh(Vec::new(rt.alloc())),
-        output: fresh(Vec::new(rt.alloc())),
-        peer: session(rt, options(60_000, 86_400)),
-        peer_input: fresh(answer),
-        peer_output: fresh(Vec::new(rt.alloc())),
-    };
+    let mut desk = Desk::new(rt, draws, input, answer);
+    desk.is_open = true;
     let mut own = session(rt, options(60_000, 86_400));
     let Ok(mut buffers) = Buffers::new(rt.alloc()) else {
         panic!(rt; "no memory");
@@ -277,19 +288,8 @@ fn exchanges_over_lines(rt: &(impl Abort + AllocGlobal), seed: u64) -> u64 {
     let mut expected = Vec::new(rt.alloc());
     append(rt, &mut expected, input.as_slice());
     let answer = messages(rt, &mut draws, 5);
-    let mut desk = Desk {
-        draws,
-        cuts: 60,
-        is_open: false,
-        now: 0,
-        input: fresh(input),
-        from_line: fresh(Vec::new(rt.alloc())),
-        to_line: fresh(Vec::new(rt.alloc())),
-        output: fresh(Vec::new(rt.alloc())),
-        peer: session(rt, options(60_000, 86_400)),
-        peer_input: fresh(answer),
-        peer_output: fresh(Vec::new(rt.alloc())),
-    };
+    let mut desk = Desk::new(rt, draws, input, answer);
+    desk.cuts = 60;
     let options = Options {
         again: true,
         ..options(1000, 86_400)
