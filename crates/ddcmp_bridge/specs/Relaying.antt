@@ -64,8 +64,8 @@ pub record RelayView : Type 0 where
   pub lost : ℕ
   pub altered : ℕ
 
--- These bytes came to a relay whose draws began so, and of what is passed on of them this was taken;
--- the rest waits.
+-- These bytes came to a relay whose draws began so, and of what is passed on of them this was
+-- taken; the rest waits.
 pub record Relays (start : Lcg) (r : RelayView) (came taken : List ℕ) : Type 0 where
   pub stands : StandsFor r.frames came
   pub passes : passed_on r.faults start came ≡ taken ++ r.waiting
