@@ -1,3 +1,4 @@
 pub mod AmountLaws
+pub mod DelayLaws
 pub mod RelayLaws
 pub mod ReportLaws

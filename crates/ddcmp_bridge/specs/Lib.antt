@@ -1,3 +1,4 @@
+pub mod Delaying
 pub mod Faults
 pub mod Relaying
 pub mod Report

@@ -4,11 +4,14 @@
 #![tactic(auto)]
 
 pub mod counts;
+mod delay_line;
+mod direction;
 pub mod faults;
 mod relay;
 mod report;
 
 pub use counts::Counts;
+pub use direction::Direction;
 pub use faults::{Fate, Faults};
 pub use relay::{Relay, Taken};
 pub use report::write_report;

@@ -17,7 +17,7 @@ use std::alloc::Global;
 use std::marker::Model;
 
 /// The most bytes of a frame.
-const FRAME: usize = MAX_COUNT as usize + 10;
+pub(crate) const FRAME: usize = MAX_COUNT as usize + 10;
 
 /// Returns the header of a good frame.
 fn good_header(item: &Item) -> Option<Header>
@@ -136,6 +136,7 @@ impl Relay {
         ensures relays { IfSome result (λ made.
             Relays (start_of faults.seed direction) made [] []) }
         ensures faults { IfSome result (λ made. made.faults ≡ faults) }
+        ensures idle { IfSome result (λ made. made.waiting ≡ []) }
     {
         let Ok(frames) = Reader::new(alloc, MAX_COUNT) else {
             return None;
@@ -207,6 +208,7 @@ impl Relay {
     /// Returns what waits of the frame that is passed on.
     pub fn waiting(&self) -> &[u8]
         ensures value { result.now ≡ self.now.waiting }
+        ensures most { length result.now ≤ FRAME }
         // If it is to make no faults, it passes on what came.
         ensures faultless { (start : Lcg) (came taken : List ℕ) → Relays start self.now came taken
             → self.now.faults.lose ≡ 0 → self.now.faults.damage ≡ 0
