@@ -29,8 +29,8 @@ _ddcmp() {
     link:--window | link:--inbox | link:--max | link:--syn | link:--timer-ms | link:--attempts | link:--linger-ms | link:--seconds | link:--report) ;;
     link:--line) words='connect: listen: udp: device:' ;;
     link:*) words='--line --window --inbox --max --syn --restart --timer-ms --attempts --linger-ms --seconds --report --binary --maintenance --stay --again --counters --trace --clock --json -h --help' ;;
-    bridge:--seconds | bridge:--lose | bridge:--damage | bridge:--seed) ;;
-    bridge:*) words='--seconds --lose --damage --seed --trace --ladder -h --help' ;;
+    bridge:--seconds | bridge:--lose | bridge:--damage | bridge:--delay | bridge:--seed | bridge:--save-first | bridge:--save-second) ;;
+    bridge:*) words='--seconds --lose --damage --delay --seed --trace --ladder --json --save-first --save-second -h --help' ;;
   esac
   mapfile -t COMPREPLY < <(compgen -W "$words" -- "$word")
   if [ -n "$files" ] && [[ $word != -* ]]; then

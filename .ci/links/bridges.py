@@ -1,5 +1,7 @@
 """Bridges between lines of each kind: two links over one, what of junk and damaged frames comes out, and the faults
 that a bridge makes."""
+import json
+import os
 import re
 import socket
 import subprocess
@@ -267,6 +269,48 @@ def faults_by_a_seed():
         wrong("not all frames are lost or altered")
 
 
+def delayed():
+    """Each frame is held back for the time that was asked for, up to 256 at once, and goes on as it came; also those that
+    are held when its line ends."""
+    delay = 0.3
+    first, second = server(), server()
+    names = [f"connect:127.0.0.1:{it.getsockname()[1]}" for it in (first, second)]
+    bridge = Bridge(*names, "--delay", str(int(delay * 1000)))
+    ends = first.accept()[0], second.accept()[0]
+    for end, other in (ends, ends[::-1]):
+        for count, most in ((1, 0.2), (256, 0.6), (600, 0.9)):  # 600 are two turns more
+            frames = [data(drawn.randbytes(drawn.randrange(1, 60)), it % 256) for it in range(count)]
+            began, got = time.monotonic(), b""
+            end.sendall(b"".join(frames))
+            other.settimeout(LONG)
+            after = None
+            while len(got) < sum(map(len, frames)) and (piece := other.recv(1 << 16)):
+                after = after or time.monotonic() - began
+                got += piece
+            took = time.monotonic() - began
+            least = delay * -(-count // 256)
+            if got != b"".join(frames) or after < delay - 0.002 or not least - 0.002 <= took < least + most:
+                wrong(f"{count}: {len(got)} bytes after {after} to {took} s")
+    moments = []
+    for it in range(10):  # several at once are held back
+        ends[0].sendall(data(bytes([it]), it))
+        moments.append(time.monotonic())
+        time.sleep(0.05)
+    came = b""
+    while len(came) < 110:
+        came += ends[1].recv(1 << 16)
+    took = time.monotonic() - moments[-1]
+    if took > delay + 0.2 or came != b"".join(data(bytes([it]), it) for it in range(10)):
+        wrong(f"ten in turn: {came}, the last after {took} s")
+    ends[0].sendall(b"".join(frames[:300]))
+    ends[0].shutdown(socket.SHUT_WR)
+    got = takes(ends[1])
+    if bridge.ended() != 0 or got != b"".join(frames[:300]) or bridge.counts()[0][0] != 1 + 256 + 600 + 10 + 300:
+        wrong(f"at the end: {len(got)} bytes, {bridge.lines()} {bridge.errors()}")
+    for it in (*ends, first, second):
+        it.close()
+
+
 def traced():
     """Each frame and fault that comes is printed in the words of explain, with what the bridge does to it."""
     first, second = server(), server()
@@ -296,6 +340,54 @@ def traced():
         wrong(f"{status}, {[it[0] for it in lines]}, {bridge.errors()[-3:]}")
     for it in (*ends, first, second):
         it.close()
+
+
+def saved():
+    """The files have all bytes that came over each line; JSON is that of tap. A file that is there is left as it is, one that
+    can't be made is reported, with nothing left behind, and one that can't be written ends the bridge."""
+    with tempfile.TemporaryDirectory() as folder:
+        files = [f"{folder}/{it}" for it in ("there", "back")]
+        words = ["--save-first", files[0], "--save-second", files[1], "--json", "--lose", "30", "--damage", "30"]
+        first, second = server(), server()
+        lines = [f"connect:127.0.0.1:{it.getsockname()[1]}" for it in (first, second)]
+        bridge = Bridge(*lines, *words)
+        ends, texts = (first.accept()[0], second.accept()[0]), [text_of(60), text_of(60)]
+        for end, text in zip(ends, texts):
+            end.sendall(text)
+        bridge.waits(lambda _: [os.path.getsize(it) for it in files] == [len(it) for it in texts], 10)
+        ends[0].shutdown(socket.SHUT_WR)
+        if bridge.ended() != 0 or [contents(it) for it in files] != texts:
+            wrong(f"{bridge.errors()[-3:]}")
+        objects = [json.loads(it) for it in bridge.errors() if it.startswith("{")]
+        for mark, text, counts in zip("><", texts, bridge.counts()):
+            mine = [it for it in objects if it["from"] == mark]
+            fates = [it["item"] for it in mine if it["item"] in ("lost", "altered")]
+            if (fates.count("lost"), fates.count("altered")) != counts[3:] or len(mine) - len(fates) != len(explained(text)):
+                wrong(f"{mark}: {fates}, {counts}, {len(mine)} objects")
+        wants("exists", Bridge(*lines, "--save-first", files[0]), 3, f"ddcmp: create {files[0]}: file exists")
+        new = f"{folder}/new"
+        wants("twice", Bridge(*lines, "--save-first", new, "--save-second", new), 3, f"ddcmp: create {new}: file exists")
+        wants("no folder", Bridge(*lines, "--save-second", f"{new}/it"), 3, f"ddcmp: create {new}/it: no such file")
+        closed = f"127.0.0.1:{free_port()}"
+        run = Bridge(f"connect:{closed}", lines[1], "--save-first", new)
+        wants("no line", run, 3, f"ddcmp: connect {closed}: connection refused")
+        if contents(files[0]) != texts[0] or os.path.exists(new):
+            wrong(f"{os.listdir(folder)}")
+        limits = ["sh", "-c", "trap '' XFSZ; ulimit -f 1; exec \"$@\"", "sh"]
+        run = subprocess.Popen([*limits, *PROGRAM, "bridge", *lines, "--save-first", new], stdin=subprocess.DEVNULL,
+                               stdout=subprocess.PIPE, stderr=subprocess.PIPE)
+        more = first.accept()[0], second.accept()[0]
+        more[0].sendall(data(bytes(3000), 1))
+        said, told = run.communicate(timeout=20)
+        if run.returncode != 3 or f"write {new}: failed\nddcmp: ended\n" not in told.decode() or b"frames=1 " not in said:
+            wrong(f"full: {run.returncode} {said} {told}")
+        for it in (*ends, *more, first, second):
+            it.close()
+
+
+def contents(path):
+    with open(path, "rb") as it:
+        return it.read()
 
 
 def between(name, bridge, one, two, most=1500):
@@ -345,11 +437,11 @@ def device_to_udp():
         between("device and udp", bridge, one, two)
 
 
-def the_example():
-    """The commands of docs/USING.md over a bridge that makes faults: all messages arrive."""
+def played(begin):
+    """Runs the commands of docs/USING.md that begin so; returns the messages that were received, and the run."""
     with open(f"{TOP}/docs/USING.md", encoding="utf-8") as it:
         lines = it.read().split("\n")
-    first = next(at for at, line in enumerate(lines) if line.startswith("    ./ddcmp bridge --lose "))
+    first = next(at for at, line in enumerate(lines) if line.startswith(f"    ./ddcmp bridge {begin} "))
     last = next(at for at in range(first, len(lines)) if not lines[at].startswith("    "))
     commands = "\n".join(lines[first:last]).replace("./ddcmp", " ".join(PROGRAM))
     for port in re.findall(r":(\d+) ", commands):
@@ -357,10 +449,23 @@ def the_example():
     with tempfile.TemporaryDirectory() as folder:
         run = subprocess.run(["sh", "-c", f"{commands}\nwait"], cwd=folder, capture_output=True, timeout=LONG, check=False)
         with open(f"{folder}/received", encoding="ascii") as it:
-            mails = [line.split()[1] for line in it if line.startswith("mail ")]
+            return [line.split()[1] for line in it if line.startswith("mail ")], run
+
+
+def the_example():
+    """The commands of docs/USING.md over a bridge that makes faults: all messages arrive."""
+    mails, run = played("--lose")
     said = run.stdout.decode().splitlines()
     if mails != [str(it) for it in range(1000, 1100)] or not any(re.match("> frames=.* lost=[1-9]", it) for it in said):
         wrong(f"the example: {len(mails)} messages, {said[-4:]}, {run.stderr.decode()[-500:]}")
+
+
+def the_example_of_saving():
+    """Those over a bridge that saves what comes: what came back is explained."""
+    mails, run = played("--save-first")
+    said = run.stdout.decode()
+    if mails != ["1000", "1001", "1002", "1003"] or [it in said for it in ("STRT", "num=4 addr=1 1003")] != [True, True]:
+        wrong(f"the example: {mails}, {said}, {run.stderr.decode()[-500:]}")
 
 
 def ends_of_a_bridge():
@@ -389,7 +494,7 @@ def ends_of_a_bridge():
 
 
 TRIALS = [
-    over_faults, the_example, bridged_slowly, bridged_junk, device_to_udp, faults_by_a_seed, udp_to_tcp, tcp_to_tcp,
-    bridged_datagrams, traced, ends_of_a_bridge,
+    over_faults, the_example, the_example_of_saving, bridged_slowly, bridged_junk, device_to_udp, faults_by_a_seed, udp_to_tcp, tcp_to_tcp,
+    bridged_datagrams, delayed, saved, traced, ends_of_a_bridge,
 ]
 LONG_TRIALS = []

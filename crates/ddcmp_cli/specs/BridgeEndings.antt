@@ -1,23 +1,30 @@
 -- How a bridge of the command line ends.
-use Rattle.std.specs.Prelude.{◌≡◌, ◌⊎◌, ⊤, if◌then◌else◌, Result, Ok, Err, Option, Some, None}
+use Rattle.std.specs.Prelude.{◌≡◌, ◌⊎◌, ⊤, Bool, if◌then◌else◌, Result, Ok, Err, Option, Some, None}
 use Rattle.std.specs.Io.KnownBytes.{Appends, Keeps}
 use Rattle.ddcmp_bridge.specs.Report.{bridge_report}
 use Rattle.ddcmp_io.specs.Written.{AppendsPart, Known}
 use Rattle.ddcmp_service.specs.declared.bridge.BridgeEnd.{BridgeEnd}
 use Rattle.ddcmp_service.specs.declared.bridge.BridgeFault.{BridgeFault}
 use Rattle.ddcmp_service.specs.declared.bridge.BridgeFault.TheVariants as bridging
+use Rattle.ddcmp_explain.specs.declared.notation.Notation.{Notation as Wording}
+use Rattle.ddcmp_explain.specs.declared.notation.Notation.TheVariants as words
 use Rattle.ddcmp_tap.specs.declared.notation.Notation.{Notation}
-use Rattle.ddcmp_tap.specs.declared.notation.Notation.TheVariants.{Plain, Ladder}
+use Rattle.ddcmp_tap.specs.declared.notation.Notation.TheVariants.{Plain, Ladder, Json}
 use Rattle.ddcmp_words.specs.declared.bridged.Bridged.{Bridged}
 use Rattle.ddcmp_cli.specs.declared.fault.Fault.TheVariants.{Write, Memory, Ended}
 use Rattle.ddcmp_cli.specs.declared.ending.Ending.{Ending}
 use Rattle.ddcmp_cli.specs.declared.ending.Ending.TheVariants.{Done, Usage, Fault as Faulted}
 use Rattle.ddcmp_cli.specs.TapEndings.{IsUnopened}
 
--- how the frames that come are printed: as a ladder, in words, or not at all
+-- how the frames that come are printed: as JSON, in words if that is asked for, or not at all
+abbrev pub lines_of : Wording → Bool → Option Notation
+lines_of words.Json trace = Some Json
+lines_of words.Plain trace = if trace then Some Plain else None
+
+-- or as a ladder, if one is asked for
 abbrev pub trace_of : Bridged → Option Notation
 trace_of bridged =
-    if bridged.ladder then Some Ladder else if bridged.trace then Some Plain else None
+    if bridged.ladder then Some Ladder else lines_of bridged.notation bridged.trace
 
 -- What a bridge that ran has counted is written, and then it ends as its lines did; or writing that
 -- failed.

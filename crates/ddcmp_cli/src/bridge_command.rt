@@ -5,8 +5,10 @@ ghost use Rattle.ddcmp_cli.specs.BridgeEndings.{BridgeEnds, Bridges, Reports, tr
 use crate::ending::Ending;
 use crate::fault::Fault;
 use crate::link_command::{Lines, no_line};
+use crate::tap_command::{TWO_NOTATIONS, is_json};
 use crate::usage::usage;
 use ddcmp_bridge::write_report;
+use ddcmp_explain::Notation as Wording;
 use ddcmp_io::Sink;
 use ddcmp_service::{BridgeEnd, BridgeFault, BridgeOptions, LineName};
 use ddcmp_tap::Notation;
@@ -53,10 +55,11 @@ fn report<W: Sink>(end: &BridgeEnd, writer: &mut W) -> Ending
 fn traced_as(bridged: &Bridged<'_>) -> Option<Notation>
     ensures { result ≡ trace_of bridged.now }
 {
-    match (bridged.ladder, bridged.trace) {
-        (true, _) => Some(Notation::Ladder),
-        (false, true) => Some(Notation::Plain),
-        (false, false) => None,
+    match (bridged.ladder, bridged.notation, bridged.trace) {
+        (true, _, _) => Some(Notation::Ladder),
+        (false, Wording::Json, _) => Some(Notation::Json),
+        (false, Wording::Plain, true) => Some(Notation::Plain),
+        (false, Wording::Plain, false) => None,
     }
 }
 
@@ -71,6 +74,9 @@ pub(crate) fn bridge<S: Lines, W: Sink>(
     ensures bridges { Bridges (W.contents writer.old) (W.contents writer.new) result }
     ensures write { (result ≡ Ending.Fault Fault.Write) ↔ IsTrue (W.broken writer.new) }
 {
+    if bridged.ladder && is_json(bridged.notation) {
+        return usage(alloc, TWO_NOTATIONS);
+    }
     let Some(first) = LineName::read(bridged.first) else {
         return usage(alloc, NO_LINE);
     };
@@ -80,7 +86,10 @@ pub(crate) fn bridge<S: Lines, W: Sink>(
     let options = BridgeOptions {
         seconds: bridged.seconds,
         faults: bridged.faults,
+        delay_ms: bridged.delay,
         trace: traced_as(bridged),
+        save_first: bridged.save_first,
+        save_second: bridged.save_second,
     };
     let ended = system.bridge(alloc, first, second, options);
     ending_of(alloc, ended, writer)

@@ -84,7 +84,7 @@ pub trait Lines {
         alloc: Global,
         first: LineName<'a>,
         second: LineName<'a>,
-        options: BridgeOptions,
+        options: BridgeOptions<'a>,
     ) -> Result<BridgeEnd, BridgeFault<'a>>;
 }
 
@@ -109,7 +109,7 @@ impl Lines for HostRuntime {
         alloc: Global,
         first: LineName<'a>,
         second: LineName<'a>,
-        options: BridgeOptions,
+        options: BridgeOptions<'a>,
     ) -> Result<BridgeEnd, BridgeFault<'a>> {
         bridge_lines(self, alloc, first, second, options)
     }

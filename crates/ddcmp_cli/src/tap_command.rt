@@ -52,9 +52,9 @@ fn ending_of_fault(alloc: Global, tapped: &Tapped<'_>, fault: TapFault) -> Endin
 }
 
 /// The usage error for `--json` with `--ladder`.
-const TWO_NOTATIONS: &str = "'--json' and '--ladder' can't be used together";
+pub(crate) const TWO_NOTATIONS: &str = "'--json' and '--ladder' can't be used together";
 
-fn is_json(notation: Notation) -> bool
+pub(crate) fn is_json(notation: Notation) -> bool
     ensures { result ≡ is_json_notation notation }
 {
     match notation {

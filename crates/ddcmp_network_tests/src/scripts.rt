@@ -147,7 +147,7 @@ impl<S: Lines> Lines for Poor<'_, S> {
         alloc: Global,
         first: LineName<'a>,
         second: LineName<'a>,
-        options: BridgeOptions,
+        options: BridgeOptions<'a>,
     ) -> Result<BridgeEnd, BridgeFault<'a>> {
         self.system.bridge(alloc, first, second, options)
     }

@@ -14,6 +14,8 @@ abbrev pub attempt_text : Attempt → List ℕ
 attempt_text attempt.Connect = codes "connect"
 attempt_text attempt.Listen = codes "listen"
 attempt_text attempt.Open = codes "open"
+attempt_text attempt.Create = codes "create"
+attempt_text attempt.Write = codes "write"
 
 abbrev pub cause_text : Cause → List ℕ
 cause_text (cause.System kind) = cause_words kind
@@ -21,6 +23,9 @@ cause_text cause.UnknownHost = codes "no such host"
 cause_text cause.OtherFamily = codes "not of the other address's family"
 cause_text cause.NotDevice = codes "not a character device"
 cause_text cause.InUse = codes "in use by another program"
+cause_text cause.Exists = codes "file exists"
+cause_text cause.Full = codes "no space left on device"
+cause_text cause.Failed = codes "failed"
 
 -- a line that couldn't be opened, with its name
 abbrev pub not_opened_text : NotOpened → List ℕ

@@ -1,4 +1,5 @@
 //! A bridge over two lines, from their opening to its end.
+use crate::bridge_save::{Save, remove};
 use crate::bridge_side::{Needs, Sides};
 use crate::bridge_trace::Trace;
 use crate::bridge_way::Way;
@@ -25,14 +26,14 @@ pub struct BridgeEnd {
     /// What was counted from the first line to the second.
     pub there: Counts,
     pub back: Counts,
-    /// Whether a line failed, and wasn't just closed.
+    /// Whether a line failed, and wasn't just closed, or what came couldn't be saved.
     pub has_failed: bool,
 }
 
 /// Why there was no bridge.
 #[derive(Clone, Copy, Debug, PartialEq, Eq)]
 pub enum BridgeFault<'a> {
-    /// A line couldn't be opened.
+    /// A line couldn't be opened, or a file made.
     Open(NotOpened<'a>),
     /// An allocation failed, before anything was done.
     Memory,
@@ -40,12 +41,17 @@ pub enum BridgeFault<'a> {
 
 /// How a bridge runs.
 #[derive(Clone, Copy, Debug, PartialEq, Eq)]
-pub struct BridgeOptions {
+pub struct BridgeOptions<'a> {
     /// After how many seconds it ends, if no line has ended before.
     pub seconds: u32,
     pub faults: Faults,
+    /// How many milliseconds each frame is held back.
+    pub delay_ms: u32,
     /// How the frames that come are printed on standard error, if they are.
     pub trace: Option<Notation>,
+    /// The files that what comes over each line is saved in, if it is. They must not be there yet.
+    pub save_first: Option<&'a str>,
+    pub save_second: Option<&'a str>,
 }
 
 /// Passes the good frames that come over each line on to the other, but for the faults that it is
@@ -55,7 +61,7 @@ pub fn bridge_lines<'a, S>(
     alloc: Global,
     first: LineName<'a>,
     second: LineName<'a>,
-    options: BridgeOptions,
+    options: BridgeOptions<'a>,
 ) -> Result<BridgeEnd, BridgeFault<'a>>
 where
     S: Net<Stream = net::TcpStream, Listener = net::TcpListener>
@@ -63,24 +69,45 @@ where
         + Eprint
         + time::Clock,
 {
-    let Some(mut ways) = Ways::new(alloc, &options) else {
-        return Err(BridgeFault::Memory);
+    let save_first = save_in(system, options.save_first)?;
+    let save_second = match save_in(system, options.save_second) {
+        Ok(save) => save,
+        Err(fault) => {
+            remove(system, options.save_first);
+            return Err(fault);
+        }
     };
-    let mut clock = Elapsed::new(system);
-    let ends_at = 1000 * u64::from(options.seconds);
-    let mut one = Opening::new(system, alloc, first)?;
-    let mut two = Opening::new(system, alloc, second)?;
-    one.listen(system)?;
-    two.listen(system)?;
-    let Some(first) = one.open(system, &mut clock, ends_at)? else {
-        return Ok(ways.ended(None, None));
+    let ended = match Ways::new(alloc, &options, save_first, save_second) {
+        Some(mut ways) => {
+            let ended = ways.bridge(system, alloc, first, second, &options);
+            tell_unsaved(system, options.save_first, ways.there.unsaved());
+            tell_unsaved(system, options.save_second, ways.back.unsaved());
+            ended
+        }
+        None => Err(BridgeFault::Memory),
     };
-    let Some(second) = two.open(system, &mut clock, ends_at)? else {
-        return Ok(ways.ended(None, None));
+    if ended.is_err() {
+        remove(system, options.save_first);
+        remove(system, options.save_second);
+    }
+    ended
+}
+
+/// Makes the file of this name, if one is asked for.
+fn save_in<'a, S: Files<File = File>>(
+    files: &S,
+    name: Option<&'a str>,
+) -> Result<Option<Save>, BridgeFault<'a>> {
+    let Some(name) = name else {
+        return Ok(None);
     };
-    match Sides::new(system, alloc, first, second) {
-        Ok(mut sides) => Ok(ways.run(system, &mut sides, &mut clock, ends_at)),
-        Err(error) => Err(no_waiting(error.kind())),
+    match Save::new(files, name) {
+        Ok(save) => Ok(Some(save)),
+        Err(cause) => Err(BridgeFault::Open(NotOpened {
+            attempt: Attempt::Create,
+            name,
+            cause,
+        })),
     }
 }
 
@@ -192,7 +219,11 @@ impl Drop for Ways {
 }
 
 /// Makes a log of what comes from a side, if one is asked for.
-fn trace_of(alloc: Global, options: &BridgeOptions, side: Side) -> Result<Option<Trace>, NoMemory> {
+fn trace_of(
+    alloc: Global,
+    options: &BridgeOptions<'_>,
+    side: Side,
+) -> Result<Option<Trace>, NoMemory> {
     match options.trace {
         Some(notation) => Ok(Some(Trace::new(alloc, notation, side)?)),
         None => Ok(None),
@@ -201,13 +232,59 @@ fn trace_of(alloc: Global, options: &BridgeOptions, side: Side) -> Result<Option
 
 impl Ways {
     /// Takes all memory that both directions will need; none if an allocation failed.
-    fn new(alloc: Global, options: &BridgeOptions) -> Option<Ways> {
+    fn new(
+        alloc: Global,
+        options: &BridgeOptions<'_>,
+        save_first: Option<Save>,
+        save_second: Option<Save>,
+    ) -> Option<Ways> {
         let there = trace_of(alloc, options, Side::Caller).ok()?;
         let back = trace_of(alloc, options, Side::Called).ok()?;
         Some(Ways {
-            there: Way::new(alloc, options.faults, 0, there)?,
-            back: Way::new(alloc, options.faults, 1, back)?,
+            there: Way::new(
+                alloc,
+                options.faults,
+                options.delay_ms,
+                0,
+                there,
+                save_first,
+            )?,
+            back: Way::new(
+                alloc,
+                options.faults,
+                options.delay_ms,
+                1,
+                back,
+                save_second,
+            )?,
         })
+    }
+
+    /// Opens both lines, and passes frames on between them.
+    fn bridge<'a, S: System>(
+        &mut self,
+        system: &S,
+        alloc: Global,
+        first: LineName<'a>,
+        second: LineName<'a>,
+        options: &BridgeOptions<'a>,
+    ) -> Result<BridgeEnd, BridgeFault<'a>> {
+        let mut clock = Elapsed::new(system);
+        let ends_at = 1000 * u64::from(options.seconds);
+        let mut one = Opening::new(system, alloc, first)?;
+        let mut two = Opening::new(system, alloc, second)?;
+        one.listen(system)?;
+        two.listen(system)?;
+        let Some(first) = one.open(system, &mut clock, ends_at)? else {
+            return Ok(self.ended(None, None));
+        };
+        let Some(second) = two.open(system, &mut clock, ends_at)? else {
+            return Ok(self.ended(None, None));
+        };
+        match Sides::new(system, alloc, first, second) {
+            Ok(mut sides) => Ok(self.run(system, &mut sides, &mut clock, ends_at)),
+            Err(error) => Err(no_waiting(error.kind())),
+        }
     }
 
     /// Passes frames on both ways, until a line is down and all that came over it was passed on, or
@@ -227,11 +304,12 @@ impl Ways {
             let came = self
                 .back
                 .pass(&mut sides.second, &mut sides.first, system, now);
-            let left = ends_at.saturating_sub(clock.now());
-            if self.is_over(sides) || left == 0 {
+            let passed = clock.now();
+            if self.is_over(sides) || self.is_unsaved() || passed >= ends_at {
                 break;
             }
-            if !went && !came && !self.wait(sides, left) {
+            let left = self.wakes_at(now, ends_at).saturating_sub(passed);
+            if !went && !came && !self.wait(sides, now, left) {
                 break;
             }
         }
@@ -244,20 +322,33 @@ impl Ways {
     fn is_over(&self, sides: &Sides) -> bool {
         match (sides.first.down, sides.second.down) {
             (None, None) => false,
-            (Some(_), None) => self.there.wants_more(),
-            (None, Some(_)) => self.back.wants_more(),
+            (Some(_), None) => self.there.is_done(),
+            (None, Some(_)) => self.back.is_done(),
             (Some(_), Some(_)) => true,
         }
     }
 
-    fn wait(&self, sides: &mut Sides, most_ms: u64) -> bool {
+    /// Whether what came over a line can't be saved any more.
+    fn is_unsaved(&self) -> bool {
+        self.there.unsaved().is_some() || self.back.unsaved().is_some()
+    }
+
+    /// Returns when it is over, or a frame is due that isn't yet at this moment.
+    fn wakes_at(&self, now: u64, ends_at: u64) -> u64 {
+        ends_at
+            .min(later_than(now, self.there.wakes_at()))
+            .min(later_than(now, self.back.wakes_at()))
+    }
+
+    /// Waits until a side is ready for what was needed of it at this moment.
+    fn wait(&self, sides: &mut Sides, now: u64, most_ms: u64) -> bool {
         let first = Needs {
             to_read: self.there.wants_more() && sides.first.down.is_none(),
-            to_write: self.back.has_waiting() && sides.first.down.is_none(),
+            to_write: self.back.has_waiting(now) && sides.first.down.is_none(),
         };
         let second = Needs {
             to_read: self.back.wants_more() && sides.second.down.is_none(),
-            to_write: self.there.has_waiting() && sides.second.down.is_none(),
+            to_write: self.there.has_waiting(now) && sides.second.down.is_none(),
         };
         sides.wait(first, second, most_ms)
     }
@@ -266,13 +357,37 @@ impl Ways {
         BridgeEnd {
             there: self.there.counts(),
             back: self.back.counts(),
-            has_failed: has_failed(first) || has_failed(second),
+            has_failed: has_failed(first) || has_failed(second) || self.is_unsaved(),
         }
+    }
+}
+
+/// Returns the moment if it is yet to come, and else the last that there is.
+fn later_than(now: u64, moment: Option<u64>) -> u64 {
+    match moment {
+        Some(moment) => match moment > now {
+            true => moment,
+            false => u64::MAX,
+        },
+        None => u64::MAX,
     }
 }
 
 fn has_failed(down: Option<Down>) -> bool {
     matches!(down, Some(Down::Failed(_)))
+}
+
+/// Prints that a file can't be written, if it can't.
+fn tell_unsaved<E: Eprint>(system: &E, name: Option<&str>, failed: Option<Cause>) {
+    let (Some(name), Some(cause)) = (name, failed) else {
+        return;
+    };
+    let fault = NotOpened {
+        attempt: Attempt::Write,
+        name,
+        cause,
+    };
+    let _ = eprintln!(system; "{fault}");
 }
 
 /// Prints that a line is down, if it is.

@@ -9,6 +9,7 @@ use std::str;
 /// The log of one direction: the lines of a tap, and what the bridge did to a frame.
 pub(crate) struct Trace {
     direction: Direction,
+    notation: Notation,
     side: Side,
 }
 
@@ -17,6 +18,7 @@ impl Drop for Trace {
     fn drop(self) {
         let Trace {
             direction: _direction,
+            notation: _,
             side: _,
         } = self;
     }
@@ -26,7 +28,11 @@ impl Trace {
     /// Takes all memory but that of its lines.
     pub(crate) fn new(alloc: Global, notation: Notation, side: Side) -> Result<Trace, NoMemory> {
         let direction = Direction::new(alloc, side, notation, MAX_COUNT)?;
-        Ok(Trace { direction, side })
+        Ok(Trace {
+            direction,
+            notation,
+            side,
+        })
     }
 
     /// Prints the lines of bytes that came, and the fate of the frame that they completed. What
@@ -47,14 +53,36 @@ impl Trace {
             let text = str::from_utf8(self.direction.text()).unwrap_or("");
             let _ = eprint!(system; "{text}");
         }
+        let Some(fate) = fate else {
+            return;
+        };
         let mark = match self.side {
             Side::Caller => ">",
             Side::Called => "<",
         };
-        let _ = match fate {
-            Some(Fate::Lost) => eprintln!(system; "{now} {mark} lost"),
-            Some(Fate::Altered { at, .. }) => eprintln!(system; "{now} {mark} altered byte {at}"),
-            Some(Fate::Passed) | None => Ok(()),
-        };
+        match self.notation {
+            Notation::Json => tell_object(system, now, mark, fate),
+            Notation::Plain | Notation::Ladder => tell_line(system, now, mark, fate),
+        }
     }
+}
+
+/// Prints what the bridge did to a frame, if anything, as a line.
+fn tell_line<E: Eprint>(system: &E, now: u64, mark: &str, fate: Fate) {
+    let _ = match fate {
+        Fate::Lost => eprintln!(system; "{now} {mark} lost"),
+        Fate::Altered { at, .. } => eprintln!(system; "{now} {mark} altered byte {at}"),
+        Fate::Passed => Ok(()),
+    };
+}
+
+/// Prints that as an object of JSON.
+fn tell_object<E: Eprint>(system: &E, now: u64, mark: &str, fate: Fate) {
+    let _ = match fate {
+        Fate::Lost => eprintln!(system; "{{\"from\":\"{mark}\",\"ms\":{now},\"item\":\"lost\"}}"),
+        Fate::Altered { at, .. } => eprintln!(system;
+            "{{\"from\":\"{mark}\",\"ms\":{now},\"item\":\"altered\",\"byte\":{at}}}"
+        ),
+        Fate::Passed => Ok(()),
+    };
 }

@@ -1,10 +1,10 @@
 //! One direction of a bridge: from the line that it reads to the line that it writes.
-ghost use Rattle.std.specs.Prelude.{◌≡◌, [], false};
-
+use crate::bridge_save::Save;
 use crate::bridge_side::Side;
 use crate::bridge_trace::Trace;
 use crate::datagram::Framing;
-use ddcmp_bridge::{Counts, Faults, Relay, Taken};
+use crate::fault::Cause;
+use ddcmp_bridge::{Counts, Direction, Faults, Taken};
 use std::alloc::Global;
 use std::io::Eprint;
 
@@ -13,8 +13,8 @@ const MOST: usize = 65536;
 
 /// What comes from a side, on its way to the other.
 pub(crate) struct Way {
-    relay: Relay,
-    /// Bytes that came, of which the relay has not taken those from `from` to `end` yet.
+    direction: Direction,
+    /// Bytes that came, of which `direction` has not taken those from `from` to `end` yet.
     came: Vec<u8>,
     from: usize,
     end: usize,
@@ -23,44 +23,50 @@ pub(crate) struct Way {
     /// How many bytes were dropped for that.
     cut: u64,
     trace: Option<Trace>,
+    /// The file that all that comes is saved in, if there is one.
+    save: Option<Save>,
 }
 
 // By hand, so that it is dropped by a call: a derived one is written out at each such place.
 impl Drop for Way {
     fn drop(self) {
         let Way {
-            relay: _relay,
+            direction: _direction,
             came: _came,
             from: _,
             end: _,
             framing: _framing,
             cut: _,
             trace: _trace,
+            save: _save,
         } = self;
     }
 }
 
 impl Way {
     /// Takes all memory that it will need; none if an allocation failed. Its faults are drawn as
-    /// those of this direction.
+    /// those of the direction of this number.
     pub(crate) fn new(
         alloc: Global,
         faults: Faults,
-        direction: u64,
+        delay_ms: u32,
+        number: u64,
         trace: Option<Trace>,
+        save: Option<Save>,
     ) -> Option<Way> {
         Some(Way {
-            relay: Relay::new(alloc, faults, direction)?,
+            direction: Direction::new(alloc, faults, delay_ms, number)?,
             came: vec![in alloc; 0; MOST].ok()?,
             from: 0,
             end: 0,
             framing: Framing::new(alloc, ddcmp_frame::MAX_COUNT).ok()?,
             cut: 0,
             trace,
+            save,
         })
     }
 
-    /// Reads once and writes once, as far as neither waits: whether anything moved. What it logs has
+    /// Reads once and writes once, as far as neither waits: whether anything moved. What comes has
     /// this moment.
     pub(crate) fn pass<E: Eprint>(
         &mut self,
@@ -71,21 +77,29 @@ impl Way {
     ) -> bool {
         let came = self.wants_more() && self.read(from);
         self.take(system, now);
-        let went = self.write(to);
+        let went = self.write(to, now);
         self.take(system, now);
         came || went
     }
 
-    /// Whether all that came was passed on, so that more may come.
+    /// Whether more may come: all that came is taken, and there is room.
     pub(crate) fn wants_more(&self) -> bool {
-        self.from >= self.end && self.relay.waiting().is_empty()
+        self.from >= self.end && self.direction.has_room()
     }
 
-    /// Whether something waits for the other side.
-    pub(crate) fn has_waiting(&self) -> bool
-        ensures { result ≡ false → self.now.relay.waiting ≡ [] }
-    {
-        !self.relay.waiting().is_empty()
+    /// Whether all that came was passed on.
+    pub(crate) fn is_done(&self) -> bool {
+        self.from >= self.end && self.direction.wakes_at().is_none()
+    }
+
+    /// Whether something waits for the other side at this moment.
+    pub(crate) fn has_waiting(&self, now: u64) -> bool {
+        !self.direction.waiting(now).is_empty()
+    }
+
+    /// Returns the moment at which something waits for the other side next.
+    pub(crate) fn wakes_at(&self) -> Option<u64> {
+        self.direction.wakes_at()
     }
 
     fn read(&mut self, from: &mut Side) -> bool {
@@ -94,6 +108,9 @@ impl Way {
         };
         self.from = 0;
         self.end = n;
+        if let Some(save) = &mut self.save {
+            save.write(self.came.get(..n).unwrap_or(&[]));
+        }
         if from.has_datagrams() {
             // No frame goes on in the next datagram.
             let datagram = self.came.get(..n).unwrap_or(&[]);
@@ -104,19 +121,19 @@ impl Way {
         true
     }
 
-    /// Has the relay take what came, up to a frame that waits.
+    /// Has the direction take what came, as far as there is room.
     fn take<E: Eprint>(&mut self, system: &E, now: u64) {
         for _item in 0..u64::MAX {
-            if self.has_waiting() {
+            if !self.direction.has_room() {
                 return;
             }
             let came = self.came.get(self.from..self.end).unwrap_or(&[]);
-            if came.is_empty() || self.relay.countable() < came.len() as u64 {
+            if came.is_empty() || self.direction.countable() < came.len() as u64 {
                 // More bytes than can be counted are dropped.
                 self.from = self.end;
                 return;
             }
-            let Taken { used, fate } = self.relay.push(came);
+            let Taken { used, fate } = self.direction.push(now, came);
             if let Some(trace) = &mut self.trace {
                 trace.tell(system, now, came.get(..used).unwrap_or(&[]), fate);
             }
@@ -124,24 +141,32 @@ impl Way {
         }
     }
 
-    fn write(&mut self, to: &mut Side) -> bool {
-        let waiting = self.relay.waiting();
+    fn write(&mut self, to: &mut Side, now: u64) -> bool {
+        let waiting = self.direction.waiting(now);
         if waiting.is_empty() {
             return false;
         }
         match to.write(waiting) {
             Some(n) => {
                 let n = n.min(waiting.len());
-                self.relay.took(n);
+                self.direction.took(n);
                 true
             }
             None => false,
         }
     }
 
+    /// Returns why what came can't be saved any more, if it can't.
+    pub(crate) fn unsaved(&self) -> Option<Cause> {
+        match &self.save {
+            Some(save) => save.failed(),
+            None => None,
+        }
+    }
+
     /// Returns what was counted of what came.
     pub(crate) fn counts(&self) -> Counts {
-        let counts = self.relay.counts();
+        let counts = self.direction.counts();
         Counts {
             skipped: counts.skipped.saturating_add(self.cut),
             ..counts

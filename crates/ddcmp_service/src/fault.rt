@@ -6,12 +6,14 @@ use ddcmp_io::cause::words_of;
 use std::fmt;
 use std::io::ErrorKind;
 
-/// What was tried with the name of a line.
+/// What was tried with the name of a line or file.
 #[derive(Clone, Copy, Debug, PartialEq, Eq)]
 pub enum Attempt {
     Connect,
     Listen,
     Open,
+    Create,
+    Write,
 }
 
 impl Attempt {
@@ -23,11 +25,13 @@ impl Attempt {
             Attempt::Connect => "connect",
             Attempt::Listen => "listen",
             Attempt::Open => "open",
+            Attempt::Create => "create",
+            Attempt::Write => "write",
         }
     }
 }
 
-/// Why a line can't be opened.
+/// Why a line can't be opened, or a file not made or written.
 #[derive(Clone, Copy, Debug, PartialEq, Eq)]
 pub enum Cause {
     /// The system refused it.
@@ -40,6 +44,12 @@ pub enum Cause {
     NotDevice,
     /// Another program has locked the device.
     InUse,
+    /// The file is there already.
+    Exists,
+    /// There is no more room for the file.
+    Full,
+    /// A write failed for another reason.
+    Failed,
 }
 
 impl Cause {
@@ -53,11 +63,14 @@ impl Cause {
             Cause::OtherFamily => "not of the other address's family",
             Cause::NotDevice => "not a character device",
             Cause::InUse => "in use by another program",
+            Cause::Exists => "file exists",
+            Cause::Full => "no space left on device",
+            Cause::Failed => "failed",
         }
     }
 }
 
-/// A line that couldn't be opened: what was tried, with which name, and why it failed.
+/// A line or file that couldn't be opened: what was tried, with which name, and why it failed.
 #[derive(Clone, Copy, Debug, PartialEq, Eq)]
 pub struct NotOpened<'a> {
     pub attempt: Attempt,

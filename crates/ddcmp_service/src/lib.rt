@@ -3,6 +3,7 @@
 #![tactic(auto)]
 
 mod bridge;
+mod bridge_save;
 mod bridge_side;
 mod bridge_trace;
 mod bridge_way;

@@ -185,8 +185,12 @@ has_options_as o p t u (Bridge bridged) e w h = record {
         h.faults.damage;
     seed = subst (λ t. HasNumber 0 MOST 1 t bridged.faults.seed) (e (codes "seed")) h.faults.seed;
   };
+  delay = subst (λ t. HasNumber 0 MOST 0 t bridged.delay) (e (codes "delay")) h.delay;
   trace = subst (λ t. HasFlag t bridged.trace) (e (codes "trace")) h.trace;
   ladder = subst (λ t. HasFlag t bridged.ladder) (e (codes "ladder")) h.ladder;
+  notation = subst (λ t. HasNotation t bridged.notation) (e (codes "json")) h.notation;
+  save_first = h.save_first ∙ w (codes "save-first");
+  save_second = h.save_second ∙ w (codes "save-second");
 }
 
 -- a command has the options that the words give

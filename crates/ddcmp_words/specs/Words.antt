@@ -156,15 +156,20 @@ link_app =
 abbrev pub bridge_app : App
 bridge_app =
     with_rule (with_rule (with_rule (with_rule (with_rule (with_rule (with_rule (with_rule
+    (with_rule (with_rule (with_rule (with_rule
     (new_app (codes "bridge"))
     (required (place_rule (codes "first"))))
     (required (place_rule (codes "second"))))
     (number_rule (codes "seconds") 1 MOST))
     (number_rule (codes "lose") 0 100))
     (number_rule (codes "damage") 0 100))
+    (number_rule (codes "delay") 0 MOST))
     (number_rule (codes "seed") 0 MOST))
     (flag_rule (codes "trace")))
-    (flag_rule (codes "ladder"))
+    (flag_rule (codes "ladder")))
+    (flag_rule (codes "json")))
+    (text_rule (codes "save-first")))
+    (text_rule (codes "save-second"))
 
 -- `ddcmp`, which wants a command
 abbrev pub bare_app : App
@@ -352,8 +357,14 @@ pub record HasBridge (option text : Text → Option Text) (bridged : Bridged) : 
   pub second : bridged.second.now ≡ unwrap_or (text (codes "second")) []
   pub seconds : HasNumber 1 MOST MOST (option (codes "seconds")) bridged.seconds
   pub faults : HasFaults option bridged.faults
+  pub delay : HasNumber 0 MOST 0 (option (codes "delay")) bridged.delay
   pub trace : HasFlag (option (codes "trace")) bridged.trace
   pub ladder : HasFlag (option (codes "ladder")) bridged.ladder
+  pub notation : HasNotation (option (codes "json")) bridged.notation
+  pub save_first :
+      option_map (λ name. name.now) bridged.save_first ≡ text (codes "save-first")
+  pub save_second :
+      option_map (λ name. name.now) bridged.save_second ≡ text (codes "save-second")
 
 -- a command with the options that were given: as they are read, and as they were written
 abbrev pub HasOptions : (option text : Text → Option Text) → Command → Type 0

@@ -126,8 +126,9 @@ pub fn link_is_asked()
 {}
 
 /// The words `ddcmp bridge` with two lines ask for the command that passes frames on between them;
-/// the names of the lines are read as they were written, and `--seconds`, `--lose`, `--damage` and
-/// `--seed` as numbers; `--trace` and `--ladder` are read.
+/// the names of the lines are read as they were written, and `--seconds`, `--lose`, `--damage`,
+/// `--delay` and `--seed` as numbers; `--trace`, `--ladder` and `--json` are read, and the names of
+/// `--save-first` and `--save-second`.
 pub fn bridge_is_asked()
     ensures plain { IsAsked (codes "ddcmp" ∷ codes "bridge" ∷ codes "listen:127.0.0.1:7000"
         ∷ codes "device:/dev/ttyS0" ∷ []) (codes "bridge") }
@@ -141,11 +142,18 @@ pub fn bridge_is_asked()
         (codes "lose") ≡ Some (codes "10") }
     ensures damage { option_in (codes "ddcmp" ∷ codes "bridge" ∷ codes "--damage=5" ∷ [])
         (codes "damage") ≡ Some (codes "5") }
+    ensures delay { option_in (codes "ddcmp" ∷ codes "bridge" ∷ codes "--delay=100" ∷ [])
+        (codes "delay") ≡ Some (codes "100") }
     ensures seed { option_in (codes "ddcmp" ∷ codes "bridge" ∷ codes "--seed=7" ∷ [])
         (codes "seed") ≡ Some (codes "7") }
     ensures no_seed { option_in (codes "ddcmp" ∷ codes "bridge" ∷ []) (codes "seed") ≡ None }
     ensures trace { IsSwitch (codes "bridge") (codes "--trace") (codes "trace") }
     ensures ladder { IsSwitch (codes "bridge") (codes "--ladder") (codes "ladder") }
+    ensures json { IsSwitch (codes "bridge") (codes "--json") (codes "json") }
+    ensures save_first { text_in (codes "ddcmp" ∷ codes "bridge" ∷ codes "--save-first=a" ∷ [])
+        (codes "save-first") ≡ Some (codes "a") }
+    ensures save_second { text_in (codes "ddcmp" ∷ codes "bridge" ∷ codes "--save-second=b" ∷ [])
+        (codes "save-second") ≡ Some (codes "b") }
     ensures incomplete { takes program (codes "ddcmp" ∷ codes "bridge"
         ∷ codes "listen:127.0.0.1:7000" ∷ []) ≡ false }
 {}

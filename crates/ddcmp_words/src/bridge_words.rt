@@ -6,7 +6,7 @@ ghost use Rattle.ddcmp_words.specs.Making.{Makes};
 ghost use Rattle.ddcmp_words.specs.Words.{HasBridge, bridge_app};
 
 use crate::bridged::Bridged;
-use crate::command::{flag_given, number_given, text_given};
+use crate::command::{flag_given, notation_given, number_given, text_given};
 use crate::options::{CommandOption, Takes};
 use crate::parser::Parser;
 use clap::ArgMatches;
@@ -42,7 +42,7 @@ fn bridge_command<'a>(alloc: Global) -> clap::Command<'a>
 }
 
 /// The options of a bridge.
-static BRIDGE_OPTIONS: [CommandOption; 8] = [
+static BRIDGE_OPTIONS: [CommandOption; 12] = [
     CommandOption {
         name: "first",
         takes: Takes::Place("LINE"),
@@ -77,6 +77,15 @@ static BRIDGE_OPTIONS: [CommandOption; 8] = [
         help: "Change a byte in N percent of the others [default: 0]",
     },
     CommandOption {
+        name: "delay",
+        takes: Takes::Number {
+            low: 0,
+            high: u32::MAX,
+        },
+        is_required: false,
+        help: "Hold each good frame back for N milliseconds [default: 0]",
+    },
+    CommandOption {
         name: "seed",
         takes: Takes::Number {
             low: 0,
@@ -96,6 +105,24 @@ static BRIDGE_OPTIONS: [CommandOption; 8] = [
         takes: Takes::Nothing,
         is_required: false,
         help: "Draw each frame that comes, as a ladder on standard error",
+    },
+    CommandOption {
+        name: "json",
+        takes: Takes::Nothing,
+        is_required: false,
+        help: "Print each frame that comes as a JSON object on standard error",
+    },
+    CommandOption {
+        name: "save-first",
+        takes: Takes::Text("FILE"),
+        is_required: false,
+        help: "Save all bytes that come over the first line in a new FILE",
+    },
+    CommandOption {
+        name: "save-second",
+        takes: Takes::Text("FILE"),
+        is_required: false,
+        help: "Save those that come over the second line",
     },
 ];
 
@@ -120,7 +147,11 @@ pub(crate) fn bridge_given<'a>(options: &ArgMatches<'a>) -> Bridged<'a>
             damage: number_given(options, "damage", 0, 100, 0),
             seed: number_given(options, "seed", 0, u32::MAX, 1),
         },
+        delay: number_given(options, "delay", 0, u32::MAX, 0),
         trace: flag_given(options, "trace"),
         ladder: flag_given(options, "ladder"),
+        notation: notation_given(options),
+        save_first: options.get_str("save-first"),
+        save_second: options.get_str("save-second"),
     }
 }

@@ -27,6 +27,10 @@ pub returns-clause-damage : goal.returns-clause-damage
 unfolding clap_on_literals option_in
 returns-clause-damage c = refl
 
+pub returns-clause-delay : goal.returns-clause-delay
+unfolding clap_on_literals option_in
+returns-clause-delay c = refl
+
 pub returns-clause-seed : goal.returns-clause-seed
 unfolding clap_on_literals option_in
 returns-clause-seed c = refl
@@ -42,6 +46,18 @@ returns-clause-trace c = (refl, refl)
 pub returns-clause-ladder : goal.returns-clause-ladder
 unfolding clap_on_literals option_in
 returns-clause-ladder c = (refl, refl)
+
+pub returns-clause-json : goal.returns-clause-json
+unfolding clap_on_literals option_in
+returns-clause-json c = (refl, refl)
+
+pub returns-clause-save_first : goal.returns-clause-save_first
+unfolding clap_on_literals text_in
+returns-clause-save_first c = refl
+
+pub returns-clause-save_second : goal.returns-clause-save_second
+unfolding clap_on_literals text_in
+returns-clause-save_second c = refl
 
 pub returns-clause-incomplete : goal.returns-clause-incomplete
 unfolding clap_on_literals
