@@ -57,6 +57,7 @@ use Rattle.ddcmp_session.specs.Timing.{PassesTime, after_failure, after_line}
 use Rattle.ddcmp_session.specs.Calls.{SessionStep}
 use Rattle.ddcmp_run.specs.declared.event.End.{End}
 use Rattle.ddcmp_run.specs.declared.event.End.TheVariants.{A, B}
+use Rattle.ddcmp_session.proofs.GoingLaws.{same-at}
 use Rattle.ddcmp_pipe.specs.Pipe.{AreSessionCalls, Made, Sessions, after_session_at}
 use Rattle.ddcmp_pipe.specs.Pipe.{after_sessions, session_at, session_of}
 
@@ -503,9 +504,6 @@ link-counts : (old new : SessionView)
 link-counts old new same station =
     kept old new (λ e. sym same.0 ∙ e) station (λ e. sym same.1 ∙ e)
 
-same-in : {A : Type 0} (f : SessionView → A) (a b : SessionView) → a ≡ b → f a ≡ f b
-same-in f a b e = ap f e
-
 pub step-counts : (call : SessionCall) (text : List ℕ) (old new : SessionView)
     → SessionDoes call text old new → Counted old → Counted new
 step-counts (Typed used) text old new d = typed-counts used old new d.state
@@ -514,7 +512,7 @@ step-counts Connected text old new d = connected-counts old new d.0
 step-counts (LineEnded r) text old new d = left-counts r old new d
 step-counts (Heard used) text old new d =
     let to = record old { link = new.link; course = new.course; output = new.output } in
-    kept old new (λ e. sym (same-in (λ x. x.has_line) new to d.stays) ∙ e)
+    kept old new (λ e. sym (same-at (λ x. x.has_line) new to d.stays) ∙ e)
     (λ halted. same-stays (station_of old) (station_of new) halted
     (ap (λ (k : CoreView). k.station) d.core
     ∙ items-halted (items_added old.link.station.core.limits.longest text used)
@@ -525,33 +523,33 @@ step-counts (Heard used) text old new d =
 step-counts (Filled n) text old new d =
     let to = record old { link = after_frames n old.link } in
     link-counts old new
-    (same-in (λ x. x.has_line) new to d.0, same-in (λ x. x.course.lost) new to d.0)
+    (same-at (λ x. x.has_line) new to d.0, same-at (λ x. x.course.lost) new to d.0)
     (λ halted. same-stays (station_of old) (station_of new) halted
     (ap station_of d.0 ∙ frames-halted n old.link halted))
 step-counts (LineTook n) text old new d =
     let to = record old { link = after_sent n old.link } in
     link-counts old new
-    (same-in (λ x. x.has_line) new to d, same-in (λ x. x.course.lost) new to d)
+    (same-at (λ x. x.has_line) new to d, same-at (λ x. x.course.lost) new to d)
     (λ halted. same-stays (station_of old) (station_of new) halted (ap station_of d))
 step-counts (TimedOut now) text old new d =
     let to = after_timeout now old in
     link-counts old new (
-      same-in (λ x. x.has_line) new to d,
-      same-in (λ x. x.course.lost) new to d ∙ timeout-lost now old,
+      same-at (λ x. x.has_line) new to d,
+      same-at (λ x. x.course.lost) new to d ∙ timeout-lost now old,
     )
     (λ halted. let w = wake-halted now old.link halted in (
-      same-in (λ x. (station_of x).state) new to d ∙ w.0,
-      same-in (λ x. (station_of x).out) new to d ∙ w.1,
+      same-at (λ x. (station_of x).state) new to d ∙ w.0,
+      same-at (λ x. (station_of x).out) new to d ∙ w.1,
     ))
 step-counts TimePassed text old new d =
     let to = record old { course = new.course } in
     link-counts old new
-    (same-in (λ x. x.has_line) new to d.stays, passes-lost old new d)
+    (same-at (λ x. x.has_line) new to d.stays, passes-lost old new d)
     (λ halted. same-stays (station_of old) (station_of new) halted (ap station_of d.stays))
 step-counts (Delivered true) text old new d =
     let to = record old { link = new.link; output = new.output } in
     link-counts old new
-    (same-in (λ x. x.has_line) new to d.stays, same-in (λ x. x.course.lost) new to d.stays)
+    (same-at (λ x. x.has_line) new to d.stays, same-at (λ x. x.course.lost) new to d.stays)
     (λ halted. (
       ap (λ (k : LinkView). k.station.core.station.state) d.link ∙ halted,
       ap (λ (k : LinkView). k.station.core.station.out) d.link,
@@ -559,12 +557,12 @@ step-counts (Delivered true) text old new d =
 step-counts (Delivered false) text old new d =
     let to = record old { output = new.output } in
     link-counts old new
-    (same-in (λ x. x.has_line) new to d.stays, same-in (λ x. x.course.lost) new to d.stays)
+    (same-at (λ x. x.has_line) new to d.stays, same-at (λ x. x.course.lost) new to d.stays)
     (λ halted. same-stays (station_of old) (station_of new) halted (ap station_of d.stays))
 step-counts (OutputTook n) text old new d =
     let to = record old { output = after_taken n old.output } in
     link-counts old new
-    (same-in (λ x. x.has_line) new to d, same-in (λ x. x.course.lost) new to d)
+    (same-at (λ x. x.has_line) new to d, same-at (λ x. x.course.lost) new to d)
     (λ halted. same-stays (station_of old) (station_of new) halted (ap station_of d))
 step-counts (Closed left over r) text old new d = closed-counts left over r old new d
 

@@ -20,6 +20,7 @@ use Rattle.ddcmp_session.specs.Devices.{BuffersView, Traffic, nothing_read}
 use Rattle.ddcmp_session.specs.Lines.{AreOfOpen, Closes, Ends, IsOfOpen}
 use Rattle.ddcmp_session.specs.Messages.{after_input, entries_of_input}
 use Rattle.ddcmp_session.proofs.InputGoes.{entries-read}
+use Rattle.ddcmp_session.proofs.GoingLaws.{same-at}
 use Rattle.ddcmp_pipe.specs.Sessions.{got_in, messages_of, mail_in}
 use Rattle.ddcmp_pipe.specs.Pipe.{Made, session_of}
 use Rattle.ddcmp_pipe.specs.Connections.{AreCalls, Connections, PipesAnew, PipesClosedAnew}
@@ -67,9 +68,6 @@ ended-read true told old last new is was e = refl
 ended-read false told old last new is was e =
     same-read told old new (ap (λ (s : SessionView). s.is_read) is) was e
 
-same-in : {A : Type 0} (f : SessionView → A) (a b : SessionView) → a ≡ b → f a ≡ f b
-same-in f a b e = ap f e
-
 read-step : (call : SessionCall) (h : SessionHistory) (new : SessionView) → IsOfOpen call
     → Does call h.used h.session new → ReadTold h.session h.is_told
     → ReadTold new (is_told_in call h.session || h.is_told)
@@ -77,30 +75,30 @@ read-step (Typed used) h new of d =
     let s : SessionView =
     record h.session { messages = after_input used h.session.messages } in
     same-read h.is_told h.session new
-    (same-in (λ x. x.is_read) new _ d.state
+    (same-at (λ x. x.is_read) new _ d.state
     ∙ entries-read (entries_of_input used h.session.messages) s)
 read-step InputEnded h new of d =
     ended-read (wants_input h.session) h.is_told h.session
     (after_unfinished (after_last_line h.session)) new d
-read-step Connected h new of d = same-read h.is_told h.session new (same-in (λ s. s.is_read) new _ d)
+read-step Connected h new of d = same-read h.is_told h.session new (same-at (λ s. s.is_read) new _ d)
 read-step (LineEnded r) h new of d =
-    same-read h.is_told h.session new (same-in (λ s. s.is_read) new _ d.stays)
+    same-read h.is_told h.session new (same-at (λ s. s.is_read) new _ d.stays)
 read-step (Received used) h new of d =
-    same-read h.is_told h.session new (same-in (λ s. s.is_read) new _ d.stays)
+    same-read h.is_told h.session new (same-at (λ s. s.is_read) new _ d.stays)
 read-step (Filled n) h new of d =
-    same-read h.is_told h.session new (same-in (λ s. s.is_read) new _ d.0)
+    same-read h.is_told h.session new (same-at (λ s. s.is_read) new _ d.0)
 read-step (LineTook n) h new of d =
-    same-read h.is_told h.session new (same-in (λ s. s.is_read) new _ d)
+    same-read h.is_told h.session new (same-at (λ s. s.is_read) new _ d)
 read-step (TimedOut now) h new of d =
-    same-read h.is_told h.session new (same-in (λ s. s.is_read) new _ d)
+    same-read h.is_told h.session new (same-at (λ s. s.is_read) new _ d)
 read-step TimePassed h new of d =
-    same-read h.is_told h.session new (same-in (λ s. s.is_read) new _ d.stays)
+    same-read h.is_told h.session new (same-at (λ s. s.is_read) new _ d.stays)
 read-step (Delivered true) h new of d =
-    same-read h.is_told h.session new (same-in (λ s. s.is_read) new _ d.stays)
+    same-read h.is_told h.session new (same-at (λ s. s.is_read) new _ d.stays)
 read-step (Delivered false) h new of d =
-    same-read h.is_told h.session new (same-in (λ s. s.is_read) new _ d.stays)
+    same-read h.is_told h.session new (same-at (λ s. s.is_read) new _ d.stays)
 read-step (OutputTook n) h new of d =
-    same-read h.is_told h.session new (same-in (λ s. s.is_read) new _ d)
+    same-read h.is_told h.session new (same-at (λ s. s.is_read) new _ d)
 read-step (Closed left over r) h new of d = absurd of
 
 told-after : (call : SessionCall) (new : SessionView) (c : Connection)

@@ -34,7 +34,8 @@ pub record HasRun (made : Made) (new : SessionView) (held : BuffersView) (t : Tr
 -- In binary, if what one's input gave begins a file of messages that fit, then what the other's
 -- output took begins that file too.
 abbrev pub DevicesPipe : Made → Made → SessionHistory → SessionHistory → Type 0
-DevicesPipe made other giver taker = made.options.form ≡ form.Binary → other.options.form ≡ form.Binary
+DevicesPipe made other giver taker = made.options.form ≡ form.Binary
+    → other.options.form ≡ form.Binary
     → (messages : List (List ℕ)) → All (Fits made.options.config.max) messages
     → (held other_held : BuffersView) (t other_t : Traffic)
     → Agrees held giver t → Agrees other_held taker other_t
@@ -43,7 +44,8 @@ DevicesPipe made other giver taker = made.options.form ≡ form.Binary → other
 -- And if the input gave all of the file, of which nothing is held, and the one may end as
 -- delivered, then the other's output took all of it, once nothing waits there.
 abbrev pub DevicesPipeAll : Made → Made → SessionHistory → SessionHistory → Type 0
-DevicesPipeAll made other giver taker = made.options.form ≡ form.Binary → other.options.form ≡ form.Binary
+DevicesPipeAll made other giver taker = made.options.form ≡ form.Binary
+    → other.options.form ≡ form.Binary
     → (messages : List (List ℕ)) → All (Fits made.options.config.max) messages
     → (held other_held : BuffersView) (t other_t : Traffic)
     → Agrees held giver t → Agrees other_held taker other_t

@@ -41,8 +41,8 @@ new_sessions first second = record { a = session_of first; b = session_of second
 
 abbrev pub links_made : Made → Made → Links
 links_made first second =
-    new_links first.options.config first.options.timer_ms first.line second.options.config second.options.timer_ms
-    second.line
+    new_links first.options.config first.options.timer_ms first.line second.options.config
+    second.options.timer_ms second.line
 
 abbrev pub session_at : End → Sessions → SessionHistory
 session_at A p = p.a
@@ -131,7 +131,8 @@ undelivered h = h.session.link.station.core.station.inbox
 -- their order, each once and unchanged.
 abbrev pub Pipes : Made → SessionHistory → SessionHistory → Type 0
 Pipes made giver taker =
-    IsPrefixOf (mail_in taker.shown) (messages_of made.options.form made.options.config.max giver.input)
+    IsPrefixOf (mail_in taker.shown)
+    (messages_of made.options.form made.options.config.max giver.input)
 
 -- If one session may end as delivered, the other has received all of the messages that its input
 -- has: these, and no others.
@@ -153,7 +154,8 @@ PipesClosed made giver taker = (left : List ℕ) (is_at_end is_reported : Bool) 
 -- In binary, if what was read of one's input begins a file of messages that fit, then what the
 -- other's output took begins that file too.
 abbrev pub PipesBytes : Made → Made → SessionHistory → SessionHistory → Type 0
-PipesBytes made other giver taker = made.options.form ≡ form.Binary → other.options.form ≡ form.Binary
+PipesBytes made other giver taker = made.options.form ≡ form.Binary
+    → other.options.form ≡ form.Binary
     → (messages : List (List ℕ)) → All (Fits made.options.config.max) messages
     → Begins giver.input (in_binary messages)
     → Begins taker.written (in_binary messages)
@@ -161,7 +163,8 @@ PipesBytes made other giver taker = made.options.form ≡ form.Binary → other.
 -- And if all of the file was read, and the one may end as delivered, then the other's output has
 -- all of it, once nothing waits there.
 abbrev pub PipesWhole : Made → Made → SessionHistory → SessionHistory → Type 0
-PipesWhole made other giver taker = made.options.form ≡ form.Binary → other.options.form ≡ form.Binary
+PipesWhole made other giver taker = made.options.form ≡ form.Binary
+    → other.options.form ≡ form.Binary
     → (messages : List (List ℕ)) → All (Fits made.options.config.max) messages
     → giver.input ≡ in_binary messages
     → is_delivered giver.session ≡ true → undelivered taker ≡ [] → taker.session.output.waiting ≡ []

@@ -59,7 +59,7 @@ pub record RanTogether (a b : Ran) : Type 0 where
       (links_made a.made b.made))
       (new_pair a.made.options.config b.made.options.config)) ≡ true
 
--- A promise about two runs is kept, of new sessions of any sizes in range, whatever their calls are.
+-- A promise about two runs is kept: of new sessions of any sizes in range, whatever their calls.
 abbrev pub IsKeptByRuns : (Ran → Ran → Type 0) → Type 0
 IsKeptByRuns Promise = (a b : Ran)
     → first_refusal a.made.options.config ≡ None → first_refusal b.made.options.config ≡ None

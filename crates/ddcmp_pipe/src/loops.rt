@@ -35,8 +35,8 @@ pub fn runs_are_histories()
 
 /// A new session that goes on over devices, over one line after the other, as `begin_line`, `run`,
 /// `leave_line` and `close` of `ddcmp_session` have it, has a history from its beginning in which
-/// each line begins anew: as in the laws of sessions that are connected again. What its output took,
-/// and then what waits for it, is the text of all that it delivered and reported.
+/// each line begins anew: as in the laws of sessions that are connected again. What its output
+/// took, and then what waits for it, is the text of all that it delivered and reported.
 pub fn runs_over_lines()
     ensures history { (made : Made) (now : SessionView) (held : BuffersView)
         (known : Option Traffic) → StandsFor made.line []
@@ -57,9 +57,9 @@ pub fn runs_over_lines()
 /// binary: if what the input of one gave is the beginning of a file of messages that fit, then what
 /// the output of the other took is a beginning of that file; and it is the whole file if the input
 /// gave all of it, nothing of that is held, the one may end as delivered, and nothing waits to be
-/// delivered or written at the other. In either form the other has received all of the messages that
-/// the input gave if the one is closed and lost nothing, and in binary its output takes that file,
-/// too. Over connections no word of frames is needed.
+/// delivered or written at the other. In either form the other has received all of the messages
+/// that the input gave if the one is closed and lost nothing, and in binary its output takes that
+/// file, too. Over connections no word of frames is needed.
 pub fn devices_are_pipes()
     ensures to_b { IsKeptByPipes (λ first second p. DevicesPipe first second p.a p.b) }
     ensures to_a { IsKeptByPipes (λ first second p. DevicesPipe second first p.b p.a) }

@@ -26,8 +26,8 @@ pub fn runs_end()
         × WasEnded (record { made = made; steps = steps }) held t now }
 {}
 
-/// The calls of two sessions, in whatever order they were made, are those of the laws of `pipe`, and
-/// lead each session to where its own calls lead it.
+/// The calls of two sessions, in whatever order they were made, are those of the laws of `pipe`,
+/// and lead each session to where its own calls lead it.
 pub fn runs_are_calls()
     ensures { (steps : List (End × SessionStep)) (p : Connections)
         → AreDone (calls_of A steps) p.a → AreDone (calls_of B steps) p.b
