@@ -3,6 +3,7 @@
 //! the crates below.
 #![tactic(auto)]
 
+pub mod closing;
 mod frame_lines;
 mod nowhere;
 mod performing;

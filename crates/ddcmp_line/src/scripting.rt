@@ -12,10 +12,10 @@ ghost use Rattle.ddcmp_line.specs.ScriptProgress.{HasDone, IsPlaying, PlaysOut, 
 ghost use Rattle.ddcmp_line.specs.ScriptProgress.{moment, course, fresh, played};
 ghost use Rattle.ddcmp_line.specs.ScriptSteps.{TellsDevices};
 
+use crate::closing::write_closing;
 use crate::nowhere::Nowhere;
 use crate::performing::{Stage, Stop};
 use crate::view::View;
-use ddcmp_closing::write_closing;
 use ddcmp_io::input::read_within;
 use ddcmp_io::{Got, Page, Sink, Source, Worst};
 use ddcmp_pair::{Pair, Unwatched};

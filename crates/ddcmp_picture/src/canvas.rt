@@ -7,8 +7,8 @@ use crate::lettering::Lettering;
 use crate::mark::Mark;
 use crate::paper::Paper;
 use crate::svg::{write_document, write_element};
-use ddcmp_closing::write_closing;
 use ddcmp_io::{MemorySink, Page, Sink, write_all};
+use ddcmp_line::closing::write_closing;
 use ddcmp_pair::Pair;
 use std::alloc::Global;
 

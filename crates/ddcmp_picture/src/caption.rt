@@ -5,8 +5,8 @@ ghost use Rattle.ddcmp_picture.specs.Captions.{caption_text, is_gap, is_zero, un
 ghost use Rattle.ddcmp_picture.specs.Captions.{without_zeros};
 ghost use Rattle.ddcmp_script_text.specs.ScriptText.{counters_lines};
 
-use ddcmp_closing::{write_both_counters, write_closing};
 use ddcmp_io::{MemorySink, Page, Sink};
+use ddcmp_line::closing::{write_both_counters, write_closing};
 use ddcmp_pair::Pair;
 use std::alloc::Global;
 

@@ -1,11 +1,14 @@
 //! Tests of the protocol from outside: of frames, windows and a core, and of a station by its
-//! calls, driven, served, and as a link.
+//! calls, driven, served, and as a link; of the sockets of `ddcmp_net` over the network of this
+//! machine, and of the time that a station is reported.
 #![tactic(auto)]
 
 #[cfg(test)]
 mod cores;
 #[cfg(test)]
 mod driven;
+#[cfg(test)]
+mod elapsed;
 #[cfg(test)]
 mod frames;
 #[cfg(test)]
@@ -14,6 +17,8 @@ mod links;
 mod same;
 #[cfg(test)]
 mod served;
+#[cfg(test)]
+mod sockets;
 #[cfg(test)]
 mod stations;
 #[cfg(test)]

@@ -1,9 +1,33 @@
-//! Tests of the program from outside: its words, its texts and its ends.
+//! Tests from outside of what the tools do. Of `ddcmp_explain`: its text at every cut, size and
+//! fault, over streams, of dumps, of logs and of a form that it detects. Of `ddcmp_tap`, which
+//! explains a direction of a line: what that forwards, its room and its text. Of `ddcmp_session`:
+//! two sessions over bad lines, a session through days, its loop over devices, what these tell it,
+//! and its reports.
 #![tactic(auto)]
 
 #[cfg(test)]
-mod programs;
+mod days;
+#[cfg(test)]
+mod detected;
+#[cfg(test)]
+mod directions;
+#[cfg(test)]
+mod dumps;
+#[cfg(test)]
+mod explains;
+#[cfg(test)]
+mod logs;
+#[cfg(test)]
+mod loops;
+#[cfg(test)]
+mod reports;
 #[cfg(test)]
 mod same;
 #[cfg(test)]
-mod texts;
+mod sessions;
+#[cfg(test)]
+mod sizes;
+#[cfg(test)]
+mod streams;
+#[cfg(test)]
+mod told;

@@ -1,32 +1,6 @@
-//! The system that runs a test, and a comparison that promises nothing.
-use ddcmp_cli::{Connections, Inputs, Lines};
+//! A comparison that promises nothing.
 use std::fmt::Debug;
-use std::io::Eprint;
-use std::net::{Net, TcpStream};
 use std::process::Abort;
-use std::time::Clock;
-
-/// All that a test may ask of the system.
-pub trait System: Abort
-    + AllocGlobal
-    + Net<Stream = TcpStream>
-    + Eprint
-    + Clock
-    + Inputs
-    + Connections
-    + Lines {}
-
-impl<S> System for S
-where
-    S: Abort
-        + AllocGlobal
-        + Net<Stream = TcpStream>
-        + Eprint
-        + Clock
-        + Inputs
-        + Connections
-        + Lines,
-{}
 
 /// What was reported is what was expected.
 pub fn is<T: PartialEq + Debug + Drop>(rt: &impl Abort, told: T, wanted: T) {

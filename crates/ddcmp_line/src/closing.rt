@@ -4,7 +4,6 @@
 //! ```text
 //! honest yes clean yes up A=0 B=1 acked A=1 B=0
 //! ```
-#![tactic(auto)]
 
 ghost use Rattle.std.specs.Prelude.{◌≡◌, ◌++◌};
 ghost use Rattle.ddcmp_io.specs.Written.{HandsOver, output_of};

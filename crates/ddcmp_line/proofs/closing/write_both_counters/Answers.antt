@@ -3,7 +3,7 @@ use Rattle.ddcmp_core.specs.Core.{CoreView}
 use Rattle.ddcmp_io.proofs.WrittenLaws.{sends-then}
 use Rattle.ddcmp_io.proofs.TextLaws.{sends-as}
 use Rattle.ddcmp_station_text.specs.CountersText.{counters_line}
-use Rattle.ddcmp_closing.proofs.write_both_counters.Goals as goal
+use Rattle.ddcmp_line.proofs.closing.write_both_counters.Goals as goal
 
 pub returns : goal.returns
 returns g c =
