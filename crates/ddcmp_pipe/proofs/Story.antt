@@ -1,5 +1,7 @@
--- The message of the run that is written out: its last byte alone completes it.
-use Rattle.std.proofs.Common.{◌≡◌, ℕ, ◌+◌, ◌≤◌, [], ◌∷◌, refl, subst, take, length, arith}
+-- The message of the run that is written out: its last byte alone completes it; and its bytes are
+-- wanted when they come.
+use Rattle.std.proofs.Common.{◌≡◌, ◌∙◌, sym, ℕ, ◌+◌, ◌≤◌, Bool, true, false, [], ◌∷◌, refl, subst}
+use Rattle.std.proofs.Common.{take, length, arith}
 use Rattle.ddcmp_input.specs.declared.entry.Entry.{Entry}
 use Rattle.ddcmp_input.specs.InBinary.{behind_length}
 use Rattle.ddcmp_input.specs.Lengths.{entries_of_bytes}
@@ -25,3 +27,9 @@ few = omega arith
 pub completes : CompletesLast (behind_length abc) (messages_begun form.Binary 5)
 completes =
     completes_last 5 (behind_length abc) (messages_begun form.Binary 5) (omega arith) first few
+
+pub unless : {b : Bool} {P : Type 0} → b ≡ true → b ≡ false → P
+unless is never = clash (sym is ∙ never)
+  where
+    clash : {P : Type 0} → true ≡ false → P
+    clash e = cc

@@ -13,7 +13,7 @@ use Rattle.ddcmp_session.specs.declared.messages.Form.TheVariants.{Digits, Binar
 use Rattle.ddcmp_session.specs.declared.messages.Messages.{Messages}
 use Rattle.ddcmp_session.specs.Messages.{entries_of_input}
 use Rattle.ddcmp_io.specs.Queue.{after_taken}
-use Rattle.ddcmp_session.specs.Session.{SessionView, session_made, form_of, wants_input}
+use Rattle.ddcmp_session.specs.Session.{SessionView, session_made, form_of, wants_input, wants_line}
 use Rattle.ddcmp_session.specs.Session.{after_typed, after_input_end, lost_by_end, IsFilled}
 use Rattle.ddcmp_session.specs.Course.{lost_more}
 use Rattle.ddcmp_session.specs.Session.{after_connected, after_timeout, course_received}
@@ -65,6 +65,7 @@ pub record HasReceived (text used : List ℕ) (old new : SessionView) : Type 0 w
   pub syn : new.link.station.syn ≡ old.link.station.syn
   pub link : new.link
       ≡ record old.link { station = new.link.station; totals = new.link.totals }
+  pub wanted : wants_line old ≡ false → used ≡ []
   pub wrote : Wrote (notices_text (form_of old.messages)
       (notices_of_piece text used old.link.station.core)) old.output new.output
   pub course : new.course ≡ course_received old new.link

@@ -135,10 +135,11 @@ after_input_end s = if wants_input s then after_unfinished (after_last_line s) e
 
 -- ---- the line
 
--- a notice has room, and so has what comes with it
+-- there is one, and a notice has room, and so has what comes with it
 abbrev pub wants_line : SessionView → Bool
 wants_line s =
-    has_room s.link.station.core.limits s.link.station.core.station
+    s.has_line
+    && has_room s.link.station.core.limits s.link.station.core.station
     && nat_le LINE_ROOM s.output.room
 
 -- a message of any length has room

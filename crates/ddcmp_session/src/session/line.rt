@@ -107,11 +107,12 @@ impl Session {
         self.link.lost()
     }
 
-    /// Whether bytes of the line are wanted: a received message and its notice have room.
+    /// Whether bytes of the line are wanted: there is one, and a received message and its notice
+    /// have room.
     pub fn wants_line(&self) -> bool
         ensures { result ≡ wants_line self.now }
     {
-        self.link.wants_line() && self.output.room() >= text::LINE_ROOM
+        self.has_line && self.link.wants_line() && self.output.room() >= text::LINE_ROOM
     }
 
     /// Logs bytes that came from the line, if there is a trace: each once, before `received`.

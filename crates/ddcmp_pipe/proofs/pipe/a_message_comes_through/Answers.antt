@@ -20,7 +20,7 @@ use Rattle.ddcmp_pipe.specs.Pipe.{after_sessions, link_steps_at, connects}
 use Rattle.ddcmp_pipe.specs.PipeStory.{steps_by}
 use Rattle.ddcmp_laws.specs.Story.{strt_bytes, stack_bytes, first_bytes, ack_1_bytes}
 use Rattle.ddcmp_laws.specs.Vectors.{abc}
-use Rattle.ddcmp_pipe.proofs.Story.{completes}
+use Rattle.ddcmp_pipe.proofs.Story.{completes, unless}
 use Rattle.ddcmp_pipe.proofs.pipe.a_message_comes_through.Goals as goal
 
 pub returns-clause-once : goal.returns-clause-once
@@ -69,6 +69,7 @@ returns-clause-streams c = λ line other_line. (
             core = refl;
             syn = refl;
             link = refl;
+            wanted = unless refl;
             wrote = record { waiting = refl; room = omega arith; size = refl; is_cut = refl };
             course = refl;
             stays = refl;
@@ -85,6 +86,7 @@ returns-clause-streams c = λ line other_line. (
                   core = refl;
                   syn = refl;
                   link = refl;
+                  wanted = unless refl;
                   wrote = record { waiting = refl; room = omega arith; size = refl; is_cut = refl };
                   course = refl;
                   stays = refl;
@@ -104,6 +106,7 @@ returns-clause-streams c = λ line other_line. (
                           core = refl;
                           syn = refl;
                           link = refl;
+                          wanted = unless refl;
                           wrote = record { waiting = refl; room = omega arith; size = refl; is_cut = refl };
                           course = refl;
                           stays = refl;
@@ -120,6 +123,7 @@ returns-clause-streams c = λ line other_line. (
                                 core = refl;
                                 syn = refl;
                                 link = refl;
+                                wanted = unless refl;
                                 wrote = record { waiting = refl; room = omega arith; size = refl; is_cut = refl };
                                 course = refl;
                                 stays = refl;

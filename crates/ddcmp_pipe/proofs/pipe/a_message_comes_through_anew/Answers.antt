@@ -19,7 +19,7 @@ use Rattle.ddcmp_pipe.specs.Sessions.{texts_of, frames_put, mail_in, got_in}
 use Rattle.ddcmp_pipe.specs.Connections.{after_steps, link_steps}
 use Rattle.ddcmp_pipe.specs.AnewStory.{steps_anew_by}
 use Rattle.ddcmp_laws.specs.Vectors.{abc}
-use Rattle.ddcmp_pipe.proofs.Story.{completes}
+use Rattle.ddcmp_pipe.proofs.Story.{completes, unless}
 use Rattle.ddcmp_pipe.proofs.pipe.a_message_comes_through_anew.Goals as goal
 
 pub returns-clause-honest : goal.returns-clause-honest
@@ -83,6 +83,7 @@ returns-clause-calls c = λ line other_line. (
                         core = refl;
                         syn = refl;
                         link = refl;
+                        wanted = unless refl;
                         wrote = record { waiting = refl; room = omega arith; size = refl; is_cut = refl };
                         course = refl;
                         stays = refl;
@@ -96,6 +97,7 @@ returns-clause-calls c = λ line other_line. (
                               core = refl;
                               syn = refl;
                               link = refl;
+                              wanted = unless refl;
                               wrote = record { waiting = refl; room = omega arith; size = refl; is_cut = refl };
                               course = refl;
                               stays = refl;
@@ -111,6 +113,7 @@ returns-clause-calls c = λ line other_line. (
                                       core = refl;
                                       syn = refl;
                                       link = refl;
+                                      wanted = unless refl;
                                       wrote = record { waiting = refl; room = omega arith; size = refl; is_cut = refl };
                                       course = refl;
                                       stays = refl;
@@ -124,6 +127,7 @@ returns-clause-calls c = λ line other_line. (
                                             core = refl;
                                             syn = refl;
                                             link = refl;
+                                            wanted = unless refl;
                                             wrote = record { waiting = refl; room = omega arith; size = refl; is_cut = refl };
                                             course = refl;
                                             stays = refl;

@@ -1,4 +1,4 @@
-use Rattle.std.proofs.Common.{refl, sym}
+use Rattle.std.proofs.Common.{ap, refl, sym, take}
 use Rattle.ddcmp_session.proofs.GoingLaws.{stays, goes-then, in-turn, neither}
 use Rattle.ddcmp_session.proofs.LineGoes.{received-held}
 use Rattle.ddcmp_session.proofs.buffers.Buffers.pass_received.Goals as goal
@@ -21,6 +21,8 @@ loop-notice-preserved c = record {
         core = c.received-used.ensures.state text s;
         syn = c.received-used.ensures.syn;
         link = c.received-used.ensures.link;
+        wanted = λ e.
+            ap (λ n. take n c.rest.result.now) (c.received-used.ensures.none e).0;
         wrote = c.received-used.ensures.wrote text s;
         course = c.received-used.ensures.course text s;
         stays = c.received-used.ensures.stays;
