@@ -436,7 +436,7 @@ keeps_steps first second (step ∷ rest) p j k does sa sb =
 
 -- ---- its output
 
-writes_anew : (made : Made) (c : Connection) → Stays made c → WritesAnew made c
+pub writes_anew : (made : Made) (c : Connection) → Stays made c → WritesAnew made c
 writes_anew made c s is =
     s.holds.text
     ∙ ap (λ f. texts_of f c.history.shown) is
@@ -446,7 +446,7 @@ writes_anew made c s is =
 
 -- ---- from two new sessions
 
-stays_first : (made : Made) → Stays made (first_connection made)
+pub stays_first : (made : Made) → Stays made (first_connection made)
 stays_first made = record {
   holds = (begins made.options made.kind made.line made.of_data).0;
   read = none_since (messages_of made.options.form made.options.config.max []);
@@ -454,7 +454,7 @@ stays_first made = record {
 }
 
 -- whatever was done, the output is the text of what was delivered and reported
-stays_all : (made : Made) (steps : List SessionStep) (c : Connection)
+pub stays_all : (made : Made) (steps : List SessionStep) (c : Connection)
     → connections.AreDone steps c → Stays made c → Stays made (after_all steps c)
 unfolding after_all
 stays_all made [] c does stays = stays

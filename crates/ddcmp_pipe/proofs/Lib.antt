@@ -1,4 +1,5 @@
 pub mod Anew
+pub mod ConnectionLaws
 pub mod Given
 pub mod Histories
 pub mod Holding
@@ -8,6 +9,7 @@ pub mod LinkSteps
 pub mod Losing
 pub mod LosingAnew
 pub mod LoopLaws
+pub mod OneConnection
 pub mod Outcomes
 pub mod OverLines
 pub mod Pipes
@@ -16,4 +18,5 @@ pub mod RunLaws
 pub mod Story
 pub mod Streaming
 pub mod Texts
+pub mod Unconnected
 pub mod Writing

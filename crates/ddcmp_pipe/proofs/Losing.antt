@@ -74,7 +74,7 @@ station_of s = s.link.station.core.station
 pub Counted : SessionView → Type 0
 Counted s = s.has_line ≡ false → Halts s.course.lost s.link.station.core.station
 
-abbrev Stays : StationState → StationState → Type 0
+abbrev pub Stays : StationState → StationState → Type 0
 Stays s t = (t.state ≡ Halted) × (t.out ≡ s.out)
 
 same-stays : (s t : StationState) → s.state ≡ Halted → t ≡ s → Stays s t
@@ -121,7 +121,7 @@ offered-in-halted : (b : Bool) (message : List ℕ) (d : LinkView)
 offered-in-halted true message d halted = offered-maintenance-halted message d halted
 offered-in-halted false message d halted = offered-halted message d halted
 
-items-halted : (xs : List ReadItem) (k : CoreView) → k.station.state ≡ Halted
+pub items-halted : (xs : List ReadItem) (k : CoreView) → k.station.state ≡ Halted
     → (after_items xs k).station ≡ k.station
 unfolding after_items on
 items-halted [] k halted = refl
@@ -130,7 +130,7 @@ items-halted (x ∷ rest) k halted =
     ap (λ st. on_by st k.limits k.station (received_of x)) halted in
     items-halted rest (after_item x k) (ap (λ (s : StationState). s.state) same ∙ halted) ∙ same
 
-frame-halted : (d : LinkView) → d.station.core.station.state ≡ Halted
+pub frame-halted : (d : LinkView) → d.station.core.station.state ≡ Halted
     → (after_frame d).station.core.station ≡ d.station.core.station
 unfolding next
 frame-halted d halted = by (polls d)
@@ -145,7 +145,7 @@ frame-halted d halted = by (polls d)
     by true = idle
     by false = refl
 
-frames-halted : (n : ℕ) (d : LinkView) → d.station.core.station.state ≡ Halted
+pub frames-halted : (n : ℕ) (d : LinkView) → d.station.core.station.state ≡ Halted
     → (after_frames n d).station.core.station ≡ d.station.core.station
 unfolding after_frames
 frames-halted zero d halted = refl
@@ -163,7 +163,7 @@ expire-halted timer.On s halted =
     let same = ap (λ st. after_expire_in st s) halted in
     (ap (λ (x : StationState). x.state) same ∙ halted, ap (λ (x : StationState). x.out) same)
 
-wake-halted : (now : ℕ) (d : LinkView) → d.station.core.station.state ≡ Halted
+pub wake-halted : (now : ℕ) (d : LinkView) → d.station.core.station.state ≡ Halted
     → Stays d.station.core.station (after_wake now d).station.core.station
 wake-halted now d halted =
     by (is_on (core_after_take_arm d.station.core).station.timer
@@ -194,12 +194,12 @@ entry-keeps NotHexadecimal s = (refl, refl)
 entry-keeps TooLong s = (refl, refl)
 entry-keeps Empty s = (refl, refl)
 
-entries-halted : (es : List Entry) (s : SessionView) → s.link.station.core.station.state ≡ Halted
+pub entries-halted : (es : List Entry) (s : SessionView) → s.link.station.core.station.state ≡ Halted
     → (after_entries es s).link ≡ s.link
 entries-halted [] s halted = refl
 entries-halted (e ∷ rest) s halted = entry-halted e s halted
 
-entries-keep : (es : List Entry) (s : SessionView)
+pub entries-keep : (es : List Entry) (s : SessionView)
     → ((after_entries es s).has_line ≡ s.has_line) × ((after_entries es s).course ≡ s.course)
 entries-keep [] s = (refl, refl)
 entries-keep (e ∷ rest) s = entry-keeps e s
@@ -208,7 +208,7 @@ and-false : (a b : Bool) → b ≡ false → a && b ≡ false
 and-false true b e = e
 and-false false b e = refl
 
-input-halted : (s : SessionView) → s.link.station.core.station.state ≡ Halted
+pub input-halted : (s : SessionView) → s.link.station.core.station.state ≡ Halted
     → wants_input s ≡ false
 input-halted s halted =
     and-false (not s.is_read) (takes_in s.options.maintenance s.link) (by s.options.maintenance)

@@ -6,3 +6,4 @@ pub mod OverLines
 pub mod Connections
 pub mod AnewStory
 pub mod Runs
+pub mod Connected

@@ -2,6 +2,7 @@
 //! contracts are the laws; and in `session_steps` one for each call of a session, which makes it.
 #![tactic(auto)]
 
+pub mod connected;
 pub mod loops;
 pub mod pipe;
 pub mod runs;

@@ -1,0 +1,34 @@
+//! Two runs over one connection: without a word of frames, what the input of one gave is what the
+//! output of the other took.
+ghost use Rattle.ddcmp_pipe.specs.Connected.{BinaryIsInFiles, IsConnectedOnce, IsOneHistory};
+ghost use Rattle.ddcmp_pipe.specs.Connected.{IsKeptOverOneConnection};
+ghost use Rattle.ddcmp_pipe.specs.Connections.{first_connection};
+ghost use Rattle.ddcmp_pipe.specs.Runs.{DeliversAll, DeliversFirst, FilesBegin, FilesPass, Ran};
+ghost use Rattle.ddcmp_session.specs.Connections.{AreDone};
+
+/// The calls of a new session that is connected at most once, on any line, are a history as in the
+/// laws of sessions, in which that line was clear: before, the session has used no bytes of a line,
+/// and none waited for one. Nor has it read anything of its input then, or delivered a message.
+pub fn one_connection_is_a_history()
+    ensures { (ran : Ran) → AreDone ran.steps (first_connection ran.made) → IsConnectedOnce ran
+        → IsOneHistory ran }
+{}
+
+/// Two runs, each connected at most once, in an order of their calls in which after each call, what
+/// each has used of its line is a beginning of what the line of the other has taken, as of a
+/// connection: what one has delivered is a beginning of what the other's input has given, and all
+/// of that if the other's run was ended and lost nothing, as `run_lines` returns `Ok` for. In
+/// binary, what the output took is a beginning of each file that the input gave a beginning of, and
+/// then, once nothing waits, the file.
+pub fn runs_over_connections()
+    ensures to_b { IsKeptOverOneConnection (λ a b. DeliversFirst a b) }
+    ensures to_a { IsKeptOverOneConnection (λ a b. DeliversFirst b a) }
+    ensures all_to_b { IsKeptOverOneConnection (λ a b. DeliversAll a b) }
+    ensures all_to_a { IsKeptOverOneConnection (λ a b. DeliversAll b a) }
+    ensures in_files_to_b { IsKeptOverOneConnection (λ a b. BinaryIsInFiles a b) }
+    ensures in_files_to_a { IsKeptOverOneConnection (λ a b. BinaryIsInFiles b a) }
+    ensures files_to_b { IsKeptOverOneConnection (λ a b. FilesBegin a b) }
+    ensures files_to_a { IsKeptOverOneConnection (λ a b. FilesBegin b a) }
+    ensures whole_to_b { IsKeptOverOneConnection (λ a b. FilesPass a b) }
+    ensures whole_to_a { IsKeptOverOneConnection (λ a b. FilesPass b a) }
+{}
