@@ -9,9 +9,12 @@ use Rattle.ddcmp_run.specs.declared.event.End.{End}
 use Rattle.ddcmp_run.specs.declared.event.End.TheVariants.{A, B}
 use Rattle.ddcmp_session.specs.declared.messages.Form.{Form}
 use Rattle.ddcmp_session.specs.declared.messages.Form.TheVariants as form
-use Rattle.ddcmp_session.specs.Calls.{SessionStep}
-use Rattle.ddcmp_session.specs.Connections.{AreDone, Connection, after_all}
-use Rattle.ddcmp_pipe.specs.Connected.{AreOverStreams, BinaryIsInFiles, IsBareBefore}
+use Rattle.ddcmp_session.specs.Session.{SessionView}
+use Rattle.ddcmp_session.specs.Calls.{Closed, Connected, Delivered, Filled, InputEnded, LineEnded}
+use Rattle.ddcmp_session.specs.Calls.{LineTook, OutputTook, Received, SessionCall, SessionDoes}
+use Rattle.ddcmp_session.specs.Calls.{SessionStep, TimePassed, TimedOut, Typed}
+use Rattle.ddcmp_session.specs.Connections.{AreDone, Connection, Does, after_all}
+use Rattle.ddcmp_pipe.specs.Connected.{AreOverStreams, AreTwoRuns, BinaryIsInFiles, IsBareBefore}
 use Rattle.ddcmp_pipe.specs.Connected.{IsConnectedOnce, RanOverStreams, connections_in}
 use Rattle.ddcmp_pipe.specs.Connected.{histories_of}
 use Rattle.ddcmp_pipe.specs.Connections.{AreCalls, Connections, PipesAnew, PipesClosedAnew}
@@ -88,6 +91,64 @@ unfolding connects connections_in calls_of
 connected-at-b [] = refl
 connected-at-b ((A, step) ∷ rest) = let e = connected-at-b rest in omega (arith, e)
 connected-at-b ((B, step) ∷ rest) = let e = connected-at-b rest in omega (arith, e)
+
+-- ---- and the other way round
+
+does-so : (call : SessionCall) (text : List ℕ) (old new : SessionView)
+    → SessionDoes call text old new → Does call text old new
+does-so Connected text old new d = d.0
+does-so (Typed used) text old new d = d
+does-so InputEnded text old new d = d
+does-so (LineEnded r) text old new d = d
+does-so (Received used) text old new d = d
+does-so (Filled n) text old new d = d
+does-so (LineTook n) text old new d = d
+does-so (TimedOut now) text old new d = d
+does-so TimePassed text old new d = d
+does-so (Delivered has) text old new d = d
+does-so (OutputTook n) text old new d = d
+does-so (Closed left over r) text old new d = d
+
+abbrev BothDone : List (End × SessionStep) → Connections → Type 0
+BothDone steps p =
+    AreDone (calls_of A steps) p.a × AreDone (calls_of B steps) p.b × AreOverStreams steps p
+
+both-done : (steps : List (End × SessionStep)) (p : Connections)
+    → SessionsOverStreams steps (histories_of p) → Once (calls_of A steps) p.a.history
+    → Once (calls_of B steps) p.b.history → IsBareBefore p.a → IsBareBefore p.b
+    → BothDone steps p
+unfolding calls_of
+both-done [] p over at_a at_b bare_a bare_b = (tt, tt, tt)
+both-done ((A, step) ∷ rest) p over at_a at_b bare_a bare_b =
+    let d = does-so step.call p.a.history.used p.a.history.session step.session over.0 in
+    let s = step-once step.call step.session (calls_of A rest) p.a d at_a bare_a in
+    let e : histories_of (after_step_at A step p) ≡ after_session_at A step (histories_of p) =
+    λ i. record { a = s.1 i; b = p.b.history } in
+    let r =
+    both-done rest (after_step_at A step p) (subst (SessionsOverStreams rest) (sym e) over.2) s.2
+    at_b s.3 bare_b in
+    ((d, r.0), r.1, (subst AreSessionStreams (sym e) over.1, r.2))
+both-done ((B, step) ∷ rest) p over at_a at_b bare_a bare_b =
+    let d = does-so step.call p.b.history.used p.b.history.session step.session over.0 in
+    let s = step-once step.call step.session (calls_of B rest) p.b d at_b bare_b in
+    let e : histories_of (after_step_at B step p) ≡ after_session_at B step (histories_of p) =
+    λ i. record { a = p.a.history; b = s.1 i } in
+    let r =
+    both-done rest (after_step_at B step p) (subst (SessionsOverStreams rest) (sym e) over.2) at_a
+    s.2 bare_a s.3 in
+    (r.0, (d, r.1), (subst AreSessionStreams (sym e) over.1, r.2))
+
+pub two_runs : (first second : Made) (steps : List (End × SessionStep))
+    → SessionsOverStreams steps (new_sessions first second) → AreConnectedOnce steps
+    → AreTwoRuns first second steps
+two_runs first second steps over once =
+    let once_a = subst (λ n. n ≤ 1) (connected-at-a steps) once.at_a in
+    let once_b = subst (λ n. n ≤ 1) (connected-at-b steps) once.at_b in
+    let d =
+    both-done steps (first_connections first second) over
+    (first-once first (calls_of A steps) once_a) (first-once second (calls_of B steps) once_b)
+    (first-bare first) (first-bare second) in
+    record { of_a = d.0; of_b = d.1; once_a = once_a; once_b = once_b; streams = d.2 }
 
 -- ---- all that a run has read and delivered, it has since it was connected
 

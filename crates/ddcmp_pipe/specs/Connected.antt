@@ -9,7 +9,8 @@ use Rattle.ddcmp_session.specs.Calls.{IsSessionHistory, SessionStep, after_sessi
 use Rattle.ddcmp_session.specs.Connections.{AreDone, Connection}
 use Rattle.ddcmp_pipe.specs.Connections.{Connections, after_step_at, first_connection}
 use Rattle.ddcmp_pipe.specs.Connections.{first_connections}
-use Rattle.ddcmp_pipe.specs.Pipe.{AreSessionStreams, Sessions, connects_in_call, session_of}
+use Rattle.ddcmp_pipe.specs.Pipe.{AreSessionStreams, Made, Sessions, connects_in_call}
+use Rattle.ddcmp_pipe.specs.Pipe.{session_of}
 use Rattle.ddcmp_pipe.specs.Runs.{InFiles, Ran, calls_of, got_to}
 use Rattle.ddcmp_pipe.specs.Sessions.{mail_in}
 
@@ -64,6 +65,14 @@ IsKeptOverOneConnection Promise = (a b : Ran)
     → AreDone a.steps (first_connection a.made) → AreDone b.steps (first_connection b.made)
     → IsConnectedOnce a → IsConnectedOnce b
     → RanOverStreams a b → Promise a b
+
+-- Calls of two sessions as in the laws of sessions over connections are two such runs.
+pub record AreTwoRuns (first second : Made) (steps : List (End × SessionStep)) : Type 0 where
+  pub of_a : AreDone (calls_of A steps) (first_connection first)
+  pub of_b : AreDone (calls_of B steps) (first_connection second)
+  pub once_a : connections_in (calls_of A steps) ≤ 1
+  pub once_b : connections_in (calls_of B steps) ≤ 1
+  pub streams : AreOverStreams steps (first_connections first second)
 
 -- Two runs in binary are in files: over the lines before, of which there is none, no message came.
 abbrev pub BinaryIsInFiles : Ran → Ran → Type 0

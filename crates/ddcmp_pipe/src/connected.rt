@@ -1,10 +1,14 @@
 //! Two runs over one connection: without a word of frames, what the input of one gave is what the
 //! output of the other took.
-ghost use Rattle.ddcmp_pipe.specs.Connected.{BinaryIsInFiles, IsConnectedOnce, IsOneHistory};
-ghost use Rattle.ddcmp_pipe.specs.Connected.{IsKeptOverOneConnection};
-ghost use Rattle.ddcmp_pipe.specs.Connections.{first_connection};
-ghost use Rattle.ddcmp_pipe.specs.Runs.{DeliversAll, DeliversFirst, FilesBegin, FilesPass, Ran};
+ghost use Rattle.std.specs.Prelude.{List};
+ghost use Rattle.ddcmp_run.specs.declared.event.End.{End};
+ghost use Rattle.ddcmp_session.specs.Calls.{SessionStep};
 ghost use Rattle.ddcmp_session.specs.Connections.{AreDone};
+ghost use Rattle.ddcmp_pipe.specs.Connected.{AreTwoRuns, BinaryIsInFiles, IsConnectedOnce};
+ghost use Rattle.ddcmp_pipe.specs.Connected.{IsKeptOverOneConnection, IsOneHistory};
+ghost use Rattle.ddcmp_pipe.specs.Connections.{first_connection};
+ghost use Rattle.ddcmp_pipe.specs.Pipe.{AreConnectedOnce, Made, SessionsOverStreams, new_sessions};
+ghost use Rattle.ddcmp_pipe.specs.Runs.{DeliversAll, DeliversFirst, FilesBegin, FilesPass, Ran};
 
 /// The calls of a new session that is connected at most once, on any line, are a history as in the
 /// laws of sessions, in which that line was clear: before, the session has used no bytes of a line,
@@ -12,6 +16,14 @@ ghost use Rattle.ddcmp_session.specs.Connections.{AreDone};
 pub fn one_connection_is_a_history()
     ensures { (ran : Ran) → AreDone ran.steps (first_connection ran.made) → IsConnectedOnce ran
         → IsOneHistory ran }
+{}
+
+/// Whatever calls of two new sessions the laws of sessions over connections are of, they are those
+/// of two runs of the next law: its premises are no more than theirs.
+pub fn sessions_over_connections_are_runs()
+    ensures { (first second : Made) (steps : List (End × SessionStep))
+        → SessionsOverStreams steps (new_sessions first second) → AreConnectedOnce steps
+        → AreTwoRuns first second steps }
 {}
 
 /// Two runs, each connected at most once, in an order of their calls in which after each call, what
