@@ -39,4 +39,3 @@ event_text (event.Connected address) = codes "connected " ++ socket_text address
 event_text (event.Retry fault seconds) =
     codes "ddcmp: "
     ++ (not_opened_text fault ++ (codes "; retry in " ++ (decimal seconds ++ codes " s")))
-event_text event.Unread = codes "ddcmp: standard output isn't read: received messages are lost"

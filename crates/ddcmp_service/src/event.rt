@@ -11,8 +11,6 @@ pub(crate) enum Event<'a> {
     Connected(SocketAddr),
     /// The line couldn't be opened, and is tried again after this many seconds.
     Retry(NotOpened<'a>, u64),
-    /// Standard output took nothing after the time of the run was over.
-    Unread,
 }
 
 impl fmt::Display for Event<'_> {
@@ -27,9 +25,6 @@ impl fmt::Display for Event<'_> {
             Event::Connecting(addr) => write!(f, "connecting {addr}"),
             Event::Connected(addr) => write!(f, "connected {addr}"),
             Event::Retry(fault, seconds) => write!(f, "ddcmp: {fault}; retry in {seconds} s"),
-            Event::Unread => {
-                f.write_str("ddcmp: standard output isn't read: received messages are lost")
-            }
         }
     }
 }

@@ -2,16 +2,13 @@
 ghost use Rattle.std.specs.Prelude.{◌≡◌, ◌≢◌, ◌↔◌, Err, IsTrue};
 
 use crate::ending::Ended;
-use crate::event::Event;
 use crate::fault::ServiceFault;
 use crate::line_name::LineName;
 use crate::live::{Live, Parts};
 use crate::system::System;
 use crate::waiting::Waiting;
 use ddcmp_io::{Sink, Source};
-use ddcmp_session::{
-    Buffers, Devices, Fault, LineKind, Options, Session, Stop, drain_errors, drain_output,
-};
+use ddcmp_session::{Buffers, LineKind, Options, Session};
 use ddcmp_station::Elapsed;
 use std::alloc::Global;
 use std::fs::{File, Files};
@@ -66,9 +63,6 @@ fn ending_of<'a, W: Sink>(
     }
 }
 
-/// How long standard error may take nothing at the end of a run, in milliseconds.
-const END_MS: u64 = 1000;
-
 /// Takes all memory, and runs a link.
 fn serve<S: System, R: Source, W: Sink>(
     system: &S,
@@ -106,11 +100,9 @@ fn serve<S: System, R: Source, W: Sink>(
     if let Ok(since_1970) = system.since_1970() {
         session.began_at(u64::try_from(since_1970.as_millis()).unwrap_or(u64::MAX));
     }
-    let ran = buffers.run_lines(&mut session, &mut devices);
-    let finished = finish(&mut session, &mut devices);
-    drain_errors(&mut session, &mut devices, END_MS);
-    ran.map_err(Ended::Stopped)?;
-    finished.map_err(stopped_by)?;
+    buffers
+        .run_to_end(&mut session, &mut devices)
+        .map_err(Ended::Stopped)?;
     if session.was_refused() {
         return Ok(Served::SomeRefused);
     }
@@ -123,21 +115,4 @@ fn no_waiting(kind: ErrorKind) -> Ended {
         ErrorKind::OutOfMemory => Ended::Memory,
         kind => Ended::CannotWait(kind),
     }
-}
-
-/// A device stopped the run.
-fn stopped_by(fault: Fault) -> Ended {
-    Ended::Stopped(Stop::Device(fault))
-}
-
-/// Writes all received messages and the last lines.
-fn finish<D: Devices>(session: &mut Session, devices: &mut D) -> Result<(), Fault> {
-    let drained = drain_output(session, devices);
-    session.finish();
-    if drained == Err(Fault::Time) {
-        session.report(&Event::Unread);
-    }
-    drained?;
-    session.write_end();
-    drain_output(session, devices)
 }

@@ -2,6 +2,7 @@ pub mod CourseLaws
 pub mod DeliverLaws
 pub mod DrainLaws
 pub mod DropLaws
+pub mod Finished
 pub mod FrameLaws
 pub mod GoingLaws
 pub mod InputGoes

@@ -338,7 +338,7 @@ pub reports-by : {P : Type 0} {h0 h1 : BuffersView} {s0 s1 : SessionView}
 reports-by over ran (inl same) = reports-at same.1 (ran same.0)
 reports-by over ran (inr later) = reports-over over later
 
-is-unit : {R : Type 0} (r : Result (Unit {0}) R) → is_ok r ≡ true → r ≡ Ok tt
+pub is-unit : {R : Type 0} (r : Result (Unit {0}) R) → is_ok r ≡ true → r ≡ Ok tt
 is-unit (Ok u) e = refl
 is-unit (Err r) e = cc
 

@@ -42,3 +42,7 @@ down_text (Failed other) = cause_words other
 -- a line is opened again
 abbrev pub pause_text : ℕ → List ℕ
 pause_text seconds = codes "retry in " ++ decimal seconds ++ codes " s"
+
+-- Standard output took nothing after the time of the run was over.
+abbrev pub unread_text : List ℕ
+unread_text = codes "ddcmp: standard output isn't read: received messages are lost"

@@ -3,6 +3,7 @@ pub mod Calls
 pub mod Connections
 pub mod Course
 pub mod Devices
+pub mod Finishing
 pub mod Lines
 pub mod Messages
 pub mod Session

@@ -2,6 +2,7 @@
 ghost use Rattle.std.specs.Prelude.{◌≡◌, [], IfOk};
 ghost use Rattle.ddcmp_session.specs.Devices.{nothing_read};
 
+mod finishing;
 mod lines;
 mod passing;
 mod running;
@@ -17,8 +18,9 @@ use std::marker::Model;
 /// What was read for a session and not used yet. `run` moves bytes between the session and its
 /// devices, and decides nothing.
 ///
-/// `run_lines` runs a session from its first line to its last and closes it, and `run` over one line
-/// after `begin_line`. `drain_output` and `drain_errors` write what waits, as at the end.
+/// `run_to_end` runs a session from its first line to its last and finishes it. `run_lines` does so
+/// up to where it closes it, and `run` runs over one line after `begin_line`. `drain_output` and
+/// `drain_errors` write what waits, as at the end.
 pub struct Buffers {
     input: Chunk,
     received: Chunk,

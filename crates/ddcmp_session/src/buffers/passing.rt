@@ -3,6 +3,7 @@
 ghost use Rattle.std.specs.Prelude.{◌≡◌, Err, Ok, Option, false};
 ghost use Rattle.ddcmp_session.specs.Devices.{BuffersView, GoesOn, HoldsMail, OnlyDelivers};
 ghost use Rattle.ddcmp_session.specs.Devices.{Reports, Traffic};
+ghost use Rattle.ddcmp_session.specs.Finishing.{Drains, HasRoomIfEmpty};
 ghost use Rattle.ddcmp_session.specs.declared.devices.Fault.{Fault as FaultValue};
 
 use crate::buffers::Buffers;
@@ -20,8 +21,10 @@ pub(super) fn deliver_all(session: &mut Session) -> bool
         → GoesOn held session.old known held session.new known }
     ensures idle { result ≡ false
         → session.new ≡ record session.old { output = session.new.output } }
+    ensures drains { (known : Option Traffic) → Drains session.old known session.new known }
     ensures only { OnlyDelivers session.old session.new }
     ensures left { result ≡ false → HoldsMail session.new }
+    ensures emptied { result ≡ false → HasRoomIfEmpty session.new }
 {
     let mut moved = false;
     for _message in 0..u64::MAX {
@@ -269,6 +272,8 @@ pub(super) fn write_output<D: Devices>(
         held session.new (D.traffic devices.new) }
     ensures reports { (held : BuffersView) (fault : FaultValue) → result ≡ Err fault
         → Reports held session.old (D.traffic devices.old) (D.traffic devices.new) fault }
+    ensures drains { Drains session.old (D.traffic devices.old)
+        session.new (D.traffic devices.new) }
     ensures idle { result ≡ Ok false → session.new ≡ session.old }
     ensures output { session.new ≡ record session.old { output = session.new.output } }
 {

@@ -3,6 +3,7 @@ ghost use Rattle.std.specs.Prelude.{◌≡◌, ◌≢◌, [], Err, Ok, false};
 ghost use Rattle.ddcmp_session.specs.Course.{lost_more};
 ghost use Rattle.ddcmp_session.specs.Devices.{BuffersView, GoesOn, HoldsMail, OnlyDelivers};
 ghost use Rattle.ddcmp_session.specs.Devices.{Reports};
+ghost use Rattle.ddcmp_session.specs.Finishing.{Drains, IsDrained};
 ghost use Rattle.ddcmp_session.specs.Session.{lost_by_end};
 ghost use Rattle.ddcmp_session.specs.Lines.{GoesOver, ReportsOver};
 ghost use Rattle.ddcmp_session.specs.declared.devices.Fault.{Fault as FaultValue};
@@ -13,7 +14,7 @@ use crate::devices::{Devices, Fault, Wanted};
 use crate::session::{End, Session};
 
 /// How long an output may take nothing at the end of a run, in milliseconds.
-const END_MS: u64 = 1000;
+pub(super) const END_MS: u64 = 1000;
 
 impl Buffers {
     ghost use Rattle.std.specs.Prelude.{◌≡◌, Err, Ok, Some};
@@ -90,6 +91,8 @@ pub(super) fn leave_line<D: Devices>(session: &mut Session, devices: &mut D) -> 
 pub fn drain_errors<D: Devices>(session: &mut Session, devices: &mut D, most_ms: u64)
     ensures on { (held : BuffersView) → GoesOn held session.old (D.traffic devices.old)
         held session.new (D.traffic devices.new) }
+    ensures drains { Drains session.old (D.traffic devices.old)
+        session.new (D.traffic devices.new) }
     ensures session { session.new ≡ session.old }
 {
     let mut last = devices.now();
@@ -119,9 +122,12 @@ pub fn drain_output<D: Devices>(session: &mut Session, devices: &mut D) -> Resul
     ensures reports { (held : BuffersView) (fault : FaultValue) → result ≡ Err fault
         → fault ≢ Fault.Time
         → Reports held session.old (D.traffic devices.old) (D.traffic devices.new) fault }
+    ensures drains { Drains session.old (D.traffic devices.old)
+        session.new (D.traffic devices.new) }
     ensures only { OnlyDelivers session.old session.new }
     ensures drained { result ≡ Ok tt → session.new.output.waiting ≡ [] }
     ensures left { result ≡ Ok tt → HoldsMail session.new }
+    ensures emptied { result ≡ Ok tt → IsDrained session.new }
 {
     let end = session.run_ends_at();
     let mut last = end.max(devices.now());

@@ -4,7 +4,7 @@ use crate::session::Session;
 use crate::text;
 
 impl Session {
-    ghost use Rattle.std.specs.Prelude.{◌≡◌, Bool, true, false};
+    ghost use Rattle.std.specs.Prelude.{◌≡◌, true, false};
     ghost use Rattle.ddcmp_io.specs.Written.{HandsOver};
     ghost use Rattle.ddcmp_core.specs.Table.{after_halt};
     ghost use Rattle.ddcmp_station.specs.Linking.{with_state};
@@ -53,9 +53,9 @@ impl Session {
     /// binary to standard error.
     pub fn write_end(&mut self)
         ensures stays { self.new ≡ record self.old { output = self.new.output } }
-        ensures lines { form_of self.old.messages ≡ Form.Digits → (counted : Bool)
-            × HandsOver (queued self.old.output) (queued self.new.output)
-            (end_text counted self.old.link) }
+        ensures lines { form_of self.old.messages ≡ Form.Digits
+            → HandsOver (queued self.old.output) (queued self.new.output)
+            (end_text self.old.options.counters self.old.link) }
         ensures binary { form_of self.old.messages ≡ Form.Binary → self.new ≡ self.old }
     {
         let counters = self.options.counters;

@@ -12,6 +12,7 @@ impl Session {
     ghost use Rattle.ddcmp_window.specs.Store.{first_message};
     ghost use Rattle.ddcmp_io.specs.Queue.{after_pushed, after_taken};
     ghost use Rattle.ddcmp_session.specs.Course.{lost_more};
+    ghost use Rattle.ddcmp_session.specs.Finishing.{HasRoomIfEmpty};
     ghost use Rattle.ddcmp_session.specs.Session.{form_of, reports_loss, room_for_mail};
     ghost use Rattle.ddcmp_session.specs.Text.{Wrote, mail_text, reported_lost};
 
@@ -30,6 +31,7 @@ impl Session {
         ensures left { result ≡ false
             → (first_message self.new.link.station.core.station.inbox ≡ None)
             ⊎ (self.new.output.room < room_for_mail self.new) }
+        ensures emptied { result ≡ false → HasRoomIfEmpty self.new }
         ensures stays { self.new
             ≡ record self.old { link = self.new.link; output = self.new.output } }
     {

@@ -1,11 +1,13 @@
 use Rattle.std.proofs.Common.{refl}
 use Rattle.ddcmp_session.proofs.DrainLaws.{only-delivered, only-none, only-then}
+use Rattle.ddcmp_session.proofs.Finished.{drains-delivered, drains-none, drains-then}
 use Rattle.ddcmp_session.proofs.GoingLaws.{stays, goes-then, delivered-goes, not-delivered}
 use Rattle.ddcmp_session.proofs.buffers.passing.deliver_all.Goals as goal
 
 pub loop-message-init : goal.loop-message-init
 loop-message-init c = record {
   on = λ held known. stays refl refl;
+  drains = λ known. drains-none refl refl;
   only = only-none _;
   idle = λ e. refl;
 }
@@ -15,6 +17,11 @@ loop-message-preserved c = record {
   on = λ held known.
       goes-then (c.loop-message.invariant.on held known)
       (delivered-goes c.deliver.result c.loop-message.session c.deliver.new.self
+      c.deliver.ensures.link c.deliver.ensures.wrote c.deliver.ensures.waits
+      c.deliver.ensures.stays);
+  drains = λ known.
+      drains-then (c.loop-message.invariant.drains known)
+      (drains-delivered c.deliver.result c.loop-message.session c.deliver.new.self
       c.deliver.ensures.link c.deliver.ensures.wrote c.deliver.ensures.waits
       c.deliver.ensures.stays);
   only =
@@ -31,6 +38,11 @@ returns-then-not-deliver c = record {
       (delivered-goes c.deliver.result c.loop-message.session c.deliver.new.self
       c.deliver.ensures.link c.deliver.ensures.wrote c.deliver.ensures.waits
       c.deliver.ensures.stays);
+  drains = λ known.
+      drains-then (c.loop-message.invariant.drains known)
+      (drains-delivered c.deliver.result c.loop-message.session c.deliver.new.self
+      c.deliver.ensures.link c.deliver.ensures.wrote c.deliver.ensures.waits
+      c.deliver.ensures.stays);
   only =
       only-then c.loop-message.invariant.only
       (only-delivered c.deliver.result c.loop-message.session c.deliver.new.self
@@ -39,4 +51,5 @@ returns-then-not-deliver c = record {
       not-delivered c.args.session.now c.loop-message.session c.deliver.new.self
       c.if-not-deliver.ensures.link c.deliver.ensures.stays (c.loop-message.invariant.idle e);
   left = λ e. c.if-not-deliver.ensures.left refl;
+  emptied = λ e. c.if-not-deliver.ensures.emptied refl;
 }

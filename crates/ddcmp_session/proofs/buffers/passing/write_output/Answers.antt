@@ -3,6 +3,7 @@ use Rattle.ddcmp_session.specs.declared.devices.Fault.{Fault}
 use Rattle.ddcmp_session.specs.declared.devices.Fault.TheVariants.{Output}
 use Rattle.ddcmp_session.specs.declared.devices.Moved.TheVariants.{Nothing, Interrupted}
 use Rattle.ddcmp_session.specs.Devices.{after_written, Reports}
+use Rattle.ddcmp_session.proofs.Finished.{drains-fault, drains-none, drains-still, drains-took}
 use Rattle.ddcmp_session.proofs.GoingLaws.{stays, idles, none-written, faulted, reported}
 use Rattle.ddcmp_session.proofs.LineGoes.{output-took}
 use Rattle.ddcmp_session.proofs.buffers.passing.write_output.Goals as goal
@@ -39,5 +40,27 @@ pub returns-in-Bytes-clause-on : goal.returns-in-Bytes-clause-on
 returns-in-Bytes-clause-on g c =
     λ held.
     output-took c.args.session.now c.output_took.new.self c.in-Bytes.n
+    c.to_output-2.result.now c.to_output-2.ensures c.in-Bytes.ensures.written
+    c.output_took.ensures
+
+pub returns-then-is_empty-clause-drains : goal.returns-then-is_empty-clause-drains
+returns-then-is_empty-clause-drains g c = drains-none refl refl
+
+pub returns-in-Nothing-clause-drains : goal.returns-in-Nothing-clause-drains
+returns-in-Nothing-clause-drains g c =
+    drains-still (after_written Nothing c.to_output-2.result.now) c.in-Nothing.ensures.written
+    none-written
+
+pub returns-in-Ended-clause-drains : goal.returns-in-Ended-clause-drains
+returns-in-Ended-clause-drains g c = drains-fault Output c.in-Ended.ensures.written
+
+pub returns-in-Interrupted-clause-drains : goal.returns-in-Interrupted-clause-drains
+returns-in-Interrupted-clause-drains g c =
+    drains-still (after_written Interrupted c.to_output-2.result.now)
+    c.in-Interrupted.ensures.written none-written
+
+pub returns-in-Bytes-clause-drains : goal.returns-in-Bytes-clause-drains
+returns-in-Bytes-clause-drains g c =
+    drains-took c.args.session.now c.output_took.new.self c.in-Bytes.n
     c.to_output-2.result.now c.to_output-2.ensures c.in-Bytes.ensures.written
     c.output_took.ensures

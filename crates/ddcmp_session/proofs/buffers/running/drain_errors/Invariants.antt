@@ -1,11 +1,14 @@
 use Rattle.std.proofs.Common.{◌≡◌}
 use Rattle.ddcmp_session.specs.Devices.{BuffersView, GoesOn}
+use Rattle.ddcmp_session.specs.Finishing.{Drains}
 use Rattle.ddcmp_session.proofs.buffers.running.drain_errors.Given as goal
 
 abbrev pub invariant-loop-write : goal.invariant-loop-write
 invariant-loop-write g l = record {
   on : (held : BuffersView)
       → GoesOn held l.fn.session (g.D.Devices.traffic l.fn.devices) held l.session
+      (g.D.Devices.traffic l.devices);
+  drains : Drains l.fn.session (g.D.Devices.traffic l.fn.devices) l.session
       (g.D.Devices.traffic l.devices);
   session : l.session ≡ l.fn.session;
 }

@@ -3,11 +3,16 @@ use Rattle.ddcmp_session.specs.declared.devices.Fault.{Fault}
 use Rattle.ddcmp_session.specs.declared.devices.Fault.TheVariants.{Input}
 use Rattle.ddcmp_session.specs.Devices.{Reports}
 use Rattle.ddcmp_session.proofs.DrainLaws.{only-none, only-then, only-wrote}
+use Rattle.ddcmp_session.proofs.Finished.{drains-none, drains-then, drains-wait}
 use Rattle.ddcmp_session.proofs.GoingLaws.{stays, goes-then, waited, reported, reports-then}
 use Rattle.ddcmp_session.proofs.buffers.running.drain_output.Goals as goal
 
 pub loop-write-init : goal.loop-write-init
-loop-write-init g c = record { on = λ held. stays refl c.now.ensures; only = only-none _ }
+loop-write-init g c = record {
+  on = λ held. stays refl c.now.ensures;
+  drains = drains-none refl c.now.ensures;
+  only = only-none _;
+}
 
 pub returns-then-is_empty-clause-on : goal.returns-then-is_empty-clause-on
 returns-then-is_empty-clause-on g c = λ held.
@@ -24,6 +29,10 @@ loop-write-preserved-then-moved g c = record {
       goes-then (c.loop-write.invariant.on held)
       (goes-then (c.deliver_all-delivered.ensures.on held _)
       (goes-then (c.write_output.ensures.on held) (stays refl c.now-now.ensures)));
+  drains =
+      drains-then c.loop-write.invariant.drains
+      (drains-then (c.deliver_all-delivered.ensures.drains _)
+      (drains-then c.write_output.ensures.drains (drains-none refl c.now-now.ensures)));
   only =
       only-then c.loop-write.invariant.only
       (only-then c.deliver_all-delivered.ensures.only
@@ -51,6 +60,12 @@ loop-write-preserved g c = record {
       (goes-then (c.deliver_all-delivered.ensures.on held _)
       (goes-then (c.write_output.ensures.on held)
       (goes-then (stays refl c.now-now.ensures) (waited c.wait.result c.wait.ensures))));
+  drains =
+      drains-then c.loop-write.invariant.drains
+      (drains-then (c.deliver_all-delivered.ensures.drains _)
+      (drains-then c.write_output.ensures.drains
+      (drains-then (drains-none refl c.now-now.ensures)
+      (drains-wait c.wait.result c.wait.ensures))));
   only =
       only-then c.loop-write.invariant.only
       (only-then c.deliver_all-delivered.ensures.only
@@ -104,3 +119,26 @@ returns-then-not-wait-clause-only g c =
 pub returns-then-is_empty-clause-only : goal.returns-then-is_empty-clause-only
 returns-then-is_empty-clause-only g c =
     only-then c.loop-write.invariant.only c.deliver_all-delivered.ensures.only
+
+pub returns-then-is_empty-clause-drains : goal.returns-then-is_empty-clause-drains
+returns-then-is_empty-clause-drains g c =
+    drains-then c.loop-write.invariant.drains (c.deliver_all-delivered.ensures.drains _)
+
+pub returns-in-Err-clause-drains : goal.returns-in-Err-clause-drains
+returns-in-Err-clause-drains g c =
+    drains-then c.loop-write.invariant.drains
+    (drains-then (c.deliver_all-delivered.ensures.drains _) c.write_output.ensures.drains)
+
+pub returns-then-left-eq0-clause-drains : goal.returns-then-left-eq0-clause-drains
+returns-then-left-eq0-clause-drains g c =
+    drains-then c.loop-write.invariant.drains
+    (drains-then (c.deliver_all-delivered.ensures.drains _)
+    (drains-then c.write_output.ensures.drains (drains-none refl c.now-now.ensures)))
+
+pub returns-then-not-wait-clause-drains : goal.returns-then-not-wait-clause-drains
+returns-then-not-wait-clause-drains g c =
+    drains-then c.loop-write.invariant.drains
+    (drains-then (c.deliver_all-delivered.ensures.drains _)
+    (drains-then c.write_output.ensures.drains
+    (drains-then (drains-none refl c.now-now.ensures)
+    (drains-wait c.wait.result c.wait.ensures))))

@@ -1,10 +1,13 @@
 use Rattle.ddcmp_session.specs.Devices.{BuffersView, GoesOn, OnlyDelivers}
+use Rattle.ddcmp_session.specs.Finishing.{Drains}
 use Rattle.ddcmp_session.proofs.buffers.running.drain_output.Given as goal
 
 abbrev pub invariant-loop-write : goal.invariant-loop-write
 invariant-loop-write g l = record {
   on : (held : BuffersView)
       → GoesOn held l.fn.session (g.D.Devices.traffic l.fn.devices) held l.session
+      (g.D.Devices.traffic l.devices);
+  drains : Drains l.fn.session (g.D.Devices.traffic l.fn.devices) l.session
       (g.D.Devices.traffic l.devices);
   only : OnlyDelivers l.fn.session l.session;
 }
