@@ -1,5 +1,7 @@
 pub mod Anew
 pub mod ConnectionLaws
+pub mod EndLaws
+pub mod Finished
 pub mod Given
 pub mod Histories
 pub mod Holding

@@ -173,7 +173,7 @@ delivers_all giver taker whole stays does held t closed ended none =
 
 -- ---- files
 
-given_binary : (made : Made) (c : Connection) (t : Traffic) → made.options.form ≡ form.Binary
+pub given_binary : (made : Made) (c : Connection) (t : Traffic) → made.options.form ≡ form.Binary
     → c.input_before ≡ []
     → given_since made c t ≡ messages_of form.Binary made.options.config.max t.read
 unfolding got_in told_in

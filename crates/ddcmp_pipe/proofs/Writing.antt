@@ -28,9 +28,9 @@ use Rattle.ddcmp_session.proofs.InputLaws.{form-stays}
 use Rattle.ddcmp_pipe.proofs.Texts.{IsText, writes, keeps, took, no_text, notices_are}
 use Rattle.ddcmp_pipe.proofs.Texts.{mail_text_is, lost_text_is}
 
-record Writes (f : Form) (h : SessionHistory) : Type 0 where
-  kind : form_of h.session.messages ≡ f
-  text : IsText f h.written h.session.output h.shown
+pub record Writes (f : Form) (h : SessionHistory) : Type 0 where
+  pub kind : form_of h.session.messages ≡ f
+  pub text : IsText f h.written h.session.output h.shown
 
 -- ---- calls that write nothing
 
@@ -40,10 +40,10 @@ text_stays f h new w same =
     writes f h.written h.shown [] h.session.output new.output [] w.text
     (keeps h.session.output new.output same) (no_text f)
 
-abbrev Keeps : SessionView → SessionView → Type 0
+abbrev pub Keeps : SessionView → SessionView → Type 0
 Keeps s new = (new.output ≡ s.output) × (form_of new.messages ≡ form_of s.messages)
 
-entries_keep : (es : List Entry) (s : SessionView) → Keeps s (after_entries es s)
+pub entries_keep : (es : List Entry) (s : SessionView) → Keeps s (after_entries es s)
 entries_keep [] s = (refl, refl)
 entries_keep (Message ∷ rest) s = (refl, refl)
 entries_keep (NotHexadecimal ∷ rest) s = (refl, refl)
@@ -61,7 +61,7 @@ last_form : (m : Messages) → form_of (after_last m) ≡ form_of m
 last_form (Digits v) = refl
 last_form (Binary v) = refl
 
-ended_keeps : (s : SessionView) → Keeps s (after_input_end s)
+pub ended_keeps : (s : SessionView) → Keeps s (after_input_end s)
 ended_keeps s = by (wants_input s)
   where
     last : SessionView
@@ -79,7 +79,7 @@ ended_keeps s = by (wants_input s)
 
 -- ---- each call
 
-writes_step : (f : Form) (step : SessionStep) (h : SessionHistory)
+pub writes_step : (f : Form) (step : SessionStep) (h : SessionHistory)
     → SessionDoes step.call h.used h.session step.session → Writes f h
     → Writes f (after_session_step step h)
 writes_step f step h does w = by step.call step.session does
@@ -169,7 +169,7 @@ writes_step f step h does w = by step.call step.session does
           (lost r ∙ lost_text_is r f h.session);
     }
 
-writes_all : (f : Form) (steps : List SessionStep) (h : SessionHistory)
+pub writes_all : (f : Form) (steps : List SessionStep) (h : SessionHistory)
     → IsSessionHistory steps h → Writes f h → Writes f (after_session_steps steps h)
 unfolding after_session_steps
 writes_all f [] h does w = w

@@ -7,3 +7,4 @@ pub mod Connections
 pub mod AnewStory
 pub mod Runs
 pub mod Connected
+pub mod Endings

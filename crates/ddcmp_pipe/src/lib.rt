@@ -3,6 +3,7 @@
 #![tactic(auto)]
 
 pub mod connected;
+pub mod endings;
 pub mod loops;
 pub mod pipe;
 pub mod runs;

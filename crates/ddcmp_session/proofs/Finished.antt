@@ -1,14 +1,14 @@
 -- How what was received is delivered at the end of a run, and what the output takes of it.
 use Rattle.std.proofs.Common.{◌≡◌, ◌∙◌, ap, sym, subst, refl, ℕ, Bool, true, false, cond}
 use Rattle.std.proofs.Common.{List, [], ◌∷◌, ◌++◌, append_assoc, append-nil, Option, Some}
-use Rattle.std.proofs.Common.{Result, Ok, Err, ◌⊎◌, inl, inr}
-use Rattle.std.specs.Prelude.{◌&&◌, is_ok}
+use Rattle.std.proofs.Common.{◌⊎◌, inl, inr}
+use Rattle.std.specs.Prelude.{◌&&◌}
 use Rattle.std.proofs.Common.{length, take}
 use Rattle.ddcmp_frame.specs.Reader.{StandsFor}
 use Rattle.std.proofs.Common.{min}
 use Rattle.std.proofs.lemmas.List.{take_min}
 use Rattle.ddcmp_io.specs.Queue.{after_taken}
-use Rattle.ddcmp_station.specs.Linking.{LinkView, after_taking}
+use Rattle.ddcmp_station.specs.Linking.{after_taking}
 use Rattle.ddcmp_window.specs.Store.{first_message}
 use Rattle.ddcmp_session.specs.declared.devices.Fault.{Fault}
 use Rattle.ddcmp_session.specs.declared.devices.Fault.TheVariants.{Input}
@@ -21,7 +21,7 @@ use Rattle.ddcmp_session.specs.Devices.{Becomes, HasReported, Traffic, after_fau
 use Rattle.ddcmp_session.specs.Devices.{after_written, Agrees, BuffersView, GoesOn, Reports}
 use Rattle.ddcmp_session.specs.Lines.{Closes, Ends, ReportsOver}
 use Rattle.ddcmp_session.specs.Finishing.{AreDeliveries, Drains, Finishes, IsDrained, RunsToEnd}
-use Rattle.ddcmp_session.specs.Finishing.{WritesEnd, after_taken_by, taken_in}
+use Rattle.ddcmp_session.specs.Finishing.{after_taken_by, taken_in}
 use Rattle.ddcmp_session.specs.Text.{Wrote, mail_text}
 use Rattle.ddcmp_session.proofs.GoingLaws.{end-is, same-at}
 

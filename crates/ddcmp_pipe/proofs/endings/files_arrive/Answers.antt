@@ -1,0 +1,11 @@
+use Rattle.ddcmp_pipe.proofs.Finished.{arrives}
+use Rattle.ddcmp_pipe.proofs.RunLaws.{all-to-a, all-to-b}
+use Rattle.ddcmp_pipe.proofs.endings.files_arrive.Goals as goal
+
+pub returns-clause-to_b : goal.returns-clause-to_b
+returns-clause-to_b c = λ a b f g done_a done_b together.
+    arrives a b done_b (all-to-b a b f g done_a done_b together)
+
+pub returns-clause-to_a : goal.returns-clause-to_a
+returns-clause-to_a c = λ a b f g done_a done_b together.
+    arrives b a done_a (all-to-a a b f g done_a done_b together)
