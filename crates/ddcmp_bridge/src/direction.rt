@@ -17,7 +17,7 @@ use std::marker::Model;
 /// How many frames are held back at once, at most.
 const MOST_HELD: usize = 256;
 
-/// What comes over one line on its way to the other, each frame held back for a time. It doesn't
+/// Passes the good frames of one line to the other, each held back for a time. It doesn't
 /// allocate once it is made.
 ///
 /// Pass received bytes to `push`, and what it didn't take again, as long as it has room; have the

@@ -63,7 +63,7 @@ pub struct Taken {
     pub fate: Option<Fate>,
 }
 
-/// What comes over one line on its way to the other. It takes frames of any length, and doesn't
+/// Passes the good frames of one line to the other. It takes frames of any length, and doesn't
 /// allocate once it is made.
 ///
 /// Pass received bytes to `push`, and what it didn't take again, as long as nothing waits; have the

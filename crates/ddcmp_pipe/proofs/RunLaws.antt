@@ -17,7 +17,7 @@ use Rattle.ddcmp_session.specs.Calls.{OutputTook, Closed, SessionStep, SessionHi
 use Rattle.ddcmp_session.specs.Calls.{is_told_in}
 use Rattle.ddcmp_session.specs.Connections.{AreDone, Connection, Does, after_all, after_step}
 use Rattle.ddcmp_session.specs.Devices.{BuffersView, Traffic, nothing_read}
-use Rattle.ddcmp_session.specs.Lines.{AreOfOpen, Closes, Ends, IsOfOpen}
+use Rattle.ddcmp_session.specs.Lines.{AllKeepOpen, Closes, Ends, KeepsOpen}
 use Rattle.ddcmp_session.specs.Messages.{after_input, entries_of_input}
 use Rattle.ddcmp_session.proofs.InputGoes.{entries-read}
 use Rattle.ddcmp_session.proofs.GoingLaws.{same-at}
@@ -68,7 +68,7 @@ ended-read true told old last new is was e = refl
 ended-read false told old last new is was e =
     same-read told old new (ap (λ (s : SessionView). s.is_read) is) was e
 
-read-step : (call : SessionCall) (h : SessionHistory) (new : SessionView) → IsOfOpen call
+read-step : (call : SessionCall) (h : SessionHistory) (new : SessionView) → KeepsOpen call
     → Does call h.used h.session new → ReadTold h.session h.is_told
     → ReadTold new (is_told_in call h.session || h.is_told)
 read-step (Typed used) h new of d =
@@ -117,7 +117,7 @@ told-after (Delivered has) new c = refl
 told-after (OutputTook n) new c = refl
 told-after (Closed left over r) new c = refl
 
-all-read : (steps : List SessionStep) (c : Connection) → AreDone steps c → AreOfOpen steps
+all-read : (steps : List SessionStep) (c : Connection) → AreDone steps c → AllKeepOpen steps
     → ReadTold c.history.session c.history.is_told
     → ReadTold (after_all steps c).history.session (after_all steps c).history.is_told
 unfolding after_all

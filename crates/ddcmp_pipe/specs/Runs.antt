@@ -17,7 +17,7 @@ use Rattle.ddcmp_session.specs.Session.{SessionView}
 use Rattle.ddcmp_session.specs.Calls.{SessionStep}
 use Rattle.ddcmp_session.specs.Connections.{AreDone, Connection, after_all}
 use Rattle.ddcmp_session.specs.Devices.{Agrees, BuffersView, Traffic}
-use Rattle.ddcmp_session.specs.Lines.{AreOfOpen, Closes}
+use Rattle.ddcmp_session.specs.Lines.{AllKeepOpen, Closes}
 use Rattle.ddcmp_pipe.specs.Sessions.{messages_of, mail_in}
 use Rattle.ddcmp_pipe.specs.Pipe.{Made, links_made, undelivered}
 use Rattle.ddcmp_pipe.specs.Connections.{first_connection, first_connections, link_steps}
@@ -75,7 +75,7 @@ given_since made c t =
 -- The run was ended: its session, which no call before had closed, was closed with what was held.
 pub record WasEnded (ran : Ran) (held : BuffersView) (t : Traffic) (closed : SessionView) : Type 0
   where
-    pub only : AreOfOpen ran.steps
+    pub only : AllKeepOpen ran.steps
     pub agrees : Agrees held (got_to ran).history t
     pub closes : Closes held (got_to ran).history.session closed
 

@@ -6,6 +6,7 @@ ghost use Rattle.ddcmp_session.specs.Calls.{SessionStep};
 ghost use Rattle.ddcmp_session.specs.Connections.{AreDone};
 ghost use Rattle.ddcmp_session.specs.Devices.{BuffersView, Traffic, nothing_read};
 ghost use Rattle.ddcmp_session.specs.Finishing.{RunsToEnd};
+ghost use Rattle.ddcmp_pipe.specs.Connected.{IsKeptOverOneConnection};
 ghost use Rattle.ddcmp_pipe.specs.Connections.{first_connection};
 ghost use Rattle.ddcmp_pipe.specs.Endings.{FilesArrive, TookAll, WasFinished};
 ghost use Rattle.ddcmp_pipe.specs.Loops.{no_traffic};
@@ -36,8 +37,11 @@ pub fn finished_runs_write_all()
 
 /// Two such runs that end well, over an honest line in a clean run, with their messages in binary:
 /// the file that the one's input gave is what the other's output took, if no message came over a
-/// line before. Of runs in either form `runs_are_pipes` has the messages.
+/// line before. Over one connection no other premise is needed. Of runs in either form
+/// `runs_are_pipes` and `runs_over_connections` have the messages.
 pub fn files_arrive()
     ensures to_b { IsKeptByRuns (λ a b. FilesArrive a b) }
     ensures to_a { IsKeptByRuns (λ a b. FilesArrive b a) }
+    ensures connected_to_b { IsKeptOverOneConnection (λ a b. FilesArrive a b) }
+    ensures connected_to_a { IsKeptOverOneConnection (λ a b. FilesArrive b a) }
 {}

@@ -11,7 +11,7 @@ use std::io::Eprint;
 /// How much is read at once: a datagram has no more.
 const MOST: usize = 65536;
 
-/// What comes from a side, on its way to the other.
+/// Passes what comes from a side to the other.
 pub(crate) struct Way {
     direction: Direction,
     /// Bytes that came, of which `direction` has not taken those from `from` to `end` yet.

@@ -14,7 +14,7 @@ use Rattle.ddcmp_session.specs.Calls.{after_session_steps}
 use Rattle.ddcmp_session.specs.Connections.{Connection, Does, AreDone, after_all, after_step}
 use Rattle.ddcmp_session.specs.Devices.{Agrees, AreOfRun, Becomes, BuffersView, GoesOn}
 use Rattle.ddcmp_session.specs.Devices.{IsOfRun, Reports, Traffic}
-use Rattle.ddcmp_session.specs.Lines.{AreOfOpen, Closes, GoesOver, IsOfOpen, MayEndWell}
+use Rattle.ddcmp_session.specs.Lines.{AllKeepOpen, Closes, GoesOver, KeepsOpen, MayEndWell}
 use Rattle.ddcmp_session.specs.Lines.{ReportsOver, line_begun, none_received}
 use Rattle.ddcmp_session.specs.Timing.{PassesTime, after_failure, after_line}
 use Rattle.ddcmp_session.specs.declared.buffers.lines.Stop.TheVariants.{the_data, Device}
@@ -42,7 +42,7 @@ one-over Connected new c of does = absurd of
 one-over (LineEnded reported) new c of does = absurd of
 one-over (Closed left over reported) new c of does = absurd of
 
-one-open : (call : SessionCall) → IsOfRun call → IsOfOpen call
+one-open : (call : SessionCall) → IsOfRun call → KeepsOpen call
 one-open (Typed used) of = tt
 one-open InputEnded of = tt
 one-open (Received used) of = tt
@@ -56,7 +56,7 @@ one-open Connected of = tt
 one-open (LineEnded reported) of = tt
 one-open (Closed left over reported) of = absurd of
 
-all-open : (steps : List SessionStep) → AreOfRun steps → AreOfOpen steps
+all-open : (steps : List SessionStep) → AreOfRun steps → AllKeepOpen steps
 all-open [] of = tt
 all-open (step ∷ rest) of = (one-open step.call of.0, all-open rest of.1)
 
@@ -106,7 +106,7 @@ then-over [] ys c done more = (more, refl)
 then-over (x ∷ xs) ys c done more =
     let r = then-over xs ys (after_step x c) done.1 more in ((done.0, r.0), r.1)
 
-open-then : (xs ys : List SessionStep) → AreOfOpen xs → AreOfOpen ys → AreOfOpen (xs ++ ys)
+open-then : (xs ys : List SessionStep) → AllKeepOpen xs → AllKeepOpen ys → AllKeepOpen (xs ++ ys)
 open-then [] ys some more = more
 open-then (x ∷ xs) ys some more = (some.0, open-then xs ys some.1 more)
 

@@ -143,8 +143,8 @@ pub data Shown : Type 0 where
   Loses : (count : ℕ) → Shown
 
 -- A session, and what has been since it was made: the bytes of its line that it used, those that
--- its line took, the bytes of its input that it took, and whether it was told of its end, those that
--- its output took, and what it delivered and reported.
+-- its line took, the bytes of its input that it took, and whether it was told of its end, those
+-- that its output took, and what it delivered and reported.
 pub record SessionHistory : Type 0 where
   pub session : SessionView
   pub used : List ℕ

@@ -16,13 +16,13 @@ abbrev pub none_received : BuffersView → BuffersView
 none_received held = record held { received = []; down = None }
 
 -- a call after which the run goes on
-abbrev pub IsOfOpen : SessionCall → Type 0
-IsOfOpen (Closed left is_at_end is_reported) = ⊥
-IsOfOpen _ = ⊤
+abbrev pub KeepsOpen : SessionCall → Type 0
+KeepsOpen (Closed left is_at_end is_reported) = ⊥
+KeepsOpen _ = ⊤
 
-abbrev pub AreOfOpen : List SessionStep → Type 0
-AreOfOpen [] = ⊤
-AreOfOpen (step ∷ rest) = IsOfOpen step.call × AreOfOpen rest
+abbrev pub AllKeepOpen : List SessionStep → Type 0
+AllKeepOpen [] = ⊤
+AllKeepOpen (step ∷ rest) = KeepsOpen step.call × AllKeepOpen rest
 
 -- The history of a session went on to this one, over as many lines as it was connected on, without
 -- closing it, and agrees with its devices again.
@@ -30,7 +30,7 @@ pub record WentOver (c : Connection) (new : SessionView) (held : BuffersView) (t
     : Type 0 where
   pub steps : List SessionStep
   pub calls : AreDone steps c
-  pub only : AreOfOpen steps
+  pub only : AllKeepOpen steps
   pub session : (after_all steps c).history.session ≡ new
   pub agrees : Agrees held (after_all steps c).history t
 

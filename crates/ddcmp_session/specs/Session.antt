@@ -29,7 +29,8 @@ use Rattle.ddcmp_session.specs.Course.{after_entering}
 use Rattle.ddcmp_session.specs.Course.{try_counted, after_looked, after_notices}
 use Rattle.ddcmp_session.specs.Messages.{messages_begun, message_in, after_input}
 use Rattle.ddcmp_session.specs.Messages.{entries_of_input, after_last, entry_of_last}
-use Rattle.ddcmp_session.specs.Messages.{is_message_unfinished, is_question, count_of, messages_among}
+use Rattle.ddcmp_session.specs.Messages.{is_message_unfinished, is_question, count_of}
+use Rattle.ddcmp_session.specs.Messages.{messages_among}
 use Rattle.ddcmp_session.specs.declared.session.TheConstants.{OUTPUT_ROOM}
 use Rattle.ddcmp_io.specs.Queue.{QueueView, no_bytes}
 

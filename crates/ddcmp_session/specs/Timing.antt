@@ -1,5 +1,6 @@
 -- When the line of a session is left, until when it waits, and when a line is opened again.
-use Rattle.std.specs.Prelude.{◌≡◌, ◌⊎◌, ℕ, ◌-◌, ◌*◌, Bool, true, false, ◌&&◌, ◌||◌, not, ◌==◌, nat_le, nat_lt}
+use Rattle.std.specs.Prelude.{◌≡◌, ◌⊎◌, ℕ, ◌-◌, ◌*◌, Bool, true, false, ◌&&◌, ◌||◌, not, ◌==◌}
+use Rattle.std.specs.Prelude.{nat_le, nat_lt}
 use Rattle.std.specs.Prelude.{min, if◌then◌else◌, Option, None, Some}
 use Rattle.ddcmp_core.specs.Table.{is_running}
 use Rattle.ddcmp_station.specs.Driving.{later}

@@ -4,7 +4,8 @@ ghost use Rattle.ddcmp_session.specs.Course.{after_acknowledged, after_connectin
 ghost use Rattle.ddcmp_session.specs.Course.{after_looked};
 ghost use Rattle.ddcmp_session.specs.Course.{after_moment, after_noise, after_opening_failed};
 ghost use Rattle.ddcmp_session.specs.Course.{after_pause, after_progress, after_refusal};
-ghost use Rattle.ddcmp_session.specs.Course.{after_state, course_begun, has_received, is_at, lost_more};
+ghost use Rattle.ddcmp_session.specs.Course.{after_state, course_begun, has_received, is_at};
+ghost use Rattle.ddcmp_session.specs.Course.{lost_more};
 ghost use Rattle.ddcmp_session.specs.Course.{progress_of, refusal_between, reports_at, step_of};
 ghost use Rattle.ddcmp_session.specs.Course.{try_counted};
 

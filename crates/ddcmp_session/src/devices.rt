@@ -9,8 +9,8 @@ use ddcmp_io::cause::words_of;
 use std::fmt;
 use std::io::ErrorKind;
 
-/// The devices that a session runs over. Of these calls only `rest` and `wait` wait. A line that was
-/// opened is read and written until `close_line`.
+/// The devices that a session runs over. Of these calls only `rest` and `wait` wait. A line that
+/// was opened is read and written until `close_line`.
 pub trait Devices {
     ghost use Rattle.ddcmp_session.specs.Devices.{Traffic, Becomes, after_read, after_came};
     ghost use Rattle.std.specs.Prelude.{None};

@@ -124,8 +124,8 @@ pub(crate) fn write_lost(out: &mut ByteQueue, lost: u8)
     put(out, b"\n");
 }
 
-/// Writes why a line is left on which nothing gets on: the peer refuses messages for this reason, or
-/// doesn't answer.
+/// Writes why a line is left on which nothing gets on: the peer refuses messages for this reason,
+/// or doesn't answer.
 pub(crate) fn write_given_up(out: &mut ByteQueue, refusal: Option<Nak>) {
     let mut page = Page::new();
     match refusal {

@@ -151,8 +151,8 @@ impl Link {
         self.start()
     }
 
-    /// Does the same as `begin_anew`, but enters maintenance mode, where `offer_maintenance` takes the
-    /// place of `offer`.
+    /// Does the same as `begin_anew`, but enters maintenance mode, where `offer_maintenance` takes
+    /// the place of `offer`.
     pub fn begin_maintenance(&mut self) -> Result<u8, StartRefusal>
         ensures state { self.new ≡ anew_for_maintenance self.new.station.line self.old }
         ensures cleared { StandsFor self.new.station.line [] }

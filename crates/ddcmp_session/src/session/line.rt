@@ -21,8 +21,8 @@ impl Session {
     ghost use Rattle.ddcmp_session.specs.Text.{Wrote, notice_text, notices_text, reported_lost};
     ghost use Rattle.ddcmp_session.specs.declared.text.TheConstants.{LINE_ROOM};
 
-    /// Starts the station on a line that was opened, or has it enter maintenance mode. Returns false
-    /// if received messages weren't delivered before: `deliver` them, then call it again.
+    /// Starts the station on a line that was opened, or has it enter maintenance mode. Returns
+    /// false if received messages weren't delivered before: `deliver` them, then call it again.
     pub fn connected(&mut self) -> bool
         ensures state { self.new ≡ after_connected self.new.link.station.line self.old }
         ensures cleared { StandsFor self.new.link.station.line [] }

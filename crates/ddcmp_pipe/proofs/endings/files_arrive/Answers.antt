@@ -1,3 +1,4 @@
+use Rattle.ddcmp_pipe.proofs.ConnectionLaws.{once-all-a, once-all-b}
 use Rattle.ddcmp_pipe.proofs.Finished.{arrives}
 use Rattle.ddcmp_pipe.proofs.RunLaws.{all-to-a, all-to-b}
 use Rattle.ddcmp_pipe.proofs.endings.files_arrive.Goals as goal
@@ -9,3 +10,11 @@ returns-clause-to_b c = λ a b f g done_a done_b together.
 pub returns-clause-to_a : goal.returns-clause-to_a
 returns-clause-to_a c = λ a b f g done_a done_b together.
     arrives b a done_a (all-to-a a b f g done_a done_b together)
+
+pub returns-clause-connected_to_b : goal.returns-clause-connected_to_b
+returns-clause-connected_to_b c = λ a b f g done_a done_b once_a once_b streams.
+    arrives a b done_b (once-all-b a b f g done_a done_b once_a once_b streams)
+
+pub returns-clause-connected_to_a : goal.returns-clause-connected_to_a
+returns-clause-connected_to_a c = λ a b f g done_a done_b once_a once_b streams.
+    arrives b a done_a (once-all-a a b f g done_a done_b once_a once_b streams)
