@@ -6,8 +6,8 @@ use Rattle.ddcmp_service.specs.LineNames.{word_of}
 use Rattle.ddcmp_service.specs.declared.fault.ServiceFault.{ServiceFault}
 use Rattle.ddcmp_service.specs.declared.fault.ServiceFault.TheVariants as service
 use Rattle.ddcmp_service.specs.declared.line_name.LineName.{LineName}
-use Rattle.ddcmp_service.specs.declared.service.Served.{Served}
-use Rattle.ddcmp_service.specs.declared.service.Served.TheVariants as served
+use Rattle.ddcmp_session.specs.declared.link.Served.{Served}
+use Rattle.ddcmp_session.specs.declared.link.Served.TheVariants as served
 use Rattle.ddcmp_words.specs.declared.linked.Linked.{Linked}
 use Rattle.ddcmp_cli.specs.declared.fault.Fault.TheVariants.{Read, Write, Memory, Ended, Lost}
 use Rattle.ddcmp_cli.specs.declared.ending.Ending.{Ending}

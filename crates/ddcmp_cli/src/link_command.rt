@@ -57,7 +57,7 @@ pub trait Lines {
     ghost use Rattle.ddcmp_service.specs.LineNames.{word_of};
     ghost use Rattle.ddcmp_service.specs.declared.fault.ServiceFault.{ServiceFault as FaultValue};
     ghost use Rattle.ddcmp_service.specs.declared.fault.ServiceFault.TheVariants.{Write};
-    ghost use Rattle.ddcmp_service.specs.declared.service.Served.{Served as ServedValue};
+    ghost use Rattle.ddcmp_session.specs.declared.link.Served.{Served as ServedValue};
     ghost use Rattle.ddcmp_cli.specs.LinkEndings.{LinesKnown};
 
     // What is known of its lines.

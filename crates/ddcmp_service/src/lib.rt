@@ -23,8 +23,8 @@ mod waiting;
 
 pub use bridge::{BridgeEnd, BridgeFault, BridgeOptions, bridge_lines};
 pub use ddcmp_bridge::Counts;
-pub use ddcmp_session::{Form, Options};
+pub use ddcmp_session::{Form, Options, Served};
 pub use fault::{Attempt, Cause, NotOpened, ServiceFault};
 pub use line_name::LineName;
-pub use service::{Served, serve_link};
+pub use service::serve_link;
 pub use waiting::errors_take;

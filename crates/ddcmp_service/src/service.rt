@@ -8,22 +8,13 @@ use crate::live::{Live, Parts};
 use crate::system::System;
 use crate::waiting::Waiting;
 use ddcmp_io::{Sink, Source};
-use ddcmp_session::{Buffers, LineKind, Options, Session};
+use ddcmp_session::{LineKind, LinkFault, Options, Served, run_link};
 use ddcmp_station::Elapsed;
 use std::alloc::Global;
 use std::fs::{File, Files};
 use std::io::{Eprint, ErrorKind};
 use std::net::{self, Net};
 use std::time;
-
-/// How a service ended that no fault stopped.
-#[derive(Clone, Copy, Debug, PartialEq, Eq)]
-pub enum Served {
-    /// All of the input was delivered.
-    Delivered,
-    /// All was delivered of it that was a message.
-    SomeRefused,
-}
 
 /// Runs a link between a line and standard input and output, which `reader` and `writer` read and
 /// write, until all of the input is delivered, or the line ends.
@@ -63,7 +54,7 @@ fn ending_of<'a, W: Sink>(
     }
 }
 
-/// Takes all memory, and runs a link.
+/// Takes the devices of a link, and runs it over them.
 fn serve<S: System, R: Source, W: Sink>(
     system: &S,
     alloc: Global,
@@ -72,15 +63,9 @@ fn serve<S: System, R: Source, W: Sink>(
     reader: &mut R,
     writer: &mut W,
 ) -> Result<Served, Ended> {
-    let Ok(mut session) = Session::new(alloc, options, line.kind()) else {
-        return Err(Ended::Memory);
-    };
     let waiting = match Waiting::new(system, alloc) {
         Ok(waiting) => waiting,
         Err(error) => return Err(no_waiting(error.kind())),
-    };
-    let Ok(mut buffers) = Buffers::new(alloc) else {
-        return Err(Ended::Memory);
     };
     let parts = Parts {
         system,
@@ -97,16 +82,15 @@ fn serve<S: System, R: Source, W: Sink>(
     let Ok(mut devices) = Live::new(parts, alloc, datagrams) else {
         return Err(Ended::Memory);
     };
-    if let Ok(since_1970) = system.since_1970() {
-        session.began_at(u64::try_from(since_1970.as_millis()).unwrap_or(u64::MAX));
+    let began = match system.since_1970() {
+        Ok(since_1970) => u64::try_from(since_1970.as_millis()).ok(),
+        Err(_) => None,
+    };
+    match run_link(alloc, options, line.kind(), began, &mut devices) {
+        Ok(served) => Ok(served),
+        Err(LinkFault::Refused(_)) => Err(Ended::Memory),
+        Err(LinkFault::Stopped(stop)) => Err(Ended::Stopped(stop)),
     }
-    buffers
-        .run_to_end(&mut session, &mut devices)
-        .map_err(Ended::Stopped)?;
-    if session.was_refused() {
-        return Ok(Served::SomeRefused);
-    }
-    Ok(Served::Delivered)
 }
 
 /// Why it can't wait for several devices.

@@ -9,6 +9,7 @@ pub mod InputGoes
 pub mod LineGoes
 pub mod LinesGo
 pub mod InputLaws
+pub mod NewRunLaws
 pub mod NoticeLaws
 pub mod RestLaws
 pub mod TextLaws

@@ -6,6 +6,7 @@ pub mod Devices
 pub mod Finishing
 pub mod Lines
 pub mod Messages
+pub mod NewRun
 pub mod Session
 pub mod Text
 pub mod Timing

@@ -7,6 +7,7 @@ mod chunk;
 mod course;
 mod devices;
 mod errors;
+mod link;
 mod messages;
 mod options;
 mod report;
@@ -17,6 +18,7 @@ mod trace;
 
 pub use buffers::{Buffers, Stop, drain_errors, drain_output};
 pub use devices::{Devices, Down, Fault, Moved, Wanted};
+pub use link::{LinkFault, Served, run_link};
 pub use messages::Form;
 pub use options::{LineKind, Options};
 pub use session::{End, Session};

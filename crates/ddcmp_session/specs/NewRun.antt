@@ -1,0 +1,31 @@
+-- A new session, and its run over devices to its end.
+use Rattle.std.specs.Prelude.{Bool, [], Option, if◌then◌else◌}
+use Rattle.ddcmp_frame.specs.Reader.{ReaderView, StandsFor}
+use Rattle.ddcmp_session.specs.declared.devices.Fault.{Fault}
+use Rattle.ddcmp_session.specs.declared.link.Served.{Served}
+use Rattle.ddcmp_session.specs.declared.link.Served.TheVariants.{Delivered, SomeRefused}
+use Rattle.ddcmp_session.specs.declared.options.LineKind.{LineKind}
+use Rattle.ddcmp_session.specs.declared.options.Options.{Options}
+use Rattle.ddcmp_session.specs.Session.{SessionView, session_made}
+use Rattle.ddcmp_session.specs.Devices.{BuffersView, Traffic, nothing_read}
+use Rattle.ddcmp_session.specs.Finishing.{RunsToEnd}
+use Rattle.ddcmp_session.specs.Lines.{ReportsOver}
+
+-- how a run that ended well is reported: a part of the input may have been no message
+abbrev pub served_of : SessionView → Served
+served_of s = if s.was_refused then SomeRefused else Delivered
+
+-- A session was made with these options, and ran to its end: as the last.
+pub record RunsNew (is_well : Bool) (options : Options) (kind : LineKind) (before : Option Traffic)
+    (last : SessionView) (after : Option Traffic) : Type 0 where
+  pub line : ReaderView
+  pub clear : StandsFor line []
+  pub held : BuffersView
+  pub ends : RunsToEnd is_well nothing_read (session_made options kind line) before held last after
+
+-- If such a session is made, some device has reported this fault, over some line of its run.
+pub record ReportsNew (options : Options) (kind : LineKind) (before after : Option Traffic)
+    (fault : Fault) : Type 0 where
+  pub line : ReaderView
+  pub clear : StandsFor line []
+  pub reports : ReportsOver nothing_read (session_made options kind line) before after fault

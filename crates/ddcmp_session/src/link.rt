@@ -1,0 +1,99 @@
+//! A link, from its options to its end.
+ghost use Rattle.std.specs.Prelude.{◌≡◌, ◌≢◌, ◌<◌, Err, IfOk, Ok, ℕ, [], Some, false, true};
+ghost use Rattle.ddcmp_frame.specs.Reader.{StandsFor};
+ghost use Rattle.ddcmp_proto.specs.Config.{first_refusal};
+ghost use Rattle.ddcmp_proto.specs.declared.config.ConfigRefusal.{ConfigRefusal as Refusal};
+ghost use Rattle.ddcmp_session.specs.Session.{SessionView, session_made};
+ghost use Rattle.ddcmp_session.specs.NewRun.{ReportsNew, RunsNew, served_of};
+ghost use Rattle.ddcmp_session.specs.declared.devices.Fault.{Fault as FaultValue};
+ghost use Rattle.ddcmp_session.specs.declared.link.Served.{Served as ServedValue};
+
+use crate::buffers::{Buffers, Stop};
+use crate::devices::{Devices, Fault};
+use crate::options::{LineKind, Options};
+use crate::session::Session;
+use ddcmp_station::ConfigRefusal;
+use std::alloc::Global;
+
+/// How a link ended that nothing stopped.
+#[derive(Clone, Copy, Debug, PartialEq, Eq)]
+pub enum Served {
+    /// All of the input was delivered.
+    Delivered,
+    /// All was delivered of it that was a message.
+    SomeRefused,
+}
+
+/// Why a link ended before all was delivered.
+#[derive(Clone, Copy, Debug, PartialEq, Eq)]
+pub enum LinkFault<R> {
+    /// No session is made of its options, or an allocation failed.
+    Refused(ConfigRefusal),
+    /// Its run was stopped.
+    Stopped(Stop<R>),
+}
+
+/// Makes a session with these options, and runs it over these devices to its end: over one line of
+/// this kind after the other. Its moment 0 is `began` milliseconds after 1970, if that is known.
+pub fn run_link<D: Devices>(
+    alloc: Global,
+    options: Options,
+    kind: LineKind,
+    began: Option<u64>,
+    devices: &mut D,
+) -> Result<Served, LinkFault<D::Refusal>>
+    ensures refused { (refusal : Refusal) → first_refusal options.config ≡ Some refusal
+        → result ≡ Err (LinkFault.Refused refusal) }
+    ensures unused { (refusal : Refusal) → result ≡ Err (LinkFault.Refused refusal)
+        → D.traffic devices.new ≡ D.traffic devices.old }
+    ensures served { (served : ServedValue) → result ≡ Ok served → (last : SessionView)
+        × RunsNew true options kind (D.traffic devices.old) last (D.traffic devices.new)
+        × (last.course.lost ≡ 0)
+        × (served ≡ served_of last) }
+    ensures lost { (count : ℕ) → result ≡ Err (LinkFault.Stopped (Stop.Lost count))
+        → (last : SessionView)
+        × RunsNew false options kind (D.traffic devices.old) last (D.traffic devices.new)
+        × (count ≡ last.course.lost)
+        × (0 < count) }
+    ensures left { result ≡ Err (LinkFault.Stopped Stop.Left) → (last : SessionView)
+        × RunsNew false options kind (D.traffic devices.old) last (D.traffic devices.new)
+        × (last.course.has_run ≡ false) }
+    ensures reports { (fault : FaultValue) → fault ≢ Fault.Time
+        → result ≡ Err (LinkFault.Stopped (Stop.Device fault))
+        → ReportsNew options kind (D.traffic devices.old) (D.traffic devices.new) fault }
+{
+    let mut session = match new_session(alloc, options, kind, began) {
+        Ok(session) => session,
+        Err(refusal) => return Err(LinkFault::Refused(refusal)),
+    };
+    let Ok(mut buffers) = Buffers::new(alloc) else {
+        return Err(LinkFault::Refused(ConfigRefusal::Memory));
+    };
+    match buffers.run_to_end(&mut session, devices) {
+        Ok(()) if session.was_refused() => Ok(Served::SomeRefused),
+        Ok(()) => Ok(Served::Delivered),
+        Err(stop) => Err(LinkFault::Stopped(stop)),
+    }
+}
+
+/// Makes a session whose moment 0 is so many milliseconds after 1970, if that is known.
+fn new_session(
+    alloc: Global,
+    options: Options,
+    kind: LineKind,
+    began: Option<u64>,
+) -> Result<Session, ConfigRefusal>
+    ensures made { IfOk result (λ s. s ≡ session_made options kind s.link.station.line) }
+    ensures stands { IfOk result (λ s. StandsFor s.link.station.line []) }
+    ensures refused { (refusal : Refusal) → first_refusal options.config ≡ Some refusal
+        → result ≡ Err refusal }
+{
+    let mut session = match Session::new(alloc, options, kind) {
+        Ok(session) => session,
+        Err(refusal) => return Err(refusal),
+    };
+    if let Some(milliseconds) = began {
+        session.began_at(milliseconds);
+    }
+    Ok(session)
+}
