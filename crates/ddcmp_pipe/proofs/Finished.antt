@@ -16,7 +16,7 @@ use Rattle.ddcmp_session.specs.Connections.{AreDone}
 use Rattle.ddcmp_session.specs.Devices.{BuffersView, Traffic}
 use Rattle.ddcmp_session.specs.EndText.{end_text, queued}
 use Rattle.ddcmp_session.specs.Finishing.{WritesEnd, WritesEndIf, after_taken_by, taken_in}
-use Rattle.ddcmp_session.proofs.GoingLaws.{same-at}
+use Rattle.ddcmp_session.proofs.GoingLaws.{same-at, same-now}
 use Rattle.ddcmp_pipe.specs.Connections.{first_connection}
 use Rattle.ddcmp_pipe.specs.Pipe.{Made, session_of, undelivered}
 use Rattle.ddcmp_pipe.specs.Runs.{DeliversAll, Ran, got_to}
@@ -51,9 +51,6 @@ lines_in old new text none whole over =
     held : (b : Bool) → HoldsBy b (Some []) (Some old.waiting) [] []
     held true = (0, none)
     held false = ([], none, refl)
-
-same-now : {x y : Traffic} → Some x ≡ Some y → x ≡ y
-same-now e = cc
 
 ends_if : (b : Bool) (old new : SessionView) → WritesEndIf b old new
     → new ≡ record old { output = new.output }

@@ -23,7 +23,7 @@ use Rattle.ddcmp_session.specs.Lines.{Closes, Ends, ReportsOver}
 use Rattle.ddcmp_session.specs.Finishing.{AreDeliveries, Drains, Finishes, IsDrained, RunsToEnd}
 use Rattle.ddcmp_session.specs.Finishing.{after_taken_by, taken_in}
 use Rattle.ddcmp_session.specs.Text.{Wrote, mail_text}
-use Rattle.ddcmp_session.proofs.GoingLaws.{end-is, same-at}
+use Rattle.ddcmp_session.proofs.GoingLaws.{end-is, same-at, same-now}
 
 -- ---- nothing was delivered
 
@@ -70,6 +70,12 @@ drains-wait false becomes = drains-fault Input becomes
 
 -- ---- one call
 
+none-taken : (t : Traffic) → t ≡ after_taken_by [] [] t
+none-taken t = λ i. record t {
+  written = sym (append-nil t.written) i;
+  faults = sym (append-nil t.faults) i;
+}
+
 pub drains-delivered : {known : Option Traffic} (has : Bool) (old new : SessionView)
     → new.link ≡ cond has (after_taking old.link) old.link
     → (has ≡ true → (message : List ℕ)
@@ -82,14 +88,8 @@ unfolding taken_in
 drains-delivered true old new link wrote waits stays = record {
   steps = record { call = Delivered true; session = new } ∷ [];
   calls = (tt, record { link = link; wrote = wrote refl; stays = stays }, refl);
-  traffic = λ t is. ([], is ∙ ap (λ x. Some x) (same t));
+  traffic = λ t is. ([], is ∙ ap (λ x. Some x) (none-taken t));
 }
-  where
-    same : (t : Traffic) → t ≡ after_taken_by [] [] t
-    same t = λ i. record t {
-      written = sym (append-nil t.written) i;
-      faults = sym (append-nil t.faults) i;
-    }
 drains-delivered false old new link wrote waits stays = record {
   steps = record { call = Delivered false; session = new } ∷ [];
   calls = (
@@ -100,14 +100,8 @@ drains-delivered false old new link wrote waits stays = record {
     },
     refl,
   );
-  traffic = λ t is. ([], is ∙ ap (λ x. Some x) (same t));
+  traffic = λ t is. ([], is ∙ ap (λ x. Some x) (none-taken t));
 }
-  where
-    same : (t : Traffic) → t ≡ after_taken_by [] [] t
-    same t = λ i. record t {
-      written = sym (append-nil t.written) i;
-      faults = sym (append-nil t.faults) i;
-    }
 
 pub drains-took : {k k' : Option Traffic} (old new : SessionView) (n : ℕ) (bytes : List ℕ)
     → bytes ≡ old.output.waiting → Becomes k k' (after_written (Bytes n) bytes)
@@ -180,9 +174,6 @@ still-reported fault bytes faults t r = (
   r.1 ++ faults,
   ap (λ xs. xs ++ faults) r.2 ∙ append_assoc r.0 (fault ∷ r.1) faults,
 )
-
-same-now : {x y : Traffic} → Some x ≡ Some y → x ≡ y
-same-now e = cc
 
 -- Devices that were known have reported it, whatever the output took since.
 reported-then : {s s' : SessionView} {k k' : Option Traffic} {fault : Fault} (t now : Traffic)

@@ -304,7 +304,7 @@ pub waited : {held : BuffersView} {s : SessionView} {k k' : Option Traffic} (ok 
 waited true becomes = idles (λ t. t) becomes (λ t. refl)
 waited false becomes = faulted Input becomes
 
-same-now : {x y : Traffic} → Some x ≡ Some y → x ≡ y
+pub same-now : {x y : Traffic} → Some x ≡ Some y → x ≡ y
 same-now e = cc
 
 -- what was reported just now

@@ -300,7 +300,7 @@ fn exchanges_over_lines(rt: &(impl Abort + AllocGlobal), seed: u64) -> u64 {
     let Ok(mut buffers) = Buffers::new(rt.alloc()) else {
         panic!(rt; "no memory");
     };
-    let ended = buffers.run_lines(&mut own, &mut desk);
+    let ended = buffers.run_to_end(&mut own, &mut desk);
     let lost = own.lost();
     let expected_end = if lost == 0 {
         Ok(())
@@ -308,6 +308,7 @@ fn exchanges_over_lines(rt: &(impl Abort + AllocGlobal), seed: u64) -> u64 {
         Err(Stop::Lost(lost))
     };
     assert!(rt; ended == expected_end);
+    assert!(rt; own.to_output().is_empty());
     let Some(missing) = missing(expected.as_slice(), desk.peer_output.bytes.as_slice()) else {
         panic!(rt; "another message was written");
     };
