@@ -31,7 +31,7 @@ use Rattle.ddcmp_callers.proofs.TwoLinks.{AreSame, NoneOut, acknowledged_all, no
 
 -- ---- calls at one end
 
-unfoldable after_all_here : List StationCall → EndState → EndState
+unfoldable pub after_all_here : List StationCall → EndState → EndState
 after_all_here [] x = x
 after_all_here (c ∷ rest) x = after_all_here rest (after_station_call_here c x)
 
@@ -47,7 +47,7 @@ is-here Take x = refl
 is-here Arm x = refl
 is-here Ask x = refl
 
-all-here : (calls : List Call) (x : EndState)
+pub all-here : (calls : List Call) (x : EndState)
     → after_all_here (map station_call calls) x ≡ after_calls_here calls x
 unfolding after_all_here after_calls_here
 all-here [] x = refl
@@ -57,7 +57,7 @@ all-here (c ∷ calls) x =
 
 -- ---- each call of a link
 
-abbrev step_of : LinkCall → LinkView → LinkStep
+abbrev pub step_of : LinkCall → LinkView → LinkStep
 step_of call new = record { call = call; link = new }
 
 as-before : (call : LinkCall) (new : LinkView) (h : LinkHistory) (x : EndState)
@@ -84,7 +84,7 @@ begins-anew new h x e s = record {
   acknowledged = refl;
 }
 
-step-same : (call : LinkCall) (new : LinkView) (h : LinkHistory) (x : EndState)
+pub step-same : (call : LinkCall) (new : LinkView) (h : LinkHistory) (x : EndState)
     → Does call h.used h.link new → IsSameEnd x h
     → IsSameEnd (after_all_here (all_calls call h.link) x)
     (history_by call (step_of call new) h)
@@ -196,13 +196,13 @@ module _ (first second : Config) (ms other_ms : ℕ) (line other_line : ReaderVi
 -- ---- a link that restarts on a line that the other end hasn't heard
 
 -- how often an end with this inbox was started after it restarted
-abbrev starts_anew : EndState → List (List ℕ) → ℕ
+abbrev pub starts_anew : EndState → List (List ℕ) → ℕ
 starts_anew x inbox =
     let s = record (after_halt x.core.station) { inbox = inbox } in
     let n = if length inbox == 0 then 0 else 2 in
     if may_start s then count_plus n 1 else n
 
-once-anew : (x : EndState) → x.core.station.inbox ≡ [] → starts_anew x x.core.station.inbox ≡ 1
+pub once-anew : (x : EndState) → x.core.station.inbox ≡ [] → starts_anew x x.core.station.inbox ≡ 1
 once-anew x e = ap (starts_anew x) e ∙ omega arith
 
 pub again-a : (p : PairState) (d : LinkView) → p.a.core.station.inbox ≡ []

@@ -110,7 +110,7 @@ links_same p q e l = (
   link_armed p.b p.a (subst (λ (r : PairState). IsLink r.b r.a) (sym e) (armed_link q.b q.a l.1)),
 )
 
-abbrev Quiet : List Notice → Type 0
+abbrev pub Quiet : List Notice → Type 0
 Quiet notices = All (λ n. tells_restart n ≡ false) notices
 
 pub notices_same : (p q : PairState) (end : End) (bytes : List ℕ) → noted p ≡ noted q
@@ -161,7 +161,7 @@ no_restarts : (n : Notice) → tells_restart n ≡ false → restarts_by n ≡ 0
 no_restarts (notice.Restarted dropped) e = absurd (cc e)
 no_restarts n e = refl
 
-none_restart : (notices : List Notice) → Quiet notices → restarts_in notices ≡ 0
+pub none_restart : (notices : List Notice) → Quiet notices → restarts_in notices ≡ 0
 none_restart [] q = refl
 none_restart (n ∷ notices) q =
     let e = no_restarts n (All-head (λ n. tells_restart n ≡ false) n notices q) in
@@ -190,7 +190,7 @@ counted : (c : Call) (rest : List Call) (n : ℕ) → n + starts_in (c ∷ rest)
     → n + (starts_by c + starts_in rest) ≤ 1
 counted c rest n h = let e = sum_by-cons starts_by c rest in omega (arith, e, h)
 
-both_clean : (n m : ℕ) → n ≤ 1 → m ≤ 1 → (nat_le n 1 && nat_le m 1) ≡ true
+pub both_clean : (n m : ℕ) → n ≤ 1 → m ≤ 1 → (nat_le n 1 && nat_le m 1) ≡ true
 both_clean n m e f = grind (arith)
 
 clean_calls : (calls : List (End × Call)) (p q : PairState) → noted p ≡ noted q → IsRun q

@@ -66,7 +66,7 @@ use Rattle.ddcmp_callers.proofs.Acknowledged.{IsAcknowledged, AllAcknowledged, l
 -- ---- an end that has heard nothing
 
 -- It is linked with every end that begins.
-abbrev IsAlone : EndState → Type 0
+abbrev pub IsAlone : EndState → Type 0
 IsAlone x = good_frames x.core.limits.longest x.arrived ≡ [] → x.starts ≤ 1
     → (y : EndState) → IsFresh y → Linked x y
 
@@ -113,10 +113,10 @@ alone-event event.Clear x a = a
 
 -- ---- the invariant of two stations
 
-record Keeps (p : PairState) : Type 0 where
-  holds : Holds p
-  a : IsAlone p.a
-  b : IsAlone p.b
+pub record Keeps (p : PairState) : Type 0 where
+  pub holds : Holds p
+  pub a : IsAlone p.a
+  pub b : IsAlone p.b
 
 keeps-new : (first second : Config) → first_refusal first ≡ None → first_refusal second ≡ None
     → Keeps (new_pair first second)
@@ -376,10 +376,10 @@ same-by f e p q same = e p ∙ ap (λ r. noted (f r)) same ∙ sym (e q)
 -- ---- each call
 
 -- a pair that keeps the promise, and is this one but for Arm
-record Kept (p : PairState) : Type 0 where
-  pair : PairState
-  same : noted p ≡ noted pair
-  keeps : Keeps pair
+pub record Kept (p : PairState) : Type 0 where
+  pub pair : PairState
+  pub same : noted p ≡ noted pair
+  pub keeps : Keeps pair
 
 made : (end : End) (c : Call) (p : PairState) → Kept p → Kept (after_call end c p)
 made end c p k = record {
@@ -443,14 +443,14 @@ kept-call end (SendsMaintenance message) p k = record {
   keeps = keeps-sends end message k.pair k.keeps;
 }
 
-kept-run : (calls : List (End × StationCall)) (p : PairState) → Kept p
+pub kept-run : (calls : List (End × StationCall)) (p : PairState) → Kept p
     → Kept (run_station_calls calls p)
 unfolding run_station_calls
 kept-run [] p k = k
 kept-run (step ∷ rest) p k =
     kept-run rest (after_station_call step.0 step.1 p) (kept-call step.0 step.1 p k)
 
-kept-calls : (first second : Config) (calls : List (End × StationCall))
+pub kept-calls : (first second : Config) (calls : List (End × StationCall))
     → first_refusal first ≡ None → first_refusal second ≡ None
     → Kept (run_station_calls calls (new_pair first second))
 kept-calls first second calls f g =

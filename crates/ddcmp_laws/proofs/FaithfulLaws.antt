@@ -252,12 +252,12 @@ polled_writable l s sent Idle e h all = subst AllWritable (sym (append-nil sent)
 polled_writable l s sent (Sends f u) e h all =
     writable_more sent (whole_frame f) all (writable_sent l s u f h e)
 
-abbrev ComesWell : Event → EndState → Type 0
+abbrev pub ComesWell : Event → EndState → Type 0
 ComesWell (event.Arrive e bytes) x =
     AllReceivable x.core.limits (items_added x.core.limits.longest x.arrived bytes)
 ComesWell e x = Unit {0}
 
-well_event : (e : Event) (x : EndState) → ComesWell e x → IsWell x → IsWell (after_event_here e x)
+pub well_event : (e : Event) (x : EndState) → ComesWell e x → IsWell x → IsWell (after_event_here e x)
 well_event (event.Start e) x c h =
     record {
       sound = started_sound x.core.limits x.core.station (may_start x.core.station)

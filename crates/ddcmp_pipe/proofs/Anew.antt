@@ -63,11 +63,11 @@ abbrev AreCalm : List LinkStep → Type 0
 AreCalm [] = Unit {0}
 AreCalm (x ∷ xs) = IsCalm x.call × AreCalm xs
 
-abbrev AreDone : List LinkStep → LinkHistory → Type 0
+abbrev pub AreDone : List LinkStep → LinkHistory → Type 0
 AreDone [] l = Unit {0}
 AreDone (x ∷ xs) l = restarts.Does x.call l.used l.link x.link × AreDone xs (history_by x.call x l)
 
-unfoldable after_done : List LinkStep → LinkHistory → LinkHistory
+unfoldable pub after_done : List LinkStep → LinkHistory → LinkHistory
 after_done [] l = l
 after_done (x ∷ xs) l = after_done xs (history_by x.call x l)
 
@@ -163,7 +163,7 @@ shift (s ∷ xs) d u g a x t y j k h =
 -- ---- one session
 
 -- the history of its link since it was connected
-abbrev since : Made → Connection → ℕ → LinkHistory
+abbrev pub since : Made → Connection → ℕ → LinkHistory
 since made c k =
     parts c.history.session.link c.history.used c.history.gone (read_since made c)
     (delivered_since c) k
@@ -177,7 +177,7 @@ pub record Stays (made : Made) (c : Connection) : Type 0 where
   pub delivered : mail_in c.history.shown ≡ mail_in c.shown_before ++ delivered_since c
 
 -- a call of a session leads its link from one history since it was connected to the next
-abbrev Follows : Made → List LinkStep → Connection → ℕ → Connection → Type 0
+abbrev pub Follows : Made → List LinkStep → Connection → ℕ → Connection → Type 0
 Follows made xs c k next =
     AreDone xs (since made c k)
     × ((m : ℕ) × (after_done xs (since made c k) ≡ since made next m))
@@ -281,7 +281,7 @@ begins_anew made new c k is stays =
       },
     )
 
-follows : (made : Made) (one : SessionStep) (c : Connection) (k : ℕ)
+pub follows : (made : Made) (one : SessionStep) (c : Connection) (k : ℕ)
     → Does one.call c.history.used c.history.session one.session → Stays made c
     → Follows made (link_steps_of one.call c.history.session one.session.link) c k
     (after_step one c)
@@ -357,7 +357,7 @@ then_b (x ∷ xs) rest q h more =
 
 -- ---- two sessions
 
-abbrev both : Made → Made → Connections → ℕ → ℕ → Links
+abbrev pub both : Made → Made → Connections → ℕ → ℕ → Links
 both first second p j k = record { a = since first p.a j; b = since second p.b k }
 
 abbrev Keeps : Made → Made → List (End × SessionStep) → Connections → ℕ → ℕ → Type 0
@@ -436,7 +436,7 @@ keeps_steps first second (step ∷ rest) p j k does sa sb =
 
 -- ---- its output
 
-pub writes_anew : (made : Made) (c : Connection) → Stays made c → WritesAnew made c
+writes_anew : (made : Made) (c : Connection) → Stays made c → WritesAnew made c
 writes_anew made c s is =
     s.holds.text
     ∙ ap (λ f. texts_of f c.history.shown) is
@@ -454,7 +454,7 @@ stays_first made = record {
 }
 
 -- whatever was done, the output is the text of what was delivered and reported
-pub stays_all : (made : Made) (steps : List SessionStep) (c : Connection)
+stays_all : (made : Made) (steps : List SessionStep) (c : Connection)
     → connections.AreDone steps c → Stays made c → Stays made (after_all steps c)
 unfolding after_all
 stays_all made [] c does stays = stays
@@ -470,7 +470,7 @@ pub text_of_all : (made : Made) (steps : List SessionStep)
 text_of_all made steps does =
     (stays_all made steps (first_connection made) does (stays_first made)).holds.text
 
-since_first : (made : Made)
+pub since_first : (made : Made)
     → links.new_history made.options.config made.options.timer_ms made.line
     ≡ since made (first_connection made) 0
 since_first made =

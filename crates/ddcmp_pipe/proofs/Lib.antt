@@ -6,6 +6,12 @@ pub mod Given
 pub mod Histories
 pub mod Holding
 pub mod Inputs
+pub mod LastAtA
+pub mod LastAtB
+pub mod LastCalls
+pub mod LastConnection
+pub mod LastRuns
+pub mod LastSteps
 pub mod Limits
 pub mod LinkSteps
 pub mod Losing

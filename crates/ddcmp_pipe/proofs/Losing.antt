@@ -130,7 +130,7 @@ items-halted (x ∷ rest) k halted =
     ap (λ st. on_by st k.limits k.station (received_of x)) halted in
     items-halted rest (after_item x k) (ap (λ (s : StationState). s.state) same ∙ halted) ∙ same
 
-pub frame-halted : (d : LinkView) → d.station.core.station.state ≡ Halted
+frame-halted : (d : LinkView) → d.station.core.station.state ≡ Halted
     → (after_frame d).station.core.station ≡ d.station.core.station
 unfolding next
 frame-halted d halted = by (polls d)
@@ -225,7 +225,7 @@ input-halted s halted =
 pub none-of : (a n : ℕ) → total_plus a n ≡ 0 → (a ≡ 0) × (n ≡ 0)
 none-of a n e = (omega (arith, e), omega (arith, e))
 
-none-out : (xs : List (List ℕ)) → length xs ≡ 0 → xs ≡ []
+pub none-out : (xs : List (List ℕ)) → length xs ≡ 0 → xs ≡ []
 none-out [] e = refl
 none-out (x ∷ xs) e = cc
 

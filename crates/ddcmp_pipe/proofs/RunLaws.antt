@@ -38,7 +38,7 @@ use Rattle.ddcmp_pipe.proofs.OverLines.{agrees_first}
 
 -- ---- calls in an order
 
-abbrev pub Ordered : List (End × SessionStep) → Connections → Type 0
+abbrev Ordered : List (End × SessionStep) → Connections → Type 0
 Ordered steps p =
     AreCalls steps p
     × (after_steps steps p
@@ -132,7 +132,7 @@ all-read (step ∷ rest) c does of was =
 -- ---- what an input gave since
 
 -- what was delivered begins what was given
-pub delivers_first : (giver taker : Ran) → PipesAnew giver.made (got_to giver) (got_to taker)
+delivers_first : (giver taker : Ran) → PipesAnew giver.made (got_to giver) (got_to taker)
     → Stays giver.made (got_to giver) → DeliversFirst giver taker
 delivers_first giver taker pipes stays held t agrees =
     let f = giver.made.options.form in
@@ -154,7 +154,7 @@ delivers_first giver taker pipes stays held t agrees =
     )
 
 -- and is all of it, if the run was ended and lost nothing
-pub delivers_all : (giver taker : Ran) → PipesClosedAnew giver.made (got_to giver) (got_to taker)
+delivers_all : (giver taker : Ran) → PipesClosedAnew giver.made (got_to giver) (got_to taker)
     → Stays giver.made (got_to giver) → AreDone giver.steps (first_connection giver.made)
     → DeliversAll giver taker
 delivers_all giver taker whole stays does held t closed ended none =
@@ -193,7 +193,7 @@ unfolding in_binary
 written_is taker is none writes =
     writes is ∙ ap (λ ms. in_binary ms ++ in_binary (delivered_since (got_to taker))) none
 
-pub files_begin : (giver taker : Ran) → DeliversFirst giver taker
+files_begin : (giver taker : Ran) → DeliversFirst giver taker
     → WritesAnew taker.made (got_to taker) → FilesBegin giver taker
 files_begin giver taker delivers writes files messages fit held other_held t other_t a b begins =
     let max = giver.made.options.config.max in
@@ -216,7 +216,7 @@ files_begin giver taker delivers writes files messages fit held other_held t oth
           ∙ ap in_binary all,
     )
 
-pub files_pass : (giver taker : Ran) → DeliversAll giver taker
+files_pass : (giver taker : Ran) → DeliversAll giver taker
     → WritesAnew taker.made (got_to taker) → FilesPass giver taker
 files_pass giver taker delivers writes files messages fit held other_held t other_t closed ended b
     none file no_mail still =

@@ -8,3 +8,4 @@ pub mod AnewStory
 pub mod Runs
 pub mod Connected
 pub mod Endings
+pub mod LastConnection

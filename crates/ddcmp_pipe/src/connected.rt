@@ -7,6 +7,7 @@ ghost use Rattle.ddcmp_session.specs.Connections.{AreDone};
 ghost use Rattle.ddcmp_pipe.specs.Connected.{AreTwoRuns, BinaryIsInFiles, IsConnectedOnce};
 ghost use Rattle.ddcmp_pipe.specs.Connected.{IsKeptOverOneConnection, IsOneHistory};
 ghost use Rattle.ddcmp_pipe.specs.Connections.{first_connection};
+ghost use Rattle.ddcmp_pipe.specs.LastConnection.{IsKeptOverLastConnection};
 ghost use Rattle.ddcmp_pipe.specs.Pipe.{AreConnectedOnce, Made, SessionsOverStreams, new_sessions};
 ghost use Rattle.ddcmp_pipe.specs.Runs.{DeliversAll, DeliversFirst, FilesBegin, FilesPass, Ran};
 
@@ -43,4 +44,18 @@ pub fn runs_over_connections()
     ensures files_to_a { IsKeptOverOneConnection (λ a b. FilesBegin b a) }
     ensures whole_to_b { IsKeptOverOneConnection (λ a b. FilesPass a b) }
     ensures whole_to_a { IsKeptOverOneConnection (λ a b. FilesPass b a) }
+{}
+
+/// Two runs, connected as often as their users like, if `connected` returned true when each was
+/// connected last: the same holds of the last connection, if since both were connected, after each
+/// call, what each has used of its line is a beginning of what the line of the other has taken.
+pub fn runs_over_the_last_connection()
+    ensures to_b { IsKeptOverLastConnection (λ a b. DeliversFirst a b) }
+    ensures to_a { IsKeptOverLastConnection (λ a b. DeliversFirst b a) }
+    ensures all_to_b { IsKeptOverLastConnection (λ a b. DeliversAll a b) }
+    ensures all_to_a { IsKeptOverLastConnection (λ a b. DeliversAll b a) }
+    ensures files_to_b { IsKeptOverLastConnection (λ a b. FilesBegin a b) }
+    ensures files_to_a { IsKeptOverLastConnection (λ a b. FilesBegin b a) }
+    ensures whole_to_b { IsKeptOverLastConnection (λ a b. FilesPass a b) }
+    ensures whole_to_a { IsKeptOverLastConnection (λ a b. FilesPass b a) }
 {}
