@@ -9,6 +9,7 @@ ghost use Rattle.ddcmp_session.specs.Finishing.{RunsToEnd};
 ghost use Rattle.ddcmp_pipe.specs.Connected.{IsKeptOverOneConnection};
 ghost use Rattle.ddcmp_pipe.specs.Connections.{first_connection};
 ghost use Rattle.ddcmp_pipe.specs.Endings.{FilesArrive, TookAll, WasFinished};
+ghost use Rattle.ddcmp_pipe.specs.LastConnection.{IsKeptOverLastConnection};
 ghost use Rattle.ddcmp_pipe.specs.Loops.{no_traffic};
 ghost use Rattle.ddcmp_pipe.specs.Pipe.{Made, session_of};
 ghost use Rattle.ddcmp_pipe.specs.Runs.{IsKeptByRuns, Ran};
@@ -37,11 +38,13 @@ pub fn finished_runs_write_all()
 
 /// Two such runs that end well, over an honest line in a clean run, with their messages in binary:
 /// the file that the one's input gave is what the other's output took, if no message came over a
-/// line before. Over one connection no other premise is needed. Of runs in either form
-/// `runs_are_pipes` and `runs_over_connections` have the messages.
+/// line before; over one connection, or the last one, it needs no premise of frames. Of runs in
+/// either form `runs_are_pipes` and `runs_over_connections` have the messages.
 pub fn files_arrive()
     ensures to_b { IsKeptByRuns (λ a b. FilesArrive a b) }
     ensures to_a { IsKeptByRuns (λ a b. FilesArrive b a) }
     ensures connected_to_b { IsKeptOverOneConnection (λ a b. FilesArrive a b) }
     ensures connected_to_a { IsKeptOverOneConnection (λ a b. FilesArrive b a) }
+    ensures last_to_b { IsKeptOverLastConnection (λ a b. FilesArrive a b) }
+    ensures last_to_a { IsKeptOverLastConnection (λ a b. FilesArrive b a) }
 {}

@@ -1,5 +1,6 @@
 use Rattle.ddcmp_pipe.proofs.ConnectionLaws.{once-all-a, once-all-b}
 use Rattle.ddcmp_pipe.proofs.Finished.{arrives}
+use Rattle.ddcmp_pipe.proofs.LastRuns.{runs-together}
 use Rattle.ddcmp_pipe.proofs.RunLaws.{all-to-a, all-to-b}
 use Rattle.ddcmp_pipe.proofs.endings.files_arrive.Goals as goal
 
@@ -18,3 +19,13 @@ returns-clause-connected_to_b c = λ a b f g done_a done_b once_a once_b streams
 pub returns-clause-connected_to_a : goal.returns-clause-connected_to_a
 returns-clause-connected_to_a c = λ a b f g done_a done_b once_a once_b streams.
     arrives b a done_a (once-all-a a b f g done_a done_b once_a once_b streams)
+
+pub returns-clause-last_to_b : goal.returns-clause-last_to_b
+returns-clause-last_to_b c = λ a b f g done_a done_b ready_a ready_b ran.
+    arrives a b done_b
+    (all-to-b a b f g done_a done_b (runs-together a b f g done_a done_b ready_a ready_b ran))
+
+pub returns-clause-last_to_a : goal.returns-clause-last_to_a
+returns-clause-last_to_a c = λ a b f g done_a done_b ready_a ready_b ran.
+    arrives b a done_a
+    (all-to-a a b f g done_a done_b (runs-together a b f g done_a done_b ready_a ready_b ran))
