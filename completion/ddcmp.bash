@@ -16,7 +16,7 @@ _ddcmp() {
     help:help) words='explain simulate pair station tap link bridge' ;;
     explain:--max) ;;
     explain:--from) words='hexdump xxd od text auto' ;;
-    explain:*) words='--raw --from --json --discarded --max -h --help' files=yes ;;
+    explain:*) words='--raw --from --json --discarded --ladder --max -h --help' files=yes ;;
     simulate:--window | simulate:--inbox | simulate:--max | simulate:--syn) ;;
     simulate:*) words='--window --inbox --max --syn --restart --svg --ladder --counters -h --help' files=yes ;;
     pair:--window | pair:--inbox | pair:--max | pair:--syn) ;;

@@ -461,11 +461,19 @@ def the_example():
 
 
 def the_example_of_saving():
-    """Those over a bridge that saves what comes: what came back is explained."""
+    """Those over a bridge that saves what comes: what came back is explained, and both are drawn, each ACK after its data."""
     mails, run = played("--save-first")
     said = run.stdout.decode()
     if mails != ["1000", "1001", "1002", "1003"] or [it in said for it in ("STRT", "num=4 addr=1 1003")] != [True, True]:
         wrong(f"the example: {mails}, {said}, {run.stderr.decode()[-500:]}")
+    drawn, acks = [it for it in said.splitlines() if it.startswith("|")], []
+    for at, line in enumerate(drawn):
+        for number in re.findall("ACK resp=([1-9])", line):
+            acks.append(number)
+            if not any(f" DATA {number} " in it for it in drawn[:at]):
+                wrong(f"the example: {line} comes before its data: {said}")
+    if not drawn or acks[-1:] != ["4"]:
+        wrong(f"the example: acknowledgements {acks}: {said}")
 
 
 def ends_of_a_bridge():

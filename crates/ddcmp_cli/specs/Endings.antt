@@ -1,4 +1,5 @@
 -- How the program ends.
+use Rattle.std.specs.Prelude.{if◌then◌else◌, ◌||◌, is_some}
 use Rattle.std.specs.Prelude.{⊤, ◌↔◌, IsTrue, is_none, ◌&&◌, length, ◌<◌, None, codes, string_bytes}
 use Rattle.std.specs.Prelude.{Bool, true, false, ◌≡◌, ◌≢◌, ◌⊎◌, ◌≤◌, ℕ, List, [], Option, Some}
 use Rattle.std.specs.Prelude.{Result, Ok, Err}
@@ -25,6 +26,7 @@ use Rattle.ddcmp_station.specs.Config.{first_refusal}
 use Rattle.ddcmp_cli.specs.declared.ending.Ending.{Ending}
 use Rattle.ddcmp_cli.specs.declared.ending.Ending.TheVariants.{Done, SomeRefused, NoLine}
 use Rattle.ddcmp_cli.specs.declared.ending.Ending.TheVariants.{Usage as Misused, NotText, Unopened}
+use Rattle.ddcmp_cli.specs.declared.ending.Ending.TheVariants.{Unread}
 use Rattle.ddcmp_cli.specs.declared.ending.Ending.TheVariants.{Fault as Faulted}
 use Rattle.std.specs.Borrow.{Bor}
 use Rattle.ddcmp_explain.specs.declared.form.Form.{Form}
@@ -137,6 +139,7 @@ status_of (NoLine why) = 3
 status_of (Misused text) = 2
 status_of NotText = 2
 status_of (Unopened name why) = 3
+status_of (Unread name fault) = fault_status fault
 status_of (Faulted fault) = fault_status fault
 
 abbrev pub ending_of : {F : Type 0} → (F → Fault) → Result (Unit {0}) F → Ending
@@ -151,6 +154,7 @@ is_refusal (NoLine why) = false
 is_refusal (Misused text) = true
 is_refusal NotText = false
 is_refusal (Unopened name why) = false
+is_refusal (Unread name fault) = false
 is_refusal (Faulted Odd) = false
 is_refusal (Faulted (NotHex index)) = false
 is_refusal (Faulted (Dump line)) = false
@@ -216,6 +220,7 @@ IsUnopened name (NoLine why) = ⊥
 IsUnopened name (Misused text) = ⊥
 IsUnopened name NotText = ⊥
 IsUnopened name (Unopened told why) = string_bytes told ≡ name
+IsUnopened name (Unread told fault) = ⊥
 IsUnopened name (Faulted fault) = ⊥
 
 -- What became of a file: it can't be opened, or there was no memory to tell so, and nothing was
@@ -237,6 +242,10 @@ ExplainsFrom held (Some name) e s ending =
     (s.left ≡ Some s.input)
     × ReadsFile name.now (held name.now) (ExplainsInput e) s.before s.after ending
 
+abbrev pub is_json : Notation → Bool
+is_json Plain = false
+is_json Json = true
+
 -- whether the word for what the input comes from is none that is known, or stands beside bytes as
 -- they are
 abbrev pub is_misused : Form → Option (Bor (List ℕ)) → Bool
@@ -250,11 +259,38 @@ abbrev pub UnlessMisused : Bool → (Ending → Type 0) → (Ending → Type 0) 
 UnlessMisused true Refused Explained ending = (is_refusal ending ≡ true) × Refused ending
 UnlessMisused false Refused Explained ending = Explained ending
 
+-- a ladder is of two files, and two files are for a ladder, which isn't in JSON
+abbrev pub is_ladder_misused : Explained → Bool
+is_ladder_misused e =
+    if e.ladder then is_none e.file || (is_none e.second || is_json e.style.notation)
+    else is_some e.second
+
+-- the ending reports that the file of this name met a fault
+abbrev pub IsUnread : List ℕ → Ending → Type 0
+IsUnread name (Unread told fault) = string_bytes told ≡ name
+IsUnread name _ = ⊥
+
+-- Two files were drawn, or one of them met a fault and is named: of what is written this says
+-- nothing. Nothing is if one can't be opened.
+abbrev pub DrawsFiles : List ℕ → List ℕ → Known → Known → Ending → Type 0
+DrawsFiles first second before after ending =
+    ((IsUnopened first ending ⊎ IsUnopened second ending) × Keeps before after)
+    ⊎ ((ending ≡ Done) ⊎ (ending ≡ Faulted Write) ⊎ (ending ≡ Faulted NoMemory)
+    ⊎ IsUnread first ending ⊎ IsUnread second ending)
+
+-- two files were drawn, and standard input wasn't read, or one input was explained
+abbrev pub ExplainsOrDraws : (List ℕ → Known) → Option (Bor (List ℕ)) → Option (Bor (List ℕ))
+    → Explained → Streams → Ending → Type 0
+ExplainsOrDraws held file None e s ending = ExplainsFrom held file e s ending
+ExplainsOrDraws held None (Some second) e s ending = ExplainsFrom held None e s ending
+ExplainsOrDraws held (Some first) (Some second) e s ending =
+    (s.left ≡ Some s.input) × DrawsFiles first.now second.now s.before s.after ending
+
 -- `explain` with its options
 abbrev pub ExplainsAsked : (List ℕ → Known) → Explained → Streams → Ending → Type 0
 ExplainsAsked held e s ending =
-    UnlessMisused (is_misused e.form e.from) (λ ended. Untouched s)
-    (λ ended. ExplainsFrom held e.file e s ended) ending
+    UnlessMisused (is_misused e.form e.from || is_ladder_misused e) (λ ended. Untouched s)
+    (λ ended. ExplainsOrDraws held e.file e.second e s ended) ending
 
 -- what the words name was explained with the options that they give, or there was no memory for
 -- the words
@@ -287,6 +323,7 @@ shown_of (NoLine why) = None
 shown_of (Misused text) = Some (string_bytes text)
 shown_of NotText = Some (codes "ddcmp: a word is not text\n")
 shown_of (Unopened name why) = None
+shown_of (Unread name fault) = None
 shown_of (Faulted fault) = None
 
 abbrev pub CanRun : Command → Type 0
@@ -426,10 +463,6 @@ StationsOrNoMemory peers words old new ending =
     ((ending ≡ Faulted NoMemory) × Keeps old new)
     ⊎ ((served : Served) × HasStation (option_in words) (text_in words) served
     × Stations peers served old new ending)
-
-abbrev pub is_json : Notation → Bool
-is_json Plain = false
-is_json Json = true
 
 -- some pieces of what both sides said were reported, below the head of a ladder, and the ending
 -- reports the result

@@ -23,6 +23,8 @@ pub enum Ending {
     NotText,
     /// The file of this name can't be opened, for this reason.
     Unopened(String, ErrorKind),
+    /// Of two files that are read, that of this name met a fault.
+    Unread(String, Fault),
     /// A command met a fault.
     Fault(Fault),
 }
@@ -38,7 +40,7 @@ impl Ending {
             Ending::SomeRefused => 1,
             Ending::Usage(_) | Ending::NotText => 2,
             Ending::Unopened(_, _) | Ending::NoLine(_) => 3,
-            Ending::Fault(fault) => match fault {
+            Ending::Fault(fault) | Ending::Unread(_, fault) => match fault {
                 Fault::Odd
                 | Fault::NotHex(_)
                 | Fault::Dump(_)
@@ -76,6 +78,19 @@ fn tell_unopened<W: fmt::Write>(
     f.write_str("\n")
 }
 
+/// Writes the line for a file that met a fault.
+fn tell_unread<W: fmt::Write>(
+    f: &mut fmt::Formatter<W>,
+    name: &String,
+    fault: &Fault,
+) -> fmt::Result {
+    f.write_str("ddcmp: ")?;
+    f.write_str(name.as_str())?;
+    f.write_str(": ")?;
+    fault.fmt(f)?;
+    f.write_str("\n")
+}
+
 /// The text for standard error.
 impl Display for Ending {
     ghost output = { shown_of };
@@ -87,6 +102,7 @@ impl Display for Ending {
             Ending::Usage(text) => f.write_str(text.as_str()),
             Ending::NotText => f.write_str("ddcmp: a word is not text\n"),
             Ending::Unopened(name, why) => tell_unopened(f, name, *why),
+            Ending::Unread(name, fault) => tell_unread(f, name, fault),
             Ending::Fault(fault) => tell(f, fault),
         }
     }

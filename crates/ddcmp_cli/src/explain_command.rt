@@ -1,10 +1,11 @@
-//! `explain`: standard input, or a file.
+//! `explain`: standard input, or a file; or two files as a ladder.
 ghost use Rattle.std.specs.Prelude.{◌≡◌, ◌≢◌, ◌⊎◌, ◌↔◌, ◌≤◌, false, true, IsTrue, List, ℕ, None};
-ghost use Rattle.std.specs.Prelude.{Some};
+ghost use Rattle.std.specs.Prelude.{Some, is_some};
 ghost use Rattle.ddcmp_core.specs.Limits.{MAX_COUNT};
 ghost use Rattle.ddcmp_io.specs.Change.{source_change};
 ghost use Rattle.ddcmp_io.specs.Input.{GaveMost};
-ghost use Rattle.ddcmp_cli.specs.Endings.{ExplainsAsked, ExplainsInput, ExplainsTo, ReadsFile};
+ghost use Rattle.ddcmp_cli.specs.Endings.{ExplainsAsked, ExplainsFrom, ExplainsInput, ExplainsTo};
+ghost use Rattle.ddcmp_cli.specs.Endings.{ReadsFile, is_ladder_misused};
 ghost use Rattle.ddcmp_cli.specs.Endings.{TellsDevices, streams};
 ghost use Rattle.std.specs.Option.{option_map};
 ghost use Rattle.ddcmp_cli.specs.Endings.{is_misused as is_misused_by};
@@ -12,7 +13,9 @@ ghost use Rattle.ddcmp_cli.specs.Endings.{is_misused as is_misused_by};
 use crate::ending::Ending;
 use crate::fault::Fault;
 use crate::inputs::{Inputs, unopened};
+use crate::ladder_command::draw_files;
 use crate::origin::{Origin, named, origin_of};
+use crate::tap_command::{TWO_NOTATIONS, is_json};
 use crate::usage::usage;
 use ddcmp_explain::{Form, explain_detected, explain_dump, explain_with};
 use ddcmp_io::{Sink, Source, Worst};
@@ -24,6 +27,12 @@ const TWO_FORMS: &str = "'--raw' and '--from' can't be used together";
 
 /// The usage error for another value of `--from`.
 const NO_ORIGIN: &str = "'--from' is hexdump, xxd, od, text or auto";
+
+/// The usage error for `--ladder` without two files.
+const NO_PAIR: &str = "'--ladder' draws two files, FILE and SECOND";
+
+/// The usage error for two files without `--ladder`.
+const NO_LADDER: &str = "SECOND is for '--ladder'";
 
 /// What is typed at a terminal.
 fn typed(explained: &Explained<'_>) -> &'static str {
@@ -116,6 +125,38 @@ fn explain_file<I: Inputs, W: Sink>(
     }
 }
 
+/// Explains a file, or standard input if none is named; for a terminal standard error has what is
+/// read.
+fn explain_one<I: Inputs, R: Source, W: Sink>(
+    inputs: &I,
+    alloc: Global,
+    explained: &Explained<'_>,
+    reader: &mut R,
+    writer: &mut W,
+) -> Ending
+    requires fine { R.state reader.old ≡ Worst.Fine }
+    requires whole { W.broken writer.old ≡ false }
+    requires max { (1 ≤ explained.now.max) × (explained.now.max ≤ MAX_COUNT) }
+    ensures explains { (input : List ℕ) → R.left reader.old ≡ Some input
+        → ExplainsFrom (I.held inputs.now) explained.now.file explained.now (streams input
+        (R.left reader.new) (W.contents writer.old) (W.contents writer.new)) result }
+    ensures read { R.state reader.new ≢ Worst.Fine → result ≡ Ending.Fault Fault.Read }
+    ensures read_only { option_map (λ name. name.now) explained.now.file ≡ None
+        → result ≡ Ending.Fault Fault.Read → (R.state reader.new ≢ Worst.Fine)
+        ⊎ GaveMost (R.left reader.old) (R.left reader.new) }
+    ensures write { (result ≡ Ending.Fault Fault.Write) ↔ IsTrue (W.broken writer.new) }
+    ensures untouched { option_map (λ name. name.now) explained.now.file ≢ None
+        → reader.new ≡ reader.old }
+{
+    match explained.file {
+        None => {
+            inputs.await_typing(typed(explained));
+            explain_source(alloc, explained, reader, writer)
+        }
+        Some(name) => explain_file(inputs, alloc, name, explained, writer),
+    }
+}
+
 /// Whether the word for what the input comes from is none that is known, or stands beside bytes as
 /// they are.
 fn is_misused(form: Form, from: Option<&str>) -> bool
@@ -138,8 +179,24 @@ fn misuse(form: Form) -> &'static str {
     }
 }
 
-/// Explains what the words ask for: a file, or standard input if they name none; for a terminal
-/// standard error has what is read.
+/// The usage error of a ladder that isn't of two files, or is to be JSON, and of a second file
+/// without a ladder.
+fn ladder_misuse(explained: &Explained<'_>) -> Option<&'static str>
+    ensures { is_some result ≡ is_ladder_misused explained.now }
+{
+    match (explained.ladder, explained.file, explained.second) {
+        (true, Some(_), Some(_)) => match is_json(explained.style.notation) {
+            true => Some(TWO_NOTATIONS),
+            false => None,
+        },
+        (true, None, _) | (true, _, None) => Some(NO_PAIR),
+        (false, _, Some(_)) => Some(NO_LADDER),
+        (false, _, None) => None,
+    }
+}
+
+/// Explains what the words ask for: a file, or standard input if they name none, or two files as a
+/// ladder.
 pub(crate) fn explain_asked<I: Inputs, R: Source, W: Sink>(
     inputs: &I,
     alloc: Global,
@@ -164,11 +221,14 @@ pub(crate) fn explain_asked<I: Inputs, R: Source, W: Sink>(
     if is_misused(explained.form, explained.from) {
         return usage(alloc, misuse(explained.form));
     }
-    match explained.file {
-        None => {
-            inputs.await_typing(typed(explained));
-            explain_source(alloc, explained, reader, writer)
-        }
-        Some(name) => explain_file(inputs, alloc, name, explained, writer),
+    match ladder_misuse(explained) {
+        Some(what) => usage(alloc, what),
+        None => match explained.second {
+            None => explain_one(inputs, alloc, explained, reader, writer),
+            Some(second) => match explained.file {
+                None => explain_one(inputs, alloc, explained, reader, writer),
+                Some(first) => draw_files(inputs, alloc, first, second, explained, writer),
+            },
+        },
     }
 }

@@ -7,6 +7,7 @@ pub mod ending;
 mod explain_command;
 pub mod fault;
 pub mod inputs;
+mod ladder_command;
 mod link_command;
 mod origin;
 pub mod program;

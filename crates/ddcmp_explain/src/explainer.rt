@@ -15,7 +15,7 @@ use ddcmp_io::input::read_within;
 use ddcmp_io::{Got, Sink, Source, Worst};
 
 /// How many bytes of input are read at once.
-pub(crate) const PIECE: usize = 16384;
+pub const PIECE: usize = 16384;
 
 /// Explains an input, piece by piece.
 #[derive(Drop)]

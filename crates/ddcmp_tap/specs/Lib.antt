@@ -5,5 +5,6 @@ pub mod InMemory
 pub mod Outlets
 pub mod Pumping
 pub mod InTurn
+pub mod Order
 pub use Rattle.ddcmp_explain.specs.Label
 pub use Rattle.ddcmp_explain.specs.Output

@@ -4,11 +4,13 @@
 //! `tap_again` does so for one caller after another.
 #![tactic(auto)]
 
+pub mod captures;
 pub mod direction;
 mod flow;
 mod front;
 mod no_memory;
 pub mod notation;
+pub mod order;
 pub mod outlet;
 mod pumping;
 mod rung;
@@ -18,10 +20,12 @@ pub mod tap_fault;
 mod tapping;
 mod telling;
 
+pub use captures::{Capture, DrawFault, draw_captures};
 pub use direction::{Direction, ROOM};
 pub use flow::Flow;
 pub use no_memory::NoMemory;
 pub use notation::Notation;
+pub use order::{Drawn, Order, Word};
 pub use outlet::Outlet;
 pub use pumping::{Readiness, pump};
 pub use side::Side;

@@ -149,6 +149,8 @@ has_options_as o p t u (Explain explained) e w h = record {
   };
   max = subst (λ t. HasNumber 1 MAX_COUNT MAX_COUNT t explained.max) (e (codes "max")) h.max;
   file = h.file ∙ ap file_of (w (codes "file"));
+  second = h.second ∙ ap file_of (w (codes "second"));
+  ladder = subst (λ t. HasFlag t explained.ladder) (e (codes "ladder")) h.ladder;
 }
 has_options_as o p t u (Simulate scripted) e w h = script_as o p t u scripted e w h
 has_options_as o p t u (Pair scripted) e w h = script_as o p t u scripted e w h

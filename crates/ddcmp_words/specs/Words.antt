@@ -67,12 +67,15 @@ required rule = record rule { required = true }
 -- `ddcmp explain`
 abbrev pub explain_app : App
 explain_app =
-    with_rule (with_rule (with_rule (with_rule (with_rule (with_rule (new_app (codes "explain"))
+    with_rule (with_rule (with_rule (with_rule (with_rule (with_rule (with_rule (with_rule
+    (new_app (codes "explain"))
     (place_rule (codes "file")))
+    (place_rule (codes "second")))
     (flag_rule (codes "raw")))
     (text_rule (codes "from")))
     (flag_rule (codes "json")))
     (flag_rule (codes "discarded")))
+    (flag_rule (codes "ladder")))
     (number_rule (codes "max") 1 MAX_COUNT)
 
 -- the sizes of both ends, and whether they restart by themselves
@@ -272,6 +275,8 @@ pub record HasExplain (option text : Text → Option Text) (explained : Explaine
   pub style : HasStyle option explained.style
   pub max : HasNumber 1 MAX_COUNT MAX_COUNT (option (codes "max")) explained.max
   pub file : option_map (λ name. name.now) explained.file ≡ file_of (text (codes "file"))
+  pub second : option_map (λ name. name.now) explained.second ≡ file_of (text (codes "second"))
+  pub ladder : HasFlag (option (codes "ladder")) explained.ladder
 
 -- how a run is shown
 pub record HasView (option : Text → Option Text) (view : View) : Type 0 where

@@ -5,9 +5,9 @@ ghost use Rattle.ddcmp_words.specs.Words.{IsAsked, IsSwitch, option_in, text_in,
 
 use clap::error::ErrorKind as WordsFault;
 
-/// The words `ddcmp explain` ask for the command that explains, without its options; the name of a
-/// file, `--raw`, `--from hexdump`, `--json`, `--discarded` and `--max 1500` are read. `ddcmp
-/// --help` asks for help, and `ddcmp --version` for the version.
+/// The words `ddcmp explain` ask for the command that explains, without its options; the names of
+/// one file and of two, `--raw`, `--from hexdump`, `--json`, `--discarded`, `--ladder` and `--max
+/// 1500` are read. `ddcmp --help` asks for help, and `ddcmp --version` for the version.
 pub fn explain_is_asked()
     ensures plain { IsAsked (codes "ddcmp" ∷ codes "explain" ∷ []) (codes "explain") }
     ensures no_maximum { option_in (codes "ddcmp" ∷ codes "explain" ∷ []) (codes "max") ≡ None }
@@ -17,6 +17,7 @@ pub fn explain_is_asked()
         (codes "from") ≡ Some (codes "hexdump") }
     ensures json { IsSwitch (codes "explain") (codes "--json") (codes "json") }
     ensures discarded { IsSwitch (codes "explain") (codes "--discarded") (codes "discarded") }
+    ensures ladder { IsSwitch (codes "explain") (codes "--ladder") (codes "ladder") }
     ensures maximum { option_in
         (codes "ddcmp" ∷ codes "explain" ∷ codes "--max" ∷ codes "1500" ∷ []) (codes "max")
         ≡ Some (codes "1500") }
@@ -25,6 +26,10 @@ pub fn explain_is_asked()
         (codes "file") ≡ Some (codes "a.bin") }
     ensures standard_input { text_in (codes "ddcmp" ∷ codes "explain" ∷ codes "-" ∷ [])
         (codes "file") ≡ Some (codes "-") }
+    ensures no_second { text_in (codes "ddcmp" ∷ codes "explain" ∷ codes "a.bin" ∷ [])
+        (codes "second") ≡ None }
+    ensures second { text_in (codes "ddcmp" ∷ codes "explain" ∷ codes "a.bin" ∷ codes "b.bin" ∷ [])
+        (codes "second") ≡ Some (codes "b.bin") }
     ensures help { fault_of program (codes "ddcmp" ∷ codes "--help" ∷ [])
         ≡ WordsFault.DisplayHelp ∷ [] }
     ensures version { fault_of program (codes "ddcmp" ∷ codes "--version" ∷ [])

@@ -58,16 +58,32 @@ fn explain_command<'a>(alloc: Global) -> clap::Command<'a>
     ensures app { app_of result ≡ new_app (codes "explain") }
     ensures local { (fields_of result).has_globals ≡ false }
 {
-    clap::Command::new(alloc, "explain").about("Decode captured bytes of a line")
+    clap::Command::new(alloc, "explain")
+        .about("Decode captured bytes of a line")
+        .after_help(ladder_help())
+}
+
+/// What stands in a ladder of captures, for a newcomer.
+fn ladder_help() -> &'static str {
+    "\
+With --ladder FILE and SECOND are the two directions of one line, drawn as arrows to the
+right and to the left. Captures have no times: the directions take turns, but a frame waits
+until what it answers is drawn; if both wait, an answered frame is missing."
 }
 
 /// The options of `explain`.
-static EXPLAIN_OPTIONS: [CommandOption; 6] = [
+static EXPLAIN_OPTIONS: [CommandOption; 8] = [
     CommandOption {
         name: "file",
         takes: Takes::Place("FILE"),
         is_required: false,
         help: "File to read; standard input if left out or -",
+    },
+    CommandOption {
+        name: "second",
+        takes: Takes::Place("SECOND"),
+        is_required: false,
+        help: "File of the other direction, for --ladder",
     },
     CommandOption {
         name: "raw",
@@ -92,6 +108,12 @@ static EXPLAIN_OPTIONS: [CommandOption; 6] = [
         takes: Takes::Nothing,
         is_required: false,
         help: "Also report skipped bytes and an unfinished frame",
+    },
+    CommandOption {
+        name: "ladder",
+        takes: Takes::Nothing,
+        is_required: false,
+        help: "Draw two files, one of each direction, as a ladder",
     },
     CommandOption {
         name: "max",
@@ -452,16 +474,18 @@ fn explain_given<'a>(options: &ArgMatches<'a>) -> Explained<'a>
         from: options.get_str("from"),
         style: style_given(options),
         max: number_given(options, "max", 1, MAX_COUNT as u32, MAX_COUNT as u32) as u16,
-        file: file_given(options),
+        file: file_given(options, "file"),
+        second: file_given(options, "second"),
+        ladder: flag_given(options, "ladder"),
     }
 }
 
-/// The name of the file that is to be read; none for standard input.
-fn file_given<'a>(options: &ArgMatches<'a>) -> Option<&'a str>
+/// The name of a file that is to be read; none for standard input.
+fn file_given<'a>(options: &ArgMatches<'a>, place: &str) -> Option<&'a str>
     ensures { option_map (λ name. name.now) result
-        ≡ file_of (first_value (found_of options.now) (codes "file")) }
+        ≡ file_of (first_value (found_of options.now) place.now) }
 {
-    match options.get_str("file") {
+    match options.get_str(place) {
         Some(word) => { if word == "-" { None } else { Some(word) } }
         None => None,
     }
@@ -498,7 +522,7 @@ fn script_given<'a>(options: &ArgMatches<'a>) -> Scripted<'a>
     ensures { HasScript (one_text (found_of options.now)) (first_value (found_of options.now))
         result }
 {
-    let file = file_given(options);
+    let file = file_given(options, "file");
     Scripted {
         config: sizes_given(options, 0),
         view: view_given(options),

@@ -14,4 +14,8 @@ pub struct Explained<'a> {
     pub max: u16,
     /// The file that is read; standard input if there is none.
     pub file: Option<&'a str>,
+    /// The file of the other direction, if both are drawn as a ladder.
+    pub second: Option<&'a str>,
+    /// Whether both directions are drawn as a ladder.
+    pub ladder: bool,
 }

@@ -54,3 +54,15 @@ returns-clause-no_dump c = refl
 pub returns-clause-dump : goal.returns-clause-dump
 unfolding clap_on_literals text_in
 returns-clause-dump c = refl
+
+pub returns-clause-ladder : goal.returns-clause-ladder
+unfolding clap_on_literals option_in
+returns-clause-ladder c = (refl, refl)
+
+pub returns-clause-no_second : goal.returns-clause-no_second
+unfolding clap_on_literals text_in
+returns-clause-no_second c = refl
+
+pub returns-clause-second : goal.returns-clause-second
+unfolding clap_on_literals text_in
+returns-clause-second c = refl

@@ -1,0 +1,90 @@
+//! `explain --ladder`: two captured directions of one line.
+ghost use Rattle.std.specs.Prelude.{◌≡◌, ◌⊎◌, ◌↔◌, ◌≤◌, false, IsTrue};
+ghost use Rattle.ddcmp_core.specs.Limits.{MAX_COUNT};
+ghost use Rattle.ddcmp_cli.specs.Endings.{DrawsFiles, IsUnread};
+
+use crate::ending::Ending;
+use crate::fault::Fault;
+use crate::inputs::{Inputs, unopened};
+use crate::origin::{Origin, named};
+use ddcmp_explain::{DetectedFault, Form, Written};
+use ddcmp_io::{Sink, Source};
+use ddcmp_tap::{Capture, DrawFault, NoMemory, Side, draw_captures};
+use ddcmp_words::Explained;
+use std::alloc::Global;
+
+/// How the files are written: as `--from` names it, or in their form.
+fn written(explained: &Explained<'_>) -> Written {
+    match named(explained.from) {
+        Some(Origin::Dump) => Written::Dump,
+        Some(Origin::Text) => Written::As(Form::Text),
+        Some(Origin::Auto) => Written::Detected,
+        None => Written::As(explained.form),
+    }
+}
+
+/// The capture of a side.
+fn capture<R: Source + Drop>(
+    alloc: Global,
+    reader: R,
+    side: Side,
+    explained: &Explained<'_>,
+) -> Result<Capture<R>, NoMemory>
+    requires max { (1 ≤ explained.now.max) × (explained.now.max ≤ MAX_COUNT) }
+{
+    Capture::new(
+        alloc,
+        reader,
+        written(explained),
+        side,
+        explained.style.discarded,
+        explained.max,
+    )
+}
+
+/// The ending if the file of this name met a fault.
+fn unread(alloc: Global, name: &str, fault: DetectedFault) -> Ending
+    ensures { IsUnread name.now result ⊎ (result ≡ Ending.Fault Fault.Memory) }
+{
+    match String::from_str(alloc, name) {
+        Ok(name) => Ending::Unread(name, Fault::from(fault)),
+        Err(_refused) => Ending::Fault(Fault::Memory),
+    }
+}
+
+/// Draws two files, of which the first has what goes to the right.
+pub(crate) fn draw_files<I: Inputs, W: Sink>(
+    inputs: &I,
+    alloc: Global,
+    first: &str,
+    second: &str,
+    explained: &Explained<'_>,
+    writer: &mut W,
+) -> Ending
+    requires whole { W.broken writer.old ≡ false }
+    requires max { (1 ≤ explained.now.max) × (explained.now.max ≤ MAX_COUNT) }
+    ensures draws { DrawsFiles first.now second.now (W.contents writer.old) (W.contents writer.new)
+        result }
+    ensures write { (result ≡ Ending.Fault Fault.Write) ↔ IsTrue (W.broken writer.new) }
+{
+    let one = match inputs.open(first) {
+        Ok(opened) => opened,
+        Err(why) => return unopened(alloc, first, why),
+    };
+    let two = match inputs.open(second) {
+        Ok(opened) => opened,
+        Err(why) => return unopened(alloc, second, why),
+    };
+    let Ok(mut one) = capture(alloc, one, Side::Caller, explained) else {
+        return Ending::Fault(Fault::Memory);
+    };
+    let Ok(mut two) = capture(alloc, two, Side::Called, explained) else {
+        return Ending::Fault(Fault::Memory);
+    };
+    match draw_captures(&mut one, &mut two, writer) {
+        Ok(()) => Ending::Done,
+        Err(DrawFault::Write) => Ending::Fault(Fault::Write),
+        Err(DrawFault::Capture(Side::Caller, fault)) => unread(alloc, first, fault),
+        Err(DrawFault::Capture(Side::Called, fault)) => unread(alloc, second, fault),
+    }
+}

@@ -1,0 +1,191 @@
+-- In which order the items of two captured directions are drawn, which have no time stamps: in
+-- turn, but an item that answers one of the other side waits until that is drawn.
+use Rattle.std.specs.Prelude.{ℕ, ◌+◌, ◌%◌, ◌==◌, ◌&&◌, ◌||◌, not, nat_lt, Bool, true, false}
+use Rattle.std.specs.Prelude.{if◌then◌else◌, Option, Some, None}
+use Rattle.ddcmp_num.specs.Sequence.{distance}
+use Rattle.ddcmp_frame.specs.Fields.{ShortFields}
+use Rattle.ddcmp_frame.specs.declared.header.ControlType.{ControlType}
+use Rattle.ddcmp_frame.specs.declared.header.ControlType.TheVariants as control
+use Rattle.ddcmp_frame.specs.declared.header.Header.{Header}
+use Rattle.ddcmp_frame.specs.declared.header.Header.TheVariants as header
+use Rattle.ddcmp_frame.specs.declared.item.Item.{Item}
+use Rattle.ddcmp_frame.specs.declared.item.Item.TheVariants as item
+use Rattle.ddcmp_tap.specs.declared.order.Drawn.{Drawn}
+use Rattle.ddcmp_tap.specs.declared.order.Order.{Order}
+use Rattle.ddcmp_tap.specs.declared.order.Word.{Word}
+use Rattle.ddcmp_tap.specs.declared.order.Word.TheVariants.{Bad, Maint, Data, Ack, Nak, Rep, Strt}
+use Rattle.ddcmp_tap.specs.declared.order.Word.TheVariants.{Stack}
+use Rattle.ddcmp_tap.specs.declared.side.Side.{Side}
+use Rattle.ddcmp_tap.specs.declared.side.Side.TheVariants.{Caller, Called}
+
+-- ---- what the order needs of an item
+
+-- a NAK of reason 3 is the reply to a REP
+abbrev pub control_word : ControlType → ShortFields → Word
+control_word control.Ack h = Ack h.resp
+control_word control.Nak h = Nak h.resp (h.sub == 3)
+control_word control.Rep h = Rep
+control_word control.Strt h = Strt
+control_word control.Stack h = Stack
+
+abbrev pub header_word : Header → Word
+header_word (header.Data h) = Data h.resp h.num
+header_word (header.Maint h) = Maint
+header_word (header.Control h) = control_word h.kind h
+
+abbrev pub word_of : Item → Word
+word_of (item.Good offset h) = header_word h
+word_of (item.HeaderCheck offset) = Bad
+word_of (item.DataCheck offset h) = Bad
+word_of (item.TooLong offset h) = Bad
+word_of (item.Format offset fault) = Bad
+
+-- ---- what an item waits for
+
+-- a number beyond the data that the other side has drawn, counted from the last acknowledgement
+abbrev pub is_ahead : Drawn → Drawn → ℕ → Bool
+is_ahead own other resp = nat_lt (distance own.resp other.num) (distance own.resp resp)
+
+-- an ACK of no new number is for something that was repeated, or is no data
+abbrev pub is_unasked : Drawn → Drawn → ℕ → Bool
+is_unasked own other resp = (resp == own.resp) && not other.repeats
+
+-- a NAK is for a REP, or for something after the number that it acknowledges
+abbrev pub is_early : Drawn → ℕ → Bool → Bool
+is_early other resp is_reply =
+    if is_reply then not other.asks else (resp == other.num) && not other.repeats
+
+-- After a STRT or STACK all but these wait for an answer to that.
+unfoldable pub waits : Drawn → Drawn → Word → Bool
+waits own other Bad = false
+waits own other Maint = false
+waits own other (Data resp num) = own.starts || is_ahead own other resp
+waits own other (Ack resp) =
+    own.starts || (is_ahead own other resp || is_unasked own other resp)
+waits own other (Nak resp is_reply) =
+    own.starts || (is_ahead own other resp || is_early other resp is_reply)
+waits own other Rep = own.starts
+waits own other Strt = false
+waits own other Stack = not other.starts
+
+-- ---- what is drawn of both sides after an item
+
+-- A message is new if it comes after the others; after a NAK the next one alone is.
+abbrev pub is_new : Drawn → Drawn → ℕ → Bool
+is_new own other num =
+    if own.goes_back then num == (own.num + 1) % 256
+    else nat_lt (distance other.resp own.num) (distance other.resp num)
+
+abbrev pub after_data : Drawn → Drawn → ℕ → Drawn
+after_data own other num =
+    if is_new own other num then record own { num = num; goes_back = false }
+    else record own { repeats = true }
+
+-- the side that it is of
+unfoldable pub after_own : Drawn → Drawn → Word → Drawn
+after_own own other Bad = record own { repeats = true }
+after_own own other Maint = own
+after_own own other (Data resp num) = record (after_data own other num) { resp = resp }
+after_own own other (Ack resp) = record own { resp = resp }
+after_own own other (Nak resp is_reply) = record own { resp = resp }
+after_own own other Rep = record own { asks = true; repeats = true }
+after_own own other Strt =
+    record own { num = 0; resp = 0; starts = true; goes_back = false }
+after_own own other Stack =
+    record own { num = 0; resp = 0; starts = true; repeats = true; goes_back = false }
+
+-- what it acknowledges was sent, if it isn't drawn
+abbrev pub acknowledged : Drawn → Drawn → ℕ → Drawn
+acknowledged own other resp =
+    if is_ahead own other resp then record other { num = resp; goes_back = false } else other
+
+-- and the other
+unfoldable pub after_other : Drawn → Drawn → Word → Drawn
+after_other own other Bad = other
+after_other own other Maint = other
+after_other own other (Data resp num) = record (acknowledged own other resp) { starts = false }
+after_other own other (Ack resp) =
+    record (acknowledged own other resp) { starts = false; asks = false; repeats = false }
+after_other own other (Nak resp is_reply) =
+    record other {
+      num = resp;
+      starts = false;
+      asks = false;
+      repeats = false;
+      goes_back = true;
+    }
+after_other own other Rep = record other { starts = false }
+after_other own other Strt = other
+after_other own other Stack = record other { starts = false }
+
+abbrev pub after_drawn : Order → Side → Word → Order
+after_drawn o Caller word =
+    record {
+      turn = Called;
+      caller = after_own o.caller o.called word;
+      called = after_other o.caller o.called word;
+    }
+after_drawn o Called word =
+    record {
+      turn = Caller;
+      caller = after_other o.called o.caller word;
+      called = after_own o.called o.caller word;
+    }
+
+-- nothing was drawn, and the caller's turn is first
+abbrev pub no_side_drawn : Drawn
+no_side_drawn =
+    record {
+      num = 0;
+      resp = 0;
+      starts = false;
+      asks = false;
+      repeats = false;
+      goes_back = false;
+    }
+
+abbrev pub nothing_drawn : Order
+nothing_drawn = record { turn = Caller; caller = no_side_drawn; called = no_side_drawn }
+
+-- ---- which comes next
+
+-- data of this number, or data after that, are acknowledged
+abbrev pub is_for : ℕ → Word → Bool
+is_for resp (Data its_resp num) = nat_lt (distance num resp) 128
+is_for resp Bad = false
+is_for resp Maint = false
+is_for resp (Ack its_resp) = false
+is_for resp (Nak its_resp is_reply) = false
+is_for resp Rep = false
+is_for resp Strt = false
+is_for resp Stack = false
+
+-- whether one item acknowledges the other, or one after that
+abbrev pub refers : Word → Word → Bool
+refers (Data resp num) theirs = is_for resp theirs
+refers (Ack resp) theirs = is_for resp theirs
+refers (Nak resp is_reply) theirs = is_for resp theirs
+refers Bad theirs = false
+refers Maint theirs = false
+refers Rep theirs = false
+refers Strt theirs = false
+refers Stack theirs = false
+
+-- The side whose turn it is goes first if it doesn't wait. If both wait, what they wait for may be
+-- missing: it goes first unless its item refers to the other.
+abbrev pub goes_first : Drawn → Drawn → Word → Word → Bool
+goes_first own other mine theirs =
+    if waits own other mine then waits other own theirs && not (refers mine theirs) else true
+
+abbrev pub next_of_both : Side → Order → Word → Word → Side
+next_of_both Caller o up down =
+    if goes_first o.caller o.called up down then Caller else Called
+next_of_both Called o up down =
+    if goes_first o.called o.caller down up then Called else Caller
+
+-- the side whose item is drawn next: of what the caller has next, and the called
+abbrev pub next_side : Order → Option Word → Option Word → Option Side
+next_side o None None = None
+next_side o (Some up) None = Some Caller
+next_side o None (Some down) = Some Called
+next_side o (Some up) (Some down) = Some (next_of_both o.turn o up down)

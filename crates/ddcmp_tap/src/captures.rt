@@ -1,0 +1,274 @@
+//! Two captured directions of a line, drawn as one ladder.
+ghost use Rattle.std.specs.Prelude.{◌≡◌, ◌+◌, ◌-◌, ◌<◌, ◌≤◌, ◌^◌, ◌↔◌, IsTrue, false};
+ghost use Rattle.ddcmp_frame.specs.Limits.{MAX_COUNT};
+
+use crate::front::write_plain_front;
+use crate::no_memory::NoMemory;
+use crate::order::{Order, Word};
+use crate::rung::write_rung;
+use crate::side::Side;
+use ddcmp_explain::{
+    DetectedFault, Notation, PIECE, Reached, Spelled, Written, reached_by, write_discarded,
+    write_last,
+};
+use ddcmp_frame::{Item, Pushed, Reader};
+use ddcmp_io::{Page, Sink, Source};
+use std::alloc::Global;
+
+/// A captured direction of a line, read up to its next item.
+pub struct Capture<R> {
+    side: Side,
+    discarded: bool,
+    spelled: Spelled<R>,
+    frames: Reader,
+    // Bytes that were read, of which those from `at` up to `end` weren't taken.
+    bytes: [u8; PIECE],
+    at: usize,
+    end: usize,
+    items: u64,
+    /// The next item, if it is read and not drawn.
+    next: Option<Item>,
+    /// How far the items that were drawn reach.
+    reached: Reached,
+    ended: bool,
+    fault: Option<DetectedFault>,
+    ghost taken: { at ≤ end },
+    ghost fits: { end ≤ 16384 },
+}
+
+// Manual, since a derived `Drop` is expanded wherever it is dropped.
+impl<R: Drop> Drop for Capture<R> {
+    fn drop(self) {
+        let Capture {
+            side: _,
+            discarded: _,
+            spelled: _spelled,
+            frames: _frames,
+            bytes: _,
+            at: _,
+            end: _,
+            items: _,
+            next: _,
+            reached: _,
+            ended: _,
+            fault: _fault,
+        } = self;
+    }
+}
+
+/// Passes some of these bytes to a reader, up to the first that completes an item.
+fn push_some(frames: &mut Reader, bytes: &[u8; PIECE], at: usize, end: usize) -> Pushed
+    requires within { (at ≤ end) × (end ≤ PIECE) }
+    requires fits { frames.old.offset + (end - at) < 2 ^ 64 }
+    ensures used { at + result.used ≤ end }
+{
+    frames.push_all(&bytes[at..end])
+}
+
+/// Why two captures weren't drawn to their ends.
+#[derive(Debug, Drop, PartialEq, Eq)]
+pub enum DrawFault {
+    /// The capture of this side can't be read on.
+    Capture(Side, DetectedFault),
+    Write,
+}
+
+impl<R: Source + Drop> Capture<R> {
+    /// Makes a capture of what came from a side, of which nothing was read. It takes frames with
+    /// data of up to `max` bytes, and reports skipped bytes if `discarded` is set.
+    pub fn new(
+        alloc: Global,
+        reader: R,
+        written: Written,
+        side: Side,
+        discarded: bool,
+        max: u16,
+    ) -> Result<Capture<R>, NoMemory>
+        requires low { 0 < max }
+        requires high { max ≤ MAX_COUNT }
+    {
+        let Ok(frames) = Reader::new(alloc, max) else {
+            return Err(NoMemory);
+        };
+        Ok(Capture {
+            side,
+            discarded,
+            spelled: Spelled::new(reader, written),
+            frames,
+            bytes: [0; PIECE],
+            at: 0,
+            end: 0,
+            items: 0,
+            next: None,
+            reached: Reached::at(0),
+            ended: false,
+            fault: None,
+        })
+    }
+
+    /// Reads the next item, unless it is read or there is none.
+    fn fill(&mut self, piece: &mut [u8; PIECE]) {
+        for _turn in 0..u64::MAX {
+            if self.next.is_some() || self.ended {
+                return;
+            }
+            if self.at < self.end {
+                self.take();
+            } else {
+                self.read(piece);
+            }
+        }
+    }
+
+    /// Takes bytes up to the first that completes an item.
+    fn take(&mut self) {
+        let count = (self.end - self.at) as u64;
+        if u64::MAX - self.frames.offset() <= count {
+            self.fail(DetectedFault::Read);
+            return;
+        }
+        let Pushed { used, item } = push_some(&mut self.frames, &self.bytes, self.at, self.end);
+        self.at += used;
+        if item.is_some() {
+            self.items = self.items.saturating_add(1);
+        }
+        self.next = item;
+    }
+
+    /// Reads bytes.
+    fn read(&mut self, piece: &mut [u8; PIECE]) {
+        match self.spelled.next(piece, &mut self.bytes) {
+            Ok(count) => {
+                self.at = 0;
+                self.end = count;
+                self.ended = count == 0;
+            }
+            Err(fault) => self.fail(fault),
+        }
+    }
+
+    /// Nothing more is read.
+    fn fail(&mut self, fault: DetectedFault) {
+        self.fault = Some(fault);
+        self.ended = true;
+    }
+
+    /// Returns what the order needs of the next item, if there is one.
+    fn word(&self) -> Option<Word> {
+        match &self.next {
+            Some(item) => Some(Word::of(item)),
+            None => None,
+        }
+    }
+
+    /// Draws the next item, and before it what was skipped if that is reported.
+    fn draw<W: Sink>(&mut self, page: &mut Page, writer: &mut W) {
+        match &self.next {
+            Some(item) => {
+                let reached = reached_by(item);
+                if self.discarded {
+                    pass_to(page, writer, self.side, &self.reached, reached.offset);
+                }
+                write_rung(page, writer, None, self.side, item);
+                self.reached = reached;
+            }
+            None => {}
+        }
+        self.next = None;
+    }
+
+    /// Writes the last line.
+    fn finish<W: Sink>(&self, page: &mut Page, writer: &mut W) {
+        let bytes = self.frames.offset();
+        let left_open = self.frames.open() as u64;
+        if self.discarded {
+            let end = bytes.saturating_sub(left_open);
+            pass_to(page, writer, self.side, &self.reached, end);
+        }
+        write_plain_front(page, writer, None, self.side);
+        write_last(page, writer, Notation::Plain, self.items, bytes, left_open);
+    }
+}
+
+/// Writes the line of what was skipped after an item of a side, up to an offset.
+fn pass_to<W: Sink>(page: &mut Page, writer: &mut W, side: Side, reached: &Reached, to: u64) {
+    match reached.skipped_to(to) {
+        Some(it) => {
+            write_plain_front(page, writer, None, side);
+            write_discarded(page, writer, Notation::Plain, it.from, it.count);
+        }
+        None => {}
+    }
+}
+
+/// Draws what two captures have: an arrow for each item, in the order of `Order`, and the totals of
+/// both. Of one that can't be read on what comes before that is drawn, and no totals.
+pub fn draw_captures<R: Source + Drop, W: Sink>(
+    caller: &mut Capture<R>,
+    called: &mut Capture<R>,
+    writer: &mut W,
+) -> Result<(), DrawFault>
+    requires whole { W.broken writer.old ≡ false }
+    ensures write { (result ≡ Err DrawFault.Write) ↔ IsTrue (W.broken writer.new) }
+{
+    let mut page = Page::new();
+    draw_items(caller, called, &mut page, writer);
+    let fault = fault_of(caller, called);
+    if fault.is_none() {
+        caller.finish(&mut page, writer);
+        called.finish(&mut page, writer);
+    }
+    match page.flush(writer) {
+        Ok(()) => match fault {
+            Some((side, fault)) => Err(DrawFault::Capture(side, fault)),
+            None => Ok(()),
+        },
+        Err(_failed) => Err(DrawFault::Write),
+    }
+}
+
+/// Draws all items, until a write fails.
+fn draw_items<R: Source + Drop, W: Sink>(
+    caller: &mut Capture<R>,
+    called: &mut Capture<R>,
+    page: &mut Page,
+    writer: &mut W,
+) {
+    let mut piece = [0; PIECE];
+    let mut order = Order::new();
+    for _item in 0..u64::MAX {
+        caller.fill(&mut piece);
+        called.fill(&mut piece);
+        let (up, down) = (caller.word(), called.word());
+        let Some(side) = order.next(up, down) else {
+            return;
+        };
+        if writer.failed() {
+            return;
+        }
+        let word = match side {
+            Side::Caller => {
+                caller.draw(page, writer);
+                up
+            }
+            Side::Called => {
+                called.draw(page, writer);
+                down
+            }
+        };
+        if let Some(word) = word {
+            order.draw(side, word);
+        }
+    }
+}
+
+/// Takes the fault that a capture ended with, the caller's if both did.
+fn fault_of<R>(caller: &mut Capture<R>, called: &mut Capture<R>) -> Option<(Side, DetectedFault)> {
+    match caller.fault.take() {
+        Some(fault) => Some((Side::Caller, fault)),
+        None => match called.fault.take() {
+            Some(fault) => Some((Side::Called, fault)),
+            None => None,
+        },
+    }
+}

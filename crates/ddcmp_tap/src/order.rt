@@ -1,0 +1,354 @@
+//! In which order the items of two captured directions are drawn, which have no time stamps.
+ghost use Rattle.std.specs.Prelude.{◌≡◌, false, true};
+ghost use Rattle.ddcmp_num.specs.Sequence.{distance as distance_of};
+ghost use Rattle.ddcmp_tap.specs.Order.{acknowledged as acknowledged_by, after_data};
+ghost use Rattle.ddcmp_tap.specs.Order.{after_drawn, after_other as after_of_other};
+ghost use Rattle.ddcmp_tap.specs.Order.{after_own as after_of_own, control_word, goes_first};
+ghost use Rattle.ddcmp_tap.specs.Order.{header_word, is_ahead as is_ahead_of, is_early};
+ghost use Rattle.ddcmp_tap.specs.Order.{is_for as is_for_data, is_new as is_new_data, is_unasked};
+ghost use Rattle.ddcmp_tap.specs.Order.{next_of_both, next_side, nothing_drawn, refers as refers_to_other};
+ghost use Rattle.ddcmp_tap.specs.Order.{waits as waits_for_other, word_of};
+
+use crate::side::Side;
+use ddcmp_frame::{ControlType, Header, Item, Short};
+use ddcmp_num::Seq;
+
+/// What the order needs of an item: what it acknowledges, and its own number.
+#[derive(Clone, Copy, Debug, PartialEq, Eq)]
+pub enum Word {
+    /// An item that is no good frame.
+    Bad,
+    Maint,
+    /// A data message: RESP and NUM.
+    Data(u8, u8),
+    /// An ACK: RESP.
+    Ack(u8),
+    /// A NAK: RESP, and whether it is a reply to a REP.
+    Nak(u8, bool),
+    Rep,
+    Strt,
+    Stack,
+}
+
+impl Word {
+    /// Returns what the order needs of an item.
+    pub fn of(item: &Item) -> Word
+        ensures { result ≡ word_of item.now }
+    {
+        match item {
+            Item::Good(_, header) => of_header(header),
+            Item::HeaderCheck(_)
+            | Item::DataCheck(_, _)
+            | Item::TooLong(_, _)
+            | Item::Format(_, _) => Word::Bad,
+        }
+    }
+
+    /// Returns whether it acknowledges data of the other side's next item, or data after those.
+    fn refers(self, theirs: Word) -> bool
+        ensures { result ≡ refers_to_other self theirs }
+    {
+        match self {
+            Word::Data(resp, _) | Word::Ack(resp) | Word::Nak(resp, _) => theirs.is_met(resp),
+            Word::Bad | Word::Maint | Word::Rep | Word::Strt | Word::Stack => false,
+        }
+    }
+
+    /// Returns whether an acknowledgement of this number is for these data, or for data after them.
+    fn is_met(self, resp: u8) -> bool
+        ensures { result ≡ is_for_data resp self }
+    {
+        match self {
+            Word::Data(_, num) => distance(num, resp) < 128,
+            Word::Bad
+            | Word::Maint
+            | Word::Ack(_)
+            | Word::Nak(_, _)
+            | Word::Rep
+            | Word::Strt
+            | Word::Stack => false,
+        }
+    }
+}
+
+fn of_header(header: &Header) -> Word
+    ensures { result ≡ header_word header.now }
+{
+    match header {
+        Header::Data(h) => Word::Data(h.resp, h.num),
+        Header::Maint(_) => Word::Maint,
+        Header::Control(h) => of_control(h),
+    }
+}
+
+fn of_control(h: &Short) -> Word
+    ensures { result ≡ control_word h.now.kind h.now }
+{
+    match h.kind {
+        ControlType::Ack => Word::Ack(h.resp),
+        ControlType::Nak => Word::Nak(h.resp, h.sub == 3),
+        ControlType::Rep => Word::Rep,
+        ControlType::Strt => Word::Strt,
+        ControlType::Stack => Word::Stack,
+    }
+}
+
+/// Returns how far a number lies ahead of another.
+fn distance(from: u8, to: u8) -> u8
+    ensures { result ≡ distance_of from to }
+{
+    Seq::distance(Seq(from), Seq(to))
+}
+
+/// What was drawn of a side, as far as items of the other refer to it.
+#[derive(Clone, Copy, Debug, PartialEq, Eq)]
+pub struct Drawn {
+    /// The number of its last new data message.
+    pub num: u8,
+    /// The number that it acknowledged last.
+    pub resp: u8,
+    /// Whether it had a STRT or STACK, and the other side nothing but STRTs since.
+    pub starts: bool,
+    /// Whether it had a REP since the other's last ACK or NAK.
+    pub asks: bool,
+    /// Whether it had anything since then that may get a reply and is no new data message.
+    pub repeats: bool,
+    /// Whether the message after `num` is to come again, since the other side sent a NAK.
+    pub goes_back: bool,
+}
+
+impl Drawn {
+    /// Nothing was drawn.
+    const NOTHING: Drawn = Drawn {
+        num: 0,
+        resp: 0,
+        starts: false,
+        asks: false,
+        repeats: false,
+        goes_back: false,
+    };
+
+    /// Returns whether the other side's data of this number aren't drawn yet.
+    fn is_ahead(&self, other: &Drawn, resp: u8) -> bool
+        ensures { result ≡ is_ahead_of self.now other.now resp }
+    {
+        distance(self.resp, other.num) < distance(self.resp, resp)
+    }
+
+    /// Returns whether an ACK acknowledges nothing new, and nothing that was repeated.
+    fn is_unasked(&self, other: &Drawn, resp: u8) -> bool
+        ensures { result ≡ is_unasked self.now other.now resp }
+    {
+        resp == self.resp && !other.repeats
+    }
+
+    /// Returns whether a NAK of the other side comes before what it may be for.
+    fn is_early(&self, resp: u8, is_reply: bool) -> bool
+        ensures { result ≡ is_early self.now resp is_reply }
+    {
+        if is_reply {
+            !self.asks
+        } else {
+            resp == self.num && !self.repeats
+        }
+    }
+
+    /// Returns whether an item waits for one of the other side.
+    #[tactic(auto, unfolding(crate::specs::Order::waits))]
+    fn waits(&self, other: &Drawn, word: Word) -> bool
+        ensures { result ≡ waits_for_other self.now other.now word }
+    {
+        match word {
+            Word::Bad | Word::Maint | Word::Strt => false,
+            Word::Data(resp, _) => self.starts || self.is_ahead(other, resp),
+            Word::Ack(resp) => {
+                self.starts || self.is_ahead(other, resp) || self.is_unasked(other, resp)
+            }
+            Word::Nak(resp, is_reply) => {
+                self.starts || self.is_ahead(other, resp) || other.is_early(resp, is_reply)
+            }
+            Word::Rep => self.starts,
+            Word::Stack => !other.starts,
+        }
+    }
+
+    /// Returns whether a data message is one after those that were drawn.
+    fn is_new(&self, other: &Drawn, num: u8) -> bool
+        ensures { result ≡ is_new_data self.now other.now num }
+    {
+        if self.goes_back {
+            num == Seq(self.num).next().0
+        } else {
+            distance(other.resp, self.num) < distance(other.resp, num)
+        }
+    }
+
+    /// A data message of this side is drawn.
+    fn take_data(&mut self, other: &Drawn, num: u8)
+        ensures { self.new ≡ after_data self.old other.now num }
+    {
+        if self.is_new(other, num) {
+            self.num = num;
+            self.goes_back = false;
+        } else {
+            self.repeats = true;
+        }
+    }
+
+    /// An item of this side is drawn.
+    #[tactic(auto, unfolding(crate::specs::Order::after_own))]
+    fn take_own(&mut self, other: &Drawn, word: Word)
+        ensures { self.new ≡ after_of_own self.old other.now word }
+    {
+        match word {
+            Word::Bad => self.repeats = true,
+            Word::Maint => {}
+            Word::Data(resp, num) => {
+                self.take_data(other, num);
+                self.resp = resp;
+            }
+            Word::Ack(resp) | Word::Nak(resp, _) => self.resp = resp,
+            Word::Rep => {
+                self.asks = true;
+                self.repeats = true;
+            }
+            Word::Strt => self.begin(),
+            Word::Stack => {
+                self.begin();
+                self.repeats = true;
+            }
+        }
+    }
+
+    /// Numbers begin anew.
+    fn begin(&mut self)
+        ensures { self.new ≡ record self.old {
+          num = 0;
+          resp = 0;
+          starts = true;
+          goes_back = false;
+        } }
+    {
+        self.num = 0;
+        self.resp = 0;
+        self.starts = true;
+        self.goes_back = false;
+    }
+
+    /// The other side acknowledges data of this one, which was `own` before.
+    fn acknowledge(&mut self, own: &Drawn, resp: u8)
+        ensures { self.new ≡ acknowledged_by own.now self.old resp }
+    {
+        if own.is_ahead(self, resp) {
+            self.num = resp;
+            self.goes_back = false;
+        }
+    }
+
+    /// An item of the other side is drawn, which was `own` before.
+    #[tactic(auto, unfolding(crate::specs::Order::after_other))]
+    fn take_other(&mut self, own: &Drawn, word: Word)
+        ensures { self.new ≡ after_of_other own.now self.old word }
+    {
+        match word {
+            Word::Bad | Word::Maint | Word::Strt => {}
+            Word::Data(resp, _) => {
+                self.acknowledge(own, resp);
+                self.starts = false;
+            }
+            Word::Ack(resp) => {
+                self.acknowledge(own, resp);
+                self.starts = false;
+                self.asks = false;
+                self.repeats = false;
+            }
+            Word::Nak(resp, _) => {
+                *self = Drawn {
+                    num: resp,
+                    resp: self.resp,
+                    starts: false,
+                    asks: false,
+                    repeats: false,
+                    goes_back: true,
+                };
+            }
+            Word::Rep | Word::Stack => self.starts = false,
+        }
+    }
+
+    /// Returns whether its item goes before the other's if it is its turn.
+    fn goes_first(&self, other: &Drawn, mine: Word, theirs: Word) -> bool
+        ensures { result ≡ goes_first self.now other.now mine theirs }
+    {
+        if self.waits(other, mine) {
+            other.waits(self, theirs) && !mine.refers(theirs)
+        } else {
+            true
+        }
+    }
+}
+
+/// What was drawn of both sides, and whose turn it is.
+#[derive(Clone, Copy, Debug, PartialEq, Eq)]
+pub struct Order {
+    turn: Side,
+    caller: Drawn,
+    called: Drawn,
+}
+
+impl Order {
+    /// Nothing was drawn.
+    pub fn new() -> Order
+        ensures { result ≡ nothing_drawn }
+    {
+        Order {
+            turn: Side::Caller,
+            caller: Drawn::NOTHING,
+            called: Drawn::NOTHING,
+        }
+    }
+
+    /// Returns the side whose item is drawn next, of what both have next, if they have more.
+    pub fn next(&self, caller: Option<Word>, called: Option<Word>) -> Option<Side>
+        ensures { result ≡ next_side self.now caller called }
+    {
+        match (caller, called) {
+            (None, None) => None,
+            (Some(_), None) => Some(Side::Caller),
+            (None, Some(_)) => Some(Side::Called),
+            (Some(up), Some(down)) => Some(self.next_of_both(up, down)),
+        }
+    }
+
+    fn next_of_both(&self, up: Word, down: Word) -> Side
+        ensures { result ≡ next_of_both self.now.turn self.now up down }
+    {
+        let goes_first = match self.turn {
+            Side::Caller => self.caller.goes_first(&self.called, up, down),
+            Side::Called => self.called.goes_first(&self.caller, down, up),
+        };
+        if goes_first {
+            self.turn
+        } else {
+            self.turn.other()
+        }
+    }
+
+    /// An item of a side is drawn.
+    pub fn draw(&mut self, side: Side, word: Word)
+        ensures { self.new ≡ after_drawn self.old side word }
+    {
+        let (caller, called) = (self.caller, self.called);
+        match side {
+            Side::Caller => {
+                self.caller.take_own(&called, word);
+                self.called.take_other(&caller, word);
+            }
+            Side::Called => {
+                self.called.take_own(&caller, word);
+                self.caller.take_other(&called, word);
+            }
+        }
+        self.turn = side.other();
+    }
+}
