@@ -524,8 +524,8 @@ Shows text old new ending =
 
 -- What became of words that were read: `before` and `left` are what the source had and has left,
 -- old and new what the sink held and holds. Only a command reads, and usage writes nothing here.
-abbrev pub Answers : (List ℕ → Known) → Peers → LinesKnown → Result Command Declined → Known → Known → Known
-    → Known → Ending → Type 0
+abbrev pub Answers : (List ℕ → Known) → Peers → LinesKnown → Result Command Declined → Known
+    → Known → Known → Known → Ending → Type 0
 Answers held peers lines (Ok command) before left old new ending =
     (input : List ℕ) → before ≡ Some input
     → Performs held peers lines command (streams input left old new) ending
@@ -539,8 +539,8 @@ Answers held peers lines (Err Memory) before left old new ending =
     (left ≡ before) × Keeps old new × (ending ≡ Faulted NoMemory)
 
 -- the ending that words come to, whatever they are
-abbrev pub Ends : (List ℕ → Known) → Peers → LinesKnown → List Text → Known → Known → Known → Known → Ending
-    → Type 0
+abbrev pub Ends : (List ℕ → Known) → Peers → LinesKnown → List Text → Known → Known → Known
+    → Known → Ending → Type 0
 Ends held peers lines words before left old new ending =
     (read : Result Command Declined) × Reads words read
     × Answers held peers lines read before left old new ending
