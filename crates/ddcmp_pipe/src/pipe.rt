@@ -1,6 +1,7 @@
 //! Two sessions as pipes, over a line that may lose, cut and damage what it carries.
 ghost use Rattle.std.specs.Prelude.{◌≡◌, true};
 ghost use Rattle.ddcmp_frame.specs.Reader.{ReaderView};
+ghost use Rattle.ddcmp_run.specs.declared.event.End.TheVariants.{A, B};
 ghost use Rattle.ddcmp_run.specs.Run.{is_clean, new_pair};
 ghost use Rattle.ddcmp_callers.specs.Calls.{run_calls};
 ghost use Rattle.ddcmp_callers.specs.LinkLines.{calls_of_steps};
@@ -13,11 +14,13 @@ ghost use Rattle.ddcmp_pipe.specs.Pipe.{IsKeptOverConnections, SessionsOverStrea
 ghost use Rattle.ddcmp_pipe.specs.Pipe.{AreConnectedOnce, link_steps_at, links_made};
 ghost use Rattle.ddcmp_pipe.specs.Pipe.{after_sessions};
 ghost use Rattle.ddcmp_pipe.specs.AnewStory.{HasComeThroughAnew, small_connections, steps_anew};
-ghost use Rattle.ddcmp_pipe.specs.Connections.{AreCalls, after_steps, link_steps};
+ghost use Rattle.ddcmp_pipe.specs.Connections.{AreCalls, after_steps, first_connection, link_steps};
 ghost use Rattle.ddcmp_pipe.specs.Connections.{IsKeptAnew, PipesAllAnew, PipesAnew};
 ghost use Rattle.ddcmp_pipe.specs.Connections.{PipesClosedAnew, WritesAnew};
 ghost use Rattle.ddcmp_pipe.specs.PipeStory.{small_made, small_sessions, pipe_steps};
 ghost use Rattle.ddcmp_pipe.specs.PipeStory.{HasComeThrough};
+ghost use Rattle.ddcmp_pipe.specs.LastConnection.{EndOverStreams, StartsLast};
+ghost use Rattle.ddcmp_pipe.specs.Runs.{calls_of};
 
 /// Two new sessions of any sizes in range, each connected at most once, over an honest line: the
 /// good frames that each received are, in their order, among those that the other sent. Whatever
@@ -117,7 +120,8 @@ pub fn a_message_comes_through()
 {}
 
 /// Two sessions that are connected twice, and a message that comes through over their second line,
-/// so that the law of sessions that are connected again doesn't hold because nothing can happen.
+/// so that the laws of sessions that are connected again, and of the last connection of two runs,
+/// don't hold because nothing can happen.
 pub fn a_message_comes_through_anew()
     ensures calls { (line other_line : ReaderView)
         → AreCalls (steps_anew line other_line) (small_connections line other_line) }
@@ -133,6 +137,14 @@ pub fn a_message_comes_through_anew()
         (link_steps (steps_anew line other_line) (small_connections line other_line))
         (links_made (small_made line) (small_made other_line)))
         (new_pair small small)) ≡ true }
+    ensures ready_a { (line other_line : ReaderView)
+        → StartsLast (calls_of A (steps_anew line other_line))
+        (first_connection (small_made line)) }
+    ensures ready_b { (line other_line : ReaderView)
+        → StartsLast (calls_of B (steps_anew line other_line))
+        (first_connection (small_made other_line)) }
+    ensures streams { (line other_line : ReaderView)
+        → EndOverStreams (steps_anew line other_line) (small_connections line other_line) }
     ensures ends { (line other_line : ReaderView)
         → HasComeThroughAnew line
         (after_steps (steps_anew line other_line) (small_connections line other_line)) }

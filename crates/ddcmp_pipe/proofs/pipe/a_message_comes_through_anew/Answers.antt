@@ -1,4 +1,4 @@
-use Rattle.std.proofs.Common.{inl, refl, arith}
+use Rattle.std.proofs.Common.{◌≡◌, ℕ, [], inl, refl, arith}
 use Rattle.std.proofs.Math.Bool.{xor}
 use Rattle.ddcmp_num.specs.Check.{low_bits, bits, add, divisor_rest, remainder, number, check_of}
 use Rattle.ddcmp_frame.specs.Wire.{six_bytes, wire}
@@ -18,7 +18,11 @@ use Rattle.ddcmp_session.specs.Text.{notices_text}
 use Rattle.ddcmp_pipe.specs.Sessions.{texts_of, frames_put, mail_in, got_in}
 use Rattle.ddcmp_pipe.specs.Connections.{after_steps, link_steps}
 use Rattle.ddcmp_pipe.specs.AnewStory.{steps_anew_by}
+use Rattle.ddcmp_laws.specs.Story.{ack_1_bytes, first_bytes, stack_bytes, strt_bytes}
 use Rattle.ddcmp_laws.specs.Vectors.{abc}
+use Rattle.ddcmp_pipe.specs.Connected.{connections_in}
+use Rattle.ddcmp_pipe.specs.Pipe.{connects}
+use Rattle.ddcmp_pipe.specs.Runs.{calls_of}
 use Rattle.ddcmp_pipe.proofs.Story.{completes, unless}
 use Rattle.ddcmp_pipe.proofs.pipe.a_message_comes_through_anew.Goals as goal
 
@@ -144,6 +148,153 @@ returns-clause-calls c = λ line other_line. (
                                                 refl,
                                                 tt,
                                               ),
+                                            ),
+                                          ),
+                                        ),
+                                      ),
+                                    ),
+                                  ),
+                                ),
+                              ),
+                            ),
+                          ),
+                        ),
+                      ),
+                    ),
+                  ),
+                ),
+              ),
+            ),
+          ),
+        ),
+      ),
+    ),
+  ),
+)
+
+never : {P : Type 0} → ◌≡◌ {A = ℕ} 1 0 → P
+never e = cc
+
+pub returns-clause-ready_a : goal.returns-clause-ready_a
+unfolding low_bits bits add divisor_rest remainder number check_of xor six_bytes wire is_check_right
+    parsed read_for read_rows is_data_right row read items good_frames_in on notice_of next
+    counters_on counters_after_next after_items notices_of_items after_frames after_bytes
+    entries_of_bytes notices_text texts_of steps_anew_by calls_of connections_in connects
+returns-clause-ready_a c = λ line other_line. (
+  λ e. refl,
+  (
+    λ e. tt,
+    (
+      λ e. tt,
+      (
+        λ e. tt,
+        (
+          λ e. refl,
+          (
+            λ e. tt,
+            (
+              λ e. tt,
+              (
+                λ e. tt,
+                (
+                  λ e. tt,
+                  (λ e. tt, (λ e. tt, (λ e. tt, (λ e. tt, tt)))),
+                ),
+              ),
+            ),
+          ),
+        ),
+      ),
+    ),
+  ),
+)
+
+pub returns-clause-ready_b : goal.returns-clause-ready_b
+unfolding low_bits bits add divisor_rest remainder number check_of xor six_bytes wire is_check_right
+    parsed read_for read_rows is_data_right row read items good_frames_in on notice_of next
+    counters_on counters_after_next after_items notices_of_items after_frames after_bytes
+    entries_of_bytes notices_text texts_of steps_anew_by calls_of connections_in connects
+returns-clause-ready_b c = λ line other_line. (
+  λ e. refl,
+  (
+    λ e. tt,
+    (
+      λ e. refl,
+      (
+        λ e. tt,
+        (
+          λ e. tt,
+          (
+            λ e. tt,
+            (
+              λ e. tt,
+              (
+                λ e. tt,
+                (
+                  λ e. tt,
+                  (λ e. tt, (λ e. tt, tt)),
+                ),
+              ),
+            ),
+          ),
+        ),
+      ),
+    ),
+  ),
+)
+
+pub returns-clause-streams : goal.returns-clause-streams
+unfolding low_bits bits add divisor_rest remainder number check_of xor six_bytes wire is_check_right
+    parsed read_for read_rows is_data_right row read items good_frames_in on notice_of next
+    counters_on counters_after_next after_items notices_of_items after_frames after_bytes
+    entries_of_bytes notices_text texts_of steps_anew_by calls_of connections_in connects
+returns-clause-streams c = λ line other_line. (
+  λ d e. never d,
+  (
+    λ d e. never d,
+    (
+      λ d e. never d,
+      (
+        λ d e. never d,
+        (
+          λ d e. never d,
+          (
+            λ d e. never d,
+            (
+              λ d e. never e,
+              (
+                λ d e. record { to_a = ([], refl); to_b = ([], refl) },
+                (
+                  λ d e. record { to_a = ([], refl); to_b = ([], refl) },
+                  (
+                    λ d e. record { to_a = ([], refl); to_b = (strt_bytes, refl) },
+                    (
+                      λ d e. record { to_a = ([], refl); to_b = ([], refl) },
+                      (
+                        λ d e. record { to_a = ([], refl); to_b = ([], refl) },
+                        (
+                          λ d e. record { to_a = (stack_bytes, refl); to_b = ([], refl) },
+                          (
+                            λ d e. record { to_a = ([], refl); to_b = ([], refl) },
+                            (
+                              λ d e. record { to_a = ([], refl); to_b = ([], refl) },
+                              (
+                                λ d e. record { to_a = ([], refl); to_b = ([], refl) },
+                                (
+                                  λ d e. record { to_a = ([], refl); to_b = (first_bytes, refl) },
+                                  (
+                                    λ d e. record { to_a = ([], refl); to_b = ([], refl) },
+                                    (
+                                      λ d e. record { to_a = ([], refl); to_b = ([], refl) },
+                                      (
+                                        λ d e. record { to_a = (ack_1_bytes, refl); to_b = ([], refl) },
+                                        (
+                                          λ d e. record { to_a = ([], refl); to_b = ([], refl) },
+                                          (
+                                            λ d e. record { to_a = ([], refl); to_b = ([], refl) },
+                                            (
+                                              λ d e. record { to_a = ([], refl); to_b = ([], refl) },
+                                              (λ d e. record { to_a = ([], refl); to_b = ([], refl) }, tt),
                                             ),
                                           ),
                                         ),
