@@ -280,16 +280,16 @@ fn missing(read: &[u8], written: &[u8]) -> Option<u64> {
     }
 }
 
-/// A session over one line after the other, each of which may be closed at any time: what wasn't
-/// acknowledged is lost, and all else arrives. Returns how many messages didn't.
-fn exchanges_over_lines(rt: &(impl Abort + AllocGlobal), seed: u64) -> u64 {
+/// A session over one line after the other, each of which may be closed at one of so many reads:
+/// what wasn't acknowledged is lost, and all else arrives. Returns how many messages didn't.
+fn exchanges_over_lines(rt: &(impl Abort + AllocGlobal), seed: u64, cuts: usize) -> u64 {
     let mut draws = Draws { state: seed };
     let input = messages(rt, &mut draws, 40);
     let mut expected = Vec::new(rt.alloc());
     append(rt, &mut expected, input.as_slice());
     let answer = messages(rt, &mut draws, 5);
     let mut desk = Desk::new(rt, draws, input, answer);
-    desk.cuts = 60;
+    desk.cuts = cuts;
     let options = Options {
         again: true,
         ..options(1000, 86_400)
@@ -320,7 +320,14 @@ fn exchanges_over_lines(rt: &(impl Abort + AllocGlobal), seed: u64) -> u64 {
 fn all_but_the_lost_arrive(rt: HostRuntime) {
     let mut missing = 0u64;
     for seed in 1..17u64 {
-        missing = exchanges_over_lines(&rt, seed).saturating_add(missing);
+        missing = exchanges_over_lines(&rt, seed, 60).saturating_add(missing);
     }
     assert!(&rt; missing > 0);
+}
+
+#[test]
+fn a_whole_line_ends_well(rt: HostRuntime) {
+    for seed in 1..5u64 {
+        assert!(&rt; exchanges_over_lines(&rt, seed, 0) == 0);
+    }
 }
