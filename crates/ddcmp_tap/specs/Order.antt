@@ -42,7 +42,22 @@ word_of (item.Format offset fault) = Bad
 
 -- ---- what an item waits for
 
--- a number beyond the data that the other side has drawn, counted from the last acknowledgement
+-- the other side's data of this number aren't drawn at all
+abbrev pub is_undrawn : Drawn → Drawn → ℕ → Bool
+is_undrawn own other resp = nat_lt (distance own.resp other.top) (distance own.resp resp)
+
+-- An acknowledgement waits until its data were drawn once.
+unfoldable pub must_wait : Drawn → Drawn → Word → Bool
+must_wait own other Bad = false
+must_wait own other Maint = false
+must_wait own other (Data resp num) = is_undrawn own other resp
+must_wait own other (Ack resp) = is_undrawn own other resp
+must_wait own other (Nak resp is_reply) = is_undrawn own other resp
+must_wait own other Rep = false
+must_wait own other Strt = false
+must_wait own other Stack = false
+
+-- a number beyond the data that the other side has in sequence, after a NAK again
 abbrev pub is_ahead : Drawn → Drawn → ℕ → Bool
 is_ahead own other resp = nat_lt (distance own.resp other.num) (distance own.resp resp)
 
@@ -55,7 +70,8 @@ abbrev pub is_early : Drawn → ℕ → Bool → Bool
 is_early other resp is_reply =
     if is_reply then not other.asks else (resp == other.num) && not other.repeats
 
--- After a STRT or STACK all but these wait for an answer to that.
+-- It waits too until what it is likely to answer is drawn. After a STRT or STACK all but these wait
+-- for an answer to that.
 unfoldable pub waits : Drawn → Drawn → Word → Bool
 waits own other Bad = false
 waits own other Maint = false
@@ -70,45 +86,66 @@ waits own other Stack = not other.starts
 
 -- ---- what is drawn of both sides after an item
 
+-- A number comes after another, counted from the last acknowledgement. One that lies half of all
+-- numbers ahead of that is an old one, which is sent again.
+abbrev pub is_after : Drawn → ℕ → ℕ → Bool
+is_after other last num =
+    nat_lt (distance other.resp num) 128
+    && nat_lt (distance other.resp last) (distance other.resp num)
+
 -- A message is new if it comes after the others; after a NAK the next one alone is.
 abbrev pub is_new : Drawn → Drawn → ℕ → Bool
 is_new own other num =
-    if own.goes_back then num == (own.num + 1) % 256
-    else nat_lt (distance other.resp own.num) (distance other.resp num)
+    if own.goes_back then num == (own.num + 1) % 256 else is_after other own.num num
 
 abbrev pub after_data : Drawn → Drawn → ℕ → Drawn
 after_data own other num =
     if is_new own other num then record own { num = num; goes_back = false }
     else record own { repeats = true }
 
+-- the highest number so far
+abbrev pub higher : Drawn → Drawn → ℕ → ℕ
+higher own other num = if is_after other own.top num then num else own.top
+
 -- the side that it is of
 unfoldable pub after_own : Drawn → Drawn → Word → Drawn
 after_own own other Bad = record own { repeats = true }
 after_own own other Maint = own
-after_own own other (Data resp num) = record (after_data own other num) { resp = resp }
+after_own own other (Data resp num) =
+    record (after_data own other num) { resp = resp; top = higher own other num }
 after_own own other (Ack resp) = record own { resp = resp }
 after_own own other (Nak resp is_reply) = record own { resp = resp }
 after_own own other Rep = record own { asks = true; repeats = true }
 after_own own other Strt =
-    record own { num = 0; resp = 0; starts = true; goes_back = false }
+    record own { num = 0; top = 0; resp = 0; starts = true; goes_back = false }
 after_own own other Stack =
-    record own { num = 0; resp = 0; starts = true; repeats = true; goes_back = false }
+    record own { num = 0; top = 0; resp = 0; starts = true; repeats = true; goes_back = false }
 
 -- what it acknowledges was sent, if it isn't drawn
 abbrev pub acknowledged : Drawn → Drawn → ℕ → Drawn
 acknowledged own other resp =
     if is_ahead own other resp then record other { num = resp; goes_back = false } else other
 
+abbrev pub raised : Drawn → Drawn → ℕ → ℕ
+raised own other resp = if is_undrawn own other resp then resp else other.top
+
 -- and the other
 unfoldable pub after_other : Drawn → Drawn → Word → Drawn
 after_other own other Bad = other
 after_other own other Maint = other
-after_other own other (Data resp num) = record (acknowledged own other resp) { starts = false }
+after_other own other (Data resp num) =
+    record (acknowledged own other resp) { top = raised own other resp; starts = false }
 after_other own other (Ack resp) =
-    record (acknowledged own other resp) { starts = false; asks = false; repeats = false }
+    record (acknowledged own other resp) {
+      top = raised own other resp;
+      starts = false;
+      asks = false;
+      repeats = false;
+    }
 after_other own other (Nak resp is_reply) =
     record other {
       num = resp;
+      top = raised own other resp;
       starts = false;
       asks = false;
       repeats = false;
@@ -137,6 +174,7 @@ abbrev pub no_side_drawn : Drawn
 no_side_drawn =
     record {
       num = 0;
+      top = 0;
       resp = 0;
       starts = false;
       asks = false;
@@ -171,11 +209,14 @@ refers Rep theirs = false
 refers Strt theirs = false
 refers Stack theirs = false
 
--- The side whose turn it is goes first if it doesn't wait. If both wait, what they wait for may be
--- missing: it goes first unless its item refers to the other.
+-- The side whose turn it is goes first if it doesn't wait. If both wait, one that isn't for data goes
+-- first; what two wait for that are may be missing, and then the turn counts, unless its item refers
+-- to the other.
 abbrev pub goes_first : Drawn → Drawn → Word → Word → Bool
 goes_first own other mine theirs =
-    if waits own other mine then waits other own theirs && not (refers mine theirs) else true
+    if must_wait own other mine then must_wait other own theirs && not (refers mine theirs)
+    else if waits own other mine then must_wait other own theirs || waits other own theirs
+    else true
 
 abbrev pub next_of_both : Side → Order → Word → Word → Side
 next_of_both Caller o up down =

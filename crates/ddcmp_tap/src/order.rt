@@ -6,8 +6,8 @@ ghost use Rattle.ddcmp_tap.specs.Order.{after_drawn, after_other as after_of_oth
 ghost use Rattle.ddcmp_tap.specs.Order.{after_own as after_of_own, control_word, goes_first};
 ghost use Rattle.ddcmp_tap.specs.Order.{header_word, is_ahead as is_ahead_of, is_early};
 ghost use Rattle.ddcmp_tap.specs.Order.{is_for as is_for_data, is_new as is_new_data, is_unasked};
-ghost use Rattle.ddcmp_tap.specs.Order.{next_of_both, next_side, nothing_drawn};
-ghost use Rattle.ddcmp_tap.specs.Order.{refers as refers_to_other};
+ghost use Rattle.ddcmp_tap.specs.Order.{higher, is_undrawn, must_wait, next_of_both, next_side};
+ghost use Rattle.ddcmp_tap.specs.Order.{nothing_drawn, raised, refers as refers_to_other};
 ghost use Rattle.ddcmp_tap.specs.Order.{waits as waits_for_other, word_of};
 
 use crate::side::Side;
@@ -104,8 +104,10 @@ fn distance(from: u8, to: u8) -> u8
 /// What was drawn of a side, as far as items of the other refer to it.
 #[derive(Clone, Copy, Debug, PartialEq, Eq)]
 pub struct Drawn {
-    /// The number of its last new data message.
+    /// The number of its last data message in sequence, after a NAK again.
     pub num: u8,
+    /// The highest number of its data messages.
+    pub top: u8,
     /// The number that it acknowledged last.
     pub resp: u8,
     /// Whether it had a STRT or STACK, and the other side nothing but STRTs since.
@@ -122,6 +124,7 @@ impl Drawn {
     /// Nothing was drawn.
     const NOTHING: Drawn = Drawn {
         num: 0,
+        top: 0,
         resp: 0,
         starts: false,
         asks: false,
@@ -129,7 +132,27 @@ impl Drawn {
         goes_back: false,
     };
 
-    /// Returns whether the other side's data of this number aren't drawn yet.
+    /// Returns whether the other side's data of this number aren't drawn at all.
+    fn is_undrawn(&self, other: &Drawn, resp: u8) -> bool
+        ensures { result ≡ is_undrawn self.now other.now resp }
+    {
+        distance(self.resp, other.top) < distance(self.resp, resp)
+    }
+
+    /// Returns whether an item acknowledges data that aren't drawn at all.
+    #[tactic(auto, unfolding(crate::specs::Order::must_wait))]
+    fn must_wait(&self, other: &Drawn, word: Word) -> bool
+        ensures { result ≡ must_wait self.now other.now word }
+    {
+        match word {
+            Word::Data(resp, _) | Word::Ack(resp) | Word::Nak(resp, _) => {
+                self.is_undrawn(other, resp)
+            }
+            Word::Bad | Word::Maint | Word::Rep | Word::Strt | Word::Stack => false,
+        }
+    }
+
+    /// Returns whether the other side's data of this number aren't drawn in sequence yet.
     fn is_ahead(&self, other: &Drawn, resp: u8) -> bool
         ensures { result ≡ is_ahead_of self.now other.now resp }
     {
@@ -154,7 +177,7 @@ impl Drawn {
         }
     }
 
-    /// Returns whether an item waits for one of the other side.
+    /// Returns whether an item waits for one of the other side that it is likely to answer.
     #[tactic(auto, unfolding(crate::specs::Order::waits))]
     fn waits(&self, other: &Drawn, word: Word) -> bool
         ensures { result ≡ waits_for_other self.now other.now word }
@@ -173,6 +196,13 @@ impl Drawn {
         }
     }
 
+    /// Returns whether a number of the other side's data comes after another, and isn't an old one.
+    fn is_after(&self, last: u8, num: u8) -> bool
+        ensures { result ≡ is_after self.now last num }
+    {
+        distance(self.resp, num) < 128 && distance(self.resp, last) < distance(self.resp, num)
+    }
+
     /// Returns whether a data message is one after those that were drawn.
     fn is_new(&self, other: &Drawn, num: u8) -> bool
         ensures { result ≡ is_new_data self.now other.now num }
@@ -180,7 +210,29 @@ impl Drawn {
         if self.goes_back {
             num == Seq(self.num).next().0
         } else {
-            distance(other.resp, self.num) < distance(other.resp, num)
+            other.is_after(self.num, num)
+        }
+    }
+
+    /// Returns the highest number with that of a data message.
+    fn higher(&self, other: &Drawn, num: u8) -> u8
+        ensures { result ≡ higher self.now other.now num }
+    {
+        if other.is_after(self.top, num) {
+            num
+        } else {
+            self.top
+        }
+    }
+
+    /// Returns the highest number of the other side, of whose data this number is acknowledged.
+    fn raised(&self, other: &Drawn, resp: u8) -> u8
+        ensures { result ≡ raised self.now other.now resp }
+    {
+        if self.is_undrawn(other, resp) {
+            resp
+        } else {
+            other.top
         }
     }
 
@@ -205,8 +257,10 @@ impl Drawn {
             Word::Bad => self.repeats = true,
             Word::Maint => {}
             Word::Data(resp, num) => {
+                let top = self.higher(other, num);
                 self.take_data(other, num);
                 self.resp = resp;
+                self.top = top;
             }
             Word::Ack(resp) | Word::Nak(resp, _) => self.resp = resp,
             Word::Rep => {
@@ -225,12 +279,14 @@ impl Drawn {
     fn begin(&mut self)
         ensures { self.new ≡ record self.old {
           num = 0;
+          top = 0;
           resp = 0;
           starts = true;
           goes_back = false;
         } }
     {
         self.num = 0;
+        self.top = 0;
         self.resp = 0;
         self.starts = true;
         self.goes_back = false;
@@ -254,11 +310,15 @@ impl Drawn {
         match word {
             Word::Bad | Word::Maint | Word::Strt => {}
             Word::Data(resp, _) => {
+                let top = own.raised(self, resp);
                 self.acknowledge(own, resp);
+                self.top = top;
                 self.starts = false;
             }
             Word::Ack(resp) => {
+                let top = own.raised(self, resp);
                 self.acknowledge(own, resp);
+                self.top = top;
                 self.starts = false;
                 self.asks = false;
                 self.repeats = false;
@@ -266,6 +326,7 @@ impl Drawn {
             Word::Nak(resp, _) => {
                 *self = Drawn {
                     num: resp,
+                    top: own.raised(self, resp),
                     resp: self.resp,
                     starts: false,
                     asks: false,
@@ -281,8 +342,10 @@ impl Drawn {
     fn goes_first(&self, other: &Drawn, mine: Word, theirs: Word) -> bool
         ensures { result ≡ goes_first self.now other.now mine theirs }
     {
-        if self.waits(other, mine) {
-            other.waits(self, theirs) && !mine.refers(theirs)
+        if self.must_wait(other, mine) {
+            other.must_wait(self, theirs) && !mine.refers(theirs)
+        } else if self.waits(other, mine) {
+            other.must_wait(self, theirs) || other.waits(self, theirs)
         } else {
             true
         }
