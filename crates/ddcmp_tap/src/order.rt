@@ -6,8 +6,8 @@ ghost use Rattle.ddcmp_tap.specs.Order.{after_drawn, after_other as after_of_oth
 ghost use Rattle.ddcmp_tap.specs.Order.{after_own as after_of_own, control_word, goes_first};
 ghost use Rattle.ddcmp_tap.specs.Order.{header_word, is_ahead as is_ahead_of, is_early};
 ghost use Rattle.ddcmp_tap.specs.Order.{is_for as is_for_data, is_new as is_new_data, is_unasked};
-ghost use Rattle.ddcmp_tap.specs.Order.{higher, is_undrawn, must_wait, next_of_both, next_side};
-ghost use Rattle.ddcmp_tap.specs.Order.{nothing_drawn, raised, refers as refers_to_other};
+ghost use Rattle.ddcmp_tap.specs.Order.{higher, is_after, is_undrawn, must_wait, next_of_both};
+ghost use Rattle.ddcmp_tap.specs.Order.{next_side, nothing_drawn, raised, refers as refers_to_other};
 ghost use Rattle.ddcmp_tap.specs.Order.{waits as waits_for_other, word_of};
 
 use crate::side::Side;
