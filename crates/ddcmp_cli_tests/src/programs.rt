@@ -224,6 +224,8 @@ fn texts_are_told_whole(rt: HostRuntime) -> Result<(), Fail> {
     is_whole(&rt, &["ddcmp", "explode"])?;
     is_whole(&rt, &["ddcmp", "explain", "--max", "16384"])?;
     is_whole(&rt, &["ddcmp", "simulate", "more", "words"])?;
-    let words = ["ddcmp", "explain", "--raw", "--max", "1", "more", "words"];
+    let words = [
+        "ddcmp", "explain", "--raw", "--max", "1", "three", "more", "words",
+    ];
     is_whole(&rt, &words)
 }
