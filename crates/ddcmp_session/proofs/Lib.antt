@@ -12,4 +12,5 @@ pub mod InputLaws
 pub mod NewRunLaws
 pub mod NoticeLaws
 pub mod RestLaws
+pub mod StopLaws
 pub mod TextLaws

@@ -33,6 +33,12 @@ pub record Traffic : Type 0 where
 abbrev pub HasReported : Fault → Traffic → Type 0
 HasReported fault t = (before after : List Fault) × (t.faults ≡ before ++ fault ∷ after)
 
+-- What was reported has been reported afterwards.
+abbrev pub KeepsFaults : Option Traffic → Option Traffic → Type 0
+KeepsFaults old new = (before : Traffic) → old ≡ Some before
+    → (after : Traffic) × (new ≡ Some after)
+    × ((fault : Fault) → HasReported fault before → HasReported fault after)
+
 -- ---- what a call of a device adds to that
 
 -- a fault was reported

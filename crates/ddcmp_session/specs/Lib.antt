@@ -8,6 +8,7 @@ pub mod Lines
 pub mod Messages
 pub mod NewRun
 pub mod Session
+pub mod Stopping
 pub mod Text
 pub mod Timing
 pub use Rattle.ddcmp_io.specs.Queue

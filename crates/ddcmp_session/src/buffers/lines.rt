@@ -1,7 +1,9 @@
 //! A session over one line after the other.
-ghost use Rattle.std.specs.Prelude.{◌≡◌, ◌≢◌, ◌⊎◌, ◌<◌, Err, Ok, ℕ, false, true};
-ghost use Rattle.ddcmp_session.specs.Devices.{BuffersView};
+ghost use Rattle.std.specs.Prelude.{◌≡◌, ◌≢◌, ◌⊎◌, ◌<◌, [], Err, Ok, Option, Some, ℕ, false, true};
+ghost use Rattle.ddcmp_session.specs.Devices.{BuffersView, Traffic};
 ghost use Rattle.ddcmp_session.specs.Lines.{GoesOver, ReportsOver};
+ghost use Rattle.ddcmp_session.specs.Stopping.{Judges};
+ghost use Rattle.ddcmp_session.specs.Timing.{end};
 ghost use Rattle.ddcmp_session.specs.declared.devices.Fault.{Fault as FaultValue};
 
 use crate::buffers::Buffers;
@@ -25,10 +27,13 @@ pub enum Stop<R> {
 }
 
 impl Buffers {
-    ghost use Rattle.std.specs.Prelude.{◌≡◌, ◌≢◌, ◌⊎◌, ◌<◌, Err, Ok, ℕ, false, is_ok, true};
-    ghost use Rattle.ddcmp_session.specs.Devices.{GoesOn, Reports};
+    ghost use Rattle.std.specs.Prelude.{◌≡◌, ◌≢◌, ◌⊎◌, ◌<◌, Err, Ok, Some, ℕ, false, is_ok, true};
+    ghost use Rattle.ddcmp_session.specs.Devices.{GoesOn, KeepsFaults, Reports};
     ghost use Rattle.ddcmp_session.specs.Session.{SessionView, is_delivered};
-    ghost use Rattle.ddcmp_session.specs.Lines.{Ends, GoesOver, ReportsOver};
+    ghost use Rattle.ddcmp_session.specs.Lines.{Closes, Ends, GoesOver, MayEndWell, ReportsOver};
+    ghost use Rattle.ddcmp_session.specs.Stopping.{HasNotStarted, IsLeft, IsTimeOver};
+    ghost use Rattle.ddcmp_session.specs.Stopping.{Judges, Stops};
+    ghost use Rattle.ddcmp_session.specs.Timing.{end};
     ghost use Rattle.ddcmp_session.specs.declared.devices.Fault.{Fault as FaultValue};
 
     /// Runs a new session over one line after the other, until all of the input is delivered or a
@@ -41,6 +46,10 @@ impl Buffers {
     ) -> Result<(), Stop<D::Refusal>>
         ensures ends { Ends (is_ok result) self.old session.old (D.traffic devices.old)
             self.new session.new (D.traffic devices.new) }
+        ensures stops { (ends : Ends (is_ok result) self.old session.old (D.traffic devices.old)
+            self.new session.new (D.traffic devices.new))
+            × Stops result self.old session.old (D.traffic devices.old) ends.unclosed
+            (D.traffic devices.new) }
         ensures whole { result ≡ Ok tt → session.new.course.lost ≡ 0 }
         ensures lost { (count : ℕ) → result ≡ Err (Stop.Lost count)
             → (count ≡ session.new.course.lost) × (0 < count) }
@@ -67,6 +76,10 @@ impl Buffers {
             → result ≡ Err (Stop.Device fault) → ReportsOver self.old session.old
             (D.traffic devices.old) (D.traffic devices.new) fault }
         ensures delivered { result ≡ Ok tt → is_delivered session.new ≡ true }
+        ensures ended { result ≡ Ok tt → end session.new ≡ Some End.Delivered }
+        ensures left { result ≡ Err Stop.Left → IsLeft session.new }
+        ensures time { result ≡ Err (Stop.Device Fault.Time) → IsTimeOver self.old session.old
+            (D.traffic devices.old) session.new (D.traffic devices.new) }
         ensures unjudged { (count : ℕ) → result ≢ Err (Stop.Lost count) }
     {
         match devices.begin_lines(session) {
@@ -86,7 +99,8 @@ impl Buffers {
                 Err(fault) => return Err(Stop::Device(fault)),
             }
         }
-        Err(Stop::Left)
+        pass_run(session);
+        Err(Stop::Device(Fault::Time))
     }
 
     /// Runs a session over a line: returns whether all is delivered, or the line was left.
@@ -101,6 +115,10 @@ impl Buffers {
             → result ≡ Err (Stop.Device fault) → ReportsOver self.old session.old
             (D.traffic devices.old) (D.traffic devices.new) fault }
         ensures delivered { result ≡ Ok true → is_delivered session.new ≡ true }
+        ensures ended { result ≡ Ok true → end session.new ≡ Some End.Delivered }
+        ensures left { result ≡ Err Stop.Left → HasNotStarted session.new }
+        ensures time { result ≡ Err (Stop.Device Fault.Time) → IsTimeOver self.old session.old
+            (D.traffic devices.old) session.new (D.traffic devices.new) }
         ensures unjudged { (count : ℕ) → result ≢ Err (Stop.Lost count) }
     {
         match self.begin(session, devices) {
@@ -128,8 +146,11 @@ impl Buffers {
     ) -> Result<(), Stop<D::Refusal>>
         ensures over { GoesOver self.old session.old (D.traffic devices.old)
             self.new session.new (D.traffic devices.new) }
-        ensures time { (fault : FaultValue) → result ≡ Err (Stop.Device fault)
+        ensures device { (fault : FaultValue) → result ≡ Err (Stop.Device fault)
             → fault ≡ Fault.Time }
+        ensures left { result ≡ Err Stop.Left → HasNotStarted session.new }
+        ensures time { result ≡ Err (Stop.Device Fault.Time) → IsTimeOver self.old session.old
+            (D.traffic devices.old) session.new (D.traffic devices.new) }
         ensures unjudged { (count : ℕ) → result ≢ Err (Stop.Lost count) }
     {
         for _try in 0..u64::MAX {
@@ -148,6 +169,7 @@ impl Buffers {
                 return Err(Stop::Device(Fault::Time));
             }
         }
+        pass_run(session);
         Err(Stop::Device(Fault::Time))
     }
 
@@ -161,6 +183,7 @@ impl Buffers {
         ensures over { GoesOver self.old session.old (D.traffic devices.old)
             self.new session.new (D.traffic devices.new) }
         ensures open { (fault : FaultValue) → result ≢ Err (Stop.Device fault) }
+        ensures left { result ≡ Err Stop.Left → HasNotStarted session.new }
         ensures unjudged { (count : ℕ) → result ≢ Err (Stop.Lost count) }
     {
         if now < session.opens_at() {
@@ -188,8 +211,12 @@ impl Buffers {
     ) -> Result<(), Stop<D::Refusal>>
         requires unjudged { (count : ℕ) → ran ≢ Err (Stop.Lost count) }
         requires delivered { ran ≡ Ok tt → is_delivered session.old ≡ true }
-        ensures ends { Ends (is_ok result) self.old session.old (D.traffic devices.old)
-            self.new session.new (D.traffic devices.new) }
+        ensures on { GoesOn self.old session.old (D.traffic devices.old)
+            self.new session.old (D.traffic devices.new) }
+        ensures closes { Closes self.new session.old session.new }
+        ensures well { is_ok result ≡ true → MayEndWell session.old }
+        ensures judges { Judges ran result }
+        ensures keeps { KeepsFaults (D.traffic devices.old) (D.traffic devices.new) }
         ensures whole { result ≡ Ok tt → session.new.course.lost ≡ 0 }
         ensures lost { (count : ℕ) → result ≡ Err (Stop.Lost count)
             → (count ≡ session.new.course.lost) × (0 < count) }
@@ -215,6 +242,8 @@ impl Buffers {
         ensures reports { (session : SessionView) (fault : FaultValue) → result ≡ Err fault
             → Reports self.old session (D.traffic devices.old) (D.traffic devices.new) fault }
         ensures stays { reads ≡ false → D.traffic devices.new ≡ D.traffic devices.old }
+        ensures keeps { KeepsFaults (D.traffic devices.old) (D.traffic devices.new) }
+        ensures untimed { result ≢ Err Fault.Time }
     {
         if reads {
             self.read_the_rest(devices)
@@ -229,6 +258,8 @@ fn is_over<R>(ran: &Result<(), Stop<R>>) -> bool
     ensures device { (fault : FaultValue) → fault ≢ Fault.Time
         → ran.now ≡ Err (Stop.Device fault) → result ≡ false }
     ensures left { ran.now ≡ Err Stop.Left → result ≡ true }
+    ensures over { result ≡ true
+        → (ran.now ≡ Err Stop.Left) ⊎ (ran.now ≡ Err (Stop.Device Fault.Time)) }
 {
     matches!(ran, Err(Stop::Left | Stop::Device(Fault::Time)))
 }
@@ -242,6 +273,7 @@ fn verdict<R: Copy>(ran: Result<(), Stop<R>>, has_run: bool, lost: u64) -> Resul
     ensures left { result ≡ Err Stop.Left → has_run ≡ false }
     ensures well { result ≡ Ok tt → (ran ≡ result) ⊎ (has_run ≡ true) }
     ensures device { (fault : FaultValue) → result ≡ Err (Stop.Device fault) → ran ≡ result }
+    ensures judges { Judges ran result }
 {
     let is_over = is_over(&ran);
     if lost > 0 && (is_over || ran.is_ok()) {
@@ -257,6 +289,8 @@ fn verdict<R: Copy>(ran: Result<(), Stop<R>>, has_run: bool, lost: u64) -> Resul
 fn wait_between_lines<D: Devices>(session: &Session, devices: &mut D, now: u64) -> bool
     ensures over { (held : BuffersView) → GoesOver held session.now (D.traffic devices.old)
         held session.now (D.traffic devices.new) }
+    ensures failed { result ≡ false → (held : BuffersView) → ReportsOver held session.now
+        (D.traffic devices.old) (D.traffic devices.new) Fault.Input }
 {
     let wanted = if session.to_errors().is_empty() {
         Wanted::NOTHING
@@ -274,16 +308,43 @@ fn leave<D: Devices>(session: &mut Session, devices: &mut D) -> Result<(), Fault
     ensures reports { (held : BuffersView) (fault : FaultValue) → fault ≢ Fault.Time
         → result ≡ Err fault → ReportsOver held session.old (D.traffic devices.old)
         (D.traffic devices.new) fault }
+    ensures time { result ≡ Err Fault.Time
+        → (end session.new ≡ Some End.Time) ⊎ (session.new.output.waiting ≢ []) }
 {
     match leave_line(session, devices) {
         Ok(()) => {}
-        Err(fault) => return Err(fault),
+        Err(fault) => {
+            note_time(session, fault);
+            return Err(fault);
+        }
     }
     let now = devices.now();
     if let Some(seconds) = session.pause_after_line(now) {
         session.report(&Pause { seconds });
     }
     Ok(())
+}
+
+/// Has the time of the run pass if that of an output was over for which nothing waits.
+fn note_time(session: &mut Session, fault: Fault)
+    ensures over { (held : BuffersView) (known : Option Traffic)
+        → GoesOver held session.old known held session.new known }
+    ensures time { fault ≡ Fault.Time
+        → (end session.new ≡ Some End.Time) ⊎ (session.new.output.waiting ≢ []) }
+{
+    if fault == Fault::Time && session.to_output().is_empty() {
+        pass_run(session);
+    }
+}
+
+/// Has the time of the run pass: so many lines, or calls, take longer than any run.
+fn pass_run(session: &mut Session)
+    ensures over { (held : BuffersView) (known : Option Traffic)
+        → GoesOver held session.old known held session.new known }
+    ensures time { end session.new ≡ Some End.Time }
+{
+    let now = session.run_ends_at();
+    session.pass_time(now);
 }
 
 /// A line is opened again after this many seconds.

@@ -1,6 +1,6 @@
 //! One pass over the devices of a session: each step moves bytes between a device and the session,
 //! without waiting, and returns whether it moved any.
-ghost use Rattle.std.specs.Prelude.{◌≡◌, Err, Ok, Option, false};
+ghost use Rattle.std.specs.Prelude.{◌≡◌, ◌≢◌, Err, Ok, Option, false};
 ghost use Rattle.ddcmp_session.specs.Devices.{BuffersView, GoesOn, HoldsMail, OnlyDelivers};
 ghost use Rattle.ddcmp_session.specs.Devices.{Reports, Traffic};
 ghost use Rattle.ddcmp_session.specs.Finishing.{Drains, HasRoomIfEmpty};
@@ -37,9 +37,10 @@ pub(super) fn deliver_all(session: &mut Session) -> bool
 }
 
 impl Buffers {
-    ghost use Rattle.std.specs.Prelude.{◌≡◌, ◌⊎◌, [], Err, Ok, Option, Some, false};
+    ghost use Rattle.std.specs.Prelude.{◌≡◌, ◌≢◌, ◌⊎◌, [], Err, Ok, Option, Some, false};
     ghost use Rattle.ddcmp_session.specs.Session.{SessionView, wants_input, wants_line};
-    ghost use Rattle.ddcmp_session.specs.Devices.{GoesOn, HoldsMail, Reports, Rests, Traffic};
+    ghost use Rattle.ddcmp_session.specs.Devices.{GoesOn, HoldsMail, KeepsFaults, Reports, Rests};
+    ghost use Rattle.ddcmp_session.specs.Devices.{Traffic};
     ghost use Rattle.ddcmp_session.specs.declared.devices.Down.{Down as DownValue};
     ghost use Rattle.ddcmp_session.specs.declared.devices.Fault.{Fault as FaultValue};
 
@@ -55,6 +56,7 @@ impl Buffers {
         ensures reports { (fault : FaultValue) → result ≡ Err fault
             → Reports self.old session.old (D.traffic devices.old) (D.traffic devices.new) fault }
         ensures rests { result ≡ Ok false → Rests self.new session.new }
+        ensures untimed { result ≢ Err Fault.Time }
     {
         // An acknowledgement goes out before the line is read to its end.
         session.fill();
@@ -75,6 +77,7 @@ impl Buffers {
         ensures reports { (fault : FaultValue) → result ≡ Err fault
             → Reports self.old session.now (D.traffic devices.old) (D.traffic devices.new) fault }
         ensures idle { result ≡ Ok false → self.new ≡ self.old }
+        ensures untimed { result ≢ Err Fault.Time }
     {
         if !self.wants_input(session) {
             return Ok(false);
@@ -91,6 +94,8 @@ impl Buffers {
         ensures reports { (session : SessionView) (fault : FaultValue) → result ≡ Err fault
             → Reports self.old session (D.traffic devices.old) (D.traffic devices.new) fault }
         ensures idle { result ≡ Ok false → self.new ≡ self.old }
+        ensures keeps { KeepsFaults (D.traffic devices.old) (D.traffic devices.new) }
+        ensures untimed { result ≢ Err Fault.Time }
     {
         match self.input.read_input(devices) {
             Got::Bytes(n) => self.input_is_over = n == 0,
@@ -116,6 +121,7 @@ impl Buffers {
             → (self.new.input ≡ []) ⊎ (wants_input session.new ≡ false) }
         ensures told { result ≡ Ok false
             → (self.new.is_over ≡ false) ⊎ (wants_input session.new ≡ false) }
+        ensures untimed { result ≢ Err Fault.Time }
     {
         let moved = self.pass_parts(session);
         if !session.wants_input() {
@@ -161,6 +167,8 @@ impl Buffers {
             self.new session (D.traffic devices.new) }
         ensures reports { (session : SessionView) (fault : FaultValue) → result ≡ Err fault
             → Reports self.old session (D.traffic devices.old) (D.traffic devices.new) fault }
+        ensures keeps { KeepsFaults (D.traffic devices.old) (D.traffic devices.new) }
+        ensures untimed { result ≢ Err Fault.Time }
     {
         if self.input_is_over || !self.input.is_empty() {
             return Ok(());
@@ -205,6 +213,7 @@ impl Buffers {
             → Reports self.old session.old (D.traffic devices.old) (D.traffic devices.new) fault }
         ensures idle { result ≡ Ok false → self.new ≡ self.old }
         ensures session { session.new ≡ session.old }
+        ensures untimed { result ≢ Err Fault.Time }
     {
         if !self.wants_line(session) || !devices.may_read_line() {
             return Ok(false);
@@ -276,6 +285,7 @@ pub(super) fn write_output<D: Devices>(
         session.new (D.traffic devices.new) }
     ensures idle { result ≡ Ok false → session.new ≡ session.old }
     ensures output { session.new ≡ record session.old { output = session.new.output } }
+    ensures untimed { result ≢ Err Fault.Time }
 {
     if session.to_output().is_empty() {
         return Ok(false);

@@ -17,7 +17,7 @@ use crate::session::{End, Session};
 pub(super) const END_MS: u64 = 1000;
 
 impl Buffers {
-    ghost use Rattle.std.specs.Prelude.{◌≡◌, Err, Ok, Some};
+    ghost use Rattle.std.specs.Prelude.{◌≡◌, ◌≢◌, Err, Ok, Some};
     ghost use Rattle.ddcmp_session.specs.Timing.{end};
     ghost use Rattle.ddcmp_session.specs.Devices.{GoesOn, Reports};
     ghost use Rattle.ddcmp_session.specs.declared.devices.Fault.{Fault as FaultValue};
@@ -30,6 +30,7 @@ impl Buffers {
         ensures reports { (fault : FaultValue) → result ≡ Err fault
             → Reports self.old session.old (D.traffic devices.old) (D.traffic devices.new) fault }
         ensures ended { (why : EndValue) → result ≡ Ok why → end session.new ≡ Some why }
+        ensures untimed { result ≢ Err Fault.Time }
     {
         for _pass in 0..u64::MAX {
             let now = devices.now();

@@ -1,5 +1,5 @@
-use Rattle.std.proofs.Common.{refl}
-use Rattle.ddcmp_session.proofs.LinesGo.{none-over, over-then, passed-now}
+use Rattle.std.proofs.Common.{inr, refl}
+use Rattle.ddcmp_session.proofs.LinesGo.{none-over, over-then, passed-now, reports-later}
 use Rattle.ddcmp_session.proofs.buffers.Buffers.begin.Goals as goal
 
 pub loop-try-init : goal.loop-try-init
@@ -48,4 +48,16 @@ loop-try-preserved g c =
     (c.wait_between_lines.ensures.over _)))))
 
 pub returns-clause-over : goal.returns-clause-over
-returns-clause-over g c = c.loop-try.invariant
+returns-clause-over g c = over-then c.loop-try.invariant (c.pass_run.ensures.over _ _)
+
+pub returns-then-not-wait_between_lines-clause-time : goal.returns-then-not-wait_between_lines-clause-time
+returns-then-not-wait_between_lines-clause-time g c = λ e.
+    inr
+    (inr
+    (reports-later c.loop-try.invariant
+    (reports-later (none-over refl c.now-now.ensures)
+    (reports-later
+    (passed-now c.now-now.result c.loop-try.session c.pass_time.new.self c.pass_time.ensures)
+    (reports-later c.try_line.ensures.over
+    (reports-later (none-over c.write_errors.ensures.session c.write_errors.ensures.devices)
+    (c.if-not-wait_between_lines.ensures.failed refl _)))))))

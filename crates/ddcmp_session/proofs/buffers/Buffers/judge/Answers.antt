@@ -1,22 +1,17 @@
 use Rattle.std.proofs.Common.{inr}
-use Rattle.ddcmp_session.proofs.LinesGo.{goes-over, may-end, same-fault}
+use Rattle.ddcmp_session.proofs.LinesGo.{may-end, same-fault}
 use Rattle.ddcmp_session.proofs.buffers.Buffers.judge.Goals as goal
 
-pub returns-in-Ok-clause-ends : goal.returns-in-Ok-clause-ends
-returns-in-Ok-clause-ends g c = record {
-  unclosed = c.args.session.now;
-  over = goes-over (c.read_if-read.ensures.on c.args.session.now);
-  closes = c.close.ensures;
-  well = λ e. may-end c.args.session.now c.verdict.ensures.well c.requires.delivered c.has_run-has_run.ensures e;
-}
+pub returns-in-Ok-clause-on : goal.returns-in-Ok-clause-on
+returns-in-Ok-clause-on g c = c.read_if-read.ensures.on c.args.session.now
 
-pub returns-in-Err-clause-ends : goal.returns-in-Err-clause-ends
-returns-in-Err-clause-ends g c = record {
-  unclosed = c.args.session.now;
-  over = goes-over (c.read_if-read.ensures.on c.args.session.now);
-  closes = c.close.ensures;
-  well = λ e. cc;
-}
+pub returns-in-Err-clause-on : goal.returns-in-Err-clause-on
+returns-in-Err-clause-on g c = c.read_if-read.ensures.on c.args.session.now
+
+pub returns-in-Ok-clause-well : goal.returns-in-Ok-clause-well
+returns-in-Ok-clause-well g c = λ e.
+    may-end c.args.session.now c.verdict.ensures.well c.requires.delivered
+    c.has_run-has_run.ensures e
 
 pub returns-in-Err-clause-reports : goal.returns-in-Err-clause-reports
 returns-in-Err-clause-reports g c = λ fault untimed e.

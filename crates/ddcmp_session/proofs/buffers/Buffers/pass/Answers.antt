@@ -104,3 +104,19 @@ returns-clause-rests g c = λ e.
     (fed.1 ∙ c.in_ok-moved-3.ensures.idle (as-ok n.fourth))
     (c.pass_received.ensures.fed n.fifth) (c.pass_received.ensures.left n.fifth)
     (c.write_errors.ensures.session ∙ c.in_ok-moved-4.ensures.idle (as-ok n.sixth))
+
+pub returns-in_err-moved-clause-untimed : goal.returns-in_err-moved-clause-untimed
+returns-in_err-moved-clause-untimed g c = λ e.
+    c.in_err-moved.ensures.untimed (passed-on c.from_residual.ensures.1 e)
+
+pub returns-in_err-moved-2-clause-untimed : goal.returns-in_err-moved-2-clause-untimed
+returns-in_err-moved-2-clause-untimed g c = λ e.
+    c.in_err-moved-2.ensures.untimed (passed-on c.from_residual-in_err-moved-2.ensures.1 e)
+
+pub returns-in_err-moved-3-clause-untimed : goal.returns-in_err-moved-3-clause-untimed
+returns-in_err-moved-3-clause-untimed g c = λ e.
+    c.in_err-moved-3.ensures.untimed (passed-on c.from_residual-in_err-moved-3.ensures.1 e)
+
+pub returns-in_err-moved-4-clause-untimed : goal.returns-in_err-moved-4-clause-untimed
+returns-in_err-moved-4-clause-untimed g c = λ e.
+    c.in_err-moved-4.ensures.untimed (passed-on c.from_residual-in_err-moved-4.ensures.1 e)

@@ -1,8 +1,10 @@
-use Rattle.std.proofs.Common.{◌≡◌, ◌∙◌, ap, [], false, Bool, Result, Err, refl, sym, subst, ◌==◌}
+use Rattle.std.proofs.Common.{◌≡◌, ◌∙◌, ap, [], false, Bool, true, Result, Err, refl, sym, subst, ◌==◌}
 use Rattle.ddcmp_session.specs.declared.devices.Fault.{Fault}
 use Rattle.ddcmp_session.specs.declared.devices.Fault.TheVariants.{Input}
+use Rattle.ddcmp_io.specs.declared.device.Got.TheVariants.{Bytes}
 use Rattle.ddcmp_session.specs.Devices.{BuffersView, Reports}
 use Rattle.ddcmp_session.proofs.GoingLaws.{idles, faulted, reported}
+use Rattle.ddcmp_session.proofs.StopLaws.{keeps-fault, keeps-read, keeps-wait}
 use Rattle.ddcmp_session.proofs.InputGoes.{input-given, no-input}
 use Rattle.ddcmp_session.specs.contracts.buffers.Buffers as buffers
 use Rattle.ddcmp_session.proofs.buffers.Buffers.read_now.Goals as goal
@@ -38,6 +40,15 @@ returns-clause-on g c =
     (subst (λ (v : BuffersView). v.input ≡ []) (sym c.self.view_is) c.requires.empty)
     (subst (λ (v : BuffersView). v.is_over ≡ false) (sym c.self.view_is) c.requires.goes_on)
     c.in-Bytes.ensures.1 c.in-Bytes.ensures.2 refl)
+
+pub returns-in-Idle-clause-keeps : goal.returns-in-Idle-clause-keeps
+returns-in-Idle-clause-keeps g c = keeps-wait true c.in-Idle.ensures.2
+
+pub returns-in-Failed-clause-keeps : goal.returns-in-Failed-clause-keeps
+returns-in-Failed-clause-keeps g c = keeps-fault Input c.in-Failed.ensures.2
+
+pub returns-clause-keeps : goal.returns-clause-keeps
+returns-clause-keeps g c = keeps-read (Bytes c.in-Bytes.n) c.in-Bytes.ensures.0 c.in-Bytes.ensures.2
 
 pub returns-in-Idle-clause-idle : goal.returns-in-Idle-clause-idle
 returns-in-Idle-clause-idle g c =

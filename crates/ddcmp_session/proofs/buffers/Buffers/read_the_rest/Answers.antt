@@ -3,6 +3,7 @@ use Rattle.ddcmp_session.specs.declared.devices.Fault.{Fault}
 use Rattle.ddcmp_session.specs.declared.devices.Fault.TheVariants.{Input}
 use Rattle.ddcmp_session.specs.Devices.{Reports}
 use Rattle.ddcmp_session.proofs.GoingLaws.{stays, goes-then, waited, reported, reports-then}
+use Rattle.ddcmp_session.proofs.StopLaws.{keeps-same, keeps-then, keeps-wait}
 use Rattle.ddcmp_session.proofs.buffers.Buffers.read_the_rest.Goals as goal
 
 same : {f f' : Fault} → ◌≡◌ {A = Result (Unit {0}) Fault} (Err f) (Err f') → f ≡ f'
@@ -36,3 +37,17 @@ returns-in-Err-clause-reports g c = λ session fault e.
     (g.D.Devices.traffic c.read_now.new.devices)) (same e)
     (reports-then (waited c.wait.result c.wait.ensures)
     (c.in-Err.ensures.reports session c.in-Err.fault refl))
+
+pub returns-then-self-clause-keeps : goal.returns-then-self-clause-keeps
+returns-then-self-clause-keeps g c = keeps-same refl
+
+pub returns-then-not-wait-clause-keeps : goal.returns-then-not-wait-clause-keeps
+returns-then-not-wait-clause-keeps g c = keeps-wait c.wait.result c.wait.ensures
+
+pub returns-in-Ok-clause-keeps : goal.returns-in-Ok-clause-keeps
+returns-in-Ok-clause-keeps g c =
+    keeps-then (keeps-wait c.wait.result c.wait.ensures) c.in-Ok.ensures.keeps
+
+pub returns-in-Err-clause-keeps : goal.returns-in-Err-clause-keeps
+returns-in-Err-clause-keeps g c =
+    keeps-then (keeps-wait c.wait.result c.wait.ensures) c.in-Err.ensures.keeps

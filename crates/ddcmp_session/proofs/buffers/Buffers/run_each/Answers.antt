@@ -1,5 +1,6 @@
 use Rattle.std.proofs.Common.{refl}
 use Rattle.ddcmp_session.proofs.LinesGo.{none-over, over-then, reports-later, same-err, same-fault}
+use Rattle.ddcmp_session.proofs.StopLaws.{of-leave, time-later}
 use Rattle.ddcmp_session.proofs.buffers.Buffers.run_each.Goals as goal
 
 pub loop-line-init : goal.loop-line-init
@@ -31,6 +32,9 @@ returns-in-Err-clause-over g c =
 pub returns-in-Ok-true-clause-over : goal.returns-in-Ok-true-clause-over
 returns-in-Ok-true-clause-over g c = over-then c.loop-line.invariant c.run_one.ensures.over
 
+pub returns-clause-over : goal.returns-clause-over
+returns-clause-over g c = over-then c.loop-line.invariant (c.pass_run.ensures.over _ _)
+
 pub returns-in-Ok-false-2-clause-over : goal.returns-in-Ok-false-2-clause-over
 returns-in-Ok-false-2-clause-over g c = over-then c.loop-line.invariant c.run_one.ensures.over
 
@@ -41,3 +45,12 @@ pub returns-in-Err-run_one-clause-reports : goal.returns-in-Err-run_one-clause-r
 returns-in-Err-run_one-clause-reports g c = λ fault untimed e.
     reports-later c.loop-line.invariant
     (c.in-Err-run_one.ensures.reports fault untimed (same-err e))
+
+pub returns-in-Err-run_one-clause-time : goal.returns-in-Err-run_one-clause-time
+returns-in-Err-run_one-clause-time g c = λ e.
+    time-later c.run_one.new.session c.loop-line.invariant
+    (c.in-Err-run_one.ensures.time (same-err e))
+
+pub returns-in-Err-leave-clause-time : goal.returns-in-Err-leave-clause-time
+returns-in-Err-leave-clause-time g c = λ e.
+    of-leave c.leave.new.session (c.in-Err-leave.ensures.time (same-fault e))

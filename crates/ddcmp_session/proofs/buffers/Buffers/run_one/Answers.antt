@@ -1,5 +1,6 @@
 use Rattle.std.proofs.Common.{refl}
-use Rattle.ddcmp_session.proofs.LinesGo.{goes-over, none-over, over-then, reports-over, same-fault}
+use Rattle.ddcmp_session.proofs.LinesGo.{goes-over, none-over, over-then, reports-over}
+use Rattle.ddcmp_session.proofs.LinesGo.{same-err, same-fault}
 use Rattle.ddcmp_session.proofs.buffers.Buffers.run_one.Goals as goal
 
 pub returns-in-Ok-Delivered-clause-over : goal.returns-in-Ok-Delivered-clause-over
@@ -25,5 +26,11 @@ returns-in-Err-run g c = record {
   reports = λ fault untimed e.
       reports-over c.begin.ensures.over (c.in-Err-run.ensures.reports fault (same-fault e));
   delivered = λ e. cc;
+  ended = λ e. cc;
+  left = λ e. cc;
+  time = λ e. absurd (c.in-Err-run.ensures.untimed (same-fault e));
   unjudged = λ count e. cc;
 }
+
+pub returns-in-Err-clause-time : goal.returns-in-Err-clause-time
+returns-in-Err-clause-time g c = λ e. c.in-Err.ensures.time (same-err e)

@@ -1,4 +1,5 @@
-use Rattle.std.proofs.Common.{refl}
+use Rattle.std.proofs.Common.{◌≡◌, refl, Result, Err}
+use Rattle.ddcmp_session.specs.declared.devices.Fault.{Fault}
 use Rattle.ddcmp_session.proofs.LinesGo.{none-over, over-then, paused}
 use Rattle.ddcmp_session.proofs.buffers.lines.leave.Goals as goal
 
@@ -16,3 +17,13 @@ returns-in_default-clause-over g c = λ held.
     (over-then (none-over refl c.now-now.ensures)
     (paused c.now-now.result c.leave_line.new.session c.pause_after_line.new.self
     c.pause_after_line.ensures.state))
+
+pub returns-in-Err-clause-over : goal.returns-in-Err-clause-over
+returns-in-Err-clause-over g c = λ held.
+    over-then (c.leave_line.ensures.over held) (c.note_time.ensures.over held _)
+
+same : {f f' : Fault} → ◌≡◌ {A = Result (Unit {0}) Fault} (Err f) (Err f') → f ≡ f'
+same e = cc
+
+pub returns-in-Err-clause-time : goal.returns-in-Err-clause-time
+returns-in-Err-clause-time g c = λ e. c.note_time.ensures.time (same e)

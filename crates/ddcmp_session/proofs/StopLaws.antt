@@ -1,0 +1,126 @@
+-- Why a run over lines stops.
+use Rattle.std.proofs.Common.{◌≡◌, ◌∙◌, ap, arith, sym, subst, refl, ℕ, Bool, true, false, cond}
+use Rattle.std.proofs.Common.{nat_le, List, [], ◌∷◌, ◌++◌, append_assoc, Option, None, Some, Result}
+use Rattle.std.proofs.Common.{Ok, Err, ◌⊎◌, inl, inr}
+use Rattle.std.specs.Prelude.{◌≢◌}
+use Rattle.std.proofs.lemmas.Bool.{le-leb}
+use Rattle.ddcmp_io.specs.declared.device.Got.{Got}
+use Rattle.ddcmp_io.specs.declared.device.Got.TheVariants as got
+use Rattle.ddcmp_session.specs.declared.buffers.lines.Stop.TheVariants.{the_data, Device, Left}
+use Rattle.ddcmp_session.specs.declared.buffers.lines.Stop.TheVariants.{Lost}
+use Rattle.ddcmp_session.specs.declared.devices.Fault.{Fault}
+use Rattle.ddcmp_session.specs.declared.devices.Fault.TheVariants.{Input}
+use Rattle.ddcmp_session.specs.declared.devices.Fault.TheVariants as fault
+use Rattle.ddcmp_session.specs.declared.session.End.TheVariants as end_of
+use Rattle.ddcmp_session.specs.Devices.{Becomes, BuffersView, HasReported, KeepsFaults, Traffic}
+use Rattle.ddcmp_session.specs.Devices.{after_fault, after_read, after_wait}
+use Rattle.ddcmp_session.specs.Lines.{GoesOver, ReportsOver}
+use Rattle.ddcmp_session.specs.Session.{SessionView, after_time}
+use Rattle.ddcmp_session.specs.Stopping.{IsLeft, IsTimeOver, Judges, MayBeWell, MayStop, Stops}
+use Rattle.ddcmp_session.specs.Timing.{end, run_ends_at}
+use Rattle.ddcmp_session.proofs.LinesGo.{reports-at, reports-later}
+
+-- ---- the time of the run
+
+time-ends : (b : Bool) (x : Option end_of.the_data) → b ≡ true → cond b (Some end_of.Time) x ≡ Some end_of.Time
+time-ends b x e = ap (λ w. cond w (Some end_of.Time) x) e
+
+-- once the moment is that when the run ends, or later
+pub passed-end : (s new : SessionView) (now : ℕ) → new ≡ after_time now s
+    → nat_le (run_ends_at s) now ≡ true → end new ≡ Some end_of.Time
+passed-end s new now is past =
+    ap (λ (x : SessionView). end x) is ∙ time-ends (nat_le (run_ends_at s) now) _ past
+
+pub passed-run : (s new : SessionView) (now : ℕ) → now ≡ run_ends_at s → new ≡ after_time now s
+    → end new ≡ Some end_of.Time
+passed-run s new now at is =
+    passed-end s new now is (le-leb (run_ends_at s) now (omega (arith, at)))
+
+-- ---- faults that were reported
+
+pub keeps-same : {k k' : Option Traffic} → k' ≡ k → KeepsFaults k k'
+keeps-same same = λ t is. (t, same ∙ is, λ f has. has)
+
+pub keeps-then : {k0 k1 k2 : Option Traffic} → KeepsFaults k0 k1 → KeepsFaults k1 k2
+    → KeepsFaults k0 k2
+keeps-then p q = λ t is.
+    let a = p t is in
+    let b = q a.0 a.1 in (b.0, b.1, λ f has. b.2 f (a.2 f has))
+
+kept : (f : Fault) (fault : Fault) (t : Traffic) → HasReported f t
+    → HasReported f (after_fault fault t)
+kept f fault t has = (
+  has.0,
+  has.1 ++ fault ∷ [],
+  ap (λ xs. xs ++ fault ∷ []) has.2 ∙ append_assoc has.0 (f ∷ has.1) (fault ∷ []),
+)
+
+pub keeps-fault : {k k' : Option Traffic} (fault : Fault) → Becomes k k' (after_fault fault)
+    → KeepsFaults k k'
+keeps-fault fault becomes = λ t is.
+    (after_fault fault t, becomes t is, λ f has. kept f fault t has)
+
+pub keeps-wait : {k k' : Option Traffic} (ok : Bool) → Becomes k k' (after_wait ok)
+    → KeepsFaults k k'
+keeps-wait true becomes = λ t is. (t, becomes t is, λ f has. has)
+keeps-wait false becomes = keeps-fault Input becomes
+
+pub keeps-read : {k k' : Option Traffic} (g : Got) (space : List ℕ)
+    → Becomes k k' (after_read g space) → KeepsFaults k k'
+keeps-read (got.Bytes n) space becomes = λ t is.
+    (after_read (got.Bytes n) space t, becomes t is, λ f has. has)
+keeps-read got.Idle space becomes = λ t is. (t, becomes t is, λ f has. has)
+keeps-read got.Failed space becomes = keeps-fault Input becomes
+
+-- ---- a time, of a run that went on before or reported more
+
+pub time-later : {h0 h1 : BuffersView} {s0 s1 : SessionView} {k0 k1 k2 : Option Traffic}
+    (s : SessionView)
+    → GoesOver h0 s0 k0 h1 s1 k1 → IsTimeOver h1 s1 k1 s k2 → IsTimeOver h0 s0 k0 s k2
+time-later s over (inl ends) = inl ends
+time-later s over (inr (inl waits)) = inr (inl waits)
+time-later s over (inr (inr failed)) = inr (inr (reports-later over failed))
+
+some-is : {t t' : Traffic} → ◌≡◌ {A = Option Traffic} (Some t) (Some t') → t ≡ t'
+some-is e = cc
+
+reports-kept : {h0 h1 : BuffersView} {s0 s1 : SessionView} {k0 k1 k2 : Option Traffic} {f : Fault}
+    → GoesOver h0 s0 k0 h1 s1 k1 → KeepsFaults k1 k2 → ReportsOver h0 s0 k0 k1 f
+    → ReportsOver h0 s0 k0 k2 f
+reports-kept {h0} {h1} {s0} {s1} {k0} {k1} {k2} {f} over keeps reports = λ c t now is was agrees at.
+    let a = over c t is was agrees in
+    let b = keeps a.0 a.1 in
+    subst (HasReported f) (some-is (sym b.1 ∙ at)) (b.2 f (reports c t a.0 is was agrees a.1))
+
+pub time-kept : {h0 h1 : BuffersView} {s0 s1 : SessionView} {k0 k1 k2 : Option Traffic}
+    (s : SessionView)
+    → GoesOver h0 s0 k0 h1 s1 k1 → KeepsFaults k1 k2 → IsTimeOver h0 s0 k0 s k1
+    → IsTimeOver h0 s0 k0 s k2
+time-kept s over keeps (inl ends) = inl ends
+time-kept s over keeps (inr (inl waits)) = inr (inl waits)
+time-kept s over keeps (inr (inr failed)) = inr (inr (reports-kept over keeps failed))
+
+pub of-leave : {h : BuffersView} {s0 : SessionView} {k k' : Option Traffic} (s : SessionView)
+    → (end s ≡ Some end_of.Time) ⊎ (s.output.waiting ≢ []) → IsTimeOver h s0 k s k'
+of-leave s (inl ends) = inl ends
+of-leave s (inr waits) = inr (inl waits)
+
+-- ---- the run as a whole
+
+module _ {R : Type 0} {ran : Result (Unit {0}) (the_data R)} {h0 h1 : BuffersView}
+    {s0 s : SessionView} {k0 k1 k2 : Option Traffic} (over : GoesOver h0 s0 k0 h1 s k1)
+    (keeps : KeepsFaults k1 k2) (ended : ran ≡ Ok tt → end s ≡ Some end_of.Delivered)
+    (left : ran ≡ Err Left → IsLeft s)
+    (time : ran ≡ Err (Device fault.Time) → IsTimeOver h0 s0 k0 s k1) where
+  may-stop : MayBeWell ran → MayStop h0 s0 k0 s k2
+  may-stop (inl ok) = inl (ended ok)
+  may-stop (inr (inl is)) = inr (inl (left is))
+  may-stop (inr (inr is)) = inr (inr (time-kept s over keeps (time is)))
+
+  pub stops : {result : Result (Unit {0}) (the_data R)} → Judges ran result → Stops result h0 s0 k0 s k2
+  stops judges = record {
+    well = λ e. may-stop (judges.well e);
+    lost = λ count e. may-stop (judges.lost count e);
+    left = λ e. left (judges.left e);
+    time = λ e. time-kept s over keeps (time (judges.time e));
+  }

@@ -1,0 +1,53 @@
+-- Why a run over lines stops, as its session is once its lines have ended, before it is closed.
+use Rattle.std.specs.Prelude.{◌≡◌, ◌≢◌, ◌⊎◌, ℕ, false, [], Option, Some, Result, Ok, Err}
+use Rattle.ddcmp_session.specs.declared.buffers.lines.Stop.TheVariants.{the_data, Device, Left}
+use Rattle.ddcmp_session.specs.declared.buffers.lines.Stop.TheVariants.{Lost}
+use Rattle.ddcmp_session.specs.declared.devices.Fault.TheVariants as fault
+use Rattle.ddcmp_session.specs.declared.session.End.TheVariants as end_of
+use Rattle.ddcmp_session.specs.Devices.{BuffersView, Traffic}
+use Rattle.ddcmp_session.specs.Lines.{ReportsOver}
+use Rattle.ddcmp_session.specs.Session.{SessionView, after_connected, starts}
+use Rattle.ddcmp_session.specs.Timing.{end, reopens}
+
+-- It was connected although received messages were left, and so didn't start.
+pub record HasNotStarted (s : SessionView) : Type 0 where
+  pub before : SessionView
+  pub refused : starts before ≡ false
+  pub connected : s ≡ after_connected s.link.station.line before
+
+-- its line was left, and isn't opened again
+abbrev pub IsLeft : SessionView → Type 0
+IsLeft s = (reopens s ≡ false) ⊎ HasNotStarted s
+
+-- The time of the run is over, or that of an output, for which something waits; or a wait failed.
+abbrev pub IsTimeOver : BuffersView → SessionView → Option Traffic → SessionView → Option Traffic
+    → Type 0
+IsTimeOver held old before s after =
+    (end s ≡ Some end_of.Time)
+    ⊎ ((s.output.waiting ≢ []) ⊎ ReportsOver held old before after fault.Input)
+
+-- all is delivered, or the line was left, or a time is over
+abbrev pub MayStop : BuffersView → SessionView → Option Traffic → SessionView → Option Traffic
+    → Type 0
+MayStop held old before s after =
+    (end s ≡ Some end_of.Delivered) ⊎ (IsLeft s ⊎ IsTimeOver held old before s after)
+
+-- The run returned this for one of the reasons that there are for that.
+pub record Stops {R : Type 0} (result : Result (Unit {0}) (the_data R)) (held : BuffersView)
+    (old : SessionView) (before : Option Traffic) (s : SessionView) (after : Option Traffic)
+    : Type 0 where
+  pub well : result ≡ Ok tt → MayStop held old before s after
+  pub lost : (count : ℕ) → result ≡ Err (Lost count) → MayStop held old before s after
+  pub left : result ≡ Err Left → IsLeft s
+  pub time : result ≡ Err (Device fault.Time) → IsTimeOver held old before s after
+
+-- The lines ended so, or the line was left, or a time was over: a run may end well then.
+abbrev pub MayBeWell : {R : Type 0} → Result (Unit {0}) (the_data R) → Type 0
+MayBeWell ran = (ran ≡ Ok tt) ⊎ ((ran ≡ Err Left) ⊎ (ran ≡ Err (Device fault.Time)))
+
+-- Lines that ended so were judged so.
+pub record Judges {R : Type 0} (ran result : Result (Unit {0}) (the_data R)) : Type 0 where
+  pub well : result ≡ Ok tt → MayBeWell ran
+  pub lost : (count : ℕ) → result ≡ Err (Lost count) → MayBeWell ran
+  pub left : result ≡ Err Left → ran ≡ Err Left
+  pub time : result ≡ Err (Device fault.Time) → ran ≡ Err (Device fault.Time)
