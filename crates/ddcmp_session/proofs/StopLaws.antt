@@ -1,13 +1,12 @@
 -- Why a run over lines stops.
 use Rattle.std.proofs.Common.{◌≡◌, ◌∙◌, ap, arith, sym, subst, refl, ℕ, Bool, true, false, cond}
-use Rattle.std.proofs.Common.{nat_le, List, [], ◌∷◌, ◌++◌, append_assoc, Option, None, Some, Result}
+use Rattle.std.proofs.Common.{nat_le, List, [], ◌∷◌, ◌++◌, append_assoc, Option, Some, Result}
 use Rattle.std.proofs.Common.{Ok, Err, ◌⊎◌, inl, inr}
 use Rattle.std.specs.Prelude.{◌≢◌}
 use Rattle.std.proofs.lemmas.Bool.{le-leb}
 use Rattle.ddcmp_io.specs.declared.device.Got.{Got}
 use Rattle.ddcmp_io.specs.declared.device.Got.TheVariants as got
 use Rattle.ddcmp_session.specs.declared.buffers.lines.Stop.TheVariants.{the_data, Device, Left}
-use Rattle.ddcmp_session.specs.declared.buffers.lines.Stop.TheVariants.{Lost}
 use Rattle.ddcmp_session.specs.declared.devices.Fault.{Fault}
 use Rattle.ddcmp_session.specs.declared.devices.Fault.TheVariants.{Input}
 use Rattle.ddcmp_session.specs.declared.devices.Fault.TheVariants as fault
@@ -16,13 +15,15 @@ use Rattle.ddcmp_session.specs.Devices.{Becomes, BuffersView, HasReported, Keeps
 use Rattle.ddcmp_session.specs.Devices.{after_fault, after_read, after_wait}
 use Rattle.ddcmp_session.specs.Lines.{GoesOver, ReportsOver}
 use Rattle.ddcmp_session.specs.Session.{SessionView, after_time}
-use Rattle.ddcmp_session.specs.Stopping.{IsLeft, IsTimeOver, Judges, MayBeWell, MayStop, Stops}
+use Rattle.ddcmp_session.specs.Stopping.{IfNotOpened, IsLeft, IsShut, IsTimeOver, Judges}
+use Rattle.ddcmp_session.specs.Stopping.{LeavesLine, MayBeWell, MayStop, Stops}
 use Rattle.ddcmp_session.specs.Timing.{end, run_ends_at}
-use Rattle.ddcmp_session.proofs.LinesGo.{reports-at, reports-later}
+use Rattle.ddcmp_session.proofs.LinesGo.{reports-later}
 
 -- ---- the time of the run
 
-time-ends : (b : Bool) (x : Option end_of.the_data) → b ≡ true → cond b (Some end_of.Time) x ≡ Some end_of.Time
+time-ends : (b : Bool) (x : Option end_of.the_data) → b ≡ true
+    → cond b (Some end_of.Time) x ≡ Some end_of.Time
 time-ends b x e = ap (λ w. cond w (Some end_of.Time) x) e
 
 -- once the moment is that when the run ends, or later
@@ -100,6 +101,22 @@ time-kept s over keeps (inl ends) = inl ends
 time-kept s over keeps (inr (inl waits)) = inr (inl waits)
 time-kept s over keeps (inr (inr failed)) = inr (inr (reports-kept over keeps failed))
 
+pub line-later : {h0 h1 : BuffersView} {s0 s1 : SessionView} {k0 k1 k2 : Option Traffic}
+    (s : SessionView) → GoesOver h0 s0 k0 h1 s1 k1 → LeavesLine h1 s1 k1 s k2
+    → LeavesLine h0 s0 k0 s k2
+line-later s over (inl restarted) = inl restarted
+line-later s over (inr (inl given_up)) = inr (inl given_up)
+line-later s over (inr (inr down)) = inr (inr (down.0, reports-later over down.1))
+
+pub left-kept : {h0 h1 : BuffersView} {s0 s1 : SessionView} {k0 k1 k2 : Option Traffic}
+    (s : SessionView) → GoesOver h0 s0 k0 h1 s1 k1 → KeepsFaults k1 k2 → IsLeft h0 s0 k0 s k1
+    → IsLeft h0 s0 k0 s k2
+left-kept s over keeps (inl unstarted) = inl unstarted
+left-kept s over keeps (inr (shut, inl restarted)) = inr (shut, inl restarted)
+left-kept s over keeps (inr (shut, inr (inl given_up))) = inr (shut, inr (inl given_up))
+left-kept s over keeps (inr (shut, inr (inr down))) =
+    inr (shut, inr (inr (down.0, reports-kept over keeps down.1)))
+
 pub of-leave : {h : BuffersView} {s0 : SessionView} {k k' : Option Traffic} (s : SessionView)
     → (end s ≡ Some end_of.Time) ⊎ (s.output.waiting ≢ []) → IsTimeOver h s0 k s k'
 of-leave s (inl ends) = inl ends
@@ -110,17 +127,20 @@ of-leave s (inr waits) = inr (inl waits)
 module _ {R : Type 0} {ran : Result (Unit {0}) (the_data R)} {h0 h1 : BuffersView}
     {s0 s : SessionView} {k0 k1 k2 : Option Traffic} (over : GoesOver h0 s0 k0 h1 s k1)
     (keeps : KeepsFaults k1 k2) (ended : ran ≡ Ok tt → end s ≡ Some end_of.Delivered)
-    (left : ran ≡ Err Left → IsLeft s)
+    (left : ran ≡ Err Left → IsLeft h0 s0 k0 s k1)
+    (shut : IfNotOpened ran (IsShut s0 s))
     (time : ran ≡ Err (Device fault.Time) → IsTimeOver h0 s0 k0 s k1) where
   may-stop : MayBeWell ran → MayStop h0 s0 k0 s k2
   may-stop (inl ok) = inl (ended ok)
-  may-stop (inr (inl is)) = inr (inl (left is))
+  may-stop (inr (inl is)) = inr (inl (left-kept s over keeps (left is)))
   may-stop (inr (inr is)) = inr (inr (time-kept s over keeps (time is)))
 
-  pub stops : {result : Result (Unit {0}) (the_data R)} → Judges ran result → Stops result h0 s0 k0 s k2
+  pub stops : {result : Result (Unit {0}) (the_data R)} → Judges ran result
+      → Stops result h0 s0 k0 s k2
   stops judges = record {
     well = λ e. may-stop (judges.well e);
     lost = λ count e. may-stop (judges.lost count e);
-    left = λ e. left (judges.left e);
+    left = λ e. left-kept s over keeps (left (judges.left e));
+    shut = λ refusal e. shut refusal (judges.shut refusal e ∙ e);
     time = λ e. time-kept s over keeps (time (judges.time e));
   }

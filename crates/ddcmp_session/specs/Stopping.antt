@@ -1,7 +1,8 @@
 -- Why a run over lines stops, as its session is once its lines have ended, before it is closed.
 use Rattle.std.specs.Prelude.{◌≡◌, ◌≢◌, ◌⊎◌, ℕ, false, [], Option, Some, Result, Ok, Err}
 use Rattle.ddcmp_session.specs.declared.buffers.lines.Stop.TheVariants.{the_data, Device, Left}
-use Rattle.ddcmp_session.specs.declared.buffers.lines.Stop.TheVariants.{Lost}
+use Rattle.ddcmp_session.specs.declared.buffers.lines.Stop.TheVariants.{Lost, NotOpened}
+use Rattle.ddcmp_session.specs.declared.devices.Down.{Down}
 use Rattle.ddcmp_session.specs.declared.devices.Fault.TheVariants as fault
 use Rattle.ddcmp_session.specs.declared.session.End.TheVariants as end_of
 use Rattle.ddcmp_session.specs.Devices.{BuffersView, Traffic}
@@ -15,9 +16,19 @@ pub record HasNotStarted (s : SessionView) : Type 0 where
   pub refused : starts before ≡ false
   pub connected : s ≡ after_connected s.link.station.line before
 
--- its line was left, and isn't opened again
-abbrev pub IsLeft : SessionView → Type 0
-IsLeft s = (reopens s ≡ false) ⊎ HasNotStarted s
+-- The peer has restarted, or there were too many tries; or the line has reported that it is down.
+abbrev pub LeavesLine : BuffersView → SessionView → Option Traffic → SessionView → Option Traffic
+    → Type 0
+LeavesLine held old before s after =
+    (end s ≡ Some end_of.Restarted)
+    ⊎ ((end s ≡ Some end_of.GivenUp)
+    ⊎ ((why : Down) × ReportsOver held old before after (fault.Line why)))
+
+-- so the line was left, and isn't opened again
+abbrev pub IsLeft : BuffersView → SessionView → Option Traffic → SessionView → Option Traffic
+    → Type 0
+IsLeft held old before s after =
+    HasNotStarted s ⊎ ((reopens s ≡ false) × LeavesLine held old before s after)
 
 -- The time of the run is over, or that of an output, for which something waits; or a wait failed.
 abbrev pub IsTimeOver : BuffersView → SessionView → Option Traffic → SessionView → Option Traffic
@@ -30,7 +41,16 @@ IsTimeOver held old before s after =
 abbrev pub MayStop : BuffersView → SessionView → Option Traffic → SessionView → Option Traffic
     → Type 0
 MayStop held old before s after =
-    (end s ≡ Some end_of.Delivered) ⊎ (IsLeft s ⊎ IsTimeOver held old before s after)
+    (end s ≡ Some end_of.Delivered)
+    ⊎ (IsLeft held old before s after ⊎ IsTimeOver held old before s after)
+
+-- lines couldn't begin, and nothing was done; or one couldn't be opened, and isn't tried again
+abbrev pub IsShut : SessionView → SessionView → Type 0
+IsShut old s = (s ≡ old) ⊎ (s.options.again ≡ false)
+
+-- if a line couldn't be opened
+abbrev pub IfNotOpened : {A R : Type 0} → Result A (the_data R) → Type 0 → Type 0
+IfNotOpened {A} {R} result Then = (refusal : R) → result ≡ Err (NotOpened refusal) → Then
 
 -- The run returned this for one of the reasons that there are for that.
 pub record Stops {R : Type 0} (result : Result (Unit {0}) (the_data R)) (held : BuffersView)
@@ -38,7 +58,8 @@ pub record Stops {R : Type 0} (result : Result (Unit {0}) (the_data R)) (held : 
     : Type 0 where
   pub well : result ≡ Ok tt → MayStop held old before s after
   pub lost : (count : ℕ) → result ≡ Err (Lost count) → MayStop held old before s after
-  pub left : result ≡ Err Left → IsLeft s
+  pub left : result ≡ Err Left → IsLeft held old before s after
+  pub shut : IfNotOpened result (IsShut old s)
   pub time : result ≡ Err (Device fault.Time) → IsTimeOver held old before s after
 
 -- The lines ended so, or the line was left, or a time was over: a run may end well then.
@@ -50,4 +71,5 @@ pub record Judges {R : Type 0} (ran result : Result (Unit {0}) (the_data R)) : T
   pub well : result ≡ Ok tt → MayBeWell ran
   pub lost : (count : ℕ) → result ≡ Err (Lost count) → MayBeWell ran
   pub left : result ≡ Err Left → ran ≡ Err Left
+  pub shut : IfNotOpened result (ran ≡ result)
   pub time : result ≡ Err (Device fault.Time) → ran ≡ Err (Device fault.Time)

@@ -31,8 +31,8 @@ impl Buffers {
     ghost use Rattle.ddcmp_session.specs.Devices.{GoesOn, KeepsFaults, Reports};
     ghost use Rattle.ddcmp_session.specs.Session.{SessionView, is_delivered};
     ghost use Rattle.ddcmp_session.specs.Lines.{Closes, Ends, GoesOver, MayEndWell, ReportsOver};
-    ghost use Rattle.ddcmp_session.specs.Stopping.{HasNotStarted, IsLeft, IsTimeOver};
-    ghost use Rattle.ddcmp_session.specs.Stopping.{Judges, Stops};
+    ghost use Rattle.ddcmp_session.specs.Stopping.{HasNotStarted, IfNotOpened, IsLeft, IsShut};
+    ghost use Rattle.ddcmp_session.specs.Stopping.{IsTimeOver, Judges, LeavesLine, Stops};
     ghost use Rattle.ddcmp_session.specs.Timing.{end};
     ghost use Rattle.ddcmp_session.specs.declared.devices.Fault.{Fault as FaultValue};
 
@@ -77,7 +77,9 @@ impl Buffers {
             (D.traffic devices.old) (D.traffic devices.new) fault }
         ensures delivered { result ≡ Ok tt → is_delivered session.new ≡ true }
         ensures ended { result ≡ Ok tt → end session.new ≡ Some End.Delivered }
-        ensures left { result ≡ Err Stop.Left → IsLeft session.new }
+        ensures left { result ≡ Err Stop.Left → IsLeft self.old session.old
+            (D.traffic devices.old) session.new (D.traffic devices.new) }
+        ensures shut { IfNotOpened result (IsShut session.old session.new) }
         ensures time { result ≡ Err (Stop.Device Fault.Time) → IsTimeOver self.old session.old
             (D.traffic devices.old) session.new (D.traffic devices.new) }
         ensures unjudged { (count : ℕ) → result ≢ Err (Stop.Lost count) }
@@ -116,7 +118,10 @@ impl Buffers {
             (D.traffic devices.old) (D.traffic devices.new) fault }
         ensures delivered { result ≡ Ok true → is_delivered session.new ≡ true }
         ensures ended { result ≡ Ok true → end session.new ≡ Some End.Delivered }
+        ensures gone { result ≡ Ok false → LeavesLine self.old session.old
+            (D.traffic devices.old) session.new (D.traffic devices.new) }
         ensures left { result ≡ Err Stop.Left → HasNotStarted session.new }
+        ensures shut { IfNotOpened result (session.new.options.again ≡ false) }
         ensures time { result ≡ Err (Stop.Device Fault.Time) → IsTimeOver self.old session.old
             (D.traffic devices.old) session.new (D.traffic devices.new) }
         ensures unjudged { (count : ℕ) → result ≢ Err (Stop.Lost count) }
@@ -149,6 +154,7 @@ impl Buffers {
         ensures device { (fault : FaultValue) → result ≡ Err (Stop.Device fault)
             → fault ≡ Fault.Time }
         ensures left { result ≡ Err Stop.Left → HasNotStarted session.new }
+        ensures shut { IfNotOpened result (session.new.options.again ≡ false) }
         ensures time { result ≡ Err (Stop.Device Fault.Time) → IsTimeOver self.old session.old
             (D.traffic devices.old) session.new (D.traffic devices.new) }
         ensures unjudged { (count : ℕ) → result ≢ Err (Stop.Lost count) }
@@ -184,6 +190,7 @@ impl Buffers {
             self.new session.new (D.traffic devices.new) }
         ensures open { (fault : FaultValue) → result ≢ Err (Stop.Device fault) }
         ensures left { result ≡ Err Stop.Left → HasNotStarted session.new }
+        ensures shut { IfNotOpened result (session.new.options.again ≡ false) }
         ensures unjudged { (count : ℕ) → result ≢ Err (Stop.Lost count) }
     {
         if now < session.opens_at() {

@@ -1,6 +1,6 @@
-use Rattle.std.proofs.Common.{refl}
+use Rattle.std.proofs.Common.{◌∙◌, ap, inl, inr, refl, sym, Ok}
 use Rattle.ddcmp_session.proofs.LinesGo.{none-over, over-then, reports-later, same-err, same-fault}
-use Rattle.ddcmp_session.proofs.StopLaws.{of-leave, time-later}
+use Rattle.ddcmp_session.proofs.StopLaws.{line-later, of-leave, time-later}
 use Rattle.ddcmp_session.proofs.buffers.Buffers.run_each.Goals as goal
 
 pub loop-line-init : goal.loop-line-init
@@ -54,3 +54,21 @@ returns-in-Err-run_one-clause-time g c = λ e.
 pub returns-in-Err-leave-clause-time : goal.returns-in-Err-leave-clause-time
 returns-in-Err-leave-clause-time g c = λ e.
     of-leave c.leave.new.session (c.in-Err-leave.ensures.time (same-fault e))
+
+pub returns-in-Ok-false-2-clause-left : goal.returns-in-Ok-false-2-clause-left
+returns-in-Ok-false-2-clause-left g c = λ e.
+    inr (
+      sym c.reopens.ensures ∙ c.if-reopens.false,
+      line-later c.run_one.new.session c.loop-line.invariant
+          (c.in-Ok-false.ensures.gone (ap (λ b. Ok b) c.in-Ok-false.field-0-test)),
+    )
+
+pub returns-in-Err-run_one-clause-left : goal.returns-in-Err-run_one-clause-left
+returns-in-Err-run_one-clause-left g c = λ e. inl (c.in-Err-run_one.ensures.left (same-err e))
+
+pub returns-in-Err-run_one-clause-shut : goal.returns-in-Err-run_one-clause-shut
+returns-in-Err-run_one-clause-shut g c = λ refusal e.
+    inr (c.in-Err-run_one.ensures.shut refusal (same-err e))
+
+pub returns-in-Err-clause-shut : goal.returns-in-Err-clause-shut
+returns-in-Err-clause-shut g c = λ refusal e. inl c.begin_lines.ensures.session

@@ -19,8 +19,8 @@ returns-clause-stops g c = (
   returns-clause-ends g c,
   stops c.run_each-ran.ensures.over
       (keeps-then (keeps-same c.close_line.ensures) c.judge.ensures.keeps)
-      c.run_each-ran.ensures.ended c.run_each-ran.ensures.left c.run_each-ran.ensures.time
-      c.judge.ensures.judges,
+      c.run_each-ran.ensures.ended c.run_each-ran.ensures.left c.run_each-ran.ensures.shut
+      c.run_each-ran.ensures.time c.judge.ensures.judges,
 )
 
 pub returns-clause-reports : goal.returns-clause-reports

@@ -1,4 +1,5 @@
-use Rattle.std.proofs.Common.{refl}
+use Rattle.std.proofs.Common.{ap, inr, refl, Err}
+use Rattle.ddcmp_session.specs.declared.devices.Fault.TheVariants.{Line}
 use Rattle.ddcmp_session.proofs.LinesGo.{goes-over, none-over, over-then, reports-over}
 use Rattle.ddcmp_session.proofs.LinesGo.{same-err, same-fault}
 use Rattle.ddcmp_session.proofs.buffers.Buffers.run_one.Goals as goal
@@ -27,10 +28,23 @@ returns-in-Err-run g c = record {
       reports-over c.begin.ensures.over (c.in-Err-run.ensures.reports fault (same-fault e));
   delivered = λ e. cc;
   ended = λ e. cc;
+  gone = λ e. cc;
   left = λ e. cc;
+  shut = λ refusal e. cc;
   time = λ e. absurd (c.in-Err-run.ensures.untimed (same-fault e));
   unjudged = λ count e. cc;
 }
 
 pub returns-in-Err-clause-time : goal.returns-in-Err-clause-time
 returns-in-Err-clause-time g c = λ e. c.in-Err.ensures.time (same-err e)
+
+pub returns-in-Err-clause-shut : goal.returns-in-Err-clause-shut
+returns-in-Err-clause-shut g c = λ refusal e. c.in-Err.ensures.shut refusal (same-err e)
+
+pub returns-in-Err-Line-clause-gone : goal.returns-in-Err-Line-clause-gone
+returns-in-Err-Line-clause-gone g c = λ e.
+    inr
+    (inr (
+      c.in-Err-Line.why,
+      reports-over c.begin.ensures.over (c.in-Err-Line.ensures.reports (Line c.in-Err-Line.why) (ap (λ f. Err f) c.in-Err-Line.field-0-is)),
+    ))
