@@ -27,8 +27,8 @@ pub fn runs_finish()
 {}
 
 /// If such a run ends well, its output took the text of all messages that came to the session, of
-/// all notices, and of the last lines, and nothing waits: a message of any length has room in an
-/// output that is empty.
+/// all notices, and of the last lines, in lines if these had room, and nothing waits: a message of
+/// any length has room in an output that is empty.
 pub fn finished_runs_write_all()
     ensures { (ran : Ran) (held : BuffersView) (t after : Traffic) (last : SessionView)
         → AreDone ran.steps (first_connection ran.made)

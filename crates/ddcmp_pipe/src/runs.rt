@@ -39,9 +39,10 @@ pub fn runs_are_calls()
 
 /// Two such runs, in an order of their calls over an honest line in a clean run: what one has
 /// delivered since it was connected last is a beginning of what the other's input has given since,
-/// and all of that if the other's run was ended and lost nothing, as `run_lines` returns `Ok` for.
-/// In binary, if no message came over a line before: what the output took is a beginning of each
-/// file that the input gave a beginning of, and then, once nothing waits, the file.
+/// and it has received all of that if the other's run was ended and lost nothing, as `run_lines`
+/// returns `Ok` for. In binary, if before that the one delivered and the other read nothing: what
+/// the output took is a beginning of each file of messages that fit that the input gave a beginning
+/// of, and then, once nothing waits, the file.
 pub fn runs_are_pipes()
     ensures to_b { IsKeptByRuns (λ a b. DeliversFirst a b) }
     ensures to_a { IsKeptByRuns (λ a b. DeliversFirst b a) }

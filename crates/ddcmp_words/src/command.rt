@@ -68,7 +68,7 @@ fn ladder_help() -> &'static str {
     "\
 With --ladder FILE and SECOND are the two directions of one line, drawn as arrows to the
 right and to the left. Captures have no times: the directions take turns, but a frame waits
-until what it answers is drawn; if both wait, an answered frame is missing."
+until what it answers is drawn; if both wait for data, these are missing."
 }
 
 /// The options of `explain`.

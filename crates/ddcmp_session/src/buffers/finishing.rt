@@ -18,7 +18,7 @@ impl Buffers {
     ghost use Rattle.ddcmp_session.specs.declared.devices.Fault.{Fault as FaultValue};
 
     /// Runs a new session as `run_lines` does, and then writes all that was received, and the last
-    /// lines. It ends well if nothing is lost and the output has taken all.
+    /// lines. It ends well only if nothing is lost and the output has taken all.
     pub fn run_to_end<D: Devices>(
         &mut self,
         session: &mut Session,
