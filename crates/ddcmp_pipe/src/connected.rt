@@ -29,10 +29,10 @@ pub fn sessions_over_connections_are_runs()
 
 /// Two runs, each connected at most once, in an order of their calls in which after each call, what
 /// each has used of its line is a beginning of what the line of the other has taken, as of a
-/// connection: what one has delivered is a beginning of what the other's input has given, and it has
-/// received all of that if the other's run was ended and lost nothing, as `run_lines` returns `Ok`
-/// for. In binary, what the output took is a beginning of each file of messages that fit that the
-/// input gave a beginning of, and then, once nothing waits, the file.
+/// connection: what one has delivered is a beginning of what the other's input has given, and it
+/// has received all of that if the other's run was ended and lost nothing, as `run_lines` returns
+/// `Ok` for. In binary, what the output took is a beginning of each file of messages that fit that
+/// the input gave a beginning of, and then, once nothing waits, the file.
 pub fn runs_over_connections()
     ensures to_b { IsKeptOverOneConnection (λ a b. DeliversFirst a b) }
     ensures to_a { IsKeptOverOneConnection (λ a b. DeliversFirst b a) }

@@ -209,9 +209,9 @@ refers Rep theirs = false
 refers Strt theirs = false
 refers Stack theirs = false
 
--- The side whose turn it is goes first if it doesn't wait. If both wait, one that isn't for data goes
--- first; what two wait for that are may be missing, and then the turn counts, unless its item refers
--- to the other.
+-- The side whose turn it is goes first if it doesn't wait. If both wait, one that doesn't wait for
+-- data goes first; if both are for data, these may be missing, and then the turn counts, unless its
+-- item refers to the other.
 abbrev pub goes_first : Drawn → Drawn → Word → Word → Bool
 goes_first own other mine theirs =
     if must_wait own other mine then must_wait other own theirs && not (refers mine theirs)
