@@ -238,7 +238,7 @@ pub both : (a b : Bool) → a && b ≡ true → (a ≡ true) × (b ≡ true)
 both true b e = (refl, e)
 both false b e = cc
 
-pub ran-to-end : {ran finished w : Bool} {held new_held : BuffersView}
+unfoldable pub ran-to-end : {ran finished w : Bool} {held new_held : BuffersView}
     {old closed between new : SessionView} {k0 k1 k2 k3 : Option Traffic} → w ≡ ran && finished
     → Ends ran held old k0 new_held closed k1 → Finishes finished closed k1 between k2
     → Drains between k2 new k3 → new ≡ between → RunsToEnd w held old k0 new_held new k3

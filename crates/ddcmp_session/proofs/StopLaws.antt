@@ -7,6 +7,7 @@ use Rattle.std.proofs.lemmas.Bool.{le-leb}
 use Rattle.ddcmp_io.specs.declared.device.Got.{Got}
 use Rattle.ddcmp_io.specs.declared.device.Got.TheVariants as got
 use Rattle.ddcmp_session.specs.declared.buffers.lines.Stop.TheVariants.{the_data, Device, Left}
+use Rattle.ddcmp_session.specs.declared.buffers.lines.Stop.TheVariants.{NotOpened}
 use Rattle.ddcmp_session.specs.declared.devices.Fault.{Fault}
 use Rattle.ddcmp_session.specs.declared.devices.Fault.TheVariants.{Input}
 use Rattle.ddcmp_session.specs.declared.devices.Fault.TheVariants as fault
@@ -17,6 +18,7 @@ use Rattle.ddcmp_session.specs.Lines.{GoesOver, ReportsOver}
 use Rattle.ddcmp_session.specs.Session.{SessionView, after_time}
 use Rattle.ddcmp_session.specs.Stopping.{IfNotOpened, IsLeft, IsShut, IsTimeOver, Judges}
 use Rattle.ddcmp_session.specs.Stopping.{LeavesLine, MayBeWell, MayStop, Stops}
+use Rattle.ddcmp_session.specs.Stopping.{StopsToEnd}
 use Rattle.ddcmp_session.specs.Timing.{end, run_ends_at}
 use Rattle.ddcmp_session.proofs.LinesGo.{reports-later}
 
@@ -144,3 +146,31 @@ module _ {R : Type 0} {ran : Result (Unit {0}) (the_data R)} {h0 h1 : BuffersVie
     shut = λ refusal e. shut refusal (judges.shut refusal e ∙ e);
     time = λ e. time-kept s over keeps (time (judges.time e));
   }
+
+not-left : {R : Type 0} {f : Fault}
+    → ◌≡◌ {A = Result (Unit {0}) (the_data R)} (Err (Device f)) (Err Left) → ⊥
+not-left e = cc
+
+not-shut : {R : Type 0} {f : Fault} {refusal : R}
+    → ◌≡◌ {A = Result (Unit {0}) (the_data R)} (Err (Device f)) (Err (NotOpened refusal)) → ⊥
+not-shut e = cc
+
+-- a run that ended as its lines did, or by a fault after lines that ended well
+pub to-end : {R : Type 0} {ran result : Result (Unit {0}) (the_data R)} {held : BuffersView}
+    {old s : SessionView} {k0 k1 : Option Traffic}
+    → (result ≡ ran) ⊎ ((f : Fault) × (ran ≡ Ok tt) × (result ≡ Err (Device f)))
+    → Stops ran held old k0 s k1 → StopsToEnd result held old k0 s k1
+to-end (inl same) ran = record {
+  well = λ e. ran.well (sym same ∙ e);
+  lost = λ count e. ran.lost count (sym same ∙ e);
+  left = λ e. ran.left (sym same ∙ e);
+  shut = λ refusal e. ran.shut refusal (sym same ∙ e);
+  time = λ e. inr (inr (ran.time (sym same ∙ e)));
+}
+to-end (inr (f, ok, is)) ran = record {
+  well = λ e. ran.well ok;
+  lost = λ count e. ran.well ok;
+  left = λ e. absurd (not-left (sym is ∙ e));
+  shut = λ refusal e. absurd (not-shut (sym is ∙ e));
+  time = λ e. ran.well ok;
+}

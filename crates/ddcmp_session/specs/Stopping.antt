@@ -62,6 +62,17 @@ pub record Stops {R : Type 0} (result : Result (Unit {0}) (the_data R)) (held : 
   pub shut : IfNotOpened result (IsShut old s)
   pub time : result ≡ Err (Device fault.Time) → IsTimeOver held old before s after
 
+-- A run to its end returned this so too; but it is out of time also if the output took nothing once
+-- its lines had ended for one of them.
+pub record StopsToEnd {R : Type 0} (result : Result (Unit {0}) (the_data R)) (held : BuffersView)
+    (old : SessionView) (before : Option Traffic) (s : SessionView) (after : Option Traffic)
+    : Type 0 where
+  pub well : result ≡ Ok tt → MayStop held old before s after
+  pub lost : (count : ℕ) → result ≡ Err (Lost count) → MayStop held old before s after
+  pub left : result ≡ Err Left → IsLeft held old before s after
+  pub shut : IfNotOpened result (IsShut old s)
+  pub time : result ≡ Err (Device fault.Time) → MayStop held old before s after
+
 -- The lines ended so, or the line was left, or a time was over: a run may end well then.
 abbrev pub MayBeWell : {R : Type 0} → Result (Unit {0}) (the_data R) → Type 0
 MayBeWell ran = (ran ≡ Ok tt) ⊎ ((ran ≡ Err Left) ⊎ (ran ≡ Err (Device fault.Time)))

@@ -15,6 +15,7 @@ impl Buffers {
     ghost use Rattle.std.specs.Prelude.{◌≡◌, ◌≢◌, ◌<◌, Err, Ok, ℕ, false, is_ok};
     ghost use Rattle.ddcmp_session.specs.Finishing.{RunsToEnd};
     ghost use Rattle.ddcmp_session.specs.Lines.{ReportsOver};
+    ghost use Rattle.ddcmp_session.specs.Stopping.{StopsToEnd};
     ghost use Rattle.ddcmp_session.specs.declared.devices.Fault.{Fault as FaultValue};
 
     /// Runs a new session as `run_lines` does, and then writes all that was received, and the last
@@ -26,6 +27,10 @@ impl Buffers {
     ) -> Result<(), Stop<D::Refusal>>
         ensures ends { RunsToEnd (is_ok result) self.old session.old (D.traffic devices.old)
             self.new session.new (D.traffic devices.new) }
+        ensures stops { (ends : RunsToEnd (is_ok result) self.old session.old
+            (D.traffic devices.old) self.new session.new (D.traffic devices.new))
+            × StopsToEnd result self.old session.old (D.traffic devices.old) ends.ends.unclosed
+            ends.between }
         ensures whole { result ≡ Ok tt → session.new.course.lost ≡ 0 }
         ensures lost { (count : ℕ) → result ≡ Err (Stop.Lost count)
             → (count ≡ session.new.course.lost) × (0 < count) }
@@ -50,6 +55,8 @@ fn outcome<R: Copy>(ran: Result<(), Stop<R>>, finished: Result<(), Fault>) -> Re
     ensures device { (fault : FaultValue) → ran ≡ Ok tt → finished ≡ Err fault
         → result ≡ Err (Stop.Device fault) }
     ensures stop { ran ≢ Ok tt → result ≡ ran }
+    ensures stops { (result ≡ ran) ⊎ ((fault : FaultValue) × (ran ≡ Ok tt)
+        × (result ≡ Err (Stop.Device fault))) }
 {
     match ran {
         Ok(()) => {}
