@@ -454,7 +454,7 @@ stays_first made = record {
 }
 
 -- whatever was done, the output is the text of what was delivered and reported
-stays_all : (made : Made) (steps : List SessionStep) (c : Connection)
+pub stays_all : (made : Made) (steps : List SessionStep) (c : Connection)
     → connections.AreDone steps c → Stays made c → Stays made (after_all steps c)
 unfolding after_all
 stays_all made [] c does stays = stays

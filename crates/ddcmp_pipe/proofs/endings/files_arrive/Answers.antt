@@ -1,4 +1,4 @@
-use Rattle.ddcmp_pipe.proofs.ConnectionLaws.{once-all-a, once-all-b}
+use Rattle.ddcmp_pipe.proofs.ConnectionLaws.{once-together}
 use Rattle.ddcmp_pipe.proofs.Finished.{arrives}
 use Rattle.ddcmp_pipe.proofs.LastRuns.{runs-together}
 use Rattle.ddcmp_pipe.proofs.RunLaws.{all-to-a, all-to-b}
@@ -14,11 +14,15 @@ returns-clause-to_a c = λ a b f g done_a done_b together.
 
 pub returns-clause-connected_to_b : goal.returns-clause-connected_to_b
 returns-clause-connected_to_b c = λ a b f g done_a done_b once_a once_b streams.
-    arrives a b done_b (once-all-b a b f g done_a done_b once_a once_b streams)
+    arrives a b done_b
+    (all-to-b a b f g done_a done_b
+    (once-together a b f g done_a done_b once_a once_b streams))
 
 pub returns-clause-connected_to_a : goal.returns-clause-connected_to_a
 returns-clause-connected_to_a c = λ a b f g done_a done_b once_a once_b streams.
-    arrives b a done_a (once-all-a a b f g done_a done_b once_a once_b streams)
+    arrives b a done_a
+    (all-to-a a b f g done_a done_b
+    (once-together a b f g done_a done_b once_a once_b streams))
 
 pub returns-clause-last_to_b : goal.returns-clause-last_to_b
 returns-clause-last_to_b c = λ a b f g done_a done_b ready_a ready_b ran.
