@@ -1,5 +1,5 @@
 -- Why a run over lines stops.
-use Rattle.std.proofs.Common.{◌≡◌, ◌∙◌, ap, arith, sym, subst, refl, ℕ, Bool, true, false, cond}
+use Rattle.std.proofs.Common.{◌≡◌, ◌∙◌, ap, arith, sym, subst, ℕ, Bool, true, false, cond}
 use Rattle.std.proofs.Common.{nat_le, List, [], ◌∷◌, ◌++◌, append_assoc, Option, Some, Result}
 use Rattle.std.proofs.Common.{Ok, Err, ◌⊎◌, inl, inr}
 use Rattle.std.specs.Prelude.{◌≢◌}

@@ -50,7 +50,8 @@ loop-try-preserved g c =
 pub returns-clause-over : goal.returns-clause-over
 returns-clause-over g c = over-then c.loop-try.invariant (c.pass_run.ensures.over _ _)
 
-pub returns-then-not-wait_between_lines-clause-time : goal.returns-then-not-wait_between_lines-clause-time
+pub returns-then-not-wait_between_lines-clause-time :
+    goal.returns-then-not-wait_between_lines-clause-time
 returns-then-not-wait_between_lines-clause-time g c = λ e.
     inr
     (inr

@@ -1,4 +1,5 @@
-use Rattle.std.proofs.Common.{◌≡◌, ◌∙◌, ap, [], false, Bool, true, Result, Err, refl, sym, subst, ◌==◌}
+use Rattle.std.proofs.Common.{◌≡◌, ◌∙◌, ap, [], false, Bool, true, Result, Err, refl, sym}
+use Rattle.std.proofs.Common.{subst, ◌==◌}
 use Rattle.ddcmp_session.specs.declared.devices.Fault.{Fault}
 use Rattle.ddcmp_session.specs.declared.devices.Fault.TheVariants.{Input}
 use Rattle.ddcmp_io.specs.declared.device.Got.TheVariants.{Bytes}

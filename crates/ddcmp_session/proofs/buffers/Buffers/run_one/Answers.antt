@@ -46,5 +46,7 @@ returns-in-Err-Line-clause-gone g c = λ e.
     inr
     (inr (
       c.in-Err-Line.why,
-      reports-over c.begin.ensures.over (c.in-Err-Line.ensures.reports (Line c.in-Err-Line.why) (ap (λ f. Err f) c.in-Err-Line.field-0-is)),
+      reports-over c.begin.ensures.over
+          (c.in-Err-Line.ensures.reports (Line c.in-Err-Line.why)
+          (ap (λ f. Err f) c.in-Err-Line.field-0-is)),
     ))
