@@ -7,8 +7,8 @@ ghost use Rattle.ddcmp_tap.specs.Order.{after_own as after_of_own, control_word,
 ghost use Rattle.ddcmp_tap.specs.Order.{header_word, is_ahead as is_ahead_of, is_early};
 ghost use Rattle.ddcmp_tap.specs.Order.{is_for as is_for_data, is_new as is_new_data, is_unasked};
 ghost use Rattle.ddcmp_tap.specs.Order.{higher, is_after, is_undrawn, must_wait, next_of_both};
-ghost use Rattle.ddcmp_tap.specs.Order.{next_side, nothing_drawn, raised, refers as refers_to_other};
-ghost use Rattle.ddcmp_tap.specs.Order.{waits as waits_for_other, word_of};
+ghost use Rattle.ddcmp_tap.specs.Order.{next_side, nothing_drawn, raised, word_of};
+ghost use Rattle.ddcmp_tap.specs.Order.{refers as refers_to_other, waits as waits_for_other};
 
 use crate::side::Side;
 use ddcmp_frame::{ControlType, Header, Item, Short};

@@ -167,7 +167,8 @@ fn both_are_empty(rt: HostRuntime) {
     );
 }
 
-/// What comes before a fault is drawn, and all of the other side; of two faults the first's is told.
+/// What comes before a fault is drawn, and all of the other side; of two
+/// faults the first file's is reported.
 #[test]
 fn faults(rt: HostRuntime) {
     let (strt, stack) = (b"0506c00000017595", b"0507c00000014855");
