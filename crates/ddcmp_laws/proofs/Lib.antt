@@ -35,3 +35,27 @@ pub mod Waiting
 mod Sweeping
 mod Timely
 pub mod SweepRounds
+pub mod Stations
+pub mod Calling
+pub mod PairCallLaws
+pub mod Seen
+pub mod Turning
+pub mod Drives
+pub mod Delivery
+pub mod Streaming
+pub mod InTurn
+pub mod Serving
+pub mod Acknowledged
+pub mod LinkCalls
+pub mod TwoLinks
+pub mod Sleeping
+pub mod LinkRules
+pub mod LinkRecovery
+pub mod TurnTies
+pub mod DrivenRecovery
+pub mod TurnSweeps
+pub mod TurnRooms
+pub mod TurnRounds
+pub mod TurnsGoOn
+pub mod StationRuns
+pub mod LinkRestarts

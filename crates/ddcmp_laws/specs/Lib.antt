@@ -16,3 +16,15 @@ pub mod Delivers
 pub mod Sleep
 pub mod Sweeps
 pub mod SweepStory
+pub mod PairCalls
+pub mod Driven
+pub mod Served
+pub mod Streams
+pub mod Links
+pub mod LinkLines
+pub mod LinkRules
+pub mod LinkStory
+pub mod LinkSweeps
+pub mod DrivenSweeps
+pub mod StationRuns
+pub mod LinkRestarts

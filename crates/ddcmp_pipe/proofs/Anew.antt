@@ -17,18 +17,18 @@ use Rattle.ddcmp_run.specs.Run.{new_pair, is_clean}
 use Rattle.ddcmp_session.specs.Messages.{message_in, after_input, entries_of_input, after_last}
 use Rattle.ddcmp_session.specs.Messages.{entry_of_last}
 use Rattle.ddcmp_session.specs.Session.{SessionView, wants_input}
-use Rattle.ddcmp_callers.specs.Links.{LinkCall, Starts, BeginsAnew, Halts, Wakes, Offers, FillsOne}
-use Rattle.ddcmp_callers.specs.Links.{IsSent, Feeds, Takes, LinkHistory, LinkStep, Links, link_at}
-use Rattle.ddcmp_callers.specs.Links.{IsHistory, after_history, LinkReaches, HasDone, used_by}
-use Rattle.ddcmp_callers.specs.Links.{gone_by, accepted_by, taken_by, acknowledged_after, received}
-use Rattle.ddcmp_callers.specs.Links as links
-use Rattle.ddcmp_callers.specs.LinkRestarts.{history_by, AreCallsOfLinks, after_links}
-use Rattle.ddcmp_callers.specs.LinkRestarts.{calls_of_links, history_at}
-use Rattle.ddcmp_callers.specs.LinkRestarts as restarts
-use Rattle.ddcmp_callers.specs.StationRuns.{run_station_calls}
-use Rattle.ddcmp_callers.proofs.LinkRestarts.{anew-to-b, anew-to-a, anew-all-to-b, anew-all-to-a}
-use Rattle.ddcmp_callers.proofs.LinkRestarts.{anew-acknowledged-to-b, anew-acknowledged-to-a}
-use Rattle.ddcmp_callers.proofs.TwoLinks.{NoneOut}
+use Rattle.ddcmp_laws.specs.Links.{LinkCall, Starts, BeginsAnew, Halts, Wakes, Offers, FillsOne}
+use Rattle.ddcmp_laws.specs.Links.{IsSent, Feeds, Takes, LinkHistory, LinkStep, Links, link_at}
+use Rattle.ddcmp_laws.specs.Links.{IsHistory, after_history, LinkReaches, HasDone, used_by}
+use Rattle.ddcmp_laws.specs.Links.{gone_by, accepted_by, taken_by, acknowledged_after, received}
+use Rattle.ddcmp_laws.specs.Links as links
+use Rattle.ddcmp_laws.specs.LinkRestarts.{history_by, AreCallsOfLinks, after_links}
+use Rattle.ddcmp_laws.specs.LinkRestarts.{calls_of_links, history_at}
+use Rattle.ddcmp_laws.specs.LinkRestarts as restarts
+use Rattle.ddcmp_laws.specs.StationRuns.{run_station_calls}
+use Rattle.ddcmp_laws.proofs.LinkRestarts.{anew-to-b, anew-to-a, anew-all-to-b, anew-all-to-a}
+use Rattle.ddcmp_laws.proofs.LinkRestarts.{anew-acknowledged-to-b, anew-acknowledged-to-a}
+use Rattle.ddcmp_laws.proofs.TwoLinks.{NoneOut}
 use Rattle.ddcmp_session.specs.Calls.{SessionCall, Typed, InputEnded, Connected, LineEnded}
 use Rattle.ddcmp_session.specs.Calls.{Received, Filled, LineTook, TimedOut, TimePassed, Delivered}
 use Rattle.ddcmp_session.specs.Calls.{OutputTook}

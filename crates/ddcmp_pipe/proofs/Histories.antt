@@ -6,9 +6,9 @@ use Rattle.ddcmp_frame.specs.Reader.{ReaderView}
 use Rattle.ddcmp_session.specs.declared.options.LineKind.{LineKind}
 use Rattle.ddcmp_session.specs.declared.options.Options.{Options}
 use Rattle.ddcmp_session.specs.declared.messages.Form.{Form}
-use Rattle.ddcmp_callers.specs.Links.{LinkHistory, LinkStep, new_history}
-use Rattle.ddcmp_callers.specs.Links.{after_step, IsHistory, after_history, offered_in_call}
-use Rattle.ddcmp_callers.specs.Links.{offered_in}
+use Rattle.ddcmp_laws.specs.Links.{LinkHistory, LinkStep, new_history}
+use Rattle.ddcmp_laws.specs.Links.{after_step, IsHistory, after_history, offered_in_call}
+use Rattle.ddcmp_laws.specs.Links.{offered_in}
 use Rattle.ddcmp_session.specs.Calls.{SessionHistory, new_session, SessionStep}
 use Rattle.ddcmp_session.specs.Calls.{after_session_step, IsSessionHistory, after_session_steps}
 use Rattle.ddcmp_pipe.specs.Sessions.{messages_of, link_steps_of, link_steps_in, IsOfLink}

@@ -7,10 +7,10 @@ use Rattle.ddcmp_station.specs.Linking.{after_frame, after_frames}
 use Rattle.ddcmp_session.specs.declared.messages.Form.{Form}
 use Rattle.ddcmp_session.specs.Messages.{messages_begun, after_input}
 use Rattle.ddcmp_session.specs.Session.{SessionView, form_of}
-use Rattle.ddcmp_callers.specs.Links.{LinkCall, FillsOne}
-use Rattle.ddcmp_callers.specs.Links.{HasDone, LinkHistory, LinkStep}
-use Rattle.ddcmp_callers.specs.Links.{after_step, IsHistory, after_history}
-use Rattle.ddcmp_callers.specs.Links.{offered_in}
+use Rattle.ddcmp_laws.specs.Links.{LinkCall, FillsOne}
+use Rattle.ddcmp_laws.specs.Links.{HasDone, LinkHistory, LinkStep}
+use Rattle.ddcmp_laws.specs.Links.{after_step, IsHistory, after_history}
+use Rattle.ddcmp_laws.specs.Links.{offered_in}
 use Rattle.ddcmp_session.specs.Calls.{Shown, SessionHistory, SessionStep, after_session_step}
 use Rattle.ddcmp_pipe.specs.Sessions.{messages_of, mail_in, link_step, frames_put, link_steps_of}
 use Rattle.ddcmp_pipe.proofs.Texts.{no_text, IsText, writes, keeps}

@@ -14,13 +14,13 @@ use Rattle.ddcmp_run.specs.Run.{run}
 use Rattle.ddcmp_run.proofs.Ordered.{none-at}
 use Rattle.ddcmp_laws.specs.Faithful.{IsFaithful}
 use Rattle.ddcmp_laws.proofs.FaithfulLaws.{IsStraight, straight_event}
-use Rattle.ddcmp_callers.specs.Calls.{Arrive}
-use Rattle.ddcmp_callers.specs.Links.{BeginsAnew, Feeds, IsSameEnd, LinkStep}
-use Rattle.ddcmp_callers.specs.LinkRestarts.{at_end}
-use Rattle.ddcmp_callers.specs.StationRuns.{after_station_call, run_station_calls}
-use Rattle.ddcmp_callers.proofs.LinkRestarts.{after_all_here, once-anew, step-same}
-use Rattle.ddcmp_callers.proofs.Runs.{Quiet, both_clean, clean_same, honest_same, none_restart}
-use Rattle.ddcmp_callers.proofs.Runs.{notices_same, one_same}
+use Rattle.ddcmp_laws.specs.PairCalls.{Arrive}
+use Rattle.ddcmp_laws.specs.Links.{BeginsAnew, Feeds, IsSameEnd, LinkStep}
+use Rattle.ddcmp_laws.specs.LinkRestarts.{at_end}
+use Rattle.ddcmp_laws.specs.StationRuns.{after_station_call, run_station_calls}
+use Rattle.ddcmp_laws.proofs.LinkRestarts.{after_all_here, once-anew, step-same}
+use Rattle.ddcmp_laws.proofs.PairCallLaws.{Quiet, both_clean, clean_same, honest_same, none_restart}
+use Rattle.ddcmp_laws.proofs.PairCallLaws.{notices_same, one_same}
 use Rattle.ddcmp_session.specs.Session.{SessionView, starts}
 use Rattle.ddcmp_session.specs.Calls.{Closed, Connected, Delivered, Filled, InputEnded, LineEnded}
 use Rattle.ddcmp_session.specs.Calls.{LineTook, OutputTook, Received, SessionCall, SessionStep}

@@ -13,15 +13,16 @@ use Rattle.ddcmp_run.specs.Settle.{other}
 use Rattle.ddcmp_station.specs.Driving.{core_after_take_arm, deadline_at, is_due}
 use Rattle.ddcmp_station.specs.Linking.{LinkView, polls}
 use Rattle.ddcmp_laws.proofs.FaithfulLaws.{IsWell, well_event}
-use Rattle.ddcmp_callers.specs.Calls.{Arm, Arrive, Ask, Call, Expire, Halt, Poll, Send, Start, Take}
-use Rattle.ddcmp_callers.specs.Calls.{after_call_here, after_calls_here}
-use Rattle.ddcmp_callers.specs.Links.{BeginsAnew, Feeds, FillsOne, Halts, IsSameEnd, IsSent}
-use Rattle.ddcmp_callers.specs.Links.{LinkCall, LinkHistory, LinkStep, Links, Offers, Starts, Takes}
-use Rattle.ddcmp_callers.specs.Links.{Wakes, station_calls}
-use Rattle.ddcmp_callers.specs.LinkRestarts.{all_calls, at_end, calls_of_links, history_by}
-use Rattle.ddcmp_callers.specs.StationRuns.{after_station_call, run_station_calls, station_call}
-use Rattle.ddcmp_callers.proofs.LinkRestarts.{after_all_here, all-here, step-same}
-use Rattle.ddcmp_callers.proofs.StationRuns.{Kept, kept-run}
+use Rattle.ddcmp_laws.specs.PairCalls.{Arm, Arrive, Ask, Call, Expire, Halt, Poll, Send, Start}
+use Rattle.ddcmp_laws.specs.PairCalls.{Take}
+use Rattle.ddcmp_laws.specs.PairCalls.{after_call_here, after_calls_here}
+use Rattle.ddcmp_laws.specs.Links.{BeginsAnew, Feeds, FillsOne, Halts, IsSameEnd, IsSent}
+use Rattle.ddcmp_laws.specs.Links.{LinkCall, LinkHistory, LinkStep, Links, Offers, Starts, Takes}
+use Rattle.ddcmp_laws.specs.Links.{Wakes, station_calls}
+use Rattle.ddcmp_laws.specs.LinkRestarts.{all_calls, at_end, calls_of_links, history_by}
+use Rattle.ddcmp_laws.specs.StationRuns.{after_station_call, run_station_calls, station_call}
+use Rattle.ddcmp_laws.proofs.LinkRestarts.{after_all_here, all-here, step-same}
+use Rattle.ddcmp_laws.proofs.StationRuns.{Kept, kept-run}
 use Rattle.ddcmp_pipe.specs.Pipe.{steps_at_end}
 use Rattle.ddcmp_pipe.proofs.Anew.{AreDone, after_done}
 

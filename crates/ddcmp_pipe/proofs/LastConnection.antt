@@ -6,8 +6,8 @@ use Rattle.ddcmp_proto.specs.Config.{first_refusal}
 use Rattle.ddcmp_run.specs.declared.event.End.{End}
 use Rattle.ddcmp_run.specs.declared.event.End.TheVariants.{A, B}
 use Rattle.ddcmp_run.specs.Run.{PairState}
-use Rattle.ddcmp_callers.specs.LinkRestarts.{calls_of_links}
-use Rattle.ddcmp_callers.specs.StationRuns.{run_station_calls}
+use Rattle.ddcmp_laws.specs.LinkRestarts.{calls_of_links}
+use Rattle.ddcmp_laws.specs.StationRuns.{run_station_calls}
 use Rattle.ddcmp_session.specs.Calls.{SessionStep}
 use Rattle.ddcmp_pipe.specs.Connected.{connections_in}
 use Rattle.ddcmp_pipe.specs.Connections.{AreCalls, Connections, after_step_at, link_steps}

@@ -4,12 +4,12 @@ use Rattle.ddcmp_proto.specs.Config.{first_refusal}
 use Rattle.ddcmp_run.specs.declared.event.End.{End}
 use Rattle.ddcmp_run.specs.Run.{new_pair}
 use Rattle.ddcmp_laws.proofs.FaithfulLaws.{well_new}
-use Rattle.ddcmp_callers.specs.LinkRestarts.{calls_of_links}
-use Rattle.ddcmp_callers.specs.Links.{IsSameEnd, Links}
-use Rattle.ddcmp_callers.specs.StationRuns.{run_station_calls}
-use Rattle.ddcmp_callers.proofs.LinkCalls.{new_same}
-use Rattle.ddcmp_callers.proofs.Runs.{both_clean}
-use Rattle.ddcmp_callers.proofs.StationRuns.{kept-calls}
+use Rattle.ddcmp_laws.specs.LinkRestarts.{calls_of_links}
+use Rattle.ddcmp_laws.specs.Links.{IsSameEnd, Links}
+use Rattle.ddcmp_laws.specs.StationRuns.{run_station_calls}
+use Rattle.ddcmp_laws.proofs.LinkCalls.{new_same}
+use Rattle.ddcmp_laws.proofs.PairCallLaws.{both_clean}
+use Rattle.ddcmp_laws.proofs.StationRuns.{kept-calls}
 use Rattle.ddcmp_session.specs.Calls.{SessionStep}
 use Rattle.ddcmp_session.specs.Connections.{AreDone}
 use Rattle.ddcmp_pipe.specs.Connections.{first_connection, first_connections, link_steps}

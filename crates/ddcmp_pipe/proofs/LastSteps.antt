@@ -26,11 +26,11 @@ use Rattle.ddcmp_run.specs.Run.{EndState, PairState, after_arrival_here, notices
 use Rattle.ddcmp_station.specs.Linking.{LinkView, after_frame}
 use Rattle.ddcmp_laws.specs.Faithful.{Begins, written}
 use Rattle.ddcmp_laws.proofs.FaithfulLaws.{sound_made}
-use Rattle.ddcmp_callers.specs.Links.{IsSameEnd, LinkHistory}
-use Rattle.ddcmp_callers.specs.StationRuns.{has_heard_none}
-use Rattle.ddcmp_callers.proofs.InTurn.{begins_more}
-use Rattle.ddcmp_callers.proofs.StationRuns.{Kept}
-use Rattle.ddcmp_callers.proofs.TwoLinks.{AreSame}
+use Rattle.ddcmp_laws.specs.Links.{IsSameEnd, LinkHistory}
+use Rattle.ddcmp_laws.specs.StationRuns.{has_heard_none}
+use Rattle.ddcmp_laws.proofs.InTurn.{begins_more}
+use Rattle.ddcmp_laws.proofs.StationRuns.{Kept}
+use Rattle.ddcmp_laws.proofs.TwoLinks.{AreSame}
 use Rattle.ddcmp_session.specs.Messages.{after_input, after_last, entries_of_input, entry_of_last}
 use Rattle.ddcmp_session.specs.Messages.{message_in}
 use Rattle.ddcmp_session.specs.Session.{SessionView, starts, wants_input}

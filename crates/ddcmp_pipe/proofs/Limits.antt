@@ -14,7 +14,7 @@ use Rattle.ddcmp_station.specs.Driving.{deadline_at, is_due, core_after_take_arm
 use Rattle.ddcmp_station.specs.Linking.{LinkView, total_plus, with_state, polls, after_polled}
 use Rattle.ddcmp_station.specs.Linking.{after_frame, after_frames, after_wake}
 use Rattle.ddcmp_station.specs.Linking.{after_offered, takes_message}
-use Rattle.ddcmp_callers.specs.Links.{HasFed}
+use Rattle.ddcmp_laws.specs.Links.{HasFed}
 
 -- ---- limits stay
 

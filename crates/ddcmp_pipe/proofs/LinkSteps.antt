@@ -29,10 +29,10 @@ use Rattle.ddcmp_session.specs.Course.{after_connecting}
 use Rattle.ddcmp_session.specs.Session.{lost_by_end, after_timeout, after_connected, anew_in}
 use Rattle.ddcmp_session.specs.Session.{after_connecting_in, starts}
 use Rattle.ddcmp_session.specs.Text.{reported_lost, mail_text, notices_text}
-use Rattle.ddcmp_callers.specs.Links.{LinkCall, BeginsAnew, Halts, Wakes, IsSent, Feeds}
-use Rattle.ddcmp_callers.specs.Links.{Takes, HasDone, HasFed, new_history}
-use Rattle.ddcmp_callers.specs.Links.{after_step, after_history}
-use Rattle.ddcmp_callers.specs.Links.{offered_in}
+use Rattle.ddcmp_laws.specs.Links.{LinkCall, BeginsAnew, Halts, Wakes, IsSent, Feeds}
+use Rattle.ddcmp_laws.specs.Links.{Takes, HasDone, HasFed, new_history}
+use Rattle.ddcmp_laws.specs.Links.{after_step, after_history}
+use Rattle.ddcmp_laws.specs.Links.{offered_in}
 use Rattle.ddcmp_session.specs.Calls.{SessionCall, Typed, InputEnded, Connected, LineEnded}
 use Rattle.ddcmp_session.specs.Calls.{Received, Filled, LineTook, TimedOut, TimePassed, Delivered}
 use Rattle.ddcmp_session.specs.Calls.{OutputTook}

@@ -15,13 +15,13 @@ use Rattle.ddcmp_run.specs.Prefix.{IsPrefixOf}
 use Rattle.ddcmp_run.specs.Run.{new_pair}
 use Rattle.ddcmp_session.specs.declared.messages.Form.{Form}
 use Rattle.ddcmp_session.specs.declared.messages.Form.TheVariants as form
-use Rattle.ddcmp_callers.specs.Calls.{run_calls}
-use Rattle.ddcmp_callers.specs.Links.{LinkOverStreams}
-use Rattle.ddcmp_callers.specs.Links.{Links, after_steps}
-use Rattle.ddcmp_callers.specs.Links.{AreStartedOnce, received, LinkReaches}
-use Rattle.ddcmp_callers.specs.LinkLines.{AreLinkCalls, calls_of_steps}
-use Rattle.ddcmp_callers.proofs.TwoLinks.{NoneOut, acknowledged_to_a, acknowledged_to_b, kept}
-use Rattle.ddcmp_callers.proofs.TwoLinks.{none_out, reaches_a, reaches_b}
+use Rattle.ddcmp_laws.specs.PairCalls.{run_calls}
+use Rattle.ddcmp_laws.specs.Links.{LinkOverStreams}
+use Rattle.ddcmp_laws.specs.Links.{Links, after_steps}
+use Rattle.ddcmp_laws.specs.Links.{AreStartedOnce, received, LinkReaches}
+use Rattle.ddcmp_laws.specs.LinkLines.{AreLinkCalls, calls_of_steps}
+use Rattle.ddcmp_laws.proofs.TwoLinks.{NoneOut, acknowledged_to_a, acknowledged_to_b, kept}
+use Rattle.ddcmp_laws.proofs.TwoLinks.{none_out, reaches_a, reaches_b}
 use Rattle.ddcmp_session.specs.Calls.{SessionHistory, SessionStep, end_in}
 use Rattle.ddcmp_pipe.specs.Sessions.{messages_of, mail_in, got_in, texts_of}
 use Rattle.ddcmp_pipe.specs.Loops.{DevicesDeliver, DevicesPipe, DevicesPipeAll}

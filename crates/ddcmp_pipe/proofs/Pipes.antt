@@ -11,9 +11,9 @@ use Rattle.ddcmp_run.specs.declared.event.End.TheVariants.{A, B}
 use Rattle.ddcmp_session.specs.Messages.{message_in, after_input, entries_of_input, after_last}
 use Rattle.ddcmp_session.specs.Messages.{entry_of_last}
 use Rattle.ddcmp_session.specs.Session.{SessionView, wants_input}
-use Rattle.ddcmp_callers.specs.Links.{LinkStep, IsHistory, after_history, after_step}
-use Rattle.ddcmp_callers.specs.Links.{Links, after_steps, starts_in_call, link_starts}
-use Rattle.ddcmp_callers.specs.LinkLines.{AreLinkCalls}
+use Rattle.ddcmp_laws.specs.Links.{LinkStep, IsHistory, after_history, after_step}
+use Rattle.ddcmp_laws.specs.Links.{Links, after_steps, starts_in_call, link_starts}
+use Rattle.ddcmp_laws.specs.LinkLines.{AreLinkCalls}
 use Rattle.ddcmp_session.specs.Calls.{SessionCall, Typed, InputEnded, Connected, LineEnded}
 use Rattle.ddcmp_session.specs.Calls.{Received, Filled, LineTook, TimedOut, TimePassed, Delivered}
 use Rattle.ddcmp_session.specs.Calls.{OutputTook}

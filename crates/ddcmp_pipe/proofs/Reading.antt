@@ -19,9 +19,9 @@ use Rattle.ddcmp_session.specs.Messages.{after_last, entry_of_last, is_message_u
 use Rattle.ddcmp_session.specs.Session.{SessionView, form_of, wants_input, after_entries}
 use Rattle.ddcmp_session.specs.Session.{after_last_line, after_unfinished, after_offered_in}
 use Rattle.ddcmp_session.specs.Session.{takes_in}
-use Rattle.ddcmp_callers.specs.Links.{Offers}
-use Rattle.ddcmp_callers.specs.Links.{after_history}
-use Rattle.ddcmp_callers.specs.Links.{offered_in}
+use Rattle.ddcmp_laws.specs.Links.{Offers}
+use Rattle.ddcmp_laws.specs.Links.{after_history}
+use Rattle.ddcmp_laws.specs.Links.{offered_in}
 use Rattle.ddcmp_session.specs.Calls.{CompletesLast, HasTyped, SessionHistory, end_in}
 use Rattle.ddcmp_pipe.specs.Sessions.{messages_of, link_step, offers_of}
 use Rattle.ddcmp_session.proofs.InputLaws.{form-stays}

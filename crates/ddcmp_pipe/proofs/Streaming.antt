@@ -12,10 +12,10 @@ use Rattle.ddcmp_session.specs.Messages.{message_in, after_input, entries_of_inp
 use Rattle.ddcmp_session.specs.Messages.{entry_of_last}
 use Rattle.ddcmp_session.specs.Session.{SessionView, wants_input}
 use Rattle.ddcmp_laws.specs.Faithful.{Begins}
-use Rattle.ddcmp_callers.specs.Links.{LinkHistory, LinkStep, IsHistory, after_history, after_step}
-use Rattle.ddcmp_callers.specs.Links.{LinkCall, Starts, BeginsAnew, Halts, Wakes, Offers, FillsOne}
-use Rattle.ddcmp_callers.specs.Links.{IsSent, Feeds, Takes, used_by, gone_by, LinkOverStreams}
-use Rattle.ddcmp_callers.specs.Links.{Links}
+use Rattle.ddcmp_laws.specs.Links.{LinkHistory, LinkStep, IsHistory, after_history, after_step}
+use Rattle.ddcmp_laws.specs.Links.{LinkCall, Starts, BeginsAnew, Halts, Wakes, Offers, FillsOne}
+use Rattle.ddcmp_laws.specs.Links.{IsSent, Feeds, Takes, used_by, gone_by, LinkOverStreams}
+use Rattle.ddcmp_laws.specs.Links.{Links}
 use Rattle.ddcmp_session.specs.Calls.{SessionCall, Typed, InputEnded, Connected, LineEnded}
 use Rattle.ddcmp_session.specs.Calls.{Received, Filled, LineTook, TimedOut, TimePassed, Delivered}
 use Rattle.ddcmp_session.specs.Calls.{OutputTook}

@@ -9,9 +9,9 @@ use Rattle.ddcmp_run.specs.Run.{new_pair, is_clean}
 use Rattle.ddcmp_input.specs.InBinary.{in_binary}
 use Rattle.ddcmp_session.specs.declared.messages.Form.TheVariants as form
 use Rattle.ddcmp_session.specs.Session.{SessionView, is_delivered, lost_among, lost_at_end}
-use Rattle.ddcmp_callers.specs.Links.{LinkStep}
-use Rattle.ddcmp_callers.specs.LinkRestarts.{calls_of_links}
-use Rattle.ddcmp_callers.specs.StationRuns.{run_station_calls}
+use Rattle.ddcmp_laws.specs.Links.{LinkStep}
+use Rattle.ddcmp_laws.specs.LinkRestarts.{calls_of_links}
+use Rattle.ddcmp_laws.specs.StationRuns.{run_station_calls}
 use Rattle.ddcmp_session.specs.Calls.{HasClosed, SessionStep}
 use Rattle.ddcmp_session.specs.Connections.{Connection, Does, after_step, first_connection_of}
 use Rattle.ddcmp_pipe.specs.Sessions.{messages_of, mail_in, link_steps_of}

@@ -13,9 +13,9 @@ use Rattle.ddcmp_session.specs.declared.messages.Form.TheVariants as form
 use Rattle.ddcmp_session.specs.declared.options.LineKind.{LineKind}
 use Rattle.ddcmp_session.specs.declared.options.Options.{Options}
 use Rattle.ddcmp_session.specs.Session.{SessionView, is_delivered, lost_among, lost_at_end}
-use Rattle.ddcmp_callers.specs.Calls.{run_calls}
-use Rattle.ddcmp_callers.specs.Links.{LinkStep, Links, new_links, count_if}
-use Rattle.ddcmp_callers.specs.LinkLines.{calls_of_steps}
+use Rattle.ddcmp_laws.specs.PairCalls.{run_calls}
+use Rattle.ddcmp_laws.specs.Links.{LinkStep, Links, new_links, count_if}
+use Rattle.ddcmp_laws.specs.LinkLines.{calls_of_steps}
 use Rattle.ddcmp_session.specs.Calls.{HasClosed, SessionCall, Connected, SessionDoes}
 use Rattle.ddcmp_session.specs.Calls.{SessionHistory}
 use Rattle.ddcmp_session.specs.Calls.{new_session, SessionStep, after_session_step}

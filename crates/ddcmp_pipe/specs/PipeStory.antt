@@ -18,7 +18,7 @@ use Rattle.ddcmp_session.specs.Session.{course_received, lost_among, lost_at_end
 use Rattle.ddcmp_session.specs.Course.{lost_more}
 use Rattle.ddcmp_laws.specs.Story.{strt_bytes, stack_bytes, first_bytes, ack_1_bytes}
 use Rattle.ddcmp_laws.specs.Vectors.{abc}
-use Rattle.ddcmp_callers.specs.LinkStory.{small}
+use Rattle.ddcmp_laws.specs.LinkStory.{small}
 use Rattle.ddcmp_session.specs.Calls.{SessionCall, Typed, InputEnded, Connected, LineEnded}
 use Rattle.ddcmp_session.specs.Calls.{Received, Filled, LineTook, TimedOut, TimePassed, Delivered}
 use Rattle.ddcmp_session.specs.Calls.{OutputTook}

@@ -10,8 +10,8 @@ use Rattle.ddcmp_run.specs.declared.event.End.TheVariants.{A, B}
 use Rattle.ddcmp_run.specs.Prefix.{IsPrefixOf}
 use Rattle.ddcmp_run.specs.Run.{new_pair, is_clean}
 use Rattle.ddcmp_laws.specs.Faithful.{Begins}
-use Rattle.ddcmp_callers.specs.LinkRestarts.{calls_of_links}
-use Rattle.ddcmp_callers.specs.StationRuns.{run_station_calls}
+use Rattle.ddcmp_laws.specs.LinkRestarts.{calls_of_links}
+use Rattle.ddcmp_laws.specs.StationRuns.{run_station_calls}
 use Rattle.ddcmp_session.specs.declared.messages.Form.TheVariants as form
 use Rattle.ddcmp_session.specs.Session.{SessionView}
 use Rattle.ddcmp_session.specs.Calls.{SessionStep}

@@ -11,8 +11,8 @@ use Rattle.ddcmp_session.specs.Messages.{message_in, after_input, entries_of_inp
 use Rattle.ddcmp_session.specs.Messages.{entry_of_last}
 use Rattle.ddcmp_session.specs.Session.{SessionView, wants_input}
 use Rattle.ddcmp_session.specs.Text.{mail_text, notice_text, lost_text}
-use Rattle.ddcmp_callers.specs.Links.{LinkCall, BeginsAnew, Halts, Wakes, Offers, FillsOne}
-use Rattle.ddcmp_callers.specs.Links.{IsSent, Feeds, Takes, LinkStep, LinkHistory}
+use Rattle.ddcmp_laws.specs.Links.{LinkCall, BeginsAnew, Halts, Wakes, Offers, FillsOne}
+use Rattle.ddcmp_laws.specs.Links.{IsSent, Feeds, Takes, LinkStep, LinkHistory}
 use Rattle.ddcmp_session.specs.Calls.{SessionCall, Typed, InputEnded, Connected, LineEnded}
 use Rattle.ddcmp_session.specs.Calls.{Received, Filled, LineTook, TimedOut, TimePassed, Delivered}
 use Rattle.ddcmp_session.specs.Calls.{OutputTook}

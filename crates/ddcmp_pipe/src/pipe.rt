@@ -3,11 +3,11 @@ ghost use Rattle.std.specs.Prelude.{◌≡◌, true};
 ghost use Rattle.ddcmp_frame.specs.Reader.{ReaderView};
 ghost use Rattle.ddcmp_run.specs.declared.event.End.TheVariants.{A, B};
 ghost use Rattle.ddcmp_run.specs.Run.{is_clean, new_pair};
-ghost use Rattle.ddcmp_callers.specs.Calls.{run_calls};
-ghost use Rattle.ddcmp_callers.specs.LinkLines.{calls_of_steps};
-ghost use Rattle.ddcmp_callers.specs.LinkRestarts.{calls_of_links};
-ghost use Rattle.ddcmp_callers.specs.LinkStory.{small};
-ghost use Rattle.ddcmp_callers.specs.StationRuns.{run_station_calls};
+ghost use Rattle.ddcmp_laws.specs.PairCalls.{run_calls};
+ghost use Rattle.ddcmp_laws.specs.LinkLines.{calls_of_steps};
+ghost use Rattle.ddcmp_laws.specs.LinkRestarts.{calls_of_links};
+ghost use Rattle.ddcmp_laws.specs.LinkStory.{small};
+ghost use Rattle.ddcmp_laws.specs.StationRuns.{run_station_calls};
 ghost use Rattle.ddcmp_pipe.specs.Pipe.{IsKeptByPipes, Pipes, PipesAll, PipesBytes};
 ghost use Rattle.ddcmp_pipe.specs.Pipe.{PipesClosed, PipesWhole};
 ghost use Rattle.ddcmp_pipe.specs.Pipe.{IsKeptOverConnections, SessionsOverStreams};
@@ -89,7 +89,7 @@ pub fn pipe_over_connections()
 /// unchanged; and if one may end as delivered, the other has received all of them. In binary they
 /// are in its output after the messages that it had delivered before. When a session that is
 /// connected again keeps the line honest and the run clean is said by
-/// `ddcmp_callers::link_restarts`.
+/// `ddcmp_laws::link_restarts`.
 pub fn pipe_anew()
     ensures to_b { IsKeptAnew (λ first second p. PipesAnew first p.a p.b) }
     ensures to_a { IsKeptAnew (λ first second p. PipesAnew second p.b p.a) }

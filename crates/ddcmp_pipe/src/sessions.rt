@@ -5,7 +5,7 @@ ghost use Rattle.ddcmp_input.specs.InBinary.{in_binary};
 ghost use Rattle.ddcmp_session.specs.declared.options.LineKind.{LineKind as LineKindValue};
 ghost use Rattle.ddcmp_session.specs.declared.options.Options.{Options as OptionsValue};
 ghost use Rattle.ddcmp_session.specs.declared.messages.Form.TheVariants.{Binary};
-ghost use Rattle.ddcmp_callers.specs.Links.{IsHistory, after_history, new_history, offered_in};
+ghost use Rattle.ddcmp_laws.specs.Links.{IsHistory, after_history, new_history, offered_in};
 ghost use Rattle.ddcmp_session.specs.Calls.{SessionStep, new_session, IsSessionHistory};
 ghost use Rattle.ddcmp_session.specs.Calls.{after_session_steps, Shown};
 ghost use Rattle.ddcmp_pipe.specs.Sessions.{link_steps_in, IsOfLink, messages_of, mail_in};

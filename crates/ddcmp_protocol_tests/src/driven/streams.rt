@@ -1,6 +1,6 @@
 //! Two stations, each started once, are driven over streams in memory that give the bytes that they
 //! took in their order. Sizes, messages, clocks, cuts and faults are drawn. What the users saw is
-//! compared with what the laws of `ddcmp_callers` say, in plain code.
+//! compared with what the laws of `ddcmp_laws` say, in plain code.
 ghost use Rattle.std.specs.Prelude.{length};
 
 use crate::same::is;

@@ -10,8 +10,8 @@ use Rattle.ddcmp_core.specs.Counting.{counters_on, counters_after_next}
 use Rattle.ddcmp_proto.specs.Bytes.{after_items, notices_of_items}
 use Rattle.ddcmp_station.specs.Linking.{after_frames}
 use Rattle.ddcmp_run.specs.Place.{first_index, place_from}
-use Rattle.ddcmp_callers.specs.LinkRestarts.{calls_of_links}
-use Rattle.ddcmp_callers.specs.StationRuns.{run_station_calls}
+use Rattle.ddcmp_laws.specs.LinkRestarts.{calls_of_links}
+use Rattle.ddcmp_laws.specs.StationRuns.{run_station_calls}
 use Rattle.ddcmp_input.specs.InBinary.{told_in}
 use Rattle.ddcmp_input.specs.Lengths.{after_bytes, entries_of_bytes}
 use Rattle.ddcmp_session.specs.Text.{notices_text}

@@ -1,5 +1,0 @@
-use Rattle.ddcmp_callers.proofs.TurnSweeps.{sweeps}
-use Rattle.ddcmp_callers.proofs.drives_recover.turns_are_a_sweep.Goals as goal
-
-pub returns : goal.returns
-returns c = sweeps

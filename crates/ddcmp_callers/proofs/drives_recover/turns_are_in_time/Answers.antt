@@ -1,6 +1,0 @@
-use Rattle.ddcmp_callers.proofs.TurnRooms.{in-time}
-use Rattle.ddcmp_callers.proofs.drives_recover.turns_are_in_time.Goals as goal
-
-pub returns : goal.returns
-returns c = λ one two ms other before to_a to_b f g h u.
-    in-time one two ms other before to_a to_b f g

@@ -1,5 +1,0 @@
-use Rattle.ddcmp_callers.proofs.LinkRules.{leaves_nothing}
-use Rattle.ddcmp_callers.proofs.rules.delivered_leaves_nothing.Goals as goal
-
-pub returns : goal.returns
-returns c = leaves_nothing

@@ -1,0 +1,71 @@
+-- If no message is kept, all that was accepted was reported acknowledged, and so was delivered.
+use Rattle.std.proofs.Common.{◌≡◌, ℕ, ◌≤◌, Bool, true, false, List, [], ◌∷◌, ◌++◌, length, refl}
+use Rattle.std.proofs.Common.{sym, ◌∙◌, ap, subst, arith, length-append, append-nil, None}
+use Rattle.std.specs.Prelude.{◌&&◌, ◌==◌}
+use Rattle.std.proofs.lemmas.List.{length-drop}
+use Rattle.ddcmp_proto.specs.Config.{first_refusal}
+use Rattle.ddcmp_proto.specs.declared.config.Config.{Config}
+use Rattle.ddcmp_run.specs.declared.event.End.{End}
+use Rattle.ddcmp_run.specs.InOrder.{Delivers}
+use Rattle.ddcmp_run.specs.Run.{EndState, PairState, handed_up, run, new_pair, is_clean}
+use Rattle.ddcmp_run.proofs.Relation.{Face, face, Stands, not_begun, begun}
+use Rattle.ddcmp_run.proofs.Linked.{Linked, linked-turned}
+use Rattle.ddcmp_run.proofs.Ordered.{run-holds, run-of}
+use Rattle.ddcmp_laws.specs.PairCalls.{Call, run_calls, events_in, noted}
+use Rattle.ddcmp_laws.proofs.PairCallLaws.{run_same, honest_same, clean_same}
+
+-- where an end keeps no message
+abbrev pub IsAcknowledged : EndState → Type 0
+IsAcknowledged x = length x.core.station.out ≡ 0 → length x.given ≤ x.acknowledged
+
+stands_all : (x : Face) (sent next : ℕ) → Stands x sent next → length x.station.out ≡ 0
+    → length x.given ≤ x.acknowledged
+stands_all x sent next (not_begun z h g u) e = let n = ap length g in omega (arith, n)
+stands_all x sent next (begun z c f) e =
+    let n = ap length c.out_is in let m = length-drop x.acknowledged x.given in
+    omega (arith, e, n, m)
+
+pub linked_all : (x y : EndState) → Linked x y → IsAcknowledged x
+linked_all x y l = stands_all (face x) l.related.fits.sent l.related.fits.next l.related.fits.stands
+
+abbrev pub AllAcknowledged : PairState → Type 0
+AllAcknowledged p = IsAcknowledged p.a × IsAcknowledged p.b
+
+pub calls_acknowledged : (first second : Config) (calls : List (End × Call))
+    → first_refusal first ≡ None → first_refusal second ≡ None
+    → (run_calls calls (new_pair first second)).honest ≡ true
+    → is_clean (run_calls calls (new_pair first second)) ≡ true
+    → IsAcknowledged (run_calls calls (new_pair first second)).a
+    × IsAcknowledged (run_calls calls (new_pair first second)).b
+calls_acknowledged first second calls f g h c =
+    let p = run_calls calls (new_pair first second) in
+    let q = run (events_in calls) (new_pair first second) in
+    let e = run_same calls (new_pair first second) (new_pair first second) refl in
+    let l =
+    (run-holds q (run-of first second (events_in calls) f g)).linked
+    (sym (honest_same p q e) ∙ h) (sym (clean_same p q e) ∙ c) in
+    let both : AllAcknowledged (noted q) =
+    (linked_all q.a q.b l, linked_all q.b q.a (linked-turned q.a q.b l)) in
+    subst AllAcknowledged (sym e) both
+
+no_more : (xs rest ys : List (List ℕ)) → xs ++ rest ≡ ys → length ys ≤ length xs → xs ≡ ys
+no_more xs [] ys e h = sym (append-nil xs) ∙ e
+no_more xs (m ∷ rest) ys e h =
+    let n = ap length e in let k = length-append xs (m ∷ rest) in absurd (omega (arith, n, k, h))
+
+pub all_up : (x y : EndState) → Delivers x y → length x.given ≤ x.acknowledged
+    → handed_up y ≡ x.given
+all_up x y d h =
+    let k = d.acknowledged in
+    no_more (handed_up y) d.order.0 x.given d.order.1 (omega (arith, h, k))
+
+zero_is : (n : ℕ) → (n == 0) ≡ true → n ≡ 0
+zero_is n e = grind (arith, e)
+
+pub first_of_three : (n : ℕ) (b c : Bool) → ((n == 0) && b && c) ≡ true → n ≡ 0
+first_of_three n b c e = by (n == 0) refl b e
+  where
+    by : (a : Bool) → (n == 0) ≡ a → (d : Bool) → (a && d && c) ≡ true → n ≡ 0
+    by true f d g = zero_is n f
+    by false f true g = absurd (cc g)
+    by false f false g = absurd (cc g)

@@ -1,0 +1,205 @@
+-- Two links that sleep.
+use Rattle.std.proofs.Common.{◌≡◌, ◌≢◌, ◌⊎◌, inl, inr, ℕ, Bool, true, false, cond, List, ◌++◌}
+use Rattle.std.proofs.Common.{length, refl, sym, ◌∙◌, ap, Option, None, Some}
+use Rattle.std.specs.Prelude.{option_map, is_some, not, ◌&&◌}
+use Rattle.ddcmp_frame.specs.Reader.{ReaderView}
+use Rattle.ddcmp_core.specs.Core.{CoreView}
+use Rattle.ddcmp_core.specs.Frames.{header_of}
+use Rattle.ddcmp_core.specs.declared.state.State.TheVariants.{Halted}
+use Rattle.ddcmp_core.specs.declared.state.Timer.{Timer}
+use Rattle.ddcmp_core.specs.declared.state.Timer.TheVariants.{Off, Fresh, On}
+use Rattle.ddcmp_core.specs.Table.{next, next_frame, after_take_arm, is_on, has_room, Frame, Limits}
+use Rattle.ddcmp_core.specs.Table.{StationState}
+use Rattle.ddcmp_proto.specs.Bytes.{frame_on_line}
+use Rattle.ddcmp_proto.specs.Config.{first_refusal}
+use Rattle.ddcmp_proto.specs.declared.config.Config.{Config}
+use Rattle.ddcmp_run.specs.declared.event.End.{End}
+use Rattle.ddcmp_run.specs.InOrder.{IsRun}
+use Rattle.ddcmp_run.specs.Recovery.{IsDelivered}
+use Rattle.ddcmp_run.specs.Run.{EndState, PairState, handed_up, line_bytes, is_clean, new_pair, run}
+use Rattle.ddcmp_station.specs.Linking.{frame_of_link, fits}
+use Rattle.ddcmp_station.specs.Linking.{is_held_back, is_nak_for_buffer}
+use Rattle.ddcmp_laws.proofs.Waiting.{sleeps-a, sleeps-b}
+use Rattle.ddcmp_laws.specs.PairCalls.{Call, noted, after_arm_here, events_in, run_calls}
+use Rattle.ddcmp_laws.specs.Links.{LinkStep, LinkHistory, Links, IsSameEnd, AreStartedOnce}
+use Rattle.ddcmp_laws.specs.Links.{new_links, after_steps, received}
+use Rattle.ddcmp_laws.specs.LinkLines.{AreLinkCalls, calls_of_steps, LinksAreUp, LinkIsAsleep}
+use Rattle.ddcmp_laws.specs.LinkLines.{InboxIsFull, LinkIsDelivered}
+use Rattle.ddcmp_laws.proofs.PairCallLaws.{run_same, honest_same, clean_same}
+use Rattle.ddcmp_laws.proofs.Stations.{note, frame_armed}
+use Rattle.ddcmp_laws.proofs.TwoLinks.{AreSame, clean, ends}
+
+-- ---- of one link
+
+pub same_off : (t u : Timer) → note t ≡ note u → t ≡ Off → u ≡ Off
+same_off t Off e f = refl
+same_off t Fresh e f = absurd (let z = ap note f in cc (e, z))
+same_off t On e f = absurd (let z = ap note f in cc (e, z))
+
+off_of : (t : Timer) (moment : ℕ) → cond (is_on t) (Some moment) None ≡ None → t ≡ Off
+off_of Off moment e = refl
+off_of Fresh moment e = absurd (cc e)
+off_of On moment e = absurd (cc e)
+
+quiet_same : (x y : EndState) → after_arm_here x ≡ after_arm_here y
+    → next_frame (next x.core.station) ≡ None → line_bytes y ≡ None
+quiet_same x y e n =
+    let f : after_take_arm x.core.station ≡ after_take_arm y.core.station =
+    ap (λ (z : EndState). z.core.station) e in
+    ap (λ g. option_map (frame_on_line y.syn) g)
+    (frame_armed y.core.station
+    ∙ (sym (ap (λ s. next_frame (next s)) f) ∙ (sym (frame_armed x.core.station) ∙ n)))
+
+-- a link that puts no frame has none, or its inbox is full
+held : (f : Option Frame) (l : Limits) (s : StationState) (room : Bool) → room ≡ true
+    → ((room && not (is_held_back f l s)) && is_some f) ≡ false
+    → (f ≡ None) ⊎ (has_room l s ≡ false)
+held None l s room e n = inl refl
+held (Some f) l s room e n = by room (is_nak_for_buffer (header_of f)) (has_room l s) e n refl
+  where
+    by : (room nak free : Bool) → room ≡ true
+        → ((room && not (nak && not free)) && true) ≡ false
+        → has_room l s ≡ free → (Some f ≡ None) ⊎ (has_room l s ≡ false)
+    by true nak false e n h = inr h
+    by true true true e n h = absurd (cc n)
+    by true false true e n h = absurd (cc n)
+    by false nak free e n h = absurd (cc e)
+
+got : (x y : EndState) (h k : LinkHistory) → IsSameEnd x h → IsSameEnd y k → x.given ≡ handed_up y
+    → received k ≡ h.accepted
+got x y h k s t e =
+    sym
+    (ap (λ ys. ys ++ y.core.station.inbox) t.taken
+    ∙ ap (λ (c : CoreView). k.taken ++ c.station.inbox) t.core)
+    ∙ (sym e ∙ s.given)
+
+-- ---- of two
+
+record IsQuiet (x : EndState) : Type 0 where
+  no_frame : next_frame (next x.core.station) ≡ None
+  no_timer : x.core.station.timer ≡ Off
+
+quiet : (x : EndState) (h : LinkHistory) → IsSameEnd x h → LinkIsAsleep h.link
+    → IsQuiet x ⊎ InboxIsFull h.link
+quiet x h s z = by
+    (held (frame_of_link h.link) h.link.station.core.limits h.link.station.core.station
+    (fits h.link) z.room z.no_frame)
+  where
+    by : (frame_of_link h.link ≡ None) ⊎ InboxIsFull h.link → IsQuiet x ⊎ InboxIsFull h.link
+    by (inl n) = inl (record {
+      no_frame = ap (λ (c : CoreView). next_frame (next c.station)) s.core ∙ n;
+      no_timer =
+          ap (λ (c : CoreView). c.station.timer) s.core
+          ∙ off_of h.link.station.core.station.timer _ z.no_moment;
+    })
+    by (inr f) = inr f
+
+-- what is delivered stays so, but for the note of a started timer
+pub delivered_same : (x y u v : EndState) → after_arm_here x ≡ after_arm_here u
+    → after_arm_here y ≡ after_arm_here v → IsDelivered u v → IsDelivered x y
+delivered_same x y u v e f d = record {
+  runs = ap (λ (z : EndState). z.core.station.state) e ∙ d.runs;
+  handed_up =
+      ap (λ (z : EndState). z.given) e ∙ d.handed_up ∙ sym (ap (λ (z : EndState). handed_up z) f);
+  acknowledged =
+      ap (λ (z : EndState). z.acknowledged) e ∙ d.acknowledged
+      ∙ sym (ap (λ (z : EndState). length z.given) e);
+}
+
+pub delivered_links : (x y : EndState) (h k : LinkHistory) → IsSameEnd x h → IsSameEnd y k
+    → IsDelivered x y → LinkIsDelivered h k
+delivered_links x y h k s t d = record {
+  runs = sym (ap (λ (c : CoreView). c.station.state) s.core) ∙ d.runs;
+  received = got x y h k s t d.handed_up;
+  acknowledged = sym s.acknowledged ∙ d.acknowledged ∙ ap length s.given;
+}
+
+module _ (first second : Config) (ms other_ms : ℕ) (line other_line : ReaderView)
+    (steps : List (End × LinkStep)) (f : first_refusal first ≡ None)
+    (g : first_refusal second ≡ None)
+    (o : AreLinkCalls steps (new_links first ms line second other_ms other_line))
+    (honest : (run_calls (calls_of_steps steps
+    (new_links first ms line second other_ms other_line)) (new_pair first second)).honest ≡ true)
+    (once : AreStartedOnce steps)
+    (up : LinksAreUp (after_steps steps (new_links first ms line second other_ms other_line))) where
+  abbrev links : Links
+  links = after_steps steps (new_links first ms line second other_ms other_line)
+
+  abbrev calls : List (End × Call)
+  calls = calls_of_steps steps (new_links first ms line second other_ms other_line)
+
+  abbrev p : PairState
+  p = run_calls calls (new_pair first second)
+
+  abbrev q : PairState
+  q = run (events_in calls) (new_pair first second)
+
+  same : AreSame p links
+  same = ends first second ms other_ms line other_line steps f g o honest once
+
+  noted_same : noted p ≡ noted q
+  noted_same = run_same calls (new_pair first second) (new_pair first second) refl
+
+  is_run : IsRun q
+  is_run = record {
+    first = first;
+    second = second;
+    first_made = f;
+    second_made = g;
+    events = events_in calls;
+    leads = refl;
+  }
+
+  honest_run : q.honest ≡ true
+  honest_run = sym (honest_same p q noted_same) ∙ honest
+
+  clean_run : is_clean q ≡ true
+  clean_run =
+      sym (clean_same p q noted_same)
+      ∙ clean first second ms other_ms line other_line steps f g o honest once
+
+  up_a : q.a.core.station.state ≢ Halted
+  up_a e =
+      up.a
+      (sym (ap (λ (c : CoreView). c.station.state) same.a.core)
+      ∙ (ap (λ (r : PairState). r.a.core.station.state) noted_same ∙ e))
+
+  up_b : q.b.core.station.state ≢ Halted
+  up_b e =
+      up.b
+      (sym (ap (λ (c : CoreView). c.station.state) same.b.core)
+      ∙ (ap (λ (r : PairState). r.b.core.station.state) noted_same ∙ e))
+
+  pub asleep_a : LinkIsAsleep links.a.link → LinkIsDelivered links.a links.b
+      ⊎ InboxIsFull links.a.link
+  asleep_a z = by (quiet p.a links.a same.a z)
+    where
+      by : IsQuiet p.a ⊎ InboxIsFull links.a.link
+          → LinkIsDelivered links.a links.b ⊎ InboxIsFull links.a.link
+      by (inr e) = inr e
+      by (inl n) =
+          inl
+          (delivered_links p.a p.b links.a links.b same.a same.b
+          (delivered_same p.a p.b q.a q.b (ap (λ (r : PairState). r.a) noted_same)
+          (ap (λ (r : PairState). r.b) noted_same)
+          (sleeps-a q is_run honest_run clean_run up_a up_b
+          (quiet_same p.a q.a (ap (λ (r : PairState). r.a) noted_same) n.no_frame)
+          (same_off p.a.core.station.timer q.a.core.station.timer
+          (ap (λ (r : PairState). r.a.core.station.timer) noted_same) n.no_timer))))
+
+  pub asleep_b : LinkIsAsleep links.b.link → LinkIsDelivered links.b links.a
+      ⊎ InboxIsFull links.b.link
+  asleep_b z = by (quiet p.b links.b same.b z)
+    where
+      by : IsQuiet p.b ⊎ InboxIsFull links.b.link
+          → LinkIsDelivered links.b links.a ⊎ InboxIsFull links.b.link
+      by (inr e) = inr e
+      by (inl n) =
+          inl
+          (delivered_links p.b p.a links.b links.a same.b same.a
+          (delivered_same p.b p.a q.b q.a (ap (λ (r : PairState). r.b) noted_same)
+          (ap (λ (r : PairState). r.a) noted_same)
+          (sleeps-b q is_run honest_run clean_run up_a up_b
+          (quiet_same p.b q.b (ap (λ (r : PairState). r.b) noted_same) n.no_frame)
+          (same_off p.b.core.station.timer q.b.core.station.timer
+          (ap (λ (r : PairState). r.b.core.station.timer) noted_same) n.no_timer))))

@@ -1,0 +1,29 @@
+-- A served station as one that was driven.
+use Rattle.std.specs.Prelude.{◌≡◌, ℕ, Bool, List, [], ◌∷◌, Result}
+use Rattle.std.specs.Io.KnownBytes.{Appends, Consumes}
+use Rattle.ddcmp_io.specs.Written.{Known}
+use Rattle.ddcmp_core.specs.Core.{CoreView}
+use Rattle.ddcmp_station.specs.declared.driving.Driven.{Driven}
+use Rattle.ddcmp_io.specs.declared.device.LineFault.{LineFault}
+use Rattle.ddcmp_station.specs.Driving.{Devices, bytes_read}
+use Rattle.ddcmp_net.specs.Serving.{usual_config, OffersOnce, WritesOut, report_text}
+use Rattle.ddcmp_laws.specs.Faithful.{Begins}
+use Rattle.ddcmp_laws.specs.Driven.{DriveCall, after_drives, begun, seen_of}
+
+-- A served station is a new one that was started and driven by this call: it took from the source
+-- what its turns read and brought the sink what they wrote, or if it broke off a beginning of
+-- that. Its user gave the message once, and what the user saw is the report.
+pub record IsServed (milliseconds : ℕ) (restart counted : Bool) (send : List ℕ) (call : DriveCall)
+    (devices : Devices) (failed : Bool) (report report_after : Known) : Type 0 where
+  pub timer : call.milliseconds ≡ milliseconds
+  pub sent : List ℕ
+  pub told : Result Driven LineFault
+  pub core : CoreView
+  pub consumed : Consumes devices.left devices.left_after (bytes_read call.turns)
+  pub appended : Appends devices.sink devices.sink_after sent
+  pub text : (after_drives 0 (call ∷ []) (begun (usual_config restart))).text
+      ≡ bytes_read call.turns
+  pub written : Begins sent (after_drives 0 (call ∷ []) (begun (usual_config restart))).written
+  pub offered : OffersOnce send (seen_of (usual_config restart) (call ∷ []))
+  pub reported : WritesOut failed report report_after
+      (report_text counted (seen_of (usual_config restart) (call ∷ [])) told core)

@@ -1,0 +1,40 @@
+//! Two links over lines that lose nothing from some moment on.
+ghost use Rattle.std.specs.Prelude.{◌≡◌, ◌≤◌, ℕ, List, [], ◌∷◌, Some};
+ghost use Rattle.ddcmp_core.specs.declared.state.Timer.TheVariants.{On};
+ghost use Rattle.ddcmp_station.specs.Linking.{LinkView};
+ghost use Rattle.ddcmp_run.specs.declared.event.End.{End as EndValue};
+ghost use Rattle.ddcmp_run.specs.Run.{run};
+ghost use Rattle.ddcmp_laws.specs.LossFree.{IsLossFree, run_on_line};
+ghost use Rattle.ddcmp_laws.specs.Sweeps.{IsRecoveryBySweeps};
+ghost use Rattle.ddcmp_laws.specs.PairCalls.{Arm, Expire};
+ghost use Rattle.ddcmp_laws.specs.Links.{LinkStep, Wakes, station_calls, after_steps};
+ghost use Rattle.ddcmp_laws.specs.LinkSweeps.{LinksLoseNothing, run_on_links, events_of_steps};
+ghost use Rattle.ddcmp_laws.specs.LinkSweeps.{line_of, IsKeptUnderWay, LinksAreDone};
+
+/// Calls of two links over lines that lose nothing are events of their stations over a line that
+/// loses nothing, in whose flight is also what is pending in an outbox: so a frame that `fill_one`
+/// puts there is sent, and what the line takes of it changes nothing.
+pub fn links_lose_nothing()
+    ensures loss_free { IsKeptUnderWay (λ line l. (steps : List (EndValue × LinkStep))
+        → LinksLoseNothing steps l → IsLossFree (events_of_steps steps l.links) line) }
+    ensures leads { IsKeptUnderWay (λ line l. (steps : List (EndValue × LinkStep))
+        → LinksLoseNothing steps l → run_on_line (events_of_steps steps l.links) line
+        ≡ line_of (run (events_of_steps steps l.links) line.pair) (run_on_links steps l)) }
+{}
+
+/// A link whose timer is on and that is woken at or after its moment lets it expire.
+pub fn a_woken_timer_expires()
+    ensures { (d : LinkView) (moment now : ℕ) → d.station.core.station.timer ≡ On
+        → d.deadline ≡ Some moment → moment ≤ now
+        → station_calls (Wakes now) d ≡ Arm ∷ Expire ∷ [] }
+{}
+
+/// Two links recover. Under way over lines that lose nothing from now on, whatever was lost before:
+/// after enough sweeps of their stations, and two rounds, in each of which the timer of each
+/// expires, unless it is off, and enough sweeps follow, both run, and each message that one
+/// accepted, also meanwhile, is received by the other and acknowledged.
+pub fn links_recover()
+    ensures { IsKeptUnderWay (λ line l. (steps : List (EndValue × LinkStep))
+        → LinksLoseNothing steps l → IsRecoveryBySweeps (events_of_steps steps l.links) line
+        → LinksAreDone (after_steps steps l.links)) }
+{}
