@@ -7,5 +7,5 @@ pub use Rattle.ddcmp_io.specs.Input
 pub use Rattle.ddcmp_net.specs.Connection
 pub use Rattle.ddcmp_script_text.specs.ScriptText
 pub use Rattle.ddcmp_script_text.specs.ScriptWords
-pub use Rattle.ddcmp_station_text.specs.StationText
-pub use Rattle.ddcmp_station_text.specs.CountersText
+pub use Rattle.ddcmp_station.specs.StationText
+pub use Rattle.ddcmp_station.specs.CountersText

@@ -14,7 +14,7 @@ use ddcmp_io::text::write_number;
 use ddcmp_io::{Page, Sink};
 use ddcmp_pair::{End, Pair};
 use ddcmp_script_text::end_name;
-use ddcmp_station_text::write_counters;
+use ddcmp_station::write_counters;
 
 fn yes_or_no(is: bool) -> &'static [u8]
     ensures { result.now ≡ yes_or_no_text is }

@@ -19,6 +19,6 @@ pub use ddcmp_pair::{
 };
 pub use ddcmp_run::{Carrier, Direct, LineFault};
 pub use ddcmp_script_text::ScriptFault;
-pub use ddcmp_station_text::{state_name, write_notice};
+pub use ddcmp_station::{state_name, write_notice};
 pub use scripting::{script, script_viewed, script_with};
 pub use view::View;

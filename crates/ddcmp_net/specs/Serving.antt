@@ -16,8 +16,8 @@ use Rattle.ddcmp_station.specs.Config.{core_made}
 use Rattle.ddcmp_station.specs.Driving.{Devices, Drives}
 use Rattle.ddcmp_station.specs.Station.{StationView}
 use Rattle.ddcmp_station.specs.UserCalls.{UserCall, Asked, Told, Handed}
-use Rattle.ddcmp_station_text.specs.CountersText.{counters_line}
-use Rattle.ddcmp_station_text.specs.StationText.{notice_line, state_text}
+use Rattle.ddcmp_station.specs.CountersText.{counters_line}
+use Rattle.ddcmp_station.specs.StationText.{notice_line, state_text}
 use Rattle.ddcmp_net.specs.declared.serve_fault.ServeFault.{ServeFault}
 use Rattle.ddcmp_net.specs.declared.serve_fault.ServeFault.TheVariants.{Line, Report}
 

@@ -2,12 +2,13 @@
 ghost use Rattle.std.specs.Prelude.{◌≡◌, ◌++◌, [], is_err};
 ghost use Rattle.ddcmp_io.specs.Written.{HandsOver, output_of};
 ghost use Rattle.ddcmp_net.specs.Serving.{closing_text, end_text};
-ghost use Rattle.ddcmp_station_text.specs.CountersText.{counters_line};
+ghost use Rattle.ddcmp_station.specs.CountersText.{counters_line};
 
 use ddcmp_io::text::{write_hex, write_number};
 use ddcmp_io::{Page, Sink, WriteFailed};
-use ddcmp_station::{Driven, Notice, State, Station, User};
-use ddcmp_station_text::{state_name, write_counters, write_notice};
+use ddcmp_station::{
+    Driven, Notice, State, Station, User, state_name, write_counters, write_notice,
+};
 
 /// Sends one message as soon as it is asked for one, and writes a line of each notice and of each
 /// message that comes. A line goes out whole, before anything else happens.

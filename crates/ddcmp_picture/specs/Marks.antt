@@ -23,7 +23,7 @@ use Rattle.ddcmp_script_text.specs.declared.command.ScriptCommand.TheVariants.{H
 use Rattle.ddcmp_script_text.specs.declared.command.ScriptCommand.TheVariants.{Damage, Raw, Settle}
 use Rattle.ddcmp_script_text.specs.declared.command.ScriptCommand.TheVariants.{Recover}
 use Rattle.ddcmp_script_text.specs.declared.command.ScriptCommand.TheVariants.{State as StateOf}
-use Rattle.ddcmp_station_text.specs.StationText.{state_text}
+use Rattle.ddcmp_station.specs.StationText.{state_text}
 use Rattle.ddcmp_picture.specs.declared.asked.Asked.{Asked}
 use Rattle.ddcmp_picture.specs.declared.asked.Asked.TheVariants as asked
 use Rattle.ddcmp_picture.specs.declared.mark.Fate.{Fate}

@@ -9,7 +9,7 @@ use ddcmp_explain::{LABEL_ROOM, label_frame};
 use ddcmp_frame::Header;
 use ddcmp_pair::{Notice, Station};
 use ddcmp_proto::Counters;
-use ddcmp_station_text::{notice_name, notice_number, state_name};
+use ddcmp_station::{notice_name, notice_number, state_name};
 
 /// The fill before a frame.
 const SYN: u8 = 0x96;

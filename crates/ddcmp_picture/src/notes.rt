@@ -13,7 +13,7 @@ use crate::replies::{answer_text, words};
 use crate::short_text::ShortText;
 use crate::states::Seen;
 use ddcmp_pair::{End, Notice, Reply, State, Station};
-use ddcmp_station_text::state_name;
+use ddcmp_station::state_name;
 
 /// Whether it is the same state.
 fn is_same(before: State, now: State) -> bool

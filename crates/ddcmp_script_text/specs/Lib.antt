@@ -1,4 +1,4 @@
 pub mod ScriptText
 pub mod ScriptWords
-pub use Rattle.ddcmp_station_text.specs.StationText
-pub use Rattle.ddcmp_station_text.specs.CountersText
+pub use Rattle.ddcmp_station.specs.StationText
+pub use Rattle.ddcmp_station.specs.CountersText

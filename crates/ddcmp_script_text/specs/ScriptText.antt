@@ -8,8 +8,8 @@ use Rattle.ddcmp_core.specs.declared.station_core.StartRefusal.TheVariants.{NotH
 use Rattle.ddcmp_core.specs.SendRefusal.{SendRefusal}
 use Rattle.ddcmp_core.specs.SendRefusal.TheVariants.{WrongState, Empty, TooLong, WindowFull}
 use Rattle.ddcmp_core.specs.Table.{StationState, is_on}
-use Rattle.ddcmp_station_text.specs.StationText.{notice_line, state_text}
-use Rattle.ddcmp_station_text.specs.CountersText.{counters_line}
+use Rattle.ddcmp_station.specs.StationText.{notice_line, state_text}
+use Rattle.ddcmp_station.specs.CountersText.{counters_line}
 use Rattle.ddcmp_run.specs.declared.event.End.{End}
 use Rattle.ddcmp_run.specs.declared.event.End.TheVariants.{A, B}
 use Rattle.ddcmp_run.specs.declared.event.Reply.{Reply}

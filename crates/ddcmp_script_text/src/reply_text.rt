@@ -2,7 +2,7 @@
 ghost use Rattle.std.specs.Prelude.{◌≡◌, ◌++◌};
 ghost use Rattle.std.specs.List.{flat_map};
 ghost use Rattle.ddcmp_io.specs.Written.{HandsOver, output_of};
-ghost use Rattle.ddcmp_station_text.specs.StationText.{notice_line};
+ghost use Rattle.ddcmp_station.specs.StationText.{notice_line};
 ghost use Rattle.ddcmp_script_text.specs.ScriptText.{end_name, name_before, start_refusal_text};
 ghost use Rattle.ddcmp_script_text.specs.ScriptText.{clear_refusal_text, send_refusal_text};
 ghost use Rattle.ddcmp_script_text.specs.ScriptText.{expired_text, counted_line, bytes_line};
@@ -15,7 +15,7 @@ use ddcmp_io::text::{write_hex, write_number};
 use ddcmp_io::{Page, Sink};
 use ddcmp_proto::{Notice, SendRefusal, StartRefusal, Station};
 use ddcmp_run::{End, Reply};
-use ddcmp_station_text::{state_name, write_notice};
+use ddcmp_station::{state_name, write_notice};
 
 /// Who replies, before the words of the reply.
 pub fn end_name(end: End) -> &'static [u8]

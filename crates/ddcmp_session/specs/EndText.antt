@@ -7,8 +7,8 @@ use Rattle.ddcmp_session.specs.declared.devices.Down.TheVariants.{Closed, Failed
 use Rattle.ddcmp_io.specs.Queue.{QueueView}
 use Rattle.ddcmp_io.specs.Written.{Output}
 use Rattle.ddcmp_station.specs.Linking.{LinkView}
-use Rattle.ddcmp_station_text.specs.CountersText.{counters_line}
-use Rattle.ddcmp_station_text.specs.StationText.{state_text}
+use Rattle.ddcmp_station.specs.CountersText.{counters_line}
+use Rattle.ddcmp_station.specs.StationText.{state_text}
 
 -- the state of a link and what it counted
 abbrev pub totals_text : LinkView → List ℕ

@@ -5,7 +5,7 @@ use Rattle.hex.specs.Hex.{encode_lower}
 use Rattle.ddcmp_core.specs.declared.notice.Notice.{Notice}
 use Rattle.ddcmp_core.specs.declared.notice.Notice.TheVariants as notice
 use Rattle.ddcmp_input.specs.InBinary.{behind_length}
-use Rattle.ddcmp_station_text.specs.StationText.{notice_line}
+use Rattle.ddcmp_station.specs.StationText.{notice_line}
 use Rattle.ddcmp_session.specs.declared.messages.Form.{Form}
 use Rattle.ddcmp_session.specs.declared.messages.Form.TheVariants.{Digits, Binary}
 use Rattle.ddcmp_io.specs.Queue.{QueueView, after_pushed}

@@ -4,16 +4,15 @@ ghost use Rattle.hex.specs.Hex.{encode_lower};
 ghost use Rattle.ddcmp_io.specs.Written.{HandsOver, output_of};
 ghost use Rattle.ddcmp_session.specs.EndText.{totals_text, end_line, end_text};
 ghost use Rattle.ddcmp_session.specs.Text.{Puts, mail_text, lost_line};
-ghost use Rattle.ddcmp_station_text.specs.CountersText.{counters_line};
-ghost use Rattle.ddcmp_station_text.specs.StationText.{notice_line, number_text};
+ghost use Rattle.ddcmp_station.specs.CountersText.{counters_line};
+ghost use Rattle.ddcmp_station.specs.StationText.{notice_line, number_text};
 
 use crate::messages::Form;
 use ddcmp_explain::reason_name;
 use ddcmp_frame::Nak;
 use ddcmp_io::text::write_number;
 use ddcmp_io::{ByteQueue, Page, Sink};
-use ddcmp_station::{Link, Notice};
-use ddcmp_station_text::{notice_name, notice_number, state_name, write_counters};
+use ddcmp_station::{Link, Notice, notice_name, notice_number, state_name, write_counters};
 use itoa::Buffer;
 
 /// The most bytes of the line of a notice.

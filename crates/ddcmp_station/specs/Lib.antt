@@ -2,6 +2,8 @@ pub mod UserCalls
 pub mod Driving
 pub mod Turns
 pub mod Linking
+pub mod StationText
+pub mod CountersText
 pub use Rattle.ddcmp_proto.specs.Config
 pub use Rattle.ddcmp_proto.specs.Bytes
 pub use Rattle.ddcmp_proto.specs.Station

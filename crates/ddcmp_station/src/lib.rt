@@ -1,15 +1,20 @@
 //! A station driven over a line. `drive` runs one over any reader and writer, turn by turn; `Link`
 //! is one for an event loop, the part of `ddcmp link` that decides, without a device and a clock.
-//! The station itself, over bytes alone, is that of `ddcmp_proto`.
+//! The station itself, over bytes alone, is that of `ddcmp_proto`. Also the words for what it
+//! reports: its state, its notices and its counters.
 #![tactic(auto)]
 
+mod counts;
 mod driving;
 mod elapsed;
 mod link;
+mod notices;
 mod outbox;
 mod reply_timer;
+mod states;
 mod user;
 
+pub use counts::write_counters;
 pub use ddcmp_frame::{Got, Sink, Source, Worst};
 pub use ddcmp_io::LineFault;
 pub use ddcmp_proto::{
@@ -19,5 +24,7 @@ pub use ddcmp_proto::{
 pub use driving::{Driven, READ_ROOM, drive};
 pub use elapsed::Elapsed;
 pub use link::{Link, Totals};
+pub use notices::{notice_name, notice_number, write_notice};
 pub use outbox::ROOM;
+pub use states::state_name;
 pub use user::{Clock, User};

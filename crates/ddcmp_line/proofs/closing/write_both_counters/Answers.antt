@@ -2,7 +2,7 @@ use Rattle.std.proofs.Common.{ap, ap₂, ◌∙◌}
 use Rattle.ddcmp_core.specs.Core.{CoreView}
 use Rattle.ddcmp_io.proofs.WrittenLaws.{sends-then}
 use Rattle.ddcmp_io.proofs.TextLaws.{sends-as}
-use Rattle.ddcmp_station_text.specs.CountersText.{counters_line}
+use Rattle.ddcmp_station.specs.CountersText.{counters_line}
 use Rattle.ddcmp_line.proofs.closing.write_both_counters.Goals as goal
 
 pub returns : goal.returns

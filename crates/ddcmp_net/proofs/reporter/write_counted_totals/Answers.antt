@@ -1,7 +1,7 @@
 use Rattle.std.proofs.Common.{[], ap}
 use Rattle.ddcmp_io.proofs.WrittenLaws.{sends-then}
 use Rattle.ddcmp_io.proofs.TextLaws.{sends-as}
-use Rattle.ddcmp_station_text.specs.CountersText.{counters_line}
+use Rattle.ddcmp_station.specs.CountersText.{counters_line}
 use Rattle.ddcmp_net.specs.Serving.{end_text}
 use Rattle.ddcmp_net.proofs.reporter.write_counted_totals.Goals as goal
 

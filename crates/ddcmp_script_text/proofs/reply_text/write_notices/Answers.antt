@@ -1,7 +1,7 @@
 use Rattle.ddcmp_io.specs.Written.{output_of}
 use Rattle.ddcmp_io.proofs.WrittenLaws.{sends-then}
 use Rattle.ddcmp_io.proofs.TextLaws.{sends-as, sends-nothing}
-use Rattle.ddcmp_station_text.specs.StationText.{notice_line}
+use Rattle.ddcmp_station.specs.StationText.{notice_line}
 use Rattle.ddcmp_script_text.proofs.EachText.{one-more, all-there}
 use Rattle.ddcmp_script_text.proofs.reply_text.write_notices.Goals as goal
 

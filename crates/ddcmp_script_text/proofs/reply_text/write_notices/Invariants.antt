@@ -1,7 +1,7 @@
 use Rattle.std.proofs.Common.{take}
 use Rattle.std.specs.List.{flat_map}
 use Rattle.ddcmp_io.specs.Written.{HandsOver, output_of}
-use Rattle.ddcmp_station_text.specs.StationText.{notice_line}
+use Rattle.ddcmp_station.specs.StationText.{notice_line}
 use Rattle.ddcmp_script_text.proofs.reply_text.write_notices.Given as goal
 
 abbrev pub invariant-loop-notice : goal.invariant-loop-notice

@@ -1,7 +1,7 @@
 use Rattle.std.proofs.Common.{ap, ◌∙◌}
 use Rattle.std.specs.Prelude.{decimal}
 use Rattle.ddcmp_io.proofs.WrittenLaws.{sends-then}
-use Rattle.ddcmp_station_text.specs.StationText.{state_text}
+use Rattle.ddcmp_station.specs.StationText.{state_text}
 use Rattle.ddcmp_io.proofs.TextLaws.{sends-as}
 use Rattle.ddcmp_script_text.proofs.reply_text.write_numbers.Goals as goal
 

@@ -2,7 +2,7 @@ use Rattle.std.proofs.Common.{◌++◌, ◌∙◌, ap, codes, decimal}
 use Rattle.ddcmp_io.proofs.WrittenLaws.{sends-then}
 use Rattle.ddcmp_io.proofs.TextLaws.{sends-as}
 use Rattle.ddcmp_station.specs.declared.link.Totals.{Totals}
-use Rattle.ddcmp_station_text.specs.StationText.{state_text}
+use Rattle.ddcmp_station.specs.StationText.{state_text}
 use Rattle.ddcmp_session.proofs.text.write_totals.Goals as goal
 
 pub returns : goal.returns

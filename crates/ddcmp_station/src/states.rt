@@ -1,6 +1,6 @@
 //! The text of a state.
 ghost use Rattle.std.specs.Prelude.{◌≡◌};
-ghost use Rattle.ddcmp_station_text.specs.StationText.{state_text};
+ghost use Rattle.ddcmp_station.specs.StationText.{state_text};
 
 use ddcmp_proto::State;
 

@@ -1,5 +1,5 @@
 use Rattle.ddcmp_io.proofs.WrittenLaws.{sends-then}
-use Rattle.ddcmp_station_text.proofs.counts.write_fault_counts.Goals as goal
+use Rattle.ddcmp_station.proofs.counts.write_fault_counts.Goals as goal
 
 pub returns : goal.returns
 returns g c =

@@ -1,8 +1,8 @@
 //! The text of a notice.
 ghost use Rattle.std.specs.Prelude.{◌≡◌};
 ghost use Rattle.ddcmp_io.specs.Written.{HandsOver, output_of};
-ghost use Rattle.ddcmp_station_text.specs.StationText.{notice_word, notice_line};
-ghost use Rattle.ddcmp_station_text.specs.StationText.{notice_number as notice_number_of};
+ghost use Rattle.ddcmp_station.specs.StationText.{notice_word, notice_line};
+ghost use Rattle.ddcmp_station.specs.StationText.{notice_number as notice_number_of};
 
 use ddcmp_io::text::write_number;
 use ddcmp_io::{Page, Sink};

@@ -1,8 +1,8 @@
 //! The text of what a station has counted.
 ghost use Rattle.ddcmp_io.specs.Written.{HandsOver, output_of};
-ghost use Rattle.ddcmp_station_text.specs.CountersText.{counter_text, reason_text, nak_counts_text};
-ghost use Rattle.ddcmp_station_text.specs.CountersText.{traffic_text, fault_counts_text};
-ghost use Rattle.ddcmp_station_text.specs.CountersText.{counters_line};
+ghost use Rattle.ddcmp_station.specs.CountersText.{counter_text, reason_text, nak_counts_text};
+ghost use Rattle.ddcmp_station.specs.CountersText.{traffic_text, fault_counts_text};
+ghost use Rattle.ddcmp_station.specs.CountersText.{counters_line};
 
 use ddcmp_core::{Counters, NakCounts};
 use ddcmp_io::text::write_number;

@@ -1,2 +1,0 @@
-pub mod StationText
-pub mod CountersText
