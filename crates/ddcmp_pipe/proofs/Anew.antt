@@ -34,11 +34,10 @@ use Rattle.ddcmp_session.specs.Calls.{Received, Filled, LineTook, TimedOut, Time
 use Rattle.ddcmp_session.specs.Calls.{OutputTook}
 use Rattle.ddcmp_session.specs.Calls.{Closed, SessionDoes, SessionStep}
 use Rattle.ddcmp_session.specs.Calls.{after_session_step}
-use Rattle.ddcmp_session.specs.Course.{after_connecting}
 use Rattle.ddcmp_session.specs.Session.{after_connected, starts}
 use Rattle.ddcmp_pipe.specs.Sessions.{messages_of, mail_in, link_steps_of, offers_of, frames_put}
 use Rattle.ddcmp_pipe.specs.Sessions.{texts_of}
-use Rattle.ddcmp_pipe.specs.Pipe.{Made, links_made, steps_at_end}
+use Rattle.ddcmp_pipe.specs.Pipe.{Made, links_made, steps_at_end, undelivered}
 use Rattle.ddcmp_session.specs.Connections as connections
 use Rattle.ddcmp_session.specs.Connections.{Connection, Does, after_step, after_all}
 use Rattle.ddcmp_pipe.specs.Connections.{Connections, first_connection, first_connections, at}
@@ -51,7 +50,7 @@ use Rattle.ddcmp_pipe.proofs.Holding.{Holds, link_history, parts}
 use Rattle.ddcmp_pipe.proofs.Outcomes.{binary_more, last_true}
 use Rattle.ddcmp_pipe.proofs.Texts.{IsText, only_mail}
 use Rattle.ddcmp_pipe.proofs.LinkSteps.{begins, step_leads, link_only, same_link, with_line}
-use Rattle.ddcmp_pipe.proofs.LinkSteps.{holds_with_line, connected_is}
+use Rattle.ddcmp_pipe.proofs.LinkSteps.{holds_with_line, connected_is, course_connected}
 
 -- ---- calls of a link that don't begin it anew
 
@@ -261,7 +260,7 @@ begins_anew made new c k is stays =
     let h = c.history in
     let b = starts h.session || h.session.has_line in
     let same = connected_is h.session new stays.holds.of_data is in
-    let course = after_connecting h.session.course in
+    let course = course_connected h.session in
     let input = messages_of f max (h.input ++ []) in
     let mail = mail_in (h.shown ++ []) in (
       (ap (λ (x : SessionView). x.link) same, tt),
@@ -487,6 +486,12 @@ since_first made =
     e : (a : List (List ℕ)) → a ≡ [] → a ≡ drop (length a) a
     e a none = none ∙ sym (all_left_out a)
 
+-- If nothing is left to be acknowledged, the other has received all.
+abbrev pub AcknowledgedAnew : Made → Connection → Connection → Type 0
+AcknowledgedAnew made giver taker =
+    giver.history.session.link.station.core.station.out ≡ []
+    → delivered_since taker ++ undelivered taker.history ≡ read_since made giver
+
 module _ (first second : Made) (steps : List (End × SessionStep))
     (f : first_refusal first.options.config ≡ None) (g : first_refusal second.options.config ≡ None)
     (does : AreCalls steps (first_connections first second))
@@ -563,21 +568,34 @@ module _ (first second : Made) (steps : List (End × SessionStep))
       second.line (link_steps steps (first_connections first second)) f g are honest clean)
       (last_true s.is_read (delivered s.link) over)
 
+  pub acknowledged_anew_b
+      : AcknowledgedAnew first (after_steps steps (first_connections first second)).a
+      (after_steps steps (first_connections first second)).b
+  acknowledged_anew_b none =
+      subst (λ (q : Links). NoneOut q.a → received q.b ≡ q.a.accepted) done
+      (anew-acknowledged-to-b first.options.config second.options.config first.options.timer_ms
+      second.options.timer_ms first.line second.line
+      (link_steps steps (first_connections first second)) f g are honest clean)
+      (ap length none)
+
+  pub acknowledged_anew_a
+      : AcknowledgedAnew second (after_steps steps (first_connections first second)).b
+      (after_steps steps (first_connections first second)).a
+  acknowledged_anew_a none =
+      subst (λ (q : Links). NoneOut q.b → received q.a ≡ q.b.accepted) done
+      (anew-acknowledged-to-a first.options.config second.options.config first.options.timer_ms
+      second.options.timer_ms first.line second.line
+      (link_steps steps (first_connections first second)) f g are honest clean)
+      (ap length none)
+
   pub closed_anew_b
       : PipesClosedAnew first (after_steps steps (first_connections first second)).a
       (after_steps steps (first_connections first second)).b
   closed_anew_b left over r closed is none =
       let s = (after_steps steps (first_connections first second)).a.history.session in
       let nothing = closed-none left over r s closed is none
-      (counts-anew-a steps (first_connections first second) does (new-counts first)) in (
-        subst (λ (q : Links). NoneOut q.a → received q.b ≡ q.a.accepted) done
-            (anew-acknowledged-to-b first.options.config second.options.config first.options.timer_ms
-            second.options.timer_ms first.line second.line
-            (link_steps steps (first_connections first second)) f g are honest clean)
-            (ap length nothing.0),
-        nothing.1,
-        nothing.2,
-      )
+      (counts-anew-a steps (first_connections first second) does (new-counts first)) in
+      (acknowledged_anew_b nothing.0, nothing.1, nothing.2)
 
   pub closed_anew_a
       : PipesClosedAnew second (after_steps steps (first_connections first second)).b
@@ -585,15 +603,8 @@ module _ (first second : Made) (steps : List (End × SessionStep))
   closed_anew_a left over r closed is none =
       let s = (after_steps steps (first_connections first second)).b.history.session in
       let nothing = closed-none left over r s closed is none
-      (counts-anew-b steps (first_connections first second) does (new-counts second)) in (
-        subst (λ (q : Links). NoneOut q.b → received q.a ≡ q.b.accepted) done
-            (anew-acknowledged-to-a first.options.config second.options.config first.options.timer_ms
-            second.options.timer_ms first.line second.line
-            (link_steps steps (first_connections first second)) f g are honest clean)
-            (ap length nothing.0),
-        nothing.1,
-        nothing.2,
-      )
+      (counts-anew-b steps (first_connections first second) does (new-counts second)) in
+      (acknowledged_anew_a nothing.0, nothing.1, nothing.2)
 
   -- what stays of each
   pub stays_a : Stays first (after_steps steps (first_connections first second)).a

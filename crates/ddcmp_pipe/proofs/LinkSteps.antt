@@ -25,9 +25,9 @@ use Rattle.ddcmp_session.specs.Session.{after_last_line, after_unfinished, after
 use Rattle.ddcmp_session.specs.declared.course.Course.{Course}
 use Rattle.ddcmp_session.specs.declared.options.LineKind.{LineKind}
 use Rattle.ddcmp_session.specs.declared.options.Options.{Options}
-use Rattle.ddcmp_session.specs.Course.{after_connecting}
+use Rattle.ddcmp_session.specs.Course.{after_connecting, lost_more}
 use Rattle.ddcmp_session.specs.Session.{lost_by_end, after_timeout, after_connected, anew_in}
-use Rattle.ddcmp_session.specs.Session.{after_connecting_in, starts}
+use Rattle.ddcmp_session.specs.Session.{after_connecting_in, lost_by_start, starts}
 use Rattle.ddcmp_session.specs.Text.{reported_lost, mail_text, notices_text}
 use Rattle.ddcmp_laws.specs.Links.{LinkCall, BeginsAnew, Halts, Wakes, IsSent, Feeds}
 use Rattle.ddcmp_laws.specs.Links.{Takes, HasDone, HasFed, new_history}
@@ -316,12 +316,15 @@ holds_with_line f max b c h k =
     }
 
 -- a session of data was connected
+abbrev pub course_connected : SessionView → Course
+course_connected s = after_connecting (lost_more (lost_by_start s) s.course)
+
 pub connected_is : (s new : SessionView) → s.options.maintenance ≡ false
     → new ≡ after_connected new.link.station.line s
     → new ≡ record s {
       link = anew new.link.station.line s.link;
       has_line = starts s || s.has_line;
-      course = after_connecting s.course;
+      course = course_connected s;
     }
 connected_is s new of_data e =
     e
@@ -329,7 +332,7 @@ connected_is s new of_data e =
     (λ b. record s {
       link = anew_in b new.link.station.line s.link;
       has_line = starts s || s.has_line;
-      course = after_connecting_in b (starts s) s.course;
+      course = after_connecting_in b (starts s) (lost_more (lost_by_start s) s.course);
     }) of_data
 
 pub step_leads : (f : Form) (max : ℕ) (step : SessionStep) (h : SessionHistory) (k : ℕ)
@@ -347,7 +350,7 @@ step_leads f max step h k does holds = by step.call step.session does
     by InputEnded new d = ended_step f max h new k holds d
     by Connected new d =
         let b = starts h.session || h.session.has_line in
-        let c = after_connecting h.session.course in
+        let c = course_connected h.session in
         let is = connected_is h.session new holds.of_data d.0 in
         link_step_leads f max (with_line b c h) new k BeginsAnew (h.used ++ []) (h.gone ++ [])
         (anew new.link.station.line h.session.link) (holds_with_line f max b c h holds) is

@@ -48,7 +48,8 @@ use Rattle.ddcmp_session.specs.Session.{after_input_end, after_last_line, after_
 use Rattle.ddcmp_session.specs.Session.{after_typed, after_unfinished, awaits_peer, expires}
 use Rattle.ddcmp_session.specs.Session.{course_received, lost_among, lost_at_end, lost_by_end}
 use Rattle.ddcmp_session.specs.Session.{wants_input, wants_line, after_connecting_in, anew_in}
-use Rattle.ddcmp_session.specs.Session.{after_offered_in, has_gone, lost_in, starts, takes_in}
+use Rattle.ddcmp_session.specs.Session.{after_offered_in, has_gone, lost_by_start, lost_in}
+use Rattle.ddcmp_session.specs.Session.{starts, takes_in}
 use Rattle.ddcmp_session.specs.Course.{after_looked, after_notice, after_notices, lost_more}
 use Rattle.ddcmp_session.specs.Course.{after_acknowledged, after_refusal, after_noise}
 use Rattle.ddcmp_session.specs.Course.{after_progress, after_state, is_at, progress_of}
@@ -80,15 +81,6 @@ Stays s t = (t.state ≡ Halted) × (t.out ≡ s.out)
 same-stays : (s t : StationState) → s.state ≡ Halted → t ≡ s → Stays s t
 same-stays s t halted same =
     (ap (λ (x : StationState). x.state) same ∙ halted, ap (λ (x : StationState). x.out) same)
-
-kept : (old new : SessionView) → (new.has_line ≡ false → old.has_line ≡ false)
-    → (old.link.station.core.station.state ≡ Halted
-    → Stays old.link.station.core.station new.link.station.core.station)
-    → (new.course.lost ≡ 0 → old.course.lost ≡ 0) → Counted old → Counted new
-unfolding Counted
-kept old new line station lost was none =
-    let w = was (line none) in let t = station w.state in
-    record { state = t.0; none = λ e. t.1 ∙ w.none (lost e) }
 
 -- ---- what it leaves as it is
 
@@ -326,20 +318,48 @@ passes-lost old new p = by p.course
     by (inr (inl e)) = ap (λ (c : Course). c.lost) e
     by (inr (inr e)) = ap (λ (c : Course). c.lost) e ∙ line-lost (after_time p.now old)
 
--- ---- each call
+-- ---- what each call does with its line
 
-typed-counts : (used : List ℕ) (old new : SessionView) → new ≡ after_typed used old → Counted old
-    → Counted new
-typed-counts used old new does =
+-- It leaves the line, what was lost before, and a station that is halted, as they are.
+pub record Leaves (old new : SessionView) : Type 0 where
+  line : new.has_line ≡ old.has_line
+  lost : new.course.lost ≡ 0 → old.course.lost ≡ 0
+  station : (station_of old).state ≡ Halted → Stays (station_of old) (station_of new)
+
+-- nothing was lost, nor would be if the line ended
+abbrev pub LosesNone : SessionView → Type 0
+LosesNone s = (s.course.lost ≡ 0) × (lost_by_end s ≡ 0)
+
+-- It ends the line, and counts what is lost by that.
+pub record LosesLine (old new : SessionView) : Type 0 where
+  pub state : (station_of new).state ≡ Halted
+  pub out : (station_of new).out ≡ (station_of old).out
+  pub lost : new.course.lost ≡ 0 → LosesNone old
+
+abbrev pub Outcome : SessionView → SessionView → Type 0
+Outcome old new =
+    Leaves old new
+    ⊎ (LosesLine old new ⊎ (new ≡ after_connected new.link.station.line old))
+
+leaves : (old new : SessionView)
+    → (new.has_line ≡ old.has_line) × (new.course.lost ≡ old.course.lost)
+    → ((station_of old).state ≡ Halted → Stays (station_of old) (station_of new))
+    → Outcome old new
+leaves old new same station =
+    inl (record { line = same.0; lost = λ e. sym same.1 ∙ e; station = station })
+
+typed : (used : List ℕ) (old new : SessionView) → new ≡ after_typed used old → Outcome old new
+typed used old new does =
     let es = entries_of_input used old.messages in
     let s : SessionView = record old { messages = after_input used old.messages } in
     let k = entries-keep es s in
-    kept old new
-    (λ e. sym (ap (λ (x : SessionView). x.has_line) does ∙ k.0) ∙ e)
+    leaves old new (
+      ap (λ (x : SessionView). x.has_line) does ∙ k.0,
+      ap (λ (x : SessionView). x.course.lost) does ∙ ap (λ (c : Course). c.lost) k.1,
+    )
     (λ halted. same-stays (station_of old) (station_of new) halted
     (ap station_of does
     ∙ ap (λ (d : LinkView). d.station.core.station) (entries-halted es s halted)))
-    (λ e. sym (ap (λ (x : SessionView). x.course.lost) does ∙ ap (λ (c : Course). c.lost) k.1) ∙ e)
 
 last-keeps : (s : SessionView)
     → ((after_unfinished s).has_line ≡ s.has_line) × ((after_unfinished s).course ≡ s.course)
@@ -371,16 +391,111 @@ end-keeps s = by (wants_input s)
     by true = (u.0 ∙ k.0, u.1 ∙ k.1)
     by false = (refl, refl)
 
-ended-counts : (old new : SessionView) → new ≡ after_input_end old → Counted old → Counted new
-ended-counts old new does =
+input-ended : (old new : SessionView) → new ≡ after_input_end old → Outcome old new
+input-ended old new does =
     let k = end-keeps old in
-    kept old new
-    (λ e. sym (ap (λ (x : SessionView). x.has_line) does ∙ k.0) ∙ e)
+    leaves old new (
+      ap (λ (x : SessionView). x.has_line) does ∙ k.0,
+      ap (λ (x : SessionView). x.course.lost) does ∙ ap (λ (c : Course). c.lost) k.1,
+    )
     (λ halted. same-stays (station_of old) (station_of new) halted
     (ap station_of does
     ∙ ap (λ b. station_of (cond b (after_unfinished (after_last_line old)) old))
     (input-halted old halted)))
-    (λ e. sym (ap (λ (x : SessionView). x.course.lost) does ∙ ap (λ (c : Course). c.lost) k.1) ∙ e)
+
+pub line-ended : (r : Bool) (old new : SessionView) → HasLeft r old new → LosesLine old new
+line-ended r old new does = record {
+  state = ap (λ (d : LinkView). d.station.core.station.state) does.link;
+  out = ap (λ (d : LinkView). d.station.core.station.out) does.link;
+  lost = λ e.
+      none-of old.course.lost (lost_by_end old)
+      (sym (ap (λ (x : SessionView). x.course.lost) does.stays) ∙ e);
+}
+
+-- a session that was closed, and had lost nothing, had nothing to lose, nor had what was left of
+-- its input
+pub closed-loses : (left : List ℕ) (over r : Bool) (old new : SessionView)
+    → HasClosed left over r old new → new.course.lost ≡ 0
+    → LosesNone old × (lost_among left old ≡ 0) × (lost_at_end left over old ≡ 0)
+closed-loses left over r old new does e =
+    let lost = (lost_more (lost_at_end left over old)
+    (lost_more (lost_among left old) old.course)).lost in
+    let n = none-of lost (lost_by_end old)
+    (sym (ap (λ (c : Course). c.lost) does.course) ∙ e) in
+    let m = none-of (lost_more (lost_among left old) old.course).lost
+    (lost_at_end left over old) n.0 in
+    let l = none-of old.course.lost (lost_among left old) m.0 in
+    ((l.0, n.1), l.1, m.1)
+
+pub outcome : (call : SessionCall) (text : List ℕ) (old new : SessionView)
+    → SessionDoes call text old new → Outcome old new
+outcome (Typed used) text old new d = typed used old new d.state
+outcome InputEnded text old new d = input-ended old new d
+outcome Connected text old new d = inr (inr d.0)
+outcome (LineEnded r) text old new d = inr (inl (line-ended r old new d))
+outcome (Heard used) text old new d =
+    let to = record old { link = new.link; course = new.course; output = new.output } in
+    inl (record {
+      line = same-at (λ x. x.has_line) new to d.stays;
+      lost = λ e.
+          received-lost old new.link (notices_of_piece text used old.link.station.core)
+          (sym (ap (λ (c : Course). c.lost) d.course) ∙ e);
+      station = λ halted. same-stays (station_of old) (station_of new) halted
+          (ap (λ (k : CoreView). k.station) d.core
+          ∙ items-halted (items_added old.link.station.core.limits.longest text used)
+          old.link.station.core halted);
+    })
+outcome (Filled n) text old new d =
+    let to = record old { link = after_frames n old.link } in
+    leaves old new
+    (same-at (λ x. x.has_line) new to d.0, same-at (λ x. x.course.lost) new to d.0)
+    (λ halted. same-stays (station_of old) (station_of new) halted
+    (ap station_of d.0 ∙ frames-halted n old.link halted))
+outcome (LineTook n) text old new d =
+    let to = record old { link = after_sent n old.link } in
+    leaves old new
+    (same-at (λ x. x.has_line) new to d, same-at (λ x. x.course.lost) new to d)
+    (λ halted. same-stays (station_of old) (station_of new) halted (ap station_of d))
+outcome (TimedOut now) text old new d =
+    let to = after_timeout now old in
+    leaves old new (
+      same-at (λ x. x.has_line) new to d,
+      same-at (λ x. x.course.lost) new to d ∙ timeout-lost now old,
+    )
+    (λ halted. let w = wake-halted now old.link halted in (
+      same-at (λ x. (station_of x).state) new to d ∙ w.0,
+      same-at (λ x. (station_of x).out) new to d ∙ w.1,
+    ))
+outcome TimePassed text old new d =
+    let to = record old { course = new.course } in
+    leaves old new
+    (same-at (λ x. x.has_line) new to d.stays, passes-lost old new d)
+    (λ halted. same-stays (station_of old) (station_of new) halted (ap station_of d.stays))
+outcome (Delivered true) text old new d =
+    let to = record old { link = new.link; output = new.output } in
+    leaves old new
+    (same-at (λ x. x.has_line) new to d.stays, same-at (λ x. x.course.lost) new to d.stays)
+    (λ halted. (
+      ap (λ (k : LinkView). k.station.core.station.state) d.link ∙ halted,
+      ap (λ (k : LinkView). k.station.core.station.out) d.link,
+    ))
+outcome (Delivered false) text old new d =
+    let to = record old { output = new.output } in
+    leaves old new
+    (same-at (λ x. x.has_line) new to d.stays, same-at (λ x. x.course.lost) new to d.stays)
+    (λ halted. same-stays (station_of old) (station_of new) halted (ap station_of d.stays))
+outcome (OutputTook n) text old new d =
+    let to = record old { output = after_taken n old.output } in
+    leaves old new
+    (same-at (λ x. x.has_line) new to d, same-at (λ x. x.course.lost) new to d)
+    (λ halted. same-stays (station_of old) (station_of new) halted (ap station_of d))
+outcome (Closed left over r) text old new d = inr (inl (record {
+  state = ap (λ (k : LinkView). k.station.core.station.state) d.link;
+  out = ap (λ (k : LinkView). k.station.core.station.out) d.link;
+  lost = λ e. (closed-loses left over r old new d e).0;
+}))
+
+-- ---- it is connected
 
 or-false : (a b : Bool) → a || b ≡ false → (a ≡ false) × (b ≡ false)
 or-false true b e = cc
@@ -406,28 +521,32 @@ connecting-lost : (b enters : Bool) (c : Course)
 connecting-lost true enters c = refl
 connecting-lost false enters c = refl
 
-pub connected-counts : (old new : SessionView) → new ≡ after_connected new.link.station.line old
-    → Counted old → Counted new
-unfolding Counted
-connected-counts old new does was = λ shut.
-    let to = after_connected new.link.station.line old in
-    let halted = after_halt old.link.station.core.station in
-    let parts = or-false (is_ok (answer_to_start halted)) old.has_line
-    (sym (ap (λ (x : SessionView). x.has_line) does) ∙ shut) in
-    let w = was parts.1 in
-    let stays : station_of new ≡ halted =
+connected-lost : (old new : SessionView) → new ≡ after_connected new.link.station.line old
+    → new.course.lost ≡ 0 → (old.course.lost ≡ 0) × (lost_by_start old ≡ 0)
+connected-lost old new does e =
+    none-of old.course.lost (lost_by_start old)
+    (sym (connecting-lost old.options.maintenance (starts old)
+    (lost_more (lost_by_start old) old.course))
+    ∙ sym (ap (λ (x : SessionView). x.course.lost) does)
+    ∙ e)
+
+-- it starts, and counts what is lost by that
+pub started : (old new : SessionView) → new ≡ after_connected new.link.station.line old
+    → starts old ≡ true → new.course.lost ≡ 0 → LosesNone old
+started old new does is e =
+    let n = connected-lost old new does e in
+    (n.0, sym (ap (λ b. cond b (lost_by_end old) 0) is) ∙ n.1)
+
+-- or is halted, and has what it had
+pub refused : (old new : SessionView) → new ≡ after_connected new.link.station.line old
+    → starts old ≡ false → station_of new ≡ after_halt (station_of old)
+refused old new does is =
+    let halted = after_halt (station_of old) in
     ap station_of does
     ∙ anew-halted old.options.maintenance new.link.station.line old.link
-    (not-started (start_refusal halted) (length halted.out) parts.0) in
-    record {
-      state = ap (λ (s : StationState). s.state) stays;
-      none = λ e. ap (λ (s : StationState). s.out) stays
-          ∙ w.none
-          (sym
-          (ap (λ (x : SessionView). x.course.lost) does
-          ∙ connecting-lost old.options.maintenance (starts old) old.course)
-          ∙ e);
-    }
+    (not-started (start_refusal halted) (length halted.out) is)
+
+-- ---- so all is counted
 
 abbrev one-unless : Bool → ℕ
 one-unless b = cond b 0 1
@@ -448,123 +567,80 @@ lost-none true d e =
     (is-true (has_gone d) e)))
 lost-none false d e = none-out d.station.core.station.out e
 
--- the station was halted, and what it has is counted
-left-none : (old : SessionView) → old.course.lost ≡ 0 → lost_by_end old ≡ 0
-    → Counted old → old.link.station.core.station.out ≡ []
+-- one that has lost nothing, and would lose nothing, has no message left to be acknowledged
+pub left-none : (old : SessionView) → LosesNone old → Counted old
+    → old.link.station.core.station.out ≡ []
 unfolding Counted
-left-none old none_lost none_by was = by old.has_line refl none_by
+left-none old none was = by old.has_line refl none.1
   where
     by : (b : Bool) → old.has_line ≡ b
         → cond b (lost_in old.options.maintenance old.link) 0 ≡ 0
         → old.link.station.core.station.out ≡ []
     by true is e = lost-none old.options.maintenance old.link e
-    by false is e = (was is).none none_lost
+    by false is e = (was is).none none.0
 
-left-counts : (r : Bool) (old new : SessionView) → HasLeft r old new → Counted old → Counted new
-unfolding Counted
-left-counts r old new does was = λ shut. record {
-  state = ap (λ (d : LinkView). d.station.core.station.state) does.link;
-  none = λ e.
-      let n = none-of old.course.lost (lost_by_end old)
-      (sym (ap (λ (x : SessionView). x.course.lost) does.stays) ∙ e) in
-      ap (λ (d : LinkView). d.station.core.station.out) does.link
-      ∙ left-none old n.0 n.1 was;
-}
-
--- a session that was closed, and had lost nothing, had no message left to be acknowledged, and none
--- in what was left of its input
 pub closed-none : (left : List ℕ) (over r : Bool) (old new : SessionView)
     → HasClosed left over r old new → new.course.lost ≡ 0 → Counted old
     → (old.link.station.core.station.out ≡ []) × (lost_among left old ≡ 0)
     × (lost_at_end left over old ≡ 0)
 closed-none left over r old new does e was =
-    let lost = (lost_more (lost_at_end left over old)
-    (lost_more (lost_among left old) old.course)).lost in
-    let n = none-of lost (lost_by_end old)
-    (sym (ap (λ (c : Course). c.lost) does.course) ∙ e) in
-    let m = none-of (lost_more (lost_among left old) old.course).lost
-    (lost_at_end left over old) n.0 in
-    let l = none-of old.course.lost (lost_among left old) m.0 in
-    (left-none old l.0 n.1 was, l.1, m.1)
+    let none = closed-loses left over r old new does e in
+    (left-none old none.0 was, none.1, none.2)
 
-closed-counts : (left : List ℕ) (over r : Bool) (old new : SessionView)
-    → HasClosed left over r old new → Counted old → Counted new
-unfolding Counted
-closed-counts left over r old new does was = λ shut. record {
-  state = ap (λ (d : LinkView). d.station.core.station.state) does.link;
-  none = λ e.
-      ap (λ (d : LinkView). d.station.core.station.out) does.link
-      ∙ (closed-none left over r old new does e was).0;
-}
-
-link-counts : (old new : SessionView)
-    → (new.has_line ≡ old.has_line) × (new.course.lost ≡ old.course.lost)
-    → (old.link.station.core.station.state ≡ Halted → Stays (station_of old) (station_of new))
+connected-counts : (old new : SessionView) → new ≡ after_connected new.link.station.line old
     → Counted old → Counted new
-link-counts old new same station =
-    kept old new (λ e. sym same.0 ∙ e) station (λ e. sym same.1 ∙ e)
+unfolding Counted
+connected-counts old new does was = λ shut.
+    let parts = or-false (starts old) old.has_line
+    (sym (ap (λ (x : SessionView). x.has_line) does) ∙ shut) in
+    let same = refused old new does parts.0 in
+    record {
+      state = ap (λ (s : StationState). s.state) same;
+      none = λ e. ap (λ (s : StationState). s.out) same
+          ∙ (was parts.1).none (connected-lost old new does e).0;
+    }
 
-pub step-counts : (call : SessionCall) (text : List ℕ) (old new : SessionView)
-    → SessionDoes call text old new → Counted old → Counted new
-step-counts (Typed used) text old new d = typed-counts used old new d.state
-step-counts InputEnded text old new d = ended-counts old new d
-step-counts Connected text old new d = connected-counts old new d.0
-step-counts (LineEnded r) text old new d = left-counts r old new d
-step-counts (Heard used) text old new d =
-    let to = record old { link = new.link; course = new.course; output = new.output } in
-    kept old new (λ e. sym (same-at (λ x. x.has_line) new to d.stays) ∙ e)
-    (λ halted. same-stays (station_of old) (station_of new) halted
-    (ap (λ (k : CoreView). k.station) d.core
-    ∙ items-halted (items_added old.link.station.core.limits.longest text used)
-    old.link.station.core halted))
-    (λ e. received-lost old new.link
-    (notices_of_piece text used old.link.station.core)
-    (sym (ap (λ (c : Course). c.lost) d.course) ∙ e))
-step-counts (Filled n) text old new d =
-    let to = record old { link = after_frames n old.link } in
-    link-counts old new
-    (same-at (λ x. x.has_line) new to d.0, same-at (λ x. x.course.lost) new to d.0)
-    (λ halted. same-stays (station_of old) (station_of new) halted
-    (ap station_of d.0 ∙ frames-halted n old.link halted))
-step-counts (LineTook n) text old new d =
-    let to = record old { link = after_sent n old.link } in
-    link-counts old new
-    (same-at (λ x. x.has_line) new to d, same-at (λ x. x.course.lost) new to d)
-    (λ halted. same-stays (station_of old) (station_of new) halted (ap station_of d))
-step-counts (TimedOut now) text old new d =
-    let to = after_timeout now old in
-    link-counts old new (
-      same-at (λ x. x.has_line) new to d,
-      same-at (λ x. x.course.lost) new to d ∙ timeout-lost now old,
-    )
-    (λ halted. let w = wake-halted now old.link halted in (
-      same-at (λ x. (station_of x).state) new to d ∙ w.0,
-      same-at (λ x. (station_of x).out) new to d ∙ w.1,
-    ))
-step-counts TimePassed text old new d =
-    let to = record old { course = new.course } in
-    link-counts old new
-    (same-at (λ x. x.has_line) new to d.stays, passes-lost old new d)
-    (λ halted. same-stays (station_of old) (station_of new) halted (ap station_of d.stays))
-step-counts (Delivered true) text old new d =
-    let to = record old { link = new.link; output = new.output } in
-    link-counts old new
-    (same-at (λ x. x.has_line) new to d.stays, same-at (λ x. x.course.lost) new to d.stays)
-    (λ halted. (
-      ap (λ (k : LinkView). k.station.core.station.state) d.link ∙ halted,
-      ap (λ (k : LinkView). k.station.core.station.out) d.link,
-    ))
-step-counts (Delivered false) text old new d =
-    let to = record old { output = new.output } in
-    link-counts old new
-    (same-at (λ x. x.has_line) new to d.stays, same-at (λ x. x.course.lost) new to d.stays)
-    (λ halted. same-stays (station_of old) (station_of new) halted (ap station_of d.stays))
-step-counts (OutputTook n) text old new d =
-    let to = record old { output = after_taken n old.output } in
-    link-counts old new
-    (same-at (λ x. x.has_line) new to d, same-at (λ x. x.course.lost) new to d)
-    (λ halted. same-stays (station_of old) (station_of new) halted (ap station_of d))
-step-counts (Closed left over r) text old new d = closed-counts left over r old new d
+pub counts : (old new : SessionView) → Outcome old new → Counted old → Counted new
+unfolding Counted
+counts old new (inl l) was = λ shut.
+    let w = was (sym l.line ∙ shut) in
+    let t = l.station w.state in
+    record { state = t.0; none = λ e. t.1 ∙ w.none (l.lost e) }
+counts old new (inr (inl l)) was = λ shut. record {
+  state = l.state;
+  none = λ e. l.out ∙ left-none old (l.lost e) was;
+}
+counts old new (inr (inr is)) was = connected-counts old new is was
+
+-- ---- and stays so
+
+pub lost-before : (old new : SessionView) → Outcome old new → new.course.lost ≡ 0
+    → old.course.lost ≡ 0
+lost-before old new (inl l) e = l.lost e
+lost-before old new (inr (inl l)) e = (l.lost e).0
+lost-before old new (inr (inr is)) e = (connected-lost old new is e).0
+
+-- a station that is halted has no message left to be acknowledged
+abbrev pub NoneHalted : SessionView → Type 0
+NoneHalted s = (station_of s).state ≡ Halted → (station_of s).out ≡ []
+
+pub connected-none : (old new : SessionView) → new ≡ after_connected new.link.station.line old
+    → Counted old → new.course.lost ≡ 0 → NoneHalted new → (station_of old).out ≡ []
+connected-none old new does was e none = by (starts old) refl
+  where
+    by : (b : Bool) → starts old ≡ b → (station_of old).out ≡ []
+    by true is = left-none old (started old new does is e) was
+    by false is =
+        let same = refused old new does is in
+        sym (ap (λ (s : StationState). s.out) same)
+        ∙ none (ap (λ (s : StationState). s.state) same)
+
+pub none-before : (old new : SessionView) → Outcome old new → Counted old → new.course.lost ≡ 0
+    → NoneHalted new → NoneHalted old
+none-before old new (inl l) was e none halted =
+    let s = l.station halted in sym s.1 ∙ none s.0
+none-before old new (inr (inl l)) was e none halted = left-none old (l.lost e) was
+none-before old new (inr (inr is)) was e none halted = connected-none old new is was e none
 
 -- ---- of two sessions
 
@@ -582,7 +658,8 @@ counts-a (step ∷ rest) p does was =
     by : (end : End) (one : SessionStep)
         → SessionDoes one.call (session_at end p).used (session_at end p).session one.session
         → Counted (after_session_at end one p).a.session
-    by A one d = step-counts one.call p.a.used p.a.session one.session d was
+    by A one d =
+        counts p.a.session one.session (outcome one.call p.a.used p.a.session one.session d) was
     by B one d = was
 
 pub counts-b : (steps : List (End × SessionStep)) (p : Sessions) → AreSessionCalls steps p
@@ -596,4 +673,5 @@ counts-b (step ∷ rest) p does was =
         → SessionDoes one.call (session_at end p).used (session_at end p).session one.session
         → Counted (after_session_at end one p).b.session
     by A one d = was
-    by B one d = step-counts one.call p.b.used p.b.session one.session d was
+    by B one d =
+        counts p.b.session one.session (outcome one.call p.b.used p.b.session one.session d) was

@@ -1,5 +1,5 @@
 -- What a session has lost that is connected again.
-use Rattle.std.proofs.Common.{◌≡◌, refl, sym, subst, ℕ, List, [], ◌∷◌}
+use Rattle.std.proofs.Common.{◌≡◌, refl, sym, subst, inr, ℕ, List, [], ◌∷◌}
 use Rattle.ddcmp_run.specs.declared.event.End.{End}
 use Rattle.ddcmp_run.specs.declared.event.End.TheVariants.{A, B}
 use Rattle.ddcmp_session.specs.Session.{SessionView}
@@ -8,22 +8,22 @@ use Rattle.ddcmp_session.specs.Calls.{Received, Filled, LineTook, TimedOut, Time
 use Rattle.ddcmp_session.specs.Calls.{OutputTook, Closed, SessionStep}
 use Rattle.ddcmp_session.specs.Connections.{Connection, Does, after_step}
 use Rattle.ddcmp_pipe.specs.Connections.{AreCalls, Connections, after_step_at, after_steps, at}
-use Rattle.ddcmp_pipe.proofs.Losing.{Counted, connected-counts, step-counts}
+use Rattle.ddcmp_pipe.proofs.Losing.{Counted, Outcome, counts, outcome}
 
-does-counts : (call : SessionCall) (text : List ℕ) (old new : SessionView)
-    → Does call text old new → Counted old → Counted new
-does-counts Connected text old new d = connected-counts old new d
-does-counts (Typed used) text old new d = step-counts (Typed used) text old new d
-does-counts InputEnded text old new d = step-counts InputEnded text old new d
-does-counts (LineEnded r) text old new d = step-counts (LineEnded r) text old new d
-does-counts (Received used) text old new d = step-counts (Received used) text old new d
-does-counts (Filled n) text old new d = step-counts (Filled n) text old new d
-does-counts (LineTook n) text old new d = step-counts (LineTook n) text old new d
-does-counts (TimedOut now) text old new d = step-counts (TimedOut now) text old new d
-does-counts TimePassed text old new d = step-counts TimePassed text old new d
-does-counts (Delivered has) text old new d = step-counts (Delivered has) text old new d
-does-counts (OutputTook n) text old new d = step-counts (OutputTook n) text old new d
-does-counts (Closed left over r) text old new d = step-counts (Closed left over r) text old new d
+does-so : (call : SessionCall) (text : List ℕ) (old new : SessionView)
+    → Does call text old new → Outcome old new
+does-so Connected text old new d = inr (inr d)
+does-so (Typed used) text old new d = outcome (Typed used) text old new d
+does-so InputEnded text old new d = outcome InputEnded text old new d
+does-so (LineEnded r) text old new d = outcome (LineEnded r) text old new d
+does-so (Received used) text old new d = outcome (Received used) text old new d
+does-so (Filled n) text old new d = outcome (Filled n) text old new d
+does-so (LineTook n) text old new d = outcome (LineTook n) text old new d
+does-so (TimedOut now) text old new d = outcome (TimedOut now) text old new d
+does-so TimePassed text old new d = outcome TimePassed text old new d
+does-so (Delivered has) text old new d = outcome (Delivered has) text old new d
+does-so (OutputTook n) text old new d = outcome (OutputTook n) text old new d
+does-so (Closed left over r) text old new d = outcome (Closed left over r) text old new d
 
 -- a call leads to its session
 pub session-after : (call : SessionCall) (new : SessionView) (c : Connection)
@@ -41,12 +41,18 @@ session-after (Delivered has) new c = refl
 session-after (OutputTook n) new c = refl
 session-after (Closed left over r) new c = refl
 
-one-counts : (one : SessionStep) (c : Connection)
+pub one-does : (one : SessionStep) (c : Connection)
+    → Does one.call c.history.used c.history.session one.session
+    → Outcome c.history.session (after_step one c).history.session
+one-does one c d =
+    subst (Outcome c.history.session) (sym (session-after one.call one.session c))
+    (does-so one.call c.history.used c.history.session one.session d)
+
+pub one-counts : (one : SessionStep) (c : Connection)
     → Does one.call c.history.used c.history.session one.session → Counted c.history.session
     → Counted (after_step one c).history.session
 one-counts one c d was =
-    subst Counted (sym (session-after one.call one.session c))
-    (does-counts one.call c.history.used c.history.session one.session d was)
+    counts c.history.session (after_step one c).history.session (one-does one c d) was
 
 pub counts-anew-a : (steps : List (End × SessionStep)) (p : Connections) → AreCalls steps p
     → Counted p.a.history.session → Counted (after_steps steps p).a.history.session

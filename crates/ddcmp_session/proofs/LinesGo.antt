@@ -98,7 +98,7 @@ goes-over {h0} {h1} goes = λ c t is was agrees.
 
 -- ---- one after another
 
-then-over : (xs ys : List SessionStep) (c : Connection) → AreDone xs c
+pub then-over : (xs ys : List SessionStep) (c : Connection) → AreDone xs c
     → AreDone ys (after_all xs c)
     → AreDone (xs ++ ys) c × (after_all (xs ++ ys) c ≡ after_all ys (after_all xs c))
 unfolding after_all

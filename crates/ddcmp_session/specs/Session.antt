@@ -25,7 +25,7 @@ use Rattle.ddcmp_session.specs.declared.options.LineKind.TheVariants.{Connect, L
 use Rattle.ddcmp_session.specs.declared.options.Options.{Options}
 use Rattle.ddcmp_session.specs.declared.text.TheConstants.{LINE_ROOM, LOST_ROOM}
 use Rattle.ddcmp_session.specs.Course.{course_begun, after_connecting, after_moment, after_pause}
-use Rattle.ddcmp_session.specs.Course.{after_entering}
+use Rattle.ddcmp_session.specs.Course.{after_entering, lost_more}
 use Rattle.ddcmp_session.specs.Course.{try_counted, after_looked, after_notices}
 use Rattle.ddcmp_session.specs.Messages.{messages_begun, message_in, after_input}
 use Rattle.ddcmp_session.specs.Messages.{entries_of_input, after_last, entry_of_last}
@@ -167,15 +167,21 @@ reports_loss s = nat_le LOST_ROOM s.output.room
 -- ---- the line begins, and is looked after
 
 -- A session was connected, and starts if all received messages were delivered. If not, what it had
--- on the line before is lost when this one ends.
+-- on the line before is lost when it starts, or this one ends.
 abbrev pub starts : SessionView → Bool
 starts s = is_ok (answer_to_start (after_halt s.link.station.core.station))
+
+-- how many accepted messages are lost by a start: those of a line that hasn't ended
+abbrev pub lost_by_start : SessionView → ℕ
+lost_by_start s = if starts s then lost_by_end s else 0
 
 abbrev pub after_connected : ReaderView → SessionView → SessionView
 after_connected line s = record s {
   link = anew_in s.options.maintenance line s.link;
   has_line = starts s || s.has_line;
-  course = after_connecting_in s.options.maintenance (starts s) s.course;
+  course =
+      after_connecting_in s.options.maintenance (starts s)
+      (lost_more (lost_by_start s) s.course);
 }
 
 -- the reply timer expires

@@ -47,8 +47,9 @@ pub enum End {
 /// `wants_line`; `fill`, then write what `to_line` returns and call `line_took`; the same with
 /// `to_output` and `to_errors`; `deliver` after each of these, until it returns false. Call
 /// `handle_timeout` before and after each wait, and wait until `wakes_at` at most. If `end` returns
-/// something, or the line ends, call `line_ended`. `close` and `finish` end the run. No call after
-/// `new` allocates.
+/// something, or the line ends, call `line_ended`, which reports what is lost; without it that is
+/// only counted, once the session starts on another line. `close` and `finish` end the run. No call
+/// after `new` allocates.
 pub struct Session {
     options: Options,
     kind: LineKind,

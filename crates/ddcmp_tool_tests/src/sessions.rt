@@ -175,3 +175,49 @@ fn outputs_are_inputs(rt: HostRuntime) {
         exchanges(&rt, seed);
     }
 }
+
+/// Has one session receive what the other has for its line.
+fn carries(from: &mut Session, to: &mut Session) {
+    for _piece in 0..20u32 {
+        from.fill();
+        let used = to.received(from.to_line());
+        from.line_took(used);
+    }
+}
+
+/// Has both run.
+fn start(one: &mut Session, other: &mut Session) {
+    for _turn in 0..4u32 {
+        carries(one, other);
+        carries(other, one);
+    }
+}
+
+/// A session that is connected again counts what it had on a line whose end nobody told it of.
+#[test]
+fn a_line_that_has_not_ended_is_counted(rt: HostRuntime) {
+    let mut a = session(&rt, options(0, 86_400));
+    let mut b = session(&rt, options(0, 86_400));
+    start(&mut a, &mut b);
+    assert!(rt; a.typed(&[0, 1, 7]) == 3);
+    assert!(rt; a.connected());
+    assert!(rt; a.lost() == 1);
+    let _has_room = a.line_ended();
+    assert!(rt; a.lost() == 1);
+}
+
+/// If a received message keeps it from starting, it counts that once it starts.
+#[test]
+fn a_refused_start_counts_later(rt: HostRuntime) {
+    let mut a = session(&rt, options(0, 86_400));
+    let mut b = session(&rt, options(0, 86_400));
+    start(&mut a, &mut b);
+    assert!(rt; b.typed(&[0, 1, 9]) == 3);
+    carries(&mut b, &mut a);
+    assert!(rt; a.typed(&[0, 1, 7]) == 3);
+    assert!(rt; !a.connected());
+    assert!(rt; a.lost() == 0);
+    assert!(rt; a.deliver());
+    assert!(rt; a.connected());
+    assert!(rt; a.lost() == 1);
+}

@@ -13,7 +13,7 @@ impl Session {
     ghost use Rattle.ddcmp_proto.specs.Bytes.{after_piece, notices_of_piece};
     ghost use Rattle.ddcmp_station.specs.Linking.{after_frame, after_frames, after_sent};
     ghost use Rattle.ddcmp_station.specs.Linking.{countable, puts_frame, with_state};
-    ghost use Rattle.ddcmp_session.specs.Session.{form_of, has_gone, lost_by_end, lost_in};
+    ghost use Rattle.ddcmp_session.specs.Session.{form_of, has_gone, lost_by_end};
     ghost use Rattle.ddcmp_session.specs.Session.{reports_loss, wants_line};
     ghost use Rattle.ddcmp_session.specs.Course.{after_notice, lost_more};
     ghost use Rattle.ddcmp_session.specs.Session.{IsFilled, after_connected, course_received};
@@ -21,14 +21,16 @@ impl Session {
     ghost use Rattle.ddcmp_session.specs.Text.{Wrote, notice_text, notices_text, reported_lost};
     ghost use Rattle.ddcmp_session.specs.declared.text.TheConstants.{LINE_ROOM};
 
-    /// Starts the station on a line that was opened, or has it enter maintenance mode. Returns
-    /// false if received messages weren't delivered before: `deliver` them, then call it again.
+    /// Starts the station on a line that was opened, or has it enter maintenance mode. What it had
+    /// on a line that hasn't ended is lost then, and counted. Returns false if received messages
+    /// weren't delivered before: `deliver` them, then call it again.
     pub fn connected(&mut self) -> bool
         ensures state { self.new ≡ after_connected self.new.link.station.line self.old }
         ensures cleared { StandsFor self.new.link.station.line [] }
         ensures answer { result
             ≡ is_ok (answer_to_start (after_halt self.old.link.station.core.station)) }
     {
+        let lost = self.lost_by_end();
         let starts = if self.options.maintenance {
             let enters = self.link.begin_maintenance().is_ok();
             self.course.enter(enters);
@@ -37,6 +39,7 @@ impl Session {
             self.course.connect();
             self.link.begin_anew().is_ok()
         };
+        self.course.lose(if starts { lost as u64 } else { 0 });
         self.has_line |= starts;
         starts
     }
@@ -79,11 +82,7 @@ impl Session {
           output = self.new.output;
         } }
     {
-        let lost = if self.has_line {
-            self.lost_in_line()
-        } else {
-            0
-        };
+        let lost = self.lost_by_end();
         self.has_line = false;
         let has_room = self.report_lost(lost);
         self.link.halt();
@@ -97,14 +96,17 @@ impl Session {
         self.link.lost() == 0 && self.link.unsent().is_empty()
     }
 
-    /// Returns how many messages are lost if the line ends.
-    fn lost_in_line(&self) -> u8
-        ensures { result ≡ lost_in self.now.options.maintenance self.now.link }
+    /// Returns how many messages are lost if the line ends, if there is one.
+    fn lost_by_end(&self) -> u8
+        ensures { result ≡ lost_by_end self.now }
     {
-        if self.options.maintenance {
-            return !self.has_gone() as u8;
+        if !self.has_line {
+            0
+        } else if self.options.maintenance {
+            !self.has_gone() as u8
+        } else {
+            self.link.lost()
         }
-        self.link.lost()
     }
 
     /// Whether bytes of the line are wanted: there is one, and a received message and its notice
