@@ -1,5 +1,6 @@
 pub mod Anew
 pub mod ConnectionLaws
+pub mod EachLine
 pub mod EndLaws
 pub mod Finished
 pub mod Given

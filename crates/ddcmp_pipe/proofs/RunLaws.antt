@@ -26,12 +26,17 @@ use Rattle.ddcmp_pipe.specs.Pipe.{Made, session_of}
 use Rattle.ddcmp_pipe.specs.Connections.{AreCalls, Connections, PipesAnew, PipesClosedAnew}
 use Rattle.ddcmp_pipe.specs.Connections.{WritesAnew, after_steps, after_step_at, delivered_since}
 use Rattle.ddcmp_pipe.specs.Connections.{first_connection, first_connections, read_since}
+use Rattle.ddcmp_pipe.specs.EachLine.{DeliversLine, IsReadOverLines, read_over_lines}
 use Rattle.ddcmp_pipe.specs.Loops.{messages_given, no_traffic}
 use Rattle.ddcmp_pipe.specs.Runs.{DeliversAll, DeliversFirst, FilesBegin, FilesPass}
 use Rattle.ddcmp_pipe.specs.Runs.{Ran, RanTogether, WasEnded, calls_of, given_since, got_to}
-use Rattle.ddcmp_pipe.proofs.Anew.{Stays, closed_anew_a, closed_anew_b, left_out, pipes_anew_a}
-use Rattle.ddcmp_pipe.proofs.Anew.{pipes_anew_b, stays_a, stays_b, writes_anew_a, writes_anew_b}
+use Rattle.ddcmp_pipe.proofs.Anew.{AcknowledgedAnew, Stays, acknowledged_anew_a}
+use Rattle.ddcmp_pipe.proofs.Anew.{acknowledged_anew_b, closed_anew_a, closed_anew_b, left_out}
+use Rattle.ddcmp_pipe.proofs.Anew.{pipes_anew_a, pipes_anew_b, stays_a, stays_all, stays_b}
+use Rattle.ddcmp_pipe.proofs.Anew.{stays_first, writes_anew_a, writes_anew_b}
+use Rattle.ddcmp_pipe.proofs.EachLine.{left-with-none, none-in-nothing, read-over-lines}
 use Rattle.ddcmp_pipe.proofs.Given.{gave_more, messages_more, no_more, none_unread, unread}
+use Rattle.ddcmp_pipe.proofs.Losing.{closed-loses}
 use Rattle.ddcmp_pipe.proofs.LosingAnew.{session-after}
 use Rattle.ddcmp_pipe.proofs.Outcomes.{binary_more, read_all, read_first}
 use Rattle.ddcmp_pipe.proofs.OverLines.{agrees_first}
@@ -153,23 +158,53 @@ delivers_first giver taker pipes stays held t agrees =
           ∙ sym (left_out before (messages_given giver.made t) (since ++ m.0) given),
     )
 
--- and is all of it, if the run was ended and lost nothing
+-- All that was given was read, if the run was ended and lost nothing.
+given-read : (ran : Ran) → AreDone ran.steps (first_connection ran.made)
+    → (held : BuffersView) (t : Traffic) (closed : SessionView) → WasEnded ran held t closed
+    → closed.course.lost ≡ 0
+    → messages_given ran.made t
+    ≡ messages_of ran.made.options.form ran.made.options.config.max (got_to ran).history.input
+given-read ran does held t closed ended none =
+    let f = ran.made.options.form in
+    let max = ran.made.options.config.max in
+    let h = (got_to ran).history in
+    let holds =
+    (stays_all ran.made ran.steps (first_connection ran.made) does (stays_first ran.made)).holds in
+    let told = all-read ran.steps (first_connection ran.made) does ended.only (λ e. e) in
+    let p =
+    closed-loses held.input held.is_over ended.closes.is_reported h.session closed
+    ended.closes.closed none in
+    ap (messages_of f max) (gave_more f h held t holds.kind ended.agrees)
+    ∙ none_unread f max h held holds told p.1 p.2
+
+-- and was delivered then
 delivers_all : (giver taker : Ran) → PipesClosedAnew giver.made (got_to giver) (got_to taker)
-    → Stays giver.made (got_to giver) → AreDone giver.steps (first_connection giver.made)
-    → DeliversAll giver taker
-delivers_all giver taker whole stays does held t closed ended none =
+    → AreDone giver.steps (first_connection giver.made) → DeliversAll giver taker
+delivers_all giver taker whole does held t closed ended none =
     let f = giver.made.options.form in
     let max = giver.made.options.config.max in
     let c = got_to giver in
-    let p =
-    whole held.input held.is_over ended.closes.is_reported closed ended.closes.closed none in
-    let told =
-    all-read giver.steps (first_connection giver.made) does ended.only (λ e. e) in
-    p.0
+    (whole held.input held.is_over ended.closes.is_reported closed ended.closes.closed none).0
     ∙ ap (drop (length (messages_of f max c.input_before)))
-    (sym
-    (ap (messages_of f max) (gave_more f c.history held t stays.holds.kind ended.agrees)
-    ∙ none_unread f max c.history held stays.holds told p.1 p.2))
+    (sym (given-read giver does held t closed ended none))
+
+-- ---- over each line
+
+delivers_line : (giver taker : Ran)
+    → AcknowledgedAnew giver.made (got_to giver) (got_to taker)
+    → AreDone giver.steps (first_connection giver.made) → DeliversLine giver taker
+delivers_line giver taker all does rest more over held t closed ended none =
+    all (left-with-none giver rest does more over held t closed ended none)
+
+pub reads_over_lines : (ran : Ran) → AreDone ran.steps (first_connection ran.made)
+    → IsReadOverLines ran
+reads_over_lines ran does held t closed ended none =
+    let made = ran.made in
+    let first = first_connection made in
+    given-read ran does held t closed ended none
+    ∙ sym (read-over-lines made ran.steps first does (stays_first made))
+    ∙ ap (λ ms. ms ++ read_over_lines made ran.steps first)
+    (none-in-nothing made.options.form made.options.config.max)
 
 -- ---- files
 
@@ -300,14 +335,28 @@ module _ (a b : Ran) (f : first_refusal a.made.options.config ≡ None)
       delivers_all a b
       (subst (λ (q : Connections). PipesClosedAnew a.made q.a q.b) both_at
       (closed_anew_b a.made b.made steps f g in_order.0 together.honest together.clean))
-      at_a done_a
+      done_a
 
   pub all-to-a : DeliversAll b a
   all-to-a =
       delivers_all b a
       (subst (λ (q : Connections). PipesClosedAnew b.made q.b q.a) both_at
       (closed_anew_a a.made b.made steps f g in_order.0 together.honest together.clean))
-      at_b done_b
+      done_b
+
+  pub lines-to-b : DeliversLine a b
+  lines-to-b =
+      delivers_line a b
+      (subst (λ (q : Connections). AcknowledgedAnew a.made q.a q.b) both_at
+      (acknowledged_anew_b a.made b.made steps f g in_order.0 together.honest together.clean))
+      done_a
+
+  pub lines-to-a : DeliversLine b a
+  lines-to-a =
+      delivers_line b a
+      (subst (λ (q : Connections). AcknowledgedAnew b.made q.b q.a) both_at
+      (acknowledged_anew_a a.made b.made steps f g in_order.0 together.honest together.clean))
+      done_b
 
   pub files-begin-b : FilesBegin a b
   files-begin-b = files_begin a b first-to-b writes_b

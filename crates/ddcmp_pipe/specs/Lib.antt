@@ -9,3 +9,4 @@ pub mod Runs
 pub mod Connected
 pub mod Endings
 pub mod LastConnection
+pub mod EachLine

@@ -11,10 +11,12 @@ ghost use Rattle.ddcmp_session.specs.Devices.{BuffersView, Traffic, nothing_read
 ghost use Rattle.ddcmp_session.specs.Lines.{Ends};
 ghost use Rattle.ddcmp_pipe.specs.Connections.{AreCalls, Connections, after_steps};
 ghost use Rattle.ddcmp_pipe.specs.Connections.{first_connection};
+ghost use Rattle.ddcmp_pipe.specs.EachLine.{DeliversLine, IsReadOverLines};
+ghost use Rattle.ddcmp_pipe.specs.LastConnection.{IsKeptOverLastConnection};
 ghost use Rattle.ddcmp_pipe.specs.Loops.{no_traffic};
 ghost use Rattle.ddcmp_pipe.specs.Pipe.{Made, session_of};
 ghost use Rattle.ddcmp_pipe.specs.Runs.{DeliversAll, DeliversFirst, FilesBegin, FilesPass};
-ghost use Rattle.ddcmp_pipe.specs.Runs.{IsKeptByRuns, WasEnded, calls_of};
+ghost use Rattle.ddcmp_pipe.specs.Runs.{IsKeptByRuns, Ran, WasEnded, calls_of};
 
 /// A new session that `ddcmp_session::Buffers::run_lines` has run and closed was ended as the other
 /// laws have it: after calls of which none closed it, with what was held of its input.
@@ -52,4 +54,17 @@ pub fn runs_are_pipes()
     ensures files_to_a { IsKeptByRuns (λ a b. FilesBegin b a) }
     ensures whole_to_b { IsKeptByRuns (λ a b. FilesPass a b) }
     ensures whole_to_a { IsKeptByRuns (λ a b. FilesPass b a) }
+{}
+
+/// A run that was ended and lost nothing has lost nothing over any of its lines: whenever one is
+/// over, the session at its other end has received all messages that the run's input had over it,
+/// as `runs_are_pipes` and `runs_over_the_last_connection` have it of calls up to there. And all
+/// messages that the input gave are those that it had over its lines, one line after the other.
+pub fn runs_over_each_line()
+    ensures to_b { IsKeptByRuns (λ a b. DeliversLine a b) }
+    ensures to_a { IsKeptByRuns (λ a b. DeliversLine b a) }
+    ensures connected_to_b { IsKeptOverLastConnection (λ a b. DeliversLine a b) }
+    ensures connected_to_a { IsKeptOverLastConnection (λ a b. DeliversLine b a) }
+    ensures input { (ran : Ran) → AreDone ran.steps (first_connection ran.made)
+        → IsReadOverLines ran }
 {}
