@@ -9,7 +9,7 @@ use Rattle.std.specs.Io.KnownBytes.{Appends}
 use Rattle.std.proofs.KnownBytes.{Appends-nil}
 use Rattle.std.proofs.lemmas.List.{append-nil}
 use Rattle.ddcmp_frame.specs.Reader.{StandsFor}
-use Rattle.ddcmp_frame.specs.Reading.{ReadItem, ending, items}
+use Rattle.ddcmp_frame.specs.Reading.{ReadItem, ending, good_frame_of, good_frames_in, items}
 use Rattle.ddcmp_io.specs.Written.{HoldsBy, Holds, HandsOver, Writes}
 use Rattle.ddcmp_io.specs.declared.device.WriteFailed.{WriteFailed}
 use Rattle.ddcmp_frame.proofs.ReadingLaws.{ending-nothing, items-nothing}
@@ -23,12 +23,13 @@ use Rattle.ddcmp_explain.specs.declared.notation.Notation.{Notation}
 use Rattle.ddcmp_explain.specs.Output.{line_in}
 use Rattle.ddcmp_explain.specs.declared.style.Style.{Style}
 use Rattle.ddcmp_explain.specs.Discarded.{Told, behind, lines_in, parts_from, part_lines, passed}
-use Rattle.ddcmp_explain.specs.Discarded.{reached}
+use Rattle.ddcmp_explain.specs.Discarded.{has_frame, reached}
 use Rattle.ddcmp_explain.specs.Heads.{Follows, Heads}
 use Rattle.ddcmp_explain.proofs.PartLaws.{added, lines-append, lines_by-given, lines_by-nothing}
-use Rattle.ddcmp_explain.proofs.PartLaws.{reached-append}
+use Rattle.ddcmp_explain.proofs.PartLaws.{good-one, no-good, reached-append}
 use Rattle.ddcmp_explain.proofs.RestLaws.{follows}
-use Rattle.ddcmp_explain.specs.Progress.{BeginsWith, HasTold, ReachesTo}
+use Rattle.ddcmp_frame.specs.declared.header.Header.{Header}
+use Rattle.ddcmp_explain.specs.Progress.{BeginsWith, HasFound, HasTold, ReachesTo}
 
 pub lines-nothing : (style : Style) (max : ℕ) → lines_in style max [] ≡ []
 lines-nothing style max = lines_by-nothing style.discarded style.notation max [] (items-nothing max)
@@ -44,10 +45,17 @@ begins-nothing : (told : Bool) (head : Head) (rest : List ℕ) → rest ≡ [] �
 begins-nothing false head rest e h = tt
 begins-nothing true head rest e h = subst (Heads head) (sym e) h
 
+finds-nothing : (told : Bool) (given : List ReadItem) (is_found : Bool) → given ≡ []
+    → is_found ≡ false → HasFound told given is_found
+finds-nothing false given is_found e f = tt
+finds-nothing true given is_found e f =
+    f ∙ sym no-good ∙ ap (λ g. has_frame (good_frames_in g)) (sym e)
+
 pub begun : (max : ℕ) (at : Lines) → StandsFor at.frames [] → at.frames.max ≡ max → at.items ≡ 0
     → at.page ≡ [] → at.reached.offset ≡ 0 → at.reached.taken ≡ 0 → Heads at.head []
+    → at.is_found ≡ false
     → (broken : Bool) (start : Option (List ℕ)) → HasTold max start [] at broken start
-begun max at s m n e o t head broken start = record {
+begun max at s m n e o t head found broken start = record {
   stands = s;
   max_is = m;
   counted = n ∙ sym (ap length (items-nothing max));
@@ -57,6 +65,7 @@ begun max at s m n e o t head broken start = record {
   head =
       begins-nothing at.style.discarded at.head (ending max []).rest
       (ap (λ p. p.rest) (ending-nothing max)) head;
+  found = finds-nothing at.style.discarded (items max []) at.is_found (items-nothing max) found;
   holds = holds_none broken;
 }
   where
@@ -80,11 +89,12 @@ told-more
     → Pushes max text more given was at
     → ReachesTo at.style.discarded (items max (text ++ more)) at.reached.offset at.reached.taken
     → BeginsWith at.style.discarded at.head (ending max (text ++ more)).rest
+    → HasFound at.style.discarded (items max (text ++ more)) at.is_found
     → HandsOver (record { broken = broken; sink = sink; waiting = was.page })
     (record { broken = after; sink = new; waiting = at.page })
     (added was.style.discarded was.style.notation (reached 0 (items max text)) given)
     → HasTold max start (text ++ more) at after new
-told-more max start sink new text more given was at broken after h p reaches head sent =
+told-more max start sink new text more given was at broken after h p reaches head found sent =
     let grown : items max (text ++ more) ≡ items max text ++ given =
     subst (λ n. items n (text ++ more) ≡ items n text ++ given) h.max_is p.items_are in
     record {
@@ -95,6 +105,7 @@ told-more max start sink new text more given was at broken after h p reaches hea
           ∙ sym (length-append (items max text) given) ∙ ap length (sym grown);
       reaches = reaches;
       head = head;
+      found = found;
       holds =
           subst (λ t. Holds start t (record { broken = after; sink = new; waiting = at.page }))
           (sym (ap (λ n. lines_in n max (text ++ more)) p.style_is
@@ -124,6 +135,7 @@ told-items max start sink new text more given was at broken after h off m same s
     (subst (λ b. ReachesTo b (items max (text ++ more)) at.reached.offset at.reached.taken)
     (sym off_too) tt)
     (subst (λ b. BeginsWith b at.head (ending max (text ++ more)).rest) (sym off_too) tt)
+    (subst (λ b. HasFound b (items max (text ++ more)) at.is_found) (sym off_too) tt)
     (subst (λ b. HandsOver (record { broken = broken; sink = sink; waiting = was.page })
     (record { broken = after; sink = new; waiting = at.page })
     (added b was.style.notation (reached 0 (items max text)) given))
@@ -169,18 +181,31 @@ module _ (max : ℕ) (start sink new : Option (List ℕ)) (text : List ℕ) (b :
   here : reached 0 (items max text) ≡ was.reached.offset + was.reached.taken
   here = subst (λ t. ReachesTo t (items max text) was.reached.offset was.reached.taken) on h.reaches
 
+  found_before : was.is_found ≡ has_frame (good_frames_in (items max text))
+  found_before = subst (λ t. HasFound t (items max text) was.is_found) on h.found
+
+  -- whether a frame was good
+  found_after : (given : List ReadItem) → at.style ≡ was.style
+      → items max (text ++ b ∷ []) ≡ given → at.is_found ≡ has_frame (good_frames_in given)
+      → HasFound at.style.discarded (items max (text ++ b ∷ [])) at.is_found
+  found_after given same grown found =
+      subst (λ t. HasFound t (items max (text ++ b ∷ [])) at.is_found)
+      (sym (ap (λ s. s.discarded) same ∙ on))
+      (found ∙ ap (λ g. has_frame (good_frames_in g)) (sym grown))
+
   -- a byte gave no item
   pub told-none : at.frames.max ≡ was.frames.max → at.style ≡ was.style
       → StandsFor at.frames (text ++ b ∷ [])
       → items was.frames.max (text ++ b ∷ []) ≡ items was.frames.max text ++ []
       → at.items ≡ was.items
       → at.reached ≡ was.reached
+      → at.is_found ≡ was.is_found
       → ((rest more : List ℕ) → Heads was.head rest → Follows rest b more
       → length (ending max (text ++ b ∷ [])).rest ≡ length more → Heads at.head more)
       → HandsOver (record { broken = broken; sink = sink; waiting = was.page })
       (record { broken = after; sink = new; waiting = at.page }) []
       → HasTold max start (text ++ b ∷ []) at after new
-  told-none m same stands gave count far follow sent =
+  told-none m same stands gave count far found follow sent =
       let on_too : at.style.discarded ≡ true = ap (λ s. s.discarded) same ∙ on in
       let grown : items max (text ++ b ∷ []) ≡ items max text ++ [] =
       subst (λ n. items n (text ++ b ∷ []) ≡ items n text ++ []) h.max_is gave in
@@ -199,6 +224,8 @@ module _ (max : ℕ) (start sink new : Option (List ℕ)) (text : List ℕ) (b :
       (ap (reached 0) (grown ∙ append-nil (items max text)) ∙ here
       ∙ ap (λ r. r.offset + r.taken) (sym far)))
       (open_after follow same)
+      (found_after (items max text) same (grown ∙ append-nil (items max text))
+      (found ∙ found_before))
       (subst (λ t. HandsOver (record { broken = broken; sink = sink; waiting = was.page })
       (record { broken = after; sink = new; waiting = at.page })
       (added t was.style.notation (reached 0 (items max text)) []))
@@ -211,6 +238,8 @@ module _ (max : ℕ) (start sink new : Option (List ℕ)) (text : List ℕ) (b :
       → items was.frames.max (text ++ b ∷ []) ≡ items was.frames.max text ++ (given, lent) ∷ []
       → at.items ≡ was.items + 1
       → at.reached.offset + at.reached.taken ≡ behind given
+      → ((frames : List (Header × List ℕ)) → was.is_found ≡ has_frame frames
+      → at.is_found ≡ has_frame (frames ++ good_frame_of (given, lent)))
       → ((rest more : List ℕ) → Heads was.head rest → Follows rest b more
       → length (ending max (text ++ b ∷ [])).rest ≡ length more → Heads at.head more)
       → HandsOver (record { broken = broken; sink = sink; waiting = was.page })
@@ -219,7 +248,7 @@ module _ (max : ℕ) (start sink new : Option (List ℕ)) (text : List ℕ) (b :
       (passed (was.reached.offset + was.reached.taken) (item_offset given))
       ++ line_in was.style.notation (given, lent))
       → HasTold max start (text ++ b ∷ []) at after new
-  told-one given lent m same stands gave count far follow sent =
+  told-one given lent m same stands gave count far found follow sent =
       let on_too : at.style.discarded ≡ true = ap (λ s. s.discarded) same ∙ on in
       let grown : items max (text ++ b ∷ []) ≡ items max text ++ (given, lent) ∷ [] =
       subst (λ n. items n (text ++ b ∷ []) ≡ items n text ++ (given, lent) ∷ []) h.max_is
@@ -233,6 +262,9 @@ module _ (max : ℕ) (start sink new : Option (List ℕ)) (text : List ℕ) (b :
       (ap (reached 0) grown ∙ reached-append 0 (items max text) ((given, lent) ∷ [])
       ∙ reached-one from given lent ∙ sym far))
       (open_after follow same)
+      (found_after (items max text ++ (given, lent) ∷ []) same grown
+      (found (good_frames_in (items max text)) found_before
+      ∙ ap has_frame (sym (good-one (given, lent) (items max text)))))
       (subst (λ t. HandsOver (record { broken = broken; sink = sink; waiting = was.page })
       (record { broken = after; sink = new; waiting = at.page })
       (added t was.style.notation from ((given, lent) ∷ [])))

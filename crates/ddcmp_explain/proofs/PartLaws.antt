@@ -3,14 +3,14 @@ use Rattle.std.proofs.Common.{◌≡◌, ℕ, ◌<◌, arith, length, Bool, true
 use Rattle.std.proofs.Common.{[], ◌∷◌, ◌++◌, refl, sym, ◌∙◌, ap, append_assoc, Some, None}
 use Rattle.std.specs.List.{flat_map}
 use Rattle.std.proofs.lemmas.Grind.{flat_map-append}
-use Rattle.ddcmp_frame.specs.Reading.{ReadItem, Place, items}
+use Rattle.ddcmp_frame.specs.Reading.{ReadItem, Place, good_frame_of, good_frames_in, items}
 use Rattle.ddcmp_frame.specs.Step.{item_offset}
 use Rattle.ddcmp_explain.specs.declared.notation.Notation.{Notation}
 use Rattle.ddcmp_explain.specs.declared.skipped.Skipped.{Skipped}
 use Rattle.ddcmp_explain.specs.Output.{lines, line_in}
 use Rattle.ddcmp_explain.specs.Discarded.{Part, Told, behind, passed, parts_from, reached}
 use Rattle.ddcmp_explain.specs.Discarded.{part_line, part_lines, lines_by, open_header, open_text}
-use Rattle.ddcmp_explain.specs.Discarded.{opened, passed_text, skipped_parts}
+use Rattle.ddcmp_explain.specs.Discarded.{has_frame, opened, passed_text, skipped_parts}
 use Rattle.std.proofs.lemmas.List.{append-nil}
 use Rattle.ddcmp_frame.proofs.Tests.{ltb-is, ltb-isnt}
 
@@ -58,6 +58,20 @@ pub lines_by-nothing : (told : Bool) (notation : Notation) (max : ℕ) (text : L
 unfolding lines part_lines parts_from
 lines_by-nothing false notation max text e = ap (flat_map (line_in notation)) e
 lines_by-nothing true notation max text e = ap (λ t. part_lines notation (parts_from 0 t)) e
+
+-- ---- good frames
+
+pub good-one : (given : ReadItem) (xs : List ReadItem)
+    → good_frames_in (xs ++ given ∷ []) ≡ good_frames_in xs ++ good_frame_of given
+unfolding good_frames_in
+good-one given [] = append-nil (good_frame_of given)
+good-one given (x ∷ xs) =
+    ap (λ t. good_frame_of x ++ t) (good-one given xs)
+    ∙ sym (append_assoc (good_frame_of x) (good_frames_in xs) (good_frame_of given))
+
+pub no-good : has_frame (good_frames_in []) ≡ false
+unfolding good_frames_in
+no-good = refl
 
 -- ---- single parts
 

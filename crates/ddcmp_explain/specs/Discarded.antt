@@ -8,7 +8,7 @@ use Rattle.ddcmp_frame.specs.declared.item.Item.{Item}
 use Rattle.ddcmp_frame.specs.declared.item.Item.TheVariants.{Good, HeaderCheck, DataCheck, TooLong}
 use Rattle.ddcmp_frame.specs.declared.item.Item.TheVariants.{Format}
 use Rattle.ddcmp_frame.specs.Reader.{frame_length}
-use Rattle.ddcmp_frame.specs.Reading.{ReadItem, Place, items, ending}
+use Rattle.ddcmp_frame.specs.Reading.{ReadItem, Place, items, ending, good_frames}
 use Rattle.ddcmp_frame.specs.Spelling.{parsed}
 use Rattle.ddcmp_frame.specs.Step.{item_offset}
 use Rattle.ddcmp_explain.specs.declared.notation.Notation.{Notation}
@@ -154,10 +154,22 @@ lines_by true notation max bytes = part_lines notation (parts_from 0 (items max 
 abbrev pub lines_in : Style → ℕ → List ℕ → List ℕ
 lines_in style max bytes = lines_by style.discarded style.notation max bytes
 
--- what is reported at the end of the bytes that no item took
+abbrev pub has_frame : List (Header × List ℕ) → Bool
+has_frame [] = false
+has_frame (frame ∷ later) = true
+
+-- a line for people if no frame was good; objects say it by what they are of
+abbrev pub none_text : Notation → Bool → List ℕ
+none_text Plain false = codes "no good frame was found\n"
+none_text Plain true = []
+none_text Json is_found = []
+
+-- what is reported at the end of the bytes that no item took, and that no frame was good
 abbrev pub rest_by : Bool → Notation → ℕ → List ℕ → List ℕ
 rest_by false notation max bytes = []
-rest_by true notation max bytes = part_lines notation (last_parts max bytes)
+rest_by true notation max bytes =
+    part_lines notation (last_parts max bytes)
+    ++ none_text notation (has_frame (good_frames max bytes))
 
 -- what is written at the end: what no item took if that is reported, and the last line
 abbrev pub end_in : Style → ℕ → List ℕ → List ℕ

@@ -3,13 +3,13 @@ use Rattle.std.specs.Prelude.{◌≡◌, ℕ, ◌+◌, Bool, true, false, List, 
 use Rattle.std.specs.Prelude.{Result, Ok, Err}
 use Rattle.std.specs.Io.KnownBytes.{Appends}
 use Rattle.ddcmp_frame.specs.Reader.{StandsFor}
-use Rattle.ddcmp_frame.specs.Reading.{ReadItem, ending, items}
+use Rattle.ddcmp_frame.specs.Reading.{ReadItem, ending, good_frames_in, items}
 use Rattle.ddcmp_io.specs.Written.{Holds, Known}
 use Rattle.ddcmp_explain.specs.declared.explain_fault.ExplainFault.{ExplainFault}
 use Rattle.ddcmp_explain.specs.declared.lines.Lines.{Lines}
 use Rattle.ddcmp_explain.specs.declared.explainer.Explainer.{Explainer}
 use Rattle.ddcmp_explain.specs.Digits.{bytes_of, left_in, spot_in, unexpected_in}
-use Rattle.ddcmp_explain.specs.Discarded.{lines_in, reached}
+use Rattle.ddcmp_explain.specs.Discarded.{has_frame, lines_in, reached}
 use Rattle.ddcmp_explain.specs.Explains.{Tells}
 use Rattle.ddcmp_explain.specs.Heads.{Heads}
 use Rattle.ddcmp_explain.specs.declared.head.Head.{Head}
@@ -24,6 +24,11 @@ abbrev pub BeginsWith : Bool → Head → List ℕ → Type 0
 BeginsWith false head rest = Unit {0}
 BeginsWith true head rest = Heads head rest
 
+-- and whether one of them is a good frame
+abbrev pub HasFound : Bool → List ReadItem → Bool → Type 0
+HasFound false given is_found = Unit {0}
+HasFound true given is_found = is_found ≡ has_frame (good_frames_in given)
+
 -- The reader stands for the text, its items are counted, and of their lines the sink has got some
 -- since it held `start` and the rest waits.
 pub record HasTold (max : ℕ) (start : Known) (text : List ℕ) (at : Lines) (broken : Bool)
@@ -33,6 +38,7 @@ pub record HasTold (max : ℕ) (start : Known) (text : List ℕ) (at : Lines) (b
   pub counted : at.items ≡ length (items max text)
   pub reaches : ReachesTo at.style.discarded (items max text) at.reached.offset at.reached.taken
   pub head : BeginsWith at.style.discarded at.head (ending max text).rest
+  pub found : HasFound at.style.discarded (items max text) at.is_found
   pub holds : Holds start (lines_in at.style max text)
       (record { broken = broken; sink = sink; waiting = at.page })
 

@@ -6,15 +6,14 @@ ghost use Rattle.ddcmp_frame.specs.Reading.{Place, open_at_end};
 ghost use Rattle.ddcmp_frame.specs.Step.{item_offset};
 ghost use Rattle.ddcmp_io.specs.Written.{HandsOver, Writes, output_of};
 ghost use Rattle.ddcmp_explain.specs.Discarded.{behind, end_in, lines_in, opened, part_lines};
-ghost use Rattle.ddcmp_explain.specs.Discarded.{rest_by};
-ghost use Rattle.ddcmp_explain.specs.Discarded.{passed};
+ghost use Rattle.ddcmp_explain.specs.Discarded.{none_text, passed, rest_by};
 ghost use Rattle.ddcmp_explain.specs.Heads.{Heads};
 
 use crate::discarded::{write_discarded, write_open};
 use crate::head::Head;
-use crate::notation::{write_item, write_item_by, write_last};
+use crate::notation::{Notation, write_item, write_item_by, write_last};
 use crate::put::LINE;
-use crate::skipped::{Reached, reached_by};
+use crate::skipped::{Reached, finds_good, reached_by};
 use crate::style::Style;
 use ddcmp_frame::{Header, Item, Pushed, Reader};
 use ddcmp_io::{Page, Sink, WriteFailed};
@@ -30,6 +29,8 @@ pub(crate) struct Lines {
     // still open.
     pub(crate) reached: Reached,
     pub(crate) head: Head,
+    // Whether a frame was good, if that is reported too.
+    pub(crate) is_found: bool,
     ghost counted: { items ≤ frames.offset },
 }
 
@@ -52,6 +53,7 @@ impl Lines {
             page: Page::new(),
             reached: Reached::at(0),
             head: Head::new(),
+            is_found: false,
         }
     }
 
@@ -129,6 +131,7 @@ impl Lines {
         match item {
             Some(item) => {
                 self.items += 1;
+                self.is_found = finds_good(self.is_found, &item);
                 self.reach(writer, &item);
                 let data = self.frames.data();
                 write_item(&mut self.page, writer, self.style.notation, &item, data);
@@ -144,6 +147,7 @@ impl Lines {
         ensures style { self.new.style ≡ self.old.style }
         ensures items { self.new.items ≡ self.old.items }
         ensures head { self.new.head ≡ self.old.head }
+        ensures found { self.new.is_found ≡ self.old.is_found }
         ensures reached { self.new.reached.offset + self.new.reached.taken ≡ behind item.now }
         ensures passed { HandsOver (output_of W.broken W.contents writer.old self.old.page)
             (output_of W.broken W.contents writer.new self.new.page)
@@ -161,6 +165,7 @@ impl Lines {
         ensures style { self.new.style ≡ self.old.style }
         ensures items { self.new.items ≡ self.old.items }
         ensures head { self.new.head ≡ self.old.head }
+        ensures found { self.new.is_found ≡ self.old.is_found }
         ensures passed { HandsOver (output_of W.broken W.contents writer.old self.old.page)
             (output_of W.broken W.contents writer.new self.new.page)
             (part_lines self.old.style.notation
@@ -185,6 +190,7 @@ impl Lines {
         ensures frames { self.new.frames ≡ self.old.frames }
         ensures style { self.new.style ≡ self.old.style }
         ensures items { self.new.items ≡ self.old.items }
+        ensures found { self.new.is_found ≡ self.old.is_found }
         ensures told { (p : Place) → Heads self.old.head p.rest → p.offset ≡ end
             → length p.rest ≡ left_open
             → HandsOver (output_of W.broken W.contents writer.old self.old.page)
@@ -205,7 +211,8 @@ impl Lines {
         }
     }
 
-    /// Writes the lines of the bytes after the last item, if they are reported.
+    /// Writes the lines of the bytes after the last item, and that no frame was good, if that is
+    /// reported.
     fn tell_end<W: Sink>(&mut self, writer: &mut W, bytes: u64, left_open: u64)
         ensures frames { self.new.frames ≡ self.old.frames }
         ensures style { self.new.style ≡ self.old.style }
@@ -221,6 +228,22 @@ impl Lines {
             return;
         }
         self.tell_rest(writer, bytes.saturating_sub(left_open), left_open);
+        self.tell_none(writer);
+    }
+
+    /// Writes that no frame was good, if none was.
+    fn tell_none<W: Sink>(&mut self, writer: &mut W)
+        ensures frames { self.new.frames ≡ self.old.frames }
+        ensures style { self.new.style ≡ self.old.style }
+        ensures items { self.new.items ≡ self.old.items }
+        ensures told { HandsOver (output_of W.broken W.contents writer.old self.old.page)
+            (output_of W.broken W.contents writer.new self.new.page)
+            (none_text self.old.style.notation self.old.is_found) }
+    {
+        match (self.style.notation, self.is_found) {
+            (Notation::Plain, false) => self.page.write(writer, b"no good frame was found\n"),
+            (Notation::Plain, true) | (Notation::Json, _) => {}
+        }
     }
 
     /// Takes bytes, and writes the lines of the items that they complete.

@@ -1,7 +1,9 @@
 //! The bytes between items.
-ghost use Rattle.std.specs.Prelude.{◌≡◌, ◌+◌};
+ghost use Rattle.std.specs.Prelude.{◌≡◌, ◌+◌, ◌++◌, List, ℕ};
+ghost use Rattle.ddcmp_frame.specs.declared.header.Header.{Header};
+ghost use Rattle.ddcmp_frame.specs.Reading.{good_frame_of};
 ghost use Rattle.ddcmp_frame.specs.Step.{item_offset};
-ghost use Rattle.ddcmp_explain.specs.Discarded.{passed, skipped_parts, taken_by};
+ghost use Rattle.ddcmp_explain.specs.Discarded.{has_frame, passed, skipped_parts, taken_by};
 
 use crate::discarded::frame_length;
 use ddcmp_frame::Item;
@@ -27,6 +29,18 @@ pub fn reached_by(item: &Item) -> Reached
         Item::Format(offset, _) => (*offset, 8),
     };
     Reached { offset, taken }
+}
+
+/// Returns whether a frame is good, by whether one before it was.
+pub(crate) fn finds_good(is_found: bool, item: &Item) -> bool
+    ensures { (frames : List (Header × List ℕ)) (lent : List ℕ) → is_found ≡ has_frame frames
+        → result ≡ has_frame (frames ++ good_frame_of (item.now, lent)) }
+{
+    match item {
+        Item::Good(_, _) => true,
+        Item::HeaderCheck(_) | Item::DataCheck(_, _) | Item::TooLong(_, _) | Item::Format(_, _) =>
+            is_found,
+    }
 }
 
 /// Skipped bytes: the offset of the first, and how many.

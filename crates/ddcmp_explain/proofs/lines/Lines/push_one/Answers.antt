@@ -26,6 +26,7 @@ returns-in-Some-clause-told g c = λ max start text h.
     ∙ ap (λ i. items was.frames.max text ++ items_given i lent) c.in-Some.is)
     c.reach.ensures.items
     c.reach.ensures.reached
+    (λ frames e. c.reach.ensures.found ∙ c.finds_good-self.ensures frames lent e)
     (λ rest more k f n. subst (λ (x : _). Heads x more) (sym c.reach.ensures.head)
     (c.follow.ensures rest more k f
     (c.open.ensures.text now (p.ensures.stands text h.stands)
@@ -41,7 +42,7 @@ returns-in-None-clause-told g c = λ max start text h.
     (p.ensures.stands text h.stands)
     (p.ensures.item text h.stands
     ∙ ap (λ i. items was.frames.max text ++ items_given i p.new.self.lent) c.in-None.is)
-    refl refl
+    refl refl refl
     (λ rest more k f n. c.follow.ensures rest more k f
     (c.open.ensures.text now (p.ensures.stands text h.stands)
     ∙ ap (λ m. open_at_end m now) (p.ensures.max ∙ h.max_is) ∙ n))

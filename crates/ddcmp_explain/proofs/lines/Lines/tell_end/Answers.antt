@@ -1,9 +1,11 @@
 use Rattle.std.proofs.Common.{◌≡◌, ◌++◌, true, ap, arith, sym, subst, ◌∙◌}
+use Rattle.ddcmp_io.proofs.WrittenLaws.{sends-then}
 use Rattle.ddcmp_io.proofs.TextLaws.{sends-as, sends-nothing}
 use Rattle.ddcmp_frame.proofs.ReadingLaws.{ending-offset}
 use Rattle.ddcmp_frame.specs.Reading.{ending, items}
-use Rattle.ddcmp_explain.specs.Discarded.{opened, part_lines, passed, reached, rest_by}
-use Rattle.ddcmp_explain.specs.Progress.{BeginsWith, ReachesTo}
+use Rattle.ddcmp_explain.specs.Discarded.{none_text, opened, part_lines}
+use Rattle.ddcmp_explain.specs.Discarded.{passed, reached, rest_by}
+use Rattle.ddcmp_explain.specs.Progress.{BeginsWith, HasFound, ReachesTo}
 use Rattle.ddcmp_explain.proofs.lines.Lines.tell_end.Goals as goal
 
 pub returns-then-not-self-clause-told : goal.returns-then-not-self-clause-told
@@ -24,9 +26,16 @@ returns-clause-told g c = λ max start text h b o.
     h.reaches in
     let begins = subst (λ t. BeginsWith t was.head p.rest) on h.head in
     let told = c.tell_rest.ensures.told p begins ends (sym o) in
+    let found = subst (λ t. HasFound t (items max text) was.is_found) on h.found in
+    let last =
     sends-as
     (ap (λ n. part_lines notation (passed n c.saturating_sub.result ++ opened p)) (sym here)
     ∙ ap (λ n. part_lines notation (passed (reached 0 (items max text)) n ++ opened p))
-    (sym ends)
-    ∙ ap (λ t. rest_by t notation max text) (sym on))
-    told
+    (sym ends))
+    told in
+    let none =
+    sends-as
+    (ap (λ s. none_text s.notation c.tell_rest.new.self.is_found) c.tell_rest.ensures.style
+    ∙ ap (none_text notation) (c.tell_rest.ensures.found ∙ found))
+    c.tell_none.ensures.told in
+    sends-as (ap (λ t. rest_by t notation max text) (sym on)) (sends-then last none)
