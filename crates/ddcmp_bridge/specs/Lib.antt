@@ -1,4 +1,5 @@
 pub mod Delaying
 pub mod Faults
+pub mod Joining
 pub mod Relaying
 pub mod Report

@@ -144,7 +144,9 @@ impl Direction {
 
     /// Returns the moment at which something is due next; none if nothing is held.
     pub fn wakes_at(&self) -> Option<u64>
-        ensures { result ≡ next_due self.now.held }
+        ensures due { result ≡ next_due self.now.held }
+        // All that is to be passed on is held.
+        ensures idle { self.now.relay.waiting ≡ [] }
     {
         self.line.wakes_at()
     }

@@ -1,0 +1,151 @@
+//! Both directions of a bridge, over its lines.
+ghost use Rattle.std.specs.Prelude.{◌≡◌, IfSome, IsTrue, List, ℕ};
+ghost use Rattle.rand_pcg.specs.Lcg.{Lcg};
+ghost use Rattle.ddcmp_bridge.specs.Delaying.{Directs};
+ghost use Rattle.ddcmp_bridge.specs.Faults.{start_of};
+ghost use Rattle.ddcmp_bridge.specs.Joining.{Drains, GoesOn, Joins, faults_on, flow_on};
+ghost use Rattle.ddcmp_bridge.specs.Joining.{no_traffic};
+ghost use Rattle.ddcmp_bridge.specs.Relaying.{counts_of};
+ghost use Rattle.ddcmp_bridge.specs.declared.lines.Way.{Way as WayValue};
+
+use crate::counts::Counts;
+use crate::faults::Faults;
+use crate::flow::Flow;
+use crate::lines::{Lines, Way};
+use std::alloc::Global;
+use std::marker::Model;
+
+/// Why a bridge has ended.
+#[derive(Clone, Copy, Debug, PartialEq, Eq)]
+pub enum Ended {
+    /// A line is down.
+    Line,
+    /// Its time is over.
+    Time,
+    /// The lines stopped it, or it couldn't wait for them.
+    Stopped,
+}
+
+/// Passes the good frames that come over each of two lines on to the other, but for the faults that
+/// it is to make. It doesn't allocate once it is made.
+pub struct Bridge {
+    there: Flow,
+    back: Flow,
+}
+
+// By hand, so that it is dropped by a call: a derived one is written out at each such place.
+impl Drop for Bridge {
+    fn drop(self) {
+        let Bridge {
+            there: _there,
+            back: _back,
+        } = self;
+    }
+}
+
+impl Model for Bridge {
+    ghost use Rattle.ddcmp_bridge.specs.Joining.{BridgeView};
+
+    ghost Value = { BridgeView };
+
+    ghost view = { λ b. record { there = b.there; back = b.back } };
+}
+
+impl Bridge {
+    /// Takes all memory that it will need; none if an allocation failed. Each frame is held back
+    /// for so many milliseconds.
+    pub fn new(alloc: Global, faults: Faults, delay_ms: u32) -> Option<Bridge>
+        ensures joins { IfSome result (λ made.
+            Joins (start_of faults.seed 0) (start_of faults.seed 1) made no_traffic) }
+        ensures faults { (way : WayValue) → IfSome result (λ made. faults_on way made ≡ faults) }
+    {
+        let there = Flow::new(alloc, faults, delay_ms, 0)?;
+        let back = Flow::new(alloc, faults, delay_ms, 1)?;
+        Some(Bridge { there, back })
+    }
+
+    /// Passes frames on both ways, until a line is down and all that came over it was passed on, or
+    /// the time is over, or the lines stop it.
+    pub fn run<L: Lines>(&mut self, lines: &mut L, ends_at: u64) -> Ended
+        ensures goes { GoesOn self.old (L.traffic lines.old) self.new (L.traffic lines.new) }
+        ensures faults { (way : WayValue) → faults_on way self.new ≡ faults_on way self.old }
+        ensures drains { result ≡ Ended.Line → Drains self.new (L.down lines.new) }
+    {
+        for _turn in 0..u64::MAX {
+            let now = lines.now();
+            let moved = self.pass(lines, now);
+            if self.is_over(lines) {
+                return Ended::Line;
+            }
+            let passed = lines.now();
+            if passed >= ends_at {
+                return Ended::Time;
+            }
+            let most = self.wakes_at(now, ends_at).saturating_sub(passed);
+            if !self.goes_on(lines, now, moved, most) {
+                break;
+            }
+        }
+        Ended::Stopped
+    }
+
+    /// Reads and writes each line once, as far as that doesn't wait; returns whether anything moved.
+    fn pass<L: Lines>(&mut self, lines: &mut L, now: u64) -> bool
+        ensures goes { GoesOn self.old (L.traffic lines.old) self.new (L.traffic lines.new) }
+        ensures faults { (way : WayValue) → faults_on way self.new ≡ faults_on way self.old }
+    {
+        let went = self.there.pass(Way::There, lines, now);
+        let came = self.back.pass(Way::Back, lines, now);
+        went || came
+    }
+
+    /// Returns whether a line is down, and nothing that came over it can be passed on any more.
+    fn is_over<L: Lines>(&self, lines: &L) -> bool
+        ensures { IsTrue result → Drains self.now (L.down lines.now) }
+    {
+        match (lines.is_down(Way::There), lines.is_down(Way::Back)) {
+            (false, false) => false,
+            (true, false) => self.there.is_done(),
+            (false, true) => self.back.is_done(),
+            (true, true) => true,
+        }
+    }
+
+    /// Returns when it is over, or a frame is due that isn't yet at this moment.
+    fn wakes_at(&self, now: u64, ends_at: u64) -> u64 {
+        ends_at
+            .min(later_than(now, self.there.wakes_at()))
+            .min(later_than(now, self.back.wakes_at()))
+    }
+
+    /// Waits until a line is ready for what is needed of it at this moment, unless something moved;
+    /// returns false if the lines stop it, or it can't wait.
+    fn goes_on<L: Lines>(&self, lines: &mut L, now: u64, moved: bool, most_ms: u64) -> bool
+        ensures { L.traffic lines.new ≡ L.traffic lines.old }
+    {
+        if lines.is_stopped() {
+            return false;
+        }
+        moved || lines.wait(self.there.needs(now), self.back.needs(now), most_ms)
+    }
+
+    /// Returns what was counted of what came in this direction.
+    pub fn counts(&self, way: Way) -> Counts
+        ensures { (start : Lcg) (came taken : List ℕ)
+            → Directs start (flow_on way self.now).direction came taken
+            → result ≡ counts_of (faults_on way self.now) start came }
+    {
+        match way {
+            Way::There => self.there.counts(),
+            Way::Back => self.back.counts(),
+        }
+    }
+}
+
+/// Returns the moment if it is yet to come, and else the last that there is.
+fn later_than(now: u64, moment: Option<u64>) -> u64 {
+    match moment {
+        Some(moment) if moment > now => moment,
+        Some(_) | None => u64::MAX,
+    }
+}

@@ -1,0 +1,186 @@
+//! One direction of a bridge over its lines.
+ghost use Rattle.std.specs.Prelude.{◌≡◌, ◌+◌, ◌<◌, ◌^◌, [], IfSome, IsTrue, List, ℕ, length};
+ghost use Rattle.rand_pcg.specs.Lcg.{Lcg};
+ghost use Rattle.ddcmp_bridge.specs.Delaying.{Directs};
+ghost use Rattle.ddcmp_bridge.specs.Faults.{start_of};
+ghost use Rattle.ddcmp_bridge.specs.Joining.{Flows, FlowsOn, IsDone};
+ghost use Rattle.ddcmp_bridge.specs.Relaying.{counts_of};
+
+use crate::counts::Counts;
+use crate::direction::Direction;
+use crate::faults::Faults;
+use crate::lines::{Lines, Needs, Way};
+use crate::relay::Taken;
+use std::alloc::Global;
+use std::marker::Model;
+
+/// How much is read at once: a datagram has no more.
+const MOST: usize = 65536;
+
+/// A direction, and what was read for it.
+pub(crate) struct Flow {
+    direction: Direction,
+    /// Bytes that came, of which `direction` has not taken those from `from` to `end` yet.
+    came: Vec<u8>,
+    from: usize,
+    end: usize,
+}
+
+// By hand, so that it is dropped by a call: a derived one is written out at each such place.
+impl Drop for Flow {
+    fn drop(self) {
+        let Flow {
+            direction: _direction,
+            came: _came,
+            from: _,
+            end: _,
+        } = self;
+    }
+}
+
+impl Model for Flow {
+    ghost use Rattle.std.specs.Prelude.{◌≡◌, ◌≤◌, ◌<◌, ◌+◌, ◌-◌, ◌^◌, drop, take, vec_len};
+    ghost use Rattle.ddcmp_bridge.specs.Joining.{FlowView};
+    ghost use Rattle.ddcmp_bridge.specs.declared.flow.TheConstants.{MOST};
+
+    ghost Value = { FlowView };
+
+    ghost view = { λ f. record {
+      direction = f.direction;
+      waiting = drop f.from (take f.end f.came.items);
+    } };
+
+    ghost invariant = { λ f. (f.from ≤ f.end) × (f.end ≤ vec_len f.came)
+        × (vec_len f.came ≡ MOST)
+        × (f.direction.relay.frames.offset + (f.end - f.from) < 2 ^ 64) };
+}
+
+impl Flow {
+    /// Takes all memory that it will need; none if an allocation failed. Its faults are drawn as
+    /// those of the direction of this number.
+    pub(crate) fn new(alloc: Global, faults: Faults, delay_ms: u32, number: u64) -> Option<Flow>
+        ensures flows { IfSome result (λ made.
+            Flows (start_of faults.seed number) made (record { came = []; gone = [] })) }
+        ensures faults { IfSome result (λ made. made.direction.relay.faults ≡ faults) }
+    {
+        let direction = Direction::new(alloc, faults, delay_ms, number)?;
+        let came = vec![in alloc; 0; MOST].ok()?;
+        Some(Flow {
+            direction,
+            came,
+            from: 0,
+            end: 0,
+        })
+    }
+
+    /// Reads once and writes once, as far as neither waits; returns whether anything moved. What
+    /// comes has this moment.
+    pub(crate) fn pass<L: Lines>(&mut self, way: Way, lines: &mut L, now: u64) -> bool
+        ensures flows { FlowsOn way self.old (L.traffic lines.old) self.new (L.traffic lines.new) }
+        ensures faults { self.new.direction.relay.faults ≡ self.old.direction.relay.faults }
+    {
+        let came = self.read(way, lines);
+        self.take(way, lines, now);
+        let went = self.write(way, lines, now);
+        self.take(way, lines, now);
+        came || went
+    }
+
+    /// Returns whether more may come: all that came is taken, there is room, and it can be counted.
+    fn wants_more(&self) -> bool
+        ensures used { IsTrue result → self.now.waiting ≡ [] }
+        ensures countable { IsTrue result
+            → self.now.direction.relay.frames.offset + MOST < 2 ^ 64 }
+    {
+        self.from >= self.end
+            && self.direction.has_room()
+            && MOST as u64 <= self.direction.countable()
+    }
+
+    /// Returns what is needed of the lines at this moment.
+    pub(crate) fn needs(&self, now: u64) -> Needs {
+        Needs {
+            to_read: self.wants_more(),
+            to_write: !self.direction.waiting(now).is_empty(),
+        }
+    }
+
+    /// Returns whether all that came was passed on.
+    pub(crate) fn is_done(&self) -> bool
+        ensures { IsTrue result → IsDone self.now }
+    {
+        self.from >= self.end && self.direction.wakes_at().is_none()
+    }
+
+    /// Returns the moment at which something waits for the other line next.
+    pub(crate) fn wakes_at(&self) -> Option<u64> {
+        self.direction.wakes_at()
+    }
+
+    fn read<L: Lines>(&mut self, way: Way, lines: &mut L) -> bool
+        ensures flows { FlowsOn way self.old (L.traffic lines.old) self.new (L.traffic lines.new) }
+        ensures direction { self.new.direction ≡ self.old.direction }
+    {
+        if !self.wants_more() {
+            return false;
+        }
+        let came = lines.read(way, self.came.as_mut_slice());
+        self.from = 0;
+        self.end = came.unwrap_or(0);
+        came.is_some()
+    }
+
+    /// Has the direction take what came, as far as there is room.
+    fn take<L: Lines>(&mut self, way: Way, lines: &mut L, now: u64)
+        ensures flows { FlowsOn way self.old (L.traffic lines.old) self.new (L.traffic lines.new) }
+        ensures faults { self.new.direction.relay.faults ≡ self.old.direction.relay.faults }
+    {
+        while self.takes_more() {
+            self.take_some(way, lines, now);
+        }
+    }
+
+    /// Returns whether the direction can take something that came.
+    fn takes_more(&self) -> bool
+        ensures some { IsTrue result → 0 < length self.now.waiting }
+        ensures room { IsTrue result
+            → length self.now.direction.held < self.now.direction.limit }
+    {
+        self.from < self.end && self.direction.has_room()
+    }
+
+    /// Has the direction take what came, up to the end of a frame.
+    fn take_some<L: Lines>(&mut self, way: Way, lines: &mut L, now: u64)
+        requires some { 0 < length self.old.waiting }
+        requires room { length self.old.direction.held < self.old.direction.limit }
+        ensures flows { FlowsOn way self.old (L.traffic lines.old) self.new (L.traffic lines.new) }
+        ensures faults { self.new.direction.relay.faults ≡ self.old.direction.relay.faults }
+        ensures fewer { length self.new.waiting < length self.old.waiting }
+    {
+        let came = &self.came[self.from..self.end];
+        let Taken { used, fate } = self.direction.push(now, came);
+        lines.tell(way, now, &came[..used], fate);
+        self.from += used;
+    }
+
+    fn write<L: Lines>(&mut self, way: Way, lines: &mut L, now: u64) -> bool
+        ensures flows { FlowsOn way self.old (L.traffic lines.old) self.new (L.traffic lines.new) }
+        ensures faults { self.new.direction.relay.faults ≡ self.old.direction.relay.faults }
+    {
+        let waiting = self.direction.waiting(now);
+        if waiting.is_empty() {
+            return false;
+        }
+        let went = lines.write(way, waiting);
+        self.direction.took(went.unwrap_or(0));
+        went.is_some()
+    }
+
+    /// Returns what was counted of what the direction took.
+    pub(crate) fn counts(&self) -> Counts
+        ensures { (start : Lcg) (came taken : List ℕ) → Directs start self.now.direction came taken
+            → result ≡ counts_of self.now.direction.relay.faults start came }
+    {
+        self.direction.counts()
+    }
+}

@@ -1,0 +1,71 @@
+//! The two lines of a bridge, a clock and a wait.
+ghost use Rattle.std.specs.Prelude.{◌≡◌, ◌<◌, ◌≤◌, Bool, Option, length};
+
+use crate::faults::Fate;
+
+/// A direction of a bridge.
+#[derive(Clone, Copy, Debug, PartialEq, Eq)]
+pub enum Way {
+    /// From the first line to the second.
+    There,
+    Back,
+}
+
+/// What is needed for a direction.
+#[derive(Clone, Copy, Debug, PartialEq, Eq)]
+pub struct Needs {
+    /// That the line at its beginning has bytes.
+    pub to_read: bool,
+    /// That the line at its end has room.
+    pub to_write: bool,
+}
+
+/// The lines of a bridge. Of these calls only `wait` waits.
+pub trait Lines {
+    ghost use Rattle.ddcmp_bridge.specs.Joining.{Becomes, Traffic, after_came, after_gone};
+    ghost use Rattle.ddcmp_bridge.specs.Joining.{count_of};
+    ghost use Rattle.ddcmp_bridge.specs.declared.lines.Way.{Way as WayValue};
+
+    // What came over each line, and what each took, if that is known.
+    ghost traffic: { Self → Option Traffic };
+
+    // Whether the line that a direction reads is down.
+    ghost down: { Self → WayValue → Bool };
+
+    /// Reads the line that this direction reads into the front of `space`; none if nothing has
+    /// come, or the line is down.
+    fn read(&mut self, way: Way, space: &mut [u8]) -> Option<usize>
+        requires space { 0 < length space.old }
+        ensures came { Becomes (traffic self.old) (traffic self.new)
+            (after_came way result space.new) }
+        ensures fits { count_of result ≤ length space.new };
+
+    /// Writes bytes from the front of `bytes` to the line that this direction writes; none if it
+    /// has no room, or is down.
+    fn write(&mut self, way: Way, bytes: &[u8]) -> Option<usize>
+        requires some { 0 < length bytes.now }
+        ensures gone { Becomes (traffic self.old) (traffic self.new)
+            (after_gone way result bytes.now) }
+        ensures fits { count_of result ≤ length bytes.now };
+
+    /// Returns whether the line that this direction reads is down.
+    fn is_down(&self, way: Way) -> bool
+        ensures { result ≡ down self.now way };
+
+    /// Returns whether the bridge is to end, whatever is held.
+    fn is_stopped(&self) -> bool;
+
+    /// Bytes that came in this direction were taken at this moment, and completed a frame with this
+    /// fate, if they did.
+    fn tell(&mut self, way: Way, now: u64, bytes: &[u8], fate: Option<Fate>)
+        ensures { traffic self.new ≡ traffic self.old };
+
+    /// Waits until something that is needed is ready, at most this many milliseconds; returns
+    /// whether it could.
+    fn wait(&mut self, there: Needs, back: Needs, most_ms: u64) -> bool
+        ensures { traffic self.new ≡ traffic self.old };
+
+    /// Returns the moment in milliseconds since the bridge began.
+    fn now(&mut self) -> u64
+        ensures { traffic self.new ≡ traffic self.old };
+}
