@@ -1,8 +1,9 @@
 //! A bridge over two lines, from their opening to its end.
+use crate::bridge_intake::Intake;
+use crate::bridge_live::LiveLines;
 use crate::bridge_save::{Save, remove};
-use crate::bridge_side::{Needs, Sides};
+use crate::bridge_side::Sides;
 use crate::bridge_trace::Trace;
-use crate::bridge_way::Way;
 use crate::event::Event;
 use crate::fault::{Attempt, Cause, NotOpened};
 use crate::line::Line;
@@ -10,7 +11,7 @@ use crate::line_name::LineName;
 use crate::opening::{OpenRefusal, Opened, Opener};
 use crate::system::System;
 use crate::waiting::Waiting;
-use ddcmp_bridge::{Counts, Faults};
+use ddcmp_bridge::{Bridge, Counts, Faults, Lines, Way};
 use ddcmp_session::{Down, Wanted};
 use ddcmp_station::{Clock, Elapsed};
 use ddcmp_tap::{NoMemory, Notation, Side};
@@ -78,12 +79,7 @@ where
         }
     };
     let ended = match Ways::new(alloc, &options, save_first, save_second) {
-        Some(mut ways) => {
-            let ended = ways.bridge(system, alloc, first, second, &options);
-            tell_unsaved(system, options.save_first, ways.there.unsaved());
-            tell_unsaved(system, options.save_second, ways.back.unsaved());
-            ended
-        }
+        Some(ways) => ways.bridge(system, alloc, first, second, &options),
         None => Err(BridgeFault::Memory),
     };
     if ended.is_err() {
@@ -202,20 +198,12 @@ impl<'a> Opening<'a> {
     }
 }
 
-/// Both directions.
+/// All that a bridge needs but its lines.
+#[derive(Drop)]
 struct Ways {
-    there: Way,
-    back: Way,
-}
-
-// By hand, so that they are dropped by a call: a derived one is written out at each such place.
-impl Drop for Ways {
-    fn drop(self) {
-        let Ways {
-            there: _there,
-            back: _back,
-        } = self;
-    }
+    bridge: Bridge,
+    there: Intake,
+    back: Intake,
 }
 
 /// Makes a log of what comes from a side, if one is asked for.
@@ -241,28 +229,15 @@ impl Ways {
         let there = trace_of(alloc, options, Side::Caller).ok()?;
         let back = trace_of(alloc, options, Side::Called).ok()?;
         Some(Ways {
-            there: Way::new(
-                alloc,
-                options.faults,
-                options.delay_ms,
-                0,
-                there,
-                save_first,
-            )?,
-            back: Way::new(
-                alloc,
-                options.faults,
-                options.delay_ms,
-                1,
-                back,
-                save_second,
-            )?,
+            bridge: Bridge::new(alloc, options.faults, options.delay_ms)?,
+            there: Intake::new(alloc, there, save_first)?,
+            back: Intake::new(alloc, back, save_second)?,
         })
     }
 
     /// Opens both lines, and passes frames on between them.
     fn bridge<'a, S: System>(
-        &mut self,
+        self,
         system: &S,
         alloc: Global,
         first: LineName<'a>,
@@ -270,106 +245,66 @@ impl Ways {
         options: &BridgeOptions<'a>,
     ) -> Result<BridgeEnd, BridgeFault<'a>> {
         let mut clock = Elapsed::new(system);
-        let ends_at = 1000 * u64::from(options.seconds);
+        let ends_at = ends_at(options);
         let mut one = Opening::new(system, alloc, first)?;
         let mut two = Opening::new(system, alloc, second)?;
         one.listen(system)?;
         two.listen(system)?;
         let Some(first) = one.open(system, &mut clock, ends_at)? else {
-            return Ok(self.ended(None, None));
+            return Ok(end_of(&self.bridge, &self.there, &self.back, false));
         };
         let Some(second) = two.open(system, &mut clock, ends_at)? else {
-            return Ok(self.ended(None, None));
+            return Ok(end_of(&self.bridge, &self.there, &self.back, false));
         };
         match Sides::new(system, alloc, first, second) {
-            Ok(mut sides) => Ok(self.run(system, &mut sides, &mut clock, ends_at)),
+            Ok(sides) => Ok(self.run(system, sides, clock, options)),
             Err(error) => Err(no_waiting(error.kind())),
         }
     }
 
-    /// Passes frames on both ways, until a line is down and all that came over it was passed on, or
-    /// the time is over.
-    fn run<E: Eprint, C: Clock>(
-        &mut self,
+    /// Passes frames on both ways, and prints which line is down then, and which file can't be
+    /// written.
+    fn run<E: Eprint, C: Clock + Drop>(
+        self,
         system: &E,
-        sides: &mut Sides,
-        clock: &mut C,
-        ends_at: u64,
+        sides: Sides,
+        clock: C,
+        options: &BridgeOptions<'_>,
     ) -> BridgeEnd {
-        for _turn in 0..u64::MAX {
-            let now = clock.now();
-            let went = self
-                .there
-                .pass(&mut sides.first, &mut sides.second, system, now);
-            let came = self
-                .back
-                .pass(&mut sides.second, &mut sides.first, system, now);
-            let passed = clock.now();
-            if self.is_over(sides) || self.is_unsaved() || passed >= ends_at {
-                break;
-            }
-            let left = self.wakes_at(now, ends_at).saturating_sub(passed);
-            if !went && !came && !self.wait(sides, now, left) {
-                break;
-            }
-        }
-        tell_down(system, "first", sides.first.down);
-        tell_down(system, "second", sides.second.down);
-        self.ended(sides.first.down, sides.second.down)
-    }
-
-    /// Whether a line is down, and nothing that came over it can be passed on any more.
-    fn is_over(&self, sides: &Sides) -> bool {
-        match (sides.first.down, sides.second.down) {
-            (None, None) => false,
-            (Some(_), None) => self.there.is_done(),
-            (None, Some(_)) => self.back.is_done(),
-            (Some(_), Some(_)) => true,
-        }
-    }
-
-    /// Whether what came over a line can't be saved any more.
-    fn is_unsaved(&self) -> bool {
-        self.there.unsaved().is_some() || self.back.unsaved().is_some()
-    }
-
-    /// Returns when it is over, or a frame is due that isn't yet at this moment.
-    fn wakes_at(&self, now: u64, ends_at: u64) -> u64 {
-        ends_at
-            .min(later_than(now, self.there.wakes_at()))
-            .min(later_than(now, self.back.wakes_at()))
-    }
-
-    /// Waits until a side is ready for what was needed of it at this moment.
-    fn wait(&self, sides: &mut Sides, now: u64, most_ms: u64) -> bool {
-        let first = Needs {
-            to_read: self.there.wants_more() && sides.first.down.is_none(),
-            to_write: self.back.has_waiting(now) && sides.first.down.is_none(),
+        let Ways {
+            mut bridge,
+            there,
+            back,
+        } = self;
+        let mut lines = LiveLines {
+            system,
+            clock,
+            sides,
+            there,
+            back,
         };
-        let second = Needs {
-            to_read: self.back.wants_more() && sides.second.down.is_none(),
-            to_write: self.there.has_waiting(now) && sides.second.down.is_none(),
-        };
-        sides.wait(first, second, most_ms)
-    }
-
-    fn ended(&self, first: Option<Down>, second: Option<Down>) -> BridgeEnd {
-        BridgeEnd {
-            there: self.there.counts(),
-            back: self.back.counts(),
-            has_failed: has_failed(first) || has_failed(second) || self.is_unsaved(),
-        }
+        let _ended = bridge.run(&mut lines, ends_at(options));
+        let first = lines.sides.first.down;
+        let second = lines.sides.second.down;
+        tell_down(system, "first", first);
+        tell_down(system, "second", second);
+        tell_unsaved(system, options.save_first, lines.there.unsaved());
+        tell_unsaved(system, options.save_second, lines.back.unsaved());
+        let has_failed = has_failed(first) || has_failed(second) || lines.is_stopped();
+        end_of(&bridge, &lines.there, &lines.back, has_failed)
     }
 }
 
-/// Returns the moment if it is yet to come, and else the last that there is.
-fn later_than(now: u64, moment: Option<u64>) -> u64 {
-    match moment {
-        Some(moment) => match moment > now {
-            true => moment,
-            false => u64::MAX,
-        },
-        None => u64::MAX,
+/// Returns the moment at which the time of a bridge is over.
+fn ends_at(options: &BridgeOptions<'_>) -> u64 {
+    1000 * u64::from(options.seconds)
+}
+
+fn end_of(bridge: &Bridge, there: &Intake, back: &Intake, has_failed: bool) -> BridgeEnd {
+    BridgeEnd {
+        there: there.counts(bridge.counts(Way::There)),
+        back: back.counts(bridge.counts(Way::Back)),
+        has_failed,
     }
 }
 

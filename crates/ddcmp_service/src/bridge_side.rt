@@ -1,6 +1,10 @@
 //! The two lines of a bridge, and waiting for both.
+ghost use Rattle.std.specs.Prelude.{◌≤◌, length};
+ghost use Rattle.ddcmp_bridge.specs.Joining.{count_of};
+
 use crate::line::Line;
 use crate::waiting::{Descriptor, Ready};
+use ddcmp_bridge::Needs;
 use ddcmp_session::{Down, Moved};
 use mio::{Events, Interest, Poll, Token};
 use std::alloc::Global;
@@ -36,7 +40,9 @@ impl Drop for Side {
 
 impl Side {
     /// Reads what has come; none if nothing has, or the line is down.
-    pub(crate) fn read(&mut self, space: &mut [u8]) -> Option<usize> {
+    pub(crate) fn read(&mut self, space: &mut [u8]) -> Option<usize>
+        ensures { count_of result ≤ length space.new }
+    {
         if self.down.is_some() || !self.ready.ready.to_read {
             return None;
         }
@@ -55,7 +61,9 @@ impl Side {
     }
 
     /// Writes bytes from the front of `bytes`; none if there is no room, or the line is down.
-    pub(crate) fn write(&mut self, bytes: &[u8]) -> Option<usize> {
+    pub(crate) fn write(&mut self, bytes: &[u8]) -> Option<usize>
+        ensures { count_of result ≤ length bytes.now }
+    {
         if self.down.is_some() || !self.ready.ready.to_write {
             return None;
         }
@@ -77,13 +85,6 @@ impl Side {
     pub(crate) fn has_datagrams(&self) -> bool {
         self.line.has_datagrams()
     }
-}
-
-/// What is needed of a side.
-#[derive(Clone, Copy)]
-pub(crate) struct Needs {
-    pub(crate) to_read: bool,
-    pub(crate) to_write: bool,
 }
 
 /// Both lines.

@@ -3,10 +3,11 @@
 #![tactic(auto)]
 
 mod bridge;
+mod bridge_intake;
+mod bridge_live;
 mod bridge_save;
 mod bridge_side;
 mod bridge_trace;
-mod bridge_way;
 mod datagram;
 mod ending;
 mod event;
