@@ -53,7 +53,7 @@ static BRIDGE_OPTIONS: [CommandOption; 12] = [
         name: "second",
         takes: Takes::Place("LINE"),
         is_required: true,
-        help: "Line to open once the first is open",
+        help: "Second line, opened after the first; both listen from the start",
     },
     CommandOption {
         name: "seconds",
