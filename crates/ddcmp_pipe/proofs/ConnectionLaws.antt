@@ -86,7 +86,7 @@ two_runs first second steps over once =
 -- ---- one connection is the last
 
 -- with an empty inbox it is started
-starts-new : (s : SessionView) → s.link.station.core.station.inbox ≡ [] → starts s ≡ true
+pub starts-new : (s : SessionView) → s.link.station.core.station.inbox ≡ [] → starts s ≡ true
 starts-new s empty =
     ap
     (λ inbox. is_ok (answer_to_start (record (after_halt s.link.station.core.station) {

@@ -13,7 +13,7 @@ use Rattle.ddcmp_session.specs.Calls.{OutputTook, Closed, SessionStep}
 use Rattle.ddcmp_session.specs.Connections.{AreDone, Connection, Does, after_all, after_step}
 use Rattle.ddcmp_session.specs.Devices.{BuffersView, Traffic}
 use Rattle.ddcmp_session.proofs.LinesGo.{then-over}
-use Rattle.ddcmp_pipe.specs.Connections.{first_connection, read_since}
+use Rattle.ddcmp_pipe.specs.Connections.{first_connection}
 use Rattle.ddcmp_pipe.specs.EachLine.{LineIsOver, EndsALine, read_before, read_over_lines}
 use Rattle.ddcmp_pipe.specs.Pipe.{Made}
 use Rattle.ddcmp_pipe.specs.Runs.{Ran, WasEnded, got_to}

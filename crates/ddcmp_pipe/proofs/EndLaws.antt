@@ -30,8 +30,8 @@ use Rattle.ddcmp_pipe.proofs.Writing.{ended_keeps, entries_keep}
 
 -- ---- the size of an output stays
 
-size_stays : (call : SessionCall) (used : List ℕ) (old new : SessionView) → Does call used old new
-    → new.output.size ≡ old.output.size
+pub size_stays : (call : SessionCall) (used : List ℕ) (old new : SessionView)
+    → Does call used old new → new.output.size ≡ old.output.size
 size_stays (Typed bytes) used old new d =
     let s : SessionView = record old { messages = after_input bytes old.messages } in
     same-at (λ x. x.output.size) new _ d.state

@@ -30,12 +30,12 @@ use Rattle.ddcmp_pipe.proofs.Texts.{mail_is, mail_more, nothing_lost, only_mail}
 use Rattle.ddcmp_pipe.proofs.Writing.{Writes, writes_all, writes_step}
 
 -- an output that is empty has room for a message of any length
-fits : (made : Made) (s : SessionView)
+pub fits : (made : Made) (s : SessionView)
     → s.link.station.core.limits.longest ≡ made.options.config.max
     → s.output.size ≡ (session_of made).session.output.size → room_for_mail s ≤ s.output.size
 fits made s longest size = omega (arith, longest, size)
 
-none_first : (inbox : List (List ℕ)) → first_message inbox ≡ None → inbox ≡ []
+pub none_first : (inbox : List (List ℕ)) → first_message inbox ≡ None → inbox ≡ []
 none_first [] is = refl
 none_first (m ∷ rest) is = cc
 

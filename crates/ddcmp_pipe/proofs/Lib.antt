@@ -23,6 +23,7 @@ pub mod Outcomes
 pub mod OverLines
 pub mod Pipes
 pub mod Reading
+pub mod Ready
 pub mod RunLaws
 pub mod Story
 pub mod Streaming

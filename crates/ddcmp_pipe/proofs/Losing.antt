@@ -27,7 +27,7 @@ use Rattle.ddcmp_core.specs.Table.{StationState, after_accept}
 use Rattle.ddcmp_core.specs.Table.{after_expire_in, after_expire_with, after_halt, after_next}
 use Rattle.ddcmp_core.specs.Table.{after_start, is_on, is_running, next}
 use Rattle.ddcmp_core.specs.Table.{after_enter_maintenance, is_maintenance}
-use Rattle.ddcmp_core.specs.Table.{next_by, on, on_by, outgoing, start_refusal, answer_to_start}
+use Rattle.ddcmp_core.specs.Table.{next_by, on, on_by, outgoing, start_refusal}
 use Rattle.ddcmp_proto.specs.Bytes.{after_item, after_items, items_added, notices_of_piece}
 use Rattle.ddcmp_proto.specs.Bytes.{received_of}
 use Rattle.ddcmp_station.specs.Driving.{core_after_expire, core_after_take_arm, deadline_at, is_due}

@@ -17,7 +17,7 @@ use Rattle.ddcmp_session.specs.Calls.{OutputTook, Closed, SessionStep, SessionHi
 use Rattle.ddcmp_session.specs.Calls.{is_told_in}
 use Rattle.ddcmp_session.specs.Connections.{AreDone, Connection, Does, after_all, after_step}
 use Rattle.ddcmp_session.specs.Devices.{BuffersView, Traffic, nothing_read}
-use Rattle.ddcmp_session.specs.Lines.{AllKeepOpen, Closes, Ends, KeepsOpen}
+use Rattle.ddcmp_session.specs.Lines.{AllKeepOpen, Closes, Ends, IsReady, KeepsOpen, WentOver}
 use Rattle.ddcmp_session.specs.Messages.{after_input, entries_of_input}
 use Rattle.ddcmp_session.proofs.InputGoes.{entries-read}
 use Rattle.ddcmp_session.proofs.GoingLaws.{same-at}
@@ -372,6 +372,26 @@ module _ (a b : Ran) (f : first_refusal a.made.options.config ≡ None)
 
 -- ---- how a run ends
 
+pub ended-after : (made : Made) (is_well : Bool) (held : BuffersView) (now : SessionView)
+    (known : Option Traffic) → StandsFor made.line []
+    → (ends : Ends is_well nothing_read (session_of made).session (Some no_traffic) held now known)
+    → (t : Traffic) × (known ≡ Some t)
+    × (went : WentOver (IsReady (session_of made).session) (first_connection made) ends.unclosed
+    held t)
+    × WasEnded (record { made = made; steps = went.steps }) held t now
+ended-after made is_well held now known stands ends =
+    let a = ends.over (first_connection made) no_traffic refl refl (agrees_first made stands) in
+    let w = a.2 in (
+      a.0,
+      a.1,
+      w,
+      record {
+        only = w.only;
+        agrees = w.agrees;
+        closes = subst (λ s. Closes held s now) (sym w.session) ends.closes;
+      },
+    )
+
 pub runs_to_end : (made : Made) (is_well : Bool) (held : BuffersView) (now : SessionView)
     (known : Option Traffic) → StandsFor made.line []
     → Ends is_well nothing_read (session_of made).session (Some no_traffic) held now known
@@ -379,15 +399,5 @@ pub runs_to_end : (made : Made) (is_well : Bool) (held : BuffersView) (now : Ses
     × (steps : List SessionStep) × AreDone steps (first_connection made)
     × WasEnded (record { made = made; steps = steps }) held t now
 runs_to_end made is_well held now known stands ends =
-    let a = ends.over (first_connection made) no_traffic refl refl (agrees_first made stands) in
-    let w = a.2 in (
-      a.0,
-      a.1,
-      w.steps,
-      w.calls,
-      record {
-        only = w.only;
-        agrees = w.agrees;
-        closes = subst (λ s. Closes held s now) (sym w.session) ends.closes;
-      },
-    )
+    let a = ended-after made is_well held now known stands ends in
+    (a.0, a.1, a.2.steps, a.2.calls, a.3)

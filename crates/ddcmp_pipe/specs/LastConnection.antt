@@ -25,6 +25,12 @@ StartsLast (step ∷ rest) c =
     (connections_in rest ≡ 0 → StartsIf step.call c.history.session)
     × StartsLast rest (after_step step c)
 
+-- Each call that connected its session started it.
+abbrev pub StartsEach : List SessionStep → Connection → Type 0
+StartsEach [] c = ⊤
+StartsEach (step ∷ rest) c =
+    StartsIf step.call c.history.session × StartsEach rest (after_step step c)
+
 -- After each of these calls after which neither is connected again, the lines are streams.
 abbrev pub EndOverStreams : List (End × SessionStep) → Connections → Type 0
 EndOverStreams [] p = ⊤

@@ -1,18 +1,19 @@
 //! Two runs over devices, over one line after the other: what the input of one gave is what the
 //! output of the other took.
-ghost use Rattle.std.specs.Prelude.{◌≡◌, Bool, List, [], Option, Some};
+ghost use Rattle.std.specs.Prelude.{◌≡◌, ◌++◌, Bool, List, [], Option, Some};
 ghost use Rattle.ddcmp_frame.specs.Reader.{StandsFor};
 ghost use Rattle.ddcmp_run.specs.declared.event.End.{End};
 ghost use Rattle.ddcmp_run.specs.declared.event.End.TheVariants.{A, B};
 ghost use Rattle.ddcmp_session.specs.Session.{SessionView};
 ghost use Rattle.ddcmp_session.specs.Calls.{SessionStep};
-ghost use Rattle.ddcmp_session.specs.Connections.{AreDone, after_all};
+ghost use Rattle.ddcmp_session.specs.Connections.{AreDone, Connection, after_all};
 ghost use Rattle.ddcmp_session.specs.Devices.{BuffersView, Traffic, nothing_read};
 ghost use Rattle.ddcmp_session.specs.Lines.{Ends};
 ghost use Rattle.ddcmp_pipe.specs.Connections.{AreCalls, Connections, after_steps};
 ghost use Rattle.ddcmp_pipe.specs.Connections.{first_connection};
 ghost use Rattle.ddcmp_pipe.specs.EachLine.{DeliversLine, IsReadOverLines};
-ghost use Rattle.ddcmp_pipe.specs.LastConnection.{IsKeptOverLastConnection};
+ghost use Rattle.ddcmp_pipe.specs.LastConnection.{IsKeptOverLastConnection, StartsEach};
+ghost use Rattle.ddcmp_pipe.specs.LastConnection.{StartsLast};
 ghost use Rattle.ddcmp_pipe.specs.Loops.{no_traffic};
 ghost use Rattle.ddcmp_pipe.specs.Pipe.{Made, session_of};
 ghost use Rattle.ddcmp_pipe.specs.Runs.{DeliversAll, DeliversFirst, FilesBegin, FilesPass};
@@ -27,6 +28,20 @@ pub fn runs_end()
         → (t : Traffic) × (known ≡ Some t)
         × (steps : List SessionStep) × AreDone steps (first_connection made)
         × WasEnded (record { made = made; steps = steps }) held t now }
+{}
+
+/// When such a session was connected, that returned true each time. So the premise of
+/// `runs_over_the_last_connection` that it did so last holds of its calls up to any point.
+pub fn runs_start()
+    ensures each { (made : Made) (is_well : Bool) (held : BuffersView) (now : SessionView)
+        (known : Option Traffic) → StandsFor made.line []
+        → Ends is_well nothing_read (session_of made).session (Some no_traffic) held now known
+        → (t : Traffic) × (known ≡ Some t)
+        × (steps : List SessionStep) × AreDone steps (first_connection made)
+        × WasEnded (record { made = made; steps = steps }) held t now
+        × StartsEach steps (first_connection made) }
+    ensures last { (before after : List SessionStep) (c : Connection)
+        → StartsEach (before ++ after) c → StartsLast before c }
 {}
 
 /// The calls of two sessions, in whatever order they were made, are those of the laws of `pipe`,

@@ -14,8 +14,9 @@ use Rattle.ddcmp_session.specs.Calls.{after_session_steps}
 use Rattle.ddcmp_session.specs.Connections.{Connection, Does, AreDone, after_all, after_step}
 use Rattle.ddcmp_session.specs.Devices.{Agrees, AreOfRun, Becomes, BuffersView, GoesOn}
 use Rattle.ddcmp_session.specs.Devices.{IsOfRun, Reports, Traffic}
-use Rattle.ddcmp_session.specs.Lines.{AllKeepOpen, Closes, GoesOver, KeepsOpen, MayEndWell}
-use Rattle.ddcmp_session.specs.Lines.{ReportsOver, line_begun, none_received}
+use Rattle.ddcmp_session.specs.Lines.{AllKeepOpen, AllReady, Closes, GoesIf, GoesOver, IsReady}
+use Rattle.ddcmp_session.specs.Lines.{KeepsOpen, MayEndWell, ReadyIf, ReportsOver, StaysOver}
+use Rattle.ddcmp_session.specs.Lines.{line_begun, none_received}
 use Rattle.ddcmp_session.specs.Timing.{PassesTime, after_failure, after_line}
 use Rattle.ddcmp_session.specs.declared.buffers.lines.Stop.TheVariants.{the_data, Device}
 use Rattle.ddcmp_session.specs.declared.devices.Fault.{Fault}
@@ -77,10 +78,29 @@ all-over (step ∷ rest) c of does =
       ap (after_all rest) one.1 ∙ more.1,
     )
 
-pub goes-over : {h0 h1 : BuffersView} {s0 s1 : SessionView} {k0 k1 : Option Traffic}
-    → GoesOn h0 s0 k0 h1 s1 k1 → GoesOver h0 s0 k0 h1 s1 k1
+one-ready : (call : SessionCall) (s : SessionView) → IsOfRun call → ReadyIf call s
+one-ready (Typed used) s of = tt
+one-ready InputEnded s of = tt
+one-ready (Received used) s of = tt
+one-ready (Filled n) s of = tt
+one-ready (LineTook n) s of = tt
+one-ready (TimedOut now) s of = tt
+one-ready (Delivered has) s of = tt
+one-ready (OutputTook n) s of = tt
+one-ready TimePassed s of = tt
+one-ready Connected s of = absurd of
+one-ready (LineEnded reported) s of = tt
+one-ready (Closed left over reported) s of = tt
+
+all-ready : (steps : List SessionStep) (c : Connection) → AreOfRun steps → AllReady steps c
+all-ready [] c of = tt
+all-ready (step ∷ rest) c of =
+    (one-ready step.call c.history.session of.0, all-ready rest (after_step step c) of.1)
+
+pub goes-over : {R : Type 0} {h0 h1 : BuffersView} {s0 s1 : SessionView} {k0 k1 : Option Traffic}
+    → GoesOn h0 s0 k0 h1 s1 k1 → GoesIf R h0 s0 k0 h1 s1 k1
 unfolding Over
-goes-over {h0} {h1} goes = λ c t is was agrees.
+goes-over {R} {h0} {h1} goes = λ c t is was agrees.
     let a = goes c.history t is was agrees in
     let w = a.2 in
     let o = all-over w.steps c w.only w.calls in
@@ -91,6 +111,7 @@ goes-over {h0} {h1} goes = λ c t is was agrees.
         steps = w.steps;
         calls = o.0;
         only = all-open w.steps w.only;
+        ready = λ r. all-ready w.steps c w.only;
         session = ap (λ (x : SessionHistory). x.session) same ∙ w.session;
         agrees = subst (λ h. Agrees h1 h a.0) (sym same) w.agrees;
       },
@@ -110,9 +131,17 @@ open-then : (xs ys : List SessionStep) → AllKeepOpen xs → AllKeepOpen ys →
 open-then [] ys some more = more
 open-then (x ∷ xs) ys some more = (some.0, open-then xs ys some.1 more)
 
-pub over-then : {h0 h1 h2 : BuffersView} {s0 s1 s2 : SessionView} {k0 k1 k2 : Option Traffic}
-    → GoesOver h0 s0 k0 h1 s1 k1 → GoesOver h1 s1 k1 h2 s2 k2 → GoesOver h0 s0 k0 h2 s2 k2
-over-then {h0} {h1} {h2} p q = λ c t is k agrees.
+ready-then : (xs ys : List SessionStep) (c : Connection) → AllReady xs c
+    → AllReady ys (after_all xs c) → AllReady (xs ++ ys) c
+unfolding after_all
+ready-then [] ys c some more = more
+ready-then (x ∷ xs) ys c some more = (some.0, ready-then xs ys (after_step x c) some.1 more)
+
+-- The first leads to where the second begins, if it began so itself.
+pub over-next : {R Q : Type 0} {h0 h1 h2 : BuffersView} {s0 s1 s2 : SessionView}
+    {k0 k1 k2 : Option Traffic} → GoesIf R h0 s0 k0 h1 s1 k1 → (R → Q)
+    → GoesIf Q h1 s1 k1 h2 s2 k2 → GoesIf R h0 s0 k0 h2 s2 k2
+over-next {R} {Q} {h0} {h1} {h2} p then q = λ c t is k agrees.
     let a = p c t is k agrees in
     let w = a.2 in
     let b = q (after_all w.steps c) a.0 w.session a.1 w.agrees in
@@ -124,10 +153,20 @@ over-then {h0} {h1} {h2} p q = λ c t is k agrees.
         steps = w.steps ++ v.steps;
         calls = r.0;
         only = open-then w.steps v.steps w.only v.only;
+        ready = λ begins. ready-then w.steps v.steps c (w.ready begins) (v.ready (then begins));
         session = ap (λ (x : Connection). x.history.session) r.1 ∙ v.session;
         agrees = subst (λ (x : Connection). Agrees h2 x.history b.0) (sym r.1) v.agrees;
       },
     )
+
+pub over-then : {R : Type 0} {h0 h1 h2 : BuffersView} {s0 s1 s2 : SessionView}
+    {k0 k1 k2 : Option Traffic} → GoesIf R h0 s0 k0 h1 s1 k1 → StaysOver h1 s1 k1 h2 s2 k2
+    → GoesIf R h0 s0 k0 h2 s2 k2
+over-then p q = over-next p (λ begins. tt) q
+
+-- what a session is ready by that changed nothing of that
+pub ready-by : {to new : SessionView} → new ≡ to → IsReady to → IsReady new
+ready-by e ready = subst IsReady (sym e) ready
 
 -- ---- the end of a line, and of the run
 
@@ -138,9 +177,10 @@ module _ {held : BuffersView} {known : Option Traffic} (old new : SessionView)
     (form : form_of new.messages ≡ form_of old.messages)
     (reads : old.is_read ≡ true → new.is_read ≡ true)
     (line : new.link.station.line ≡ old.link.station.line) where
-  pub left-over : (reported : Bool) → HasLeft reported old new → GoesOver held old known held new known
+  pub left-over : {R : Type 0} (reported : Bool) → HasLeft reported old new
+      → GoesIf R held old known held new known
   unfolding after_all
-  left-over reported does = λ c t is was a.
+  left-over {R} reported does = λ c t is was a.
       let h = c.history in (
         t,
         was,
@@ -148,6 +188,7 @@ module _ {held : BuffersView} {known : Option Traffic} (old new : SessionView)
           steps = record { call = LineEnded reported; session = new } ∷ [];
           calls = (subst (λ (x : SessionView). HasLeft reported x new) (sym is) does, tt);
           only = (tt, tt);
+          ready = λ begins. (tt, tt);
           session = refl;
           agrees =
               quiet-agrees (LineEnded reported) held known h new t refl refl refl refl refl
@@ -157,9 +198,9 @@ module _ {held : BuffersView} {known : Option Traffic} (old new : SessionView)
         },
       )
 
-  pub passed-over : PassesTime old new → GoesOver held old known held new known
+  pub passed-over : {R : Type 0} → PassesTime old new → GoesIf R held old known held new known
   unfolding after_all
-  passed-over does = λ c t is was a.
+  passed-over {R} does = λ c t is was a.
       let h = c.history in (
         t,
         was,
@@ -167,6 +208,7 @@ module _ {held : BuffersView} {known : Option Traffic} (old new : SessionView)
           steps = record { call = TimePassed; session = new } ∷ [];
           calls = (subst (λ (x : SessionView). PassesTime x new) (sym is) does, tt);
           only = (tt, tt);
+          ready = λ begins. (tt, tt);
           session = refl;
           agrees =
               quiet-agrees TimePassed held known h new t refl refl refl refl refl
@@ -177,8 +219,8 @@ module _ {held : BuffersView} {known : Option Traffic} (old new : SessionView)
       )
 
 -- the station was halted, since its line ended
-pub line-left : {held : BuffersView} {known : Option Traffic} (reported : Bool)
-    (old new : SessionView) → HasLeft reported old new → GoesOver held old known held new known
+pub line-left : {R : Type 0} {held : BuffersView} {known : Option Traffic} (reported : Bool)
+    (old new : SessionView) → HasLeft reported old new → GoesIf R held old known held new known
 line-left reported old new does =
     left-over old new
     (same-view (λ x. form_of x.messages) new _ does.stays)
@@ -187,8 +229,8 @@ line-left reported old new does =
     reported does
 
 -- a moment passed without a line
-pub time-passed : {held : BuffersView} {known : Option Traffic} (old new : SessionView)
-    → PassesTime old new → GoesOver held old known held new known
+pub time-passed : {R : Type 0} {held : BuffersView} {known : Option Traffic}
+    (old new : SessionView) → PassesTime old new → GoesIf R held old known held new known
 time-passed old new does =
     passed-over old new
     (same-view (λ x. form_of x.messages) new _ does.stays)
@@ -231,6 +273,7 @@ line-connected {held} {k} {k'} old new does clear becomes = λ c t is was a.
           tt,
         );
         only = (tt, tt);
+        ready = λ begins. (subst IsReady (sym is) begins, tt);
         session = refl;
         agrees = record {
           read =
@@ -258,8 +301,8 @@ line-connected {held} {k} {k'} old new does clear becomes = λ c t is was a.
 -- ---- nothing was done, and faults
 
 -- what GoesOver says of a session that stays as it is
-pub none-over : {held : BuffersView} {s s' : SessionView} {k k' : Option Traffic}
-    → s' ≡ s → k' ≡ k → GoesOver held s k held s' k'
+pub none-over : {R : Type 0} {held : BuffersView} {s s' : SessionView} {k k' : Option Traffic}
+    → s' ≡ s → k' ≡ k → GoesIf R held s k held s' k'
 none-over same known = goes-over (stays same known)
 
 pub reports-over : {h0 h1 : BuffersView} {s0 s1 : SessionView} {k0 k1 k2 : Option Traffic}
@@ -278,8 +321,9 @@ reports-later p q = λ c t now is was agrees at.
 
 -- ---- no line
 
-pub passed-now : {held : BuffersView} {known : Option Traffic} (now : ℕ) (old new : SessionView)
-    → new ≡ after_time now old → GoesOver held old known held new known
+pub passed-now : {R : Type 0} {held : BuffersView} {known : Option Traffic} (now : ℕ)
+    (old new : SessionView)
+    → new ≡ after_time now old → GoesIf R held old known held new known
 passed-now now old new does =
     let course = same-view (λ x. x.course) new (after_time now old) does in
     time-passed old new (record {
@@ -288,8 +332,18 @@ passed-now now old new does =
       stays = does ∙ ap (λ c. record old { course = c }) (sym course);
     })
 
-pub failed : {held : BuffersView} {known : Option Traffic} (now : ℕ) (old new : SessionView)
-    → new ≡ after_failure (after_time now old) → GoesOver held old known held new known
+-- and then it goes on over its lines
+pub passes-then : {R : Type 0} {h0 h1 h2 : BuffersView} {s0 s2 : SessionView}
+    {k0 k1 k1' k2 : Option Traffic} (now : ℕ) (old new : SessionView)
+    → GoesIf R h0 s0 k0 h1 old k1 → (R → IsReady old) → k1' ≡ k1 → new ≡ after_time now old
+    → GoesOver h1 new k1' h2 s2 k2 → GoesIf R h0 s0 k0 h2 s2 k2
+passes-then now old new p ready same does q =
+    over-next (over-then (over-then p (none-over refl same)) (passed-now now old new does))
+    (λ begins. ready-by does (ready begins)) q
+
+pub failed : {R : Type 0} {held : BuffersView} {known : Option Traffic} (now : ℕ)
+    (old new : SessionView)
+    → new ≡ after_failure (after_time now old) → GoesIf R held old known held new known
 failed now old new does =
     let course = same-view (λ x. x.course) new (after_failure (after_time now old)) does in
     time-passed old new (record {
@@ -298,8 +352,9 @@ failed now old new does =
       stays = does ∙ ap (λ c. record old { course = c }) (sym course);
     })
 
-pub paused : {held : BuffersView} {known : Option Traffic} (now : ℕ) (old new : SessionView)
-    → new ≡ after_line (after_time now old) → GoesOver held old known held new known
+pub paused : {R : Type 0} {held : BuffersView} {known : Option Traffic} (now : ℕ)
+    (old new : SessionView)
+    → new ≡ after_line (after_time now old) → GoesIf R held old known held new known
 paused now old new does =
     let course = same-view (λ x. x.course) new (after_line (after_time now old)) does in
     time-passed old new (record {

@@ -1,9 +1,10 @@
 -- How a session goes on over its devices, over one line after the other, and how its run ends.
-use Rattle.std.specs.Prelude.{◌≡◌, ◌⊎◌, ⊤, Bool, true, List, [], ◌∷◌, Option, Some, None}
-use Rattle.ddcmp_session.specs.Session.{SessionView, is_delivered}
+use Rattle.std.specs.Prelude.{◌≡◌, ◌≤◌, ◌⊎◌, ⊤, Bool, true, List, [], ◌∷◌, Option, Some, None}
+use Rattle.ddcmp_window.specs.Store.{first_message}
+use Rattle.ddcmp_session.specs.Session.{SessionView, is_delivered, room_for_mail}
 use Rattle.ddcmp_session.specs.Calls.{SessionCall, SessionHistory, SessionStep, HasClosed, Closed}
-use Rattle.ddcmp_session.specs.Calls.{after_session_step}
-use Rattle.ddcmp_session.specs.Connections.{Connection, AreDone, after_all}
+use Rattle.ddcmp_session.specs.Calls.{Connected, after_session_step}
+use Rattle.ddcmp_session.specs.Connections.{Connection, AreDone, after_all, after_step}
 use Rattle.ddcmp_session.specs.Devices.{Agrees, BuffersView, HasReported, Traffic}
 use Rattle.ddcmp_session.specs.declared.devices.Fault.{Fault}
 
@@ -24,22 +25,50 @@ abbrev pub AllKeepOpen : List SessionStep → Type 0
 AllKeepOpen [] = ⊤
 AllKeepOpen (step ∷ rest) = KeepsOpen step.call × AllKeepOpen rest
 
+-- It has no received message left, if its output is large enough for one, as that of each new
+-- session is.
+abbrev pub IsReady : SessionView → Type 0
+IsReady s = room_for_mail s ≤ s.output.size
+    → first_message s.link.station.core.station.inbox ≡ None
+
+abbrev pub ReadyIf : SessionCall → SessionView → Type 0
+ReadyIf Connected s = IsReady s
+ReadyIf _ s = ⊤
+
+-- Each call that connects a session finds it so.
+abbrev pub AllReady : List SessionStep → Connection → Type 0
+AllReady [] c = ⊤
+AllReady (step ∷ rest) c =
+    ReadyIf step.call c.history.session × AllReady rest (after_step step c)
+
 -- The history of a session went on to this one, over as many lines as it was connected on, without
--- closing it, and agrees with its devices again.
-pub record WentOver (c : Connection) (new : SessionView) (held : BuffersView) (t : Traffic)
-    : Type 0 where
+-- closing it, and agrees with its devices again. If it began so, it was ready for each line.
+pub record WentOver (Begins : Type 0) (c : Connection) (new : SessionView) (held : BuffersView)
+    (t : Traffic) : Type 0 where
   pub steps : List SessionStep
   pub calls : AreDone steps c
   pub only : AllKeepOpen steps
+  pub ready : Begins → AllReady steps c
   pub session : (after_all steps c).history.session ≡ new
   pub agrees : Agrees held (after_all steps c).history t
 
+abbrev pub GoesIf : Type 0 → BuffersView → SessionView → Option Traffic
+    → BuffersView → SessionView → Option Traffic → Type 0
+GoesIf Begins held old before new_held new after =
+    (c : Connection) (t : Traffic) → c.history.session ≡ old → before ≡ Some t
+    → Agrees held c.history t
+    → (t' : Traffic) × (after ≡ Some t') × WentOver Begins c new new_held t'
+
+-- over its lines, ready for each if it is ready for the first
 abbrev pub GoesOver : BuffersView → SessionView → Option Traffic
     → BuffersView → SessionView → Option Traffic → Type 0
 GoesOver held old before new_held new after =
-    (c : Connection) (t : Traffic) → c.history.session ≡ old → before ≡ Some t
-    → Agrees held c.history t
-    → (t' : Traffic) × (after ≡ Some t') × WentOver c new new_held t'
+    GoesIf (IsReady old) held old before new_held new after
+
+-- over the line that there is, or none, ready or not
+abbrev pub StaysOver : BuffersView → SessionView → Option Traffic
+    → BuffersView → SessionView → Option Traffic → Type 0
+StaysOver held old before new_held new after = GoesIf ⊤ held old before new_held new after
 
 -- Some device has reported this fault, over some line.
 abbrev pub ReportsOver : BuffersView → SessionView → Option Traffic → Option Traffic → Fault

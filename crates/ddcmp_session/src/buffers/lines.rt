@@ -1,7 +1,7 @@
 //! A session over one line after the other.
 ghost use Rattle.std.specs.Prelude.{◌≡◌, ◌≢◌, ◌⊎◌, ◌<◌, [], Err, Ok, Option, Some, ℕ, false, true};
 ghost use Rattle.ddcmp_session.specs.Devices.{BuffersView, Traffic};
-ghost use Rattle.ddcmp_session.specs.Lines.{GoesOver, ReportsOver};
+ghost use Rattle.ddcmp_session.specs.Lines.{IsReady, ReportsOver, StaysOver};
 ghost use Rattle.ddcmp_session.specs.Stopping.{Judges};
 ghost use Rattle.ddcmp_session.specs.Timing.{end};
 ghost use Rattle.ddcmp_session.specs.declared.devices.Fault.{Fault as FaultValue};
@@ -30,7 +30,8 @@ impl Buffers {
     ghost use Rattle.std.specs.Prelude.{◌≡◌, ◌≢◌, ◌⊎◌, ◌<◌, Err, Ok, Some, ℕ, false, is_ok, true};
     ghost use Rattle.ddcmp_session.specs.Devices.{GoesOn, KeepsFaults, Reports};
     ghost use Rattle.ddcmp_session.specs.Session.{SessionView, is_delivered};
-    ghost use Rattle.ddcmp_session.specs.Lines.{Closes, Ends, GoesOver, MayEndWell, ReportsOver};
+    ghost use Rattle.ddcmp_session.specs.Lines.{Closes, Ends, GoesOver, IsReady, MayEndWell};
+    ghost use Rattle.ddcmp_session.specs.Lines.{ReportsOver};
     ghost use Rattle.ddcmp_session.specs.Stopping.{HasNotStarted, IfNotOpened, IsLeft, IsShut};
     ghost use Rattle.ddcmp_session.specs.Stopping.{IsTimeOver, Judges, LeavesLine, Stops};
     ghost use Rattle.ddcmp_session.specs.Timing.{end};
@@ -188,6 +189,7 @@ impl Buffers {
     ) -> Result<bool, Stop<D::Refusal>>
         ensures over { GoesOver self.old session.old (D.traffic devices.old)
             self.new session.new (D.traffic devices.new) }
+        ensures ready { result ≡ Ok false → IsReady session.old → IsReady session.new }
         ensures open { (fault : FaultValue) → result ≢ Err (Stop.Device fault) }
         ensures left { result ≡ Err Stop.Left → HasNotStarted session.new }
         ensures shut { IfNotOpened result (session.new.options.again ≡ false) }
@@ -294,7 +296,7 @@ fn verdict<R: Copy>(ran: Result<(), Stop<R>>, has_run: bool, lost: u64) -> Resul
 
 /// Waits while there is no line: returns whether it could.
 fn wait_between_lines<D: Devices>(session: &Session, devices: &mut D, now: u64) -> bool
-    ensures over { (held : BuffersView) → GoesOver held session.now (D.traffic devices.old)
+    ensures over { (held : BuffersView) → StaysOver held session.now (D.traffic devices.old)
         held session.now (D.traffic devices.new) }
     ensures failed { result ≡ false → (held : BuffersView) → ReportsOver held session.now
         (D.traffic devices.old) (D.traffic devices.new) Fault.Input }
@@ -310,8 +312,9 @@ fn wait_between_lines<D: Devices>(session: &Session, devices: &mut D, now: u64) 
 
 /// Leaves a line that has ended, and pauses before the next one is opened, if that is to be.
 fn leave<D: Devices>(session: &mut Session, devices: &mut D) -> Result<(), Fault>
-    ensures over { (held : BuffersView) → GoesOver held session.old (D.traffic devices.old)
+    ensures over { (held : BuffersView) → StaysOver held session.old (D.traffic devices.old)
         held session.new (D.traffic devices.new) }
+    ensures ready { result ≡ Ok tt → IsReady session.new }
     ensures reports { (held : BuffersView) (fault : FaultValue) → fault ≢ Fault.Time
         → result ≡ Err fault → ReportsOver held session.old (D.traffic devices.old)
         (D.traffic devices.new) fault }
@@ -335,7 +338,7 @@ fn leave<D: Devices>(session: &mut Session, devices: &mut D) -> Result<(), Fault
 /// Has the time of the run pass if that of an output was over for which nothing waits.
 fn note_time(session: &mut Session, fault: Fault)
     ensures over { (held : BuffersView) (known : Option Traffic)
-        → GoesOver held session.old known held session.new known }
+        → StaysOver held session.old known held session.new known }
     ensures time { fault ≡ Fault.Time
         → (end session.new ≡ Some End.Time) ⊎ (session.new.output.waiting ≢ []) }
 {
@@ -347,7 +350,7 @@ fn note_time(session: &mut Session, fault: Fault)
 /// Has the time of the run pass: so many lines, or calls, take longer than any run.
 fn pass_run(session: &mut Session)
     ensures over { (held : BuffersView) (known : Option Traffic)
-        → GoesOver held session.old known held session.new known }
+        → StaysOver held session.old known held session.new known }
     ensures time { end session.new ≡ Some End.Time }
 {
     let now = session.run_ends_at();

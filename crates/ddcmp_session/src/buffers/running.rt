@@ -5,7 +5,7 @@ ghost use Rattle.ddcmp_session.specs.Devices.{BuffersView, GoesOn, HoldsMail, On
 ghost use Rattle.ddcmp_session.specs.Devices.{Reports};
 ghost use Rattle.ddcmp_session.specs.Finishing.{Drains, IsDrained};
 ghost use Rattle.ddcmp_session.specs.Session.{lost_by_end};
-ghost use Rattle.ddcmp_session.specs.Lines.{GoesOver, ReportsOver};
+ghost use Rattle.ddcmp_session.specs.Lines.{IsReady, ReportsOver, StaysOver};
 ghost use Rattle.ddcmp_session.specs.declared.devices.Fault.{Fault as FaultValue};
 
 use crate::buffers::Buffers;
@@ -64,13 +64,14 @@ const LINE_END_MS: u64 = 80;
 
 /// Leaves a line that has ended: what came over it is written, and what was lost is reported.
 pub(super) fn leave_line<D: Devices>(session: &mut Session, devices: &mut D) -> Result<(), Fault>
-    ensures over { (held : BuffersView) → GoesOver held session.old (D.traffic devices.old)
+    ensures over { (held : BuffersView) → StaysOver held session.old (D.traffic devices.old)
         held session.new (D.traffic devices.new) }
     ensures reports { (held : BuffersView) (fault : FaultValue) → fault ≢ Fault.Time
         → result ≡ Err fault → ReportsOver held session.old (D.traffic devices.old)
         (D.traffic devices.new) fault }
     ensures drained { result ≡ Ok tt → session.new.output.waiting ≡ [] }
     ensures left { result ≡ Ok tt → session.new.has_line ≡ false }
+    ensures ready { result ≡ Ok tt → IsReady session.new }
     ensures counted { result ≡ Ok tt
         → session.new.course ≡ lost_more (lost_by_end session.old) session.old.course }
 {

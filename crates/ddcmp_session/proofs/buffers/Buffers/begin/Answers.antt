@@ -1,61 +1,63 @@
-use Rattle.std.proofs.Common.{inr, refl}
-use Rattle.ddcmp_session.proofs.LinesGo.{none-over, over-then, passed-now, reports-later}
+use Rattle.std.proofs.Common.{◌∙◌, ap, inr, refl, Ok}
+use Rattle.ddcmp_session.proofs.LinesGo.{none-over, over-then, passed-now, passes-then, ready-by}
+use Rattle.ddcmp_session.proofs.LinesGo.{reports-later}
 use Rattle.ddcmp_session.proofs.buffers.Buffers.begin.Goals as goal
 
 pub loop-try-init : goal.loop-try-init
-loop-try-init g c = none-over refl refl
+loop-try-init g c = (none-over refl refl, λ r. r)
 
 pub returns-then-run_ends_at-now-clause-over : goal.returns-then-run_ends_at-now-clause-over
 returns-then-run_ends_at-now-clause-over g c =
-    over-then c.loop-try.invariant
+    over-then c.loop-try.invariant.0
     (over-then (none-over refl c.now-now.ensures)
     (passed-now c.now-now.result c.loop-try.session c.pass_time.new.self c.pass_time.ensures))
 
 pub returns-in-Ok-true-clause-over : goal.returns-in-Ok-true-clause-over
 returns-in-Ok-true-clause-over g c =
-    over-then c.loop-try.invariant
-    (over-then (none-over refl c.now-now.ensures)
-    (over-then
-    (passed-now c.now-now.result c.loop-try.session c.pass_time.new.self c.pass_time.ensures)
-    c.try_line.ensures.over))
+    passes-then c.now-now.result c.loop-try.session c.pass_time.new.self
+    c.loop-try.invariant.0 c.loop-try.invariant.1 c.now-now.ensures c.pass_time.ensures
+    c.try_line.ensures.over
 
 pub returns-in-Err-clause-over : goal.returns-in-Err-clause-over
 returns-in-Err-clause-over g c =
-    over-then c.loop-try.invariant
-    (over-then (none-over refl c.now-now.ensures)
-    (over-then
-    (passed-now c.now-now.result c.loop-try.session c.pass_time.new.self c.pass_time.ensures)
-    c.try_line.ensures.over))
+    passes-then c.now-now.result c.loop-try.session c.pass_time.new.self
+    c.loop-try.invariant.0 c.loop-try.invariant.1 c.now-now.ensures c.pass_time.ensures
+    c.try_line.ensures.over
 
 pub returns-then-not-wait_between_lines-clause-over : goal.returns-then-not-wait_between_lines-clause-over
 returns-then-not-wait_between_lines-clause-over g c =
-    over-then c.loop-try.invariant
-    (over-then (none-over refl c.now-now.ensures)
+    over-then
     (over-then
-    (passed-now c.now-now.result c.loop-try.session c.pass_time.new.self c.pass_time.ensures)
-    (over-then c.try_line.ensures.over
-    (over-then (none-over c.write_errors.ensures.session c.write_errors.ensures.devices)
-    (c.wait_between_lines.ensures.over _)))))
+    (passes-then c.now-now.result c.loop-try.session c.pass_time.new.self
+    c.loop-try.invariant.0 c.loop-try.invariant.1 c.now-now.ensures c.pass_time.ensures
+    c.try_line.ensures.over)
+    (none-over c.write_errors.ensures.session c.write_errors.ensures.devices))
+    (c.wait_between_lines.ensures.over _)
 
 pub loop-try-preserved : goal.loop-try-preserved
-loop-try-preserved g c =
-    over-then c.loop-try.invariant
-    (over-then (none-over refl c.now-now.ensures)
-    (over-then
-    (passed-now c.now-now.result c.loop-try.session c.pass_time.new.self c.pass_time.ensures)
-    (over-then c.try_line.ensures.over
-    (over-then (none-over c.write_errors.ensures.session c.write_errors.ensures.devices)
-    (c.wait_between_lines.ensures.over _)))))
+loop-try-preserved g c = (
+  over-then
+      (over-then
+      (passes-then c.now-now.result c.loop-try.session c.pass_time.new.self
+      c.loop-try.invariant.0 c.loop-try.invariant.1 c.now-now.ensures c.pass_time.ensures
+      c.try_line.ensures.over)
+      (none-over c.write_errors.ensures.session c.write_errors.ensures.devices))
+      (c.wait_between_lines.ensures.over _),
+  λ r. ready-by c.write_errors.ensures.session
+      (c.try_line.ensures.ready
+      (c.in-Ok-false.is ∙ ap (λ b. Ok b) c.in-Ok-false.field-0-test)
+      (ready-by c.pass_time.ensures (c.loop-try.invariant.1 r))),
+)
 
 pub returns-clause-over : goal.returns-clause-over
-returns-clause-over g c = over-then c.loop-try.invariant (c.pass_run.ensures.over _ _)
+returns-clause-over g c = over-then c.loop-try.invariant.0 (c.pass_run.ensures.over _ _)
 
 pub returns-then-not-wait_between_lines-clause-time :
     goal.returns-then-not-wait_between_lines-clause-time
 returns-then-not-wait_between_lines-clause-time g c = λ e.
     inr
     (inr
-    (reports-later c.loop-try.invariant
+    (reports-later c.loop-try.invariant.0
     (reports-later (none-over refl c.now-now.ensures)
     (reports-later
     (passed-now c.now-now.result c.loop-try.session c.pass_time.new.self c.pass_time.ensures)

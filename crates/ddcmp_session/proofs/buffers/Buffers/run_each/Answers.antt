@@ -1,26 +1,32 @@
 use Rattle.std.proofs.Common.{◌∙◌, ap, inl, inr, refl, sym, Ok}
-use Rattle.ddcmp_session.proofs.LinesGo.{none-over, over-then, reports-later, same-err, same-fault}
+use Rattle.ddcmp_session.proofs.LinesGo.{none-over, over-next, over-then, ready-by, reports-later}
+use Rattle.ddcmp_session.proofs.LinesGo.{same-err, same-fault}
 use Rattle.ddcmp_session.proofs.StopLaws.{line-later, of-leave, time-later}
 use Rattle.ddcmp_session.proofs.buffers.Buffers.run_each.Goals as goal
 
 pub loop-line-init : goal.loop-line-init
-loop-line-init g c = none-over c.begin_lines.ensures.session c.begin_lines.ensures.devices
+loop-line-init g c = (
+  none-over c.begin_lines.ensures.session c.begin_lines.ensures.devices,
+  ready-by c.begin_lines.ensures.session,
+)
 
 pub loop-line-preserved : goal.loop-line-preserved
-loop-line-preserved g c =
-    over-then c.loop-line.invariant
-    (over-then c.run_one.ensures.over
-    (over-then (none-over refl c.close_line.ensures) (c.leave.ensures.over _)))
+loop-line-preserved g c = (
+  over-then
+      (over-then (over-next c.loop-line.invariant.0 c.loop-line.invariant.1 c.run_one.ensures.over)
+      (none-over refl c.close_line.ensures)) (c.leave.ensures.over _),
+  λ r. c.leave.ensures.ready c.in-Ok-leave.is,
+)
 
 pub returns-in-Err-leave-clause-over : goal.returns-in-Err-leave-clause-over
 returns-in-Err-leave-clause-over g c =
-    over-then c.loop-line.invariant
-    (over-then c.run_one.ensures.over
-    (over-then (none-over refl c.close_line.ensures) (c.leave.ensures.over _)))
+    over-then
+    (over-then (over-next c.loop-line.invariant.0 c.loop-line.invariant.1 c.run_one.ensures.over)
+    (none-over refl c.close_line.ensures)) (c.leave.ensures.over _)
 
 pub returns-in-Err-leave-clause-reports : goal.returns-in-Err-leave-clause-reports
 returns-in-Err-leave-clause-reports g c = λ fault untimed e.
-    reports-later c.loop-line.invariant
+    reports-later c.loop-line.invariant.0
     (reports-later c.run_one.ensures.over
     (reports-later (none-over refl c.close_line.ensures)
     (c.in-Err-leave.ensures.reports _ fault untimed (same-fault e))))
@@ -30,25 +36,28 @@ returns-in-Err-clause-over g c =
     none-over c.begin_lines.ensures.session c.begin_lines.ensures.devices
 
 pub returns-in-Ok-true-clause-over : goal.returns-in-Ok-true-clause-over
-returns-in-Ok-true-clause-over g c = over-then c.loop-line.invariant c.run_one.ensures.over
+returns-in-Ok-true-clause-over g c =
+    over-next c.loop-line.invariant.0 c.loop-line.invariant.1 c.run_one.ensures.over
 
 pub returns-clause-over : goal.returns-clause-over
-returns-clause-over g c = over-then c.loop-line.invariant (c.pass_run.ensures.over _ _)
+returns-clause-over g c = over-then c.loop-line.invariant.0 (c.pass_run.ensures.over _ _)
 
 pub returns-in-Ok-false-2-clause-over : goal.returns-in-Ok-false-2-clause-over
-returns-in-Ok-false-2-clause-over g c = over-then c.loop-line.invariant c.run_one.ensures.over
+returns-in-Ok-false-2-clause-over g c =
+    over-next c.loop-line.invariant.0 c.loop-line.invariant.1 c.run_one.ensures.over
 
 pub returns-in-Err-run_one-clause-over : goal.returns-in-Err-run_one-clause-over
-returns-in-Err-run_one-clause-over g c = over-then c.loop-line.invariant c.run_one.ensures.over
+returns-in-Err-run_one-clause-over g c =
+    over-next c.loop-line.invariant.0 c.loop-line.invariant.1 c.run_one.ensures.over
 
 pub returns-in-Err-run_one-clause-reports : goal.returns-in-Err-run_one-clause-reports
 returns-in-Err-run_one-clause-reports g c = λ fault untimed e.
-    reports-later c.loop-line.invariant
+    reports-later c.loop-line.invariant.0
     (c.in-Err-run_one.ensures.reports fault untimed (same-err e))
 
 pub returns-in-Err-run_one-clause-time : goal.returns-in-Err-run_one-clause-time
 returns-in-Err-run_one-clause-time g c = λ e.
-    time-later c.run_one.new.session c.loop-line.invariant
+    time-later c.run_one.new.session c.loop-line.invariant.0
     (c.in-Err-run_one.ensures.time (same-err e))
 
 pub returns-in-Err-leave-clause-time : goal.returns-in-Err-leave-clause-time
@@ -59,7 +68,7 @@ pub returns-in-Ok-false-2-clause-left : goal.returns-in-Ok-false-2-clause-left
 returns-in-Ok-false-2-clause-left g c = λ e.
     inr (
       sym c.reopens.ensures ∙ c.if-reopens.false,
-      line-later c.run_one.new.session c.loop-line.invariant
+      line-later c.run_one.new.session c.loop-line.invariant.0
           (c.in-Ok-false.ensures.gone (ap (λ b. Ok b) c.in-Ok-false.field-0-test)),
     )
 

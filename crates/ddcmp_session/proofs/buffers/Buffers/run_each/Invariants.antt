@@ -1,7 +1,8 @@
-use Rattle.ddcmp_session.specs.Lines.{GoesOver}
+use Rattle.ddcmp_session.specs.Lines.{GoesOver, IsReady}
 use Rattle.ddcmp_session.proofs.buffers.Buffers.run_each.Given as goal
 
 abbrev pub invariant-loop-line : goal.invariant-loop-line
 invariant-loop-line g l =
     GoesOver l.fn.self l.fn.session (g.D.Devices.traffic l.fn.devices) l.self l.session
     (g.D.Devices.traffic l.devices)
+    × (IsReady l.fn.session → IsReady l.session)

@@ -1,6 +1,6 @@
 use Rattle.std.proofs.Common.{◌≡◌, refl, Result, Err}
 use Rattle.ddcmp_session.specs.declared.devices.Fault.{Fault}
-use Rattle.ddcmp_session.proofs.LinesGo.{none-over, over-then, paused}
+use Rattle.ddcmp_session.proofs.LinesGo.{none-over, over-then, paused, ready-by}
 use Rattle.ddcmp_session.proofs.buffers.lines.leave.Goals as goal
 
 pub returns-in-Some-clause-over : goal.returns-in-Some-clause-over
@@ -27,3 +27,12 @@ same e = cc
 
 pub returns-in-Err-clause-time : goal.returns-in-Err-clause-time
 returns-in-Err-clause-time g c = λ e. c.note_time.ensures.time (same e)
+
+pub returns-in-Some-clause-ready : goal.returns-in-Some-clause-ready
+returns-in-Some-clause-ready g c = λ e.
+    ready-by c.report.ensures
+    (ready-by c.pause_after_line.ensures.state (c.leave_line.ensures.ready c.in-Ok.is))
+
+pub returns-in_default-clause-ready : goal.returns-in_default-clause-ready
+returns-in_default-clause-ready g c = λ e.
+    ready-by c.pause_after_line.ensures.state (c.leave_line.ensures.ready c.in-Ok.is)

@@ -2,7 +2,8 @@ use Rattle.std.proofs.Common.{◌∙◌, ap, refl}
 use Rattle.ddcmp_session.specs.Session.{SessionView}
 use Rattle.ddcmp_session.proofs.DrainLaws.{counted-once}
 use Rattle.ddcmp_session.proofs.GoingLaws.{same-at}
-use Rattle.ddcmp_session.proofs.LinesGo.{goes-over, line-left, none-over, over-then, reports-over}
+use Rattle.ddcmp_session.proofs.LinesGo.{goes-over, line-left, none-over, over-then, ready-by}
+use Rattle.ddcmp_session.proofs.LinesGo.{reports-over}
 use Rattle.ddcmp_session.proofs.buffers.running.leave_line.Goals as goal
 
 pub returns-in-Err-clause-over : goal.returns-in-Err-clause-over
@@ -62,3 +63,8 @@ returns-clause-counted g c = λ e.
     c.drain_output-2.new.session c.drain_output.ensures.only
     (same-at (λ x. x.course) c.line_ended-has_room.new.self _ c.line_ended-has_room.ensures.stays)
     c.drain_output-2.ensures.only
+
+pub returns-clause-ready : goal.returns-clause-ready
+returns-clause-ready g c = λ e.
+    ready-by c.drain_errors.ensures.session
+    (c.drain_output-2.ensures.emptied c.in-Ok-drain_output.is).mail
