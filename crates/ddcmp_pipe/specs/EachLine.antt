@@ -20,8 +20,9 @@ abbrev pub LineIsOver : List SessionStep → Type 0
 LineIsOver [] = ⊤
 LineIsOver (step ∷ rest) = EndsALine step.call
 
--- If the line of one run is over, which goes on so, is ended at last and loses nothing, the other
--- has received all of the messages that the one's input had over that line: these, and no others.
+-- If the line of one run is over, and the run goes on until it is ended and has lost nothing, the
+-- other has received all of the messages that the one's input had over that line: these, and no
+-- others.
 abbrev pub DeliversLine : Ran → Ran → Type 0
 DeliversLine giver taker = (rest : List SessionStep) → AreDone rest (got_to giver)
     → LineIsOver rest
