@@ -2,7 +2,10 @@
 use Rattle.std.proofs.Common.{◌≡◌, ◌≢◌, ◌⊎◌, ◌↔◌, IsTrue, ◌∙◌, sym, ap, subst, ℕ, Bool, true, false}
 use Rattle.std.proofs.Common.{List, Option, Some, None, Result, Err, refl, inl, inr, ◌&&◌}
 use Rattle.std.specs.Io.KnownBytes.{Keeps}
-use Rattle.ddcmp_run.specs.Run.{PairState}
+use Rattle.ddcmp_run.specs.declared.event.End.TheVariants.{A, B}
+use Rattle.ddcmp_run.specs.declared.event.Event.TheVariants as event
+use Rattle.ddcmp_run.specs.Run.{PairState, after_event, run}
+use Rattle.ddcmp_run.specs.Settle.{settled}
 use Rattle.ddcmp_run.specs.Carriages.{Carriage}
 use Rattle.ddcmp_line.specs.ScriptEnds.{around, Plays}
 use Rattle.ddcmp_script_text.specs.declared.script_fault.ScriptFault.{ScriptFault}
@@ -16,7 +19,7 @@ use Rattle.ddcmp_io.specs.declared.device.Worst.TheVariants.{Fine}
 use Rattle.ddcmp_io.specs.Change.{SourceChange}
 use Rattle.ddcmp_io.specs.Input.{GaveMost}
 use Rattle.ddcmp_cli.specs.Endings.{script_fault, IsUnopened, ReadsFile, ShowsBy, Streams}
-use Rattle.ddcmp_cli.specs.Endings.{TellsDevices, Untouched, is_refusal, streams}
+use Rattle.ddcmp_cli.specs.Endings.{TellsDevices, Untouched, begun, is_refusal, streams}
 
 -- a fault that the script returned is the one that the program reports
 pub told : (r : Result (Unit {0}) ScriptFault) (fault known : ScriptFault) (made : Fault)
@@ -133,3 +136,9 @@ not_opened false true name held before after ending K D W e (inl u) k = inl (u, 
 not_opened false true name held before after ending K D W e (inr m) k = inr (inl (m, k))
 not_opened false false name held before after ending K D W e (inl u) k = inl (u, k)
 not_opened false false name held before after ending K D W e (inr m) k = inr (inl (m, k))
+
+-- both ends were started, and then all was exchanged
+pub begins : (p q r s : PairState) → q ≡ after_event (event.Start A) p
+    → r ≡ after_event (event.Start B) q → s ≡ settled r → s ≡ begun p
+unfolding run
+begins p q r s e f g = g ∙ ap settled (f ∙ ap (after_event (event.Start B)) e)

@@ -1,7 +1,7 @@
 -- How the program ends.
 use Rattle.std.specs.Prelude.{if◌then◌else◌, ◌||◌, is_some}
 use Rattle.std.specs.Prelude.{⊤, ◌↔◌, IsTrue, is_none, ◌&&◌, length, ◌<◌, None, codes, string_bytes}
-use Rattle.std.specs.Prelude.{Bool, true, false, ◌≡◌, ◌≢◌, ◌⊎◌, ◌≤◌, ℕ, List, [], Option, Some}
+use Rattle.std.specs.Prelude.{Bool, true, false, ◌≡◌, ◌≢◌, ◌⊎◌, ◌≤◌, ℕ, List, [], ◌∷◌, Option, Some}
 use Rattle.std.specs.Prelude.{Result, Ok, Err}
 use Rattle.std.specs.Option.{option_map}
 use Rattle.std.specs.Io.KnownBytes.{Appends, Keeps}
@@ -18,10 +18,12 @@ use Rattle.ddcmp_cli.specs.declared.fault.Fault.TheVariants.{Odd, NotHex, Dump, 
 use Rattle.ddcmp_cli.specs.declared.fault.Fault.TheVariants.{Hex as NotHexIn, Message, Read, Write}
 use Rattle.ddcmp_cli.specs.declared.fault.Fault.TheVariants.{Memory as NoMemory, Carrier, Ended}
 use Rattle.ddcmp_cli.specs.declared.fault.Fault.TheVariants.{Lost}
-use Rattle.ddcmp_run.specs.Run.{PairState, new_pair}
+use Rattle.ddcmp_run.specs.declared.event.End.TheVariants.{A, B}
+use Rattle.ddcmp_run.specs.declared.event.Event.TheVariants as event
+use Rattle.ddcmp_run.specs.Run.{PairState, new_pair, run}
+use Rattle.ddcmp_run.specs.Settle.{settled}
 use Rattle.ddcmp_line.specs.ScriptEnds.{around, Plays}
 use Rattle.ddcmp_picture.specs.Drawn.{DrawsScript}
-use Rattle.ddcmp_proto.specs.declared.config.Config.{Config}
 use Rattle.ddcmp_station.specs.Config.{first_refusal}
 use Rattle.ddcmp_cli.specs.declared.ending.Ending.{Ending}
 use Rattle.ddcmp_cli.specs.declared.ending.Ending.TheVariants.{Done, SomeRefused, NoLine}
@@ -38,6 +40,7 @@ use Rattle.ddcmp_words.specs.declared.command.Command.{Command}
 use Rattle.ddcmp_words.specs.declared.command.Command.TheVariants.{Explain, Simulate, Pair, Station}
 use Rattle.ddcmp_words.specs.declared.command.Command.TheVariants.{Tap, Link, Bridge}
 use Rattle.ddcmp_words.specs.declared.explained.Explained.{Explained}
+use Rattle.ddcmp_words.specs.declared.scripted.Beginning.{Beginning}
 use Rattle.ddcmp_words.specs.declared.scripted.Scripted.{Scripted}
 use Rattle.ddcmp_words.specs.declared.served.Served.{Served}
 use Rattle.ddcmp_words.specs.declared.served.Role.{Role}
@@ -328,50 +331,60 @@ shown_of (Faulted fault) = None
 
 abbrev pub CanRun : Command → Type 0
 CanRun (Explain explained) = (1 ≤ explained.max) × (explained.max ≤ MAX_COUNT)
-CanRun (Simulate scripted) = first_refusal scripted.config ≡ None
-CanRun (Pair scripted) = first_refusal scripted.config ≡ None
+CanRun (Simulate scripted) = first_refusal scripted.from.config ≡ None
+CanRun (Pair scripted) = first_refusal scripted.from.config ≡ None
 CanRun (Station served) = ⊤
 CanRun (Tap tapped) = (1 ≤ tapped.max) × (tapped.max ≤ MAX_COUNT)
 CanRun (Link linked) = ⊤
 CanRun (Bridge bridged) = ⊤
 
--- A script was played between two new ends of these sizes, over a carrier that is direct or not,
--- and the ending reports the result; or there was no memory for the ends.
-abbrev pub PlaysBetween : Bool → Config → Bool → Streams → Ending → Type 0
-PlaysBetween is_direct config counted s ending =
+-- a pair after both ends were started, and all was exchanged
+abbrev pub begun : PairState → PairState
+begun p = settled (run (event.Start A ∷ event.Start B ∷ []) p)
+
+-- the pair that a script begins with
+abbrev pub pair_with : Beginning → PairState
+pair_with from =
+    if from.begun then begun (new_pair from.config from.config)
+    else new_pair from.config from.config
+
+-- A script was played between two such ends, over a carrier that is direct or not, and the ending
+-- reports the result; or there was no memory for the ends.
+abbrev pub PlaysBetween : Bool → Beginning → Bool → Streams → Ending → Type 0
+PlaysBetween is_direct from counted s ending =
     ((ending ≡ Faulted NoMemory) × (s.left ≡ Some s.input) × Appends s.before s.after [])
     ⊎ ((result : Result (Unit {0}) ScriptFault) × (after : PairState)
     × (ending ≡ ending_of script_fault result)
-    × Plays counted s.input (around (new_pair config config) after is_direct None None)
+    × Plays counted s.input (around (pair_with from) after is_direct None None)
     (Appends s.before s.after) (AppendsPart s.before s.after) result)
 
 -- A script was played over a line that gives what goes in and doesn't fail.
-abbrev pub Simulates : Config → Bool → Streams → Ending → Type 0
-Simulates config counted s ending =
-    PlaysBetween true config counted s ending × (ending ≢ Faulted Carrier)
+abbrev pub Simulates : Beginning → Bool → Streams → Ending → Type 0
+Simulates from counted s ending =
+    PlaysBetween true from counted s ending × (ending ≢ Faulted Carrier)
 
 -- A script was played over a connection, or that couldn't be made. What a connection gives isn't
 -- known.
-abbrev pub Pairs : Config → Bool → Streams → Ending → Type 0
-Pairs config counted s ending =
+abbrev pub Pairs : Beginning → Bool → Streams → Ending → Type 0
+Pairs from counted s ending =
     ((ending ≡ Faulted Carrier) × (s.left ≡ Some s.input) × Appends s.before s.after [])
-    ⊎ PlaysBetween false config counted s ending
+    ⊎ PlaysBetween false from counted s ending
 
 -- Such a run was drawn: of what is written this says nothing.
-abbrev pub DrawsBetween : Bool → Config → Streams → Ending → Type 0
-DrawsBetween is_direct config s ending =
+abbrev pub DrawsBetween : Bool → Beginning → Streams → Ending → Type 0
+DrawsBetween is_direct from s ending =
     ((ending ≡ Faulted NoMemory) × (s.left ≡ Some s.input) × Appends s.before s.after [])
     ⊎ ((result : Result (Unit {0}) ScriptFault) × (after : PairState)
     × (ending ≡ ending_of script_fault result)
-    × DrawsScript s.input (around (new_pair config config) after is_direct None None) result)
+    × DrawsScript s.input (around (pair_with from) after is_direct None None) result)
 
-abbrev pub DrawsSimulated : Config → Streams → Ending → Type 0
-DrawsSimulated config s ending = DrawsBetween true config s ending × (ending ≢ Faulted Carrier)
+abbrev pub DrawsSimulated : Beginning → Streams → Ending → Type 0
+DrawsSimulated from s ending = DrawsBetween true from s ending × (ending ≢ Faulted Carrier)
 
-abbrev pub DrawsPaired : Config → Streams → Ending → Type 0
-DrawsPaired config s ending =
+abbrev pub DrawsPaired : Beginning → Streams → Ending → Type 0
+DrawsPaired from s ending =
     ((ending ≡ Faulted Carrier) × (s.left ≡ Some s.input) × Appends s.before s.after [])
-    ⊎ DrawsBetween false config s ending
+    ⊎ DrawsBetween false from s ending
 
 -- What is said of a run, by which pictures are asked for: both at once are refused; one is drawn;
 -- and if none is asked for, the text is written.
@@ -402,12 +415,12 @@ ShowsFrom held (Some name) view Draws Writes s ending =
 -- `simulate` and `pair` with their options
 abbrev pub SimulatesAsked : (List ℕ → Known) → Scripted → Streams → Ending → Type 0
 SimulatesAsked held it s ending =
-    ShowsFrom held it.file it.view (DrawsSimulated it.config)
-    (Simulates it.config it.view.counters) s ending
+    ShowsFrom held it.file it.view (DrawsSimulated it.from)
+    (Simulates it.from it.view.counters) s ending
 
 abbrev pub PairsAsked : (List ℕ → Known) → Scripted → Streams → Ending → Type 0
 PairsAsked held it s ending =
-    ShowsFrom held it.file it.view (DrawsPaired it.config) (Pairs it.config it.view.counters) s
+    ShowsFrom held it.file it.view (DrawsPaired it.from) (Pairs it.from it.view.counters) s
     ending
 
 -- The ending reports that a read failed exactly if the source isn't fine or has returned 2^64 - 1

@@ -28,8 +28,8 @@ pub use ddcmp_service::{
 };
 pub use ddcmp_tap::{TapFault, tap_fault};
 pub use ddcmp_words::{
-    Bridged, Command, Declined, Linked, Role, Scripted, Served, Tapped, View, bridged, command,
-    declined, linked, read_words, scripted, served, tapped, view,
+    Beginning, Bridged, Command, Declined, Linked, Role, Scripted, Served, Tapped, View, bridged,
+    command, declined, linked, read_words, scripted, served, tapped, view,
 };
 pub use ending::Ending;
 pub use fault::Fault;

@@ -1,6 +1,6 @@
 //! `simulate` and `pair`: a script between two ends, as text or as a picture.
 ghost use Rattle.std.specs.Prelude.{◌≡◌, ◌≢◌, ◌⊎◌, ◌↔◌, ◌&&◌, false, true, None, Some, IsTrue};
-ghost use Rattle.std.specs.Prelude.{List, ℕ};
+ghost use Rattle.std.specs.Prelude.{List, ℕ, IfSome, IsOk};
 ghost use Rattle.std.specs.Option.{option_map};
 ghost use Rattle.std.specs.Io.KnownBytes.{Keeps};
 ghost use Rattle.ddcmp_io.specs.Change.{source_change};
@@ -9,7 +9,7 @@ ghost use Rattle.ddcmp_station.specs.Config.{first_refusal};
 ghost use Rattle.ddcmp_cli.specs.Endings.{DrawsBetween, DrawsPaired, DrawsSimulated, is_refusal};
 ghost use Rattle.ddcmp_cli.specs.Endings.{Pairs, PlaysBetween, ShowsRun, Simulates};
 ghost use Rattle.ddcmp_cli.specs.Endings.{PairsAsked, ReadsFile, ShowsBy, SimulatesAsked};
-ghost use Rattle.ddcmp_cli.specs.Endings.{TellsDevices, streams};
+ghost use Rattle.ddcmp_cli.specs.Endings.{TellsDevices, begun, pair_with, streams};
 
 use crate::ending::Ending;
 use crate::fault::Fault;
@@ -18,19 +18,46 @@ use crate::usage::usage;
 use ddcmp_io::{Sink, Source, Worst};
 use ddcmp_line::{Carrier, Direct, script_with};
 use ddcmp_net::Sockets;
+use ddcmp_pair::{Memory, Pair};
 use ddcmp_picture::{Picture, draw};
-use ddcmp_station::Config;
-use ddcmp_words::{Scripted, View};
+use ddcmp_run::{End, Event};
+use ddcmp_words::{Beginning, Scripted, View};
 use std::alloc::Global;
 use std::net::{Net, TcpStream};
 
 /// The usage error for `--svg` with `--ladder`.
 const TWO_PICTURES: &str = "'--svg' and '--ladder' can't be used together";
 
+/// Makes the pair that a script begins with; none if an allocation failed.
+fn pair_of(alloc: Global, from: Beginning) -> Option<Pair>
+    ensures made { IfSome result (λ pair. pair ≡ pair_with from) }
+{
+    let Ok(mut pair) = Pair::new(alloc, from.config, from.config) else {
+        return None;
+    };
+    if !from.begun {
+        return Some(pair);
+    }
+    match begin(&mut pair) {
+        Ok(()) => Some(pair),
+        Err(_refused) => None,
+    }
+}
+
+/// Starts both ends, and exchanges frames until neither has one.
+fn begin(pair: &mut Pair) -> Result<(), Memory>
+    ensures begins { IsOk result → pair.new ≡ begun pair.old }
+{
+    let _first = pair.step(Event::Start(End::A))?;
+    let _second = pair.step(Event::Start(End::B))?;
+    let _settled = pair.settle()?;
+    Ok(())
+}
+
 /// Draws a script between two ends of the same sizes.
 fn draw_over<R: Source, W: Sink, C: Carrier>(
     alloc: Global,
-    config: Config,
+    from: Beginning,
     picture: Picture,
     counted: bool,
     carrier: &mut C,
@@ -41,15 +68,15 @@ fn draw_over<R: Source, W: Sink, C: Carrier>(
     requires whole { W.broken writer.old ≡ false }
     requires carrier { C.broken carrier.old ≡ false }
     requires silent { (c : C) → C.told c ≡ None }
-    requires sizes { first_refusal config ≡ None }
+    requires sizes { first_refusal from.config ≡ None }
     ensures draws { (input : List ℕ) → R.left reader.old ≡ Some input
-        → DrawsBetween (C.direct carrier.old) config (streams input (R.left reader.new)
+        → DrawsBetween (C.direct carrier.old) from (streams input (R.left reader.new)
         (W.contents writer.old) (W.contents writer.new)) result }
     ensures devices { TellsDevices (source_change (R.left reader.old) (R.left reader.new)
         (R.state reader.new)) (W.broken writer.new) result }
     ensures carried { result ≡ Ending.Fault Fault.Carrier → IsTrue (C.broken carrier.new) }
 {
-    let Ok(mut pair) = ddcmp_pair::Pair::new(alloc, config, config) else {
+    let Some(mut pair) = pair_of(alloc, from) else {
         return Ending::Fault(Fault::Memory);
     };
     match draw(alloc, &mut pair, reader, writer, carrier, picture, counted) {
@@ -61,7 +88,7 @@ fn draw_over<R: Source, W: Sink, C: Carrier>(
 /// Runs a script over a carrier, and shows it as is asked for.
 fn show_over<R: Source, W: Sink, C: Carrier>(
     alloc: Global,
-    config: Config,
+    from: Beginning,
     view: View,
     carrier: &mut C,
     reader: &mut R,
@@ -71,10 +98,10 @@ fn show_over<R: Source, W: Sink, C: Carrier>(
     requires whole { W.broken writer.old ≡ false }
     requires carrier { C.broken carrier.old ≡ false }
     requires silent { (c : C) → C.told c ≡ None }
-    requires sizes { first_refusal config ≡ None }
+    requires sizes { first_refusal from.config ≡ None }
     ensures shows { (input : List ℕ) → R.left reader.old ≡ Some input
-        → ShowsRun view (DrawsBetween (C.direct carrier.old) config)
-        (PlaysBetween (C.direct carrier.old) config view.counters)
+        → ShowsRun view (DrawsBetween (C.direct carrier.old) from)
+        (PlaysBetween (C.direct carrier.old) from view.counters)
         (streams input (R.left reader.new) (W.contents writer.old) (W.contents writer.new))
         result }
     ensures devices { TellsDevices (source_change (R.left reader.old) (R.left reader.new)
@@ -86,45 +113,45 @@ fn show_over<R: Source, W: Sink, C: Carrier>(
         (true, true) => return usage(alloc, TWO_PICTURES),
         (true, false) => Picture::Svg,
         (false, true) => Picture::Ladder,
-        (false, false) => return play(alloc, config, counted, carrier, reader, writer),
+        (false, false) => return play(alloc, from, counted, carrier, reader, writer),
     };
-    draw_over(alloc, config, picture, counted, carrier, reader, writer)
+    draw_over(alloc, from, picture, counted, carrier, reader, writer)
 }
 
 /// Runs a script over a line that gives what goes in, and shows it.
 fn show_simulation<R: Source, W: Sink>(
     alloc: Global,
-    config: Config,
+    from: Beginning,
     view: View,
     reader: &mut R,
     writer: &mut W,
 ) -> Ending
     requires fine { R.state reader.old ≡ Worst.Fine }
     requires whole { W.broken writer.old ≡ false }
-    requires sizes { first_refusal config ≡ None }
+    requires sizes { first_refusal from.config ≡ None }
     ensures shows { (input : List ℕ) → R.left reader.old ≡ Some input
-        → ShowsRun view (DrawsSimulated config) (Simulates config view.counters)
+        → ShowsRun view (DrawsSimulated from) (Simulates from view.counters)
         (streams input (R.left reader.new) (W.contents writer.old) (W.contents writer.new)) result }
     ensures devices { TellsDevices (source_change (R.left reader.old) (R.left reader.new)
         (R.state reader.new)) (W.broken writer.new) result }
 {
-    show_over(alloc, config, view, &mut Direct, reader, writer)
+    show_over(alloc, from, view, &mut Direct, reader, writer)
 }
 
 /// Runs a script over a connection, which is made first, and shows it.
 fn show_pair<N: Net<Stream = TcpStream>, R: Source, W: Sink>(
     net: &N,
     alloc: Global,
-    config: Config,
+    from: Beginning,
     view: View,
     reader: &mut R,
     writer: &mut W,
 ) -> Ending
     requires fine { R.state reader.old ≡ Worst.Fine }
     requires whole { W.broken writer.old ≡ false }
-    requires sizes { first_refusal config ≡ None }
+    requires sizes { first_refusal from.config ≡ None }
     ensures shows { (input : List ℕ) → R.left reader.old ≡ Some input
-        → ShowsRun view (DrawsPaired config) (Pairs config view.counters)
+        → ShowsRun view (DrawsPaired from) (Pairs from view.counters)
         (streams input (R.left reader.new) (W.contents writer.old) (W.contents writer.new)) result }
     ensures devices { TellsDevices (source_change (R.left reader.old) (R.left reader.new)
         (R.state reader.new)) (W.broken writer.new) result }
@@ -135,7 +162,7 @@ fn show_pair<N: Net<Stream = TcpStream>, R: Source, W: Sink>(
     let Ok(mut sockets) = Sockets::new(net) else {
         return Ending::Fault(Fault::Carrier);
     };
-    show_over(alloc, config, view, &mut sockets, reader, writer)
+    show_over(alloc, from, view, &mut sockets, reader, writer)
 }
 
 /// Whether both pictures are asked for.
@@ -150,17 +177,17 @@ fn simulate_file<I: Inputs, W: Sink>(
     inputs: &I,
     alloc: Global,
     name: &str,
-    config: Config,
+    from: Beginning,
     view: View,
     writer: &mut W,
 ) -> Ending
     requires whole { W.broken writer.old ≡ false }
-    requires sizes { first_refusal config ≡ None }
+    requires sizes { first_refusal from.config ≡ None }
     ensures shows { ShowsBy view.svg view.ladder
         ((is_refusal result ≡ true) × Keeps (W.contents writer.old) (W.contents writer.new))
-        (ReadsFile name.now (I.held inputs.now name.now) (DrawsSimulated config)
+        (ReadsFile name.now (I.held inputs.now name.now) (DrawsSimulated from)
         (W.contents writer.old) (W.contents writer.new) result)
-        (ReadsFile name.now (I.held inputs.now name.now) (Simulates config view.counters)
+        (ReadsFile name.now (I.held inputs.now name.now) (Simulates from view.counters)
         (W.contents writer.old) (W.contents writer.new) result) }
     ensures write { (result ≡ Ending.Fault Fault.Write) ↔ IsTrue (W.broken writer.new) }
 {
@@ -168,7 +195,7 @@ fn simulate_file<I: Inputs, W: Sink>(
         return usage(alloc, TWO_PICTURES);
     }
     match inputs.open(name) {
-        Ok(mut opened) => show_simulation(alloc, config, view, &mut opened, writer),
+        Ok(mut opened) => show_simulation(alloc, from, view, &mut opened, writer),
         Err(why) => unopened(alloc, name, why),
     }
 }
@@ -183,7 +210,7 @@ pub(crate) fn simulate_asked<I: Inputs, R: Source, W: Sink>(
 ) -> Ending
     requires fine { R.state reader.old ≡ Worst.Fine }
     requires whole { W.broken writer.old ≡ false }
-    requires sizes { first_refusal scripted.now.config ≡ None }
+    requires sizes { first_refusal scripted.now.from.config ≡ None }
     ensures shows { (input : List ℕ) → R.left reader.old ≡ Some input
         → SimulatesAsked (I.held inputs.now) scripted.now (streams input (R.left reader.new)
         (W.contents writer.old) (W.contents writer.new)) result }
@@ -195,10 +222,10 @@ pub(crate) fn simulate_asked<I: Inputs, R: Source, W: Sink>(
     ensures untouched { option_map (λ name. name.now) scripted.now.file ≢ None
         → reader.new ≡ reader.old }
 {
-    let Scripted { config, view, file } = *scripted;
+    let Scripted { from, view, file } = *scripted;
     match file {
-        None => show_simulation(alloc, config, view, reader, writer),
-        Some(name) => simulate_file(inputs, alloc, name, config, view, writer),
+        None => show_simulation(alloc, from, view, reader, writer),
+        Some(name) => simulate_file(inputs, alloc, name, from, view, writer),
     }
 }
 
@@ -207,17 +234,17 @@ fn pair_file<S: Net<Stream = TcpStream> + Inputs, W: Sink>(
     system: &S,
     alloc: Global,
     name: &str,
-    config: Config,
+    from: Beginning,
     view: View,
     writer: &mut W,
 ) -> Ending
     requires whole { W.broken writer.old ≡ false }
-    requires sizes { first_refusal config ≡ None }
+    requires sizes { first_refusal from.config ≡ None }
     ensures shows { ShowsBy view.svg view.ladder
         ((is_refusal result ≡ true) × Keeps (W.contents writer.old) (W.contents writer.new))
-        (ReadsFile name.now (S.held system.now name.now) (DrawsPaired config)
+        (ReadsFile name.now (S.held system.now name.now) (DrawsPaired from)
         (W.contents writer.old) (W.contents writer.new) result)
-        (ReadsFile name.now (S.held system.now name.now) (Pairs config view.counters)
+        (ReadsFile name.now (S.held system.now name.now) (Pairs from view.counters)
         (W.contents writer.old) (W.contents writer.new) result) }
     ensures write { (result ≡ Ending.Fault Fault.Write) ↔ IsTrue (W.broken writer.new) }
 {
@@ -225,7 +252,7 @@ fn pair_file<S: Net<Stream = TcpStream> + Inputs, W: Sink>(
         return usage(alloc, TWO_PICTURES);
     }
     match system.open(name) {
-        Ok(mut opened) => show_pair(system, alloc, config, view, &mut opened, writer),
+        Ok(mut opened) => show_pair(system, alloc, from, view, &mut opened, writer),
         Err(why) => unopened(alloc, name, why),
     }
 }
@@ -240,7 +267,7 @@ pub(crate) fn pair_asked<S: Net<Stream = TcpStream> + Inputs, R: Source, W: Sink
 ) -> Ending
     requires fine { R.state reader.old ≡ Worst.Fine }
     requires whole { W.broken writer.old ≡ false }
-    requires sizes { first_refusal scripted.now.config ≡ None }
+    requires sizes { first_refusal scripted.now.from.config ≡ None }
     ensures shows { (input : List ℕ) → R.left reader.old ≡ Some input
         → PairsAsked (S.held system.now) scripted.now (streams input (R.left reader.new)
         (W.contents writer.old) (W.contents writer.new)) result }
@@ -252,17 +279,17 @@ pub(crate) fn pair_asked<S: Net<Stream = TcpStream> + Inputs, R: Source, W: Sink
     ensures untouched { option_map (λ name. name.now) scripted.now.file ≢ None
         → reader.new ≡ reader.old }
 {
-    let Scripted { config, view, file } = *scripted;
+    let Scripted { from, view, file } = *scripted;
     match file {
-        None => show_pair(system, alloc, config, view, reader, writer),
-        Some(name) => pair_file(system, alloc, name, config, view, writer),
+        None => show_pair(system, alloc, from, view, reader, writer),
+        Some(name) => pair_file(system, alloc, name, from, view, writer),
     }
 }
 
 /// Runs a script between two ends of the same sizes.
 fn play<R: Source, W: Sink, C: Carrier>(
     alloc: Global,
-    config: Config,
+    from: Beginning,
     counted: bool,
     carrier: &mut C,
     reader: &mut R,
@@ -272,15 +299,15 @@ fn play<R: Source, W: Sink, C: Carrier>(
     requires whole { W.broken writer.old ≡ false }
     requires carrier { C.broken carrier.old ≡ false }
     requires silent { (c : C) → C.told c ≡ None }
-    requires sizes { first_refusal config ≡ None }
+    requires sizes { first_refusal from.config ≡ None }
     ensures plays { (input : List ℕ) → R.left reader.old ≡ Some input
-        → PlaysBetween (C.direct carrier.old) config counted (streams input (R.left reader.new)
+        → PlaysBetween (C.direct carrier.old) from counted (streams input (R.left reader.new)
         (W.contents writer.old) (W.contents writer.new)) result }
     ensures devices { TellsDevices (source_change (R.left reader.old) (R.left reader.new)
         (R.state reader.new)) (W.broken writer.new) result }
     ensures carried { result ≡ Ending.Fault Fault.Carrier → C.broken carrier.new ≡ true }
 {
-    let Ok(mut pair) = ddcmp_pair::Pair::new(alloc, config, config) else {
+    let Some(mut pair) = pair_of(alloc, from) else {
         return Ending::Fault(Fault::Memory);
     };
     match script_with(alloc, &mut pair, reader, writer, carrier, counted) {

@@ -109,7 +109,8 @@ view_as o p view e h = record {
 script_as : (o p t u : Text → Option Text) (scripted : Scripted) → ((id : Text) → o id ≡ p id)
     → ((id : Text) → t id ≡ u id) → HasScript o t scripted → HasScript p u scripted
 script_as o p t u scripted e w h = record {
-  config = sizes_as 0 o p scripted.config e h.config;
+  config = sizes_as 0 o p scripted.from.config e h.config;
+  begun = subst (λ t. HasFlag t scripted.from.begun) (e (codes "begun")) h.begun;
   view = view_as o p scripted.view e h.view;
   file = h.file ∙ ap file_of (w (codes "file"));
 }

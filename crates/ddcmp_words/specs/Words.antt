@@ -96,9 +96,10 @@ with_view app =
     (flag_rule (codes "ladder")))
     (flag_rule (codes "counters"))
 
--- the file of a script
+-- the file of a script, and whether it begins with a pair that is up
 abbrev pub with_script : App → App
-with_script app = with_rule app (place_rule (codes "file"))
+with_script app =
+    with_rule (with_rule app (place_rule (codes "file"))) (flag_rule (codes "begun"))
 
 -- `ddcmp simulate` and `ddcmp pair`
 abbrev pub script_app : Text → App
@@ -286,7 +287,8 @@ pub record HasView (option : Text → Option Text) (view : View) : Type 0 where
 
 -- The options of a script that is run.
 pub record HasScript (option text : Text → Option Text) (scripted : Scripted) : Type 0 where
-  pub config : HasSizes 0 option scripted.config
+  pub config : HasSizes 0 option scripted.from.config
+  pub begun : HasFlag (option (codes "begun")) scripted.from.begun
   pub view : HasView option scripted.view
   pub file : option_map (λ name. name.now) scripted.file ≡ file_of (text (codes "file"))
 

@@ -37,7 +37,7 @@ pub fn explain_is_asked()
 {}
 
 /// The words `ddcmp simulate` ask for the command that runs a script, without its options;
-/// the name of a file, `--window 255`, `--syn=16`, `--restart`, `--svg`, `--ladder` and
+/// the name of a file, `--begun`, `--window 255`, `--syn=16`, `--restart`, `--svg`, `--ladder` and
 /// `--counters` are read.
 pub fn simulate_is_asked()
     ensures plain { IsAsked (codes "ddcmp" ∷ codes "simulate" ∷ []) (codes "simulate") }
@@ -46,6 +46,7 @@ pub fn simulate_is_asked()
         ∷ []) (codes "window") ≡ Some (codes "255") }
     ensures syn { option_in (codes "ddcmp" ∷ codes "simulate" ∷ codes "--syn=16" ∷ [])
         (codes "syn") ≡ Some (codes "16") }
+    ensures begun { IsSwitch (codes "simulate") (codes "--begun") (codes "begun") }
     ensures restart { IsSwitch (codes "simulate") (codes "--restart") (codes "restart") }
     ensures svg { IsSwitch (codes "simulate") (codes "--svg") (codes "svg") }
     ensures ladder { IsSwitch (codes "simulate") (codes "--ladder") (codes "ladder") }
@@ -66,6 +67,7 @@ pub fn pair_is_asked()
         (codes "inbox") ≡ Some (codes "1") }
     ensures syn { option_in (codes "ddcmp" ∷ codes "pair" ∷ codes "--syn=16" ∷ [])
         (codes "syn") ≡ Some (codes "16") }
+    ensures begun { IsSwitch (codes "pair") (codes "--begun") (codes "begun") }
     ensures restart { IsSwitch (codes "pair") (codes "--restart") (codes "restart") }
     ensures ladder { IsSwitch (codes "pair") (codes "--ladder") (codes "ladder") }
     ensures counters { IsSwitch (codes "pair") (codes "--counters") (codes "counters") }

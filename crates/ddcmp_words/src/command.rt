@@ -22,7 +22,7 @@ use crate::link_words::{link_given, link_parser};
 use crate::linked::Linked;
 use crate::options::{CommandOption, Takes};
 use crate::parser::Parser;
-use crate::scripted::Scripted;
+use crate::scripted::{Beginning, Scripted};
 use crate::served::{Role, Served};
 use crate::tap_words::{tap_given, tap_parser};
 use crate::tapped::Tapped;
@@ -237,15 +237,23 @@ Lines of a script (E is A or B):
   # TEXT         a comment"
 }
 
-/// Where a script is read.
-static SCRIPT_OPTIONS: [CommandOption; 1] = [CommandOption {
-    name: "file",
-    takes: Takes::Place("FILE"),
-    is_required: false,
-    help: "Script to read; standard input if left out or -",
-}];
+/// Where a script is read, and where it begins.
+static SCRIPT_OPTIONS: [CommandOption; 2] = [
+    CommandOption {
+        name: "file",
+        takes: Takes::Place("FILE"),
+        is_required: false,
+        help: "Script to read; standard input if left out or -",
+    },
+    CommandOption {
+        name: "begun",
+        takes: Takes::Nothing,
+        is_required: false,
+        help: "Begin with both stations running, the startup handshake done",
+    },
+];
 
-/// A parser with the file of a script.
+/// A parser with the file of a script, and where it begins.
 fn with_script<'a>(parser: Parser<'a>) -> Parser<'a>
     ensures { (app : App) → Makes parser.entry app → Makes result (with_script_of app) }
 {
@@ -524,7 +532,10 @@ fn script_given<'a>(options: &ArgMatches<'a>) -> Scripted<'a>
 {
     let file = file_given(options, "file");
     Scripted {
-        config: sizes_given(options, 0),
+        from: Beginning {
+            config: sizes_given(options, 0),
+            begun: flag_given(options, "begun"),
+        },
         view: view_given(options),
         file,
     }

@@ -26,7 +26,7 @@ pub use command::{Command, read_words};
 pub use declined::Declined;
 pub use explained::Explained;
 pub use linked::Linked;
-pub use scripted::Scripted;
+pub use scripted::{Beginning, Scripted};
 pub use served::{Role, Served};
 pub use tapped::Tapped;
 pub use view::View;

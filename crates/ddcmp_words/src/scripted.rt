@@ -2,11 +2,19 @@
 use crate::view::View;
 use ddcmp_proto::Config;
 
+/// The two ends that a script begins with.
+#[derive(Clone, Copy, Debug, PartialEq, Eq)]
+pub struct Beginning {
+    /// The sizes of both.
+    pub config: Config,
+    /// Whether both were started, and all was exchanged.
+    pub begun: bool,
+}
+
 /// A script between two ends, as the words ask for it.
 #[derive(Clone, Copy, Debug, PartialEq, Eq)]
 pub struct Scripted<'a> {
-    /// The sizes of both ends.
-    pub config: Config,
+    pub from: Beginning,
     pub view: View,
     /// The file that the script is in; standard input if there is none.
     pub file: Option<&'a str>,

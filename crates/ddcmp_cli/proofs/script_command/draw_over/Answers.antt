@@ -20,14 +20,14 @@ returns-clause-carried g c =
     λ h. c.draw.ensures.carried
     (told-back c.draw.result c.in-Err.fault Carrier c.from.result c.in-Err.is c.from.ensures h)
 
-pub returns-in-Ok-draw-clause-draws : goal.returns-in-Ok-draw-clause-draws
-returns-in-Ok-draw-clause-draws g c = λ input e. inr (
+pub returns-in-Ok-clause-draws : goal.returns-in-Ok-clause-draws
+returns-in-Ok-clause-draws g c = λ input e. inr (
   c.draw.result,
   c.draw.new.pair,
-  sym (ap (ending_of script_fault) c.in-Ok-draw.is),
+  sym (ap (ending_of script_fault) c.in-Ok.is),
   untold false input _ _ c.draw.new.pair (g.C.Carrier.direct c.args.carrier.now)
       (g.C.Carrier.told c.args.carrier.now) (g.C.Carrier.told c.draw.new.carrier)
-      (Appends None None) (AppendsPart None None) c.draw.result c.in-Ok.ensures.made
+      (Appends None None) (AppendsPart None None) c.draw.result c.in-Some.ensures.made
       (c.requires.silent c.args.carrier.now) (c.requires.silent c.draw.new.carrier)
       (c.draw.ensures.draws input e),
 )
@@ -39,7 +39,7 @@ returns-clause-draws g c = λ input e. inr (
   ap Faulted c.from.ensures ∙ sym (ap (ending_of script_fault) c.in-Err.is),
   untold false input _ _ c.draw.new.pair (g.C.Carrier.direct c.args.carrier.now)
       (g.C.Carrier.told c.args.carrier.now) (g.C.Carrier.told c.draw.new.carrier)
-      (Appends None None) (AppendsPart None None) c.draw.result c.in-Ok.ensures.made
+      (Appends None None) (AppendsPart None None) c.draw.result c.in-Some.ensures.made
       (c.requires.silent c.args.carrier.now) (c.requires.silent c.draw.new.carrier)
       (c.draw.ensures.draws input e),
 )

@@ -22,16 +22,16 @@ returns-clause-carried g c =
     (told-back c.script_with.result c.in-Err.fault Carrier c.from.result c.in-Err.is c.from.ensures
     h)
 
-pub returns-in-Ok-script_with-clause-plays : goal.returns-in-Ok-script_with-clause-plays
-returns-in-Ok-script_with-clause-plays g c = λ input e. inr (
+pub returns-in-Ok-clause-plays : goal.returns-in-Ok-clause-plays
+returns-in-Ok-clause-plays g c = λ input e. inr (
   c.script_with.result,
   c.script_with.new.pair,
-  sym (ap (ending_of script_fault) c.in-Ok-script_with.is),
+  sym (ap (ending_of script_fault) c.in-Ok.is),
   untold c.args.counted input _ _ c.script_with.new.pair (g.C.Carrier.direct c.args.carrier.now)
       (g.C.Carrier.told c.args.carrier.now) (g.C.Carrier.told c.script_with.new.carrier)
       (Appends (g.W.Sink.contents c.args.writer.now) (g.W.Sink.contents c.script_with.new.writer))
       (AppendsPart (g.W.Sink.contents c.args.writer.now)
-      (g.W.Sink.contents c.script_with.new.writer)) c.script_with.result c.in-Ok.ensures.made
+      (g.W.Sink.contents c.script_with.new.writer)) c.script_with.result c.in-Some.ensures.made
       (c.requires.silent c.args.carrier.now) (c.requires.silent c.script_with.new.carrier)
       (c.script_with.ensures.told input e),
 )
@@ -45,7 +45,7 @@ returns-clause-plays g c = λ input e. inr (
       (g.C.Carrier.told c.args.carrier.now) (g.C.Carrier.told c.script_with.new.carrier)
       (Appends (g.W.Sink.contents c.args.writer.now) (g.W.Sink.contents c.script_with.new.writer))
       (AppendsPart (g.W.Sink.contents c.args.writer.now)
-      (g.W.Sink.contents c.script_with.new.writer)) c.script_with.result c.in-Ok.ensures.made
+      (g.W.Sink.contents c.script_with.new.writer)) c.script_with.result c.in-Some.ensures.made
       (c.requires.silent c.args.carrier.now) (c.requires.silent c.script_with.new.carrier)
       (c.script_with.ensures.told input e),
 )

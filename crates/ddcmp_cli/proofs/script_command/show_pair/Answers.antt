@@ -12,10 +12,10 @@ returns-clause-shows g c = λ input e.
     (g.W.Sink.contents c.show_over.new.writer) in
     let view = c.args.view in
     shows-as view.svg view.ladder ((is_refusal c.show_over.result ≡ true) × Untouched s)
-    (DrawsBetween false c.args.config s c.show_over.result)
-    (DrawsPaired c.args.config s c.show_over.result)
-    (PlaysBetween false c.args.config view.counters s c.show_over.result)
-    (Pairs c.args.config view.counters s c.show_over.result)
+    (DrawsBetween false c.args.from s c.show_over.result)
+    (DrawsPaired c.args.from s c.show_over.result)
+    (PlaysBetween false c.args.from view.counters s c.show_over.result)
+    (Pairs c.args.from view.counters s c.show_over.result)
     (λ draws. inr draws) (λ plays. inr plays) (c.show_over.ensures.shows input e)
 
 pub returns-then-view-2-clause-shows : goal.returns-then-view-2-clause-shows

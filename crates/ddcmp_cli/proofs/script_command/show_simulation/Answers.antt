@@ -12,8 +12,8 @@ returns-clause-shows g c = λ input e.
     (g.W.Sink.contents c.show_over.new.writer) in
     let view = c.args.view in
     shows-as view.svg view.ladder ((is_refusal c.show_over.result ≡ true) × Untouched s)
-    (DrawsBetween true c.args.config s c.show_over.result)
-    (DrawsSimulated c.args.config s c.show_over.result)
-    (PlaysBetween true c.args.config view.counters s c.show_over.result)
-    (Simulates c.args.config view.counters s c.show_over.result)
+    (DrawsBetween true c.args.from s c.show_over.result)
+    (DrawsSimulated c.args.from s c.show_over.result)
+    (PlaysBetween true c.args.from view.counters s c.show_over.result)
+    (Simulates c.args.from view.counters s c.show_over.result)
     (λ draws. (draws, search rules)) (λ plays. (plays, search rules)) (c.show_over.ensures.shows input e)

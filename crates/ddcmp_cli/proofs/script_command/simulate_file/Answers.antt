@@ -18,7 +18,7 @@ returns-in-Ok-clause-shows g c =
     (g.W.Sink.contents c.show_simulation.new.writer) c.show_simulation.result
     ((is_refusal c.show_simulation.result ≡ true)
     × Keeps (g.W.Sink.contents c.args.writer.now) (g.W.Sink.contents c.show_simulation.new.writer))
-    (DrawsSimulated c.args.config) (Simulates c.args.config c.args.view.counters)
+    (DrawsSimulated c.args.from) (Simulates c.args.from c.args.view.counters)
     (sym c.are_two.ensures ∙ c.if-are_two.false)
     (λ content e. (_, c.show_simulation.ensures.shows content (c.in-Ok.ensures.held content e)))
 
@@ -29,6 +29,6 @@ returns-in-Err-clause-shows g c =
     (g.W.Sink.contents c.args.writer.now) c.unopened.result
     ((is_refusal c.unopened.result ≡ true)
     × Keeps (g.W.Sink.contents c.args.writer.now) (g.W.Sink.contents c.args.writer.now))
-    (DrawsSimulated c.args.config) (Simulates c.args.config c.args.view.counters)
+    (DrawsSimulated c.args.from) (Simulates c.args.from c.args.view.counters)
     (sym c.are_two.ensures ∙ c.if-are_two.false) c.unopened.ensures
     (Keeps-refl (g.W.Sink.contents c.args.writer.now))

@@ -19,6 +19,10 @@ pub returns-clause-syn : goal.returns-clause-syn
 unfolding clap_on_literals option_in
 returns-clause-syn c = refl
 
+pub returns-clause-begun : goal.returns-clause-begun
+unfolding clap_on_literals option_in
+returns-clause-begun c = (refl, refl)
+
 pub returns-clause-restart : goal.returns-clause-restart
 unfolding clap_on_literals option_in
 returns-clause-restart c = (refl, refl)
