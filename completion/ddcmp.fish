@@ -14,7 +14,7 @@ complete -c ddcmp -n '__fish_seen_subcommand_from help' -a 'explain simulate pai
 complete -c ddcmp -n '__fish_seen_subcommand_from explain' -l raw -d 'Read raw bytes, not hexadecimal digits'
 complete -c ddcmp -n '__fish_seen_subcommand_from explain' -l from -x -a 'hexdump xxd od text auto' -d 'Read a dump or a log\'s digits; auto detects the form'
 complete -c ddcmp -n '__fish_seen_subcommand_from explain' -l json -d 'Print one JSON object per line'
-complete -c ddcmp -n '__fish_seen_subcommand_from explain' -l discarded -d 'Also report skipped bytes, an unfinished frame, no good frame'
+complete -c ddcmp -n '__fish_seen_subcommand_from explain' -l discarded -d 'Report skipped bytes, an unfinished frame, no good frame'
 complete -c ddcmp -n '__fish_seen_subcommand_from explain' -l ladder -d 'Draw two files, one of each direction, as a ladder'
 complete -c ddcmp -n '__fish_seen_subcommand_from explain' -l max -x -d 'Longest data of a frame, 1 to 16383 bytes [default: 16383]'
 complete -c ddcmp -n '__fish_seen_subcommand_from explain' -s h -l help -d 'Print help'

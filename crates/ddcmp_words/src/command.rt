@@ -107,7 +107,7 @@ static EXPLAIN_OPTIONS: [CommandOption; 8] = [
         name: "discarded",
         takes: Takes::Nothing,
         is_required: false,
-        help: "Also report skipped bytes, an unfinished frame, no good frame",
+        help: "Report skipped bytes, an unfinished frame, no good frame",
     },
     CommandOption {
         name: "ladder",
