@@ -106,7 +106,7 @@ IsDone f =
     (f.waiting ≡ []) × (f.direction.held ≡ []) × (f.direction.relay.waiting ≡ [])
 
 -- A line is down, and if the other isn't, all that came over it was passed on.
-pub record Drains (b : BridgeView) (down : Way → Bool) : Type 0 where
+pub record IsOver (b : BridgeView) (down : Way → Bool) : Type 0 where
   pub some : (down There ≡ true) ⊎ (down Back ≡ true)
   pub there : down There ≡ true → down Back ≡ false → IsDone b.there
   pub back : down Back ≡ true → down There ≡ false → IsDone b.back

@@ -3,7 +3,7 @@ ghost use Rattle.std.specs.Prelude.{◌≡◌, IfSome, IsTrue, List, ℕ};
 ghost use Rattle.rand_pcg.specs.Lcg.{Lcg};
 ghost use Rattle.ddcmp_bridge.specs.Delaying.{Directs};
 ghost use Rattle.ddcmp_bridge.specs.Faults.{start_of};
-ghost use Rattle.ddcmp_bridge.specs.Joining.{Drains, GoesOn, Joins, faults_on, flow_on};
+ghost use Rattle.ddcmp_bridge.specs.Joining.{GoesOn, IsOver, Joins, faults_on, flow_on};
 ghost use Rattle.ddcmp_bridge.specs.Joining.{no_traffic};
 ghost use Rattle.ddcmp_bridge.specs.Relaying.{counts_of};
 ghost use Rattle.ddcmp_bridge.specs.declared.lines.Way.{Way as WayValue};
@@ -69,7 +69,7 @@ impl Bridge {
     pub fn run<L: Lines>(&mut self, lines: &mut L, ends_at: u64) -> Ended
         ensures goes { GoesOn self.old (L.traffic lines.old) self.new (L.traffic lines.new) }
         ensures faults { (way : WayValue) → faults_on way self.new ≡ faults_on way self.old }
-        ensures drains { result ≡ Ended.Line → Drains self.new (L.down lines.new) }
+        ensures over { result ≡ Ended.Line → IsOver self.new (L.down lines.new) }
     {
         for _turn in 0..u64::MAX {
             let now = lines.now();
@@ -101,7 +101,7 @@ impl Bridge {
 
     /// Returns whether a line is down, and nothing that came over it can be passed on any more.
     fn is_over<L: Lines>(&self, lines: &L) -> bool
-        ensures { IsTrue result → Drains self.now (L.down lines.now) }
+        ensures { IsTrue result → IsOver self.now (L.down lines.now) }
     {
         match (lines.is_down(Way::There), lines.is_down(Way::Back)) {
             (false, false) => false,
