@@ -96,7 +96,10 @@ abbrev pub flow_on : Way → BridgeView → FlowView
 flow_on There b = b.there
 flow_on Back b = b.back
 
--- the faults that a bridge makes in a direction
+-- for how many milliseconds a bridge holds frames back in a direction, and the faults it makes there
+abbrev pub delay_on : Way → BridgeView → ℕ
+delay_on way b = (flow_on way b).direction.delay
+
 abbrev pub faults_on : Way → BridgeView → Faults
 faults_on way b = (flow_on way b).direction.relay.faults
 

@@ -1,10 +1,10 @@
 //! Both directions of a bridge, over its lines.
-ghost use Rattle.std.specs.Prelude.{◌≡◌, IfSome, IsTrue, List, ℕ};
+ghost use Rattle.std.specs.Prelude.{◌≡◌, ◌≤◌, IfSome, IsTrue, List, ℕ};
 ghost use Rattle.rand_pcg.specs.Lcg.{Lcg};
 ghost use Rattle.ddcmp_bridge.specs.Delaying.{Directs};
 ghost use Rattle.ddcmp_bridge.specs.Faults.{start_of};
-ghost use Rattle.ddcmp_bridge.specs.Joining.{GoesOn, IsOver, Joins, faults_on, flow_on};
-ghost use Rattle.ddcmp_bridge.specs.Joining.{no_traffic};
+ghost use Rattle.ddcmp_bridge.specs.Joining.{GoesOn, IsOver, Joins, delay_on, faults_on};
+ghost use Rattle.ddcmp_bridge.specs.Joining.{flow_on, no_traffic};
 ghost use Rattle.ddcmp_bridge.specs.Relaying.{counts_of};
 ghost use Rattle.ddcmp_bridge.specs.declared.lines.Way.{Way as WayValue};
 
@@ -58,6 +58,7 @@ impl Bridge {
         ensures joins { IfSome result (λ made.
             Joins (start_of faults.seed 0) (start_of faults.seed 1) made no_traffic) }
         ensures faults { (way : WayValue) → IfSome result (λ made. faults_on way made ≡ faults) }
+        ensures delay { (way : WayValue) → IfSome result (λ made. delay_on way made ≡ delay_ms) }
     {
         let there = Flow::new(alloc, faults, delay_ms, 0)?;
         let back = Flow::new(alloc, faults, delay_ms, 1)?;
@@ -70,6 +71,7 @@ impl Bridge {
         ensures goes { GoesOn self.old (L.traffic lines.old) self.new (L.traffic lines.new) }
         ensures faults { (way : WayValue) → faults_on way self.new ≡ faults_on way self.old }
         ensures over { result ≡ Ended.Line → IsOver self.new (L.down lines.new) }
+        ensures time { result ≡ Ended.Time → ends_at ≤ L.moment lines.new }
     {
         for _turn in 0..u64::MAX {
             let now = lines.now();

@@ -62,6 +62,7 @@ impl Flow {
         ensures flows { IfSome result (λ made.
             Flows (start_of faults.seed number) made (record { came = []; gone = [] })) }
         ensures faults { IfSome result (λ made. made.direction.relay.faults ≡ faults) }
+        ensures delay { IfSome result (λ made. made.direction.delay ≡ delay_ms) }
     {
         let direction = Direction::new(alloc, faults, delay_ms, number)?;
         let came = vec![in alloc; 0; MOST].ok()?;

@@ -1,5 +1,5 @@
 //! The two lines of a bridge, a clock and a wait.
-ghost use Rattle.std.specs.Prelude.{◌≡◌, ◌<◌, ◌≤◌, Bool, Option, length};
+ghost use Rattle.std.specs.Prelude.{◌≡◌, ◌<◌, ◌≤◌, ℕ, Bool, Option, length};
 
 use crate::faults::Fate;
 
@@ -31,6 +31,9 @@ pub trait Lines {
 
     // Whether the line that a direction reads is down.
     ghost down: { Self → WayValue → Bool };
+
+    // The moment that was returned last.
+    ghost moment: { Self → ℕ };
 
     /// Reads the line that this direction reads into the front of `space`; none if nothing has
     /// come, or the line is down.
@@ -67,5 +70,6 @@ pub trait Lines {
 
     /// Returns the moment in milliseconds since the bridge began.
     fn now(&mut self) -> u64
-        ensures { traffic self.new ≡ traffic self.old };
+        ensures traffic { traffic self.new ≡ traffic self.old }
+        ensures moment { result ≡ moment self.new };
 }

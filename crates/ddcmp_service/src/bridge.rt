@@ -11,7 +11,7 @@ use crate::line_name::LineName;
 use crate::opening::{OpenRefusal, Opened, Opener};
 use crate::system::System;
 use crate::waiting::Waiting;
-use ddcmp_bridge::{Bridge, Counts, Faults, Lines, Way};
+use ddcmp_bridge::{Bridge, Counts, Ended, Faults, Lines, Way};
 use ddcmp_session::{Down, Wanted};
 use ddcmp_station::{Clock, Elapsed};
 use ddcmp_tap::{NoMemory, Notation, Side};
@@ -279,18 +279,20 @@ impl Ways {
         let mut lines = LiveLines {
             system,
             clock,
+            moment: 0,
             sides,
             there,
             back,
         };
-        let _ended = bridge.run(&mut lines, ends_at(options));
+        let ended = bridge.run(&mut lines, ends_at(options));
         let first = lines.sides.first.down;
         let second = lines.sides.second.down;
         tell_down(system, "first", first);
         tell_down(system, "second", second);
         tell_unsaved(system, options.save_first, lines.there.unsaved());
         tell_unsaved(system, options.save_second, lines.back.unsaved());
-        let has_failed = has_failed(first) || has_failed(second) || lines.is_stopped();
+        let was_stopped = ended == Ended::Stopped || lines.is_stopped();
+        let has_failed = has_failed(first) || has_failed(second) || was_stopped;
         end_of(&bridge, &lines.there, &lines.back, has_failed)
     }
 }

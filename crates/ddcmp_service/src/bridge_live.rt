@@ -13,6 +13,8 @@ use std::io::Eprint;
 pub(crate) struct LiveLines<'a, E, C> {
     pub(crate) system: &'a E,
     pub(crate) clock: C,
+    /// The moment that it returned last.
+    pub(crate) moment: u64,
     pub(crate) sides: Sides,
     pub(crate) there: Intake,
     pub(crate) back: Intake,
@@ -41,6 +43,8 @@ impl<E: Eprint, C: Clock> Lines for LiveLines<'_, E, C> {
     ghost traffic = { λ _. None };
 
     ghost down = { λ l. down_of (is_some l.sides.first.down) (is_some l.sides.second.down) };
+
+    ghost moment = { λ l. l.moment };
 
     fn read(&mut self, way: Way, space: &mut [u8]) -> Option<usize> {
         match way {
@@ -81,6 +85,7 @@ impl<E: Eprint, C: Clock> Lines for LiveLines<'_, E, C> {
     }
 
     fn now(&mut self) -> u64 {
-        self.clock.now()
+        self.moment = self.clock.now();
+        self.moment
     }
 }

@@ -52,6 +52,8 @@ impl Lines for Joined {
 
     ghost down = { λ l way. false };
 
+    ghost moment = { λ l. l.moment };
+
     fn read(&mut self, way: Way, space: &mut [u8]) -> Option<usize> {
         match way {
             Way::There => Some(give(self.first.as_slice(), &mut self.there_came, space)),
