@@ -96,10 +96,11 @@ abbrev pub flow_on : Way → BridgeView → FlowView
 flow_on There b = b.there
 flow_on Back b = b.back
 
--- for how many milliseconds a bridge holds frames back in a direction, and the faults it makes there
+-- for how many milliseconds a bridge holds frames back in a direction
 abbrev pub delay_on : Way → BridgeView → ℕ
 delay_on way b = (flow_on way b).direction.delay
 
+-- the faults that it makes there
 abbrev pub faults_on : Way → BridgeView → Faults
 faults_on way b = (flow_on way b).direction.relay.faults
 

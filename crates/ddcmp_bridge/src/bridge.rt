@@ -91,7 +91,7 @@ impl Bridge {
         Ended::Stopped
     }
 
-    /// Reads and writes each line once, as far as that doesn't wait; returns whether anything moved.
+    /// Reads and writes each line once, as far as neither waits; returns whether anything moved.
     fn pass<L: Lines>(&mut self, lines: &mut L, now: u64) -> bool
         ensures goes { GoesOn self.old (L.traffic lines.old) self.new (L.traffic lines.new) }
         ensures faults { (way : WayValue) → faults_on way self.new ≡ faults_on way self.old }

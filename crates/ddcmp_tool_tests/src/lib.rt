@@ -1,9 +1,9 @@
 //! Tests from outside of what the tools do. Of `ddcmp_explain`: its text at every cut, size and
 //! fault, over streams, of dumps, of logs and of a form that it detects. Of `ddcmp_tap`, which
 //! explains a direction of a line: what that forwards, its room and its text, and two captured
-//! directions as a ladder. Of `ddcmp_bridge`: its loop over lines in memory. Of `ddcmp_session`: two
-//! sessions over bad lines, a session through days, its loop over devices, what these tell it, and
-//! its reports.
+//! directions as a ladder. Of `ddcmp_bridge`: its loop over lines in memory. Of `ddcmp_session`:
+//! two sessions over bad lines, a session through days, its loop over devices, what these tell it,
+//! and its reports.
 #![tactic(auto)]
 
 #[cfg(test)]

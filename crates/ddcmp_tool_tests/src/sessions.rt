@@ -193,7 +193,7 @@ fn start(one: &mut Session, other: &mut Session) {
     }
 }
 
-/// A session that is connected again counts what it had on a line whose end nobody told it of.
+/// A session that is connected again counts what it had on a line that was never ended.
 #[test]
 fn a_line_that_has_not_ended_is_counted(rt: HostRuntime) {
     let mut a = session(&rt, options(0, 86_400));
