@@ -1,10 +1,9 @@
+pub mod Inside
 pub mod Table
 pub mod Frames
 pub mod Counting
 pub mod Core
 pub mod NextFrame
-pub mod NextSending
-pub mod Receiving
 pub mod Laws
 pub use Rattle.ddcmp_num.specs.Sequence
 pub use Rattle.ddcmp_frame.specs.Fields

@@ -13,7 +13,7 @@ use Rattle.ddcmp_explain.specs.declared.form.Form.TheVariants.{Hex}
 use Rattle.ddcmp_explain.specs.Digits.{bytes_of, hex_value, is_blank, is_readable}
 use Rattle.ddcmp_explain.specs.Digits.{first_unexpected, digits}
 use Rattle.ddcmp_explain.specs.Digits.{pairs, left_over, spelled}
-use Rattle.ddcmp_explain.specs.Decoding.{Decodes, place_of}
+use Rattle.ddcmp_explain.specs.Inside.Decoding.{Decodes, place_of}
 use Rattle.ddcmp_explain.proofs.DigitLaws.{readable-more, unexpected-here, unexpected-more}
 use Rattle.ddcmp_explain.proofs.DigitLaws.{digits-more, digits-found, digits-blank}
 use Rattle.ddcmp_explain.proofs.DigitLaws.{digits-unexpected, digits-digit, pairs-held, pairs-whole}

@@ -21,7 +21,7 @@ use Rattle.ddcmp_explain.specs.Detection.{digits_fault, dump_fault, result_by, s
 use Rattle.ddcmp_explain.specs.Detection.{refusal_as, sight_from}
 use Rattle.ddcmp_explain.specs.Dumps.{IsDumpExplained}
 use Rattle.ddcmp_explain.specs.Explains.{Answer, IsExplained}
-use Rattle.ddcmp_explain.specs.Openings.{IsExplainedAs}
+use Rattle.ddcmp_explain.specs.Inside.Openings.{IsExplainedAs}
 use Rattle.ddcmp_explain.specs.declared.detected_fault.DetectedFault.{DetectedFault}
 use Rattle.ddcmp_explain.specs.declared.detected_fault.DetectedFault.TheVariants as detecting
 use Rattle.ddcmp_explain.specs.declared.detection.Detected.{Detected}

@@ -25,7 +25,7 @@ use Rattle.ddcmp_explain.specs.Dumps.{ExplainsDump, dump_answer}
 use Rattle.ddcmp_explain.specs.Explains.{Answer, Explains, Tells, refusal}
 use Rattle.ddcmp_explain.proofs.TakeLaws.{ok-exactly}
 use Rattle.ddcmp_explain.specs.declared.explainer.Explainer.{Explainer}
-use Rattle.ddcmp_explain.specs.Progress.{Progress}
+use Rattle.ddcmp_explain.specs.Inside.Progress.{Progress}
 
 pub length-shown : (p : Place) (s : List ℕ) → length (shown_from p s) ≡ length s
 unfolding shown_from

@@ -3,7 +3,7 @@ use Rattle.std.proofs.Common.{◌≡◌, inl, inr, ℕ, ◌+◌, ◌-◌, ◌<�
 use Rattle.std.proofs.Common.{take, take_all, drop, sym, ◌∙◌, ap, arith, length-append}
 use Rattle.std.proofs.lemmas.List.{take-append-le}
 use Rattle.ddcmp_explain.specs.declared.head.Head.{Head}
-use Rattle.ddcmp_explain.specs.Heads.{Heads, Follows}
+use Rattle.ddcmp_explain.specs.Inside.Heads.{Heads, Follows}
 
 grown : (rest more : List ℕ) (b : ℕ) → Follows rest b more → length rest < length more
     → more ≡ rest ++ b ∷ []

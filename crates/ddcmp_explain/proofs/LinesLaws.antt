@@ -24,12 +24,12 @@ use Rattle.ddcmp_explain.specs.Output.{line_in}
 use Rattle.ddcmp_explain.specs.declared.style.Style.{Style}
 use Rattle.ddcmp_explain.specs.Discarded.{Told, behind, lines_in, parts_from, part_lines, passed}
 use Rattle.ddcmp_explain.specs.Discarded.{has_frame, reached}
-use Rattle.ddcmp_explain.specs.Heads.{Follows, Heads}
+use Rattle.ddcmp_explain.specs.Inside.Heads.{Follows, Heads}
 use Rattle.ddcmp_explain.proofs.PartLaws.{added, lines-append, lines_by-given, lines_by-nothing}
 use Rattle.ddcmp_explain.proofs.PartLaws.{good-one, no-good, reached-append}
 use Rattle.ddcmp_explain.proofs.RestLaws.{follows}
 use Rattle.ddcmp_frame.specs.declared.header.Header.{Header}
-use Rattle.ddcmp_explain.specs.Progress.{BeginsWith, HasFound, HasTold, ReachesTo}
+use Rattle.ddcmp_explain.specs.Inside.Progress.{BeginsWith, HasFound, HasTold, ReachesTo}
 
 pub lines-nothing : (style : Style) (max : ℕ) → lines_in style max [] ≡ []
 lines-nothing style max = lines_by-nothing style.discarded style.notation max [] (items-nothing max)

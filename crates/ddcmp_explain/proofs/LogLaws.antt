@@ -10,7 +10,7 @@ use Rattle.ddcmp_explain.specs.declared.spot.Spot.TheVariants.{Between, Zero, Pr
 use Rattle.ddcmp_explain.specs.declared.spot.Spot.TheVariants.{Comment, Wrong}
 use Rattle.ddcmp_explain.specs.Digits.{completed_at, half_at, is_wrong, logged_from, spot_after}
 use Rattle.ddcmp_explain.specs.Digits.{spot_from, wrong_from}
-use Rattle.ddcmp_explain.specs.Decoding.{Decodes}
+use Rattle.ddcmp_explain.specs.Inside.Decoding.{Decodes}
 
 pub spot-more : (p : Spot) (xs ys : List ℕ)
     → spot_from p (xs ++ ys) ≡ spot_from (spot_from p xs) ys

@@ -14,7 +14,7 @@ use Rattle.std.specs.Fmt.{decimal}
 use Rattle.std.specs.List.{range_with_len}
 use Rattle.std.proofs.lemmas.List.FromFn.{get_or-map-range_with_len}
 use Rattle.ddcmp_explain.specs.declared.put.TheConstants.{POWERS}
-use Rattle.ddcmp_explain.specs.Putting.{Puts}
+use Rattle.ddcmp_explain.specs.Inside.Putting.{Puts}
 
 -- one text after another
 pub puts-then : {a b c : List ℕ} {i j k : ℕ} {s t : List ℕ} → Puts a i b j s → Puts b j c k t

@@ -13,7 +13,7 @@ use Rattle.ddcmp_frame.proofs.ReadingLaws.{Row, Counts, Waits, drop-drop, row-fa
 use Rattle.ddcmp_frame.proofs.ReadingLaws.{row-stuck, read-none, read-some, read-nothing}
 use Rattle.ddcmp_frame.proofs.ReadingLaws.{ending-more, ending-stuck, ending-offset, ending-suffix}
 use Rattle.ddcmp_frame.proofs.Tests.{chosen, ltb-isnt, some-inj, none-some}
-use Rattle.ddcmp_explain.specs.Heads.{Follows}
+use Rattle.ddcmp_explain.specs.Inside.Heads.{Follows}
 
 lighter : (a b : ℕ) (s t : Bool) → 2 * a + (if s then 0 else 1) < 2 * b + (if t then 0 else 1)
     → a ≤ b

@@ -20,7 +20,7 @@ use Rattle.ddcmp_explain.specs.declared.style.Style.{Style}
 use Rattle.ddcmp_explain.specs.Digits.{unexpected_in, left_in}
 use Rattle.ddcmp_io.specs.Input.{GaveMost}
 use Rattle.ddcmp_explain.specs.Explains.{refusal, refusal_by, Tells, Explains}
-use Rattle.ddcmp_explain.specs.Progress.{Progress}
+use Rattle.ddcmp_explain.specs.Inside.Progress.{Progress}
 use Rattle.ddcmp_explain.proofs.FormLaws.{unexpected-stays}
 
 -- so far, and each whole byte of it has been reported

@@ -1,15 +1,11 @@
+pub mod Inside
 pub mod Dumps
 pub mod Digits
 pub mod Logs
-pub mod Decoding
 pub mod Text
 pub mod Json
 pub mod Output
 pub mod Discarded
-pub mod Heads
 pub mod Explains
 pub mod Detection
-pub mod Openings
-pub mod Progress
-pub mod Putting
 pub mod Label

@@ -35,7 +35,7 @@ pub(crate) struct Decoded {
 }
 
 impl Decoder {
-    ghost use Rattle.ddcmp_explain.specs.Decoding.{Decodes, place_of};
+    ghost use Rattle.ddcmp_explain.specs.Inside.Decoding.{Decodes, place_of};
 
     /// Nothing so far.
     pub(crate) fn new(form: Form) -> Self

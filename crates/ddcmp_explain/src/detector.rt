@@ -8,7 +8,7 @@ ghost use Rattle.ddcmp_io.specs.Change.{sink_change, source_change};
 ghost use Rattle.ddcmp_io.specs.Input.{GaveMost};
 ghost use Rattle.ddcmp_explain.specs.Detection.{ExplainsDetected, detected, detected_first};
 ghost use Rattle.ddcmp_explain.specs.Detection.{digits_fault, dump_fault, refusal_as, result_by};
-ghost use Rattle.ddcmp_explain.specs.Openings.{IsExplainedAs};
+ghost use Rattle.ddcmp_explain.specs.Inside.Openings.{IsExplainedAs};
 
 use crate::detected_fault::DetectedFault;
 use crate::detection::{Detected, detect};

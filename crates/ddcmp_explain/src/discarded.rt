@@ -5,7 +5,7 @@ ghost use Rattle.ddcmp_io.specs.Written.{HandsOver, output_of};
 ghost use Rattle.ddcmp_explain.specs.Discarded.{open_end, open_front};
 ghost use Rattle.ddcmp_explain.specs.Discarded.{open_length as length_of_open, open_text};
 ghost use Rattle.ddcmp_explain.specs.Discarded.{passed_text};
-ghost use Rattle.ddcmp_explain.specs.Putting.{Puts};
+ghost use Rattle.ddcmp_explain.specs.Inside.Putting.{Puts};
 
 use crate::json::{put_header as put_json_header, put_start};
 use crate::notation::Notation;

@@ -7,7 +7,7 @@ ghost use Rattle.ddcmp_frame.specs.Limits.{MAX_COUNT};
 ghost use Rattle.ddcmp_frame.specs.Reader.{StandsFor};
 ghost use Rattle.ddcmp_explain.specs.Dumps.{ExplainsDump, IsDumpExplained, dump_answer};
 ghost use Rattle.ddcmp_explain.specs.Explains.{Tells, refusal};
-ghost use Rattle.ddcmp_explain.specs.Progress.{Progress, Takes};
+ghost use Rattle.ddcmp_explain.specs.Inside.Progress.{Progress, Takes};
 ghost use Rattle.ddcmp_io.specs.Change.{sink_change, source_change};
 ghost use Rattle.ddcmp_io.specs.Input.{GaveMost};
 

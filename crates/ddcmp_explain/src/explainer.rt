@@ -28,7 +28,7 @@ pub(crate) struct Explainer {
 }
 
 impl Explainer {
-    ghost use Rattle.ddcmp_explain.specs.Progress.{Progress, Takes};
+    ghost use Rattle.ddcmp_explain.specs.Inside.Progress.{Progress, Takes};
 
     /// Nothing so far, for a reader of none.
     pub(crate) fn new(frames: Reader, form: Form, style: Style) -> Self

@@ -1,7 +1,7 @@
 //! How the frame begins that is still open.
 ghost use Rattle.std.specs.Prelude.{◌≡◌, ◌+◌, ◌-◌, ◌<◌, ◌≤◌, ◌++◌, ◌∷◌, [], List, ℕ, drop, length};
 ghost use Rattle.std.specs.Prelude.{take};
-ghost use Rattle.ddcmp_explain.specs.Heads.{Heads, Follows};
+ghost use Rattle.ddcmp_explain.specs.Inside.Heads.{Heads, Follows};
 ghost use Rattle.ddcmp_explain.specs.Discarded.{open_header};
 
 use ddcmp_frame::Header;

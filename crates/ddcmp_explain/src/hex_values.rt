@@ -4,7 +4,7 @@ ghost use Rattle.std.specs.Prelude.{None};
 ghost use Rattle.std.specs.Simd.Lanes.{Each1};
 ghost use Rattle.ddcmp_explain.specs.declared.hex_digits.TheConstants.{HEX_VALUES};
 ghost use Rattle.ddcmp_explain.specs.Digits.{pairs};
-ghost use Rattle.ddcmp_explain.specs.Decoding.{PutsEight};
+ghost use Rattle.ddcmp_explain.specs.Inside.Decoding.{PutsEight};
 
 use std::simd::prelude::*;
 

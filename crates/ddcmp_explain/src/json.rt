@@ -1,7 +1,7 @@
 //! The lines as JSON.
 ghost use Rattle.std.specs.Prelude.{◌≡◌, ◌+◌, ◌≤◌, ◌++◌, codes, decimal, length};
 ghost use Rattle.std.specs.Prelude.{if◌then◌else◌};
-ghost use Rattle.ddcmp_explain.specs.Putting.{Puts};
+ghost use Rattle.ddcmp_explain.specs.Inside.Putting.{Puts};
 ghost use Rattle.ddcmp_explain.specs.Text.{flag_text, kind_text, lends as lends_data};
 ghost use Rattle.ddcmp_explain.specs.Json.{json_counted, json_fault, json_fields, json_header};
 ghost use Rattle.ddcmp_explain.specs.Json.{json_front, json_item, json_reason, json_start};

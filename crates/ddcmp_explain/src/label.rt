@@ -3,7 +3,7 @@ ghost use Rattle.std.specs.Prelude.{◌+◌, ◌≤◌, ◌++◌, codes, decimal
 ghost use Rattle.ddcmp_frame.specs.Naks.{reason_of};
 ghost use Rattle.ddcmp_explain.specs.Json.{reason_in_words};
 ghost use Rattle.ddcmp_explain.specs.Label.{control_label, count_label, frame_label, item_label};
-ghost use Rattle.ddcmp_explain.specs.Putting.{Puts};
+ghost use Rattle.ddcmp_explain.specs.Inside.Putting.{Puts};
 
 use crate::put::{LINE, put, put_byte, put_number, put_slice};
 use crate::reasons::reason_name;

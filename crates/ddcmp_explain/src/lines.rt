@@ -7,7 +7,7 @@ ghost use Rattle.ddcmp_frame.specs.Step.{item_offset};
 ghost use Rattle.ddcmp_io.specs.Written.{HandsOver, Writes, output_of};
 ghost use Rattle.ddcmp_explain.specs.Discarded.{behind, end_in, lines_in, opened, part_lines};
 ghost use Rattle.ddcmp_explain.specs.Discarded.{none_text, passed, rest_by};
-ghost use Rattle.ddcmp_explain.specs.Heads.{Heads};
+ghost use Rattle.ddcmp_explain.specs.Inside.Heads.{Heads};
 
 use crate::discarded::{write_discarded, write_open};
 use crate::head::Head;
@@ -35,7 +35,7 @@ pub(crate) struct Lines {
 }
 
 impl Lines {
-    ghost use Rattle.ddcmp_explain.specs.Progress.{HasTold};
+    ghost use Rattle.ddcmp_explain.specs.Inside.Progress.{HasTold};
 
     /// No bytes so far, for a reader of none.
     pub(crate) fn new(frames: Reader, style: Style) -> Self

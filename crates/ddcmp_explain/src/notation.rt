@@ -2,7 +2,7 @@
 ghost use Rattle.std.specs.Prelude.{◌≤◌};
 ghost use Rattle.ddcmp_io.specs.Written.{HandsOver, output_of};
 ghost use Rattle.ddcmp_explain.specs.Output.{behind_in, front_in, line_in, totals_in};
-ghost use Rattle.ddcmp_explain.specs.Putting.{Puts};
+ghost use Rattle.ddcmp_explain.specs.Inside.Putting.{Puts};
 
 use crate::json::{put_json_front, put_json_totals};
 use crate::put::LINE;

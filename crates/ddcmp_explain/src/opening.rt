@@ -1,6 +1,6 @@
 //! The first bytes of an input.
 ghost use Rattle.std.specs.Prelude.{◌≡◌, ◌↔◌, ◌≢◌, IfSome};
-ghost use Rattle.ddcmp_explain.specs.Openings.{Opens};
+ghost use Rattle.ddcmp_explain.specs.Inside.Openings.{Opens};
 
 use ddcmp_io::{Got, Source, Worst};
 

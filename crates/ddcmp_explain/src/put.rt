@@ -1,7 +1,7 @@
 //! The text of a line, put together piece by piece in an array before it goes to a page. The place
 //! at which the next piece goes is handed on as a value, so that it can stay in a register.
 ghost use Rattle.std.specs.Prelude.{◌≡◌, ◌+◌, ◌-◌, ◌^◌, ◌<◌, ◌≤◌, decimal, length};
-ghost use Rattle.ddcmp_explain.specs.Putting.{Puts};
+ghost use Rattle.ddcmp_explain.specs.Inside.Putting.{Puts};
 
 use crate::byte_texts::byte_text;
 use itoa::write_digits;

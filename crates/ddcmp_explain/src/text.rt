@@ -1,7 +1,7 @@
 //! The text of items.
 ghost use Rattle.std.specs.Prelude.{◌≡◌, ◌+◌, ◌≤◌, ◌++◌, codes, decimal, length, take};
 ghost use Rattle.std.specs.Prelude.{if◌then◌else◌};
-ghost use Rattle.ddcmp_explain.specs.Putting.{Puts};
+ghost use Rattle.ddcmp_explain.specs.Inside.Putting.{Puts};
 ghost use Rattle.ddcmp_explain.specs.Text.{kind_text, flags_text, fields_text, counted_text};
 ghost use Rattle.ddcmp_explain.specs.Text.{header_text, fault_text, item_text, lends as lends_data};
 ghost use Rattle.ddcmp_explain.specs.Text.{front_text, totals};

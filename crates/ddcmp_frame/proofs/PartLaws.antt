@@ -9,7 +9,7 @@ use Rattle.ddcmp_frame.specs.declared.item.Item.{Item}
 use Rattle.ddcmp_frame.specs.Reading.{items}
 use Rattle.ddcmp_frame.specs.Reader.{ReaderView, StandsFor, EndsWith, items_given, Grows}
 use Rattle.ddcmp_frame.specs.Reader.{PushesAll}
-use Rattle.ddcmp_frame.specs.Scan.{GrowsBy, TakesPiece, TakesAll}
+use Rattle.ddcmp_frame.specs.Inside.Scan.{GrowsBy, TakesPiece, TakesAll}
 use Rattle.ddcmp_frame.proofs.Tests.{some-none}
 
 -- ---- step after step

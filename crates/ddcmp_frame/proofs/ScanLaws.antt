@@ -27,9 +27,9 @@ use Rattle.ddcmp_frame.specs.Reading.{with_more}
 use Rattle.ddcmp_frame.specs.Resume.{from_start}
 use Rattle.ddcmp_frame.specs.Reader.{ReaderView, Summarises, StandsFor, LentBeside, EndsWith}
 use Rattle.ddcmp_frame.specs.Reader.{items_given, candidate_length, bytes_to_come, BeginsWith}
-use Rattle.ddcmp_frame.specs.Scan.{IsSoundScan, HasHeader, HasFrame, FitsPhase, bytes_in}
-use Rattle.ddcmp_frame.specs.Scan.{skipped_in, left_in, view_of, GrowsBy, TakesPiece}
-use Rattle.ddcmp_frame.specs.Scan.{IsDataFrame}
+use Rattle.ddcmp_frame.specs.Inside.Scan.{IsSoundScan, HasHeader, HasFrame, FitsPhase, bytes_in}
+use Rattle.ddcmp_frame.specs.Inside.Scan.{skipped_in, left_in, view_of, GrowsBy, TakesPiece}
+use Rattle.ddcmp_frame.specs.Inside.Scan.{IsDataFrame}
 use Rattle.ddcmp_frame.proofs.Tests.{ltb-is, ltb-isnt, false-true}
 use Rattle.ddcmp_frame.proofs.WireLaws.{frame_length-counted, counted-whole, length-wire}
 use Rattle.ddcmp_frame.proofs.WireLaws.{wire-front, wire-right, eight-parsed}

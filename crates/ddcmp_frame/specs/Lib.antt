@@ -1,3 +1,4 @@
+pub mod Inside
 pub mod Fields
 pub mod Naks
 pub mod Spelling
@@ -7,8 +8,6 @@ pub mod Reading
 pub mod Resume
 pub mod Reader
 pub mod Step
-pub mod PlainRoom
-pub mod Scan
 pub use Rattle.ddcmp_io.specs.Device
 pub use Rattle.ddcmp_io.specs.Failing
 pub use Rattle.ddcmp_io.specs.Written

@@ -51,7 +51,7 @@ impl Model for PlainReader {
       lent = take r.lent (drop 8 r.buffer.items);
     } };
 
-    ghost use Rattle.ddcmp_frame.specs.PlainRoom.{HasPlainRoom};
+    ghost use Rattle.ddcmp_frame.specs.Inside.PlainRoom.{HasPlainRoom};
 
     ghost invariant = { HasPlainRoom };
 }

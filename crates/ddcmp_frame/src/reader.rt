@@ -36,7 +36,7 @@ pub struct Reader {
 
 impl Model for Reader {
     ghost use Rattle.ddcmp_frame.specs.Reader.{ReaderView};
-    ghost use Rattle.ddcmp_frame.specs.Scan.{IsSoundScan, view_of};
+    ghost use Rattle.ddcmp_frame.specs.Inside.Scan.{IsSoundScan, view_of};
 
     ghost Value = { ReaderView };
 

@@ -6,8 +6,8 @@ ghost use Rattle.ddcmp_frame.specs.Fields.{CountedFields};
 ghost use Rattle.ddcmp_frame.specs.Spelling.{IsBytes, is_start as is_start_byte};
 ghost use Rattle.ddcmp_frame.specs.Reading.{is_data_right};
 ghost use Rattle.ddcmp_frame.specs.Reader.{open_of, kept_of, BeginsWith};
-ghost use Rattle.ddcmp_frame.specs.Scan.{IsSoundScan, IsReady, IsCandidate, Takes, TakesAll};
-ghost use Rattle.ddcmp_frame.specs.Scan.{view_of, IsDataFrame, TakesFrame};
+ghost use Rattle.ddcmp_frame.specs.Inside.Scan.{IsSoundScan, IsReady, IsCandidate, Takes, TakesAll};
+ghost use Rattle.ddcmp_frame.specs.Inside.Scan.{view_of, IsDataFrame, TakesFrame};
 
 use crate::codes::{CONTROL_START, DATA_START, MAINT_START};
 use crate::header::{Counted, Header, HeaderFault, is_start};

@@ -30,7 +30,8 @@ use Rattle.ddcmp_line.specs.Script.{Between, AllFit, nothing_between, after_line
 use Rattle.ddcmp_line.specs.Script.{carriages_of_lines, IsScriptLine, lines_done}
 use Rattle.ddcmp_line.specs.ScriptEnds.{text_then, Around, around, PausedBefore, StoppedAt}
 use Rattle.ddcmp_line.specs.ScriptEnds.{Broken, text_behind, Plays}
-use Rattle.ddcmp_line.specs.ScriptProgress.{HasDone, HasDoneAll, Stops, course, fresh, played}
+use Rattle.ddcmp_line.specs.Inside.ScriptProgress.{HasDone, HasDoneAll, Stops, course, fresh}
+use Rattle.ddcmp_line.specs.Inside.ScriptProgress.{played}
 use Rattle.ddcmp_io.proofs.TextLaws.{sends-nothing}
 use Rattle.ddcmp_line.proofs.Scenes.{carries-nothing}
 use Rattle.ddcmp_line.proofs.Playing.{sends-more, nothing-of-next}

@@ -18,11 +18,12 @@ use Rattle.ddcmp_run.specs.Carriages.{Carriage}
 use Rattle.ddcmp_line.specs.Script.{Carries, Between, Scene, AreDirect, AreWithin, DoneLine}
 use Rattle.ddcmp_line.specs.Script.{after_line, text_of, carriages_by, after_lines, text_of_lines}
 use Rattle.ddcmp_line.specs.Script.{carriages_of_lines, IsScriptLine, AllFit, lines_done}
-use Rattle.ddcmp_line.specs.ScriptSteps.{scene_of, LineEnds}
+use Rattle.ddcmp_line.specs.Inside.ScriptSteps.{scene_of, LineEnds}
 use Rattle.ddcmp_line.specs.ScriptEnds.{HasNoLf, scene_with, scene_then, text_then}
 use Rattle.ddcmp_line.specs.ScriptEnds.{carriages_then, Around, around, Begins, Did}
 use Rattle.ddcmp_line.specs.ScriptEnds.{StoppedBefore}
-use Rattle.ddcmp_line.specs.ScriptProgress.{HasDone, HasDoneAll, PlaysOut, Stops, course, played}
+use Rattle.ddcmp_line.specs.Inside.ScriptProgress.{HasDone, HasDoneAll, PlaysOut, Stops, course}
+use Rattle.ddcmp_line.specs.Inside.ScriptProgress.{played}
 use Rattle.ddcmp_script_text.proofs.Cutting.{HasPart, has-part}
 use Rattle.ddcmp_io.proofs.TextLaws.{sends-as}
 

@@ -31,7 +31,7 @@ use Rattle.ddcmp_line.specs.Script.{lines_after, outcome_of_event, outcome_of_ca
 use Rattle.ddcmp_line.specs.Script.{outcome_of_lose, outcome_of_damage, outcome_of_settle}
 use Rattle.ddcmp_line.specs.Script.{outcome_of_recover, outcome_of, arrival_text, after_outcome}
 use Rattle.ddcmp_line.specs.Script.{carriages_from, carriages_of}
-use Rattle.ddcmp_line.specs.ScriptSteps.{scene_of, Comes, stopped_of, LineEnds}
+use Rattle.ddcmp_line.specs.Inside.ScriptSteps.{scene_of, Comes, stopped_of, LineEnds}
 use Rattle.ddcmp_run.proofs.Runs.{run-one, run-none}
 use Rattle.ddcmp_io.proofs.TextLaws.{sends-as, sends-nothing}
 

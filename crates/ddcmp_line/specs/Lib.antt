@@ -1,7 +1,6 @@
+pub mod Inside
 pub mod Script
-pub mod ScriptSteps
 pub mod ScriptEnds
-pub mod ScriptProgress
 pub use Rattle.ddcmp_run.specs.Carriages
 pub use Rattle.ddcmp_io.specs.Input
 pub use Rattle.ddcmp_net.specs.Connection

@@ -11,8 +11,8 @@ ghost use Rattle.ddcmp_script_text.specs.ScriptText.{end_name, name_before, repl
 ghost use Rattle.ddcmp_line.specs.Script.{nothing_between, frames_after, frames_of, part_of};
 ghost use Rattle.ddcmp_line.specs.Script.{outcome_of_event, outcome_of_lose, outcome_of_damage};
 ghost use Rattle.ddcmp_line.specs.Script.{outcome_of_settle, outcome_of_recover, arrival_text};
-ghost use Rattle.ddcmp_line.specs.ScriptSteps.{scene_of, stopped_of, Comes, LineEnds};
-ghost use Rattle.ddcmp_line.specs.ScriptSteps.{TellsDevices};
+ghost use Rattle.ddcmp_line.specs.Inside.ScriptSteps.{scene_of, stopped_of, Comes, LineEnds};
+ghost use Rattle.ddcmp_line.specs.Inside.ScriptSteps.{TellsDevices};
 ghost use Rattle.ddcmp_run.specs.declared.event.Event.TheVariants as event_value;
 
 use crate::frame_lines::{FrameLeft, FrameLines};

@@ -8,9 +8,9 @@ ghost use Rattle.ddcmp_io.specs.Change.{sink_change, source_change};
 ghost use Rattle.ddcmp_run.specs.Carriages.{Carriage};
 ghost use Rattle.ddcmp_line.specs.Script.{nothing_between};
 ghost use Rattle.ddcmp_line.specs.ScriptEnds.{Around, around, IsPlayed, PausedBefore, Plays};
-ghost use Rattle.ddcmp_line.specs.ScriptProgress.{HasDone, IsPlaying, PlaysOut, Stops, Takes};
-ghost use Rattle.ddcmp_line.specs.ScriptProgress.{moment, course, fresh, played};
-ghost use Rattle.ddcmp_line.specs.ScriptSteps.{TellsDevices};
+ghost use Rattle.ddcmp_line.specs.Inside.ScriptProgress.{HasDone, IsPlaying, PlaysOut, Stops};
+ghost use Rattle.ddcmp_line.specs.Inside.ScriptProgress.{Takes, moment, course, fresh, played};
+ghost use Rattle.ddcmp_line.specs.Inside.ScriptSteps.{TellsDevices};
 
 use crate::closing::write_closing;
 use crate::nowhere::Nowhere;

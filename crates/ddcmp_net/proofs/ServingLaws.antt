@@ -27,7 +27,7 @@ use Rattle.ddcmp_station.specs.Station.{StationView}
 use Rattle.ddcmp_station.specs.UserCalls.{UserCall, Asked, Told, Handed, Calls, is_user_asked}
 use Rattle.ddcmp_station.specs.UserCalls.{calls_of_offer, calls_of_notices}
 use Rattle.ddcmp_net.specs.Serving.{HasStarted, usual_config, calls_text, OffersOnce, WritesOut}
-use Rattle.ddcmp_net.specs.Reporting.{Leaves, Reports}
+use Rattle.ddcmp_net.specs.Inside.Reporting.{Leaves, Reports}
 use Rattle.ddcmp_net.specs.declared.reporter.Reporter.{Reporter}
 
 abbrev started : CoreView → CoreView

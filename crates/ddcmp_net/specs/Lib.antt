@@ -1,3 +1,3 @@
+pub mod Inside
 pub mod Connection
 pub mod Serving
-pub mod Reporting

@@ -30,7 +30,7 @@ impl<'a, P: Sink> Reporter<'a, P> {
 }
 
 impl<P: Sink> User for Reporter<'_, P> {
-    ghost use Rattle.ddcmp_net.specs.Reporting.{Reports};
+    ghost use Rattle.ddcmp_net.specs.Inside.Reporting.{Reports};
 
     ghost becomes = { Reports P.broken P.contents };
 

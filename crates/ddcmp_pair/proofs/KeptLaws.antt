@@ -4,7 +4,7 @@ use Rattle.std.proofs.Common.{take, drop, get_or, refl, ◌∙◌, ap, arith}
 use Rattle.std.specs.Prelude.{zip}
 use Rattle.std.proofs.lemmas.List.{take-append-le, drop-append-le, take_all, length-drop}
 use Rattle.std.proofs.Math.Seq.{drop-length}
-use Rattle.ddcmp_pair.specs.Kept.{cut_from, AreEnds}
+use Rattle.ddcmp_pair.specs.Inside.Kept.{cut_from, AreEnds}
 
 -- ---- where messages end
 

@@ -15,7 +15,7 @@ use Rattle.ddcmp_run.specs.declared.event.Event.TheVariants as event
 use Rattle.ddcmp_run.specs.Run.{EndState, after_event_here}
 use Rattle.ddcmp_run.specs.Place.{WholeFrame, place_of, place_from, place_next}
 use Rattle.ddcmp_run.proofs.Places.{place_from-last, place-stays, good_frames_in-append}
-use Rattle.ddcmp_pair.specs.Sides.{SideView, IsPlaced}
+use Rattle.ddcmp_pair.specs.Inside.Sides.{SideView, IsPlaced}
 
 -- ---- following what arrives
 

@@ -1,3 +1,2 @@
-pub mod Kept
-pub mod Sides
+pub mod Inside
 pub mod Steps

@@ -21,7 +21,7 @@ impl Drop for Ends {
 impl Model for Ends {
     ghost use Rattle.std.specs.Prelude.{◌&&◌, is_some};
     ghost use Rattle.ddcmp_run.specs.Run.{PairState};
-    ghost use Rattle.ddcmp_pair.specs.Sides.{IsPlaced};
+    ghost use Rattle.ddcmp_pair.specs.Inside.Sides.{IsPlaced};
 
     ghost Value = { PairState };
 

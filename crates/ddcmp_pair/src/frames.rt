@@ -17,7 +17,7 @@ pub(crate) struct Frames {
 
 impl Model for Frames {
     ghost use Rattle.std.specs.Prelude.{◌≡◌, ◌-◌, length, min, vec_capacity, vec_len, zip};
-    ghost use Rattle.ddcmp_pair.specs.Kept.{FramesView};
+    ghost use Rattle.ddcmp_pair.specs.Inside.Kept.{FramesView};
 
     ghost Value = { FramesView };
 

@@ -15,7 +15,7 @@ pub(crate) struct Messages {
 
 impl Model for Messages {
     ghost use Rattle.std.specs.Prelude.{◌-◌, length, vec_capacity, vec_len};
-    ghost use Rattle.ddcmp_pair.specs.Kept.{AreEnds, MessagesView, cut_from};
+    ghost use Rattle.ddcmp_pair.specs.Inside.Kept.{AreEnds, MessagesView, cut_from};
 
     ghost Value = { MessagesView };
 

@@ -48,7 +48,7 @@ impl Drop for Side {
 
 impl Model for Side {
     ghost use Rattle.std.specs.Prelude.{◌≡◌, ◌+◌, ◌<◌, ◌^◌, length, vec_len};
-    ghost use Rattle.ddcmp_pair.specs.Sides.{SideView, end_with, IsSoundEnd, HasRead};
+    ghost use Rattle.ddcmp_pair.specs.Inside.Sides.{SideView, end_with, IsSoundEnd, HasRead};
 
     ghost Value = { SideView };
 
@@ -76,7 +76,7 @@ impl Side {
     ghost use Rattle.ddcmp_run.specs.Run.{new_end, after_start_here, after_event_here, started};
     ghost use Rattle.ddcmp_run.specs.Run.{reply_here, is_honest_here, cleared, handed_up};
     ghost use Rattle.ddcmp_run.specs.Run.{asks_here};
-    ghost use Rattle.ddcmp_pair.specs.Sides.{IsPlaced};
+    ghost use Rattle.ddcmp_pair.specs.Inside.Sides.{IsPlaced};
 
     /// An end with nothing done.
     pub(crate) fn new(alloc: Global, config: Config) -> Result<Side, ConfigRefusal>

@@ -8,7 +8,7 @@ use Rattle.std.proofs.Math.Seq.{take-add}
 use Rattle.ddcmp_io.proofs.TextLaws.{sends-as, sends-nothing}
 use Rattle.ddcmp_io.proofs.WrittenLaws.{sends-then}
 use Rattle.ddcmp_io.specs.Written.{HandsOver, HoldsBy, Output}
-use Rattle.ddcmp_picture.specs.Captions.{is_gap, unless_zero, without_zeros}
+use Rattle.ddcmp_picture.specs.Inside.Captions.{is_gap, unless_zero, without_zeros}
 
 drop-one : (xs : List ℕ) (i : ℕ) → i < length xs → drop i xs ≡ slice_index xs i ∷ drop (i + 1) xs
 drop-one xs i h = rw (add-one, drop-cons xs i 0)

@@ -1,8 +1,8 @@
 //! The caption below a document: the end of the text of a run, in lines that it has room for.
 ghost use Rattle.std.specs.Prelude.{◌≡◌, ◌≤◌, IsTrue, [], length};
 ghost use Rattle.ddcmp_io.specs.Written.{HandsOver, output_of};
-ghost use Rattle.ddcmp_picture.specs.Captions.{caption_text, is_gap, is_zero, unless_zero};
-ghost use Rattle.ddcmp_picture.specs.Captions.{without_zeros};
+ghost use Rattle.ddcmp_picture.specs.Inside.Captions.{caption_text, is_gap, is_zero, unless_zero};
+ghost use Rattle.ddcmp_picture.specs.Inside.Captions.{without_zeros};
 ghost use Rattle.ddcmp_script_text.specs.ScriptText.{counters_lines};
 
 use ddcmp_io::{MemorySink, Page, Sink};

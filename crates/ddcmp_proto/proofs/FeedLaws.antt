@@ -15,7 +15,7 @@ use Rattle.ddcmp_core.specs.declared.notice.Notice.{Notice}
 use Rattle.ddcmp_core.specs.Core.{CoreView}
 use Rattle.ddcmp_core.specs.Table.{acknowledged_by}
 use Rattle.ddcmp_proto.specs.Station.{StationView}
-use Rattle.ddcmp_proto.specs.OnePart.{TakesPart}
+use Rattle.ddcmp_proto.specs.Inside.OnePart.{TakesPart}
 use Rattle.ddcmp_proto.specs.Bytes.{after_item, notices_of_item, after_items, notices_of_items}
 use Rattle.ddcmp_proto.specs.Bytes.{items_added, after_piece, notices_of_piece}
 

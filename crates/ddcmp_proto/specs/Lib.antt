@@ -1,7 +1,7 @@
+pub mod Inside
 pub mod Config
 pub mod Bytes
 pub mod Station
-pub mod OnePart
 pub mod StationCalls
 pub use Rattle.ddcmp_frame.specs.Reader
 pub use Rattle.ddcmp_frame.specs.Reading

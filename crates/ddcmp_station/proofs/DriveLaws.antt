@@ -24,7 +24,7 @@ use Rattle.ddcmp_frame.specs.Device.{Logs}
 use Rattle.ddcmp_io.specs.declared.device.Got.{Got}
 use Rattle.ddcmp_station.specs.UserCalls.{UserCall, Calls, calls_of_offer, calls_of_notices}
 use Rattle.ddcmp_station.specs.UserCalls.{calls_of_mail, TellsPiece}
-use Rattle.ddcmp_station.specs.Turns.{WritesFrame, TakesTurn, BreaksTurn}
+use Rattle.ddcmp_station.specs.Inside.Turns.{WritesFrame, TakesTurn, BreaksTurn}
 use Rattle.ddcmp_proto.proofs.FeedLaws.{after_piece-none, after_piece-append}
 
 pub Logs-nil : {A : Type 0} (a : Option (List A)) → Logs a a []

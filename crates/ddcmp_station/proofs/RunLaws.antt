@@ -20,7 +20,7 @@ use Rattle.ddcmp_station.proofs.DriveLaws.{Logs-nil, Logs-trans, Calls-none, Cal
 use Rattle.ddcmp_frame.specs.Device.{Logs}
 use Rattle.ddcmp_io.specs.declared.device.Got.{Got}
 use Rattle.ddcmp_station.specs.UserCalls.{UserCall, Calls}
-use Rattle.ddcmp_station.specs.Turns.{TakesTurn, BreaksTurn, TurnsSoFar}
+use Rattle.ddcmp_station.specs.Inside.Turns.{TakesTurn, BreaksTurn, TurnsSoFar}
 
 driven-more : (ms syn : ℕ) (turns : List DriveTurn) (turn : DriveTurn) (d : Driving)
     → after_turns ms syn (turns ++ turn ∷ []) d

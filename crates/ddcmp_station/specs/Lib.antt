@@ -1,13 +1,12 @@
+pub mod Inside
 pub mod UserCalls
 pub mod Driving
-pub mod Turns
 pub mod Linking
 pub mod StationText
 pub mod CountersText
 pub use Rattle.ddcmp_proto.specs.Config
 pub use Rattle.ddcmp_proto.specs.Bytes
 pub use Rattle.ddcmp_proto.specs.Station
-pub use Rattle.ddcmp_proto.specs.OnePart
 pub use Rattle.ddcmp_frame.specs.Device
 pub use Rattle.ddcmp_frame.specs.Reader
 pub use Rattle.ddcmp_frame.specs.Reading

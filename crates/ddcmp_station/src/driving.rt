@@ -8,7 +8,7 @@ ghost use Rattle.ddcmp_core.specs.Table.{next_frame, next};
 ghost use Rattle.ddcmp_proto.specs.Bytes.{after_poll, after_piece};
 ghost use Rattle.ddcmp_station.specs.Driving.{Drives, devices_of, core_after_message, frame_bytes};
 ghost use Rattle.ddcmp_station.specs.Driving.{core_after_mail};
-ghost use Rattle.ddcmp_station.specs.Turns.{TurnEnds, WritesFrame, read_answers_of};
+ghost use Rattle.ddcmp_station.specs.Inside.Turns.{TurnEnds, WritesFrame, read_answers_of};
 ghost use Rattle.ddcmp_frame.specs.Device.{Logs};
 ghost use Rattle.ddcmp_station.specs.UserCalls.{Calls, calls_of_offer, calls_of_mail, TellsNotices};
 ghost use Rattle.ddcmp_station.specs.UserCalls.{TellsPiece};

@@ -1,7 +1,7 @@
+pub mod Inside
 pub mod Ladder
 pub mod Tapped
 pub mod Passing
-pub mod InMemory
 pub mod Outlets
 pub mod Pumping
 pub mod InTurn

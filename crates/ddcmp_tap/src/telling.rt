@@ -3,7 +3,7 @@ ghost use Rattle.std.specs.Prelude.{◌≡◌, ◌+◌, ◌<◌, ◌≤◌, ◌^
 ghost use Rattle.std.specs.Prelude.{is_err, length, take};
 ghost use Rattle.ddcmp_explain.specs.Output.{totals_in};
 ghost use Rattle.ddcmp_io.specs.Written.{HandsOver};
-ghost use Rattle.ddcmp_tap.specs.InMemory.{output_in};
+ghost use Rattle.ddcmp_tap.specs.Inside.InMemory.{output_in};
 ghost use Rattle.ddcmp_tap.specs.Tapped.{fronted, tapped_last, tapped_line, wording_of};
 
 use crate::front::{write_json_front, write_plain_front};

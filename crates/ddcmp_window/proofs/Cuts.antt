@@ -4,7 +4,7 @@ use Rattle.std.proofs.Common.{refl, arith}
 use Rattle.std.proofs.lemmas.List.{length-drop, take_all, nil_from_length, take-append-le}
 use Rattle.std.proofs.lemmas.List.{drop-append-le, drop-drop}
 use Rattle.std.proofs.lemmas.List.Sums.{sum_by-cons}
-use Rattle.ddcmp_window.specs.Cuts.{cut}
+use Rattle.ddcmp_window.specs.Inside.Cuts.{cut}
 
 pub cut-push : (lengths bytes message : List ℕ) → sum lengths ≡ length bytes
     → cut (lengths ++ length message ∷ []) (bytes ++ message) ≡ cut lengths bytes ++ message ∷ []

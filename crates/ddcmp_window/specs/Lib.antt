@@ -1,5 +1,4 @@
-pub mod Cuts
-pub mod Fronts
+pub mod Inside
 pub mod Numbers
 pub mod Store
 pub mod Sender

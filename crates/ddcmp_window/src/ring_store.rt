@@ -102,7 +102,7 @@ fn copy_across(front: &[u8], back: &[u8], start: usize, out: &mut [u8])
 }
 
 impl Store for RingStore {
-    ghost use Rattle.ddcmp_window.specs.Cuts.{cut};
+    ghost use Rattle.ddcmp_window.specs.Inside.Cuts.{cut};
 
     ghost messages = { λ s. cut s.lengths.items s.ring.items };
 
@@ -157,7 +157,7 @@ impl Store for RingStore {
         self.lengths.clear();
     }
 
-    ghost use Rattle.ddcmp_window.specs.Cuts.{length-cut, range-cut};
+    ghost use Rattle.ddcmp_window.specs.Inside.Cuts.{length-cut, range-cut};
     ghost use Rattle.std.proofs.Common.{arith};
 
     ghost within_limit = { λ s. Prim.omega (arith, length-cut s.lengths.items s.ring.items) };

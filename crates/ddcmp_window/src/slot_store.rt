@@ -112,7 +112,7 @@ impl Store for SlotStore {
         self.len = 0;
     }
 
-    ghost use Rattle.ddcmp_window.specs.Fronts.{length-front, each-front};
+    ghost use Rattle.ddcmp_window.specs.Inside.Fronts.{length-front, each-front};
     ghost use Rattle.std.proofs.Common.{arith};
 
     ghost within_limit = { λ s. Prim.omega (

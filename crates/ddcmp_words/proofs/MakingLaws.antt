@@ -7,7 +7,7 @@ use Rattle.clap.specs.declared.builder.command.Command.{Command}
 use Rattle.clap.specs.declared.builder.command.Command.TheViews.{out-Command as fields_of}
 use Rattle.ddcmp_words.specs.declared.parser.Parser.{Parser}
 use Rattle.ddcmp_words.specs.declared.options.CommandOption.{CommandOption}
-use Rattle.ddcmp_words.specs.Making.{Makes, rule_of_option, with_rules}
+use Rattle.ddcmp_words.specs.Inside.Making.{Makes, rule_of_option, with_rules}
 
 -- it begins with a command that has this shape
 pub begun : (parser : Parser) (command : Command) (app : App) → parser.made ≡ Ok command

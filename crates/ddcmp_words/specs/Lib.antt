@@ -1,2 +1,2 @@
-pub mod Making
+pub mod Inside
 pub mod Words

@@ -2,7 +2,7 @@
 ghost use Rattle.std.specs.Prelude.{◌≡◌, ◌≢◌, ◌⊎◌, ◌↔◌, ◌≤◌, IsTrue, IfSome, IsOk, None, Some};
 ghost use Rattle.std.specs.Prelude.{codes, map, unwrap_or, [], false, List, ℕ};
 ghost use Rattle.std.specs.Option.{option_and_then, option_map};
-ghost use Rattle.ddcmp_words.specs.Making.{Makes};
+ghost use Rattle.ddcmp_words.specs.Inside.Making.{Makes};
 ghost use Rattle.ddcmp_words.specs.Words.{Declines, IsAsked, IsName, Reads, bare_app, name_of};
 ghost use Rattle.ddcmp_words.specs.Words.{program, HasExplain, HasFlag, HasForm, HasNotation};
 ghost use Rattle.ddcmp_words.specs.Words.{HasNumber, HasOptions, HasSizes, HasStation, HasStyle};

@@ -2,7 +2,7 @@
 ghost use Rattle.std.specs.Prelude.{◌≡◌, ◌≤◌, codes, false};
 ghost use Rattle.clap.specs.Words.{app_of, first_value, found_of, new_app, one_text};
 ghost use Rattle.clap.specs.declared.builder.command.Command.TheViews.{out-Command as fields_of};
-ghost use Rattle.ddcmp_words.specs.Making.{Makes};
+ghost use Rattle.ddcmp_words.specs.Inside.Making.{Makes};
 ghost use Rattle.ddcmp_words.specs.Words.{HasLink, HasMessages, link_app, line_app, usual_syn_of};
 ghost use Rattle.ddcmp_proto.specs.declared.config.TheConstants.{MAX_SYN};
 

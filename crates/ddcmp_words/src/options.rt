@@ -1,7 +1,7 @@
 //! Options of the commands, as tables have them and as `clap` does.
 ghost use Rattle.std.specs.Prelude.{◌≡◌, false};
 ghost use Rattle.clap.specs.Words.{rule_of};
-ghost use Rattle.ddcmp_words.specs.Making.{rule_of_option};
+ghost use Rattle.ddcmp_words.specs.Inside.Making.{rule_of_option};
 ghost use Rattle.ddcmp_words.specs.Words.{flag_rule, number_rule, place_rule, text_rule};
 
 use clap::{Arg, ArgAction};

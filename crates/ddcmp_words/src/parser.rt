@@ -2,7 +2,7 @@
 ghost use Rattle.std.specs.Prelude.{◌≡◌, Ok, false, map};
 ghost use Rattle.clap.specs.Words.{App, Rule, app_of, rule_of, with_rule, with_subcommand};
 ghost use Rattle.clap.specs.declared.builder.command.Command.TheViews.{out-Command as fields_of};
-ghost use Rattle.ddcmp_words.specs.Making.{Makes, rule_of_option, with_rules};
+ghost use Rattle.ddcmp_words.specs.Inside.Making.{Makes, rule_of_option, with_rules};
 
 use crate::options::{CommandOption, argument};
 use clap::Arg;

@@ -41,10 +41,11 @@ impl<S: Store> Core<S> {
     ghost use Rattle.ddcmp_core.specs.Frames.{received, FitsHeader};
     ghost use Rattle.ddcmp_core.specs.Core.{is_sent_reply};
     ghost use Rattle.ddcmp_core.specs.Counting.{counters_after_up_if, counters_on};
-    ghost use Rattle.ddcmp_core.specs.Receiving.{received_control, counters_on_data};
-    ghost use Rattle.ddcmp_core.specs.Receiving.{core_on_istart, core_on_astart, told_in_astart};
-    ghost use Rattle.ddcmp_core.specs.Receiving.{core_on_running, told_in_running};
-    ghost use Rattle.ddcmp_core.specs.Receiving.{core_on_maintenance, told_in_maintenance};
+    ghost use Rattle.ddcmp_core.specs.Inside.Receiving.{received_control, counters_on_data};
+    ghost use Rattle.ddcmp_core.specs.Inside.Receiving.{core_on_istart, core_on_astart};
+    ghost use Rattle.ddcmp_core.specs.Inside.Receiving.{told_in_astart};
+    ghost use Rattle.ddcmp_core.specs.Inside.Receiving.{core_on_running, told_in_running};
+    ghost use Rattle.ddcmp_core.specs.Inside.Receiving.{core_on_maintenance, told_in_maintenance};
 
     /// Handles one input from the line; returns the notice for the user, if any.
     #[tactic(auto, unfolding(crate::specs::Table::on, crate::specs::Table::notice_of, crate::specs::Counting::counters_on))]

@@ -76,7 +76,7 @@ impl<S: Store> Core<S> {
     ghost use Rattle.std.specs.Prelude.{◌≡◌, ◌≤◌, length, option_map};
     ghost use Rattle.ddcmp_window.specs.Store.{with_front};
     ghost use Rattle.ddcmp_core.specs.Table.{next, next_running, next_frame, after_next};
-    ghost use Rattle.ddcmp_core.specs.NextSending.{next_of, FitsSending};
+    ghost use Rattle.ddcmp_core.specs.Inside.NextSending.{next_of, FitsSending};
     ghost use Rattle.ddcmp_core.specs.Frames.{header_of, message_of, data_length};
     ghost use Rattle.ddcmp_core.specs.Frames.{header_and_length};
     ghost use Rattle.ddcmp_core.specs.Counting.{counters_after_next};

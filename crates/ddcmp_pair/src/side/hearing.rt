@@ -146,7 +146,7 @@ fn follow(
 impl Side {
     ghost use Rattle.std.specs.Prelude.{◌≡◌, IsOk, IfOk, OnErr};
     ghost use Rattle.ddcmp_run.specs.Run.{after_arrival_here, notices_at};
-    ghost use Rattle.ddcmp_pair.specs.Sides.{IsPlaced};
+    ghost use Rattle.ddcmp_pair.specs.Inside.Sides.{IsPlaced};
 
     /// Bytes arrive.
     pub(super) fn arrive(&mut self, bytes: &[u8], sent: &Frames) -> Result<Reply, Memory>

@@ -21,7 +21,7 @@ impl Station {
     ghost use Rattle.ddcmp_core.specs.Table.{acknowledged_by};
     ghost use Rattle.ddcmp_proto.specs.Bytes.{after_piece, notices_of_piece, after_item};
     ghost use Rattle.ddcmp_proto.specs.Bytes.{notices_of_item};
-    ghost use Rattle.ddcmp_proto.specs.OnePart.{TakesPart};
+    ghost use Rattle.ddcmp_proto.specs.Inside.OnePart.{TakesPart};
 
     /// Handles received bytes, up to the first that yields a notice.
     pub fn feed(&mut self, piece: &[u8]) -> Fed

@@ -1,6 +1,6 @@
 use Rattle.std.proofs.Common.{subst, sym, ◌∙◌}
 use Rattle.ddcmp_io.specs.Change.{sink_change, source_change}
-use Rattle.ddcmp_explain.specs.Openings.{IsExplainedAs}
+use Rattle.ddcmp_explain.specs.Inside.Openings.{IsExplainedAs}
 use Rattle.ddcmp_explain.proofs.DetectionLaws.{as-dump, as-raw, as-text}
 use Rattle.ddcmp_explain.proofs.detector.explain_first.Goals as goal
 

@@ -3,7 +3,7 @@ use Rattle.std.specs.Io.KnownBytes.{Consumes}
 use Rattle.ddcmp_input.specs.Dump.{DumpView}
 use Rattle.ddcmp_io.specs.declared.device.Worst.TheVariants.{Fine}
 use Rattle.ddcmp_explain.specs.declared.form.Form.TheVariants.{Hex}
-use Rattle.ddcmp_explain.specs.Progress.{Progress}
+use Rattle.ddcmp_explain.specs.Inside.Progress.{Progress}
 use Rattle.ddcmp_explain.proofs.DumpLaws.{SawDump, SawFrom, explains-dump, ok-dump}
 use Rattle.ddcmp_explain.proofs.DumpLaws.{read-dump, read-only-dump, write-dump}
 use Rattle.ddcmp_explain.proofs.dumped.explain_opened_dump.Goals as goal

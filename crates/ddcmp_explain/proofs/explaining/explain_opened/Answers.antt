@@ -4,7 +4,7 @@ use Rattle.ddcmp_explain.specs.Explains.{Explains}
 use Rattle.ddcmp_explain.specs.declared.explain_fault.ExplainFault.TheVariants.{Read}
 use Rattle.ddcmp_io.specs.declared.device.Worst.TheVariants.{Fine}
 use Rattle.ddcmp_io.specs.Input.{GaveMost}
-use Rattle.ddcmp_explain.specs.Progress.{Progress}
+use Rattle.ddcmp_explain.specs.Inside.Progress.{Progress}
 use Rattle.ddcmp_explain.proofs.TakeLaws.{Saw, explains, gave-most, most-fails, ok-exactly}
 use Rattle.ddcmp_explain.proofs.explaining.explain_opened.Goals as goal
 use Rattle.ddcmp_explain.proofs.explaining.explain_opened.Goals.{After-drop-explainer}

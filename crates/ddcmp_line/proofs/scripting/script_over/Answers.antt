@@ -5,7 +5,7 @@ use Rattle.ddcmp_io.specs.Input.{GaveMost}
 use Rattle.ddcmp_io.specs.Written.{AppendsPart, output_of}
 use Rattle.ddcmp_script_text.specs.declared.script_fault.ScriptFault.TheVariants.{Read}
 use Rattle.ddcmp_line.specs.ScriptEnds.{around, Plays}
-use Rattle.ddcmp_line.specs.ScriptProgress.{HasDone, course, fresh, played}
+use Rattle.ddcmp_line.specs.Inside.ScriptProgress.{HasDone, course, fresh, played}
 use Rattle.ddcmp_io.proofs.Inputs.{gave-most, read-all}
 use Rattle.ddcmp_line.proofs.Endings.{begun-has, most-read, not-most, ok-exactly}
 use Rattle.ddcmp_line.proofs.scripting.script_over.Goals as goal

@@ -1,7 +1,7 @@
 use Rattle.std.proofs.Common.{rules, refl, ap, sym, Ok, Err}
 use Rattle.ddcmp_station.specs.UserCalls.{Calls}
 use Rattle.ddcmp_net.specs.Serving.{closing_text, served_answer}
-use Rattle.ddcmp_net.specs.Reporting.{Reports}
+use Rattle.ddcmp_net.specs.Inside.Reporting.{Reports}
 use Rattle.ddcmp_net.specs.declared.serve_fault.ServeFault.TheVariants.{Report}
 use Rattle.ddcmp_net.proofs.AnswerLaws.{done_has_memory, done_is_no_line, ends_line, off_line}
 use Rattle.ddcmp_net.proofs.AnswerLaws.{on_line, report_has_memory, report_is_no_line}

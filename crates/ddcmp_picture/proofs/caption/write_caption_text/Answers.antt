@@ -1,7 +1,7 @@
 use Rattle.std.proofs.Common.{Bool, ap, sym, if◌then◌else◌, [], ◌++◌}
 use Rattle.ddcmp_io.proofs.TextLaws.{sends-as}
 use Rattle.ddcmp_io.proofs.WrittenLaws.{sends-then}
-use Rattle.ddcmp_picture.specs.Captions.{caption_text}
+use Rattle.ddcmp_picture.specs.Inside.Captions.{caption_text}
 use Rattle.ddcmp_picture.proofs.caption.write_caption_text.Goals as goal
 
 pub returns-then-counted : goal.returns-then-counted

@@ -3,7 +3,7 @@ use Rattle.std.proofs.lemmas.List.{append-nil}
 use Rattle.ddcmp_io.proofs.TextLaws.{sends-as}
 use Rattle.ddcmp_io.proofs.WrittenLaws.{sends-then}
 use Rattle.ddcmp_picture.proofs.CaptionLaws.{kept_all}
-use Rattle.ddcmp_picture.specs.Captions.{without_zeros}
+use Rattle.ddcmp_picture.specs.Inside.Captions.{without_zeros}
 use Rattle.ddcmp_picture.proofs.caption.write_shown_counters.Goals as goal
 
 pub returns : goal.returns

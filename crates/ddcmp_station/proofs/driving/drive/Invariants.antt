@@ -1,7 +1,7 @@
 use Rattle.std.proofs.Common.{◌≡◌, ◌≢◌, ◌+◌, ◌*◌, ◌≤◌, false}
 use Rattle.ddcmp_io.specs.declared.device.Worst.TheVariants.{Failed}
 use Rattle.ddcmp_station.specs.Driving.{devices_of}
-use Rattle.ddcmp_station.specs.Turns.{TurnsSoFar}
+use Rattle.ddcmp_station.specs.Inside.Turns.{TurnsSoFar}
 use Rattle.ddcmp_station.specs.UserCalls.{Calls}
 use Rattle.ddcmp_station.proofs.driving.drive.Given as goal
 

@@ -1,5 +1,5 @@
 use Rattle.ddcmp_words.proofs.MakingLaws.{begun}
-use Rattle.ddcmp_words.specs.Making.{with_rules}
+use Rattle.ddcmp_words.specs.Inside.Making.{with_rules}
 use Rattle.ddcmp_words.proofs.bridge_words.bridge_parser.Goals as goal
 
 pub returns : goal.returns

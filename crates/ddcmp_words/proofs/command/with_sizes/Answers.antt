@@ -1,4 +1,4 @@
-use Rattle.ddcmp_words.specs.Making.{with_rules}
+use Rattle.ddcmp_words.specs.Inside.Making.{with_rules}
 use Rattle.ddcmp_words.proofs.command.with_sizes.Goals as goal
 
 pub returns : goal.returns

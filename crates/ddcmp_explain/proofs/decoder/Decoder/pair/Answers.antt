@@ -5,7 +5,7 @@ use Rattle.std.proofs.lemmas.List.{take_all}
 use Rattle.ddcmp_explain.specs.declared.form.Form.TheVariants.{Hex}
 use Rattle.ddcmp_explain.specs.declared.hex_digits.TheConstants.{HEX_VALUES}
 use Rattle.ddcmp_explain.specs.Digits.{left_in, unexpected_in}
-use Rattle.ddcmp_explain.specs.Decoding.{Decodes}
+use Rattle.ddcmp_explain.specs.Inside.Decoding.{Decodes}
 use Rattle.ddcmp_explain.proofs.DecodingLaws.{decodes-blank, decodes-high, decodes-low, decodes-two}
 use Rattle.ddcmp_explain.proofs.DecodingLaws.{decodes-unexpected, decodes-eight}
 use Rattle.ddcmp_explain.proofs.decoder.Decoder.pair.Goals as goal

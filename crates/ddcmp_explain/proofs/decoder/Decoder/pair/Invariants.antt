@@ -2,7 +2,7 @@ use Rattle.std.proofs.Common.{◌≡◌, ◌≤◌, ◌-◌, ℕ, List, None, ta
 use Rattle.std.specs.Prelude.{option_to_list}
 use Rattle.ddcmp_explain.specs.declared.form.Form.TheVariants.{Hex}
 use Rattle.ddcmp_explain.specs.Digits.{left_in, unexpected_in}
-use Rattle.ddcmp_explain.specs.Decoding.{Decodes}
+use Rattle.ddcmp_explain.specs.Inside.Decoding.{Decodes}
 use Rattle.ddcmp_explain.proofs.decoder.Decoder.pair.Given as goal
 
 abbrev pub invariant-loop-i : goal.invariant-loop-i

@@ -3,7 +3,7 @@ use Rattle.std.specs.Prelude.{option_to_list}
 use Rattle.std.specs.Io.KnownBytes.{Appends}
 use Rattle.std.proofs.KnownBytes.{Appends-nil}
 use Rattle.ddcmp_explain.specs.Discarded.{lines_in}
-use Rattle.ddcmp_explain.specs.Progress.{HasTold}
+use Rattle.ddcmp_explain.specs.Inside.Progress.{HasTold}
 use Rattle.ddcmp_explain.proofs.FormLaws.{nothing-begun, nothing-left, nothing-spelled}
 use Rattle.ddcmp_explain.proofs.FormLaws.{nothing-unexpected}
 use Rattle.ddcmp_explain.proofs.LinesLaws.{lines-nothing}

@@ -1,7 +1,7 @@
 use Rattle.std.proofs.Common.{◌≡◌, ◌-◌, ◌^◌, [], ℕ, List, Option, length, false}
 use Rattle.std.specs.Io.KnownBytes.{Consumes}
 use Rattle.ddcmp_io.specs.declared.device.Worst.TheVariants.{Fine}
-use Rattle.ddcmp_explain.specs.Progress.{Progress}
+use Rattle.ddcmp_explain.specs.Inside.Progress.{Progress}
 use Rattle.ddcmp_explain.proofs.TakeLaws.{SoFar}
 use Rattle.ddcmp_explain.proofs.explainer.Explainer.take_all.Given as goal
 

@@ -1,6 +1,6 @@
 use Rattle.std.proofs.Common.{◌-◌, subst, arith, ◌∙◌, length, drop, length-drop}
 use Rattle.std.proofs.lemmas.List.{length-take}
-use Rattle.ddcmp_explain.specs.Progress.{HasTold}
+use Rattle.ddcmp_explain.specs.Inside.Progress.{HasTold}
 use Rattle.ddcmp_explain.proofs.LinesLaws.{taken-more}
 use Rattle.ddcmp_explain.proofs.lines.Lines.push_all.Goals as goal
 

@@ -1,5 +1,5 @@
 use Rattle.std.proofs.Common.{◌≡◌, ◌+◌, ◌-◌, ◌≤◌, ◌++◌, ℕ, List, Option, length, take}
-use Rattle.ddcmp_explain.specs.Progress.{HasTold}
+use Rattle.ddcmp_explain.specs.Inside.Progress.{HasTold}
 use Rattle.ddcmp_explain.proofs.lines.Lines.push_all.Given as goal
 
 abbrev pub invariant-loop-used : goal.invariant-loop-used

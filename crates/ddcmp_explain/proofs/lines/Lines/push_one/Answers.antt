@@ -1,7 +1,7 @@
 use Rattle.std.proofs.Common.{[], ◌∷◌, ◌++◌, ap, refl, subst, sym, ◌∙◌}
 use Rattle.ddcmp_frame.specs.Reader.{StandsFor, items_given}
 use Rattle.ddcmp_frame.specs.Reading.{items, open_at_end}
-use Rattle.ddcmp_explain.specs.Heads.{Heads}
+use Rattle.ddcmp_explain.specs.Inside.Heads.{Heads}
 use Rattle.ddcmp_explain.specs.Output.{line_in}
 use Rattle.ddcmp_io.proofs.WrittenLaws.{sends-then}
 use Rattle.ddcmp_io.proofs.TextLaws.{sends-as, sends-nothing}

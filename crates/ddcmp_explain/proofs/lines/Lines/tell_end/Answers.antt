@@ -5,7 +5,7 @@ use Rattle.ddcmp_frame.proofs.ReadingLaws.{ending-offset}
 use Rattle.ddcmp_frame.specs.Reading.{ending, items}
 use Rattle.ddcmp_explain.specs.Discarded.{none_text, opened, part_lines}
 use Rattle.ddcmp_explain.specs.Discarded.{passed, reached, rest_by}
-use Rattle.ddcmp_explain.specs.Progress.{BeginsWith, HasFound, ReachesTo}
+use Rattle.ddcmp_explain.specs.Inside.Progress.{BeginsWith, HasFound, ReachesTo}
 use Rattle.ddcmp_explain.proofs.lines.Lines.tell_end.Goals as goal
 
 pub returns-then-not-self-clause-told : goal.returns-then-not-self-clause-told

@@ -3,7 +3,7 @@ use Rattle.ddcmp_io.proofs.WrittenLaws.{sends-then}
 use Rattle.ddcmp_io.proofs.TextLaws.{sends-as}
 use Rattle.std.proofs.lemmas.List.{append-nil}
 use Rattle.ddcmp_explain.specs.Discarded.{open_header, open_text, opened, part_lines, passed}
-use Rattle.ddcmp_explain.specs.Heads.{Heads}
+use Rattle.ddcmp_explain.specs.Inside.Heads.{Heads}
 use Rattle.ddcmp_explain.proofs.PartLaws.{lines-append, opened-some, opened-none}
 use Rattle.ddcmp_explain.proofs.lines.Lines.tell_rest.Goals as goal
 

@@ -2,7 +2,7 @@ use Rattle.std.proofs.Common.{◌≡◌, ℕ, ◌+◌, ◌-◌, ◌<◌, ◌≤�
 use Rattle.std.proofs.Common.{List, [], ◌∷◌, length, length-append, vec_len, vec_capacity, arith}
 use Rattle.std.proofs.Common.{Bool, true, false, true≢false, if◌then◌else◌, Some, None}
 use Rattle.ddcmp_num.specs.declared.limits.TheConstants.{MAX_COUNT}
-use Rattle.ddcmp_frame.specs.PlainRoom.{HasPlainRoom}
+use Rattle.ddcmp_frame.specs.Inside.PlainRoom.{HasPlainRoom}
 use Rattle.ddcmp_frame.specs.declared.plain.PlainReader.TheInside.{Inside}
 use Rattle.ddcmp_frame.specs.declared.item.Item.TheVariants.{TooLong}
 use Rattle.ddcmp_frame.specs.declared.plain.Step.{Step}

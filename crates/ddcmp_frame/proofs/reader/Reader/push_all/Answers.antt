@@ -2,7 +2,7 @@ use Rattle.std.proofs.Common.{◌≡◌, ◌<◌, ◌++◌, List, ℕ, [], sym, 
 use Rattle.std.proofs.lemmas.List.{length-take-le, take-take}
 use Rattle.ddcmp_frame.specs.Reader.{StandsFor}
 use Rattle.ddcmp_frame.specs.Reading.{items}
-use Rattle.ddcmp_frame.specs.Scan.{view_of}
+use Rattle.ddcmp_frame.specs.Inside.Scan.{view_of}
 use Rattle.ddcmp_frame.proofs.PartLaws.{stands-unlent}
 use Rattle.ddcmp_frame.proofs.reader.Reader.push_all.Goals as goal
 

@@ -1,7 +1,7 @@
 use Rattle.std.proofs.Common.{Option, Some, None, IfSome, subst}
 use Rattle.ddcmp_frame.specs.Fields.{CountedFields}
 use Rattle.ddcmp_frame.specs.Reader.{PushesFrame}
-use Rattle.ddcmp_frame.specs.Scan.{view_of, TakesFrame}
+use Rattle.ddcmp_frame.specs.Inside.Scan.{view_of, TakesFrame}
 use Rattle.ddcmp_frame.proofs.PartLaws.{pushes-piece}
 use Rattle.ddcmp_frame.proofs.reader.Reader.push_frame.Goals as goal
 

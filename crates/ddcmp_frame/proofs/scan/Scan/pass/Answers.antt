@@ -1,7 +1,7 @@
 use Rattle.std.proofs.Common.{◌≡◌, ◌≤◌, refl, ap, subst, arith, length, take, drop}
 use Rattle.std.proofs.lemmas.List.{length-take-le}
 use Rattle.ddcmp_frame.specs.declared.scan.Phase.TheVariants.{TooLong}
-use Rattle.ddcmp_frame.specs.Scan.{FitsPhase, skipped_in, left_in, view_of}
+use Rattle.ddcmp_frame.specs.Inside.Scan.{FitsPhase, skipped_in, left_in, view_of}
 use Rattle.ddcmp_frame.proofs.ScanLaws.{takes-nothing, passes, passes-all}
 use Rattle.ddcmp_frame.proofs.scan.Scan.pass.Goals as goal
 

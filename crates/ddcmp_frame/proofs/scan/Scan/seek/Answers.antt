@@ -2,7 +2,7 @@ use Rattle.std.proofs.Common.{◌≡◌, ◌+◌, ◌++◌, [], slice_index, ref
 use Rattle.std.proofs.Common.{drop}
 use Rattle.std.proofs.lemmas.List.{length-take-le, drop_all}
 use Rattle.ddcmp_frame.specs.Spelling.{is_start}
-use Rattle.ddcmp_frame.specs.Scan.{bytes_in, skipped_in, left_in, view_of}
+use Rattle.ddcmp_frame.specs.Inside.Scan.{bytes_in, skipped_in, left_in, view_of}
 use Rattle.ddcmp_frame.proofs.ReadingLaws.{row-nothing, row-waits}
 use Rattle.ddcmp_frame.proofs.PushLaws.{next_place}
 use Rattle.ddcmp_frame.proofs.ScanLaws.{takes-nothing, seeks, index-take}

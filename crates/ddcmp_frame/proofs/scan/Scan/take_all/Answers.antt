@@ -1,6 +1,6 @@
 use Rattle.std.proofs.Common.{◌+◌, ◌-◌, Some, None, sym, subst, arith, length, take, take_all, drop}
 use Rattle.std.proofs.Common.{length-drop}
-use Rattle.ddcmp_frame.specs.Scan.{view_of, TakesPiece, TakesAll}
+use Rattle.ddcmp_frame.specs.Inside.Scan.{view_of, TakesPiece, TakesAll}
 use Rattle.ddcmp_frame.proofs.PartLaws.{part-more, part-last}
 use Rattle.ddcmp_frame.proofs.scan.Scan.take_all.Goals as goal
 

@@ -1,5 +1,5 @@
 use Rattle.std.proofs.Common.{◌≡◌, ◌-◌, length}
-use Rattle.ddcmp_frame.specs.Scan.{IsSoundScan, view_of}
+use Rattle.ddcmp_frame.specs.Inside.Scan.{IsSoundScan, view_of}
 use Rattle.ddcmp_frame.proofs.PartLaws.{TakesPart}
 use Rattle.ddcmp_frame.proofs.scan.Scan.take_all.Given as goal
 

@@ -5,7 +5,7 @@ use Rattle.ddcmp_frame.specs.Spelling.{IsBytes}
 use Rattle.ddcmp_frame.specs.declared.item.Item.TheVariants.{Good, DataCheck}
 use Rattle.ddcmp_frame.specs.Reading.{place_after, is_data_right}
 use Rattle.ddcmp_frame.specs.Reader.{frame_length}
-use Rattle.ddcmp_frame.specs.Scan.{bytes_in, skipped_in, left_in, view_of, FitsPhase}
+use Rattle.ddcmp_frame.specs.Inside.Scan.{bytes_in, skipped_in, left_in, view_of, FitsPhase}
 use Rattle.ddcmp_frame.proofs.WireLaws.{counted-whole, frame_length-counted}
 use Rattle.ddcmp_frame.proofs.PushLaws.{next_place}
 use Rattle.ddcmp_frame.proofs.ScanLaws.{takes-nothing, takes-item, frame-short, frame-taken}

@@ -1,5 +1,5 @@
 use Rattle.std.proofs.Common.{◌≡◌, ◌+◌, refl, sym, ◌∙◌, ap, arith, rules, take, slice_index}
-use Rattle.ddcmp_frame.specs.Scan.{bytes_in, skipped_in, left_in, IsDataFrame}
+use Rattle.ddcmp_frame.specs.Inside.Scan.{bytes_in, skipped_in, left_in, IsDataFrame}
 use Rattle.ddcmp_frame.proofs.ScanLaws.{begun, index-take, takes-frame}
 use Rattle.ddcmp_frame.proofs.scan.Scan.take_frame.Goals.{then-is_empty-via-then-is_empty}
 use Rattle.ddcmp_frame.proofs.scan.Scan.take_frame.Goals.{then-is_empty-via-else-is_empty+then-piece}

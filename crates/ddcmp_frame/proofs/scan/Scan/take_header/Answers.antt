@@ -4,7 +4,8 @@ use Rattle.ddcmp_frame.specs.declared.scan.Candidate.TheVariants.{Fails, Gives, 
 use Rattle.ddcmp_frame.specs.Spelling.{is_start, parsed}
 use Rattle.ddcmp_frame.specs.Reader.{LentBeside, EndsWith}
 use Rattle.ddcmp_frame.specs.Reading.{by_verdict, place_after}
-use Rattle.ddcmp_frame.specs.Scan.{bytes_in, skipped_in, left_in, view_of, FitsPhase, IsCandidate}
+use Rattle.ddcmp_frame.specs.Inside.Scan.{bytes_in, skipped_in, left_in, view_of, FitsPhase}
+use Rattle.ddcmp_frame.specs.Inside.Scan.{IsCandidate}
 use Rattle.ddcmp_frame.proofs.ReadingLaws.{row-waits, row-full}
 use Rattle.ddcmp_frame.proofs.PushLaws.{next_place, loss_told}
 use Rattle.ddcmp_frame.proofs.ScanLaws.{takes-nothing, takes-item, header-few, header-taken}

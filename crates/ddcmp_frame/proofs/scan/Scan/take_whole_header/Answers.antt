@@ -5,7 +5,7 @@ use Rattle.ddcmp_frame.specs.declared.scan.Candidate.TheVariants.{Gives, Begins,
 use Rattle.ddcmp_frame.specs.Spelling.{is_start, parsed}
 use Rattle.ddcmp_frame.specs.Reader.{LentBeside, EndsWith}
 use Rattle.ddcmp_frame.specs.Reading.{by_verdict, place_after}
-use Rattle.ddcmp_frame.specs.Scan.{bytes_in, skipped_in, left_in, view_of, IsCandidate}
+use Rattle.ddcmp_frame.specs.Inside.Scan.{bytes_in, skipped_in, left_in, view_of, IsCandidate}
 use Rattle.ddcmp_frame.proofs.ReadingLaws.{row-full}
 use Rattle.ddcmp_frame.proofs.PushLaws.{next_place}
 use Rattle.ddcmp_frame.proofs.ScanLaws.{takes-nothing, takes-item, whole-header, after-taking}

@@ -1,6 +1,6 @@
 use Rattle.std.proofs.Common.{[], subst, refl, Ok, inl}
 use Rattle.ddcmp_io.specs.Written.{output_of}
-use Rattle.ddcmp_line.specs.ScriptSteps.{scene_of, LineEnds}
+use Rattle.ddcmp_line.specs.Inside.ScriptSteps.{scene_of, LineEnds}
 use Rattle.ddcmp_line.proofs.Scenes.{carries-nothing}
 use Rattle.ddcmp_io.proofs.TextLaws.{sends-nothing}
 use Rattle.ddcmp_line.proofs.performing.Stage.do_line.Goals as goal

@@ -1,6 +1,6 @@
 use Rattle.ddcmp_io.specs.Written.{output_of}
 use Rattle.ddcmp_line.specs.ScriptEnds.{around}
-use Rattle.ddcmp_line.specs.ScriptProgress.{fresh}
+use Rattle.ddcmp_line.specs.Inside.ScriptProgress.{fresh}
 use Rattle.ddcmp_line.proofs.Endings.{plays-whole, plays-cut}
 use Rattle.ddcmp_line.proofs.scripting.Player.finish.Goals as goal
 

@@ -4,7 +4,7 @@ use Rattle.std.proofs.Math.Seq.{drop-cons}
 use Rattle.std.proofs.lemmas.List.{drop_all}
 use Rattle.ddcmp_io.specs.Written.{output_of}
 use Rattle.ddcmp_line.specs.ScriptEnds.{around}
-use Rattle.ddcmp_line.specs.ScriptProgress.{HasDone, course, played}
+use Rattle.ddcmp_line.specs.Inside.ScriptProgress.{HasDone, course, played}
 use Rattle.ddcmp_line.proofs.scripting.Player.take.Goals as goal
 
 pub loop-i-init : goal.loop-i-init

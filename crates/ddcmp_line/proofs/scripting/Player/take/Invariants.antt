@@ -3,7 +3,7 @@ use Rattle.ddcmp_io.specs.Written.{Output, output_of}
 use Rattle.ddcmp_run.specs.Run.{PairState}
 use Rattle.ddcmp_run.specs.Carriages.{Carriage}
 use Rattle.ddcmp_line.specs.ScriptEnds.{around}
-use Rattle.ddcmp_line.specs.ScriptProgress.{HasDone, course, played}
+use Rattle.ddcmp_line.specs.Inside.ScriptProgress.{HasDone, course, played}
 use Rattle.ddcmp_line.proofs.scripting.Player.take.Given as goal
 
 abbrev pub invariant-loop-i : goal.invariant-loop-i

@@ -11,7 +11,7 @@ use Rattle.ddcmp_script_text.specs.declared.script_fault.ScriptFault.{ScriptFaul
 use Rattle.ddcmp_script_text.specs.declared.script_fault.ScriptFault.TheVariants.{Read, Write}
 use Rattle.ddcmp_script_text.specs.declared.script_fault.ScriptFault.TheVariants.{Memory, Carrier}
 use Rattle.ddcmp_line.specs.ScriptEnds.{around}
-use Rattle.ddcmp_line.specs.ScriptProgress.{HasDone, course, fresh, played}
+use Rattle.ddcmp_line.specs.Inside.ScriptProgress.{HasDone, course, fresh, played}
 use Rattle.ddcmp_line.proofs.Endings.{has-flushed, plays-paused, plays-stopped, plays-unwritten}
 use Rattle.ddcmp_line.proofs.Endings.{paused-before, kept-by, kept-left, left-after, none-left}
 use Rattle.ddcmp_line.proofs.scripting.Player.take_all.Goals as goal

@@ -5,7 +5,7 @@ use Rattle.ddcmp_io.specs.declared.device.Worst.TheVariants.{Fine}
 use Rattle.ddcmp_run.specs.Run.{PairState}
 use Rattle.ddcmp_run.specs.Carriages.{Carriage}
 use Rattle.ddcmp_line.specs.ScriptEnds.{around}
-use Rattle.ddcmp_line.specs.ScriptProgress.{IsPlaying, course, fresh, played}
+use Rattle.ddcmp_line.specs.Inside.ScriptProgress.{IsPlaying, course, fresh, played}
 use Rattle.ddcmp_line.proofs.scripting.Player.take_all.Given as goal
 
 abbrev pub invariant-loop-self : goal.invariant-loop-self

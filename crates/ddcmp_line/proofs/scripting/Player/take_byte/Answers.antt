@@ -1,9 +1,9 @@
 use Rattle.std.proofs.Common.{ap, sym, subst, ◌∙◌, ◌+◌, ◌∷◌, Ok, Err}
 use Rattle.ddcmp_io.specs.Written.{output_of}
 use Rattle.ddcmp_script_text.specs.ScriptWords.{reading_of, without_cr}
-use Rattle.ddcmp_line.specs.ScriptSteps.{scene_of, LineEnds}
+use Rattle.ddcmp_line.specs.Inside.ScriptSteps.{scene_of, LineEnds}
 use Rattle.ddcmp_line.specs.ScriptEnds.{around}
-use Rattle.ddcmp_line.specs.ScriptProgress.{HasDone, course, played}
+use Rattle.ddcmp_line.specs.Inside.ScriptProgress.{HasDone, course, played}
 use Rattle.ddcmp_line.proofs.Playing.{take-byte, stop-byte, take-line, stop-line}
 use Rattle.ddcmp_line.proofs.scripting.Player.take_byte.Goals as goal
 

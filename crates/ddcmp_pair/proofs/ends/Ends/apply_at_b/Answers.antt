@@ -1,5 +1,5 @@
 use Rattle.std.proofs.Common.{subst}
-use Rattle.ddcmp_pair.specs.Sides.{IsPlaced}
+use Rattle.ddcmp_pair.specs.Inside.Sides.{IsPlaced}
 use Rattle.ddcmp_pair.proofs.Placed.{placed-after}
 use Rattle.ddcmp_pair.proofs.ends.Ends.apply_at_b.Goals as goal
 

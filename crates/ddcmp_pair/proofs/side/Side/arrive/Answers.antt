@@ -8,7 +8,7 @@ use Rattle.ddcmp_proto.specs.Station.{StationView}
 use Rattle.ddcmp_run.specs.Place.{WholeFrame}
 use Rattle.ddcmp_run.specs.Run.{acknowledged_in, restarts_in, after_arrival_here}
 use Rattle.ddcmp_run.specs.declared.event.Reply.TheVariants as reply
-use Rattle.ddcmp_pair.specs.Sides.{SideView, end_with}
+use Rattle.ddcmp_pair.specs.Inside.Sides.{SideView, end_with}
 use Rattle.ddcmp_pair.proofs.Errors.{on_err, if_err, ok_or_err}
 use Rattle.ddcmp_frame.specs.Reader.{StandsFor}
 use Rattle.ddcmp_frame.specs.Reading.{good_frames}

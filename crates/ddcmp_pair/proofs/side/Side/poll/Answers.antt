@@ -13,7 +13,7 @@ use Rattle.ddcmp_pair.proofs.Errors.{on_err, if_err, ok_or_err}
 use Rattle.ddcmp_frame.specs.Reader.{StandsFor}
 use Rattle.ddcmp_core.specs.Table.{is_halted}
 use Rattle.ddcmp_run.proofs.Lines.{nothing-polled, sending-keeps}
-use Rattle.ddcmp_pair.specs.Sides.{SideView, end_with}
+use Rattle.ddcmp_pair.specs.Inside.Sides.{SideView, end_with}
 use Rattle.ddcmp_pair.proofs.side.Side.poll.Goals as goal
 
 pub returns-in_default-clause-state : goal.returns-in_default-clause-state

@@ -6,7 +6,7 @@ use Rattle.ddcmp_frame.specs.Reader.{items_given, PushesAll, PushesFrame}
 use Rattle.ddcmp_core.specs.Table.{notice_of}
 use Rattle.ddcmp_proto.specs.Bytes.{after_item, received_of}
 use Rattle.ddcmp_proto.specs.Station.{StationView}
-use Rattle.ddcmp_proto.specs.OnePart.{TakesPart}
+use Rattle.ddcmp_proto.specs.Inside.OnePart.{TakesPart}
 use Rattle.ddcmp_proto.proofs.FeedLaws.{Pushed, pushed-part, part-none, part-some}
 use Rattle.ddcmp_proto.proofs.station.Station.take_part.Goals as goal
 

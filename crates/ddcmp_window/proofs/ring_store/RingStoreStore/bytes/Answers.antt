@@ -1,5 +1,5 @@
 use Rattle.std.proofs.Common.{arith}
-use Rattle.ddcmp_window.specs.Cuts.{sum_by-cut}
+use Rattle.ddcmp_window.specs.Inside.Cuts.{sum_by-cut}
 use Rattle.ddcmp_window.proofs.ring_store.RingStoreStore.bytes.Goals as goal
 
 pub returns : goal.returns

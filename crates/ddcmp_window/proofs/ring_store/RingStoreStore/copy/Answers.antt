@@ -1,7 +1,7 @@
 use Rattle.std.proofs.Common.{ℕ, ◌<◌, [], length, arith}
 use Rattle.std.proofs.lemmas.List.{length-take-le}
 use Rattle.std.proofs.lemmas.List.Sums.{sum_by_more_le}
-use Rattle.ddcmp_window.specs.Cuts.{length-cut, get_or-cut, length-get_or-cut}
+use Rattle.ddcmp_window.specs.Inside.Cuts.{length-cut, get_or-cut, length-get_or-cut}
 use Rattle.ddcmp_window.proofs.ring_store.RingStoreStore.copy.Goals as goal
 
 pub length_of-length-requires : goal.length_of-length-requires

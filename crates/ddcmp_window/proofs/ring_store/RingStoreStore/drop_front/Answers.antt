@@ -2,7 +2,7 @@ use Rattle.std.proofs.Common.{ℕ, ◌≤◌, refl, arith}
 use Rattle.std.proofs.lemmas.List.{length-drop}
 use Rattle.std.proofs.lemmas.List.Elements.{All-drop}
 use Rattle.std.proofs.lemmas.List.Sums.{sum_by-take-drop}
-use Rattle.ddcmp_window.specs.Cuts.{length-cut}
+use Rattle.ddcmp_window.specs.Inside.Cuts.{length-cut}
 use Rattle.ddcmp_window.proofs.Cuts.{drop-cut}
 use Rattle.ddcmp_window.proofs.ring_store.RingStoreStore.drop_front.Goals as goal
 

@@ -1,5 +1,5 @@
 use Rattle.std.proofs.Common.{arith}
-use Rattle.ddcmp_window.specs.Cuts.{length-cut}
+use Rattle.ddcmp_window.specs.Inside.Cuts.{length-cut}
 use Rattle.ddcmp_window.proofs.ring_store.RingStoreStore.len.Goals as goal
 
 pub returns : goal.returns

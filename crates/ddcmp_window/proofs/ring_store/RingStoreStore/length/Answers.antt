@@ -1,5 +1,5 @@
 use Rattle.std.proofs.Common.{[], arith}
-use Rattle.ddcmp_window.specs.Cuts.{length-cut, length-get_or-cut}
+use Rattle.ddcmp_window.specs.Inside.Cuts.{length-cut, length-get_or-cut}
 use Rattle.ddcmp_window.proofs.ring_store.RingStoreStore.length.Goals as goal
 
 pub length_of-requires : goal.length_of-requires

@@ -2,7 +2,7 @@ use Rattle.std.proofs.Common.{ℕ, ◌<◌, ◌≤◌, length, arith}
 use Rattle.std.proofs.lemmas.List.{length-append, length_push}
 use Rattle.std.proofs.lemmas.List.Elements.{All-push}
 use Rattle.std.proofs.lemmas.List.Sums.{sum_by_push}
-use Rattle.ddcmp_window.specs.Cuts.{length-cut}
+use Rattle.ddcmp_window.specs.Inside.Cuts.{length-cut}
 use Rattle.ddcmp_window.proofs.Cuts.{cut-push}
 use Rattle.ddcmp_window.proofs.Rings.{keep_last-push, keep_last-message}
 use Rattle.ddcmp_window.proofs.ring_store.RingStoreStore.push.Goals as goal

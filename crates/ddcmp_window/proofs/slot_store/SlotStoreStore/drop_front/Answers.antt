@@ -1,5 +1,5 @@
 use Rattle.std.proofs.Common.{arith, ◌≡◌, ◌+◌, ◌-◌}
-use Rattle.ddcmp_window.specs.Fronts.{length-front}
+use Rattle.ddcmp_window.specs.Inside.Fronts.{length-front}
 use Rattle.ddcmp_window.proofs.Fronts.{front-rotated}
 use Rattle.ddcmp_window.proofs.slot_store.SlotStoreStore.drop_front.Goals as goal
 

@@ -1,6 +1,6 @@
 use Rattle.std.proofs.Common.{map, take}
 use Rattle.clap.specs.Words.{App}
-use Rattle.ddcmp_words.specs.Making.{Makes, rule_of_option, with_rules}
+use Rattle.ddcmp_words.specs.Inside.Making.{Makes, rule_of_option, with_rules}
 use Rattle.ddcmp_words.proofs.parser.Parser.with.Given as goal
 
 abbrev pub invariant-loop-option : goal.invariant-loop-option

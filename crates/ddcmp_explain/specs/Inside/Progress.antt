@@ -11,7 +11,7 @@ use Rattle.ddcmp_explain.specs.declared.explainer.Explainer.{Explainer}
 use Rattle.ddcmp_explain.specs.Digits.{bytes_of, left_in, spot_in, unexpected_in}
 use Rattle.ddcmp_explain.specs.Discarded.{has_frame, lines_in, reached}
 use Rattle.ddcmp_explain.specs.Explains.{Tells}
-use Rattle.ddcmp_explain.specs.Heads.{Heads}
+use Rattle.ddcmp_explain.specs.Inside.Heads.{Heads}
 use Rattle.ddcmp_explain.specs.declared.head.Head.{Head}
 
 -- if what was skipped is reported, how far the items reach

@@ -1,0 +1,2 @@
+-- Definitions that are cited inside the crate alone: no promise rests on them.
+pub mod Captions

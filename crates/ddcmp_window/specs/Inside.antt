@@ -1,0 +1,3 @@
+-- Definitions that are cited inside the crate alone: no promise rests on them.
+pub mod Cuts
+pub mod Fronts
