@@ -3,7 +3,9 @@ that a bridge makes."""
 import json
 import os
 import re
+import signal
 import socket
+import struct
 import subprocess
 import tempfile
 import threading
@@ -228,6 +230,44 @@ def bridged_slowly():
     if got != text or bridge.ended() != 0 or bridge.counts()[0] != (2048, 0, 0, 0, 0):
         wrong(f"{len(got)} of {len(text)} bytes, {bridge.lines()} {bridge.errors()}")
     two.close()
+
+
+def unread(name):
+    """How many bytes a connection to this address has that its process hasn't read."""
+    with open("/proc/net/tcp", encoding="ascii") as lines:
+        rows = [it.split() for it in lines]
+    return sum(int(it[4].split(":")[1], 16) for it in rows if it[2].endswith(f":{name[1]:04X}") and it[3] != "0A")
+
+
+def bridged_rest():
+    """What a line has given is passed on, though it takes nothing any more."""
+    first, second = server(), server()
+    bridge = Bridge(*(f"connect:127.0.0.1:{it.getsockname()[1]}" for it in (first, second)))
+    one, two = first.accept()[0], second.accept()[0]
+    frames = [data(drawn.randbytes(990), it % 256) for it in range(4000)]
+    sending = threading.Thread(target=sends, args=(one, b"".join(frames), 1 << 16))
+    sending.start()  # so that its window grows
+    two.settimeout(LONG)
+    left = sum(map(len, frames))
+    while left and (piece := two.recv(1 << 20)):
+        left -= len(piece)
+    sending.join(LONG)
+    bridge.run.send_signal(signal.SIGSTOP)
+    two.sendall(data(b"unwanted", 1))
+    one.setblocking(False)
+    one.send(b"".join(frames[:250]))
+    time.sleep(0.2)
+    had = unread(first.getsockname()) // 1000
+    one.setsockopt(socket.SOL_SOCKET, socket.SO_LINGER, struct.pack("ii", 1, 0))  # its close is a reset
+    one.close()
+    bridge.run.send_signal(signal.SIGCONT)
+    got = b""
+    while piece := two.recv(1 << 20):
+        got += piece
+    if bridge.ended() != 3 or had < 100 or got != b"".join(frames[:had]):
+        wrong(f"{len(got)} of {had} frames, {bridge.lines()} {bridge.errors()}")
+    for it in (first, second, two):
+        it.close()
 
 
 def faulty(*faults):
@@ -502,7 +542,7 @@ def ends_of_a_bridge():
 
 
 TRIALS = [
-    over_faults, the_example, the_example_of_saving, bridged_slowly, bridged_junk, device_to_udp, faults_by_a_seed, udp_to_tcp, tcp_to_tcp,
-    bridged_datagrams, delayed, saved, traced, ends_of_a_bridge,
+    over_faults, the_example, the_example_of_saving, bridged_slowly, bridged_rest, bridged_junk, device_to_udp, faults_by_a_seed,
+    udp_to_tcp, tcp_to_tcp, bridged_datagrams, delayed, saved, traced, ends_of_a_bridge,
 ]
 LONG_TRIALS = []

@@ -15,6 +15,10 @@ use crate::lines::{Lines, Way};
 use std::alloc::Global;
 use std::marker::Model;
 
+/// After how many turns in which something moved the lines say anew which of them is ready, so that
+/// no direction starves the other.
+const TURNS: u64 = 16;
+
 /// Why a bridge has ended.
 #[derive(Clone, Copy, Debug, PartialEq, Eq)]
 pub enum Ended {
@@ -73,7 +77,7 @@ impl Bridge {
         ensures over { result ≡ Ended.Line → IsOver self.new (L.down lines.new) }
         ensures time { result ≡ Ended.Time → ends_at ≤ L.moment lines.new }
     {
-        for _turn in 0..u64::MAX {
+        for turn in 0..u64::MAX {
             let now = lines.now();
             let moved = self.pass(lines, now);
             if self.is_over(lines) {
@@ -84,7 +88,8 @@ impl Bridge {
                 return Ended::Time;
             }
             let most = self.wakes_at(now, ends_at).saturating_sub(passed);
-            if !self.goes_on(lines, now, moved, most) {
+            let passes_on = moved && turn % TURNS != 0;
+            if !self.goes_on(lines, now, passes_on, if moved { 0 } else { most }) {
                 break;
             }
         }
@@ -120,15 +125,15 @@ impl Bridge {
             .min(later_than(now, self.back.wakes_at()))
     }
 
-    /// Waits until a line is ready for what is needed of it at this moment, unless something moved;
+    /// Waits until a line is ready for what is needed of it at this moment, unless it passes on;
     /// returns false if the lines stop it, or it can't wait.
-    fn goes_on<L: Lines>(&self, lines: &mut L, now: u64, moved: bool, most_ms: u64) -> bool
+    fn goes_on<L: Lines>(&self, lines: &mut L, now: u64, passes_on: bool, most_ms: u64) -> bool
         ensures { L.traffic lines.new ≡ L.traffic lines.old }
     {
         if lines.is_stopped() {
             return false;
         }
-        moved || lines.wait(self.there.needs(now), self.back.needs(now), most_ms)
+        passes_on || lines.wait(self.there.needs(now), self.back.needs(now), most_ms)
     }
 
     /// Returns what was counted of what came in this direction.

@@ -32,7 +32,7 @@ fn read_from(side: &mut Side, intake: &mut Intake, space: &mut [u8]) -> Option<u
 fn needs_of(side: &Side, reading: Needs, writing: Needs) -> Needs {
     Needs {
         to_read: reading.to_read && side.down.is_none(),
-        to_write: writing.to_write && side.down.is_none(),
+        to_write: writing.to_write && side.takes_bytes(),
     }
 }
 
@@ -47,17 +47,21 @@ impl<E: Eprint, C: Clock> Lines for LiveLines<'_, E, C> {
     ghost moment = { λ l. l.moment };
 
     fn read(&mut self, way: Way, space: &mut [u8]) -> Option<usize> {
-        match way {
+        let came = match way {
             Way::There => read_from(&mut self.sides.first, &mut self.there, space),
             Way::Back => read_from(&mut self.sides.second, &mut self.back, space),
-        }
+        };
+        self.sides.settle();
+        came
     }
 
     fn write(&mut self, way: Way, bytes: &[u8]) -> Option<usize> {
-        match way {
+        let went = match way {
             Way::There => self.sides.second.write(bytes),
             Way::Back => self.sides.first.write(bytes),
-        }
+        };
+        self.sides.settle();
+        went
     }
 
     fn is_down(&self, way: Way) -> bool {

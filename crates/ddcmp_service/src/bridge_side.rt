@@ -23,6 +23,8 @@ const HOUR_MS: u64 = 3_600_000;
 pub(crate) struct Side {
     line: Line,
     pub(crate) ready: Descriptor,
+    /// Why it takes nothing any more, if it doesn't. What it has given is still read.
+    refuses: Option<Down>,
     /// Why it is down, if it is.
     pub(crate) down: Option<Down>,
 }
@@ -33,6 +35,7 @@ impl Drop for Side {
         let Side {
             line: _line,
             ready: _,
+            refuses: _,
             down: _,
         } = self;
     }
@@ -51,20 +54,26 @@ impl Side {
             Moved::Interrupted => Some(0),
             Moved::Nothing => {
                 self.ready.has_read();
+                self.down = self.refuses;
                 None
             }
             Moved::Ended(why) => {
-                self.down = Some(why);
+                self.down = Some(self.refuses.unwrap_or(why));
                 None
             }
         }
+    }
+
+    /// Whether it takes bytes, as far as it has room.
+    pub(crate) fn takes_bytes(&self) -> bool {
+        self.down.is_none() && self.refuses.is_none()
     }
 
     /// Writes bytes from the front of `bytes`; none if there is no room, or the line is down.
     pub(crate) fn write(&mut self, bytes: &[u8]) -> Option<usize>
         ensures { count_of result ≤ length bytes.now }
     {
-        if self.down.is_some() || !self.ready.ready.to_write {
+        if !self.takes_bytes() || !self.ready.ready.to_write {
             return None;
         }
         match self.line.write(bytes) {
@@ -75,7 +84,7 @@ impl Side {
                 None
             }
             Moved::Ended(why) => {
-                self.down = Some(why);
+                self.refuses = Some(why);
                 None
             }
         }
@@ -115,6 +124,7 @@ fn side_of(poll: &Poll, line: Line, token: Token) -> Side {
     Side {
         line,
         ready,
+        refuses: None,
         down: None,
     }
 }
@@ -136,6 +146,14 @@ impl Sides {
             first,
             second,
         })
+    }
+
+    /// If neither line takes anything any more, nothing can be passed on: both are down.
+    pub(crate) fn settle(&mut self) {
+        if !self.first.takes_bytes() && !self.second.takes_bytes() {
+            self.first.down = self.first.down.or(self.first.refuses);
+            self.second.down = self.second.down.or(self.second.refuses);
+        }
     }
 
     /// Waits until something that is needed of a side is ready, at most this many milliseconds:
