@@ -21,9 +21,9 @@ use std::alloc::Global;
 
 /// Makes a session of sizes in range, with which a history begins.
 pub fn makes(alloc: Global, options: Options, kind: LineKind) -> Result<Session, ConfigRefusal>
-    ensures begins { IfOk result (λ s. s
-        ≡ (new_session options kind s.link.station.line).session) }
-    ensures line { IfOk result (λ s. StandsFor s.link.station.line []) }
+    ensures begins { IfOk result (λ s. s.state
+        ≡ (new_session options kind s.state.link.station.line).session) }
+    ensures line { IfOk result (λ s. StandsFor s.state.link.station.line []) }
     ensures in_range { IfOk result (λ s. first_refusal options.config ≡ None) }
 {
     Session::new(alloc, options, kind)
@@ -32,31 +32,32 @@ pub fn makes(alloc: Global, options: Options, kind: LineKind) -> Result<Session,
 /// Takes bytes of the input, as many as are returned: all, if they complete nothing.
 pub fn types(session: &mut Session, bytes: &[u8]) -> usize
     ensures done { (text : List ℕ)
-        → SessionDoes (Typed (take result bytes.now)) text session.old session.new }
-    ensures whole { wants_input session.old ≡ true
-        → entries_of_input (take result bytes.now) session.old.messages ≡ []
+        → SessionDoes (Typed (take result bytes.now)) text session.old.state session.new.state }
+    ensures whole { wants_input session.old.state ≡ true
+        → entries_of_input (take result bytes.now) session.old.state.messages ≡ []
         → result ≡ length bytes.now }
-    ensures line { session.new.link.station.line ≡ session.old.link.station.line }
+    ensures line { session.new.state.link.station.line ≡ session.old.state.link.station.line }
 {
     session.typed(bytes)
 }
 
 /// Takes the end of the input.
 pub fn ends_input(session: &mut Session)
-    ensures done { (text : List ℕ) → SessionDoes InputEnded text session.old session.new }
-    ensures line { session.new.link.station.line ≡ session.old.link.station.line }
+    ensures done { (text : List ℕ)
+        → SessionDoes InputEnded text session.old.state session.new.state }
+    ensures line { session.new.state.link.station.line ≡ session.old.state.link.station.line }
 {
     session.input_ended();
 }
 
 /// Starts a session: on a line that is clear, if nothing waits to be sent, and on any line again.
 pub fn connects(session: &mut Session) -> bool
-    ensures done { session.old.link.outbox.waiting ≡ []
-        → SessionDoes Connected [] session.old session.new }
-    ensures again { (text : List ℕ) → Does Connected text session.old session.new }
+    ensures done { session.old.state.link.outbox.waiting ≡ []
+        → SessionDoes Connected [] session.old.state session.new.state }
+    ensures again { (text : List ℕ) → Does Connected text session.old.state session.new.state }
     ensures answer { result
-        ≡ is_ok (answer_to_start (after_halt session.old.link.station.core.station)) }
-    ensures line { StandsFor session.new.link.station.line [] }
+        ≡ is_ok (answer_to_start (after_halt session.old.state.link.station.core.station)) }
+    ensures line { StandsFor session.new.state.link.station.line [] }
 {
     session.connected()
 }
@@ -64,21 +65,21 @@ pub fn connects(session: &mut Session) -> bool
 /// Takes the end of the line; returns whether there was room to report what is lost.
 pub fn ends_line(session: &mut Session) -> bool
     ensures done { (text : List ℕ)
-        → SessionDoes (LineEnded result) text session.old session.new }
-    ensures when { result ≡ reports_loss session.old }
-    ensures line { session.new.link.station.line ≡ session.old.link.station.line }
+        → SessionDoes (LineEnded result) text session.old.state session.new.state }
+    ensures when { result ≡ reports_loss session.old.state }
+    ensures line { session.new.state.link.station.line ≡ session.old.state.link.station.line }
 {
     session.line_ended()
 }
 
 /// Takes bytes of the line, as many as are returned.
 pub fn receives(session: &mut Session, bytes: &[u8]) -> usize
-    ensures done { (text : List ℕ) → StandsFor session.old.link.station.line text
-        → SessionDoes (Received (take result bytes.now)) text session.old session.new }
-    ensures some { 0 < length bytes.now → 0 < countable session.old.link.station
-        → wants_line session.old ≡ true → 0 < result }
-    ensures line { (text : List ℕ) → StandsFor session.old.link.station.line text
-        → StandsFor session.new.link.station.line (text ++ take result bytes.now) }
+    ensures done { (text : List ℕ) → StandsFor session.old.state.link.station.line text
+        → SessionDoes (Received (take result bytes.now)) text session.old.state session.new.state }
+    ensures some { 0 < length bytes.now → 0 < countable session.old.state.link.station
+        → wants_line session.old.state ≡ true → 0 < result }
+    ensures line { (text : List ℕ) → StandsFor session.old.state.link.station.line text
+        → StandsFor session.new.state.link.station.line (text ++ take result bytes.now) }
 {
     session.received(bytes)
 }
@@ -86,8 +87,8 @@ pub fn receives(session: &mut Session, bytes: &[u8]) -> usize
 /// Puts frames after what waits for the line.
 pub fn fills(session: &mut Session)
     ensures done { (text : List ℕ)
-        → (frames : ℕ) × SessionDoes (Filled frames) text session.old session.new }
-    ensures line { session.new.link.station.line ≡ session.old.link.station.line }
+        → (frames : ℕ) × SessionDoes (Filled frames) text session.old.state session.new.state }
+    ensures line { session.new.state.link.station.line ≡ session.old.state.link.station.line }
 {
     session.fill();
 }
@@ -95,17 +96,18 @@ pub fn fills(session: &mut Session)
 /// Takes note that the line took bytes.
 pub fn line_takes(session: &mut Session, n: usize)
     ensures done { (text : List ℕ)
-        → SessionDoes (LineTook (min n (length session.old.link.outbox.waiting))) text session.old
-        session.new }
-    ensures line { session.new.link.station.line ≡ session.old.link.station.line }
+        → SessionDoes (LineTook (min n (length session.old.state.link.outbox.waiting))) text
+        session.old.state session.new.state }
+    ensures line { session.new.state.link.station.line ≡ session.old.state.link.station.line }
 {
     session.line_took(n);
 }
 
 /// Handles the timers.
 pub fn times_out(session: &mut Session, now: u64)
-    ensures done { (text : List ℕ) → SessionDoes (TimedOut now) text session.old session.new }
-    ensures line { session.new.link.station.line ≡ session.old.link.station.line }
+    ensures done { (text : List ℕ) → SessionDoes (TimedOut now) text session.old.state
+        session.new.state }
+    ensures line { session.new.state.link.station.line ≡ session.old.state.link.station.line }
 {
     session.handle_timeout(now);
 }
@@ -113,10 +115,10 @@ pub fn times_out(session: &mut Session, now: u64)
 /// Writes the first received message, if it is there and has room.
 pub fn delivers(session: &mut Session) -> bool
     ensures done { (text : List ℕ)
-        → SessionDoes (Delivered result) text session.old session.new }
-    ensures when { room_for_mail session.old ≤ session.old.output.room → result
-        ≡ is_some (first_message session.old.link.station.core.station.inbox) }
-    ensures line { session.new.link.station.line ≡ session.old.link.station.line }
+        → SessionDoes (Delivered result) text session.old.state session.new.state }
+    ensures when { room_for_mail session.old.state ≤ session.old.state.output.room → result
+        ≡ is_some (first_message session.old.state.link.station.core.station.inbox) }
+    ensures line { session.new.state.link.station.line ≡ session.old.state.link.station.line }
 {
     session.deliver()
 }
@@ -124,9 +126,9 @@ pub fn delivers(session: &mut Session) -> bool
 /// Takes note that standard output took bytes.
 pub fn output_takes(session: &mut Session, n: usize)
     ensures done { (text : List ℕ)
-        → SessionDoes (OutputTook (min n (length session.old.output.waiting))) text session.old
-        session.new }
-    ensures line { session.new.link.station.line ≡ session.old.link.station.line }
+        → SessionDoes (OutputTook (min n (length session.old.state.output.waiting))) text
+        session.old.state session.new.state }
+    ensures line { session.new.state.link.station.line ≡ session.old.state.link.station.line }
 {
     session.output_took(n);
 }
@@ -134,9 +136,10 @@ pub fn output_takes(session: &mut Session, n: usize)
 /// Ends the run; returns whether there was room to report what is lost.
 pub fn closes(session: &mut Session, input: &[u8], input_is_at_end: bool) -> bool
     ensures done { (text : List ℕ)
-        → SessionDoes (Closed input.now input_is_at_end result) text session.old session.new }
-    ensures when { result ≡ reports_loss session.old }
-    ensures line { session.new.link.station.line ≡ session.old.link.station.line }
+        → SessionDoes (Closed input.now input_is_at_end result) text session.old.state
+        session.new.state }
+    ensures when { result ≡ reports_loss session.old.state }
+    ensures line { session.new.state.link.station.line ≡ session.old.state.link.station.line }
 {
     session.close(input, input_is_at_end)
 }

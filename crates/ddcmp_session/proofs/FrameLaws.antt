@@ -1,6 +1,11 @@
 -- Frames that a session puts behind what waits for its line, one after another.
+use Rattle.std.proofs.Common.{◌≤◌, arith, subst, List, length, ◌==◌}
 use Rattle.std.proofs.Common.{◌≡◌, ℕ, zero, suc, refl, ap, sym, ◌∙◌, Bool, true, false, cond}
 use Rattle.ddcmp_station.specs.Linking.{LinkView, after_frame, after_frames, polls, after_polled}
+use Rattle.ddcmp_session.specs.Filling.{is_of_datagrams, most_datagrams}
+use Rattle.ddcmp_session.specs.declared.options.LineKind.{LineKind}
+use Rattle.ddcmp_session.specs.declared.options.LineKind.TheVariants.{Datagrams}
+use Rattle.ddcmp_session.specs.Logged.{LoggedSession}
 use Rattle.ddcmp_session.specs.Session.{SessionView}
 
 abbrev with_link : LinkView → SessionView → SessionView
@@ -21,14 +26,56 @@ PutsFrames old new = (n : ℕ) × (new ≡ record old { link = after_frames n ol
 pub puts-none : (s : SessionView) → PutsFrames s s
 puts-none s = (zero, sym (ap (λ d. with_link d s) (no-frames s.link)))
 
-pub puts-one : (old new : SessionView) → new ≡ record old { link = after_frame old.link }
+puts-one-is : (old new : SessionView) → new ≡ record old { link = after_frame old.link }
+    → new ≡ record old { link = after_frames 1 old.link }
+puts-one-is old new is =
+    is
+    ∙ ap (λ d. with_link d old)
+    (ap after_frame (sym (no-frames old.link)) ∙ sym (next-frame zero old.link))
+
+-- at most so many were
+abbrev pub PutsAtMost : ℕ → SessionView → SessionView → Type 0
+PutsAtMost most old new =
+    (n : ℕ) × (n ≤ most) × (new ≡ record old { link = after_frames n old.link })
+
+pub puts-at-most-none : (most : ℕ) (s : SessionView) → PutsAtMost most s s
+puts-at-most-none most s =
+    (zero, omega arith, sym (ap (λ d. with_link d s) (no-frames s.link)))
+
+-- One was put, unless it waits.
+pub puts-at-most-one : (waits : Bool) (old new : SessionView)
+    → new ≡ record old { link = cond waits old.link (after_frame old.link) }
+    → PutsAtMost 1 old new
+puts-at-most-one true old new is =
+    (zero, omega arith, is ∙ sym (ap (λ d. with_link d old) (no-frames old.link)))
+puts-at-most-one false old new is =
+    (suc zero, omega arith, puts-one-is old new is)
+
+pub puts-some : (waits : Bool) (old new : SessionView)
+    → new ≡ record old { link = cond waits old.link (after_frame old.link) }
     → PutsFrames old new
-puts-one old new is = (
-  suc zero,
-  is
-      ∙ ap (λ d. with_link d old)
-      (ap after_frame (sym (no-frames old.link)) ∙ sym (next-frame zero old.link)),
-)
+puts-some waits old new is = let p = puts-at-most-one waits old new is in (p.0, p.2)
+
+-- The first was put at a session that was as it began, where one may be.
+pub at-most : (a b c : SessionView) → most_datagrams a.link ≡ 1 → b ≡ a → PutsAtMost 1 b c
+    → PutsAtMost (most_datagrams a.link) a c
+at-most a b c one same p =
+    subst (λ most. PutsAtMost most a c) (sym one) (subst (λ s. PutsAtMost 1 s c) same p)
+
+-- ---- over datagrams
+
+pub not-datagrams : {A : Type 0} (b : Bool) (kind now : LineKind) → b ≡ is_of_datagrams kind
+    → b ≡ false → kind ≡ now → now ≡ Datagrams → A
+not-datagrams b kind now is off same e =
+    let bad : false ≡ true = sym off ∙ is ∙ ap is_of_datagrams (same ∙ e) in cc
+
+pub one-datagram : (waiting : List ℕ) (inside now : LoggedSession)
+    → waiting ≡ inside.state.link.outbox.waiting → true ≡ (length waiting == 0)
+    → inside ≡ now → most_datagrams now.state.link ≡ 1
+one-datagram waiting inside now is empty same =
+    ap (λ (s : LoggedSession). most_datagrams s.state.link) (sym same)
+    ∙ ap (λ (xs : List ℕ). cond (length xs == 0) 1 0) (sym is)
+    ∙ ap (λ b. cond b 1 0) (sym empty)
 
 frames-add : (n m : ℕ) (d : LinkView)
     → (k : ℕ) × (after_frames m (after_frames n d) ≡ after_frames k d)

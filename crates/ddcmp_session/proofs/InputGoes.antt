@@ -217,7 +217,7 @@ entry-messages entry.NotHexadecimal s = refl
 entry-messages entry.TooLong s = refl
 entry-messages entry.Empty s = refl
 
-entries-line : (es : List Entry) (s : SessionView)
+pub entries-line : (es : List Entry) (s : SessionView)
     → (after_entries es s).link.station.line ≡ s.link.station.line
 entries-line [] s = refl
 entries-line (e ∷ rest) s = entry-line e s

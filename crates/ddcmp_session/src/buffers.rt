@@ -78,12 +78,13 @@ impl Buffers {
     /// received messages weren't delivered before.
     pub fn begin_line(&mut self, session: &mut Session) -> bool
         ensures state { self.new ≡ none_received self.old }
-        ensures connected { session.new
-            ≡ after_connected session.new.link.station.line session.old }
+        ensures connected { session.new.state
+            ≡ after_connected session.new.state.link.station.line session.old.state }
         ensures answer { result
-            ≡ is_ok (answer_to_start (after_halt session.old.link.station.core.station)) }
+            ≡ is_ok (answer_to_start (after_halt session.old.state.link.station.core.station)) }
         ensures over { (before after : Option Traffic) → Becomes before after line_begun
-            → GoesOver self.old session.old before self.new session.new after }
+            → GoesOver self.old session.old.state before self.new session.new.state after }
+        ensures log { session.new.log ≡ session.old.log }
     {
         self.received.clear();
         self.down = None;
@@ -92,7 +93,7 @@ impl Buffers {
 
     /// Returns which devices are to be waited for.
     pub fn wanted(&self, session: &Session) -> Wanted
-        ensures { result ≡ wanted result.errors self.now session.now }
+        ensures { result ≡ wanted result.errors self.now session.now.state }
     {
         Wanted {
             input: self.wants_input(session),
@@ -107,7 +108,7 @@ impl Buffers {
     fn wants_input(&self, session: &Session) -> bool
         ensures empty { result ≡ true → self.now.input ≡ [] }
         ensures goes_on { result ≡ true → self.now.is_over ≡ false }
-        ensures exact { result ≡ reads_input self.now session.now }
+        ensures exact { result ≡ reads_input self.now session.now.state }
     {
         !self.input_is_over && self.input.is_empty() && session.wants_input()
     }
@@ -115,14 +116,18 @@ impl Buffers {
     /// Whether the line is to be read.
     fn wants_line(&self, session: &Session) -> bool
         ensures used { result ≡ true → self.now.received ≡ [] }
-        ensures exact { result ≡ reads_line self.now session.now }
+        ensures exact { result ≡ reads_line self.now session.now.state }
     {
         self.received.is_empty() && session.wants_line()
     }
 
     /// Ends the run of a session. The messages that were read and that it hasn't had are lost.
     pub fn close(&self, session: &mut Session)
-        ensures { Closes self.now session.old session.new }
+        ensures closes { Closes self.now session.old.state session.new.state }
+        ensures log { session.new.log ≡ record session.old.log {
+          errors = session.new.log.errors;
+          read = session.new.log.read;
+        } }
     {
         let _has_room = session.close(self.input.rest(), self.input_is_over);
     }

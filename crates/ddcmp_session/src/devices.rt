@@ -28,19 +28,25 @@ pub trait Devices {
 
     /// Begins what all lines need, as listening for whoever calls, and reports that.
     fn begin_lines(&mut self, session: &mut Session) -> Result<(), Self::Refusal>
-        ensures session { session.new ≡ session.old }
+        ensures session { session.new.state ≡ session.old.state }
+        ensures log { session.new.log
+            ≡ record session.old.log { errors = session.new.log.errors } }
         ensures devices { traffic self.new ≡ traffic self.old };
 
     /// Opens a line as far as that doesn't wait, and reports to whom; returns whether it is open.
     fn open_line(&mut self, session: &mut Session) -> Result<bool, Self::Refusal>
-        ensures session { session.new ≡ session.old }
+        ensures session { session.new.state ≡ session.old.state }
+        ensures log { session.new.log
+            ≡ record session.old.log { errors = session.new.log.errors } }
         ensures opened { result ≡ Ok true
             → Becomes (traffic self.old) (traffic self.new) line_begun }
         ensures not_opened { result ≢ Ok true → traffic self.new ≡ traffic self.old };
 
     /// Reports why a line couldn't be opened, which is tried again after this many seconds.
     fn report_retry(&mut self, session: &mut Session, refusal: Self::Refusal, seconds: u64)
-        ensures session { session.new ≡ session.old }
+        ensures session { session.new.state ≡ session.old.state }
+        ensures log { session.new.log
+            ≡ record session.old.log { errors = session.new.log.errors } }
         ensures devices { traffic self.new ≡ traffic self.old };
 
     /// Closes the line, if one is open: the peer learns of that at once.
@@ -80,9 +86,9 @@ pub trait Devices {
     /// Waits until a device is ready that the session wants, at most this many milliseconds, as
     /// nothing is left to be done without a device; returns whether it could.
     fn rest(&mut self, session: &Session, buffers: &Buffers, most_ms: u64) -> bool
-        requires rests { Rests buffers.now session.now }
-        requires goes_on { end session.now ≡ None }
-        requires until { most_ms ≤ wait_ms session.now }
+        requires rests { Rests buffers.now session.now.state }
+        requires goes_on { end session.now.state ≡ None }
+        requires until { most_ms ≤ wait_ms session.now.state }
         ensures { Becomes (traffic self.old) (traffic self.new) (after_wait result) };
 
     /// Waits until a device that is wanted is ready, at most this many milliseconds; returns

@@ -1,154 +1,273 @@
 //! Lines for standard error.
+ghost use Rattle.std.specs.Prelude.{◌≡◌, ◌+◌, ◌*◌, pos};
+ghost use Rattle.ddcmp_session.specs.Errors.{left_out_words};
+
 use ddcmp_io::text::write_number;
 use ddcmp_io::{ByteQueue, Page};
-use jiff::Timestamp;
+use jiff_core::Timestamp;
+use jiff_fmt::temporal::DateTimePrinter;
 use std::alloc::{AllocError, Global};
-use std::fmt::Write;
-
-/// The room for a line that is no line of a trace and no line of counters.
-const LINE_ROOM: usize = 512;
+use std::marker::Model;
 
 /// The room that is kept for the line that reports how many others were left out, and for two
 /// times of day.
 const NOTE: usize = 160;
 
 /// The room that is kept for the last lines.
-const LAST_ROOM: usize = 8192;
+pub(crate) const LAST_ROOM: usize = 8192;
+
+/// The room for a line that is no line of a trace, no line of counters and none of the last.
+pub(crate) const SHORT_LINE: usize = 512 + LAST_ROOM;
 
 /// Lines that are queued for standard error. A line that finds no room is left out, so that a
 /// standard error that isn't read holds nothing up. How many were left out is reported before the
 /// next line that finds room. Each begins with the time of day, if that is asked for.
+///
+/// To write a line call `begin_line`, and if that returns true write the line into `queue`.
 #[derive(Drop)]
 pub(crate) struct Errors {
-    queue: ByteQueue,
+    pub(crate) queue: ByteQueue,
     left_out: u64,
     /// The milliseconds from 1970 to the moment 0, if lines begin with the time of day.
     began: Option<u64>,
     /// The moment of the lines to come, in milliseconds.
-    now: u64,
+    moment: u64,
+}
+
+impl Model for Errors {
+    ghost use Rattle.ddcmp_session.specs.Errors.{ErrorsView};
+
+    ghost Value = { ErrorsView };
+
+    ghost view = { λ e. record {
+      queue = e.queue;
+      left_out = e.left_out;
+      began = e.began;
+      now = e.moment;
+    } };
 }
 
 impl Errors {
+    ghost use Rattle.std.specs.Prelude.{◌≡◌, ◌+◌, [], ◌++◌, List, ℕ, IfOk, Some, true, false};
+    ghost use Rattle.std.specs.Prelude.{nat_le};
+    ghost use Rattle.ddcmp_session.specs.Errors.{no_lines, has_room, LeftOut, HasLine, HasObject};
+    ghost use Rattle.ddcmp_session.specs.Errors.{HasNoted, ReportsLeftOut, Took, Queues, Stamps};
+    ghost use Rattle.ddcmp_session.specs.Errors.{left_out_text, refused_text, reports_left_out};
+    ghost use Rattle.ddcmp_session.specs.Errors.{settled, one_more};
+
     /// Makes a queue with room for `size` bytes of lines.
-    pub(crate) fn new(alloc: Global, size: usize) -> Result<Errors, AllocError> {
+    pub(crate) fn new(alloc: Global, size: usize) -> Result<Errors, AllocError>
+        ensures { IfOk result (λ made. made ≡ no_lines size) }
+    {
         Ok(Errors {
             queue: ByteQueue::new(alloc, size)?,
             left_out: 0,
             began: None,
-            now: 0,
+            moment: 0,
         })
     }
 
     /// Has each line begin with the time of day; the moment 0 is this many milliseconds after 1970.
-    pub(crate) fn show_time(&mut self, began: u64) {
+    pub(crate) fn show_time(&mut self, began: u64)
+        ensures { self.new ≡ record self.old { began = Some began } }
+    {
         self.began = Some(began);
     }
 
     /// Takes note of the moment of the lines to come.
-    pub(crate) fn pass_time(&mut self, now: u64) {
-        self.now = now;
+    pub(crate) fn pass_time(&mut self, now: u64)
+        ensures { self.new ≡ record self.old { now = now } }
+    {
+        self.moment = now;
     }
 
-    /// Returns where a short line is to be written; none if there is no room, and then the line is
-    /// counted as left out.
-    pub(crate) fn line(&mut self) -> Option<&mut ByteQueue> {
-        self.long_line(LINE_ROOM)
-    }
-
-    /// Returns where a line of at most `needed` bytes is to be written; none if there is no room,
-    /// and then the line is counted as left out.
-    pub(crate) fn long_line(&mut self, needed: usize) -> Option<&mut ByteQueue> {
-        self.last_line(needed.saturating_add(LAST_ROOM))
-    }
-
-    /// Returns where one of the last lines is to be written, for which room was kept.
-    pub(crate) fn last_line(&mut self, needed: usize) -> Option<&mut ByteQueue> {
-        if !self.makes_room(needed) {
-            return None;
+    /// Begins a line of at most `needed` bytes, which is to be written into `queue` next: returns
+    /// whether there is room for it; if not, it is counted as left out.
+    pub(crate) fn begin_line(&mut self, needed: usize) -> bool
+        ensures room { result ≡ has_room needed self.old }
+        ensures begun { HasLine needed [] self.old self.new }
+    {
+        let has_room = self.make_room(needed);
+        if has_room {
+            self.write_stamp(b"", b" ");
         }
-        self.write_time("", " ");
-        Some(&mut self.queue)
+        has_room
     }
 
-    /// Returns where a JSON object of at most `needed` bytes is to be written, whose first members
-    /// are there; none if there is no room, and then it is counted as left out.
-    pub(crate) fn object(&mut self, needed: usize) -> Option<&mut ByteQueue> {
-        if !self.makes_room(needed.saturating_add(LAST_ROOM)) {
-            return None;
+    /// Begins a JSON object in the same way: its first members are written.
+    pub(crate) fn begin_object(&mut self, needed: usize) -> bool
+        ensures room { result ≡ has_room needed self.old }
+        ensures begun { HasObject needed [] self.old self.new }
+    {
+        let has_room = self.make_room(needed);
+        if has_room {
+            self.write_text(b"{");
+            self.write_stamp(b"\"time\":\"", b"\",");
         }
-        let _is_whole = self.queue.write_str("{");
-        self.write_time("\"time\":\"", "\",");
-        Some(&mut self.queue)
+        has_room
     }
 
-    /// Whether a line of at most `needed` bytes has room; else it is counted as left out.
-    fn makes_room(&mut self, needed: usize) -> bool {
-        self.queue.settle();
-        if self.queue.room() < needed.saturating_add(NOTE) {
-            self.left_out = self.left_out.saturating_add(1);
+    /// Makes room for a line of at most `needed` bytes, and reports those that were left out before
+    /// it: returns whether there is room; if not, it is counted as left out.
+    fn make_room(&mut self, needed: usize) -> bool
+        ensures room { result ≡ has_room needed self.old }
+        ensures noted { result ≡ true → HasNoted self.old self.new }
+        ensures left { result ≡ false → LeftOut self.old self.new }
+    {
+        self.settle();
+        if !self.has_room(needed) {
+            self.leave_out();
             return false;
         }
         self.report_left_out();
         true
     }
 
+    /// Makes room, by dropping what was written.
+    fn settle(&mut self)
+        ensures { self.new ≡ record self.old { queue = settled self.old.queue } }
+    {
+        self.queue.settle();
+    }
+
+    /// Whether a line of at most `needed` bytes has room, and a note before it.
+    fn has_room(&self, needed: usize) -> bool
+        ensures { result ≡ nat_le (needed + NOTE) self.now.queue.room }
+    {
+        let room = self.queue.room();
+        NOTE <= room && needed <= room - NOTE
+    }
+
+    /// Counts a line as left out.
+    fn leave_out(&mut self)
+        ensures { self.new ≡ record self.old { left_out = one_more self.old.left_out } }
+    {
+        self.left_out = self.left_out.saturating_add(1);
+    }
+
+    /// Writes a text.
+    fn write_text(&mut self, text: &[u8])
+        ensures { Queues text.now self.old self.new }
+    {
+        let mut page = Page::new();
+        page.write(&mut self.queue, text);
+        let _is_whole = page.flush(&mut self.queue);
+    }
+
     /// Writes the time of day between two texts, if lines begin with that.
-    fn write_time(&mut self, before: &str, after: &str) {
+    fn write_stamp(&mut self, before: &[u8], after: &[u8])
+        ensures { (stamp : List ℕ) × Stamps before.now after.now self.old.began self.old.now stamp
+            × Queues stamp self.old self.new }
+    {
         let Some(began) = self.began else {
             return;
         };
-        let moment = began.saturating_add(self.now);
-        let moment = i64::try_from(moment).unwrap_or(i64::MAX);
-        if let Ok(time) = Timestamp::from_millisecond(moment) {
-            let _is_whole = write!(&mut self.queue, "{before}{time:.3}{after}");
-        }
+        let Ok(moment) = Timestamp::from_nanosecond(nanoseconds(began, self.moment)) else {
+            return;
+        };
+        let time = DateTimePrinter::new()
+            .precision(Some(3))
+            .timestamp_text(moment);
+        self.write_between(before, time.as_str().as_bytes(), after);
+    }
+
+    /// Writes a text between two others.
+    fn write_between(&mut self, before: &[u8], text: &[u8], after: &[u8])
+        ensures { Queues (before.now ++ text.now ++ after.now) self.old self.new }
+    {
+        let mut page = Page::new();
+        page.write(&mut self.queue, before);
+        page.write(&mut self.queue, text);
+        page.write(&mut self.queue, after);
+        let _is_whole = page.flush(&mut self.queue);
     }
 
     /// Reports how many lines were left out, if any were and there is room for that.
-    pub(crate) fn report_left_out(&mut self) {
-        if self.left_out == 0 || self.queue.room() < NOTE {
+    fn report_left_out(&mut self)
+        ensures { ReportsLeftOut self.old self.new }
+    {
+        if !self.reports_left_out() {
             return;
         }
-        self.write_time("", " ");
-        let mut page = Page::new();
-        page.write(&mut self.queue, b"ddcmp: ");
-        write_number(&mut page, &mut self.queue, self.left_out);
-        let what: &[u8] = if self.left_out == 1 {
-            b" line left out\n"
-        } else {
-            b" lines left out\n"
-        };
-        page.write(&mut self.queue, what);
-        let _is_whole = page.flush(&mut self.queue);
+        self.write_stamp(b"", b" ");
+        self.write_left_out();
         self.left_out = 0;
     }
 
-    /// Reports that a part of the input, which `part` names, is no message.
-    pub(crate) fn write_refused(&mut self, part: &[u8], number: u64, why: &[u8]) {
-        let Some(lines) = self.line() else {
-            return;
-        };
+    /// Whether lines were left out, and a note of that has room.
+    fn reports_left_out(&self) -> bool
+        ensures { result ≡ reports_left_out self.now }
+    {
+        self.left_out != 0 && NOTE <= self.queue.room()
+    }
+
+    /// Writes how many lines were left out.
+    fn write_left_out(&mut self)
+        ensures { Queues (left_out_text self.old.left_out) self.old self.new }
+    {
         let mut page = Page::new();
-        page.write(lines, b"ddcmp: ");
-        page.write(lines, part);
-        write_number(&mut page, lines, number);
-        page.write(lines, b": ");
-        page.write(lines, why);
-        page.write(lines, b"\n");
-        let _is_whole = page.flush(lines);
+        page.write(&mut self.queue, b"ddcmp: ");
+        write_number(&mut page, &mut self.queue, self.left_out);
+        page.write(&mut self.queue, left_out_words(self.left_out));
+        let _is_whole = page.flush(&mut self.queue);
+    }
+
+    /// Reports that a part of the input, which `part` names, is no message.
+    pub(crate) fn write_refused(&mut self, part: &[u8], number: u64, why: &[u8])
+        ensures { HasLine SHORT_LINE (refused_text part.now number why.now) self.old self.new }
+    {
+        if self.begin_line(SHORT_LINE) {
+            self.write_reason(part, number, why);
+        }
+    }
+
+    /// Writes why a part of the input is no message.
+    fn write_reason(&mut self, part: &[u8], number: u64, why: &[u8])
+        ensures { Queues (refused_text part.now number why.now) self.old self.new }
+    {
+        let mut page = Page::new();
+        page.write(&mut self.queue, b"ddcmp: ");
+        page.write(&mut self.queue, part);
+        write_number(&mut page, &mut self.queue, number);
+        page.write(&mut self.queue, b": ");
+        page.write(&mut self.queue, why);
+        page.write(&mut self.queue, b"\n");
+        let _is_whole = page.flush(&mut self.queue);
     }
 
     /// Returns the queued lines.
-    pub(crate) fn waiting(&self) -> &[u8] {
+    pub(crate) fn waiting(&self) -> &[u8]
+        ensures { result.now ≡ self.now.queue.waiting }
+    {
         self.queue.waiting()
     }
 
     /// Takes note that the first `n` bytes were written. Once all are, left out lines are reported.
-    pub(crate) fn took(&mut self, n: usize) {
+    pub(crate) fn took(&mut self, n: usize)
+        ensures { Took n self.old self.new }
+    {
         let n = n.min(self.queue.waiting().len());
         self.queue.took(n);
         if self.queue.waiting().is_empty() {
             self.report_left_out();
         }
+    }
+}
+
+/// Returns how many nanoseconds after 1970 a moment is.
+fn nanoseconds(began: u64, moment: u64) -> i128
+    ensures { result ≡ pos ((began + moment) * 1_000_000) }
+{
+    (began as i128 + moment as i128) * 1_000_000
+}
+
+/// Returns what is after the number of lines that were left out.
+fn left_out_words(n: u64) -> &'static [u8]
+    ensures { result.now ≡ left_out_words n }
+{
+    if n == 1 {
+        b" line left out\n"
+    } else {
+        b" lines left out\n"
     }
 }

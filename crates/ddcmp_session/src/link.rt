@@ -83,8 +83,9 @@ fn new_session(
     kind: LineKind,
     began: Option<u64>,
 ) -> Result<Session, ConfigRefusal>
-    ensures made { IfOk result (λ s. s ≡ session_made options kind s.link.station.line) }
-    ensures stands { IfOk result (λ s. StandsFor s.link.station.line []) }
+    ensures made { IfOk result (λ s. s.state
+        ≡ session_made options kind s.state.link.station.line) }
+    ensures stands { IfOk result (λ s. StandsFor s.state.link.station.line []) }
     ensures refused { (refusal : Refusal) → first_refusal options.config ≡ Some refusal
         → result ≡ Err refusal }
 {

@@ -1,5 +1,6 @@
 //! How a session runs.
 ghost use Rattle.std.specs.Prelude.{◌≡◌};
+ghost use Rattle.ddcmp_session.specs.Filling.{is_of_datagrams};
 ghost use Rattle.ddcmp_session.specs.Session.{is_connection, report_ms};
 
 use crate::messages::Form;
@@ -63,7 +64,9 @@ pub enum LineKind {
 
 impl LineKind {
     /// Whether each write is a frame of its own.
-    pub(crate) fn is_of_datagrams(self) -> bool {
+    pub(crate) fn is_of_datagrams(self) -> bool
+        ensures { result ≡ is_of_datagrams self }
+    {
         matches!(self, LineKind::Datagrams)
     }
 

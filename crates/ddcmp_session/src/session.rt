@@ -71,20 +71,29 @@ pub struct Session {
 
 impl Model for Session {
     ghost use Rattle.std.specs.Prelude.{◌≡◌, ◌≤◌, ◌<◌, vec_len};
-    ghost use Rattle.ddcmp_session.specs.Session.{SessionView, form_of};
+    ghost use Rattle.ddcmp_session.specs.Logged.{LoggedSession};
+    ghost use Rattle.ddcmp_session.specs.Session.{form_of};
 
-    ghost Value = { SessionView };
+    ghost Value = { LoggedSession };
 
     ghost view = { λ s. record {
-      options = s.options;
-      kind = s.kind;
-      link = s.link;
-      has_line = s.has_line;
-      course = s.course;
-      messages = s.messages;
-      is_read = s.input_is_read;
-      was_refused = s.was_refused;
-      output = s.output;
+      state = record {
+        options = s.options;
+        kind = s.kind;
+        link = s.link;
+        has_line = s.has_line;
+        course = s.course;
+        messages = s.messages;
+        is_read = s.input_is_read;
+        was_refused = s.was_refused;
+        output = s.output;
+      };
+      log = record {
+        errors = s.errors;
+        trace = s.trace;
+        read = s.read;
+        as_objects = s.reports.as_objects;
+      };
     } };
 
     ghost invariant = { λ s. (s.options.form ≡ form_of s.messages)
@@ -138,8 +147,9 @@ impl Session {
 
     /// Makes a session that has no line yet. It takes all the memory that it will need.
     pub fn new(alloc: Global, options: Options, kind: LineKind) -> Result<Session, ConfigRefusal>
-        ensures made { IfOk result (λ s. s ≡ session_made options kind s.link.station.line) }
-        ensures stands { IfOk result (λ s. StandsFor s.link.station.line []) }
+        ensures made { IfOk result (λ s. s.state
+            ≡ session_made options kind s.state.link.station.line) }
+        ensures stands { IfOk result (λ s. StandsFor s.state.link.station.line []) }
 
         // The first size that is out of range is refused; if none is, only an allocation failure.
         ensures refused { (refusal : ConfigRefusal) → first_refusal options.config ≡ Some refusal

@@ -1,15 +1,37 @@
 //! The bytes that went one way over a line: their frames, and what was discarded between them.
+ghost use Rattle.std.specs.Prelude.{◌≡◌, ◌+◌, ◌-◌, ◌<◌, ◌≤◌, ◌^◌, ◌∷◌, ◌++◌, [], ℕ, length};
+ghost use Rattle.std.specs.Prelude.{List, None, IfOk};
+ghost use Rattle.std.specs.Result.{result_map_both};
+ghost use Rattle.ddcmp_frame.specs.Reader.{MakesReader};
+ghost use Rattle.ddcmp_frame.specs.Step.{item_offset};
+ghost use Rattle.ddcmp_explain.specs.Discarded.{behind};
+ghost use Rattle.ddcmp_session.specs.Trace.{Discards, HasHeard, Hears, first_junk, junk_of};
+ghost use Rattle.ddcmp_session.specs.Trace.{is_fill as fills, skipped_between};
+
 use ddcmp_explain::{Reached, Skipped, reached_by};
 use ddcmp_frame::codes::SYN;
 use ddcmp_frame::{Item, Reader, ReaderRefusal};
 use std::alloc::Global;
+use std::marker::Model;
 
 /// The byte that some stations pad their frames with.
 const DEL: u8 = 0xff;
 
+/// This many discarded bytes are reported although no frame came after them.
+pub(crate) const MOST_DISCARDED: u64 = 256;
+
 /// Whether a byte between frames is fill, as stations send it before a frame or after it.
-fn is_fill(byte: u8) -> bool {
+fn is_fill(byte: u8) -> bool
+    ensures { result ≡ fills byte }
+{
     byte == SYN || byte == DEL
+}
+
+/// An item that a byte completed, and what was discarded before it.
+#[derive(Clone, Copy)]
+pub(crate) struct Completed {
+    pub(crate) item: Item,
+    pub(crate) discarded: Option<Skipped>,
 }
 
 /// What was heard of one way.
@@ -21,8 +43,16 @@ pub(crate) struct Heard {
     junk: Option<u64>,
 }
 
-// By hand, so that what was heard is dropped by a call: a derived one is written out at
-// each such place.
+impl Model for Heard {
+    ghost use Rattle.ddcmp_session.specs.Trace.{HeardView};
+
+    ghost Value = { HeardView };
+
+    ghost view = { λ h. record { frames = h.frames; reached = h.reached; junk = h.junk } };
+}
+
+// By hand, so that what was heard is dropped by a call: a derived one is written out at each
+// such place.
 impl Drop for Heard {
     fn drop(self) {
         let Heard {
@@ -34,44 +64,102 @@ impl Drop for Heard {
 }
 
 impl Heard {
-    /// This many discarded bytes are reported although no frame came after them.
-    pub(crate) const MOST_DISCARDED: u64 = 256;
-
     /// Nothing, of frames of at most this many bytes of data.
-    pub(crate) fn new(alloc: Global, max: u16) -> Result<Heard, ReaderRefusal> {
-        Ok(Heard {
-            frames: Reader::new(alloc, max)?,
-            reached: Reached::at(0),
-            junk: None,
-        })
+    pub(crate) fn new(alloc: Global, max: u16) -> Result<Heard, ReaderRefusal>
+        ensures makes { MakesReader max (result_map_both (λ h. h.frames) (λ refusal. refusal) result) }
+        ensures heard { IfOk result (λ h. HasHeard [] 0 h) }
+    {
+        match Reader::new(alloc, max) {
+            Ok(frames) => Ok(Heard {
+                frames,
+                reached: Reached::at(0),
+                junk: None,
+            }),
+            Err(refusal) => Err(refusal),
+        }
     }
 
     /// Restarts on another line.
-    pub(crate) fn begin_anew(&mut self) {
+    pub(crate) fn begin_anew(&mut self)
+        ensures heard { HasHeard [] 0 self.new }
+        ensures max { self.new.frames.max ≡ self.old.frames.max }
+        ensures lent { self.new.frames.lent ≡ [] }
+    {
         self.frames.reset();
         self.reached = Reached::at(0);
         self.junk = None;
     }
 
-    /// Takes a byte: the item that it completes.
-    pub(crate) fn push(&mut self, byte: u8) -> Option<Item> {
-        let offset = self.frames.offset();
-        if offset >= u64::MAX - 1 {
+    /// Takes a byte: the item that it completes, and what was discarded before that. A byte whose
+    /// offset has no room in 64 bits isn't taken.
+    pub(crate) fn push(&mut self, byte: u8) -> Option<Completed>
+        ensures hears { self.old.frames.offset < 2 ^ 64 - 2 → Hears self.old byte result self.new }
+        ensures full { 2 ^ 64 - 2 ≤ self.old.frames.offset → (result ≡ None)
+            × (self.new ≡ self.old) }
+    {
+        if self.frames.offset() >= u64::MAX - 1 {
             return None;
         }
-        if !is_fill(byte) && self.junk.is_none() && self.reached.skipped_to(offset + 1).is_some() {
-            self.junk = Some(offset);
+        self.note(byte);
+        let item = self.frames.push(byte);
+        match item {
+            Some(item) => {
+                let discarded = self.reach(&item);
+                Some(Completed { item, discarded })
+            }
+            None => None,
         }
-        self.frames.push(byte)
+    }
+
+    /// Takes note of the next byte, if it is the first that is no fill.
+    fn note(&mut self, byte: u8)
+        requires { self.old.frames.offset + 1 < 2 ^ 64 }
+        ensures frames { self.new.frames ≡ self.old.frames }
+        ensures reached { self.new.reached ≡ self.old.reached }
+        ensures junk { (text : List ℕ) (from : ℕ) → HasHeard text from self.old
+            → self.new.junk ≡ first_junk (text ++ byte ∷ []) from }
+    {
+        let offset = self.frames.offset();
+        match self.junk {
+            Some(_) => {}
+            None => self.junk = self.junk_at(byte, offset),
+        }
+    }
+
+    /// Returns the offset of a byte, if it is after the last item and no fill.
+    fn junk_at(&self, byte: u8, offset: u64) -> Option<u64>
+        requires { offset + 1 < 2 ^ 64 }
+        ensures { (text : List ℕ) (from : ℕ) → offset ≡ length text
+            → self.now.reached.offset + self.now.reached.taken ≡ from
+            → first_junk text from ≡ None
+            → result ≡ first_junk (text ++ byte ∷ []) from }
+    {
+        if is_fill(byte) {
+            return None;
+        }
+        match self.reached.skipped_to(offset + 1) {
+            Some(_) => Some(offset),
+            None => None,
+        }
     }
 
     /// The data that the item lends that the last byte has completed.
-    pub(crate) fn data(&self) -> &[u8] {
+    pub(crate) fn data(&self) -> &[u8]
+        ensures { result.now ≡ self.now.frames.lent }
+    {
         self.frames.data()
     }
 
     /// An item was completed: what was discarded before it.
-    pub(crate) fn reach(&mut self, item: &Item) -> Option<Skipped> {
+    fn reach(&mut self, item: &Item) -> Option<Skipped>
+        ensures frames { self.new.frames ≡ self.old.frames }
+        ensures reached { self.new.reached.offset + self.new.reached.taken ≡ behind item.now }
+        ensures junk { self.new.junk ≡ junk_of item.now }
+        ensures skipped { (text : List ℕ) (from : ℕ)
+            → self.old.reached.offset + self.old.reached.taken ≡ from
+            → self.old.junk ≡ first_junk text from
+            → result ≡ skipped_between text from (item_offset item.now) }
+    {
         let reached = reached_by(item);
         let skipped = self.skipped_to(reached.offset);
         self.reached = reached;
@@ -81,26 +169,40 @@ impl Heard {
     }
 
     /// What was discarded after the last frame, if that many bytes were.
-    pub(crate) fn discard(&mut self, least: u64) -> Option<Skipped> {
-        let end = self
-            .frames
-            .offset()
-            .saturating_sub(self.frames.open() as u64);
-        let skipped = self.skipped_to(end)?;
-        if skipped.count < least {
-            return None;
+    pub(crate) fn discard(&mut self, least: u64) -> Option<Skipped>
+        ensures { Discards self.old least result self.new }
+    {
+        let open = self.frames.open() as u64;
+        let end = self.frames.offset().saturating_sub(open);
+        match self.skipped_to(end) {
+            None => None,
+            Some(skipped) => {
+                if skipped.count < least {
+                    return None;
+                }
+                self.reached = Reached::at(end);
+                // The frame that isn't finished may turn out to be none.
+                self.junk = (open > 0).then_some(end);
+                Some(skipped)
+            }
         }
-        self.reached = Reached::at(end);
-        // The frame that isn't finished may turn out to be none.
-        self.junk = (self.frames.open() > 0).then_some(end);
-        Some(skipped)
     }
 
     /// What was discarded up to an offset, if it isn't fill alone.
-    fn skipped_to(&self, to: u64) -> Option<Skipped> {
-        if to <= self.junk? {
-            return None;
+    fn skipped_to(&self, to: u64) -> Option<Skipped>
+        ensures { (text : List ℕ) (from : ℕ)
+            → self.now.reached.offset + self.now.reached.taken ≡ from
+            → self.now.junk ≡ first_junk text from
+            → result ≡ skipped_between text from to }
+    {
+        match self.junk {
+            None => None,
+            Some(junk) => {
+                if to <= junk {
+                    return None;
+                }
+                self.reached.skipped_to(to)
+            }
         }
-        self.reached.skipped_to(to)
     }
 }

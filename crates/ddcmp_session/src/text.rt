@@ -2,7 +2,8 @@
 ghost use Rattle.std.specs.Prelude.{◌≡◌, ◌+◌, ◌*◌, ◌<◌, ◌≤◌, [], ◌++◌, length, decimal};
 ghost use Rattle.hex.specs.Hex.{encode_lower};
 ghost use Rattle.ddcmp_io.specs.Written.{HandsOver, output_of};
-ghost use Rattle.ddcmp_session.specs.EndText.{totals_text, end_line, end_text};
+ghost use Rattle.ddcmp_session.specs.EndText.{totals_text, end_line, end_text, report_text};
+ghost use Rattle.ddcmp_session.specs.EndText.{given_up_text, queued, paged};
 ghost use Rattle.ddcmp_session.specs.Text.{Puts, mail_text, lost_line};
 ghost use Rattle.ddcmp_station.specs.CountersText.{counters_line};
 ghost use Rattle.ddcmp_station.specs.StationText.{notice_line, number_text};
@@ -125,8 +126,19 @@ pub(crate) fn write_lost(out: &mut ByteQueue, lost: u8)
 
 /// Writes why a line is left on which nothing gets on: the peer refuses messages for this reason,
 /// or doesn't answer.
-pub(crate) fn write_given_up(out: &mut ByteQueue, refusal: Option<Nak>) {
+pub(crate) fn write_given_up(out: &mut ByteQueue, refusal: Option<Nak>)
+    ensures { HandsOver (queued out.old) (queued out.new) (given_up_text refusal) }
+{
     let mut page = Page::new();
+    write_refusal(&mut page, out, refusal);
+    let _is_whole = page.flush(out);
+}
+
+/// Writes that the peer refuses messages for this reason, or doesn't answer.
+fn write_refusal(page: &mut Page, out: &mut ByteQueue, refusal: Option<Nak>)
+    ensures { HandsOver (paged out.old page.old) (paged out.new page.new)
+        (given_up_text refusal) }
+{
     match refusal {
         None => page.write(out, b"ddcmp: peer doesn't answer\n"),
         Some(reason) => {
@@ -135,11 +147,13 @@ pub(crate) fn write_given_up(out: &mut ByteQueue, refusal: Option<Nak>) {
             page.write(out, b"\n");
         }
     }
-    let _is_whole = page.flush(out);
 }
 
 /// Writes the counters of a link.
-pub(crate) fn write_counters_line(out: &mut ByteQueue, link: &Link) {
+pub(crate) fn write_counters_line(out: &mut ByteQueue, link: &Link)
+    ensures { HandsOver (queued out.old) (queued out.new)
+        (counters_line [] link.now.station.core.counters) }
+{
     let mut page = Page::new();
     write_counters(&mut page, out, b"", link.counters());
     let _is_whole = page.flush(out);
@@ -188,12 +202,13 @@ pub(crate) fn write_end<W: Sink>(out: &mut W, link: &Link, counted: bool)
 }
 
 /// Writes the state, the totals, the lost messages and the counters of a link in one line.
-pub(crate) fn write_report(out: &mut ByteQueue, link: &Link, lost: u64) {
+pub(crate) fn write_report(out: &mut ByteQueue, link: &Link, lost: u64)
+    ensures { HandsOver (queued out.old) (queued out.new) (report_text lost link.now) }
+{
     let mut page = Page::new();
     page.write(out, b"report ");
     write_totals(&mut page, out, link);
-    page.write(out, b" lost=");
-    write_number(&mut page, out, lost);
+    write_total(&mut page, out, b" lost=", lost);
     write_counters(&mut page, out, b" ", link.counters());
     let _is_whole = page.flush(out);
 }

@@ -1,12 +1,26 @@
 //! A trace: the frames that went to the line and those that came from it, discarded bytes, and
 //! expiries of the reply timer.
-use crate::errors::Errors;
-use crate::skipped::Heard;
-use ddcmp_explain::{Notation, reason_name, write_discarded, write_item};
+ghost use Rattle.std.specs.Prelude.{◌≡◌, ◌+◌, ◌*◌, ◌∷◌, ◌++◌, List, ℕ, [], length, max, min};
+ghost use Rattle.std.specs.Prelude.{codes, IfErr, IfOk, Some};
+ghost use Rattle.ddcmp_explain.specs.Output.{line_in};
+ghost use Rattle.ddcmp_io.specs.Queue.{QueueView};
+ghost use Rattle.ddcmp_io.specs.Written.{HandsOver};
+ghost use Rattle.ddcmp_session.specs.EndText.{queued};
+ghost use Rattle.ddcmp_session.specs.Errors.{HasLine, has_room};
+ghost use Rattle.ddcmp_session.specs.Trace.{BeginsAnew, Discards, HasLines, IsNew, TakesByte, Tells};
+ghost use Rattle.ddcmp_session.specs.Trace.{TellsByte, TellsDiscarded, TellsEnd, front_of, heard_of};
+ghost use Rattle.ddcmp_session.specs.Trace.{capped, item_line, mark_of, reason_in as reason_of};
+ghost use Rattle.ddcmp_session.specs.Trace.{reason_text, room_beside, skipped_line, skipped_lines};
+ghost use Rattle.ddcmp_session.specs.Trace.{timer_line, timer_lines, with_heard};
+
+use crate::errors::{Errors, LAST_ROOM};
+use crate::skipped::{Completed, Heard, MOST_DISCARDED};
+use ddcmp_explain::{Notation, Skipped, reason_name, write_discarded, write_item};
 use ddcmp_frame::{ControlType, Header, Item, MAX_COUNT, Nak, ReaderRefusal};
 use ddcmp_io::text::write_number;
 use ddcmp_io::{ByteQueue, Page};
 use std::alloc::Global;
+use std::marker::Model;
 
 /// The most bytes of text beside the digits of the data that a frame carries.
 const NOTE: usize = 256;
@@ -20,7 +34,9 @@ pub(crate) enum Way {
 
 impl Way {
     /// What is between the moment and the line of a frame.
-    fn mark(self) -> &'static [u8] {
+    fn mark(self) -> &'static [u8]
+        ensures { result.now ≡ mark_of self }
+    {
         match self {
             Way::ToLine => b" > ",
             Way::FromLine => b" < ",
@@ -39,6 +55,14 @@ pub(crate) struct Trace {
     now: u64,
 }
 
+impl Model for Trace {
+    ghost use Rattle.ddcmp_session.specs.Trace.{TraceView};
+
+    ghost Value = { TraceView };
+
+    ghost view = { λ t. record { spared = t.spared; sent = t.sent; came = t.came; now = t.now } };
+}
+
 // By hand, so that a trace is dropped by a call: a derived one is written out at each such place.
 impl Drop for Trace {
     fn drop(self) {
@@ -53,116 +77,252 @@ impl Drop for Trace {
 
 impl Trace {
     /// A trace of a line of messages of at most this many bytes.
-    pub(crate) fn new(alloc: Global, max: u16, spared: usize) -> Result<Trace, ReaderRefusal> {
-        let max = max.max(1).min(MAX_COUNT);
-        Ok(Trace {
-            spared,
-            sent: Heard::new(alloc, max)?,
-            came: Heard::new(alloc, max)?,
-            now: 0,
-        })
+    pub(crate) fn new(alloc: Global, most: u16, spared: usize) -> Result<Trace, ReaderRefusal>
+        ensures sent { IfOk result (λ t. IsNew (min (max most 1) 16383) t.sent) }
+        ensures came { IfOk result (λ t. IsNew (min (max most 1) 16383) t.came) }
+        ensures spared { IfOk result (λ t. t.spared ≡ spared) }
+        ensures now { IfOk result (λ t. t.now ≡ 0) }
+        ensures refused { IfErr result (λ refusal. refusal ≡ ReaderRefusal.Memory) }
+    {
+        let most = most.max(1).min(MAX_COUNT);
+        match Heard::new(alloc, most) {
+            Ok(sent) => match Heard::new(alloc, most) {
+                Ok(came) => Ok(Trace {
+                    spared,
+                    sent,
+                    came,
+                    now: 0,
+                }),
+                Err(refusal) => Err(refusal),
+            },
+            Err(refusal) => Err(refusal),
+        }
     }
 
     /// The line is another from now on.
-    pub(crate) fn begin_anew(&mut self, errors: &mut Errors) {
+    pub(crate) fn begin_anew(&mut self, errors: &mut Errors)
+        ensures { BeginsAnew self.old self.new errors.old errors.new }
+    {
         self.end(errors);
         self.sent.begin_anew();
         self.came.begin_anew();
     }
 
     /// The line has ended: what was discarded after the last frames is reported.
-    pub(crate) fn end(&mut self, errors: &mut Errors) {
+    pub(crate) fn end(&mut self, errors: &mut Errors)
+        ensures { TellsEnd self.old self.new errors.old errors.new }
+    {
         self.tell_discarded(Way::ToLine, 1, errors);
         self.tell_discarded(Way::FromLine, 1, errors);
     }
 
     /// Puts the lines of the frames that bytes complete, which went this way, after a text, and of
     /// what was discarded before them.
-    pub(crate) fn tell(&mut self, way: Way, bytes: &[u8], errors: &mut Errors) {
-        for byte in bytes {
-            if let Some(item) = self.heard(way).push(*byte) {
-                self.tell_item(way, &item, errors);
+    pub(crate) fn tell(&mut self, way: Way, bytes: &[u8], errors: &mut Errors)
+        ensures { Tells way bytes.now self.old self.new errors.old errors.new }
+    {
+        let mut at = 0;
+        while at < bytes.len() {
+            self.tell_byte(way, bytes[at], errors);
+            at += 1;
+        }
+        self.tell_discarded(way, MOST_DISCARDED, errors);
+    }
+
+    /// Puts the lines of what a byte completes.
+    fn tell_byte(&mut self, way: Way, byte: u8, errors: &mut Errors)
+        ensures { TellsByte way byte self.old self.new errors.old errors.new }
+    {
+        match self.push(way, byte) {
+            None => {}
+            Some(completed) => {
+                put_skipped(self.spared, self.now, way, completed.discarded, errors);
+                let data = self.data(way);
+                put_item(self.spared, self.now, way, &completed.item, data, errors);
             }
         }
-        self.tell_discarded(way, Heard::MOST_DISCARDED, errors);
     }
 
-    fn heard(&mut self, way: Way) -> &mut Heard {
+    /// Takes a byte that went this way.
+    fn push(&mut self, way: Way, byte: u8) -> Option<Completed>
+        ensures takes { TakesByte (heard_of way self.old) byte result (heard_of way self.new) }
+        ensures stays { self.new ≡ with_heard way (heard_of way self.new) self.old }
+    {
         match way {
-            Way::ToLine => &mut self.sent,
-            Way::FromLine => &mut self.came,
+            Way::ToLine => self.sent.push(byte),
+            Way::FromLine => self.came.push(byte),
         }
     }
 
-    /// Puts the line of an item, and before it that of what was discarded.
-    fn tell_item(&mut self, way: Way, item: &Item, errors: &mut Errors) {
-        if let Some(discarded) = self.heard(way).reach(item) {
-            self.put_discarded(way, discarded.from, discarded.count, errors);
-        }
-        let needed = (2 * self.heard(way).data().len()).saturating_add(NOTE);
-        let now = self.now;
-        if let Some(lines) = self.line(needed, errors) {
-            put_item(now, way, item, self.heard(way).data(), lines);
+    /// The data of the item that the last byte completed which went this way.
+    fn data(&self, way: Way) -> &[u8]
+        ensures { result.now ≡ (heard_of way self.entry.now).frames.lent }
+    {
+        match way {
+            Way::ToLine => self.sent.data(),
+            Way::FromLine => self.came.data(),
         }
     }
 
     /// Puts the line of what was discarded after the last frame, if that many bytes were.
-    fn tell_discarded(&mut self, way: Way, least: u64, errors: &mut Errors) {
-        if let Some(discarded) = self.heard(way).discard(least) {
-            self.put_discarded(way, discarded.from, discarded.count, errors);
+    fn tell_discarded(&mut self, way: Way, least: u64, errors: &mut Errors)
+        ensures { TellsDiscarded way least self.old self.new errors.old errors.new }
+    {
+        let discarded = self.discard(way, least);
+        put_skipped(self.spared, self.now, way, discarded, errors);
+    }
+
+    /// What was discarded after the last frame that went this way, if that many bytes were.
+    fn discard(&mut self, way: Way, least: u64) -> Option<Skipped>
+        ensures discards { Discards (heard_of way self.old) least result (heard_of way self.new) }
+        ensures stays { self.new ≡ with_heard way (heard_of way self.new) self.old }
+    {
+        match way {
+            Way::ToLine => self.sent.discard(least),
+            Way::FromLine => self.came.discard(least),
         }
-    }
-
-    fn put_discarded(&mut self, way: Way, from: u64, count: u64, errors: &mut Errors) {
-        let Some(text) = self.line(NOTE, errors) else {
-            return;
-        };
-        let mut page = Page::new();
-        write_number(&mut page, text, self.now);
-        page.write(text, way.mark());
-        write_discarded(&mut page, text, Notation::Plain, from, count);
-        let _is_whole = page.flush(text);
-    }
-
-    /// Returns where a line of at most `needed` bytes is to be written, if there is room for it and
-    /// for what else is reported.
-    fn line<'a>(&self, needed: usize, errors: &'a mut Errors) -> Option<&'a mut ByteQueue> {
-        errors.long_line(self.spared.saturating_add(needed))
     }
 
     /// It is this moment, and the station's timer has expired or not.
-    pub(crate) fn wake(&mut self, now: u64, has_expired: bool, errors: &mut Errors) {
+    pub(crate) fn wake(&mut self, now: u64, has_expired: bool, errors: &mut Errors)
+        ensures now { self.new ≡ record self.old { now = now } }
+        ensures lines { HasLines self.old.spared (timer_lines now has_expired)
+            errors.old errors.new }
+    {
         self.now = now;
-        if !has_expired {
-            return;
-        }
-        if let Some(text) = self.line(NOTE, errors) {
-            let mut page = Page::new();
-            write_number(&mut page, text, now);
-            page.write(text, b" timer\n");
-            let _is_whole = page.flush(text);
+        if has_expired {
+            put_timer(self.spared, now, errors);
         }
     }
 }
 
-/// Puts the line of an item with the data that it lends; that of a NAK has its reason in words.
-fn put_item(now: u64, way: Way, item: &Item, data: &[u8], text: &mut ByteQueue) {
+/// Begins a line of at most `needed` bytes, if there is room for it and for what else is reported.
+fn begin_line(spared: usize, needed: usize, errors: &mut Errors) -> bool
+    ensures room { result ≡ has_room (room_beside spared needed) errors.old }
+    ensures line { HasLine (room_beside spared needed) [] errors.old errors.new }
+{
+    errors.begin_line(spared.saturating_add(needed).saturating_add(LAST_ROOM))
+}
+
+/// Puts the line of an expiry of the timer.
+fn put_timer(spared: usize, now: u64, errors: &mut Errors)
+    ensures { HasLine (room_beside spared NOTE) (timer_line now) errors.old errors.new }
+{
+    if begin_line(spared, NOTE, errors) {
+        write_timer(now, &mut errors.queue);
+    }
+}
+
+fn write_timer(now: u64, text: &mut ByteQueue)
+    ensures { HandsOver (queued text.old) (queued text.new) (timer_line now) }
+{
+    let mut page = Page::new();
+    write_number(&mut page, text, now);
+    page.write(text, b" timer\n");
+    let _is_whole = page.flush(text);
+}
+
+/// Puts the line of discarded bytes, if there are any.
+fn put_skipped(spared: usize, now: u64, way: Way, skipped: Option<Skipped>, errors: &mut Errors)
+    ensures { HasLines spared (skipped_lines now way skipped) errors.old errors.new }
+{
+    match skipped {
+        None => {}
+        Some(skipped) => put_discarded(spared, now, way, skipped, errors),
+    }
+}
+
+fn put_discarded(spared: usize, now: u64, way: Way, skipped: Skipped, errors: &mut Errors)
+    ensures { HasLine (room_beside spared NOTE) (skipped_line now way skipped)
+        errors.old errors.new }
+{
+    if begin_line(spared, NOTE, errors) {
+        write_skipped(now, way, skipped, &mut errors.queue);
+    }
+}
+
+fn write_skipped(now: u64, way: Way, skipped: Skipped, text: &mut ByteQueue)
+    ensures { HandsOver (queued text.old) (queued text.new) (skipped_line now way skipped) }
+{
+    let mut page = Page::new();
+    write_number(&mut page, text, now);
+    page.write(text, way.mark());
+    write_discarded(
+        &mut page,
+        text,
+        Notation::Plain,
+        skipped.from,
+        skipped.count,
+    );
+    let _is_whole = page.flush(text);
+}
+
+/// Puts the line of an item with the data that it lends.
+fn put_item(spared: usize, now: u64, way: Way, item: &Item, data: &[u8], errors: &mut Errors)
+    ensures { HasLine (room_beside spared (capped (2 * length «data».now + NOTE)))
+        (item_line now way (item.now, «data».now)) errors.old errors.new }
+{
+    if begin_line(spared, (2 * data.len()).saturating_add(NOTE), errors) {
+        write_line(now, way, item, data, &mut errors.queue);
+    }
+}
+
+/// Writes the line of an item; that of a NAK has its reason in words.
+fn write_line(now: u64, way: Way, item: &Item, data: &[u8], text: &mut ByteQueue)
+    ensures { HandsOver (queued text.old) (queued text.new)
+        (item_line now way (item.now, «data».now)) }
+{
+    let before = text.waiting().len();
+    write_plain(now, way, item, data, text);
+    match reason_in(item) {
+        None => {}
+        Some(reason) => write_reason(before, reason, text),
+    }
+}
+
+/// Writes the line of an item without the reason of a NAK.
+fn write_plain(now: u64, way: Way, item: &Item, data: &[u8], text: &mut ByteQueue)
+    ensures { HandsOver (queued text.old) (queued text.new)
+        (front_of now way ++ line_in Notation.Plain (item.now, «data».now)) }
+{
     let mut page = Page::new();
     write_number(&mut page, text, now);
     page.write(text, way.mark());
     write_item(&mut page, text, Notation::Plain, item, data);
     let _is_whole = page.flush(text);
-    if let Some(reason) = reason_in(item) {
-        text.take_back(1);
-        page.write(text, b" (");
-        page.write(text, reason_name(reason));
-        page.write(text, b")\n");
-        let _is_whole = page.flush(text);
+}
+
+/// Writes a reason before the end of the last line, after so many bytes; a line that was cut is
+/// dropped.
+fn write_reason(before: usize, reason: Nak, text: &mut ByteQueue)
+    ensures { (front : List ℕ) (first : QueueView) → before ≡ length first.waiting
+        → HandsOver (queued first) (queued text.old) (front ++ codes "\n")
+        → HandsOver (queued first) (queued text.new)
+        (front ++ reason_text (Some reason) ++ codes "\n") }
+{
+    if text.is_cut() {
+        let after = text.waiting().len();
+        return text.take_back(after.saturating_sub(before));
     }
+    text.take_back(1);
+    write_words(reason, text);
+}
+
+fn write_words(reason: Nak, text: &mut ByteQueue)
+    ensures { HandsOver (queued text.old) (queued text.new)
+        (reason_text (Some reason) ++ codes "\n") }
+{
+    let mut page = Page::new();
+    page.write(text, b" (");
+    page.write(text, reason_name(reason));
+    page.write(text, b")\n");
+    let _is_whole = page.flush(text);
 }
 
 /// The reason of a NAK that is good.
-fn reason_in(item: &Item) -> Option<Nak> {
+fn reason_in(item: &Item) -> Option<Nak>
+    ensures { result ≡ reason_of item.now }
+{
     let Item::Good(_, Header::Control(header)) = item else {
         return None;
     };

@@ -25,18 +25,19 @@ impl Buffers {
         session: &mut Session,
         devices: &mut D,
     ) -> Result<(), Stop<D::Refusal>>
-        ensures ends { RunsToEnd (is_ok result) self.old session.old (D.traffic devices.old)
-            self.new session.new (D.traffic devices.new) }
-        ensures stops { (ends : RunsToEnd (is_ok result) self.old session.old
-            (D.traffic devices.old) self.new session.new (D.traffic devices.new))
-            × StopsToEnd result self.old session.old (D.traffic devices.old) ends.ends.unclosed
+        ensures ends { RunsToEnd (is_ok result) self.old session.old.state (D.traffic devices.old)
+            self.new session.new.state (D.traffic devices.new) }
+        ensures stops { (ends : RunsToEnd (is_ok result) self.old session.old.state
+            (D.traffic devices.old) self.new session.new.state (D.traffic devices.new))
+            × StopsToEnd result self.old session.old.state (D.traffic devices.old)
+            ends.ends.unclosed
             ends.between }
-        ensures whole { result ≡ Ok tt → session.new.course.lost ≡ 0 }
+        ensures whole { result ≡ Ok tt → session.new.state.course.lost ≡ 0 }
         ensures lost { (count : ℕ) → result ≡ Err (Stop.Lost count)
-            → (count ≡ session.new.course.lost) × (0 < count) }
-        ensures left { result ≡ Err Stop.Left → session.new.course.has_run ≡ false }
+            → (count ≡ session.new.state.course.lost) × (0 < count) }
+        ensures left { result ≡ Err Stop.Left → session.new.state.course.has_run ≡ false }
         ensures reports { (fault : FaultValue) → fault ≢ Fault.Time
-            → result ≡ Err (Stop.Device fault) → ReportsOver self.old session.old
+            → result ≡ Err (Stop.Device fault) → ReportsOver self.old session.old.state
             (D.traffic devices.old) (D.traffic devices.new) fault }
     {
         let ran = self.run_lines(session, devices);
@@ -70,12 +71,16 @@ fn outcome<R: Copy>(ran: Result<(), Stop<R>>, finished: Result<(), Fault>) -> Re
 
 /// Writes all received messages, and then the last lines.
 fn finish<D: Devices>(session: &mut Session, devices: &mut D) -> Result<(), Fault>
-    ensures finishes { Finishes (is_ok result) session.old (D.traffic devices.old)
-        session.new (D.traffic devices.new) }
+    ensures finishes { Finishes (is_ok result) session.old.state (D.traffic devices.old)
+        session.new.state (D.traffic devices.new) }
     ensures reports { (held : BuffersView) (fault : FaultValue) → result ≡ Err fault
         → fault ≢ Fault.Time
-        → Reports held session.old (D.traffic devices.old) (D.traffic devices.new) fault }
-    ensures course { session.new.course ≡ session.old.course }
+        → Reports held session.old.state (D.traffic devices.old) (D.traffic devices.new) fault }
+    ensures course { session.new.state.course ≡ session.old.state.course }
+    ensures log { session.new.log ≡ record session.old.log {
+      errors = session.new.log.errors;
+      trace = session.new.log.trace;
+    } }
 {
     match deliver_rest(session, devices) {
         Ok(()) => {}
@@ -87,15 +92,19 @@ fn finish<D: Devices>(session: &mut Session, devices: &mut D) -> Result<(), Faul
 
 /// Writes all received messages, and reports it if they are lost since nobody reads them.
 fn deliver_rest<D: Devices>(session: &mut Session, devices: &mut D) -> Result<(), Fault>
-    ensures drains { Drains session.old (D.traffic devices.old)
-        session.new (D.traffic devices.new) }
-    ensures on { (held : BuffersView) → GoesOn held session.old (D.traffic devices.old)
-        held session.new (D.traffic devices.new) }
+    ensures drains { Drains session.old.state (D.traffic devices.old)
+        session.new.state (D.traffic devices.new) }
+    ensures on { (held : BuffersView) → GoesOn held session.old.state (D.traffic devices.old)
+        held session.new.state (D.traffic devices.new) }
     ensures reports { (held : BuffersView) (fault : FaultValue) → result ≡ Err fault
         → fault ≢ Fault.Time
-        → Reports held session.old (D.traffic devices.old) (D.traffic devices.new) fault }
-    ensures course { session.new.course ≡ session.old.course }
-    ensures emptied { result ≡ Ok tt → IsDrained session.new }
+        → Reports held session.old.state (D.traffic devices.old) (D.traffic devices.new) fault }
+    ensures course { session.new.state.course ≡ session.old.state.course }
+    ensures log { session.new.log ≡ record session.old.log {
+      errors = session.new.log.errors;
+      trace = session.new.log.trace;
+    } }
+    ensures emptied { result ≡ Ok tt → IsDrained session.new.state }
 {
     let drained = drain_output(session, devices);
     session.finish();

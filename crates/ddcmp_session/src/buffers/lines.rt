@@ -45,18 +45,18 @@ impl Buffers {
         session: &mut Session,
         devices: &mut D,
     ) -> Result<(), Stop<D::Refusal>>
-        ensures ends { Ends (is_ok result) self.old session.old (D.traffic devices.old)
-            self.new session.new (D.traffic devices.new) }
-        ensures stops { (ends : Ends (is_ok result) self.old session.old (D.traffic devices.old)
-            self.new session.new (D.traffic devices.new))
-            × Stops result self.old session.old (D.traffic devices.old) ends.unclosed
+        ensures ends { Ends (is_ok result) self.old session.old.state (D.traffic devices.old)
+            self.new session.new.state (D.traffic devices.new) }
+        ensures stops { (ends : Ends (is_ok result) self.old session.old.state
+            (D.traffic devices.old) self.new session.new.state (D.traffic devices.new))
+            × Stops result self.old session.old.state (D.traffic devices.old) ends.unclosed
             (D.traffic devices.new) }
-        ensures whole { result ≡ Ok tt → session.new.course.lost ≡ 0 }
+        ensures whole { result ≡ Ok tt → session.new.state.course.lost ≡ 0 }
         ensures lost { (count : ℕ) → result ≡ Err (Stop.Lost count)
-            → (count ≡ session.new.course.lost) × (0 < count) }
-        ensures left { result ≡ Err Stop.Left → session.new.course.has_run ≡ false }
+            → (count ≡ session.new.state.course.lost) × (0 < count) }
+        ensures left { result ≡ Err Stop.Left → session.new.state.course.has_run ≡ false }
         ensures reports { (fault : FaultValue) → fault ≢ Fault.Time
-            → result ≡ Err (Stop.Device fault) → ReportsOver self.old session.old
+            → result ≡ Err (Stop.Device fault) → ReportsOver self.old session.old.state
             (D.traffic devices.old) (D.traffic devices.new) fault }
     {
         let ran = self.run_each(session, devices);
@@ -71,18 +71,18 @@ impl Buffers {
         session: &mut Session,
         devices: &mut D,
     ) -> Result<(), Stop<D::Refusal>>
-        ensures over { GoesOver self.old session.old (D.traffic devices.old)
-            self.new session.new (D.traffic devices.new) }
+        ensures over { GoesOver self.old session.old.state (D.traffic devices.old)
+            self.new session.new.state (D.traffic devices.new) }
         ensures reports { (fault : FaultValue) → fault ≢ Fault.Time
-            → result ≡ Err (Stop.Device fault) → ReportsOver self.old session.old
+            → result ≡ Err (Stop.Device fault) → ReportsOver self.old session.old.state
             (D.traffic devices.old) (D.traffic devices.new) fault }
-        ensures delivered { result ≡ Ok tt → is_delivered session.new ≡ true }
-        ensures ended { result ≡ Ok tt → end session.new ≡ Some End.Delivered }
-        ensures left { result ≡ Err Stop.Left → IsLeft self.old session.old
-            (D.traffic devices.old) session.new (D.traffic devices.new) }
-        ensures shut { IfNotOpened result (IsShut session.old session.new) }
-        ensures time { result ≡ Err (Stop.Device Fault.Time) → IsTimeOver self.old session.old
-            (D.traffic devices.old) session.new (D.traffic devices.new) }
+        ensures delivered { result ≡ Ok tt → is_delivered session.new.state ≡ true }
+        ensures ended { result ≡ Ok tt → end session.new.state ≡ Some End.Delivered }
+        ensures left { result ≡ Err Stop.Left → IsLeft self.old session.old.state
+            (D.traffic devices.old) session.new.state (D.traffic devices.new) }
+        ensures shut { IfNotOpened result (IsShut session.old.state session.new.state) }
+        ensures time { result ≡ Err (Stop.Device Fault.Time) → IsTimeOver self.old session.old.state
+            (D.traffic devices.old) session.new.state (D.traffic devices.new) }
         ensures unjudged { (count : ℕ) → result ≢ Err (Stop.Lost count) }
     {
         match devices.begin_lines(session) {
@@ -112,19 +112,19 @@ impl Buffers {
         session: &mut Session,
         devices: &mut D,
     ) -> Result<bool, Stop<D::Refusal>>
-        ensures over { GoesOver self.old session.old (D.traffic devices.old)
-            self.new session.new (D.traffic devices.new) }
+        ensures over { GoesOver self.old session.old.state (D.traffic devices.old)
+            self.new session.new.state (D.traffic devices.new) }
         ensures reports { (fault : FaultValue) → fault ≢ Fault.Time
-            → result ≡ Err (Stop.Device fault) → ReportsOver self.old session.old
+            → result ≡ Err (Stop.Device fault) → ReportsOver self.old session.old.state
             (D.traffic devices.old) (D.traffic devices.new) fault }
-        ensures delivered { result ≡ Ok true → is_delivered session.new ≡ true }
-        ensures ended { result ≡ Ok true → end session.new ≡ Some End.Delivered }
-        ensures gone { result ≡ Ok false → LeavesLine self.old session.old
-            (D.traffic devices.old) session.new (D.traffic devices.new) }
-        ensures left { result ≡ Err Stop.Left → HasNotStarted session.new }
-        ensures shut { IfNotOpened result (session.new.options.again ≡ false) }
-        ensures time { result ≡ Err (Stop.Device Fault.Time) → IsTimeOver self.old session.old
-            (D.traffic devices.old) session.new (D.traffic devices.new) }
+        ensures delivered { result ≡ Ok true → is_delivered session.new.state ≡ true }
+        ensures ended { result ≡ Ok true → end session.new.state ≡ Some End.Delivered }
+        ensures gone { result ≡ Ok false → LeavesLine self.old session.old.state
+            (D.traffic devices.old) session.new.state (D.traffic devices.new) }
+        ensures left { result ≡ Err Stop.Left → HasNotStarted session.new.state }
+        ensures shut { IfNotOpened result (session.new.state.options.again ≡ false) }
+        ensures time { result ≡ Err (Stop.Device Fault.Time) → IsTimeOver self.old session.old.state
+            (D.traffic devices.old) session.new.state (D.traffic devices.new) }
         ensures unjudged { (count : ℕ) → result ≢ Err (Stop.Lost count) }
     {
         match self.begin(session, devices) {
@@ -150,14 +150,14 @@ impl Buffers {
         session: &mut Session,
         devices: &mut D,
     ) -> Result<(), Stop<D::Refusal>>
-        ensures over { GoesOver self.old session.old (D.traffic devices.old)
-            self.new session.new (D.traffic devices.new) }
+        ensures over { GoesOver self.old session.old.state (D.traffic devices.old)
+            self.new session.new.state (D.traffic devices.new) }
         ensures device { (fault : FaultValue) → result ≡ Err (Stop.Device fault)
             → fault ≡ Fault.Time }
-        ensures left { result ≡ Err Stop.Left → HasNotStarted session.new }
-        ensures shut { IfNotOpened result (session.new.options.again ≡ false) }
-        ensures time { result ≡ Err (Stop.Device Fault.Time) → IsTimeOver self.old session.old
-            (D.traffic devices.old) session.new (D.traffic devices.new) }
+        ensures left { result ≡ Err Stop.Left → HasNotStarted session.new.state }
+        ensures shut { IfNotOpened result (session.new.state.options.again ≡ false) }
+        ensures time { result ≡ Err (Stop.Device Fault.Time) → IsTimeOver self.old session.old.state
+            (D.traffic devices.old) session.new.state (D.traffic devices.new) }
         ensures unjudged { (count : ℕ) → result ≢ Err (Stop.Lost count) }
     {
         for _try in 0..u64::MAX {
@@ -187,12 +187,12 @@ impl Buffers {
         devices: &mut D,
         now: u64,
     ) -> Result<bool, Stop<D::Refusal>>
-        ensures over { GoesOver self.old session.old (D.traffic devices.old)
-            self.new session.new (D.traffic devices.new) }
-        ensures ready { result ≡ Ok false → IsReady session.old → IsReady session.new }
+        ensures over { GoesOver self.old session.old.state (D.traffic devices.old)
+            self.new session.new.state (D.traffic devices.new) }
+        ensures ready { result ≡ Ok false → IsReady session.old.state → IsReady session.new.state }
         ensures open { (fault : FaultValue) → result ≢ Err (Stop.Device fault) }
-        ensures left { result ≡ Err Stop.Left → HasNotStarted session.new }
-        ensures shut { IfNotOpened result (session.new.options.again ≡ false) }
+        ensures left { result ≡ Err Stop.Left → HasNotStarted session.new.state }
+        ensures shut { IfNotOpened result (session.new.state.options.again ≡ false) }
         ensures unjudged { (count : ℕ) → result ≢ Err (Stop.Lost count) }
     {
         if now < session.opens_at() {
@@ -219,21 +219,22 @@ impl Buffers {
         ran: Result<(), Stop<D::Refusal>>,
     ) -> Result<(), Stop<D::Refusal>>
         requires unjudged { (count : ℕ) → ran ≢ Err (Stop.Lost count) }
-        requires delivered { ran ≡ Ok tt → is_delivered session.old ≡ true }
-        ensures on { GoesOn self.old session.old (D.traffic devices.old)
-            self.new session.old (D.traffic devices.new) }
-        ensures closes { Closes self.new session.old session.new }
-        ensures well { is_ok result ≡ true → MayEndWell session.old }
+        requires delivered { ran ≡ Ok tt → is_delivered session.old.state ≡ true }
+        ensures on { GoesOn self.old session.old.state (D.traffic devices.old)
+            self.new session.old.state (D.traffic devices.new) }
+        ensures closes { Closes self.new session.old.state session.new.state }
+        ensures well { is_ok result ≡ true → MayEndWell session.old.state }
         ensures judges { Judges ran result }
         ensures keeps { KeepsFaults (D.traffic devices.old) (D.traffic devices.new) }
-        ensures whole { result ≡ Ok tt → session.new.course.lost ≡ 0 }
+        ensures whole { result ≡ Ok tt → session.new.state.course.lost ≡ 0 }
         ensures lost { (count : ℕ) → result ≡ Err (Stop.Lost count)
-            → (count ≡ session.new.course.lost) × (0 < count) }
-        ensures left { result ≡ Err Stop.Left → session.new.course.has_run ≡ false }
+            → (count ≡ session.new.state.course.lost) × (0 < count) }
+        ensures left { result ≡ Err Stop.Left → session.new.state.course.has_run ≡ false }
         ensures reports { (fault : FaultValue) → fault ≢ Fault.Time
             → result ≡ Err (Stop.Device fault)
             → ((ran ≡ result) × (D.traffic devices.new ≡ D.traffic devices.old))
-            ⊎ Reports self.old session.old (D.traffic devices.old) (D.traffic devices.new) fault }
+            ⊎ Reports self.old session.old.state (D.traffic devices.old)
+            (D.traffic devices.new) fault }
     {
         let has_run = session.has_run();
         let read = self.read_if(devices, has_run && is_over(&ran));
@@ -296,9 +297,9 @@ fn verdict<R: Copy>(ran: Result<(), Stop<R>>, has_run: bool, lost: u64) -> Resul
 
 /// Waits while there is no line: returns whether it could.
 fn wait_between_lines<D: Devices>(session: &Session, devices: &mut D, now: u64) -> bool
-    ensures over { (held : BuffersView) → StaysOver held session.now (D.traffic devices.old)
-        held session.now (D.traffic devices.new) }
-    ensures failed { result ≡ false → (held : BuffersView) → ReportsOver held session.now
+    ensures over { (held : BuffersView) → StaysOver held session.now.state (D.traffic devices.old)
+        held session.now.state (D.traffic devices.new) }
+    ensures failed { result ≡ false → (held : BuffersView) → ReportsOver held session.now.state
         (D.traffic devices.old) (D.traffic devices.new) Fault.Input }
 {
     let wanted = if session.to_errors().is_empty() {
@@ -312,14 +313,14 @@ fn wait_between_lines<D: Devices>(session: &Session, devices: &mut D, now: u64) 
 
 /// Leaves a line that has ended, and pauses before the next one is opened, if that is to be.
 fn leave<D: Devices>(session: &mut Session, devices: &mut D) -> Result<(), Fault>
-    ensures over { (held : BuffersView) → StaysOver held session.old (D.traffic devices.old)
-        held session.new (D.traffic devices.new) }
-    ensures ready { result ≡ Ok tt → IsReady session.new }
+    ensures over { (held : BuffersView) → StaysOver held session.old.state (D.traffic devices.old)
+        held session.new.state (D.traffic devices.new) }
+    ensures ready { result ≡ Ok tt → IsReady session.new.state }
     ensures reports { (held : BuffersView) (fault : FaultValue) → fault ≢ Fault.Time
-        → result ≡ Err fault → ReportsOver held session.old (D.traffic devices.old)
+        → result ≡ Err fault → ReportsOver held session.old.state (D.traffic devices.old)
         (D.traffic devices.new) fault }
     ensures time { result ≡ Err Fault.Time
-        → (end session.new ≡ Some End.Time) ⊎ (session.new.output.waiting ≢ []) }
+        → (end session.new.state ≡ Some End.Time) ⊎ (session.new.state.output.waiting ≢ []) }
 {
     match leave_line(session, devices) {
         Ok(()) => {}
@@ -338,9 +339,9 @@ fn leave<D: Devices>(session: &mut Session, devices: &mut D) -> Result<(), Fault
 /// Has the time of the run pass if that of an output was over for which nothing waits.
 fn note_time(session: &mut Session, fault: Fault)
     ensures over { (held : BuffersView) (known : Option Traffic)
-        → StaysOver held session.old known held session.new known }
+        → StaysOver held session.old.state known held session.new.state known }
     ensures time { fault ≡ Fault.Time
-        → (end session.new ≡ Some End.Time) ⊎ (session.new.output.waiting ≢ []) }
+        → (end session.new.state ≡ Some End.Time) ⊎ (session.new.state.output.waiting ≢ []) }
 {
     if fault == Fault::Time && session.to_output().is_empty() {
         pass_run(session);
@@ -350,8 +351,8 @@ fn note_time(session: &mut Session, fault: Fault)
 /// Has the time of the run pass: so many lines, or calls, take longer than any run.
 fn pass_run(session: &mut Session)
     ensures over { (held : BuffersView) (known : Option Traffic)
-        → StaysOver held session.old known held session.new known }
-    ensures time { end session.new ≡ Some End.Time }
+        → StaysOver held session.old.state known held session.new.state known }
+    ensures time { end session.new.state ≡ Some End.Time }
 {
     let now = session.run_ends_at();
     session.pass_time(now);

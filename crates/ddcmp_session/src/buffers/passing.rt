@@ -18,13 +18,15 @@ const INPUT_PARTS: u8 = 64;
 /// Writes the received messages that the output has room for; returns whether there was one.
 pub(super) fn deliver_all(session: &mut Session) -> bool
     ensures on { (held : BuffersView) (known : Option Traffic)
-        → GoesOn held session.old known held session.new known }
+        → GoesOn held session.old.state known held session.new.state known }
     ensures idle { result ≡ false
-        → session.new ≡ record session.old { output = session.new.output } }
-    ensures drains { (known : Option Traffic) → Drains session.old known session.new known }
-    ensures only { OnlyDelivers session.old session.new }
-    ensures left { result ≡ false → HoldsMail session.new }
-    ensures emptied { result ≡ false → HasRoomIfEmpty session.new }
+        → session.new.state ≡ record session.old.state { output = session.new.state.output } }
+    ensures log { session.new.log ≡ session.old.log }
+    ensures drains { (known : Option Traffic)
+        → Drains session.old.state known session.new.state known }
+    ensures only { OnlyDelivers session.old.state session.new.state }
+    ensures left { result ≡ false → HoldsMail session.new.state }
+    ensures emptied { result ≡ false → HasRoomIfEmpty session.new.state }
 {
     let mut moved = false;
     for _message in 0..u64::MAX {
@@ -51,11 +53,12 @@ impl Buffers {
         session: &mut Session,
         devices: &mut D,
     ) -> Result<bool, Fault>
-        ensures on { GoesOn self.old session.old (D.traffic devices.old)
-            self.new session.new (D.traffic devices.new) }
+        ensures on { GoesOn self.old session.old.state (D.traffic devices.old)
+            self.new session.new.state (D.traffic devices.new) }
         ensures reports { (fault : FaultValue) → result ≡ Err fault
-            → Reports self.old session.old (D.traffic devices.old) (D.traffic devices.new) fault }
-        ensures rests { result ≡ Ok false → Rests self.new session.new }
+            → Reports self.old session.old.state (D.traffic devices.old)
+            (D.traffic devices.new) fault }
+        ensures rests { result ≡ Ok false → Rests self.new session.new.state }
         ensures untimed { result ≢ Err Fault.Time }
     {
         // An acknowledgement goes out before the line is read to its end.
@@ -72,10 +75,11 @@ impl Buffers {
 
     /// Reads the input, if a message is wanted.
     fn read_input<D: Devices>(&mut self, session: &Session, devices: &mut D) -> Result<bool, Fault>
-        ensures on { GoesOn self.old session.now (D.traffic devices.old)
-            self.new session.now (D.traffic devices.new) }
+        ensures on { GoesOn self.old session.now.state (D.traffic devices.old)
+            self.new session.now.state (D.traffic devices.new) }
         ensures reports { (fault : FaultValue) → result ≡ Err fault
-            → Reports self.old session.now (D.traffic devices.old) (D.traffic devices.new) fault }
+            → Reports self.old session.now.state (D.traffic devices.old)
+            (D.traffic devices.new) fault }
         ensures idle { result ≡ Ok false → self.new ≡ self.old }
         ensures untimed { result ≢ Err Fault.Time }
     {
@@ -112,15 +116,16 @@ impl Buffers {
         session: &mut Session,
         devices: &mut D,
     ) -> Result<bool, Fault>
-        ensures on { GoesOn self.old session.old (D.traffic devices.old)
-            self.new session.new (D.traffic devices.new) }
+        ensures on { GoesOn self.old session.old.state (D.traffic devices.old)
+            self.new session.new.state (D.traffic devices.new) }
         ensures reports { (fault : FaultValue) → result ≡ Err fault
-            → Reports self.old session.old (D.traffic devices.old) (D.traffic devices.new) fault }
+            → Reports self.old session.old.state (D.traffic devices.old)
+            (D.traffic devices.new) fault }
         ensures idle { result ≡ Ok false → (session.new ≡ session.old) × (self.new ≡ self.old) }
         ensures typed { result ≡ Ok false
-            → (self.new.input ≡ []) ⊎ (wants_input session.new ≡ false) }
+            → (self.new.input ≡ []) ⊎ (wants_input session.new.state ≡ false) }
         ensures told { result ≡ Ok false
-            → (self.new.is_over ≡ false) ⊎ (wants_input session.new ≡ false) }
+            → (self.new.is_over ≡ false) ⊎ (wants_input session.new.state ≡ false) }
         ensures untimed { result ≢ Err Fault.Time }
     {
         let moved = self.pass_parts(session);
@@ -145,7 +150,7 @@ impl Buffers {
     /// Passes at most `INPUT_PARTS` parts of the input to the session.
     fn pass_parts(&mut self, session: &mut Session) -> bool
         ensures on { (known : Option Traffic)
-            → GoesOn self.old session.old known self.new session.new known }
+            → GoesOn self.old session.old.state known self.new session.new.state known }
         ensures idle { result ≡ false → (session.new ≡ session.old) × (self.new ≡ self.old) }
     {
         let mut moved = false;
@@ -184,8 +189,8 @@ impl Buffers {
 
     /// Writes what waits for the line, as far as that has room.
     fn write_line<D: Devices>(&mut self, session: &mut Session, devices: &mut D) -> bool
-        ensures on { GoesOn self.old session.old (D.traffic devices.old)
-            self.new session.new (D.traffic devices.new) }
+        ensures on { GoesOn self.old session.old.state (D.traffic devices.old)
+            self.new session.new.state (D.traffic devices.new) }
         ensures idle { result ≡ false → session.new ≡ session.old }
         ensures held { result ≡ false → self.new ≡ self.old }
     {
@@ -207,12 +212,17 @@ impl Buffers {
         session: &mut Session,
         devices: &mut D,
     ) -> Result<bool, Fault>
-        ensures on { GoesOn self.old session.old (D.traffic devices.old)
-            self.new session.new (D.traffic devices.new) }
+        ensures on { GoesOn self.old session.old.state (D.traffic devices.old)
+            self.new session.new.state (D.traffic devices.new) }
         ensures reports { (fault : FaultValue) → result ≡ Err fault
-            → Reports self.old session.old (D.traffic devices.old) (D.traffic devices.new) fault }
+            → Reports self.old session.old.state (D.traffic devices.old)
+            (D.traffic devices.new) fault }
         ensures idle { result ≡ Ok false → self.new ≡ self.old }
-        ensures session { session.new ≡ session.old }
+        ensures session { session.new.state ≡ session.old.state }
+        ensures log { session.new.log ≡ record session.old.log {
+          errors = session.new.log.errors;
+          trace = session.new.log.trace;
+        } }
         ensures untimed { result ≢ Err Fault.Time }
     {
         if !self.wants_line(session) || !devices.may_read_line() {
@@ -247,13 +257,13 @@ impl Buffers {
     /// peer has restarted the session takes no more.
     fn pass_received(&mut self, session: &mut Session) -> bool
         ensures on { (known : Option Traffic)
-            → GoesOn self.old session.old known self.new session.new known }
+            → GoesOn self.old session.old.state known self.new session.new.state known }
         ensures idle { result ≡ false
-            → (session.new ≡ record session.old { output = session.new.output })
+            → (session.new.state ≡ record session.old.state { output = session.new.state.output })
             × (self.new ≡ self.old) }
         ensures fed { result ≡ false
-            → (self.new.received ≡ []) ⊎ (wants_line session.new ≡ false) }
-        ensures left { result ≡ false → HoldsMail session.new }
+            → (self.new.received ≡ []) ⊎ (wants_line session.new.state ≡ false) }
+        ensures left { result ≡ false → HoldsMail session.new.state }
     {
         let mut moved = false;
         for _notice in 0..u64::MAX {
@@ -277,14 +287,16 @@ pub(super) fn write_output<D: Devices>(
     session: &mut Session,
     devices: &mut D,
 ) -> Result<bool, Fault>
-    ensures on { (held : BuffersView) → GoesOn held session.old (D.traffic devices.old)
-        held session.new (D.traffic devices.new) }
+    ensures on { (held : BuffersView) → GoesOn held session.old.state (D.traffic devices.old)
+        held session.new.state (D.traffic devices.new) }
     ensures reports { (held : BuffersView) (fault : FaultValue) → result ≡ Err fault
-        → Reports held session.old (D.traffic devices.old) (D.traffic devices.new) fault }
-    ensures drains { Drains session.old (D.traffic devices.old)
-        session.new (D.traffic devices.new) }
+        → Reports held session.old.state (D.traffic devices.old) (D.traffic devices.new) fault }
+    ensures drains { Drains session.old.state (D.traffic devices.old)
+        session.new.state (D.traffic devices.new) }
     ensures idle { result ≡ Ok false → session.new ≡ session.old }
-    ensures output { session.new ≡ record session.old { output = session.new.output } }
+    ensures output { session.new.state
+        ≡ record session.old.state { output = session.new.state.output } }
+    ensures log { session.new.log ≡ session.old.log }
     ensures untimed { result ≢ Err Fault.Time }
 {
     if session.to_output().is_empty() {
@@ -301,7 +313,9 @@ pub(super) fn write_output<D: Devices>(
 
 /// Writes what standard error has room for.
 pub(super) fn write_errors<D: Devices>(session: &mut Session, devices: &mut D) -> bool
-    ensures session { session.new ≡ session.old }
+    ensures session { session.new.state ≡ session.old.state }
+    ensures log { session.new.log
+        ≡ record session.old.log { errors = session.new.log.errors } }
     ensures devices { D.traffic devices.new ≡ D.traffic devices.old }
 {
     if session.to_errors().is_empty() {

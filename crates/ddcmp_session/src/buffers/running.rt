@@ -25,11 +25,12 @@ impl Buffers {
 
     /// Runs a session over its line, until it leaves that or a device ends or fails.
     pub fn run<D: Devices>(&mut self, session: &mut Session, devices: &mut D) -> Result<End, Fault>
-        ensures on { GoesOn self.old session.old (D.traffic devices.old)
-            self.new session.new (D.traffic devices.new) }
+        ensures on { GoesOn self.old session.old.state (D.traffic devices.old)
+            self.new session.new.state (D.traffic devices.new) }
         ensures reports { (fault : FaultValue) → result ≡ Err fault
-            → Reports self.old session.old (D.traffic devices.old) (D.traffic devices.new) fault }
-        ensures ended { (why : EndValue) → result ≡ Ok why → end session.new ≡ Some why }
+            → Reports self.old session.old.state (D.traffic devices.old)
+            (D.traffic devices.new) fault }
+        ensures ended { (why : EndValue) → result ≡ Ok why → end session.new.state ≡ Some why }
         ensures untimed { result ≢ Err Fault.Time }
     {
         for _pass in 0..u64::MAX {
@@ -64,16 +65,21 @@ const LINE_END_MS: u64 = 80;
 
 /// Leaves a line that has ended: what came over it is written, and what was lost is reported.
 pub(super) fn leave_line<D: Devices>(session: &mut Session, devices: &mut D) -> Result<(), Fault>
-    ensures over { (held : BuffersView) → StaysOver held session.old (D.traffic devices.old)
-        held session.new (D.traffic devices.new) }
+    ensures over { (held : BuffersView) → StaysOver held session.old.state (D.traffic devices.old)
+        held session.new.state (D.traffic devices.new) }
     ensures reports { (held : BuffersView) (fault : FaultValue) → fault ≢ Fault.Time
-        → result ≡ Err fault → ReportsOver held session.old (D.traffic devices.old)
+        → result ≡ Err fault → ReportsOver held session.old.state (D.traffic devices.old)
         (D.traffic devices.new) fault }
-    ensures drained { result ≡ Ok tt → session.new.output.waiting ≡ [] }
-    ensures left { result ≡ Ok tt → session.new.has_line ≡ false }
-    ensures ready { result ≡ Ok tt → IsReady session.new }
+    ensures drained { result ≡ Ok tt → session.new.state.output.waiting ≡ [] }
+    ensures left { result ≡ Ok tt → session.new.state.has_line ≡ false }
+    ensures ready { result ≡ Ok tt → IsReady session.new.state }
+    ensures log { session.new.log ≡ record session.old.log {
+      errors = session.new.log.errors;
+      trace = session.new.log.trace;
+    } }
     ensures counted { result ≡ Ok tt
-        → session.new.course ≡ lost_more (lost_by_end session.old) session.old.course }
+        → session.new.state.course
+        ≡ lost_more (lost_by_end session.old.state) session.old.state.course }
 {
     match drain_output(session, devices) {
         Ok(()) => {}
@@ -91,11 +97,13 @@ pub(super) fn leave_line<D: Devices>(session: &mut Session, devices: &mut D) -> 
 /// Writes what is queued for standard error, until that has taken nothing for `most_ms`
 /// milliseconds.
 pub fn drain_errors<D: Devices>(session: &mut Session, devices: &mut D, most_ms: u64)
-    ensures on { (held : BuffersView) → GoesOn held session.old (D.traffic devices.old)
-        held session.new (D.traffic devices.new) }
-    ensures drains { Drains session.old (D.traffic devices.old)
-        session.new (D.traffic devices.new) }
-    ensures session { session.new ≡ session.old }
+    ensures on { (held : BuffersView) → GoesOn held session.old.state (D.traffic devices.old)
+        held session.new.state (D.traffic devices.new) }
+    ensures drains { Drains session.old.state (D.traffic devices.old)
+        session.new.state (D.traffic devices.new) }
+    ensures session { session.new.state ≡ session.old.state }
+    ensures log { session.new.log
+        ≡ record session.old.log { errors = session.new.log.errors } }
 {
     let mut last = devices.now();
     for _write in 0..u64::MAX {
@@ -119,17 +127,18 @@ pub fn drain_errors<D: Devices>(session: &mut Session, devices: &mut D, most_ms:
 /// Writes all received messages and what else is queued for standard output. After the end of the
 /// run it gives up once nothing was taken for `END_MS` milliseconds.
 pub fn drain_output<D: Devices>(session: &mut Session, devices: &mut D) -> Result<(), Fault>
-    ensures on { (held : BuffersView) → GoesOn held session.old (D.traffic devices.old)
-        held session.new (D.traffic devices.new) }
+    ensures on { (held : BuffersView) → GoesOn held session.old.state (D.traffic devices.old)
+        held session.new.state (D.traffic devices.new) }
     ensures reports { (held : BuffersView) (fault : FaultValue) → result ≡ Err fault
         → fault ≢ Fault.Time
-        → Reports held session.old (D.traffic devices.old) (D.traffic devices.new) fault }
-    ensures drains { Drains session.old (D.traffic devices.old)
-        session.new (D.traffic devices.new) }
-    ensures only { OnlyDelivers session.old session.new }
-    ensures drained { result ≡ Ok tt → session.new.output.waiting ≡ [] }
-    ensures left { result ≡ Ok tt → HoldsMail session.new }
-    ensures emptied { result ≡ Ok tt → IsDrained session.new }
+        → Reports held session.old.state (D.traffic devices.old) (D.traffic devices.new) fault }
+    ensures drains { Drains session.old.state (D.traffic devices.old)
+        session.new.state (D.traffic devices.new) }
+    ensures only { OnlyDelivers session.old.state session.new.state }
+    ensures log { session.new.log ≡ session.old.log }
+    ensures drained { result ≡ Ok tt → session.new.state.output.waiting ≡ [] }
+    ensures left { result ≡ Ok tt → HoldsMail session.new.state }
+    ensures emptied { result ≡ Ok tt → IsDrained session.new.state }
 {
     let end = session.run_ends_at();
     let mut last = end.max(devices.now());

@@ -17,24 +17,26 @@ impl Session {
     /// Ends the run: halts the station. What was read of the input, and what was sent and isn't
     /// acknowledged, is lost: returns whether standard output had room to report that.
     pub fn close(&mut self, input: &[u8], input_is_at_end: bool) -> bool
-        ensures link { self.new.link
-            ≡ with_state (after_halt self.old.link.station.core.station) self.old.link }
-        ensures wrote { Wrote (reported_lost result (form_of self.old.messages)
-            (lost_by_end self.old)) self.old.output self.new.output }
-        ensures when { result ≡ reports_loss self.old }
-        ensures form { form_of self.new.messages ≡ form_of self.old.messages }
-        ensures course { self.new.course ≡ lost_more (lost_by_end self.old)
-            (lost_more (lost_at_end input.now input_is_at_end self.old)
-            (lost_more (lost_among input.now self.old) self.old.course)) }
-        ensures stays { self.new ≡ record self.old {
-          link = self.new.link;
+        ensures link { self.new.state.link
+            ≡ with_state (after_halt self.old.state.link.station.core.station) self.old.state.link }
+        ensures wrote { Wrote (reported_lost result (form_of self.old.state.messages)
+            (lost_by_end self.old.state)) self.old.state.output self.new.state.output }
+        ensures when { result ≡ reports_loss self.old.state }
+        ensures form { form_of self.new.state.messages ≡ form_of self.old.state.messages }
+        ensures course { self.new.state.course ≡ lost_more (lost_by_end self.old.state)
+            (lost_more (lost_at_end input.now input_is_at_end self.old.state)
+            (lost_more (lost_among input.now self.old.state) self.old.state.course)) }
+        ensures stays { self.new.state ≡ record self.old.state {
+          link = self.new.state.link;
           has_line = false;
-          course = self.new.course;
-          messages = self.new.messages;
+          course = self.new.state.course;
+          messages = self.new.state.messages;
           is_read = true;
-          was_refused = self.new.was_refused;
-          output = self.new.output;
+          was_refused = self.new.state.was_refused;
+          output = self.new.state.output;
         } }
+        ensures log { self.new.log
+            ≡ record self.old.log { errors = self.new.log.errors; read = self.new.log.read } }
     {
         self.drop_input(input, input_is_at_end);
         self.lose_line()
@@ -42,7 +44,9 @@ impl Session {
 
     /// Writes the last lines, once all received messages are delivered.
     pub fn finish(&mut self)
-        ensures { self.new ≡ self.old }
+        ensures state { self.new.state ≡ self.old.state }
+        ensures log { self.new.log
+            ≡ record self.old.log { errors = self.new.log.errors; trace = self.new.log.trace } }
     {
         if let Some(trace) = &mut self.trace {
             trace.end(&mut self.errors);
@@ -52,11 +56,16 @@ impl Session {
     /// Writes the state and the totals, after the counters if these are asked for: with messages in
     /// binary to standard error.
     pub fn write_end(&mut self)
-        ensures stays { self.new ≡ record self.old { output = self.new.output } }
-        ensures lines { form_of self.old.messages ≡ Form.Digits
-            → HandsOver (queued self.old.output) (queued self.new.output)
-            (end_text self.old.options.counters self.old.link) }
-        ensures binary { form_of self.old.messages ≡ Form.Binary → self.new ≡ self.old }
+        ensures stays { self.new.state
+            ≡ record self.old.state { output = self.new.state.output } }
+        ensures lines { form_of self.old.state.messages ≡ Form.Digits
+            → HandsOver (queued self.old.state.output) (queued self.new.state.output)
+            (end_text self.old.state.options.counters self.old.state.link) }
+        ensures binary { form_of self.old.state.messages ≡ Form.Binary
+            → self.new.state ≡ self.old.state }
+        ensures digits { form_of self.old.state.messages ≡ Form.Digits
+            → self.new.log ≡ self.old.log }
+        ensures log { self.new.log ≡ record self.old.log { errors = self.new.log.errors } }
     {
         let counters = self.options.counters;
         match self.options.form {
@@ -67,40 +76,41 @@ impl Session {
 
     /// Writes the last lines to standard error.
     fn report_end(&mut self, counters: bool)
-        ensures { self.new ≡ self.old }
+        ensures state { self.new.state ≡ self.old.state }
+        ensures log { self.new.log ≡ record self.old.log { errors = self.new.log.errors } }
     {
-        if counters && let Some(lines) = self.errors.last_line(text::END_ROOM) {
-            text::write_counters_line(lines, &self.link);
+        if counters && self.errors.begin_line(text::END_ROOM) {
+            text::write_counters_line(&mut self.errors.queue, &self.link);
         }
-        if let Some(lines) = self.errors.last_line(text::END_ROOM) {
-            text::write_end(lines, &self.link, false);
+        if self.errors.begin_line(text::END_ROOM) {
+            text::write_end(&mut self.errors.queue, &self.link, false);
         }
     }
 
     /// Whether the station has run over some line.
     pub fn has_run(&self) -> bool
-        ensures { result ≡ self.now.course.has_run }
+        ensures { result ≡ self.now.state.course.has_run }
     {
         self.course.has_run
     }
 
     /// Whether the whole input was read.
     pub fn input_is_read(&self) -> bool
-        ensures { result ≡ self.now.is_read }
+        ensures { result ≡ self.now.state.is_read }
     {
         self.input_is_read
     }
 
     /// Whether a part of the input was no message.
     pub fn was_refused(&self) -> bool
-        ensures { result ≡ self.now.was_refused }
+        ensures { result ≡ self.now.state.was_refused }
     {
         self.was_refused
     }
 
     /// Returns how many messages were read and will never be acknowledged.
     pub fn lost(&self) -> u64
-        ensures { result ≡ self.now.course.lost }
+        ensures { result ≡ self.now.state.course.lost }
     {
         self.course.lost
     }

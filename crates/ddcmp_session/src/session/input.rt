@@ -19,6 +19,8 @@ impl Session {
     ghost use Rattle.std.specs.Prelude.{◌≡◌, ◌+◌, ◌≤◌, ◌∷◌, ℕ, true, false, [], length, take};
     ghost use Rattle.std.specs.Prelude.{option_to_list};
     ghost use Rattle.ddcmp_session.specs.Course.{lost_more};
+    ghost use Rattle.ddcmp_session.specs.Logged.{read_after, read_at_end, read_unfinished};
+    ghost use Rattle.ddcmp_station.specs.Linking.{total_plus};
     ghost use Rattle.ddcmp_session.specs.Messages.{after_input, entries_of_input};
     ghost use Rattle.ddcmp_session.specs.Messages.{count_of};
     ghost use Rattle.ddcmp_session.specs.Session.{wants_input, after_typed, after_input_end};
@@ -28,14 +30,14 @@ impl Session {
 
     /// Whether bytes of the input are wanted: the station takes a message.
     pub fn wants_input(&self) -> bool
-        ensures { result ≡ wants_input self.now }
+        ensures { result ≡ wants_input self.now.state }
     {
         !self.input_is_read && self.takes()
     }
 
     /// Whether the link takes a message: one of maintenance once the last has gone.
     fn takes(&self) -> bool
-        ensures { result ≡ takes_in self.now.options.maintenance self.now.link }
+        ensures { result ≡ takes_in self.now.state.options.maintenance self.now.state.link }
     {
         if self.options.maintenance {
             return self.link.state() == State::Maintenance && self.has_gone();
@@ -45,7 +47,8 @@ impl Session {
 
     /// Sends the message that was read last.
     fn offer(&mut self)
-        ensures { self.new ≡ after_entry Entry.Message self.old }
+        ensures { self.new
+            ≡ record self.old { state = after_entry Entry.Message self.old.state } }
     {
         let message = self.messages.message();
         let _sent = if self.options.maintenance {
@@ -60,16 +63,23 @@ impl Session {
     /// false.
     pub fn typed(&mut self, bytes: &[u8]) -> usize
         ensures used { result ≤ length bytes.now }
-        ensures state { self.new ≡ after_typed (take result bytes.now) self.old }
+        ensures state { self.new.state ≡ after_typed (take result bytes.now) self.old.state }
         // All bytes, or those up to the first that completes something.
-        ensures whole { wants_input self.old ≡ true
-            → entries_of_input (take result bytes.now) self.old.messages ≡ []
+        ensures whole { wants_input self.old.state ≡ true
+            → entries_of_input (take result bytes.now) self.old.state.messages ≡ []
             → result ≡ length bytes.now }
         ensures first { (n : ℕ) (entry : Entry)
-            → entries_of_input (take result bytes.now) self.old.messages ≡ entry ∷ []
-            → result ≡ n + 1 → entries_of_input (take n bytes.now) self.old.messages ≡ [] }
-        ensures few { length (entries_of_input (take result bytes.now) self.old.messages) ≤ 1 }
-        ensures none { wants_input self.old ≡ false → result ≡ 0 }
+            → entries_of_input (take result bytes.now) self.old.state.messages ≡ entry ∷ []
+            → result ≡ n + 1 → entries_of_input (take n bytes.now) self.old.state.messages ≡ [] }
+        ensures few { length (entries_of_input (take result bytes.now) self.old.state.messages)
+            ≤ 1 }
+        ensures none { wants_input self.old.state ≡ false
+            → (result ≡ 0) × (self.new ≡ self.old) }
+        ensures read { self.new.log.read
+            ≡ read_after (entries_of_input (take result bytes.now) self.old.state.messages)
+            (after_input (take result bytes.now) self.old.state.messages) self.old.log.read }
+        ensures log { self.new.log
+            ≡ record self.old.log { errors = self.new.log.errors; read = self.new.log.read } }
     {
         if !self.wants_input() {
             return 0;
@@ -82,7 +92,12 @@ impl Session {
     /// Takes the end of the input, if `wants_input`. A last line needs no LF; a message in binary
     /// whose end is missing is reported.
     pub fn input_ended(&mut self)
-        ensures { self.new ≡ after_input_end self.old }
+        ensures state { self.new.state ≡ after_input_end self.old.state }
+        ensures none { wants_input self.old.state ≡ false → self.new ≡ self.old }
+        ensures read { wants_input self.old.state ≡ true
+            → self.new.log.read ≡ read_at_end self.old.state.messages self.old.log.read }
+        ensures log { self.new.log
+            ≡ record self.old.log { errors = self.new.log.errors; read = self.new.log.read } }
     {
         if !self.wants_input() {
             return;
@@ -95,7 +110,11 @@ impl Session {
 
     /// Sends the message that an entry is, or reports that it is none.
     fn take_entry(&mut self, entry: Option<Entry>)
-        ensures { self.new ≡ after_entries (option_to_list entry) self.old }
+        ensures state { self.new.state ≡ after_entries (option_to_list entry) self.old.state }
+        ensures read { self.new.log.read
+            ≡ read_after (option_to_list entry) self.old.state.messages self.old.log.read }
+        ensures log { self.new.log
+            ≡ record self.old.log { errors = self.new.log.errors; read = self.new.log.read } }
     {
         match entry {
             None => {}
@@ -112,7 +131,9 @@ impl Session {
     }
 
     fn count_entry(&mut self)
-        ensures { self.new ≡ self.old }
+        ensures { self.new ≡ record self.old {
+          log = record self.old.log { read = total_plus self.old.log.read 1 };
+        } }
     {
         self.read = self.read.saturating_add(1);
     }
@@ -120,14 +141,16 @@ impl Session {
     /// Takes what was read of the input after the run is over: its messages are lost, and a message
     /// whose end hasn't come is reported.
     pub(super) fn drop_input(&mut self, bytes: &[u8], is_at_end: bool)
-        ensures form { form_of self.new.messages ≡ form_of self.old.messages }
-        ensures stays { self.new ≡ record self.old {
-          messages = self.new.messages;
+        ensures form { form_of self.new.state.messages ≡ form_of self.old.state.messages }
+        ensures stays { self.new.state ≡ record self.old.state {
+          messages = self.new.state.messages;
           is_read = true;
-          was_refused = self.new.was_refused;
-          course = lost_more (lost_at_end bytes.now is_at_end self.old)
-              (lost_more (lost_among bytes.now self.old) self.old.course);
+          was_refused = self.new.state.was_refused;
+          course = lost_more (lost_at_end bytes.now is_at_end self.old.state)
+              (lost_more (lost_among bytes.now self.old.state) self.old.state.course);
         } }
+        ensures log { self.new.log
+            ≡ record self.old.log { errors = self.new.log.errors; read = self.new.log.read } }
     {
         let lost = self.drop_bytes(bytes);
         self.course.lose(lost);
@@ -142,12 +165,14 @@ impl Session {
 
     /// Takes bytes of the input, and returns how many messages are lost with them.
     fn drop_bytes(&mut self, bytes: &[u8]) -> u64
-        ensures lost { result ≡ lost_among bytes.now self.old }
-        ensures messages { self.new.messages ≡ after_input bytes.now self.old.messages }
-        ensures stays { self.new ≡ record self.old {
-          messages = self.new.messages;
-          was_refused = self.new.was_refused;
+        ensures lost { result ≡ lost_among bytes.now self.old.state }
+        ensures messages { self.new.state.messages ≡ after_input bytes.now self.old.state.messages }
+        ensures stays { self.new.state ≡ record self.old.state {
+          messages = self.new.state.messages;
+          was_refused = self.new.state.was_refused;
         } }
+        ensures log { self.new.log
+            ≡ record self.old.log { errors = self.new.log.errors; read = self.new.log.read } }
     {
         let mut at = 0usize;
         let mut lost = 0u64;
@@ -166,12 +191,16 @@ impl Session {
     /// Takes the end of the input: a last message is lost, or reported if its end hasn't come.
     /// Returns how many are lost.
     fn drop_last(&mut self, is_at_end: bool) -> u64
-        ensures lost { result ≡ lost_with_last is_at_end self.old.messages }
-        ensures form { form_of self.new.messages ≡ form_of self.old.messages }
-        ensures stays { self.new ≡ record self.old {
-          messages = self.new.messages;
-          was_refused = self.new.was_refused;
+        ensures lost { result ≡ lost_with_last is_at_end self.old.state.messages }
+        ensures form { form_of self.new.state.messages ≡ form_of self.old.state.messages }
+        ensures stays { self.new.state ≡ record self.old.state {
+          messages = self.new.state.messages;
+          was_refused = self.new.state.was_refused;
         } }
+        ensures read { is_at_end ≡ true
+            → self.new.log.read ≡ read_at_end self.old.state.messages self.old.log.read }
+        ensures log { self.new.log
+            ≡ record self.old.log { errors = self.new.log.errors; read = self.new.log.read } }
     {
         let entry = self.messages.end();
         let lost = if is_at_end {
@@ -186,7 +215,9 @@ impl Session {
     /// Reports a last line whose end hasn't come: none is lost.
     fn refuse_cut(&mut self, entry: Option<Entry>) -> u64
         ensures none { result ≡ 0 }
-        ensures stays { self.new ≡ record self.old { was_refused = self.new.was_refused } }
+        ensures stays { self.new.state
+            ≡ record self.old.state { was_refused = self.new.state.was_refused } }
+        ensures log { self.new.log ≡ record self.old.log { errors = self.new.log.errors } }
     {
         if entry.is_some() {
             self.refuse(UNFINISHED);
@@ -198,7 +229,12 @@ impl Session {
     fn drop_entry(&mut self, entry: Option<Entry>) -> u64
         ensures lost { result ≡ count_of entry }
         ensures few { result ≤ 1 }
-        ensures stays { self.new ≡ record self.old { was_refused = self.new.was_refused } }
+        ensures stays { self.new.state
+            ≡ record self.old.state { was_refused = self.new.state.was_refused } }
+        ensures read { self.new.log.read
+            ≡ read_after (option_to_list entry) self.old.state.messages self.old.log.read }
+        ensures log { self.new.log
+            ≡ record self.old.log { errors = self.new.log.errors; read = self.new.log.read } }
     {
         match entry {
             None => 0,
@@ -217,7 +253,11 @@ impl Session {
 
     /// Reports a message in binary whose end is missing.
     fn refuse_unfinished(&mut self)
-        ensures { self.new ≡ after_unfinished self.old }
+        ensures state { self.new.state ≡ after_unfinished self.old.state }
+        ensures read { self.new.log.read
+            ≡ read_unfinished self.old.state.messages self.old.log.read }
+        ensures log { self.new.log
+            ≡ record self.old.log { errors = self.new.log.errors; read = self.new.log.read } }
     {
         if self.messages.is_unfinished() {
             self.count_entry();
@@ -227,7 +267,8 @@ impl Session {
 
     /// Reports that the part of the input that was read last is no message.
     fn refuse(&mut self, why: &[u8])
-        ensures { self.new ≡ record self.old { was_refused = true } }
+        ensures state { self.new.state ≡ record self.old.state { was_refused = true } }
+        ensures log { self.new.log ≡ record self.old.log { errors = self.new.log.errors } }
     {
         self.was_refused = true;
         let (part, number): (&[u8], u64) = match self.messages.line_number() {

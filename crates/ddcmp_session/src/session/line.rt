@@ -1,4 +1,5 @@
 //! The line of a session: bytes that are received, and frames that are sent.
+use crate::errors::SHORT_LINE;
 use crate::messages::Form;
 use crate::session::Session;
 use crate::text;
@@ -11,8 +12,10 @@ impl Session {
     ghost use Rattle.ddcmp_frame.specs.Reader.{StandsFor};
     ghost use Rattle.ddcmp_core.specs.Table.{after_halt, answer_to_start};
     ghost use Rattle.ddcmp_proto.specs.Bytes.{after_piece, notices_of_piece};
-    ghost use Rattle.ddcmp_station.specs.Linking.{after_frame, after_frames, after_sent};
+    ghost use Rattle.ddcmp_station.specs.Linking.{after_frames, after_sent};
     ghost use Rattle.ddcmp_station.specs.Linking.{countable, puts_frame, with_state};
+    ghost use Rattle.ddcmp_session.specs.declared.options.LineKind.TheVariants.{Datagrams};
+    ghost use Rattle.ddcmp_session.specs.Filling.{after_filling, most_datagrams};
     ghost use Rattle.ddcmp_session.specs.Session.{form_of, has_gone, lost_by_end};
     ghost use Rattle.ddcmp_session.specs.Session.{reports_loss, wants_line};
     ghost use Rattle.ddcmp_session.specs.Course.{after_notice, lost_more};
@@ -25,10 +28,12 @@ impl Session {
     /// on a line that hasn't ended is lost then, and counted. Returns false if received messages
     /// weren't delivered before: `deliver` them, then call it again.
     pub fn connected(&mut self) -> bool
-        ensures state { self.new ≡ after_connected self.new.link.station.line self.old }
-        ensures cleared { StandsFor self.new.link.station.line [] }
+        ensures state { self.new.state
+            ≡ after_connected self.new.state.link.station.line self.old.state }
+        ensures log { self.new.log ≡ self.old.log }
+        ensures cleared { StandsFor self.new.state.link.station.line [] }
         ensures answer { result
-            ≡ is_ok (answer_to_start (after_halt self.old.link.station.core.station)) }
+            ≡ is_ok (answer_to_start (after_halt self.old.state.link.station.core.station)) }
     {
         let lost = self.lost_by_end();
         let starts = if self.options.maintenance {
@@ -48,17 +53,19 @@ impl Session {
     /// Returns whether standard output had room to report that: an output that takes all that
     /// waits makes room.
     pub fn line_ended(&mut self) -> bool
-        ensures link { self.new.link
-            ≡ with_state (after_halt self.old.link.station.core.station) self.old.link }
-        ensures wrote { Wrote (reported_lost result (form_of self.old.messages)
-            (lost_by_end self.old)) self.old.output self.new.output }
-        ensures when { result ≡ reports_loss self.old }
-        ensures stays { self.new ≡ record self.old {
-          link = self.new.link;
+        ensures link { self.new.state.link
+            ≡ with_state (after_halt self.old.state.link.station.core.station) self.old.state.link }
+        ensures wrote { Wrote (reported_lost result (form_of self.old.state.messages)
+            (lost_by_end self.old.state)) self.old.state.output self.new.state.output }
+        ensures when { result ≡ reports_loss self.old.state }
+        ensures stays { self.new.state ≡ record self.old.state {
+          link = self.new.state.link;
           has_line = false;
-          course = lost_more (lost_by_end self.old) self.old.course;
-          output = self.new.output;
+          course = lost_more (lost_by_end self.old.state) self.old.state.course;
+          output = self.new.state.output;
         } }
+        ensures log { self.new.log
+            ≡ record self.old.log { errors = self.new.log.errors; trace = self.new.log.trace } }
     {
         let has_room = self.lose_line();
         if let Some(trace) = &mut self.trace {
@@ -70,17 +77,18 @@ impl Session {
     /// Halts the station, and reports what is lost with the line, if there is one: returns whether
     /// standard output had room for that.
     pub(super) fn lose_line(&mut self) -> bool
-        ensures link { self.new.link
-            ≡ with_state (after_halt self.old.link.station.core.station) self.old.link }
-        ensures wrote { Wrote (reported_lost result (form_of self.old.messages)
-            (lost_by_end self.old)) self.old.output self.new.output }
-        ensures when { result ≡ reports_loss self.old }
-        ensures stays { self.new ≡ record self.old {
-          link = self.new.link;
+        ensures link { self.new.state.link
+            ≡ with_state (after_halt self.old.state.link.station.core.station) self.old.state.link }
+        ensures wrote { Wrote (reported_lost result (form_of self.old.state.messages)
+            (lost_by_end self.old.state)) self.old.state.output self.new.state.output }
+        ensures when { result ≡ reports_loss self.old.state }
+        ensures stays { self.new.state ≡ record self.old.state {
+          link = self.new.state.link;
           has_line = false;
-          course = lost_more (lost_by_end self.old) self.old.course;
-          output = self.new.output;
+          course = lost_more (lost_by_end self.old.state) self.old.state.course;
+          output = self.new.state.output;
         } }
+        ensures log { self.new.log ≡ record self.old.log { errors = self.new.log.errors } }
     {
         let lost = self.lost_by_end();
         self.has_line = false;
@@ -91,14 +99,14 @@ impl Session {
 
     /// Whether the line has taken all that was accepted.
     pub(super) fn has_gone(&self) -> bool
-        ensures { result ≡ has_gone self.now.link }
+        ensures { result ≡ has_gone self.now.state.link }
     {
         self.link.lost() == 0 && self.link.unsent().is_empty()
     }
 
     /// Returns how many messages are lost if the line ends, if there is one.
     fn lost_by_end(&self) -> u8
-        ensures { result ≡ lost_by_end self.now }
+        ensures { result ≡ lost_by_end self.now.state }
     {
         if !self.has_line {
             0
@@ -112,14 +120,16 @@ impl Session {
     /// Whether bytes of the line are wanted: there is one, and a received message and its notice
     /// have room.
     pub fn wants_line(&self) -> bool
-        ensures { result ≡ wants_line self.now }
+        ensures { result ≡ wants_line self.now.state }
     {
         self.has_line && self.link.wants_line() && self.output.room() >= text::LINE_ROOM
     }
 
     /// Logs bytes that came from the line, if there is a trace: each once, before `received`.
     pub fn log_received(&mut self, bytes: &[u8])
-        ensures { self.new ≡ self.old }
+        ensures state { self.new.state ≡ self.old.state }
+        ensures log { self.new.log
+            ≡ record self.old.log { errors = self.new.log.errors; trace = self.new.log.trace } }
     {
         if let Some(trace) = &mut self.trace {
             trace.tell(Way::FromLine, bytes, &mut self.errors);
@@ -130,36 +140,37 @@ impl Session {
     /// many; none while `wants_line` is false.
     pub fn received(&mut self, bytes: &[u8]) -> usize
         ensures used { result ≤ length bytes.now }
-        ensures some { 0 < length bytes.now → 0 < countable self.old.link.station
-            → wants_line self.old ≡ true → 0 < result }
-        ensures none { wants_line self.old ≡ false → (result ≡ 0) × (self.new ≡ self.old) }
-        ensures stands { (text : List ℕ) → StandsFor self.old.link.station.line text
-            → StandsFor self.new.link.station.line (text ++ take result bytes.now) }
-        ensures state { (text : List ℕ) → StandsFor self.old.link.station.line text
-            → self.new.link.station.core
-            ≡ after_piece text (take result bytes.now) self.old.link.station.core }
-        ensures wrote { (text : List ℕ) → StandsFor self.old.link.station.line text
-            → Wrote (notices_text (form_of self.old.messages)
-            (notices_of_piece text (take result bytes.now) self.old.link.station.core))
-            self.old.output self.new.output }
-        ensures course { (text : List ℕ) → StandsFor self.old.link.station.line text
-            → self.new.course ≡ course_received self.old self.new.link
-            (notices_of_piece text (take result bytes.now) self.old.link.station.core) }
-        ensures totals { wants_line self.old ≡ true → (text : List ℕ)
-            → StandsFor self.old.link.station.line text → self.new.link.totals
+        ensures some { 0 < length bytes.now → 0 < countable self.old.state.link.station
+            → wants_line self.old.state ≡ true → 0 < result }
+        ensures none { wants_line self.old.state ≡ false → (result ≡ 0) × (self.new ≡ self.old) }
+        ensures stands { (text : List ℕ) → StandsFor self.old.state.link.station.line text
+            → StandsFor self.new.state.link.station.line (text ++ take result bytes.now) }
+        ensures state { (text : List ℕ) → StandsFor self.old.state.link.station.line text
+            → self.new.state.link.station.core
+            ≡ after_piece text (take result bytes.now) self.old.state.link.station.core }
+        ensures wrote { (text : List ℕ) → StandsFor self.old.state.link.station.line text
+            → Wrote (notices_text (form_of self.old.state.messages)
+            (notices_of_piece text (take result bytes.now) self.old.state.link.station.core))
+            self.old.state.output self.new.state.output }
+        ensures course { (text : List ℕ) → StandsFor self.old.state.link.station.line text
+            → self.new.state.course ≡ course_received self.old.state self.new.state.link
+            (notices_of_piece text (take result bytes.now) self.old.state.link.station.core) }
+        ensures totals { wants_line self.old.state ≡ true → (text : List ℕ)
+            → StandsFor self.old.state.link.station.line text → self.new.state.link.totals
             ≡ totals_received result
-            (notices_of_piece text (take result bytes.now) self.old.link.station.core)
-            self.old.link.totals }
-        ensures syn { self.new.link.station.syn ≡ self.old.link.station.syn }
-        ensures link { self.new.link ≡ record self.old.link {
-          station = self.new.link.station;
-          totals = self.new.link.totals;
+            (notices_of_piece text (take result bytes.now) self.old.state.link.station.core)
+            self.old.state.link.totals }
+        ensures syn { self.new.state.link.station.syn ≡ self.old.state.link.station.syn }
+        ensures link { self.new.state.link ≡ record self.old.state.link {
+          station = self.new.state.link.station;
+          totals = self.new.state.link.totals;
         } }
-        ensures stays { self.new ≡ record self.old {
-          link = self.new.link;
-          course = self.new.course;
-          output = self.new.output;
+        ensures stays { self.new.state ≡ record self.old.state {
+          link = self.new.state.link;
+          course = self.new.state.course;
+          output = self.new.state.output;
         } }
+        ensures log { self.new.log ≡ record self.old.log { errors = self.new.log.errors } }
     {
         if !self.wants_line() {
             return 0;
@@ -175,20 +186,21 @@ impl Session {
 
     /// Writes a notice: with messages in binary to standard error.
     fn report_notice(&mut self, notice: Notice)
-        requires { LINE_ROOM ≤ self.old.output.room }
-        ensures wrote { Wrote (notice_text (form_of self.old.messages) notice) self.old.output
-            self.new.output }
-        ensures course { self.new.course ≡ after_notice notice self.old.course }
-        ensures stays { self.new ≡ record self.old {
-          course = self.new.course;
-          output = self.new.output;
+        requires { LINE_ROOM ≤ self.old.state.output.room }
+        ensures wrote { Wrote (notice_text (form_of self.old.state.messages) notice)
+            self.old.state.output self.new.state.output }
+        ensures course { self.new.state.course ≡ after_notice notice self.old.state.course }
+        ensures stays { self.new.state ≡ record self.old.state {
+          course = self.new.state.course;
+          output = self.new.state.output;
         } }
+        ensures log { self.new.log ≡ record self.old.log { errors = self.new.log.errors } }
     {
         match self.options.form {
             Form::Digits => text::write_notice_line(&mut self.output, notice),
             Form::Binary => {
-                if let Some(lines) = self.errors.line() {
-                    text::write_notice_line(lines, notice);
+                if self.errors.begin_line(SHORT_LINE) {
+                    text::write_notice_line(&mut self.errors.queue, notice);
                 }
             }
         }
@@ -204,9 +216,13 @@ impl Session {
     /// Puts frames after what is pending for the line, as far as there is room: one at a time for
     /// datagrams, and while messages wait for the peer none that carries one.
     pub fn fill(&mut self)
-        ensures frames { (n : ℕ) × (self.new
-            ≡ record self.old { link = after_frames n self.old.link }) }
-        ensures filled { IsFilled self.new }
+        ensures frames { (n : ℕ) × (self.new.state
+            ≡ record self.old.state { link = after_frames n self.old.state.link }) }
+        ensures datagrams { self.old.state.kind ≡ Datagrams → (n : ℕ)
+            × (n ≤ most_datagrams self.old.state.link) × (self.new.state
+            ≡ record self.old.state { link = after_frames n self.old.state.link }) }
+        ensures filled { IsFilled self.new.state }
+        ensures log { self.new.log ≡ self.old.log }
     {
         if self.kind.is_of_datagrams() && !self.link.unsent().is_empty() {
             return;
@@ -221,12 +237,14 @@ impl Session {
     /// Puts the next frame after what is pending for the line, unless it is a message that waits
     /// for the peer: returns whether it did.
     fn fill_one(&mut self) -> bool
-        ensures state { (n : ℕ) × (self.new
-            ≡ record self.old { link = after_frames n self.old.link }) }
-        ensures less { result ≡ true → self.new.link.outbox.room < self.old.link.outbox.room }
-        ensures some { result ≡ true → 0 < length self.new.link.outbox.waiting }
-        ensures none { result ≡ false → (puts_frame self.new.link ≡ false)
-            ⊎ (is_paused self.new ≡ true) }
+        ensures state { self.new.state
+            ≡ record self.old.state { link = after_filling self.old.state } }
+        ensures log { self.new.log ≡ self.old.log }
+        ensures less { result ≡ true → self.new.state.link.outbox.room
+            < self.old.state.link.outbox.room }
+        ensures some { result ≡ true → 0 < length self.new.state.link.outbox.waiting }
+        ensures none { result ≡ false → (puts_frame self.new.state.link ≡ false)
+            ⊎ (is_paused self.new.state ≡ true) }
     {
         if self.course.pause.is_some() && self.link.sends_message() {
             return false;
@@ -236,16 +254,19 @@ impl Session {
 
     /// Returns what waits for the line.
     pub fn to_line(&self) -> &[u8]
-        ensures { result.now ≡ self.now.link.outbox.waiting }
+        ensures { result.now ≡ self.now.state.link.outbox.waiting }
     {
         self.link.unsent()
     }
 
     /// Takes note that the line took the first `n` bytes of `to_line`.
     pub fn line_took(&mut self, n: usize)
-        ensures { self.new ≡ record self.old {
-          link = after_sent (min n (length self.old.link.outbox.waiting)) self.old.link;
+        ensures state { self.new.state ≡ record self.old.state {
+          link = after_sent
+              (min n (length self.old.state.link.outbox.waiting)) self.old.state.link;
         } }
+        ensures log { self.new.log
+            ≡ record self.old.log { errors = self.new.log.errors; trace = self.new.log.trace } }
     {
         let unsent = self.link.unsent();
         let n = n.min(unsent.len());

@@ -1,4 +1,5 @@
 //! The two outputs of a session.
+use crate::errors::SHORT_LINE;
 use crate::messages::Form;
 use crate::session::Session;
 use crate::text;
@@ -19,21 +20,24 @@ impl Session {
     /// Writes the first received message, if there is one and the output has room for it: returns
     /// whether it did.
     pub fn deliver(&mut self) -> bool
-        ensures link { self.new.link
-            ≡ (if result then after_taking self.old.link else self.old.link) }
+        ensures link { self.new.state.link
+            ≡ (if result then after_taking self.old.state.link else self.old.state.link) }
         ensures wrote { result ≡ true → (message : List ℕ)
-            × (first_message self.old.link.station.core.station.inbox ≡ Some message)
-            × Wrote (mail_text (form_of self.old.messages) message) self.old.output
-            self.new.output }
-        ensures waits { result ≡ false → Wrote [] self.old.output self.new.output }
-        ensures when { room_for_mail self.old ≤ self.old.output.room → result
-            ≡ is_some (first_message self.old.link.station.core.station.inbox) }
+            × (first_message self.old.state.link.station.core.station.inbox ≡ Some message)
+            × Wrote (mail_text (form_of self.old.state.messages) message) self.old.state.output
+            self.new.state.output }
+        ensures waits { result ≡ false → Wrote [] self.old.state.output self.new.state.output }
+        ensures when { room_for_mail self.old.state ≤ self.old.state.output.room → result
+            ≡ is_some (first_message self.old.state.link.station.core.station.inbox) }
         ensures left { result ≡ false
-            → (first_message self.new.link.station.core.station.inbox ≡ None)
-            ⊎ (self.new.output.room < room_for_mail self.new) }
-        ensures emptied { result ≡ false → HasRoomIfEmpty self.new }
-        ensures stays { self.new
-            ≡ record self.old { link = self.new.link; output = self.new.output } }
+            → (first_message self.new.state.link.station.core.station.inbox ≡ None)
+            ⊎ (self.new.state.output.room < room_for_mail self.new.state) }
+        ensures emptied { result ≡ false → HasRoomIfEmpty self.new.state }
+        ensures stays { self.new.state ≡ record self.old.state {
+          link = self.new.state.link;
+          output = self.new.state.output;
+        } }
+        ensures log { self.new.log ≡ self.old.log }
     {
         self.output.settle();
         if self.output.room() < text::mail_room(self.link.config().max) {
@@ -50,16 +54,18 @@ impl Session {
 
     /// Returns what waits for standard output.
     pub fn to_output(&self) -> &[u8]
-        ensures { result.now ≡ self.now.output.waiting }
+        ensures { result.now ≡ self.now.state.output.waiting }
     {
         self.output.waiting()
     }
 
     /// Takes note that standard output took the first `n` bytes of `to_output`.
     pub fn output_took(&mut self, n: usize)
-        ensures { self.new ≡ record self.old {
-          output = after_taken (min n (length self.old.output.waiting)) self.old.output;
+        ensures state { self.new.state ≡ record self.old.state {
+          output = after_taken
+              (min n (length self.old.state.output.waiting)) self.old.state.output;
         } }
+        ensures log { self.new.log ≡ self.old.log }
     {
         let n = n.min(self.output.waiting().len());
         self.output.took(n);
@@ -72,35 +78,39 @@ impl Session {
 
     /// Takes note that standard error took the first `n` bytes of `to_errors`.
     pub fn errors_took(&mut self, n: usize)
-        ensures { self.new ≡ self.old }
+        ensures state { self.new.state ≡ self.old.state }
+        ensures log { self.new.log ≡ record self.old.log { errors = self.new.log.errors } }
     {
         self.errors.took(n);
     }
 
     /// Reports an event on standard error, as a line of its own.
     pub fn report<E: fmt::Display>(&mut self, event: &E)
-        ensures { self.new ≡ self.old }
+        ensures state { self.new.state ≡ self.old.state }
+        ensures log { self.new.log ≡ record self.old.log { errors = self.new.log.errors } }
     {
-        if let Some(lines) = self.errors.line() {
-            let _is_whole = write!(lines, "{event}\n");
+        if self.errors.begin_line(SHORT_LINE) {
+            let _is_whole = write!(&mut self.errors.queue, "{event}\n");
         }
     }
 
     /// Reports why the line is down, unless all is delivered that was to be.
     pub fn report_down<E: fmt::Display>(&mut self, reason: &E)
-        ensures { self.new ≡ self.old }
+        ensures state { self.new.state ≡ self.old.state }
+        ensures log { self.new.log ≡ record self.old.log { errors = self.new.log.errors } }
     {
         if self.is_delivered() && !self.stays() {
             return;
         }
-        if let Some(lines) = self.errors.line() {
-            let _is_whole = write!(lines, "line down: {reason}\n");
+        if self.errors.begin_line(SHORT_LINE) {
+            let _is_whole = write!(&mut self.errors.queue, "line down: {reason}\n");
         }
     }
 
     /// Reports all that the link has counted on standard error.
     pub(super) fn report_counters(&mut self)
-        ensures { self.new ≡ self.old }
+        ensures state { self.new.state ≡ self.old.state }
+        ensures log { self.new.log ≡ record self.old.log { errors = self.new.log.errors } }
     {
         self.reports
             .write(&self.link, self.course.lost, &mut self.errors);
@@ -109,12 +119,15 @@ impl Session {
     /// Reports how many accepted messages were dropped, if any: returns whether standard output had
     /// room for that.
     pub(super) fn report_lost(&mut self, lost: u8) -> bool
-        ensures wrote { self.new ≡ record self.old {
-          course = lost_more lost self.old.course;
+        ensures wrote { self.new.state ≡ record self.old.state {
+          course = lost_more lost self.old.state.course;
           output = after_pushed
-              (reported_lost result (form_of self.old.messages) lost) self.old.output;
+              (reported_lost result (form_of self.old.state.messages) lost) self.old.state.output;
         } }
-        ensures when { result ≡ reports_loss self.old }
+        ensures when { result ≡ reports_loss self.old.state }
+        ensures digits { form_of self.old.state.messages ≡ Form.Digits
+            → self.new.log ≡ self.old.log }
+        ensures log { self.new.log ≡ record self.old.log { errors = self.new.log.errors } }
     {
         self.course.lose(lost as u64);
         let has_room = self.output.room() >= text::LOST_ROOM;
@@ -125,8 +138,8 @@ impl Session {
             Form::Digits if has_room => text::write_lost(&mut self.output, lost),
             Form::Digits => {}
             Form::Binary => {
-                if let Some(lines) = self.errors.line() {
-                    text::write_lost(lines, lost);
+                if self.errors.begin_line(SHORT_LINE) {
+                    text::write_lost(&mut self.errors.queue, lost);
                 }
             }
         }

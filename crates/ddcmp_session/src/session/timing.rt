@@ -2,6 +2,7 @@
 ghost use Rattle.std.specs.Prelude.{◌≡◌};
 ghost use Rattle.ddcmp_session.specs.Timing.{most_tries};
 
+use crate::errors::SHORT_LINE;
 use crate::options::LineKind;
 use crate::session::{End, Session};
 use crate::text;
@@ -19,7 +20,7 @@ impl Session {
 
     /// Returns the moment in milliseconds when the run ends.
     pub fn run_ends_at(&self) -> u64
-        ensures { result ≡ run_ends_at self.now }
+        ensures { result ≡ run_ends_at self.now.state }
     {
         1000 * self.options.seconds as u64
     }
@@ -27,7 +28,8 @@ impl Session {
     /// Has each line for standard error begin with the time of day, if that is asked for. The
     /// moment 0 is this many milliseconds after 1970.
     pub fn began_at(&mut self, milliseconds: u64)
-        ensures { self.new ≡ self.old }
+        ensures state { self.new.state ≡ self.old.state }
+        ensures log { self.new.log ≡ record self.old.log { errors = self.new.log.errors } }
     {
         if self.options.clock {
             self.errors.show_time(milliseconds);
@@ -36,7 +38,8 @@ impl Session {
 
     /// Takes note of the moment, and writes a report if one is due. Call it while there is no line.
     pub fn pass_time(&mut self, now: u64)
-        ensures { self.new ≡ after_time now self.old }
+        ensures state { self.new.state ≡ after_time now self.old.state }
+        ensures log { self.new.log ≡ record self.old.log { errors = self.new.log.errors } }
     {
         self.errors.pass_time(now);
         if self.course.pass(now, self.options.report_ms()) {
@@ -47,7 +50,7 @@ impl Session {
     /// Returns the moment in milliseconds when a wait without a line is to end at the latest, after
     /// this moment: when the line is to be opened, a report is due, or the run ends.
     pub fn wakes_without_line_at(&self, now: u64) -> u64
-        ensures { result ≡ wakes_without_line_at now self.now }
+        ensures { result ≡ wakes_without_line_at now self.now.state }
     {
         let first = self.run_ends_at().min(self.course.report_at);
         let opens_at = self.course.opens_at;
@@ -60,7 +63,9 @@ impl Session {
 
     /// Handles all timers that have expired at this moment.
     pub fn handle_timeout(&mut self, now: u64)
-        ensures { self.new ≡ after_timeout now self.old }
+        ensures state { self.new.state ≡ after_timeout now self.old.state }
+        ensures log { self.new.log
+            ≡ record self.old.log { errors = self.new.log.errors; trace = self.new.log.trace } }
     {
         self.pass_time(now);
         self.course.end_pause();
@@ -75,7 +80,8 @@ impl Session {
 
     /// Counts an expiry of the reply timer as a try, if a peer is there.
     fn count_expiry(&mut self, has_expired: bool)
-        ensures { self.new ≡ after_tried has_expired self.old }
+        ensures { self.new
+            ≡ record self.old { state = after_tried has_expired self.old.state } }
     {
         if has_expired && !self.awaits_peer() {
             self.course.count_try(None);
@@ -84,7 +90,7 @@ impl Session {
 
     /// Takes note that a peer isn't heard, as bytes of the line have no room.
     fn note_unheard(&mut self)
-        ensures { self.new ≡ after_unheard self.old }
+        ensures { self.new ≡ record self.old { state = after_unheard self.old.state } }
     {
         if !self.wants_line() {
             self.course.quiet_since = self.course.moment;
@@ -93,7 +99,7 @@ impl Session {
 
     /// Returns the moment in milliseconds when `handle_timeout` is to be called at the latest.
     pub fn wakes_at(&self) -> u64
-        ensures { result ≡ wakes_at self.now }
+        ensures { result ≡ wakes_at self.now.state }
     {
         let first = self.next_timeout();
         if self.is_delivered() && !self.stays() {
@@ -105,14 +111,14 @@ impl Session {
     /// Returns how many milliseconds that is after the last moment that was passed: the most that
     /// the next wait may take.
     pub fn wait_ms(&self) -> u64
-        ensures { result ≡ wait_ms self.now }
+        ensures { result ≡ wait_ms self.now.state }
     {
         self.wakes_at().saturating_sub(self.course.moment)
     }
 
     /// Returns the moment of the first timer that is set.
     fn next_timeout(&self) -> u64
-        ensures { result ≡ next_timeout self.now }
+        ensures { result ≡ next_timeout self.now.state }
     {
         let timer = self.link.deadline().unwrap_or(u64::MAX);
         let pause = self.course.pause.unwrap_or(u64::MAX);
@@ -124,7 +130,7 @@ impl Session {
 
     /// Returns why the line is to be left, if it is.
     pub fn end(&self) -> Option<End>
-        ensures { result ≡ end self.now }
+        ensures { result ≡ end self.now.state }
     {
         let now = self.course.moment;
         if self.run_ends_at() <= now {
@@ -144,7 +150,7 @@ impl Session {
 
     /// Returns the moment until which a peer that has more to send is heard out.
     fn lingers_until(&self) -> u64
-        ensures { result ≡ lingers_until self.now }
+        ensures { result ≡ lingers_until self.now.state }
     {
         let linger = self.options.linger_ms as u64;
         self.course.quiet_since.saturating_add(linger)
@@ -152,13 +158,13 @@ impl Session {
 
     /// Whether a peer isn't there yet: on a line that is no connection it may begin at any time.
     fn awaits_peer(&self) -> bool
-        ensures { result ≡ awaits_peer self.now }
+        ensures { result ≡ awaits_peer self.now.state }
     {
         !self.kind.is_connection() && !self.course.peer_has_started
     }
 
     fn is_given_up(&self) -> bool
-        ensures { result ≡ is_given_up self.now }
+        ensures { result ≡ is_given_up self.now.state }
     {
         let most = most_tries(self.options.attempts, self.link.state() == State::Running);
         most > 0 && most <= self.course.tries
@@ -166,18 +172,19 @@ impl Session {
 
     /// Reports why the line is left, if it is since the peer doesn't answer, or refuses.
     fn report_given_up(&mut self)
-        ensures { self.new ≡ self.old }
+        ensures state { self.new.state ≡ self.old.state }
+        ensures log { self.new.log ≡ record self.old.log { errors = self.new.log.errors } }
     {
         if !self.is_given_up() {
             return;
         }
-        if let Some(lines) = self.errors.line() {
-            text::write_given_up(lines, self.course.refusal);
+        if self.errors.begin_line(SHORT_LINE) {
+            text::write_given_up(&mut self.errors.queue, self.course.refusal);
         }
     }
 
     pub(super) fn is_delivered(&self) -> bool
-        ensures { result ≡ is_delivered self.now }
+        ensures { result ≡ is_delivered self.now.state }
     {
         self.input_is_read && self.link.is_delivered()
     }
@@ -185,7 +192,7 @@ impl Session {
     /// Whether it goes on once all of the input was delivered: so does whoever listens and has no
     /// input.
     pub(super) fn stays(&self) -> bool
-        ensures { result ≡ stays self.now }
+        ensures { result ≡ stays self.now.state }
     {
         let had_input = self.link.totals().sent > 0 || self.was_refused;
         self.options.stay || self.kind == LineKind::Listen && !had_input
@@ -193,21 +200,21 @@ impl Session {
 
     /// Whether a line that has ended is opened again.
     pub fn reopens(&self) -> bool
-        ensures { result ≡ reopens self.now }
+        ensures { result ≡ reopens self.now.state }
     {
         self.options.again || self.kind == LineKind::Listen && !self.course.peer_has_started
     }
 
     /// Whether a line that can't be opened is tried again.
     pub fn retries(&self) -> bool
-        ensures { result ≡ self.now.options.again }
+        ensures { result ≡ self.now.state.options.again }
     {
         self.options.again
     }
 
     /// Returns the moment in milliseconds before which the line isn't opened.
     pub fn opens_at(&self) -> u64
-        ensures { result ≡ self.now.course.opens_at }
+        ensures { result ≡ self.now.state.course.opens_at }
     {
         self.course.opens_at
     }
@@ -215,10 +222,11 @@ impl Session {
     /// Takes note that the line couldn't be opened: returns after how many seconds it is tried
     /// again.
     pub fn open_failed(&mut self, now: u64) -> u64
-        ensures state { self.new ≡ record (after_time now self.old) {
-          course = after_opening_failed (after_time now self.old).course;
+        ensures state { self.new.state ≡ record (after_time now self.old.state) {
+          course = after_opening_failed (after_time now self.old.state).course;
         } }
-        ensures seconds { result ≡ self.new.course.retry_seconds }
+        ensures seconds { result ≡ self.new.state.course.retry_seconds }
+        ensures log { self.new.log ≡ record self.old.log { errors = self.new.log.errors } }
     {
         self.pass_time(now);
         self.course.retry_later()
@@ -227,8 +235,9 @@ impl Session {
     /// Returns after how many seconds a line that has ended is opened again; none if that is at
     /// once, as it is after a station that ran, and for whoever listens.
     pub fn pause_after_line(&mut self, now: u64) -> Option<u64>
-        ensures state { self.new ≡ after_line (after_time now self.old) }
-        ensures seconds { result ≡ seconds_after_line (after_time now self.old) }
+        ensures state { self.new.state ≡ after_line (after_time now self.old.state) }
+        ensures seconds { result ≡ seconds_after_line (after_time now self.old.state) }
+        ensures log { self.new.log ≡ record self.old.log { errors = self.new.log.errors } }
     {
         self.pass_time(now);
         if self.course.has_run_here {

@@ -5,25 +5,27 @@ use Rattle.ddcmp_session.proofs.link.run_link.Goals as goal
 
 pub returns-in-Ok-run_to_end-clause-served : goal.returns-in-Ok-run_to_end-clause-served
 returns-in-Ok-run_to_end-clause-served g c = λ served e. (
-  c.run_to_end.new.session,
+  c.run_to_end.new.session.state,
   runs-new c.in-Ok-new.ensures c.in-Ok.ensures.made c.in-Ok.ensures.stands
       c.in-Ok-run_to_end.ensures.ends,
   c.in-Ok-run_to_end.ensures.whole refl,
-  reported-as c.run_to_end.new.session (served-in e) (sym c.was_refused.ensures ∙ c.if-was_refused.true),
+  reported-as c.run_to_end.new.session.state (served-in e) (sym c.was_refused.ensures
+      ∙ c.if-was_refused.true),
 )
 
 pub returns-in-Ok-2-clause-served : goal.returns-in-Ok-2-clause-served
 returns-in-Ok-2-clause-served g c = λ served e. (
-  c.run_to_end.new.session,
+  c.run_to_end.new.session.state,
   runs-new c.in-Ok-new.ensures c.in-Ok.ensures.made c.in-Ok.ensures.stands
       c.in-Ok-2.ensures.ends,
   c.in-Ok-2.ensures.whole refl,
-  reported-as c.run_to_end.new.session (served-in e) (sym c.was_refused.ensures ∙ c.if-was_refused.false),
+  reported-as c.run_to_end.new.session.state (served-in e) (sym c.was_refused.ensures
+      ∙ c.if-was_refused.false),
 )
 
 pub returns-clause-lost : goal.returns-clause-lost
 returns-clause-lost g c = λ count e. (
-  c.run_to_end.new.session,
+  c.run_to_end.new.session.state,
   runs-new c.in-Ok-new.ensures c.in-Ok.ensures.made c.in-Ok.ensures.stands
       c.in-Err-run_to_end.ensures.ends,
   (c.in-Err-run_to_end.ensures.lost count (ap stop-of e)).0,
@@ -32,7 +34,7 @@ returns-clause-lost g c = λ count e. (
 
 pub returns-clause-left : goal.returns-clause-left
 returns-clause-left g c = λ e. (
-  c.run_to_end.new.session,
+  c.run_to_end.new.session.state,
   runs-new c.in-Ok-new.ensures c.in-Ok.ensures.made c.in-Ok.ensures.stands
       c.in-Err-run_to_end.ensures.ends,
   c.in-Err-run_to_end.ensures.left (ap stop-of e),

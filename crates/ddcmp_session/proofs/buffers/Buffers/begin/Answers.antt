@@ -10,26 +10,27 @@ pub returns-then-run_ends_at-now-clause-over : goal.returns-then-run_ends_at-now
 returns-then-run_ends_at-now-clause-over g c =
     over-then c.loop-try.invariant.0
     (over-then (none-over refl c.now-now.ensures)
-    (passed-now c.now-now.result c.loop-try.session c.pass_time.new.self c.pass_time.ensures))
+    (passed-now c.now-now.result c.loop-try.session.state c.pass_time.new.self.state
+    c.pass_time.ensures.state))
 
 pub returns-in-Ok-true-clause-over : goal.returns-in-Ok-true-clause-over
 returns-in-Ok-true-clause-over g c =
-    passes-then c.now-now.result c.loop-try.session c.pass_time.new.self
-    c.loop-try.invariant.0 c.loop-try.invariant.1 c.now-now.ensures c.pass_time.ensures
+    passes-then c.now-now.result c.loop-try.session.state c.pass_time.new.self.state
+    c.loop-try.invariant.0 c.loop-try.invariant.1 c.now-now.ensures c.pass_time.ensures.state
     c.try_line.ensures.over
 
 pub returns-in-Err-clause-over : goal.returns-in-Err-clause-over
 returns-in-Err-clause-over g c =
-    passes-then c.now-now.result c.loop-try.session c.pass_time.new.self
-    c.loop-try.invariant.0 c.loop-try.invariant.1 c.now-now.ensures c.pass_time.ensures
+    passes-then c.now-now.result c.loop-try.session.state c.pass_time.new.self.state
+    c.loop-try.invariant.0 c.loop-try.invariant.1 c.now-now.ensures c.pass_time.ensures.state
     c.try_line.ensures.over
 
 pub returns-then-not-wait_between_lines-clause-over : goal.returns-then-not-wait_between_lines-clause-over
 returns-then-not-wait_between_lines-clause-over g c =
     over-then
     (over-then
-    (passes-then c.now-now.result c.loop-try.session c.pass_time.new.self
-    c.loop-try.invariant.0 c.loop-try.invariant.1 c.now-now.ensures c.pass_time.ensures
+    (passes-then c.now-now.result c.loop-try.session.state c.pass_time.new.self.state
+    c.loop-try.invariant.0 c.loop-try.invariant.1 c.now-now.ensures c.pass_time.ensures.state
     c.try_line.ensures.over)
     (none-over c.write_errors.ensures.session c.write_errors.ensures.devices))
     (c.wait_between_lines.ensures.over _)
@@ -38,15 +39,15 @@ pub loop-try-preserved : goal.loop-try-preserved
 loop-try-preserved g c = (
   over-then
       (over-then
-      (passes-then c.now-now.result c.loop-try.session c.pass_time.new.self
-      c.loop-try.invariant.0 c.loop-try.invariant.1 c.now-now.ensures c.pass_time.ensures
+      (passes-then c.now-now.result c.loop-try.session.state c.pass_time.new.self.state
+      c.loop-try.invariant.0 c.loop-try.invariant.1 c.now-now.ensures c.pass_time.ensures.state
       c.try_line.ensures.over)
       (none-over c.write_errors.ensures.session c.write_errors.ensures.devices))
       (c.wait_between_lines.ensures.over _),
   λ r. ready-by c.write_errors.ensures.session
       (c.try_line.ensures.ready
       (c.in-Ok-false.is ∙ ap (λ b. Ok b) c.in-Ok-false.field-0-test)
-      (ready-by c.pass_time.ensures (c.loop-try.invariant.1 r))),
+      (ready-by c.pass_time.ensures.state (c.loop-try.invariant.1 r))),
 )
 
 pub returns-clause-over : goal.returns-clause-over
@@ -60,7 +61,8 @@ returns-then-not-wait_between_lines-clause-time g c = λ e.
     (reports-later c.loop-try.invariant.0
     (reports-later (none-over refl c.now-now.ensures)
     (reports-later
-    (passed-now c.now-now.result c.loop-try.session c.pass_time.new.self c.pass_time.ensures)
+    (passed-now c.now-now.result c.loop-try.session.state c.pass_time.new.self.state
+    c.pass_time.ensures.state)
     (reports-later c.try_line.ensures.over
     (reports-later (none-over c.write_errors.ensures.session c.write_errors.ensures.devices)
     (c.if-not-wait_between_lines.ensures.failed refl _)))))))

@@ -8,8 +8,8 @@ pub returns-clause-over : goal.returns-clause-over
 returns-clause-over c =
     rw (sym c.self.view_is) (λ before after becomes.
     subst
-    (λ xs. GoesOver (buffers.the_view c.self.inside) c.args.session.now before
+    (λ xs. GoesOver (buffers.the_view c.self.inside) c.args.session.now.state before
     (record (buffers.the_view c.self.inside) { received = xs; down = None })
-    c.connected.new.self after) (sym c.clear.ensures)
-    (line-connected c.args.session.now c.connected.new.self c.connected.ensures.state
+    c.connected.new.self.state after) (sym c.clear.ensures)
+    (line-connected c.args.session.now.state c.connected.new.self.state c.connected.ensures.state
     c.connected.ensures.cleared becomes))

@@ -12,18 +12,19 @@ closed left is_at_end s =
     lost_more (lost_by_end s)
     (lost_more (lost_at_end left is_at_end s) (lost_more (lost_among left s) s.course))
 
-pub returns : goal.returns
+pub returns-clause-closes : goal.returns-clause-closes
 unfolding closed
-returns c =
-    run-closed c.args.self.now c.close-has_room.result c.args.session.now
-    c.close-has_room.new.self
+returns-clause-closes c =
+    run-closed c.args.self.now c.close-has_room.result c.args.session.now.state
+    c.close-has_room.new.self.state
     (record {
       link = c.close-has_room.ensures.link;
       wrote = c.close-has_room.ensures.wrote;
       form = c.close-has_room.ensures.form;
       course =
           c.close-has_room.ensures.course
-          ∙ ap (λ xs. closed xs c.self.inside.input_is_over c.args.session.now) c.rest.ensures
-          ∙ ap (λ (b : BuffersView). closed b.input b.is_over c.args.session.now) c.self.view_is;
+          ∙ ap (λ xs. closed xs c.self.inside.input_is_over c.args.session.now.state) c.rest.ensures
+          ∙ ap (λ (b : BuffersView). closed b.input b.is_over c.args.session.now.state)
+          c.self.view_is;
       stays = c.close-has_room.ensures.stays;
     })

@@ -3,16 +3,16 @@ use Rattle.ddcmp_session.proofs.LinesGo.{may-end, same-fault}
 use Rattle.ddcmp_session.proofs.buffers.Buffers.judge.Goals as goal
 
 pub returns-in-Ok-clause-on : goal.returns-in-Ok-clause-on
-returns-in-Ok-clause-on g c = c.read_if-read.ensures.on c.args.session.now
+returns-in-Ok-clause-on g c = c.read_if-read.ensures.on c.args.session.now.state
 
 pub returns-in-Err-clause-on : goal.returns-in-Err-clause-on
-returns-in-Err-clause-on g c = c.read_if-read.ensures.on c.args.session.now
+returns-in-Err-clause-on g c = c.read_if-read.ensures.on c.args.session.now.state
 
 pub returns-in-Ok-clause-well : goal.returns-in-Ok-clause-well
 returns-in-Ok-clause-well g c = λ e.
-    may-end c.args.session.now c.verdict.ensures.well c.requires.delivered
+    may-end c.args.session.now.state c.verdict.ensures.well c.requires.delivered
     c.has_run-has_run.ensures e
 
 pub returns-in-Err-clause-reports : goal.returns-in-Err-clause-reports
 returns-in-Err-clause-reports g c = λ fault untimed e.
-    inr (c.in-Err.ensures.reports c.args.session.now fault (same-fault e))
+    inr (c.in-Err.ensures.reports c.args.session.now.state fault (same-fault e))

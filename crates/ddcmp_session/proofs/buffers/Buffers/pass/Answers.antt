@@ -1,4 +1,5 @@
 use Rattle.std.proofs.Common.{◌∙◌, ap}
+use Rattle.ddcmp_session.specs.Logged.{LoggedSession}
 use Rattle.ddcmp_session.specs.Session.{SessionView}
 use Rattle.ddcmp_session.proofs.RestLaws.{none, as-ok, comes-to-rest}
 use Rattle.ddcmp_session.proofs.GoingLaws.{stays, goes-then, filled-goes, reports-then, passed-on}
@@ -7,21 +8,24 @@ use Rattle.ddcmp_session.proofs.buffers.Buffers.pass.Goals as goal
 pub returns-in_err-moved-clause-on : goal.returns-in_err-moved-clause-on
 returns-in_err-moved-clause-on g c =
     goes-then
-    (filled-goes c.args.session.now c.fill.new.self c.fill.ensures.frames c.fill.ensures.filled)
+    (filled-goes c.args.session.now.state c.fill.new.self.state c.fill.ensures.frames
+    c.fill.ensures.filled)
     (goes-then c.write_line-moved.ensures.on
     c.read_input.ensures.on)
 
 pub returns-in_err-moved-clause-reports : goal.returns-in_err-moved-clause-reports
 returns-in_err-moved-clause-reports g c = λ fault e.
     reports-then
-    (filled-goes c.args.session.now c.fill.new.self c.fill.ensures.frames c.fill.ensures.filled)
+    (filled-goes c.args.session.now.state c.fill.new.self.state c.fill.ensures.frames
+    c.fill.ensures.filled)
     (reports-then c.write_line-moved.ensures.on
     (c.in_err-moved.ensures.reports fault (passed-on c.from_residual.ensures.1 e)))
 
 pub returns-in_err-moved-2-clause-on : goal.returns-in_err-moved-2-clause-on
 returns-in_err-moved-2-clause-on g c =
     goes-then
-    (filled-goes c.args.session.now c.fill.new.self c.fill.ensures.frames c.fill.ensures.filled)
+    (filled-goes c.args.session.now.state c.fill.new.self.state c.fill.ensures.frames
+    c.fill.ensures.filled)
     (goes-then c.write_line-moved.ensures.on
     (goes-then c.read_input.ensures.on
     c.pass_input.ensures.on))
@@ -29,15 +33,18 @@ returns-in_err-moved-2-clause-on g c =
 pub returns-in_err-moved-2-clause-reports : goal.returns-in_err-moved-2-clause-reports
 returns-in_err-moved-2-clause-reports g c = λ fault e.
     reports-then
-    (filled-goes c.args.session.now c.fill.new.self c.fill.ensures.frames c.fill.ensures.filled)
+    (filled-goes c.args.session.now.state c.fill.new.self.state c.fill.ensures.frames
+    c.fill.ensures.filled)
     (reports-then c.write_line-moved.ensures.on
     (reports-then c.read_input.ensures.on
-    (c.in_err-moved-2.ensures.reports fault (passed-on c.from_residual-in_err-moved-2.ensures.1 e))))
+    (c.in_err-moved-2.ensures.reports fault (passed-on c.from_residual-in_err-moved-2.ensures.1
+    e))))
 
 pub returns-in_err-moved-3-clause-on : goal.returns-in_err-moved-3-clause-on
 returns-in_err-moved-3-clause-on g c =
     goes-then
-    (filled-goes c.args.session.now c.fill.new.self c.fill.ensures.frames c.fill.ensures.filled)
+    (filled-goes c.args.session.now.state c.fill.new.self.state c.fill.ensures.frames
+    c.fill.ensures.filled)
     (goes-then c.write_line-moved.ensures.on
     (goes-then c.read_input.ensures.on
     (goes-then c.pass_input.ensures.on
@@ -46,16 +53,19 @@ returns-in_err-moved-3-clause-on g c =
 pub returns-in_err-moved-3-clause-reports : goal.returns-in_err-moved-3-clause-reports
 returns-in_err-moved-3-clause-reports g c = λ fault e.
     reports-then
-    (filled-goes c.args.session.now c.fill.new.self c.fill.ensures.frames c.fill.ensures.filled)
+    (filled-goes c.args.session.now.state c.fill.new.self.state c.fill.ensures.frames
+    c.fill.ensures.filled)
     (reports-then c.write_line-moved.ensures.on
     (reports-then c.read_input.ensures.on
     (reports-then c.pass_input.ensures.on
-    (c.in_err-moved-3.ensures.reports fault (passed-on c.from_residual-in_err-moved-3.ensures.1 e)))))
+    (c.in_err-moved-3.ensures.reports fault (passed-on c.from_residual-in_err-moved-3.ensures.1
+    e)))))
 
 pub returns-in_err-moved-4-clause-on : goal.returns-in_err-moved-4-clause-on
 returns-in_err-moved-4-clause-on g c =
     goes-then
-    (filled-goes c.args.session.now c.fill.new.self c.fill.ensures.frames c.fill.ensures.filled)
+    (filled-goes c.args.session.now.state c.fill.new.self.state c.fill.ensures.frames
+    c.fill.ensures.filled)
     (goes-then c.write_line-moved.ensures.on
     (goes-then c.read_input.ensures.on
     (goes-then c.pass_input.ensures.on
@@ -66,18 +76,21 @@ returns-in_err-moved-4-clause-on g c =
 pub returns-in_err-moved-4-clause-reports : goal.returns-in_err-moved-4-clause-reports
 returns-in_err-moved-4-clause-reports g c = λ fault e.
     reports-then
-    (filled-goes c.args.session.now c.fill.new.self c.fill.ensures.frames c.fill.ensures.filled)
+    (filled-goes c.args.session.now.state c.fill.new.self.state c.fill.ensures.frames
+    c.fill.ensures.filled)
     (reports-then c.write_line-moved.ensures.on
     (reports-then c.read_input.ensures.on
     (reports-then c.pass_input.ensures.on
     (reports-then c.read_line.ensures.on
     (reports-then (c.pass_received.ensures.on _)
-    (c.in_err-moved-4.ensures.reports _ fault (passed-on c.from_residual-in_err-moved-4.ensures.1 e)))))))
+    (c.in_err-moved-4.ensures.reports _ fault (passed-on c.from_residual-in_err-moved-4.ensures.1
+    e)))))))
 
 pub returns-clause-on : goal.returns-clause-on
 returns-clause-on g c =
     goes-then
-    (filled-goes c.args.session.now c.fill.new.self c.fill.ensures.frames c.fill.ensures.filled)
+    (filled-goes c.args.session.now.state c.fill.new.self.state c.fill.ensures.frames
+    c.fill.ensures.filled)
     (goes-then c.write_line-moved.ensures.on
     (goes-then c.read_input.ensures.on
     (goes-then c.pass_input.ensures.on
@@ -94,16 +107,19 @@ returns-clause-rests g c = λ e.
     e in
     let passed = c.in_ok-moved-2.ensures.idle (as-ok n.third) in
     let fed = c.pass_received.ensures.idle n.fifth in
-    comes-to-rest c.fill.new.self c.pass_input.new.session c.pass_received.new.session
-    c.write_errors.new.session c.pass_input.new.self c.pass_received.new.self
-    c.fill.ensures.filled (passed.0 ∙ c.write_line-moved.ensures.idle n.first)
+    comes-to-rest c.fill.new.self.state c.pass_input.new.session.state
+    c.pass_received.new.session.state
+    c.write_errors.new.session.state c.pass_input.new.self c.pass_received.new.self
+    c.fill.ensures.filled
+    (ap (λ (s : LoggedSession). s.state) (passed.0 ∙ c.write_line-moved.ensures.idle n.first))
     (c.in_ok-moved-2.ensures.typed (as-ok n.third)) (c.in_ok-moved-2.ensures.told (as-ok n.third))
     (fed.0
-    ∙ ap (λ (s : SessionView). record s { output = c.pass_received.new.session.output })
+    ∙ ap (λ (s : SessionView). record s { output = c.pass_received.new.session.state.output })
     c.in_ok-moved-3.ensures.session)
     (fed.1 ∙ c.in_ok-moved-3.ensures.idle (as-ok n.fourth))
     (c.pass_received.ensures.fed n.fifth) (c.pass_received.ensures.left n.fifth)
-    (c.write_errors.ensures.session ∙ c.in_ok-moved-4.ensures.idle (as-ok n.sixth))
+    (c.write_errors.ensures.session
+    ∙ ap (λ (s : LoggedSession). s.state) (c.in_ok-moved-4.ensures.idle (as-ok n.sixth)))
 
 pub returns-in_err-moved-clause-untimed : goal.returns-in_err-moved-clause-untimed
 returns-in_err-moved-clause-untimed g c = λ e.

@@ -20,7 +20,8 @@ returns-else-wait-clause-on g c =
 pub returns-then-self-clause-on : goal.returns-then-self-clause-on
 returns-then-self-clause-on g c =
     goes-then (c.pass_parts-moved.ensures.on _)
-    (ends c.pass_parts-moved.new.session c.input_ended.new.self c.input_ended.ensures
+    (ends c.pass_parts-moved.new.session.state c.input_ended.new.self.state
+    c.input_ended.ensures.state
     (sym c.if-not-wants_input.ensures)
     (subst (λ (v : BuffersView). v.input ≡ []) c.self.view_is
     (none-left c.self.inside.input c.if-not-is_empty.ensures))
@@ -32,7 +33,7 @@ returns-clause-on g c = c.pass_parts-moved.ensures.on _
 pub returns-else-wait-clause-reports : goal.returns-else-wait-clause-reports
 returns-else-wait-clause-reports g c = λ fault e.
     subst
-    (Reports c.args.self.now c.args.session.now (g.D.Devices.traffic c.args.devices.now)
+    (Reports c.args.self.now c.args.session.now.state (g.D.Devices.traffic c.args.devices.now)
     (g.D.Devices.traffic c.wait.new.self)) (same e)
     (reports-then (c.pass_parts-moved.ensures.on _) (reported Input c.if-wait.ensures))
   where

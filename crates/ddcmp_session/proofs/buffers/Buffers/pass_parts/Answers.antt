@@ -15,11 +15,13 @@ pub loop-part-preserved : goal.loop-part-preserved
 loop-part-preserved c = record {
   on = λ known.
       goes-then (c.loop-part.invariant.on known)
-      (types-held c.loop-part.session c.typed-used.new.self c.typed-used.result c.rest.result.now
+      (types-held c.loop-part.session.state c.typed-used.new.self.state c.typed-used.result
+      c.rest.result.now
       c.used.new.self c.rest.ensures c.used.ensures
-      (has-typed c.typed-used.result c.rest.result.now c.loop-part.session c.typed-used.new.self
+      (has-typed c.typed-used.result c.rest.result.now c.loop-part.session.state
+      c.typed-used.new.self.state
       c.typed-used.ensures.used c.typed-used.ensures.state c.typed-used.ensures.first
-      c.typed-used.ensures.few c.typed-used.ensures.none));
+      c.typed-used.ensures.few (λ e. (c.typed-used.ensures.none e).0)));
   session = λ e. cc;
   held = λ e. cc;
 }

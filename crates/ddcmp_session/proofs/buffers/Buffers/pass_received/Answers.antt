@@ -15,7 +15,7 @@ loop-notice-preserved c = record {
   on = λ known.
       goes-then (c.loop-notice.invariant.on known)
       (goes-then (c.deliver_all-moved.ensures.on _ known)
-      (received-held c.deliver_all-moved.new.session c.received-used.new.self
+      (received-held c.deliver_all-moved.new.session.state c.received-used.new.self.state
       c.received-used.result c.rest.result.now c.used.new.self c.rest.ensures c.used.ensures
       (λ text s. record {
         core = c.received-used.ensures.state text s;
@@ -49,7 +49,8 @@ pub returns-then-is_empty-clause-idle : goal.returns-then-is_empty-clause-idle
 returns-then-is_empty-clause-idle c =
     rw (sym c.self.view_is) (λ e.
     let none = neither c.loop-notice.moved c.deliver_all-moved.result e in (
-      in-turn c.args.session.now c.loop-notice.session c.deliver_all-moved.new.session
+      in-turn c.args.session.now.state c.loop-notice.session.state
+          c.deliver_all-moved.new.session.state
           (c.loop-notice.invariant.session none.0) (c.deliver_all-moved.ensures.idle none.1),
       c.loop-notice.invariant.held none.0,
     ))

@@ -6,9 +6,10 @@ use Rattle.ddcmp_session.proofs.buffers.Buffers.pass_received.Given as goal
 abbrev pub invariant-loop-notice : goal.invariant-loop-notice
 invariant-loop-notice l = record {
   on : (known : Option Traffic)
-      → GoesOn (buffers.the_view l.initial.self-inside) l.initial.session known
-      (buffers.the_view l.self-inside) l.session known;
-  session : l.moved ≡ false → l.session ≡ record l.initial.session { output = l.session.output };
+      → GoesOn (buffers.the_view l.initial.self-inside) l.initial.session.state known
+      (buffers.the_view l.self-inside) l.session.state known;
+  session : l.moved ≡ false
+      → l.session.state ≡ record l.initial.session.state { output = l.session.state.output };
   held : l.moved ≡ false
       → buffers.the_view l.self-inside ≡ buffers.the_view l.initial.self-inside;
 }

@@ -6,7 +6,7 @@ pub returns-then-not-wants_input-clause-on : goal.returns-then-not-wants_input-c
 returns-then-not-wants_input-clause-on g c = stays refl refl
 
 pub returns-clause-on : goal.returns-clause-on
-returns-clause-on g c = c.read_now.ensures.on c.args.session.now
+returns-clause-on g c = c.read_now.ensures.on c.args.session.now.state
 
 pub returns-clause-reports : goal.returns-clause-reports
-returns-clause-reports g c = c.read_now.ensures.reports c.args.session.now
+returns-clause-reports g c = c.read_now.ensures.reports c.args.session.now.state

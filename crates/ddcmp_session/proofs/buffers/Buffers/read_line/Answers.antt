@@ -16,7 +16,7 @@ returns-clause-on g c =
     (subst (λ (v : BuffersView). v.received ≡ []) (sym c.self.view_is)
     (c.wants_line.ensures.used c.if-not-wants_line.false)) c.read_line-got.ensures.1
     c.read_line-got.ensures.2)
-    (stays c.log_received.ensures refl))
+    (stays c.log_received.ensures.state refl))
 
 pub returns-clause-idle : goal.returns-clause-idle
 returns-clause-idle g c =
@@ -35,7 +35,7 @@ returns-clause-reports g c = λ fault e.
     let r = c.after_read.ensures.fault fault e in
     rw (sym c.self.view_is)
     (subst
-    (Reports (buffers.the_view c.self.inside) c.args.session.now
+    (Reports (buffers.the_view c.self.inside) c.args.session.now.state
     (g.D.Devices.traffic c.args.devices.now) (g.D.Devices.traffic c.read_line-got.new.devices))
     (sym r.1)
     (line-reported c.read_line-got.result c.read_line-got.ensures.0 r.0

@@ -15,40 +15,40 @@ pub returns-in-Some-clause-on : goal.returns-in-Some-clause-on
 returns-in-Some-clause-on g c =
     goes-then c.loop-pass.invariant
     (goes-then (stays refl c.now-now.ensures)
-    (timed-goes c.now-now.result c.loop-pass.session c.handle_timeout.new.self
-    c.handle_timeout.ensures))
+    (timed-goes c.now-now.result c.loop-pass.session.state c.handle_timeout.new.self.state
+    c.handle_timeout.ensures.state))
 
 pub loop-pass-preserved-in-Ok-true : goal.loop-pass-preserved-in-Ok-true
 loop-pass-preserved-in-Ok-true g c =
     goes-then c.loop-pass.invariant
     (goes-then (stays refl c.now-now.ensures)
     (goes-then
-    (timed-goes c.now-now.result c.loop-pass.session c.handle_timeout.new.self
-    c.handle_timeout.ensures) c.pass.ensures.on))
+    (timed-goes c.now-now.result c.loop-pass.session.state c.handle_timeout.new.self.state
+    c.handle_timeout.ensures.state) c.pass.ensures.on))
 
 pub returns-in-Err-clause-on : goal.returns-in-Err-clause-on
 returns-in-Err-clause-on g c =
     goes-then c.loop-pass.invariant
     (goes-then (stays refl c.now-now.ensures)
     (goes-then
-    (timed-goes c.now-now.result c.loop-pass.session c.handle_timeout.new.self
-    c.handle_timeout.ensures) c.pass.ensures.on))
+    (timed-goes c.now-now.result c.loop-pass.session.state c.handle_timeout.new.self.state
+    c.handle_timeout.ensures.state) c.pass.ensures.on))
 
 pub loop-pass-preserved-then-is_some : goal.loop-pass-preserved-then-is_some
 loop-pass-preserved-then-is_some g c =
     goes-then c.loop-pass.invariant
     (goes-then (stays refl c.now-now.ensures)
     (goes-then
-    (timed-goes c.now-now.result c.loop-pass.session c.handle_timeout.new.self
-    c.handle_timeout.ensures) c.pass.ensures.on))
+    (timed-goes c.now-now.result c.loop-pass.session.state c.handle_timeout.new.self.state
+    c.handle_timeout.ensures.state) c.pass.ensures.on))
 
 pub loop-pass-preserved : goal.loop-pass-preserved
 loop-pass-preserved g c =
     goes-then c.loop-pass.invariant
     (goes-then (stays refl c.now-now.ensures)
     (goes-then
-    (timed-goes c.now-now.result c.loop-pass.session c.handle_timeout.new.self
-    c.handle_timeout.ensures)
+    (timed-goes c.now-now.result c.loop-pass.session.state c.handle_timeout.new.self.state
+    c.handle_timeout.ensures.state)
     (goes-then c.pass.ensures.on (waited c.rest.result c.rest.ensures))))
 
 pub returns-then-not-rest-clause-on : goal.returns-then-not-rest-clause-on
@@ -56,8 +56,8 @@ returns-then-not-rest-clause-on g c =
     goes-then c.loop-pass.invariant
     (goes-then (stays refl c.now-now.ensures)
     (goes-then
-    (timed-goes c.now-now.result c.loop-pass.session c.handle_timeout.new.self
-    c.handle_timeout.ensures)
+    (timed-goes c.now-now.result c.loop-pass.session.state c.handle_timeout.new.self.state
+    c.handle_timeout.ensures.state)
     (goes-then c.pass.ensures.on (waited c.rest.result c.rest.ensures))))
 
 same : {f f' : Fault} → ◌≡◌ {A = Result End Fault} (Err f) (Err f') → f ≡ f'
@@ -66,37 +66,38 @@ same e = cc
 pub returns-in-Err-clause-reports : goal.returns-in-Err-clause-reports
 returns-in-Err-clause-reports g c = λ fault e.
     subst
-    (Reports c.args.self.now c.args.session.now (g.D.Devices.traffic c.args.devices.now)
+    (Reports c.args.self.now c.args.session.now.state (g.D.Devices.traffic c.args.devices.now)
     (g.D.Devices.traffic c.pass.new.devices)) (same e)
     (reports-then c.loop-pass.invariant
     (reports-then (stays refl c.now-now.ensures)
     (reports-then
-    (timed-goes c.now-now.result c.loop-pass.session c.handle_timeout.new.self
-    c.handle_timeout.ensures) (c.in-Err.ensures.reports c.in-Err.fault refl))))
+    (timed-goes c.now-now.result c.loop-pass.session.state c.handle_timeout.new.self.state
+    c.handle_timeout.ensures.state) (c.in-Err.ensures.reports c.in-Err.fault refl))))
 
 pub returns-then-not-rest-clause-reports : goal.returns-then-not-rest-clause-reports
 returns-then-not-rest-clause-reports g c = λ fault e.
     subst
-    (Reports c.args.self.now c.args.session.now (g.D.Devices.traffic c.args.devices.now)
+    (Reports c.args.self.now c.args.session.now.state (g.D.Devices.traffic c.args.devices.now)
     (g.D.Devices.traffic c.rest.new.self)) (same e)
     (reports-then c.loop-pass.invariant
     (reports-then (stays refl c.now-now.ensures)
     (reports-then
-    (timed-goes c.now-now.result c.loop-pass.session c.handle_timeout.new.self
-    c.handle_timeout.ensures)
+    (timed-goes c.now-now.result c.loop-pass.session.state c.handle_timeout.new.self.state
+    c.handle_timeout.ensures.state)
     (reports-then c.pass.ensures.on (reported Input c.if-not-rest.ensures)))))
 
 pub returns-clause-on : goal.returns-clause-on
 returns-clause-on g c =
     goes-then c.loop-pass.invariant
-    (timed-goes c.run_ends_at-now.result c.loop-pass.session c.handle_timeout-2.new.self
-    c.handle_timeout-2.ensures)
+    (timed-goes c.run_ends_at-now.result c.loop-pass.session.state c.handle_timeout-2.new.self.state
+    c.handle_timeout-2.ensures.state)
 
 same-end : {e e' : End} → ◌≡◌ {A = Result End Fault} (Ok e) (Ok e') → e ≡ e'
 same-end e = cc
 
 pub returns-clause-ended : goal.returns-clause-ended
 returns-clause-ended g c = λ why e.
-    time-is-over c.loop-pass.session c.handle_timeout-2.new.self c.run_ends_at-now.result
-    c.run_ends_at-now.ensures c.handle_timeout-2.ensures
+    time-is-over c.loop-pass.session.state c.handle_timeout-2.new.self.state
+    c.run_ends_at-now.result
+    c.run_ends_at-now.ensures c.handle_timeout-2.ensures.state
     ∙ ap (λ x. Some x) (same-end e)

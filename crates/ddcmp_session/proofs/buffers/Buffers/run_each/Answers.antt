@@ -57,18 +57,18 @@ returns-in-Err-run_one-clause-reports g c = λ fault untimed e.
 
 pub returns-in-Err-run_one-clause-time : goal.returns-in-Err-run_one-clause-time
 returns-in-Err-run_one-clause-time g c = λ e.
-    time-later c.run_one.new.session c.loop-line.invariant.0
+    time-later c.run_one.new.session.state c.loop-line.invariant.0
     (c.in-Err-run_one.ensures.time (same-err e))
 
 pub returns-in-Err-leave-clause-time : goal.returns-in-Err-leave-clause-time
 returns-in-Err-leave-clause-time g c = λ e.
-    of-leave c.leave.new.session (c.in-Err-leave.ensures.time (same-fault e))
+    of-leave c.leave.new.session.state (c.in-Err-leave.ensures.time (same-fault e))
 
 pub returns-in-Ok-false-2-clause-left : goal.returns-in-Ok-false-2-clause-left
 returns-in-Ok-false-2-clause-left g c = λ e.
     inr (
       sym c.reopens.ensures ∙ c.if-reopens.false,
-      line-later c.run_one.new.session c.loop-line.invariant.0
+      line-later c.run_one.new.session.state c.loop-line.invariant.0
           (c.in-Ok-false.ensures.gone (ap (λ b. Ok b) c.in-Ok-false.field-0-test)),
     )
 

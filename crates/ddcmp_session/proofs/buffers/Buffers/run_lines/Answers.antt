@@ -5,7 +5,7 @@ use Rattle.ddcmp_session.proofs.buffers.Buffers.run_lines.Goals as goal
 
 pub returns-clause-ends : goal.returns-clause-ends
 returns-clause-ends g c = record {
-  unclosed = c.run_each-ran.new.session;
+  unclosed = c.run_each-ran.new.session.state;
   over =
       over-then c.run_each-ran.ensures.over
       (over-then (none-over refl c.close_line.ensures) (goes-over c.judge.ensures.on));

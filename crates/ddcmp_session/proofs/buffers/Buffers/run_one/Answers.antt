@@ -19,7 +19,7 @@ returns-in-Ok-Time-clause-over g c =
 pub returns-in-Err-Line-clause-over : goal.returns-in-Err-Line-clause-over
 returns-in-Err-Line-clause-over g c =
     over-then c.begin.ensures.over
-    (over-then (goes-over c.run.ensures.on) (none-over c.report_down.ensures refl))
+    (over-then (goes-over c.run.ensures.on) (none-over c.report_down.ensures.state refl))
 
 pub returns-in-Err-run : goal.returns-in-Err-run
 returns-in-Err-run g c = record {

@@ -33,7 +33,7 @@ pub returns-in-Err-2-clause-over : goal.returns-in-Err-2-clause-over
 returns-in-Err-2-clause-over g c =
     over-then (none-over c.open_line.ensures.session (c.in-Err-2.ensures.not_opened refused))
     (over-then
-    (failed c.args.now c.open_line.new.session c.open_failed-seconds.new.self
+    (failed c.args.now c.open_line.new.session.state c.open_failed-seconds.new.self.state
     c.open_failed-seconds.ensures.state)
     (none-over c.report_retry.ensures.session c.report_retry.ensures.devices))
 

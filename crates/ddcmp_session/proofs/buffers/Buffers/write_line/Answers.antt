@@ -24,5 +24,6 @@ returns-in-Ended-clause-on g c =
 
 pub returns-in-Bytes-clause-on : goal.returns-in-Bytes-clause-on
 returns-in-Bytes-clause-on g c =
-    line-took c.args.session.now c.line_took.new.self c.in-Bytes.n c.to_line-2.result.now
-    c.to_line-2.ensures c.in-Bytes.ensures.gone c.line_took.ensures
+    line-took c.args.session.now.state c.line_took.new.self.state c.in-Bytes.n
+    c.to_line-2.result.now
+    c.to_line-2.ensures c.in-Bytes.ensures.gone c.line_took.ensures.state

@@ -5,12 +5,12 @@ use Rattle.ddcmp_session.proofs.buffers.finishing.finish.Goals as goal
 
 pub returns-in-Err-clause-finishes : goal.returns-in-Err-clause-finishes
 returns-in-Err-clause-finishes g c = record {
-  delivered = c.deliver_rest.new.session;
+  delivered = c.deliver_rest.new.session.state;
   between = g.D.Devices.traffic c.deliver_rest.new.devices;
   delivers = c.deliver_rest.ensures.drains;
   writes = false;
   drained = λ e. cc;
-  with_lines = c.deliver_rest.new.session;
+  with_lines = c.deliver_rest.new.session.state;
   lines = refl;
   takes = drains-none refl refl;
   well = λ e. cc;
@@ -18,12 +18,12 @@ returns-in-Err-clause-finishes g c = record {
 
 pub returns-clause-finishes : goal.returns-clause-finishes
 returns-clause-finishes g c = record {
-  delivered = c.deliver_rest.new.session;
+  delivered = c.deliver_rest.new.session.state;
   between = g.D.Devices.traffic c.deliver_rest.new.devices;
   delivers = c.deliver_rest.ensures.drains;
   writes = true;
   drained = λ e. c.in-Ok.ensures.emptied refl;
-  with_lines = c.write_end.new.self;
+  with_lines = c.write_end.new.self.state;
   lines = record {
     lines = c.write_end.ensures.lines;
     binary = c.write_end.ensures.binary;

@@ -8,14 +8,14 @@ returns-in-Some-clause-over g c = λ held.
     over-then (c.leave_line.ensures.over held)
     (over-then (none-over refl c.now-now.ensures)
     (over-then
-    (paused c.now-now.result c.leave_line.new.session c.pause_after_line.new.self
-    c.pause_after_line.ensures.state) (none-over c.report.ensures refl)))
+    (paused c.now-now.result c.leave_line.new.session.state c.pause_after_line.new.self.state
+    c.pause_after_line.ensures.state) (none-over c.report.ensures.state refl)))
 
 pub returns-in_default-clause-over : goal.returns-in_default-clause-over
 returns-in_default-clause-over g c = λ held.
     over-then (c.leave_line.ensures.over held)
     (over-then (none-over refl c.now-now.ensures)
-    (paused c.now-now.result c.leave_line.new.session c.pause_after_line.new.self
+    (paused c.now-now.result c.leave_line.new.session.state c.pause_after_line.new.self.state
     c.pause_after_line.ensures.state))
 
 pub returns-in-Err-clause-over : goal.returns-in-Err-clause-over
@@ -30,7 +30,7 @@ returns-in-Err-clause-time g c = λ e. c.note_time.ensures.time (same e)
 
 pub returns-in-Some-clause-ready : goal.returns-in-Some-clause-ready
 returns-in-Some-clause-ready g c = λ e.
-    ready-by c.report.ensures
+    ready-by c.report.ensures.state
     (ready-by c.pause_after_line.ensures.state (c.leave_line.ensures.ready c.in-Ok.is))
 
 pub returns-in_default-clause-ready : goal.returns-in_default-clause-ready

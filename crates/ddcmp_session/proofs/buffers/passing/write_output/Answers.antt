@@ -23,7 +23,7 @@ returns-in-Ended-clause-on g c = λ held. faulted Output c.in-Ended.ensures.writ
 pub returns-in-Ended-clause-reports : goal.returns-in-Ended-clause-reports
 returns-in-Ended-clause-reports g c = λ held fault e.
     subst
-    (Reports held c.args.session.now (g.D.Devices.traffic c.args.devices.now)
+    (Reports held c.args.session.now.state (g.D.Devices.traffic c.args.devices.now)
     (g.D.Devices.traffic c.write_output.new.self)) (same e)
     (reported Output c.in-Ended.ensures.written)
   where
@@ -39,9 +39,9 @@ returns-in-Interrupted-clause-on g c =
 pub returns-in-Bytes-clause-on : goal.returns-in-Bytes-clause-on
 returns-in-Bytes-clause-on g c =
     λ held.
-    output-took c.args.session.now c.output_took.new.self c.in-Bytes.n
+    output-took c.args.session.now.state c.output_took.new.self.state c.in-Bytes.n
     c.to_output-2.result.now c.to_output-2.ensures c.in-Bytes.ensures.written
-    c.output_took.ensures
+    c.output_took.ensures.state
 
 pub returns-then-is_empty-clause-drains : goal.returns-then-is_empty-clause-drains
 returns-then-is_empty-clause-drains g c = drains-none refl refl
@@ -61,6 +61,6 @@ returns-in-Interrupted-clause-drains g c =
 
 pub returns-in-Bytes-clause-drains : goal.returns-in-Bytes-clause-drains
 returns-in-Bytes-clause-drains g c =
-    drains-took c.args.session.now c.output_took.new.self c.in-Bytes.n
+    drains-took c.args.session.now.state c.output_took.new.self.state c.in-Bytes.n
     c.to_output-2.result.now c.to_output-2.ensures c.in-Bytes.ensures.written
-    c.output_took.ensures
+    c.output_took.ensures.state

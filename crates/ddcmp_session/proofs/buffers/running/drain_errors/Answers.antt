@@ -1,6 +1,7 @@
 use Rattle.std.proofs.Common.{refl, ◌∙◌}
 use Rattle.ddcmp_session.proofs.Finished.{drains-none, drains-then, drains-wait}
 use Rattle.ddcmp_session.proofs.GoingLaws.{stays, goes-then, waited}
+use Rattle.ddcmp_session.proofs.LogLaws.{writes-errors}
 use Rattle.ddcmp_session.proofs.buffers.running.drain_errors.Goals as goal
 
 pub loop-write-init : goal.loop-write-init
@@ -8,6 +9,7 @@ loop-write-init g c = record {
   on = λ held. stays refl c.now-last.ensures;
   drains = drains-none refl c.now-last.ensures;
   session = refl;
+  log = refl;
 }
 
 pub returns-then-left-eq0-clause-on : goal.returns-then-left-eq0-clause-on
@@ -34,6 +36,9 @@ loop-write-preserved g c = record {
       (drains-then (drains-none refl c.now.ensures)
       (drains-wait c.wait.result c.wait.ensures)));
   session = c.write_errors.ensures.session ∙ c.loop-write.invariant.session;
+  log =
+      writes-errors c.args.session.now.log c.loop-write.session.log c.write_errors.new.session.log
+      c.loop-write.invariant.log c.write_errors.ensures.log;
 }
 
 pub returns-then-left-eq0-clause-drains : goal.returns-then-left-eq0-clause-drains

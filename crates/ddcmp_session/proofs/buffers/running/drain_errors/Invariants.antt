@@ -6,9 +6,10 @@ use Rattle.ddcmp_session.proofs.buffers.running.drain_errors.Given as goal
 abbrev pub invariant-loop-write : goal.invariant-loop-write
 invariant-loop-write g l = record {
   on : (held : BuffersView)
-      → GoesOn held l.fn.session (g.D.Devices.traffic l.fn.devices) held l.session
+      → GoesOn held l.fn.session.state (g.D.Devices.traffic l.fn.devices) held l.session.state
       (g.D.Devices.traffic l.devices);
-  drains : Drains l.fn.session (g.D.Devices.traffic l.fn.devices) l.session
+  drains : Drains l.fn.session.state (g.D.Devices.traffic l.fn.devices) l.session.state
       (g.D.Devices.traffic l.devices);
-  session : l.session ≡ l.fn.session;
+  session : l.session.state ≡ l.fn.session.state;
+  log : l.session.log ≡ record l.fn.session.log { errors = l.session.log.errors };
 }

@@ -1,4 +1,4 @@
-use Rattle.std.proofs.Common.{◌≡◌, refl, subst, Result, Err}
+use Rattle.std.proofs.Common.{◌≡◌, ◌∙◌, refl, subst, Result, Err}
 use Rattle.ddcmp_session.specs.declared.devices.Fault.{Fault}
 use Rattle.ddcmp_session.specs.declared.devices.Fault.TheVariants.{Input}
 use Rattle.ddcmp_session.specs.Devices.{Reports}
@@ -12,6 +12,7 @@ loop-write-init g c = record {
   on = λ held. stays refl c.now.ensures;
   drains = drains-none refl c.now.ensures;
   only = only-none _;
+  log = refl;
 }
 
 pub returns-then-is_empty-clause-on : goal.returns-then-is_empty-clause-on
@@ -36,8 +37,11 @@ loop-write-preserved-then-moved g c = record {
   only =
       only-then c.loop-write.invariant.only
       (only-then c.deliver_all-delivered.ensures.only
-      (only-wrote c.deliver_all-delivered.new.session c.write_output.new.session
+      (only-wrote c.deliver_all-delivered.new.session.state c.write_output.new.session.state
       c.write_output.ensures.output));
+  log =
+      c.write_output.ensures.log ∙ c.deliver_all-delivered.ensures.log
+      ∙ c.loop-write.invariant.log;
 }
 
 pub returns-then-left-eq0-clause-on : goal.returns-then-left-eq0-clause-on
@@ -69,8 +73,11 @@ loop-write-preserved g c = record {
   only =
       only-then c.loop-write.invariant.only
       (only-then c.deliver_all-delivered.ensures.only
-      (only-wrote c.deliver_all-delivered.new.session c.write_output.new.session
+      (only-wrote c.deliver_all-delivered.new.session.state c.write_output.new.session.state
       c.write_output.ensures.output));
+  log =
+      c.write_output.ensures.log ∙ c.deliver_all-delivered.ensures.log
+      ∙ c.loop-write.invariant.log;
 }
 
 same : {f f' : Fault} → ◌≡◌ {A = Result (Unit {0}) Fault} (Err f) (Err f') → f ≡ f'
@@ -79,7 +86,7 @@ same e = cc
 pub returns-in-Err-clause-reports : goal.returns-in-Err-clause-reports
 returns-in-Err-clause-reports g c = λ held fault e untimed.
     subst
-    (Reports held c.args.session.now (g.D.Devices.traffic c.args.devices.now)
+    (Reports held c.args.session.now.state (g.D.Devices.traffic c.args.devices.now)
     (g.D.Devices.traffic c.write_output.new.devices)) (same e)
     (reports-then (c.loop-write.invariant.on held)
     (reports-then (c.deliver_all-delivered.ensures.on held _)
@@ -88,7 +95,7 @@ returns-in-Err-clause-reports g c = λ held fault e untimed.
 pub returns-then-not-wait-clause-reports : goal.returns-then-not-wait-clause-reports
 returns-then-not-wait-clause-reports g c = λ held fault e untimed.
     subst
-    (Reports held c.args.session.now (g.D.Devices.traffic c.args.devices.now)
+    (Reports held c.args.session.now.state (g.D.Devices.traffic c.args.devices.now)
     (g.D.Devices.traffic c.wait.new.self)) (same e)
     (reports-then (c.loop-write.invariant.on held)
     (reports-then (c.deliver_all-delivered.ensures.on held _)
@@ -99,21 +106,21 @@ pub returns-in-Err-clause-only : goal.returns-in-Err-clause-only
 returns-in-Err-clause-only g c =
     only-then c.loop-write.invariant.only
     (only-then c.deliver_all-delivered.ensures.only
-    (only-wrote c.deliver_all-delivered.new.session c.write_output.new.session
+    (only-wrote c.deliver_all-delivered.new.session.state c.write_output.new.session.state
     c.write_output.ensures.output))
 
 pub returns-then-left-eq0-clause-only : goal.returns-then-left-eq0-clause-only
 returns-then-left-eq0-clause-only g c =
     only-then c.loop-write.invariant.only
     (only-then c.deliver_all-delivered.ensures.only
-    (only-wrote c.deliver_all-delivered.new.session c.write_output.new.session
+    (only-wrote c.deliver_all-delivered.new.session.state c.write_output.new.session.state
     c.write_output.ensures.output))
 
 pub returns-then-not-wait-clause-only : goal.returns-then-not-wait-clause-only
 returns-then-not-wait-clause-only g c =
     only-then c.loop-write.invariant.only
     (only-then c.deliver_all-delivered.ensures.only
-    (only-wrote c.deliver_all-delivered.new.session c.write_output.new.session
+    (only-wrote c.deliver_all-delivered.new.session.state c.write_output.new.session.state
     c.write_output.ensures.output))
 
 pub returns-then-is_empty-clause-only : goal.returns-then-is_empty-clause-only

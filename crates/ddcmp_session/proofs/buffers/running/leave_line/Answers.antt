@@ -13,8 +13,8 @@ pub returns-in-Err-drain_output-clause-over : goal.returns-in-Err-drain_output-c
 returns-in-Err-drain_output-clause-over g c = λ held.
     over-then (goes-over (c.drain_output.ensures.on held))
     (over-then
-    (line-left c.line_ended-has_room.result c.drain_output.new.session
-    c.line_ended-has_room.new.self (record {
+    (line-left c.line_ended-has_room.result c.drain_output.new.session.state
+    c.line_ended-has_room.new.self.state (record {
       link = c.line_ended-has_room.ensures.link;
       wrote = c.line_ended-has_room.ensures.wrote;
       stays = c.line_ended-has_room.ensures.stays;
@@ -24,8 +24,8 @@ pub returns-clause-over : goal.returns-clause-over
 returns-clause-over g c = λ held.
     over-then (goes-over (c.drain_output.ensures.on held))
     (over-then
-    (line-left c.line_ended-has_room.result c.drain_output.new.session
-    c.line_ended-has_room.new.self (record {
+    (line-left c.line_ended-has_room.result c.drain_output.new.session.state
+    c.line_ended-has_room.new.self.state (record {
       link = c.line_ended-has_room.ensures.link;
       wrote = c.line_ended-has_room.ensures.wrote;
       stays = c.line_ended-has_room.ensures.stays;
@@ -42,8 +42,8 @@ pub returns-in-Err-drain_output-clause-reports : goal.returns-in-Err-drain_outpu
 returns-in-Err-drain_output-clause-reports g c = λ held fault untimed e.
     reports-over
     (over-then (goes-over (c.drain_output.ensures.on held))
-    (line-left c.line_ended-has_room.result c.drain_output.new.session
-    c.line_ended-has_room.new.self (record {
+    (line-left c.line_ended-has_room.result c.drain_output.new.session.state
+    c.line_ended-has_room.new.self.state (record {
       link = c.line_ended-has_room.ensures.link;
       wrote = c.line_ended-has_room.ensures.wrote;
       stays = c.line_ended-has_room.ensures.stays;
@@ -53,15 +53,19 @@ returns-in-Err-drain_output-clause-reports g c = λ held fault untimed e.
 pub returns-clause-left : goal.returns-clause-left
 returns-clause-left g c = λ e.
     ap (λ (x : SessionView). x.has_line) c.drain_errors.ensures.session
-    ∙ same-at (λ x. x.has_line) c.drain_output-2.new.session _ c.drain_output-2.ensures.only.stays
-    ∙ same-at (λ x. x.has_line) c.line_ended-has_room.new.self _ c.line_ended-has_room.ensures.stays
+    ∙ same-at (λ x. x.has_line) c.drain_output-2.new.session.state _
+    c.drain_output-2.ensures.only.stays
+    ∙ same-at (λ x. x.has_line) c.line_ended-has_room.new.self.state _
+    c.line_ended-has_room.ensures.stays
 
 pub returns-clause-counted : goal.returns-clause-counted
 returns-clause-counted g c = λ e.
     ap (λ (x : SessionView). x.course) c.drain_errors.ensures.session
-    ∙ counted-once c.args.session.now c.drain_output.new.session c.line_ended-has_room.new.self
-    c.drain_output-2.new.session c.drain_output.ensures.only
-    (same-at (λ x. x.course) c.line_ended-has_room.new.self _ c.line_ended-has_room.ensures.stays)
+    ∙ counted-once c.args.session.now.state c.drain_output.new.session.state
+    c.line_ended-has_room.new.self.state
+    c.drain_output-2.new.session.state c.drain_output.ensures.only
+    (same-at (λ x. x.course) c.line_ended-has_room.new.self.state _
+    c.line_ended-has_room.ensures.stays)
     c.drain_output-2.ensures.only
 
 pub returns-clause-ready : goal.returns-clause-ready

@@ -1,43 +1,59 @@
-use Rattle.std.proofs.Common.{arith, subst, sym, ◌+◌}
+use Rattle.std.proofs.Common.{◌≡◌, ◌+◌, ap, arith, refl, subst, sym}
 use Rattle.ddcmp_session.specs.contracts.session.Session as session
 use Rattle.ddcmp_session.proofs.DropLaws.{Dropped, all-dropped, drops-none, drops-part}
+use Rattle.ddcmp_session.proofs.LogLaws.{reads-on}
+use Rattle.ddcmp_session.specs.Logged.{LoggedSession}
 use Rattle.ddcmp_session.proofs.session.Session.drop_bytes.Goals as goal
 
 pub loop-part-init : goal.loop-part-init
-loop-part-init c = drops-none c.args.bytes.now c.args.self.now
+loop-part-init c = (drops-none c.args.bytes.now c.args.self.now.state, refl)
 
 pub loop-part-preserved : goal.loop-part-preserved
-loop-part-preserved c =
-    subst
-    (λ n. Dropped c.args.bytes.now c.args.self.now (c.loop-part._part + 1)
-    (c.loop-part.at + c.push-pushed.result.used) (c.loop-part.lost + n) c.drop_entry-lost.new.self)
-    (sym c.drop_entry-lost.ensures.lost)
-    (drops-part c.args.bytes.now c.args.self.now c.loop-part.self
-    (session.the_view c.self.inside) c.loop-part._part c.loop-part.at c.loop-part.lost
-    c.push-pushed.result.used c.push-pushed.result.entry c.push-pushed.new.self
-    c.drop_entry-lost.new.self c.loop-part.invariant c.self.view_is
-    (omega (arith, c.if-at-bytes.false, c.loop-part.invariant.most))
-    c.push-pushed.ensures.used c.push-pushed.ensures.whole c.push-pushed.ensures.entries
-    c.push-pushed.ensures.state c.drop_entry-lost.ensures.stays)
+loop-part-preserved c = (
+  subst
+      (λ n. Dropped c.args.bytes.now c.args.self.now.state (c.loop-part._part + 1)
+      (c.loop-part.at + c.push-pushed.result.used) (c.loop-part.lost + n)
+      c.drop_entry-lost.new.self.state)
+      (sym c.drop_entry-lost.ensures.lost)
+      (drops-part c.args.bytes.now c.args.self.now.state c.loop-part.self.state
+      (session.the_view c.self.inside).state c.loop-part._part c.loop-part.at c.loop-part.lost
+      c.push-pushed.result.used c.push-pushed.result.entry c.push-pushed.new.self
+      c.drop_entry-lost.new.self.state c.loop-part.invariant.0
+      (ap (λ (s : LoggedSession). s.state) c.self.view_is)
+      (omega (arith, c.if-at-bytes.false, c.loop-part.invariant.0.most))
+      c.push-pushed.ensures.used c.push-pushed.ensures.whole c.push-pushed.ensures.entries
+      c.push-pushed.ensures.state c.drop_entry-lost.ensures.stays),
+  reads-on c.args.self.now.log c.loop-part.self.log c.drop_entry-lost.new.self.log
+      c.loop-part.invariant.1
+      (subst
+      (λ (s : LoggedSession). c.drop_entry-lost.new.self.log ≡ record s.log {
+        errors = c.drop_entry-lost.new.self.log.errors;
+        read = c.drop_entry-lost.new.self.log.read;
+      }) c.self.view_is c.drop_entry-lost.ensures.log),
+)
 
 pub returns-after-loop-part-clause-lost : goal.returns-after-loop-part-clause-lost
 returns-after-loop-part-clause-lost c =
-    (all-dropped c.args.bytes.now c.args.self.now c.loop-part.self c.loop-part._part c.loop-part.at
-    c.loop-part.lost c.loop-part.invariant
-    (omega (arith, c.loop-part-test.false, c.loop-part.invariant.parts))).0
+    (all-dropped c.args.bytes.now c.args.self.now.state c.loop-part.self.state c.loop-part._part
+    c.loop-part.at
+    c.loop-part.lost c.loop-part.invariant.0
+    (omega (arith, c.loop-part-test.false, c.loop-part.invariant.0.parts))).0
 
 pub returns-after-loop-part-clause-messages : goal.returns-after-loop-part-clause-messages
 returns-after-loop-part-clause-messages c =
-    (all-dropped c.args.bytes.now c.args.self.now c.loop-part.self c.loop-part._part c.loop-part.at
-    c.loop-part.lost c.loop-part.invariant
-    (omega (arith, c.loop-part-test.false, c.loop-part.invariant.parts))).1
+    (all-dropped c.args.bytes.now c.args.self.now.state c.loop-part.self.state c.loop-part._part
+    c.loop-part.at
+    c.loop-part.lost c.loop-part.invariant.0
+    (omega (arith, c.loop-part-test.false, c.loop-part.invariant.0.parts))).1
 
 pub returns-then-at-bytes-clause-lost : goal.returns-then-at-bytes-clause-lost
 returns-then-at-bytes-clause-lost c =
-    (all-dropped c.args.bytes.now c.args.self.now c.loop-part.self c.loop-part._part c.loop-part.at
-    c.loop-part.lost c.loop-part.invariant (omega (arith, c.if-at-bytes.true))).0
+    (all-dropped c.args.bytes.now c.args.self.now.state c.loop-part.self.state c.loop-part._part
+    c.loop-part.at
+    c.loop-part.lost c.loop-part.invariant.0 (omega (arith, c.if-at-bytes.true))).0
 
 pub returns-then-at-bytes-clause-messages : goal.returns-then-at-bytes-clause-messages
 returns-then-at-bytes-clause-messages c =
-    (all-dropped c.args.bytes.now c.args.self.now c.loop-part.self c.loop-part._part c.loop-part.at
-    c.loop-part.lost c.loop-part.invariant (omega (arith, c.if-at-bytes.true))).1
+    (all-dropped c.args.bytes.now c.args.self.now.state c.loop-part.self.state c.loop-part._part
+    c.loop-part.at
+    c.loop-part.lost c.loop-part.invariant.0 (omega (arith, c.if-at-bytes.true))).1

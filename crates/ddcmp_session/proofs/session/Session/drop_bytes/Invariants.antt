@@ -1,5 +1,9 @@
+use Rattle.std.proofs.Common.{◌≡◌}
 use Rattle.ddcmp_session.proofs.DropLaws.{Dropped}
 use Rattle.ddcmp_session.proofs.session.Session.drop_bytes.Given as goal
 
 abbrev pub invariant-loop-part : goal.invariant-loop-part
-invariant-loop-part l = Dropped l.bytes l.initial.self l._part l.at l.lost l.self
+invariant-loop-part l =
+    Dropped l.bytes l.initial.self.state l._part l.at l.lost l.self.state
+    × (l.self.log
+    ≡ record l.initial.self.log { errors = l.self.log.errors; read = l.self.log.read })

@@ -1,0 +1,142 @@
+-- Lines for standard error.
+use Rattle.std.specs.Prelude.{◌≡◌, ℕ, ◌+◌, ◌*◌, ◌-◌, ◌^◌, ◌==◌, ◌&&◌, not, Bool, true, false}
+use Rattle.std.specs.Prelude.{MatchBool, nat_le, min, pos, if◌then◌else◌, List, [], ◌++◌, length}
+use Rattle.std.specs.Prelude.{Option, Some, None, codes, decimal}
+use Rattle.jiff_core.specs.declared.civil.datetime.DateTime.{DateTime}
+use Rattle.jiff_core.specs.DateTime.{civil_nanos}
+use Rattle.jiff_fmt.specs.Text.{datetime_text}
+use Rattle.ddcmp_io.specs.Queue.{QueueView, no_bytes, room_settled, after_taken}
+use Rattle.ddcmp_io.specs.Written.{HandsOver}
+use Rattle.ddcmp_session.specs.EndText.{queued}
+use Rattle.ddcmp_session.specs.declared.errors.TheConstants.{NOTE}
+
+-- The lines that wait, how many were left out since the last that found room, how many milliseconds
+-- after 1970 the moment 0 is if lines begin with the time of day, and the moment of those to come.
+pub record ErrorsView : Type 0 where
+  pub queue : QueueView
+  pub left_out : ℕ
+  pub began : Option ℕ
+  pub now : ℕ
+
+abbrev pub no_lines : ℕ → ErrorsView
+no_lines size = record { queue = no_bytes size; left_out = 0; began = None; now = 0 }
+
+-- ---- the time of day
+
+-- that in UTC, so many milliseconds after 1970: 2001-09-09T01:46:40.250Z
+abbrev pub IsTime : ℕ → List ℕ → Type 0
+IsTime moment text =
+    (at : DateTime) × (civil_nanos at ≡ pos (moment * 1_000_000))
+    × (text ≡ datetime_text false 84 (Some 3) at ++ codes "Z")
+
+-- the last moment that has a time of day, in the year 9999
+abbrev pub last_time : ℕ
+last_time = 253_402_207_200_999
+
+-- the time of day between two texts, or nothing at a moment that has none
+abbrev pub StampsAt : List ℕ → List ℕ → ℕ → List ℕ → Type 0
+StampsAt before after moment stamp =
+    MatchBool (nat_le moment last_time)
+    ((time : List ℕ) × IsTime moment time × (stamp ≡ before ++ time ++ after)) (stamp ≡ [])
+
+-- the same if lines begin with it
+abbrev pub Stamps : List ℕ → List ℕ → Option ℕ → ℕ → List ℕ → Type 0
+Stamps before after None now stamp = stamp ≡ []
+Stamps before after (Some began) now stamp = StampsAt before after (began + now) stamp
+
+-- ---- lines that were left out
+
+abbrev pub left_out_words : ℕ → List ℕ
+left_out_words n = if n == 1 then codes " line left out\n" else codes " lines left out\n"
+
+abbrev pub left_out_text : ℕ → List ℕ
+left_out_text n = codes "ddcmp: " ++ decimal n ++ left_out_words n
+
+-- how many there are after one more
+abbrev pub one_more : ℕ → ℕ
+one_more n = min (n + 1) (2 ^ 64 - 1)
+
+-- their line, if there are any
+abbrev pub Notes : ErrorsView → List ℕ → Type 0
+Notes e note =
+    MatchBool (e.left_out == 0) (note ≡ [])
+    ((stamp : List ℕ) × Stamps [] (codes " ") e.began e.now stamp
+    × (note ≡ stamp ++ left_out_text e.left_out))
+
+-- ---- lines that are queued
+
+-- Room is made, by dropping what was taken.
+abbrev pub settled : QueueView → QueueView
+settled q = record q { room = room_settled q }
+
+-- a line of so many bytes has room, with a note before it
+abbrev pub has_room : ℕ → ErrorsView → Bool
+has_room needed e = nat_le (needed + NOTE) (room_settled e.queue)
+
+-- A line found no room.
+abbrev pub LeftOut : ErrorsView → ErrorsView → Type 0
+LeftOut old new =
+    new ≡ record old { queue = settled old.queue; left_out = one_more old.left_out }
+
+-- A text was queued, all of it, or the queue is cut and has a beginning of it; nothing else changed.
+pub record Queues (text : List ℕ) (old new : ErrorsView) : Type 0 where
+  pub wrote : HandsOver (queued old.queue) (queued new.queue) text
+  pub stays : new ≡ record old { queue = new.queue }
+
+-- Lines that were left out were reported, if there were any.
+pub record HasNoted (old new : ErrorsView) : Type 0 where
+  pub note : List ℕ
+  pub noted : Notes old note
+  pub wrote : HandsOver (queued old.queue) (queued new.queue) note
+  pub stays : new ≡ record old { queue = new.queue; left_out = 0 }
+
+-- A text was queued after what has to be before it: the line of those that were left out, and the
+-- time of day.
+pub record QueuedAs (opening before after text : List ℕ) (old new : ErrorsView) : Type 0 where
+  pub note : List ℕ
+  pub noted : Notes old note
+  pub stamp : List ℕ
+  pub stamped : Stamps before after old.began old.now stamp
+  pub wrote : HandsOver (queued old.queue) (queued new.queue) (note ++ opening ++ stamp ++ text)
+  pub stays : new ≡ record old { queue = new.queue; left_out = 0 }
+
+-- as a line of text, or as a JSON object
+abbrev pub HasQueued : List ℕ → ErrorsView → ErrorsView → Type 0
+HasQueued text old new = QueuedAs [] [] (codes " ") text old new
+
+abbrev pub HasQueuedObject : List ℕ → ErrorsView → ErrorsView → Type 0
+HasQueuedObject text old new =
+    QueuedAs (codes "{") (codes "\"time\":\"") (codes "\",") text old new
+
+-- A text that needs so much room was queued if it has that.
+abbrev pub HasLine : ℕ → List ℕ → ErrorsView → ErrorsView → Type 0
+HasLine needed text old new =
+    MatchBool (has_room needed old) (HasQueued text old new) (LeftOut old new)
+
+abbrev pub HasObject : ℕ → List ℕ → ErrorsView → ErrorsView → Type 0
+HasObject needed text old new =
+    MatchBool (has_room needed old) (HasQueuedObject text old new) (LeftOut old new)
+
+-- a part of the input is no message
+abbrev pub refused_text : List ℕ → ℕ → List ℕ → List ℕ
+refused_text part number why =
+    codes "ddcmp: " ++ part ++ decimal number ++ codes ": " ++ why ++ codes "\n"
+
+-- ---- lines that were written
+
+-- Lines were left out, and a note of that has room.
+abbrev pub reports_left_out : ErrorsView → Bool
+reports_left_out e = not (e.left_out == 0) && nat_le NOTE e.queue.room
+
+abbrev pub ReportsLeftOut : ErrorsView → ErrorsView → Type 0
+ReportsLeftOut old new = MatchBool (reports_left_out old) (HasNoted old new) (new ≡ old)
+
+abbrev pub after_written : ℕ → ErrorsView → ErrorsView
+after_written n e =
+    record e { queue = after_taken (min n (length e.queue.waiting)) e.queue }
+
+-- Bytes were written; once all are, lines that were left out are reported.
+abbrev pub Took : ℕ → ErrorsView → ErrorsView → Type 0
+Took n old new =
+    MatchBool (nat_le (length old.queue.waiting) n) (ReportsLeftOut (after_written n old) new)
+    (new ≡ after_written n old)

@@ -1,0 +1,250 @@
+-- A trace of a line.
+use Rattle.std.specs.Prelude.{◌≡◌, ℕ, ◌+◌, ◌-◌, ◌*◌, ◌^◌, ◌<◌, ◌≤◌, ◌==◌, ◌||◌, nat_le, min, Bool}
+use Rattle.std.specs.Prelude.{not, List, [], ◌∷◌, ◌++◌, length, take, drop, codes, decimal}
+use Rattle.std.specs.Prelude.{if◌then◌else◌, Option, Some, None, IfSome}
+use Rattle.std.specs.List.{list_any, position_from}
+use Rattle.std.specs.Option.{option_map}
+use Rattle.ddcmp_frame.specs.declared.codes.TheConstants.{SYN}
+use Rattle.ddcmp_frame.specs.declared.header.ControlType.{ControlType}
+use Rattle.ddcmp_frame.specs.declared.header.ControlType.TheVariants.{Ack, Nak, Rep, Strt, Stack}
+use Rattle.ddcmp_frame.specs.declared.header.Header.{Header}
+use Rattle.ddcmp_frame.specs.declared.header.Header.TheVariants.{Data, Maint, Control}
+use Rattle.ddcmp_frame.specs.declared.item.Item.{Item}
+use Rattle.ddcmp_frame.specs.declared.item.Item.TheVariants.{Good, HeaderCheck, DataCheck, TooLong}
+use Rattle.ddcmp_frame.specs.declared.item.Item.TheVariants.{Format}
+use Rattle.ddcmp_frame.specs.declared.nak.Nak.{Nak as Reason}
+use Rattle.ddcmp_frame.specs.Naks.{reason_of}
+use Rattle.ddcmp_frame.specs.Reader.{ReaderView, StandsFor, items_given}
+use Rattle.ddcmp_frame.specs.Reading.{ReadItem, ending, items}
+use Rattle.ddcmp_frame.specs.Step.{item_offset}
+use Rattle.ddcmp_explain.specs.declared.skipped.Reached.{Reached}
+use Rattle.ddcmp_explain.specs.declared.skipped.Skipped.{Skipped}
+use Rattle.ddcmp_explain.specs.declared.notation.Notation.TheVariants.{Plain}
+use Rattle.ddcmp_explain.specs.Discarded.{behind, passed_text, taken_by}
+use Rattle.ddcmp_explain.specs.Json.{reason_in_words}
+use Rattle.ddcmp_explain.specs.Text.{data_text, item_text}
+use Rattle.ddcmp_session.specs.declared.errors.TheConstants.{LAST_ROOM}
+use Rattle.ddcmp_session.specs.declared.skipped.Completed.{Completed}
+use Rattle.ddcmp_session.specs.declared.skipped.TheConstants.{DEL}
+use Rattle.ddcmp_session.specs.declared.trace.TheConstants.{NOTE}
+use Rattle.ddcmp_session.specs.declared.trace.Way.{Way}
+use Rattle.ddcmp_session.specs.declared.trace.Way.TheVariants.{ToLine, FromLine}
+use Rattle.ddcmp_session.specs.Errors.{ErrorsView, HasLine}
+
+-- What was heard of one way: how far its frames are read; the last item, or where the bytes end
+-- that were reported since; and where the first of those after it is that is no fill.
+pub record HeardView : Type 0 where
+  pub frames : ReaderView
+  pub reached : Reached
+  pub junk : Option ℕ
+
+-- How much room is left to other lines, what was heard of each way, and the moment.
+pub record TraceView : Type 0 where
+  pub spared : ℕ
+  pub sent : HeardView
+  pub came : HeardView
+  pub now : ℕ
+
+-- ---- what was discarded
+
+-- SYN and DEL fill the line between frames
+abbrev pub is_fill : ℕ → Bool
+is_fill b = (b == SYN) || (b == DEL)
+
+abbrev pub is_junk : ℕ → Bool
+is_junk b = not (is_fill b)
+
+-- the bytes of a text from an offset up to another, if they are reported: not if there are none,
+-- and not if all are fill
+abbrev pub skipped_between : List ℕ → ℕ → ℕ → Option Skipped
+skipped_between text from to =
+    if list_any is_junk (take (to - from) (drop from text))
+    then Some (record { from = from; count = to - from })
+    else None
+
+-- the same, if they are this many
+abbrev pub skipped_at_least : ℕ → List ℕ → ℕ → ℕ → Option Skipped
+skipped_at_least least text from to =
+    if nat_le least (to - from) then skipped_between text from to else None
+
+-- the offset of the first byte of a text, from an offset on, that is no fill
+abbrev pub first_junk : List ℕ → ℕ → Option ℕ
+first_junk text from = position_from is_junk from (drop from text)
+
+-- ---- what was heard of one way
+
+-- A text went this way, of which all up to `from` is reported.
+pub record HasHeard (text : List ℕ) (from : ℕ) (at : HeardView) : Type 0 where
+  pub stands : StandsFor at.frames text
+  pub reached : at.reached.offset + at.reached.taken ≡ from
+  pub junk : at.junk ≡ first_junk text from
+
+-- a damaged header is skipped from its start byte on
+abbrev pub junk_of : Item → Option ℕ
+junk_of item = if taken_by item == 0 then Some (item_offset item) else None
+
+-- an item is reported with all of its bytes
+abbrev pub from_after : ℕ → Option Completed → ℕ
+from_after from None = from
+from_after from (Some completed) = behind completed.item
+
+-- One more byte is heard: the item that it completes, and what was discarded before that.
+pub record Hears (old : HeardView) (byte : ℕ) (given : Option Completed) (new : HeardView)
+    : Type 0 where
+  pub max : new.frames.max ≡ old.frames.max
+  pub counted : new.frames.offset ≡ old.frames.offset + 1
+  pub heard : (text : List ℕ) (from : ℕ) → HasHeard text from old
+      → HasHeard (text ++ byte ∷ []) (from_after from given) new
+  pub item : (text : List ℕ) (from : ℕ) → HasHeard text from old
+      → items old.frames.max (text ++ byte ∷ [])
+      ≡ items old.frames.max text ++ items_given (option_map (λ c. c.item) given) new.frames.lent
+  pub discarded : (text : List ℕ) (from : ℕ) → HasHeard text from old
+      → IfSome given (λ c. c.discarded
+      ≡ skipped_between (text ++ byte ∷ []) from (item_offset c.item))
+
+-- What of it was discarded is reported up to an offset.
+abbrev pub from_discarded : ℕ → ℕ → Option Skipped → ℕ
+from_discarded from to None = from
+from_discarded from to (Some skipped) = to
+
+-- What was discarded after the last item, up to where the frame begins that is unfinished, is
+-- reported if it is this many bytes.
+pub record Discards (old : HeardView) (least : ℕ) (given : Option Skipped) (new : HeardView)
+    : Type 0 where
+  pub frames : new.frames ≡ old.frames
+  pub is : (text : List ℕ) (from : ℕ) → HasHeard text from old
+      → given ≡ skipped_at_least least text from (ending old.frames.max text).offset
+  pub heard : (text : List ℕ) (from : ℕ) → HasHeard text from old
+      → HasHeard text (from_discarded from (ending old.frames.max text).offset given) new
+
+-- a byte whose offset has no room in 64 bits isn't heard
+abbrev pub TakesByte : HeardView → ℕ → Option Completed → HeardView → Type 0
+TakesByte old byte given new =
+    (old.frames.offset < 2 ^ 64 - 2 → Hears old byte given new)
+    × (2 ^ 64 - 2 ≤ old.frames.offset → (given ≡ None) × (new ≡ old))
+
+-- ---- lines
+
+abbrev pub mark_of : Way → List ℕ
+mark_of ToLine = codes " > "
+mark_of FromLine = codes " < "
+
+-- why a NAK was sent
+abbrev pub reason_by : ControlType → ℕ → Option Reason
+reason_by Nak sub = Some (reason_of sub)
+reason_by Ack sub = None
+reason_by Rep sub = None
+reason_by Strt sub = None
+reason_by Stack sub = None
+
+abbrev pub reason_in : Item → Option Reason
+reason_in (Good offset (Control h)) = reason_by h.kind h.sub
+reason_in (Good offset (Data h)) = None
+reason_in (Good offset (Maint h)) = None
+reason_in (HeaderCheck offset) = None
+reason_in (DataCheck offset h) = None
+reason_in (TooLong offset h) = None
+reason_in (Format offset fault) = None
+
+abbrev pub reason_text : Option Reason → List ℕ
+reason_text None = []
+reason_text (Some reason) = codes " (" ++ reason_in_words reason ++ codes ")"
+
+-- the moment and the way are before each line
+abbrev pub front_of : ℕ → Way → List ℕ
+front_of now way = decimal now ++ mark_of way
+
+-- an item with the data that it lends
+abbrev pub item_line : ℕ → Way → ReadItem → List ℕ
+item_line now way given =
+    front_of now way ++ item_text given.0 ++ data_text given.0 given.1
+    ++ reason_text (reason_in given.0) ++ codes "\n"
+
+-- discarded bytes
+abbrev pub skipped_line : ℕ → Way → Skipped → List ℕ
+skipped_line now way it = front_of now way ++ passed_text Plain it.from it.count
+
+abbrev pub timer_line : ℕ → List ℕ
+timer_line now = decimal now ++ codes " timer\n"
+
+-- at most what 64 bits hold
+abbrev pub capped : ℕ → ℕ
+capped n = min n (2 ^ 64 - 1)
+
+-- each with the room that it needs
+abbrev pub skipped_lines : ℕ → Way → Option Skipped → List (ℕ × List ℕ)
+skipped_lines now way None = []
+skipped_lines now way (Some it) = (NOTE, skipped_line now way it) ∷ []
+
+abbrev pub completed_lines : ℕ → Way → Option Completed → List ℕ → List (ℕ × List ℕ)
+completed_lines now way None lent = []
+completed_lines now way (Some it) lent =
+    skipped_lines now way it.discarded
+    ++ (capped (2 * length lent + NOTE), item_line now way (it.item, lent)) ∷ []
+
+abbrev pub timer_lines : ℕ → Bool → List (ℕ × List ℕ)
+timer_lines now has_expired = if has_expired then (NOTE, timer_line now) ∷ [] else []
+
+-- room is left to other lines
+abbrev pub room_beside : ℕ → ℕ → ℕ
+room_beside spared needed = capped (capped (spared + needed) + LAST_ROOM)
+
+-- Lines were queued one after another, each if it had room.
+abbrev pub HasLines : ℕ → List (ℕ × List ℕ) → ErrorsView → ErrorsView → Type 0
+HasLines spared [] old new = new ≡ old
+HasLines spared (line ∷ later) old new =
+    (mid : ErrorsView) × HasLine (room_beside spared line.0) line.1 old mid
+    × HasLines spared later mid new
+
+-- ---- a trace
+
+abbrev pub heard_of : Way → TraceView → HeardView
+heard_of ToLine t = t.sent
+heard_of FromLine t = t.came
+
+abbrev pub with_heard : Way → HeardView → TraceView → TraceView
+with_heard ToLine heard t = record t { sent = heard }
+with_heard FromLine heard t = record t { came = heard }
+
+-- A byte went this way: the lines of what it completed were queued.
+pub record TellsByte (way : Way) (byte : ℕ) (old new : TraceView) (before after : ErrorsView)
+    : Type 0 where
+  pub given : Option Completed
+  pub takes : TakesByte (heard_of way old) byte given (heard_of way new)
+  pub lines : HasLines old.spared
+      (completed_lines old.now way given (heard_of way new).frames.lent) before after
+  pub stays : new ≡ with_heard way (heard_of way new) old
+
+-- The line of what was discarded after the last item was queued, if it is this many bytes.
+pub record TellsDiscarded (way : Way) (least : ℕ) (old new : TraceView) (before after : ErrorsView)
+    : Type 0 where
+  pub given : Option Skipped
+  pub discards : Discards (heard_of way old) least given (heard_of way new)
+  pub lines : HasLines old.spared (skipped_lines old.now way given) before after
+  pub stays : new ≡ with_heard way (heard_of way new) old
+
+-- Bytes went this way, one after another; after them 256 bytes that were discarded are reported
+-- without an item.
+abbrev pub Tells : Way → List ℕ → TraceView → TraceView → ErrorsView → ErrorsView → Type 0
+Tells way [] old new before after = TellsDiscarded way 256 old new before after
+Tells way (byte ∷ later) old new before after =
+    (mid : TraceView) × (between : ErrorsView) × TellsByte way byte old mid before between
+    × Tells way later mid new between after
+
+-- All that was discarded at the end of a line was reported.
+abbrev pub TellsEnd : TraceView → TraceView → ErrorsView → ErrorsView → Type 0
+TellsEnd old new before after =
+    (mid : TraceView) × (between : ErrorsView) × TellsDiscarded ToLine 1 old mid before between
+    × TellsDiscarded FromLine 1 mid new between after
+
+-- Nothing was heard yet of another line, of frames of at most this many bytes of data.
+abbrev pub IsNew : ℕ → HeardView → Type 0
+IsNew most heard = HasHeard [] 0 heard × (heard.frames.max ≡ most)
+
+-- The line ended, and another begins.
+pub record BeginsAnew (old new : TraceView) (before after : ErrorsView) : Type 0 where
+  pub last : TraceView
+  pub ended : TellsEnd old last before after
+  pub sent : IsNew last.sent.frames.max new.sent
+  pub came : IsNew last.came.frames.max new.came
+  pub stays : new ≡ record last { sent = new.sent; came = new.came }
