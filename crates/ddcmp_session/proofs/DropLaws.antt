@@ -30,12 +30,12 @@ among-one (Some entry) = omega arith
 
 -- ---- an input in two parts
 
-read-more : (xs ys : List ℕ) (m : Messages)
+pub read-more : (xs ys : List ℕ) (m : Messages)
     → after_input (xs ++ ys) m ≡ after_input ys (after_input xs m)
 read-more xs ys (Digits v) = ap (λ x. Digits x) (line_laws.after_more xs ys v)
 read-more xs ys (Binary v) = ap (λ x. Binary x) (length_laws.after_more xs ys v)
 
-entries-more : (xs ys : List ℕ) (m : Messages)
+pub entries-more : (xs ys : List ℕ) (m : Messages)
     → entries_of_input (xs ++ ys) m
     ≡ entries_of_input xs m ++ entries_of_input ys (after_input xs m)
 entries-more xs ys (Digits v) = line_laws.entries_of_more xs ys v

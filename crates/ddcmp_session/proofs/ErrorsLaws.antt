@@ -17,7 +17,7 @@ use Rattle.ddcmp_io.proofs.WrittenLaws.{sends-then}
 use Rattle.ddcmp_io.proofs.TextLaws.{sends-as, sends-nothing}
 use Rattle.ddcmp_session.specs.EndText.{queued, paged}
 use Rattle.ddcmp_session.specs.Errors.{ErrorsView, Queues, HasNoted, QueuedAs, Stamps, LeftOut}
-use Rattle.ddcmp_session.specs.Errors.{has_room, settled, ReportsLeftOut, IsTime, last_time, Notes}
+use Rattle.ddcmp_session.specs.Errors.{settled, ReportsLeftOut, IsTime, last_time}
 use Rattle.ddcmp_session.specs.Errors.{left_out_text, reports_left_out}
 use Rattle.ddcmp_session.specs.declared.errors.TheConstants.{NOTE}
 
@@ -43,7 +43,8 @@ through-page a b c first now last text is_new is_flushed sends flushes =
 
 -- a text was written to the queue of lines
 pub queues-into : (inside old : ErrorsView) (q : QueueView) (text : List ℕ) → inside ≡ old
-    → HandsOver (queued inside.queue) (queued q) text → Queues text old (record inside { queue = q })
+    → HandsOver (queued inside.queue) (queued q) text
+    → Queues text old (record inside { queue = q })
 queues-into inside old q text is sends =
     subst (λ e. Queues text e (record inside { queue = q })) is
     (record { wrote = sends; stays = refl })

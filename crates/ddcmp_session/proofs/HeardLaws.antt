@@ -1,5 +1,5 @@
 -- Where the item ends that a byte completes.
-use Rattle.std.proofs.Common.{◌≡◌, ◌⊎◌, inl, inr, ℕ, ◌+◌, ◌<◌, ◌≤◌, Bool, true, false, List, []}
+use Rattle.std.proofs.Common.{◌≡◌, inl, inr, ℕ, ◌+◌, ◌<◌, ◌≤◌, Bool, true, false, List, []}
 use Rattle.std.proofs.Common.{◌∷◌, ◌++◌, length, take, drop, slice_index, refl, sym, ◌∙◌, ap, subst}
 use Rattle.std.proofs.Common.{arith, Option, Some, None, Result, Ok, Err, length-append}
 use Rattle.std.proofs.Common.{length-drop}
@@ -19,7 +19,7 @@ use Rattle.ddcmp_frame.specs.declared.item.Item.TheVariants.{Good, HeaderCheck, 
 use Rattle.ddcmp_frame.specs.declared.item.Item.TheVariants.{Format}
 use Rattle.ddcmp_frame.specs.Reader.{frame_length, Pushes, StandsFor}
 use Rattle.ddcmp_frame.specs.Reading.{ReadItem, Place, row, weight, read, with_more, ending}
-use Rattle.ddcmp_frame.specs.Reading.{by_length, by_count, by_verdict, count_of, is_start, items}
+use Rattle.ddcmp_frame.specs.Reading.{by_length, by_count, count_of, is_start, items}
 use Rattle.ddcmp_frame.specs.Reading.{open_at_end}
 use Rattle.ddcmp_frame.specs.Reading.{is_data_right, place_after, data_after_header}
 use Rattle.ddcmp_frame.specs.Spelling.{parsed}
@@ -28,7 +28,7 @@ use Rattle.ddcmp_frame.proofs.RowsLaws as rows
 use Rattle.ddcmp_frame.proofs.ReadingLaws.{Row, Counts, Waits, row-falls, row-by, row-stuck}
 use Rattle.ddcmp_frame.proofs.ReadingLaws.{row-empty, row-skips, row-waits, read-none, read-some}
 use Rattle.ddcmp_frame.proofs.ReadingLaws.{ending-stuck, ending-offset, ending-suffix, items-more}
-use Rattle.ddcmp_frame.proofs.Tests.{chosen, some-inj, none-some, some-none, ltb-is, ltb-isnt}
+use Rattle.ddcmp_frame.proofs.Tests.{some-inj, none-some, some-none, ltb-is}
 use Rattle.ddcmp_frame.proofs.Tests.{ltb-less, ltb-not, eqb-true, eqb-false}
 use Rattle.ddcmp_explain.specs.declared.skipped.Skipped.{Skipped}
 use Rattle.ddcmp_explain.specs.Discarded.{behind, taken_by}
@@ -139,9 +139,11 @@ module _ (max : ℕ) (q : Place) (start : is_start (slice_index q.rest 0) ≡ tr
       → Ends q item
   too-long h n some l size is twice =
       turns (TooLong q.offset h)
-      (gives ((TooLong q.offset h, []) ∷ [], record q { told = true }) (TooLong q.offset h) [] is refl
+      (gives ((TooLong q.offset h, []) ∷ [], record q { told = true }) (TooLong q.offset h) [] is
+      refl
       (ap (λ o. o.items)
-      (read-none max (record q { told = true }) (twice ∙ rw (ltb-is (length q.rest) (n + 10) l) refl))))
+      (read-none max (record q { told = true })
+      (twice ∙ rw (ltb-is (length q.rest) (n + 10) l) refl))))
       (ends q (TooLong q.offset h) refl start some (λ t. omega (arith, size, l)))
 
   skipped-frame : (h : Header) (n : ℕ) → length q.rest ≤ n + 10
@@ -235,11 +237,13 @@ of-eight max q start item lent e eight = go (parsed (take 8 q.rest)) refl
     none n lost l = rest-few max q start item lent e n lost (omega (arith, eight, l))
 
     checked : (lost : Bool) → q.lost ≡ lost
-        → row max q ≡ Some ((if q.lost then [] else (HeaderCheck q.offset, []) ∷ []), place_after 1 true q)
+        → row max q
+        ≡ Some ((if q.lost then [] else (HeaderCheck q.offset, []) ∷ []), place_after 1 true q)
         → Ends q item
     checked true l is =
         absurd (gives-none max q start item lent e
-        ((if q.lost then [] else (HeaderCheck q.offset, []) ∷ []), place_after 1 true q) is (rw l refl)
+        ((if q.lost then [] else (HeaderCheck q.offset, []) ∷ []), place_after 1 true q) is
+        (rw l refl)
         (none 1 true (omega arith)))
     checked false l is =
         turns max q start item lent e (HeaderCheck q.offset)
@@ -372,7 +376,8 @@ junk-completed max text b item h = go (taken_by item == 0) refl
     total : q.offset + length q.rest ≡ length (text ++ b ∷ [])
     total = omega (arith, all, length-append p.rest (b ∷ []), length-append text (b ∷ []))
 
-    go : (t : Bool) → (taken_by item == 0) ≡ t → junk_of item ≡ first_junk (text ++ b ∷ []) (behind item)
+    go : (t : Bool) → (taken_by item == 0) ≡ t
+        → junk_of item ≡ first_junk (text ++ b ∷ []) (behind item)
     go true t =
         let none : behind item ≡ q.offset = omega (arith, h.at, eqb-true _ _ t) in
         rw t (ap Some h.at ∙ sym (first-start q.offset q.rest h.some h.start)
@@ -410,7 +415,8 @@ hears old noted pushed new byte item discarded nf nr nj p pr pj ff fr fj skipped
   max = ap (λ f. f.max) ff ∙ p.max ∙ ap (λ f. f.max) nf;
   counted = ap (λ f. f.offset) ff ∙ p.counted ∙ ap (λ f. f.offset + 1) nf;
   heard = λ text from h. record {
-    stands = subst (λ f. StandsFor f (text ++ byte ∷ [])) (sym ff) (p.stands text (stood text from h));
+    stands =
+        subst (λ f. StandsFor f (text ++ byte ∷ [])) (sym ff) (p.stands text (stood text from h));
     reached = fr;
     junk = fj ∙ junk-completed noted.frames.max text byte item (ended text from h);
   };
@@ -451,11 +457,13 @@ leb-is a b h = grind (arith, nat_tests)
 leb-isnt : (a b : ℕ) → b < a → nat_le a b ≡ false
 leb-isnt a b h = grind (arith, nat_tests)
 
-skipped-count : (text : List ℕ) (from to : ℕ) (it : Skipped) → Some it ≡ skipped_between text from to
+skipped-count : (text : List ℕ) (from to : ℕ) (it : Skipped)
+    → Some it ≡ skipped_between text from to
     → it.count ≡ to - from
 skipped-count text from to it e = go (list_any is_junk (take (to - from) (drop from text))) e
   where
-    go : (t : Bool) → Some it ≡ (if t then Some (record { from = from; count = to - from }) else None)
+    go : (t : Bool)
+        → Some it ≡ (if t then Some (record { from = from; count = to - from }) else None)
         → it.count ≡ to - from
     go true e = ap (λ s. s.count) (some-inj e)
     go false e = absurd (some-none e)
@@ -481,53 +489,57 @@ least-some least text from to it e l =
     e ∙ sym (rw (leb-is least (to - from) (omega (arith, skipped-count text from to it e, l))) refl)
 
 module _ (old : HeardView) (least end unfinished : ℕ)
-    (opens : (text : List ℕ) → StandsFor old.frames text → unfinished ≡ open_at_end old.frames.max text)
+    (opens : (text : List ℕ) → StandsFor old.frames text
+    → unfinished ≡ open_at_end old.frames.max text)
     (count : old.frames.offset - unfinished ≡ end)
-    where
-  ends-at : (text : List ℕ) → StandsFor old.frames text → end ≡ (ending old.frames.max text).offset
-  ends-at text h =
-      omega (arith, count, opens text h, h.offset, ending-offset old.frames.max text)
+  where
+    ends-at : (text : List ℕ) → StandsFor old.frames text
+        → end ≡ (ending old.frames.max text).offset
+    ends-at text h =
+        omega (arith, count, opens text h, h.offset, ending-offset old.frames.max text)
 
-  nothing-is : (given : Option Skipped) → given ≡ None
-      → ((text : List ℕ) (from : ℕ) → HasHeard text from old
-      → None ≡ skipped_at_least least text from end) → Discards old least given old
-  nothing-is given none is = record {
-    frames = refl;
-    is = λ text from h.
-        none ∙ is text from h
-        ∙ ap (skipped_at_least least text from) (ends-at text h.stands);
-    heard = λ text from h.
-        subst (λ g. HasHeard text (from_discarded from (ending old.frames.max text).offset g) old)
-        (sym none) h;
-  }
+    nothing-is : (given : Option Skipped) → given ≡ None
+        → ((text : List ℕ) (from : ℕ) → HasHeard text from old
+        → None ≡ skipped_at_least least text from end) → Discards old least given old
+    nothing-is given none is = record {
+      frames = refl;
+      is = λ text from h.
+          none ∙ is text from h
+          ∙ ap (skipped_at_least least text from) (ends-at text h.stands);
+      heard = λ text from h.
+          subst (λ g. HasHeard text (from_discarded from (ending old.frames.max text).offset g) old)
+          (sym none) h;
+    }
 
-  pub discards-none : ((text : List ℕ) (from : ℕ) → HasHeard text from old
-      → None ≡ skipped_between text from end) → Discards old least None old
-  discards-none skipped =
-      nothing-is None refl (λ text from h. least-none least text from end (skipped text from h))
+    pub discards-none : ((text : List ℕ) (from : ℕ) → HasHeard text from old
+        → None ≡ skipped_between text from end) → Discards old least None old
+    discards-none skipped =
+        nothing-is None refl (λ text from h. least-none least text from end (skipped text from h))
 
-  pub discards-few : (it : Skipped) → ((text : List ℕ) (from : ℕ) → HasHeard text from old
-      → Some it ≡ skipped_between text from end) → it.count < least → Discards old least None old
-  discards-few it skipped l =
-      nothing-is None refl (λ text from h. least-short least text from end it (skipped text from h) l)
+    pub discards-few : (it : Skipped) → ((text : List ℕ) (from : ℕ) → HasHeard text from old
+        → Some it ≡ skipped_between text from end) → it.count < least → Discards old least None old
+    discards-few it skipped l =
+        nothing-is None refl
+        (λ text from h. least-short least text from end it (skipped text from h) l)
 
-  pub discards-some : (it : Skipped) (new : HeardView)
-      → ((text : List ℕ) (from : ℕ) → HasHeard text from old
-      → Some it ≡ skipped_between text from end) → least ≤ it.count
-      → new.frames ≡ old.frames → new.reached.offset + new.reached.taken ≡ end
-      → new.junk ≡ then_some (nat_lt 0 unfinished) end → Discards old least (Some it) new
-  discards-some it new skipped l nf nr nj = record {
-    frames = nf;
-    is = λ text from h.
-        least-some least text from end it (skipped text from h) l
-        ∙ ap (skipped_at_least least text from) (ends-at text h.stands);
-    heard = λ text from h. record {
-      stands = subst (λ f. StandsFor f text) (sym nf) h.stands;
-      reached = nr ∙ ends-at text h.stands;
-      junk =
-          nj ∙ then-is (nat_lt 0 unfinished) end ∙ ap (λ n. if nat_lt 0 n then Some end else None) (opens text h.stands)
-          ∙ ap (λ n. if nat_lt 0 (open_at_end old.frames.max text) then Some n else None)
-          (ends-at text h.stands)
-          ∙ sym (junk-open old.frames.max text);
-    };
-  }
+    pub discards-some : (it : Skipped) (new : HeardView)
+        → ((text : List ℕ) (from : ℕ) → HasHeard text from old
+        → Some it ≡ skipped_between text from end) → least ≤ it.count
+        → new.frames ≡ old.frames → new.reached.offset + new.reached.taken ≡ end
+        → new.junk ≡ then_some (nat_lt 0 unfinished) end → Discards old least (Some it) new
+    discards-some it new skipped l nf nr nj = record {
+      frames = nf;
+      is = λ text from h.
+          least-some least text from end it (skipped text from h) l
+          ∙ ap (skipped_at_least least text from) (ends-at text h.stands);
+      heard = λ text from h. record {
+        stands = subst (λ f. StandsFor f text) (sym nf) h.stands;
+        reached = nr ∙ ends-at text h.stands;
+        junk =
+            nj ∙ then-is (nat_lt 0 unfinished) end
+            ∙ ap (λ n. if nat_lt 0 n then Some end else None) (opens text h.stands)
+            ∙ ap (λ n. if nat_lt 0 (open_at_end old.frames.max text) then Some n else None)
+            (ends-at text h.stands)
+            ∙ sym (junk-open old.frames.max text);
+      };
+    }

@@ -1,6 +1,6 @@
 -- The first byte of a text that is no fill, and what is reported by it.
 use Rattle.std.proofs.Common.{◌≡◌, ℕ, zero, suc, ◌+◌, ◌-◌, ◌<◌, ◌≤◌, Bool, true, false, List, []}
-use Rattle.std.proofs.Common.{◌∷◌, ◌++◌, length, take, drop, refl, sym, ◌∙◌, ap, subst, arith}
+use Rattle.std.proofs.Common.{◌∷◌, ◌++◌, length, take, drop, refl, sym, ◌∙◌, ap, arith}
 use Rattle.std.proofs.Common.{Option, Some, None, length-append, length-drop}
 use Rattle.std.specs.Prelude.{nat_lt, not, if◌then◌else◌}
 use Rattle.std.specs.List.{list_any, position_from}
@@ -70,7 +70,8 @@ found-more p i b (x ∷ t) = go (found-more p (i + 1) b t) (p x) refl
     go rest false is =
         rw is (rest ∙ ap (or_at (position_from p (i + 1) t) (p b)) (omega arith))
 
-before-first : (text : List ℕ) (from to : ℕ) → to < from → is_before (first_junk text from) to ≡ false
+before-first : (text : List ℕ) (from to : ℕ) → to < from
+    → is_before (first_junk text from) to ≡ false
 before-first text from to l = go (first_junk text from) refl
   where
     go : (o : Option ℕ) → first_junk text from ≡ o → is_before o to ≡ false
@@ -81,10 +82,12 @@ before-first text from to l = go (first_junk text from) refl
 -- there is a byte that is no fill if the first one is before the end
 any-skipped : (text : List ℕ) (from to : ℕ) → list_any is_junk (take (to - from) (drop from text))
     ≡ is_before (first_junk text from) to
-any-skipped text from to = any-taken is_junk from (to - from) (drop from text) ∙ go (nat_lt to from) refl
+any-skipped text from to =
+    any-taken is_junk from (to - from) (drop from text) ∙ go (nat_lt to from) refl
   where
     go : (b : Bool) → nat_lt to from ≡ b
-        → is_before (first_junk text from) (from + (to - from)) ≡ is_before (first_junk text from) to
+        → is_before (first_junk text from) (from + (to - from))
+        ≡ is_before (first_junk text from) to
     go true l =
         ap (is_before (first_junk text from)) (omega (arith, ltb-less _ _ l))
         ∙ not-before is_junk from (drop from text)
@@ -128,13 +131,15 @@ passed-by from to (Some it) e l = one (e ∙ passed-is from to l)
         let a : it.from ≡ from = cc in let b : it.count ≡ to - from = cc in
         λ i. Some (record { from = a i; count = b i })
 
-pub skipped-there : (text : List ℕ) (from to j : ℕ) (r : Option Skipped) → first_junk text from ≡ Some j
+pub skipped-there : (text : List ℕ) (from to j : ℕ) (r : Option Skipped)
+    → first_junk text from ≡ Some j
     → j < to → skipped_parts r ≡ passed from to → r ≡ skipped_between text from to
 skipped-there text from to j r e l p =
     passed-by from to r p (omega (arith, found-after is_junk from j (drop from text) e, l))
     ∙ sym (skipped-by text from to (Some j) e ∙ rw (ltb-is j to l) refl)
 
-pub passed-some : (from to : ℕ) (it : Skipped) → skipped_parts (Some it) ≡ passed from to → from < to
+pub passed-some : (from to : ℕ) (it : Skipped) → skipped_parts (Some it) ≡ passed from to
+    → from < to
 passed-some from to it e = go (nat_lt from to) refl
   where
     go : (b : Bool) → nat_lt from to ≡ b → from < to

@@ -2,6 +2,7 @@ pub mod CourseLaws
 pub mod DeliverLaws
 pub mod DrainLaws
 pub mod DropLaws
+pub mod DropReportLaws
 pub mod ErrorsLaws
 pub mod Finished
 pub mod FrameLaws
@@ -10,9 +11,11 @@ pub mod InputGoes
 pub mod HeardLaws
 pub mod JunkLaws
 pub mod LineGoes
+pub mod LineLogLaws
 pub mod LinesGo
 pub mod InputLaws
 pub mod LogLaws
+pub mod LoggedLaws
 pub mod NewRunLaws
 pub mod NoticeLaws
 pub mod RestLaws

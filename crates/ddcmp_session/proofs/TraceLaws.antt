@@ -1,5 +1,5 @@
 -- The lines of a trace, one after another, and the reason at the end of one.
-use Rattle.std.proofs.Common.{◌≡◌, ℕ, ◌+◌, ◌-◌, ◌≤◌, Bool, true, false, List, [], ◌∷◌, ◌++◌, length}
+use Rattle.std.proofs.Common.{◌≡◌, ℕ, ◌-◌, Bool, true, false, List, [], ◌∷◌, ◌++◌, length}
 use Rattle.std.proofs.Common.{take, take_all, refl, sym, ◌∙◌, ap, subst, arith, Option, Some, None}
 use Rattle.std.proofs.Common.{append_assoc, length-append, codes}
 use Rattle.std.specs.Io.KnownBytes.{Appends}
@@ -111,7 +111,8 @@ cut-back first old new text other p cut e = record {
     part false start before h = (
       length before,
       subst (Appends start (Some first.waiting))
-          (sym (append-nil h.0) ∙ sym h.2 ∙ sym (take_all (length before) before (omega arith))) h.1,
+          (sym (append-nil h.0) ∙ sym h.2 ∙ sym (take_all (length before) before (omega arith)))
+          h.1,
     )
     part true start before h = h
 

@@ -27,7 +27,7 @@ use Rattle.ddcmp_session.specs.Timing.{PassesTime}
 -- many frames it put, how many bytes a device took, the moment that it was passed, whether it
 -- delivered a message, or what was left of its input, and whether that is its end. `TimePassed` is
 -- what is called while there is no line. Of the other calls `write_end` appends the last lines of a
--- run to an output of lines; they change nothing else of a session's view.
+-- run to an output of lines; they change nothing else of a session's state.
 pub data SessionCall : Type 0 where
   Typed : (used : List ℕ) → SessionCall
   InputEnded : SessionCall

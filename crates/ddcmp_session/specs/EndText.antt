@@ -1,8 +1,5 @@
--- The last lines of a session's run, and what else its lines say of its link.
-use Rattle.std.specs.Prelude.{Bool, if◌then◌else◌, List, [], ◌++◌, ℕ, codes, decimal}
-use Rattle.std.specs.Prelude.{Option, Some, None}
-use Rattle.ddcmp_explain.specs.Json.{reason_in_words}
-use Rattle.ddcmp_frame.specs.declared.nak.Nak.{Nak}
+-- The last lines of a session's run.
+use Rattle.std.specs.Prelude.{Bool, if◌then◌else◌, List, [], ◌++◌, ℕ, codes, decimal, Some}
 use Rattle.std.specs.declared.io.ErrorKind.TheVariants as kind
 use Rattle.ddcmp_io.specs.Causes.{cause_words}
 use Rattle.ddcmp_session.specs.declared.devices.Down.{Down}
@@ -30,18 +27,6 @@ end_line d = totals_text d ++ codes "\n"
 abbrev pub end_text : Bool → LinkView → List ℕ
 end_text counted d =
     if counted then counters_line [] d.station.core.counters ++ end_line d else end_line d
-
--- all that a link has counted, in one line
-abbrev pub report_text : ℕ → LinkView → List ℕ
-report_text lost d =
-    codes "report " ++ totals_text d ++ (codes " lost=" ++ decimal lost)
-    ++ counters_line (codes " ") d.station.core.counters
-
--- why a line is left on which nothing gets on
-abbrev pub given_up_text : Option Nak → List ℕ
-given_up_text None = codes "ddcmp: peer doesn't answer\n"
-given_up_text (Some reason) =
-    codes "ddcmp: peer refuses: " ++ reason_in_words reason ++ codes "\n"
 
 -- a queue as what a text is handed over to, by way of a page
 abbrev pub paged : QueueView → List ℕ → Output

@@ -1,13 +1,17 @@
 -- Lines for standard error.
-use Rattle.std.specs.Prelude.{◌≡◌, ℕ, ◌+◌, ◌*◌, ◌-◌, ◌^◌, ◌==◌, ◌&&◌, not, Bool, true, false}
+use Rattle.std.specs.Prelude.{◌≡◌, ℕ, ◌+◌, ◌*◌, ◌-◌, ◌^◌, ◌==◌, ◌&&◌, not, Bool, false}
 use Rattle.std.specs.Prelude.{MatchBool, nat_le, min, pos, if◌then◌else◌, List, [], ◌++◌, length}
 use Rattle.std.specs.Prelude.{Option, Some, None, codes, decimal}
 use Rattle.jiff_core.specs.declared.civil.datetime.DateTime.{DateTime}
 use Rattle.jiff_core.specs.DateTime.{civil_nanos}
 use Rattle.jiff_fmt.specs.Text.{datetime_text}
+use Rattle.ddcmp_explain.specs.Json.{reason_in_words}
+use Rattle.ddcmp_frame.specs.declared.nak.Nak.{Nak}
 use Rattle.ddcmp_io.specs.Queue.{QueueView, no_bytes, room_settled, after_taken}
 use Rattle.ddcmp_io.specs.Written.{HandsOver}
-use Rattle.ddcmp_session.specs.EndText.{queued}
+use Rattle.ddcmp_station.specs.CountersText.{counters_line}
+use Rattle.ddcmp_station.specs.Linking.{LinkView}
+use Rattle.ddcmp_session.specs.EndText.{queued, totals_text}
 use Rattle.ddcmp_session.specs.declared.errors.TheConstants.{NOTE}
 
 -- The lines that wait, how many were left out since the last that found room, how many milliseconds
@@ -78,7 +82,7 @@ abbrev pub LeftOut : ErrorsView → ErrorsView → Type 0
 LeftOut old new =
     new ≡ record old { queue = settled old.queue; left_out = one_more old.left_out }
 
--- A text was queued, all of it, or the queue is cut and has a beginning of it; nothing else changed.
+-- A text was queued, whole, or the queue is cut and has a beginning of it. Nothing else changed.
 pub record Queues (text : List ℕ) (old new : ErrorsView) : Type 0 where
   pub wrote : HandsOver (queued old.queue) (queued new.queue) text
   pub stays : new ≡ record old { queue = new.queue }
@@ -121,6 +125,18 @@ HasObject needed text old new =
 abbrev pub refused_text : List ℕ → ℕ → List ℕ → List ℕ
 refused_text part number why =
     codes "ddcmp: " ++ part ++ decimal number ++ codes ": " ++ why ++ codes "\n"
+
+-- all that a link has counted, in one line
+abbrev pub report_text : ℕ → LinkView → List ℕ
+report_text lost d =
+    codes "report " ++ totals_text d ++ (codes " lost=" ++ decimal lost)
+    ++ counters_line (codes " ") d.station.core.counters
+
+-- why a line is left on which nothing gets on
+abbrev pub given_up_text : Option Nak → List ℕ
+given_up_text None = codes "ddcmp: peer doesn't answer\n"
+given_up_text (Some reason) =
+    codes "ddcmp: peer refuses: " ++ reason_in_words reason ++ codes "\n"
 
 -- ---- lines that were written
 

@@ -10,6 +10,7 @@ pub mod Lines
 pub mod Logged
 pub mod Messages
 pub mod NewRun
+pub mod Reported
 pub mod Session
 pub mod Stopping
 pub mod Text

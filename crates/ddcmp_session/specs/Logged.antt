@@ -1,15 +1,26 @@
--- A session with all that it has for standard error.
-use Rattle.std.specs.Prelude.{ℕ, Bool, Option, if◌then◌else◌, List, [], ◌∷◌}
-use Rattle.std.specs.Prelude.{option_to_list}
+-- A session with all that it has for standard error, and what each call puts there.
+use Rattle.std.specs.Prelude.{◌≡◌, ℕ, ◌+◌, ◌*◌, ◌==◌, Bool, true, false, MatchBool, if◌then◌else◌}
+use Rattle.std.specs.Prelude.{Option, None, Some, List, [], ◌∷◌, ◌++◌, option_to_list, codes}
+use Rattle.ddcmp_core.specs.declared.notice.Notice.{Notice}
 use Rattle.ddcmp_input.specs.declared.entry.Entry.{Entry}
 use Rattle.ddcmp_input.specs.declared.entry.Entry.TheVariants.{NotHexadecimal}
-use Rattle.ddcmp_station.specs.Linking.{total_plus}
+use Rattle.ddcmp_station.specs.CountersText.{counters_line}
+use Rattle.ddcmp_station.specs.Linking.{LinkView, after_wake, total_plus}
+use Rattle.ddcmp_station.specs.StationText.{notice_line}
+use Rattle.ddcmp_session.specs.declared.errors.TheConstants.{LAST_ROOM, SHORT_LINE}
+use Rattle.ddcmp_session.specs.declared.messages.Form.{Form}
+use Rattle.ddcmp_session.specs.declared.messages.Form.TheVariants as form
 use Rattle.ddcmp_session.specs.declared.messages.Messages.{Messages}
+use Rattle.ddcmp_session.specs.declared.text.TheConstants.{END_ROOM}
+use Rattle.ddcmp_session.specs.Course.{after_moment, after_pause, reports_at}
+use Rattle.ddcmp_session.specs.EndText.{end_line}
+use Rattle.ddcmp_session.specs.Errors.{ErrorsView, HasLine, HasObject, given_up_text, report_text}
 use Rattle.ddcmp_session.specs.Messages.{after_last, entry_of_last, is_message_unfinished}
 use Rattle.ddcmp_session.specs.Messages.{is_question}
-use Rattle.ddcmp_session.specs.Errors.{ErrorsView}
-use Rattle.ddcmp_session.specs.Session.{SessionView}
-use Rattle.ddcmp_session.specs.Trace.{TraceView}
+use Rattle.ddcmp_session.specs.Session.{SessionView, after_tried, expires, report_ms}
+use Rattle.ddcmp_session.specs.Text.{dropped_by, lost_line}
+use Rattle.ddcmp_session.specs.Timing.{is_given_up}
+use Rattle.ddcmp_session.specs.Trace.{TraceView, HasLines, timer_lines}
 
 -- The lines that wait, the trace of its line if there is one, how many messages of its input were
 -- read, and whether its reports are JSON objects.
@@ -43,3 +54,86 @@ read_unfinished m n = if is_message_unfinished m then total_plus n 1 else n
 abbrev pub read_at_end : Messages → ℕ → ℕ
 read_at_end m n = read_unfinished (after_last m)
     (read_after (option_to_list (entry_of_last m)) (after_last m) n)
+
+-- ---- what is put on standard error
+
+-- A trace went on so, and put its lines there; nothing, if there is none.
+abbrev pub Traces : (TraceView → TraceView → ErrorsView → ErrorsView → Type 0) → Option TraceView
+    → LogView → LogView → Type 0
+Traces goes None old new = new ≡ old
+Traces goes (Some before) old new =
+    (after : TraceView) × goes before after old.errors new.errors
+    × (new ≡ record old { errors = new.errors; trace = Some after })
+
+-- the moment is this, and the timer has expired, or not
+abbrev pub Wakes : ℕ → Bool → TraceView → TraceView → ErrorsView → ErrorsView → Type 0
+Wakes now has_expired before after old new =
+    (after ≡ record before { now = now })
+    × HasLines before.spared (timer_lines now has_expired) old new
+
+-- all that a link has counted, as a line or as an object
+abbrev pub HasReport : Bool → ℕ → LinkView → ErrorsView → ErrorsView → Type 0
+HasReport false lost d old new = HasLine (END_ROOM + LAST_ROOM) (report_text lost d) old new
+HasReport true lost d old new =
+    (members : List ℕ) × HasObject (2 * END_ROOM + LAST_ROOM)
+    (codes "\"event\":\"report\"" ++ members ++ codes "}\n") old new
+
+-- how many accepted messages were dropped, if any, with messages in binary; else standard output
+-- has it
+abbrev pub HasLost : Form → ℕ → ErrorsView → ErrorsView → Type 0
+HasLost form.Digits count old new = new ≡ old
+HasLost form.Binary count old new =
+    MatchBool (count == 0) (new ≡ old) (HasLine SHORT_LINE (lost_line count) old new)
+
+-- a notice, and what it drops
+abbrev pub HasNotice : Form → Notice → ErrorsView → ErrorsView → Type 0
+HasNotice form.Digits notice old new = new ≡ old
+HasNotice form.Binary notice old new =
+    (mid : ErrorsView) × HasLine SHORT_LINE (notice_line [] notice) old mid
+    × HasLost form.Binary (dropped_by notice) mid new
+
+abbrev pub HasNotices : Form → List Notice → ErrorsView → ErrorsView → Type 0
+HasNotices by [] old new = new ≡ old
+HasNotices by (notice ∷ later) old new =
+    (mid : ErrorsView) × HasNotice by notice old mid × HasNotices by later mid new
+
+-- the last lines of a run, with messages in binary
+abbrev pub HasCounters : Bool → LinkView → ErrorsView → ErrorsView → Type 0
+HasCounters counted d old new =
+    MatchBool counted (HasLine END_ROOM (counters_line [] d.station.core.counters) old new)
+    (new ≡ old)
+
+abbrev pub HasEnd : Bool → LinkView → ErrorsView → ErrorsView → Type 0
+HasEnd counted d old new =
+    (mid : ErrorsView) × HasCounters counted d old mid × HasLine END_ROOM (end_line d) mid new
+
+-- the moment passed, and a report of the counters, if one was due
+abbrev pub at_moment : ℕ → ErrorsView → ErrorsView
+at_moment now e = record e { now = now }
+
+abbrev pub PassesMoment : ℕ → SessionView → LogView → ErrorsView → Type 0
+PassesMoment now s old new =
+    MatchBool (reports_at (report_ms s.options) now s.course)
+    (HasReport old.as_objects s.course.lost s.link (at_moment now old.errors) new)
+    (new ≡ at_moment now old.errors)
+
+-- why its line is left, if it is since the peer doesn't answer, or refuses
+abbrev pub ReportsGivenUp : SessionView → ErrorsView → ErrorsView → Type 0
+ReportsGivenUp s old new =
+    MatchBool (is_given_up s) (HasLine SHORT_LINE (given_up_text s.course.refusal) old new)
+    (new ≡ old)
+
+-- a session once an expiry was counted
+abbrev pub tried : ℕ → SessionView → SessionView
+tried now s = after_tried (expires now s) (record s {
+  link = after_wake now s.link;
+  course = after_pause (after_moment (report_ms s.options) now s.course);
+})
+
+-- All timers were handled at this moment.
+pub record HandlesTimeout (now : ℕ) (s : SessionView) (old new : LogView) : Type 0 where
+  pub passed : ErrorsView
+  pub moment : PassesMoment now s old passed
+  pub left : ErrorsView
+  pub given_up : ReportsGivenUp (tried now s) passed left
+  pub traced : Traces (Wakes now (expires now s)) old.trace (record old { errors = left }) new

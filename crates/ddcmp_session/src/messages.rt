@@ -4,6 +4,7 @@ ghost use Rattle.std.specs.Prelude.{option_to_list};
 ghost use Rattle.ddcmp_session.specs.Messages.{messages_begun, message_in, after_input};
 ghost use Rattle.ddcmp_session.specs.Messages.{entries_of_input, is_message_unfinished};
 ghost use Rattle.ddcmp_session.specs.Messages.{after_last, entry_of_last, is_question};
+ghost use Rattle.ddcmp_session.specs.Reported.{line_number};
 
 use ddcmp_input::{Entry, HexLines, Lengths, Pushed};
 use std::alloc::{AllocError, Global};
@@ -102,7 +103,9 @@ impl Messages {
     }
 
     /// Returns the number of the line of the input that was read last, from 1; none in binary.
-    pub(crate) fn line_number(&self) -> Option<u64> {
+    pub(crate) fn line_number(&self) -> Option<u64>
+        ensures { result ≡ line_number self.now }
+    {
         match self {
             Messages::Digits(lines) => Some(lines.number()),
             Messages::Binary(_lengths) => None,

@@ -1,8 +1,8 @@
 //! Reports of what a link has counted, while it runs.
 ghost use Rattle.std.specs.Prelude.{◌≡◌, ◌+◌, ◌*◌, ◌++◌, List, ℕ, true, false, codes};
 ghost use Rattle.ddcmp_io.specs.Written.{HandsOver};
-ghost use Rattle.ddcmp_session.specs.EndText.{queued, paged, report_text};
-ghost use Rattle.ddcmp_session.specs.Errors.{HasLine, HasObject};
+ghost use Rattle.ddcmp_session.specs.EndText.{queued, paged};
+ghost use Rattle.ddcmp_session.specs.Errors.{HasLine, HasObject, report_text};
 ghost use Rattle.ddcmp_session.specs.declared.errors.TheConstants.{LAST_ROOM};
 ghost use Rattle.ddcmp_session.specs.declared.text.TheConstants.{END_ROOM};
 

@@ -1,5 +1,6 @@
 //! A link with its messages as text, without a device.
-ghost use Rattle.std.specs.Prelude.{◌≡◌, ◌⊎◌, Err, IsOk};
+ghost use Rattle.std.specs.Prelude.{◌≡◌, ◌⊎◌, Err, IfOk, IsOk};
+ghost use Rattle.ddcmp_session.specs.Reported.{TracesIfAsked};
 
 mod closing;
 mod input;
@@ -124,7 +125,8 @@ impl Drop for Session {
 
 /// Makes the trace that is asked for, if one is.
 fn trace_of(alloc: Global, options: &Options) -> Result<Option<Trace>, ConfigRefusal>
-    ensures { IsOk result ⊎ (result ≡ Err ConfigRefusal.Memory) }
+    ensures made { IfOk result (λ trace. TracesIfAsked options.now trace) }
+    ensures only { IsOk result ⊎ (result ≡ Err ConfigRefusal.Memory) }
 {
     if !options.trace {
         return Ok(None);
@@ -143,6 +145,7 @@ impl Session {
     ghost use Rattle.std.specs.Prelude.{◌≡◌, ◌⊎◌, [], IfOk, IsOk, None, Some, Err};
     ghost use Rattle.ddcmp_frame.specs.Reader.{StandsFor};
     ghost use Rattle.ddcmp_proto.specs.Config.{first_refusal};
+    ghost use Rattle.ddcmp_session.specs.Reported.{TracesIfAsked, log_made};
     ghost use Rattle.ddcmp_session.specs.Session.{session_made};
 
     /// Makes a session that has no line yet. It takes all the memory that it will need.
@@ -150,6 +153,8 @@ impl Session {
         ensures made { IfOk result (λ s. s.state
             ≡ session_made options kind s.state.link.station.line) }
         ensures stands { IfOk result (λ s. StandsFor s.state.link.station.line []) }
+        ensures log { IfOk result (λ s. s.log ≡ log_made options s.log.trace) }
+        ensures traced { IfOk result (λ s. TracesIfAsked options s.log.trace) }
 
         // The first size that is out of range is refused; if none is, only an allocation failure.
         ensures refused { (refusal : ConfigRefusal) → first_refusal options.config ≡ Some refusal

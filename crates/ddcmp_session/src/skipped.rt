@@ -66,7 +66,8 @@ impl Drop for Heard {
 impl Heard {
     /// Nothing, of frames of at most this many bytes of data.
     pub(crate) fn new(alloc: Global, max: u16) -> Result<Heard, ReaderRefusal>
-        ensures makes { MakesReader max (result_map_both (λ h. h.frames) (λ refusal. refusal) result) }
+        ensures makes { MakesReader max
+            (result_map_both (λ h. h.frames) (λ refusal. refusal) result) }
         ensures heard { IfOk result (λ h. HasHeard [] 0 h) }
     {
         match Reader::new(alloc, max) {

@@ -2,8 +2,8 @@
 ghost use Rattle.std.specs.Prelude.{◌≡◌, ◌+◌, ◌*◌, ◌<◌, ◌≤◌, [], ◌++◌, length, decimal};
 ghost use Rattle.hex.specs.Hex.{encode_lower};
 ghost use Rattle.ddcmp_io.specs.Written.{HandsOver, output_of};
-ghost use Rattle.ddcmp_session.specs.EndText.{totals_text, end_line, end_text, report_text};
-ghost use Rattle.ddcmp_session.specs.EndText.{given_up_text, queued, paged};
+ghost use Rattle.ddcmp_session.specs.EndText.{totals_text, end_line, end_text, queued, paged};
+ghost use Rattle.ddcmp_session.specs.Errors.{given_up_text, report_text};
 ghost use Rattle.ddcmp_session.specs.Text.{Puts, mail_text, lost_line};
 ghost use Rattle.ddcmp_station.specs.CountersText.{counters_line};
 ghost use Rattle.ddcmp_station.specs.StationText.{notice_line, number_text};
@@ -13,7 +13,9 @@ use ddcmp_explain::reason_name;
 use ddcmp_frame::Nak;
 use ddcmp_io::text::write_number;
 use ddcmp_io::{ByteQueue, Page, Sink};
-use ddcmp_station::{Link, Notice, notice_name, notice_number, state_name, write_counters};
+use ddcmp_station::{
+    Link, Notice, notice_name, notice_number, state_name, write_counters, write_notice,
+};
 use itoa::Buffer;
 
 /// The most bytes of the line of a notice.
@@ -122,6 +124,26 @@ pub(crate) fn write_lost(out: &mut ByteQueue, lost: u8)
     put(out, b"lost ");
     put_number(out, Some(lost));
     put(out, b"\n");
+}
+
+/// Writes the line of a notice to standard error.
+pub(crate) fn report_notice(out: &mut ByteQueue, notice: Notice)
+    ensures { HandsOver (queued out.old) (queued out.new) (notice_line [] notice) }
+{
+    let mut page = Page::new();
+    write_notice(&mut page, out, b"", notice);
+    let _is_whole = page.flush(out);
+}
+
+/// Writes to standard error how many accepted messages were dropped.
+pub(crate) fn report_lost(out: &mut ByteQueue, lost: u8)
+    ensures { HandsOver (queued out.old) (queued out.new) (lost_line lost) }
+{
+    let mut page = Page::new();
+    page.write(out, b"lost ");
+    write_number(&mut page, out, lost);
+    page.write(out, b"\n");
+    let _is_whole = page.flush(out);
 }
 
 /// Writes why a line is left on which nothing gets on: the peer refuses messages for this reason,

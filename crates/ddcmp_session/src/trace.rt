@@ -7,10 +7,11 @@ ghost use Rattle.ddcmp_io.specs.Queue.{QueueView};
 ghost use Rattle.ddcmp_io.specs.Written.{HandsOver};
 ghost use Rattle.ddcmp_session.specs.EndText.{queued};
 ghost use Rattle.ddcmp_session.specs.Errors.{HasLine, has_room};
-ghost use Rattle.ddcmp_session.specs.Trace.{BeginsAnew, Discards, HasLines, IsNew, TakesByte, Tells};
-ghost use Rattle.ddcmp_session.specs.Trace.{TellsByte, TellsDiscarded, TellsEnd, front_of, heard_of};
-ghost use Rattle.ddcmp_session.specs.Trace.{capped, item_line, mark_of, reason_in as reason_of};
-ghost use Rattle.ddcmp_session.specs.Trace.{reason_text, room_beside, skipped_line, skipped_lines};
+ghost use Rattle.ddcmp_session.specs.Trace.{BeginsAnew, Discards, HasLines, IsNew, TakesByte};
+ghost use Rattle.ddcmp_session.specs.Trace.{Tells, TellsByte, TellsDiscarded, TellsEnd, front_of};
+ghost use Rattle.ddcmp_session.specs.Trace.{capped, heard_of, item_line, mark_of};
+ghost use Rattle.ddcmp_session.specs.Trace.{reason_in as reason_of, reason_text, room_beside};
+ghost use Rattle.ddcmp_session.specs.Trace.{skipped_line, skipped_lines};
 ghost use Rattle.ddcmp_session.specs.Trace.{timer_line, timer_lines, with_heard};
 
 use crate::errors::{Errors, LAST_ROOM};

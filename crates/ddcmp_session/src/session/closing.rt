@@ -4,14 +4,19 @@ use crate::session::Session;
 use crate::text;
 
 impl Session {
-    ghost use Rattle.std.specs.Prelude.{◌≡◌, true, false};
+    ghost use Rattle.std.specs.Prelude.{◌≡◌, true, false, []};
     ghost use Rattle.ddcmp_io.specs.Written.{HandsOver};
     ghost use Rattle.ddcmp_core.specs.Table.{after_halt};
+    ghost use Rattle.ddcmp_station.specs.CountersText.{counters_line};
     ghost use Rattle.ddcmp_station.specs.Linking.{with_state};
     ghost use Rattle.ddcmp_session.specs.Course.{lost_more};
     ghost use Rattle.ddcmp_session.specs.Session.{form_of, lost_among, lost_at_end, lost_by_end};
     ghost use Rattle.ddcmp_session.specs.Session.{reports_loss};
-    ghost use Rattle.ddcmp_session.specs.EndText.{end_text, queued};
+    ghost use Rattle.ddcmp_session.specs.declared.text.TheConstants.{END_ROOM};
+    ghost use Rattle.ddcmp_session.specs.EndText.{end_line, end_text, queued};
+    ghost use Rattle.ddcmp_session.specs.Errors.{HasLine};
+    ghost use Rattle.ddcmp_session.specs.Logged.{HasEnd, Traces};
+    ghost use Rattle.ddcmp_session.specs.Trace.{TellsEnd};
     ghost use Rattle.ddcmp_session.specs.Text.{Wrote, reported_lost};
 
     /// Ends the run: halts the station. What was read of the input, and what was sent and isn't
@@ -45,6 +50,7 @@ impl Session {
     /// Writes the last lines, once all received messages are delivered.
     pub fn finish(&mut self)
         ensures state { self.new.state ≡ self.old.state }
+        ensures traced { Traces TellsEnd self.old.log.trace self.old.log self.new.log }
         ensures log { self.new.log
             ≡ record self.old.log { errors = self.new.log.errors; trace = self.new.log.trace } }
     {
@@ -65,6 +71,9 @@ impl Session {
             → self.new.state ≡ self.old.state }
         ensures digits { form_of self.old.state.messages ≡ Form.Digits
             → self.new.log ≡ self.old.log }
+        ensures errors { form_of self.old.state.messages ≡ Form.Binary
+            → HasEnd self.old.state.options.counters self.old.state.link
+            self.old.log.errors self.new.log.errors }
         ensures log { self.new.log ≡ record self.old.log { errors = self.new.log.errors } }
     {
         let counters = self.options.counters;
@@ -77,11 +86,36 @@ impl Session {
     /// Writes the last lines to standard error.
     fn report_end(&mut self, counters: bool)
         ensures state { self.new.state ≡ self.old.state }
+        ensures errors { HasEnd counters self.old.state.link
+            self.old.log.errors self.new.log.errors }
         ensures log { self.new.log ≡ record self.old.log { errors = self.new.log.errors } }
     {
-        if counters && self.errors.begin_line(text::END_ROOM) {
+        if counters {
+            self.report_last_counters();
+        }
+        self.report_last_line();
+    }
+
+    /// Writes the counters to standard error.
+    fn report_last_counters(&mut self)
+        ensures state { self.new.state ≡ self.old.state }
+        ensures errors { HasLine END_ROOM
+            (counters_line [] self.old.state.link.station.core.counters)
+            self.old.log.errors self.new.log.errors }
+        ensures log { self.new.log ≡ record self.old.log { errors = self.new.log.errors } }
+    {
+        if self.errors.begin_line(text::END_ROOM) {
             text::write_counters_line(&mut self.errors.queue, &self.link);
         }
+    }
+
+    /// Writes the state and the totals to standard error.
+    fn report_last_line(&mut self)
+        ensures state { self.new.state ≡ self.old.state }
+        ensures errors { HasLine END_ROOM (end_line self.old.state.link)
+            self.old.log.errors self.new.log.errors }
+        ensures log { self.new.log ≡ record self.old.log { errors = self.new.log.errors } }
+    {
         if self.errors.begin_line(text::END_ROOM) {
             text::write_end(&mut self.errors.queue, &self.link, false);
         }

@@ -1,10 +1,15 @@
 //! The input of a session: messages that are sent, and parts that are none.
+ghost use Rattle.std.specs.Prelude.{◌≡◌};
+ghost use Rattle.ddcmp_session.specs.Reported.{reason_text};
+
 use crate::session::Session;
 use ddcmp_input::Entry;
 use ddcmp_station::State;
 
 /// What is wrong with a part of the input that is no message.
-fn reason_of(entry: Entry) -> &'static [u8] {
+fn reason_of(entry: Entry) -> &'static [u8]
+    ensures { result.now ≡ reason_text entry }
+{
     match entry {
         Entry::Message => b"message",
         Entry::NotHexadecimal => b"not hexadecimal",
@@ -23,6 +28,10 @@ impl Session {
     ghost use Rattle.ddcmp_station.specs.Linking.{total_plus};
     ghost use Rattle.ddcmp_session.specs.Messages.{after_input, entries_of_input};
     ghost use Rattle.ddcmp_session.specs.Messages.{count_of};
+    ghost use Rattle.ddcmp_session.specs.Reported.{CutsEach, DropsBytes, DropsEach, DropsInput};
+    ghost use Rattle.ddcmp_session.specs.Reported.{DropsLast, HasRefused, RefusesUnfinished};
+    ghost use Rattle.ddcmp_session.specs.Reported.{ReportsEach, ReportsLast, ReportsTyped};
+    ghost use Rattle.ddcmp_session.specs.Reported.{read_at_last};
     ghost use Rattle.ddcmp_session.specs.Session.{wants_input, after_typed, after_input_end};
     ghost use Rattle.ddcmp_session.specs.Session.{after_entries, after_entry, after_unfinished};
     ghost use Rattle.ddcmp_session.specs.Session.{form_of, takes_in};
@@ -75,6 +84,7 @@ impl Session {
             ≤ 1 }
         ensures none { wants_input self.old.state ≡ false
             → (result ≡ 0) × (self.new ≡ self.old) }
+        ensures errors { ReportsTyped (take result bytes.now) self.old self.new.log.errors }
         ensures read { self.new.log.read
             ≡ read_after (entries_of_input (take result bytes.now) self.old.state.messages)
             (after_input (take result bytes.now) self.old.state.messages) self.old.log.read }
@@ -94,6 +104,8 @@ impl Session {
     pub fn input_ended(&mut self)
         ensures state { self.new.state ≡ after_input_end self.old.state }
         ensures none { wants_input self.old.state ≡ false → self.new ≡ self.old }
+        ensures errors { wants_input self.old.state ≡ true
+            → ReportsLast self.old self.new.log.errors }
         ensures read { wants_input self.old.state ≡ true
             → self.new.log.read ≡ read_at_end self.old.state.messages self.old.log.read }
         ensures log { self.new.log
@@ -111,6 +123,7 @@ impl Session {
     /// Sends the message that an entry is, or reports that it is none.
     fn take_entry(&mut self, entry: Option<Entry>)
         ensures state { self.new.state ≡ after_entries (option_to_list entry) self.old.state }
+        ensures errors { ReportsEach (option_to_list entry) self.old self.new.log.errors }
         ensures read { self.new.log.read
             ≡ read_after (option_to_list entry) self.old.state.messages self.old.log.read }
         ensures log { self.new.log
@@ -149,6 +162,7 @@ impl Session {
           course = lost_more (lost_at_end bytes.now is_at_end self.old.state)
               (lost_more (lost_among bytes.now self.old.state) self.old.state.course);
         } }
+        ensures dropped { DropsInput bytes.now is_at_end self.old self.new.log }
         ensures log { self.new.log
             ≡ record self.old.log { errors = self.new.log.errors; read = self.new.log.read } }
     {
@@ -166,6 +180,7 @@ impl Session {
     /// Takes bytes of the input, and returns how many messages are lost with them.
     fn drop_bytes(&mut self, bytes: &[u8]) -> u64
         ensures lost { result ≡ lost_among bytes.now self.old.state }
+        ensures dropped { DropsBytes bytes.now self.old.state.messages self.old.log self.new.log }
         ensures messages { self.new.state.messages ≡ after_input bytes.now self.old.state.messages }
         ensures stays { self.new.state ≡ record self.old.state {
           messages = self.new.state.messages;
@@ -192,13 +207,15 @@ impl Session {
     /// Returns how many are lost.
     fn drop_last(&mut self, is_at_end: bool) -> u64
         ensures lost { result ≡ lost_with_last is_at_end self.old.state.messages }
+        ensures errors { DropsLast is_at_end self.old.state.messages self.old.log.read
+            self.old.log.errors self.new.log.errors }
         ensures form { form_of self.new.state.messages ≡ form_of self.old.state.messages }
         ensures stays { self.new.state ≡ record self.old.state {
           messages = self.new.state.messages;
           was_refused = self.new.state.was_refused;
         } }
-        ensures read { is_at_end ≡ true
-            → self.new.log.read ≡ read_at_end self.old.state.messages self.old.log.read }
+        ensures read { self.new.log.read
+            ≡ read_at_last is_at_end self.old.state.messages self.old.log.read }
         ensures log { self.new.log
             ≡ record self.old.log { errors = self.new.log.errors; read = self.new.log.read } }
     {
@@ -215,6 +232,8 @@ impl Session {
     /// Reports a last line whose end hasn't come: none is lost.
     fn refuse_cut(&mut self, entry: Option<Entry>) -> u64
         ensures none { result ≡ 0 }
+        ensures errors { CutsEach (option_to_list entry) self.old.state.messages
+            self.old.log.read self.old.log.errors self.new.log.errors }
         ensures stays { self.new.state
             ≡ record self.old.state { was_refused = self.new.state.was_refused } }
         ensures log { self.new.log ≡ record self.old.log { errors = self.new.log.errors } }
@@ -229,6 +248,8 @@ impl Session {
     fn drop_entry(&mut self, entry: Option<Entry>) -> u64
         ensures lost { result ≡ count_of entry }
         ensures few { result ≤ 1 }
+        ensures errors { DropsEach (option_to_list entry) self.old.state.messages
+            self.old.log.read self.old.log.errors self.new.log.errors }
         ensures stays { self.new.state
             ≡ record self.old.state { was_refused = self.new.state.was_refused } }
         ensures read { self.new.log.read
@@ -254,6 +275,8 @@ impl Session {
     /// Reports a message in binary whose end is missing.
     fn refuse_unfinished(&mut self)
         ensures state { self.new.state ≡ after_unfinished self.old.state }
+        ensures errors { RefusesUnfinished self.old.state.messages self.old.log.read
+            self.old.log.errors self.new.log.errors }
         ensures read { self.new.log.read
             ≡ read_unfinished self.old.state.messages self.old.log.read }
         ensures log { self.new.log
@@ -268,6 +291,8 @@ impl Session {
     /// Reports that the part of the input that was read last is no message.
     fn refuse(&mut self, why: &[u8])
         ensures state { self.new.state ≡ record self.old.state { was_refused = true } }
+        ensures errors { HasRefused why.now self.old.state.messages self.old.log.read
+            self.old.log.errors self.new.log.errors }
         ensures log { self.new.log ≡ record self.old.log { errors = self.new.log.errors } }
     {
         self.was_refused = true;

@@ -1,10 +1,23 @@
 //! The line of a session: bytes that are received, and frames that are sent.
-use crate::errors::SHORT_LINE;
+ghost use Rattle.std.specs.Prelude.{[]};
+ghost use Rattle.ddcmp_session.specs.Errors.{HasLine};
+ghost use Rattle.ddcmp_station.specs.StationText.{notice_line};
+
+use crate::errors::{Errors, SHORT_LINE};
 use crate::messages::Form;
 use crate::session::Session;
 use crate::text;
 use crate::trace::Way;
 use ddcmp_station::Notice;
+
+/// Reports a notice on standard error.
+fn put_notice(errors: &mut Errors, notice: Notice)
+    ensures { HasLine SHORT_LINE (notice_line [] notice) errors.old errors.new }
+{
+    if errors.begin_line(SHORT_LINE) {
+        text::report_notice(&mut errors.queue, notice);
+    }
+}
 
 impl Session {
     ghost use Rattle.std.specs.Prelude.{◌≡◌, ◌+◌, ◌<◌, ◌≤◌, ℕ, List, [], ◌++◌, true, false, min};
@@ -18,6 +31,9 @@ impl Session {
     ghost use Rattle.ddcmp_session.specs.Filling.{after_filling, most_datagrams};
     ghost use Rattle.ddcmp_session.specs.Session.{form_of, has_gone, lost_by_end};
     ghost use Rattle.ddcmp_session.specs.Session.{reports_loss, wants_line};
+    ghost use Rattle.ddcmp_session.specs.Errors.{ErrorsView};
+    ghost use Rattle.ddcmp_session.specs.Logged.{HasLost, HasNotice, HasNotices, Traces};
+    ghost use Rattle.ddcmp_session.specs.Trace.{BeginsAnew, Tells};
     ghost use Rattle.ddcmp_session.specs.Course.{after_notice, lost_more};
     ghost use Rattle.ddcmp_session.specs.Session.{IsFilled, after_connected, course_received};
     ghost use Rattle.ddcmp_session.specs.Session.{is_paused, totals_received};
@@ -64,6 +80,11 @@ impl Session {
           course = lost_more (lost_by_end self.old.state) self.old.state.course;
           output = self.new.state.output;
         } }
+        ensures traced { (mid : ErrorsView)
+            × HasLost (form_of self.old.state.messages) (lost_by_end self.old.state)
+            self.old.log.errors mid
+            × Traces BeginsAnew self.old.log.trace (record self.old.log { errors = mid })
+            self.new.log }
         ensures log { self.new.log
             ≡ record self.old.log { errors = self.new.log.errors; trace = self.new.log.trace } }
     {
@@ -88,6 +109,8 @@ impl Session {
           course = lost_more (lost_by_end self.old.state) self.old.state.course;
           output = self.new.state.output;
         } }
+        ensures errors { HasLost (form_of self.old.state.messages) (lost_by_end self.old.state)
+            self.old.log.errors self.new.log.errors }
         ensures log { self.new.log ≡ record self.old.log { errors = self.new.log.errors } }
     {
         let lost = self.lost_by_end();
@@ -127,6 +150,8 @@ impl Session {
 
     /// Logs bytes that came from the line, if there is a trace: each once, before `received`.
     pub fn log_received(&mut self, bytes: &[u8])
+        ensures traced { Traces (Tells Way.FromLine bytes.now) self.old.log.trace
+            self.old.log self.new.log }
         ensures state { self.new.state ≡ self.old.state }
         ensures log { self.new.log
             ≡ record self.old.log { errors = self.new.log.errors; trace = self.new.log.trace } }
@@ -170,6 +195,11 @@ impl Session {
           course = self.new.state.course;
           output = self.new.state.output;
         } }
+        ensures errors { wants_line self.old.state ≡ true → (text : List ℕ)
+            → StandsFor self.old.state.link.station.line text
+            → HasNotices (form_of self.old.state.messages)
+            (notices_of_piece text (take result bytes.now) self.old.state.link.station.core)
+            self.old.log.errors self.new.log.errors }
         ensures log { self.new.log ≡ record self.old.log { errors = self.new.log.errors } }
     {
         if !self.wants_line() {
@@ -194,15 +224,13 @@ impl Session {
           course = self.new.state.course;
           output = self.new.state.output;
         } }
+        ensures errors { HasNotice (form_of self.old.state.messages) notice
+            self.old.log.errors self.new.log.errors }
         ensures log { self.new.log ≡ record self.old.log { errors = self.new.log.errors } }
     {
         match self.options.form {
             Form::Digits => text::write_notice_line(&mut self.output, notice),
-            Form::Binary => {
-                if self.errors.begin_line(SHORT_LINE) {
-                    text::write_notice_line(&mut self.errors.queue, notice);
-                }
-            }
+            Form::Binary => put_notice(&mut self.errors, notice),
         }
         match notice {
             Notice::Restarted(lost) => {
@@ -265,6 +293,8 @@ impl Session {
           link = after_sent
               (min n (length self.old.state.link.outbox.waiting)) self.old.state.link;
         } }
+        ensures traced { Traces (Tells Way.ToLine (take n self.old.state.link.outbox.waiting))
+            self.old.log.trace self.old.log self.new.log }
         ensures log { self.new.log
             ≡ record self.old.log { errors = self.new.log.errors; trace = self.new.log.trace } }
     {

@@ -13,7 +13,9 @@ impl Session {
     ghost use Rattle.ddcmp_window.specs.Store.{first_message};
     ghost use Rattle.ddcmp_io.specs.Queue.{after_pushed, after_taken};
     ghost use Rattle.ddcmp_session.specs.Course.{lost_more};
+    ghost use Rattle.ddcmp_session.specs.Errors.{Took};
     ghost use Rattle.ddcmp_session.specs.Finishing.{HasRoomIfEmpty};
+    ghost use Rattle.ddcmp_session.specs.Logged.{HasLost, HasReport};
     ghost use Rattle.ddcmp_session.specs.Session.{form_of, reports_loss, room_for_mail};
     ghost use Rattle.ddcmp_session.specs.Text.{Wrote, mail_text, reported_lost};
 
@@ -72,13 +74,16 @@ impl Session {
     }
 
     /// Returns what waits for standard error.
-    pub fn to_errors(&self) -> &[u8] {
+    pub fn to_errors(&self) -> &[u8]
+        ensures { result.now ≡ self.now.log.errors.queue.waiting }
+    {
         self.errors.waiting()
     }
 
     /// Takes note that standard error took the first `n` bytes of `to_errors`.
     pub fn errors_took(&mut self, n: usize)
         ensures state { self.new.state ≡ self.old.state }
+        ensures took { Took n self.old.log.errors self.new.log.errors }
         ensures log { self.new.log ≡ record self.old.log { errors = self.new.log.errors } }
     {
         self.errors.took(n);
@@ -110,6 +115,8 @@ impl Session {
     /// Reports all that the link has counted on standard error.
     pub(super) fn report_counters(&mut self)
         ensures state { self.new.state ≡ self.old.state }
+        ensures errors { HasReport self.old.log.as_objects self.old.state.course.lost
+            self.old.state.link self.old.log.errors self.new.log.errors }
         ensures log { self.new.log ≡ record self.old.log { errors = self.new.log.errors } }
     {
         self.reports
@@ -127,6 +134,8 @@ impl Session {
         ensures when { result ≡ reports_loss self.old.state }
         ensures digits { form_of self.old.state.messages ≡ Form.Digits
             → self.new.log ≡ self.old.log }
+        ensures errors { HasLost (form_of self.old.state.messages) lost
+            self.old.log.errors self.new.log.errors }
         ensures log { self.new.log ≡ record self.old.log { errors = self.new.log.errors } }
     {
         self.course.lose(lost as u64);
@@ -139,7 +148,7 @@ impl Session {
             Form::Digits => {}
             Form::Binary => {
                 if self.errors.begin_line(SHORT_LINE) {
-                    text::write_lost(&mut self.errors.queue, lost);
+                    text::report_lost(&mut self.errors.queue, lost);
                 }
             }
         }

@@ -9,8 +9,9 @@ use crate::text;
 use ddcmp_station::State;
 
 impl Session {
-    ghost use Rattle.std.specs.Prelude.{◌≡◌, ◌&&◌, not};
+    ghost use Rattle.std.specs.Prelude.{◌≡◌, ◌&&◌, not, Some, if◌then◌else◌};
     ghost use Rattle.ddcmp_session.specs.Course.{after_opening_failed};
+    ghost use Rattle.ddcmp_session.specs.Logged.{HandlesTimeout, PassesMoment, ReportsGivenUp};
     ghost use Rattle.ddcmp_session.specs.Session.{after_time, after_timeout, after_tried};
     ghost use Rattle.ddcmp_session.specs.Session.{after_unheard, awaits_peer, is_delivered};
     ghost use Rattle.ddcmp_session.specs.Timing.{after_line, end, is_given_up, lingers_until};
@@ -29,7 +30,12 @@ impl Session {
     /// moment 0 is this many milliseconds after 1970.
     pub fn began_at(&mut self, milliseconds: u64)
         ensures state { self.new.state ≡ self.old.state }
-        ensures log { self.new.log ≡ record self.old.log { errors = self.new.log.errors } }
+        ensures log { self.new.log ≡ record self.old.log {
+          errors =
+              if self.old.state.options.clock
+              then record self.old.log.errors { began = Some milliseconds }
+              else self.old.log.errors;
+        } }
     {
         if self.options.clock {
             self.errors.show_time(milliseconds);
@@ -39,6 +45,7 @@ impl Session {
     /// Takes note of the moment, and writes a report if one is due. Call it while there is no line.
     pub fn pass_time(&mut self, now: u64)
         ensures state { self.new.state ≡ after_time now self.old.state }
+        ensures errors { PassesMoment now self.old.state self.old.log self.new.log.errors }
         ensures log { self.new.log ≡ record self.old.log { errors = self.new.log.errors } }
     {
         self.errors.pass_time(now);
@@ -64,6 +71,7 @@ impl Session {
     /// Handles all timers that have expired at this moment.
     pub fn handle_timeout(&mut self, now: u64)
         ensures state { self.new.state ≡ after_timeout now self.old.state }
+        ensures handles { HandlesTimeout now self.old.state self.old.log self.new.log }
         ensures log { self.new.log
             ≡ record self.old.log { errors = self.new.log.errors; trace = self.new.log.trace } }
     {
@@ -173,6 +181,7 @@ impl Session {
     /// Reports why the line is left, if it is since the peer doesn't answer, or refuses.
     fn report_given_up(&mut self)
         ensures state { self.new.state ≡ self.old.state }
+        ensures errors { ReportsGivenUp self.old.state self.old.log.errors self.new.log.errors }
         ensures log { self.new.log ≡ record self.old.log { errors = self.new.log.errors } }
     {
         if !self.is_given_up() {
@@ -226,6 +235,7 @@ impl Session {
           course = after_opening_failed (after_time now self.old.state).course;
         } }
         ensures seconds { result ≡ self.new.state.course.retry_seconds }
+        ensures errors { PassesMoment now self.old.state self.old.log self.new.log.errors }
         ensures log { self.new.log ≡ record self.old.log { errors = self.new.log.errors } }
     {
         self.pass_time(now);
@@ -237,6 +247,7 @@ impl Session {
     pub fn pause_after_line(&mut self, now: u64) -> Option<u64>
         ensures state { self.new.state ≡ after_line (after_time now self.old.state) }
         ensures seconds { result ≡ seconds_after_line (after_time now self.old.state) }
+        ensures errors { PassesMoment now self.old.state self.old.log self.new.log.errors }
         ensures log { self.new.log ≡ record self.old.log { errors = self.new.log.errors } }
     {
         self.pass_time(now);

@@ -18,4 +18,4 @@ returns-clause-line c =
     let s = c.args.session.now.state in
     ap (λ (x : SessionView). x.link.station.line) c.typed.ensures.state
     ∙ entries-line (entries_of_input used s.messages)
-      (record s { messages = after_input used s.messages })
+    (record s { messages = after_input used s.messages })

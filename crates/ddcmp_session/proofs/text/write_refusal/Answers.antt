@@ -1,7 +1,7 @@
 use Rattle.std.proofs.Common.{ap, sym}
 use Rattle.ddcmp_io.proofs.WrittenLaws.{sends-then}
 use Rattle.ddcmp_io.proofs.TextLaws.{sends-as}
-use Rattle.ddcmp_session.specs.EndText.{given_up_text}
+use Rattle.ddcmp_session.specs.Errors.{given_up_text}
 use Rattle.ddcmp_session.proofs.text.write_refusal.Goals as goal
 
 pub returns-in-None : goal.returns-in-None

@@ -1,4 +1,4 @@
-use Rattle.std.proofs.Common.{ap, sym, ◌∙◌, arith}
+use Rattle.std.proofs.Common.{sym, ◌∙◌, arith}
 use Rattle.std.proofs.lemmas.Bool.{leb-true}
 use Rattle.ddcmp_session.proofs.ErrorsLaws.{noted-if, noted-settled}
 use Rattle.ddcmp_session.proofs.errors.Errors.make_room.Goals as goal

@@ -1,4 +1,4 @@
-use Rattle.std.proofs.Common.{◌∙◌, ap, sym, subst, List, ℕ, ◌+◌, ◌++◌, [], Some, Bool, Option, refl}
+use Rattle.std.proofs.Common.{◌∙◌, sym, subst, List, ℕ, ◌+◌, ◌++◌, [], refl}
 use Rattle.std.proofs.Common.{◌≡◌, FitsSigned, to_z, of_z, arith, rules}
 use Rattle.std.proofs.lemmas.Int.{ints}
 use Rattle.std.proofs.lemmas.Bool.{false≢true}

@@ -6,6 +6,7 @@ use Rattle.ddcmp_proto.specs.Bytes.{notices_of_piece}
 use Rattle.ddcmp_session.specs.Logged.{LoggedSession}
 use Rattle.ddcmp_session.specs.Session.{SessionView, course_received, wants_line}
 use Rattle.ddcmp_session.proofs.CourseLaws.{received-none, received-one}
+use Rattle.ddcmp_session.proofs.LineLogLaws.{notices-none, notices-one}
 use Rattle.ddcmp_session.proofs.NoticeLaws.{wrote-none, wrote-one}
 use Rattle.ddcmp_session.specs.contracts.session.Session as session
 use Rattle.ddcmp_session.proofs.session.Session.received.Goals as goal
@@ -55,4 +56,17 @@ returns-in_default-clause-course c =
     (c.if-not-wants_line.ensures ∙ ap (λ (v : LoggedSession). wants_line v.state)
     (sym c.self.view_is))
     (ap (λ (k : Counters). k.nak_received) c.counters.ensures) c.look.ensures
+    (c.feed-fed.ensures.told text s ∙ ap option_to_list c.in_default.is))
+
+pub returns-in-Some-clause-errors : goal.returns-in-Some-clause-errors
+returns-in-Some-clause-errors c =
+    rw (sym c.self.view_is) (λ wanted text s.
+    notices-one _ _ c.in-Some.notice _ _
+    (c.feed-fed.ensures.told text s ∙ ap option_to_list c.in-Some.is)
+    c.report_notice.ensures.errors)
+
+pub returns-in_default-clause-errors : goal.returns-in_default-clause-errors
+returns-in_default-clause-errors c =
+    rw (sym c.self.view_is) (λ wanted text s.
+    notices-none _ _ c.self.inside.errors
     (c.feed-fed.ensures.told text s ∙ ap option_to_list c.in_default.is))

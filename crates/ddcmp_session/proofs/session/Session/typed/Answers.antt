@@ -1,7 +1,8 @@
-use Rattle.std.proofs.Common.{◌∙◌, sym, ap, length, arith, List, []}
+use Rattle.std.proofs.Common.{◌∙◌, sym, ap, length, arith, refl, subst, List, []}
 use Rattle.ddcmp_input.specs.declared.entry.Entry.{Entry}
 use Rattle.ddcmp_session.specs.Logged.{read_after}
 use Rattle.ddcmp_session.specs.Messages.{after_input}
+use Rattle.ddcmp_session.specs.Reported.{ReportsEach, with_input}
 use Rattle.ddcmp_session.proofs.InputLaws.{nothing-typed, no-entries, one-entry}
 use Rattle.ddcmp_session.proofs.session.Session.typed.Goals as goal
 
@@ -17,6 +18,12 @@ returns-clause-first c =
     rw (sym c.self.view_is) (λ n entry is used.
     c.push-pushed.ensures.first n entry
     (one-entry c.push-pushed.result.entry entry (sym c.push-pushed.ensures.entries ∙ is)) used)
+
+pub returns-then-not-wants_input-clause-errors : goal.returns-then-not-wants_input-clause-errors
+returns-then-not-wants_input-clause-errors c =
+    subst
+    (λ (entries : List Entry). ReportsEach entries (with_input [] c.args.self.now)
+    c.args.self.now.log.errors) (sym (no-entries c.args.self.now.state.messages)) refl
 
 pub returns-then-not-wants_input-clause-read : goal.returns-then-not-wants_input-clause-read
 returns-then-not-wants_input-clause-read c =

@@ -1,8 +1,6 @@
-use Rattle.std.proofs.Common.{◌≡◌, ◌+◌, ◌∙◌, ap, sym, subst, Some, None, arith}
-use Rattle.std.proofs.Common.{◌++◌, ◌∷◌, []}
-use Rattle.ddcmp_explain.specs.Discarded.{passed, skipped_parts}
-use Rattle.ddcmp_session.specs.Trace.{first_junk}
-use Rattle.ddcmp_session.proofs.JunkLaws.{junk-fill, junk-here, junk-past, passed-none, passed-some}
+use Rattle.std.proofs.Common.{◌+◌, ◌∙◌, ap, sym, Some, arith}
+use Rattle.ddcmp_explain.specs.Discarded.{skipped_parts}
+use Rattle.ddcmp_session.proofs.JunkLaws.{junk-fill, junk-here, passed-some}
 use Rattle.ddcmp_session.proofs.skipped.Heard.junk_at.Goals as goal
 
 pub returns-then-is_fill : goal.returns-then-is_fill

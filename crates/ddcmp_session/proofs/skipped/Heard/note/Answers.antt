@@ -1,4 +1,4 @@
-use Rattle.std.proofs.Common.{◌≡◌, ◌∙◌, ap, sym, subst, Some, None}
+use Rattle.std.proofs.Common.{◌∙◌, ap, sym}
 use Rattle.ddcmp_session.proofs.JunkLaws.{junk-stays}
 use Rattle.ddcmp_session.proofs.skipped.Heard.note.Goals as goal
 

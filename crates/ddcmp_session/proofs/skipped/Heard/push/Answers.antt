@@ -1,4 +1,4 @@
-use Rattle.std.proofs.Common.{◌≡◌, ◌+◌, ◌∙◌, ap, sym, subst, refl, Some}
+use Rattle.std.proofs.Common.{◌+◌, ◌∙◌, ap, subst, refl}
 use Rattle.ddcmp_frame.specs.Reader.{Pushes}
 use Rattle.ddcmp_session.proofs.HeardLaws.{hears}
 use Rattle.ddcmp_session.proofs.skipped.Heard.push.Goals as goal

@@ -1,4 +1,4 @@
-use Rattle.std.proofs.Common.{◌≡◌, ◌+◌, ◌∙◌, ap, sym, Some, None}
+use Rattle.std.proofs.Common.{◌+◌, ◌∙◌, ap, sym}
 use Rattle.ddcmp_explain.specs.Discarded.{passed}
 use Rattle.ddcmp_session.proofs.JunkLaws.{none-skipped, not-yet, skipped-there}
 use Rattle.ddcmp_session.proofs.skipped.Heard.skipped_to.Goals as goal

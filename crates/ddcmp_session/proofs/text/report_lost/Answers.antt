@@ -1,0 +1,10 @@
+use Rattle.ddcmp_io.proofs.WrittenLaws.{sends-then}
+use Rattle.ddcmp_session.proofs.ErrorsLaws.{through-page}
+use Rattle.ddcmp_session.proofs.text.report_lost.Goals as goal
+
+pub returns : goal.returns
+returns c =
+    through-page c.args.out.now c.write-2.new.writer c.flush-is_whole.new.writer _ _ _ _
+    c.new-page.ensures c.flush-is_whole.ensures.empty
+    (sends-then (sends-then c.write.ensures.sends c.write_number.ensures) c.write-2.ensures.sends)
+    c.flush-is_whole.ensures.sends

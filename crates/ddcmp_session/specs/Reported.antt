@@ -1,0 +1,187 @@
+-- What a new session has for standard error, and what it puts there of its input.
+use Rattle.std.specs.Prelude.{◌≡◌, ℕ, ◌+◌, ◌*◌, Bool, true, false, MatchBool, if◌then◌else◌}
+use Rattle.std.specs.Prelude.{Option, None, Some, List, [], ◌∷◌, codes, max, min}
+use Rattle.std.specs.Prelude.{option_to_list}
+use Rattle.ddcmp_input.specs.declared.entry.Entry.{Entry}
+use Rattle.ddcmp_input.specs.declared.entry.Entry.TheVariants.{Message, NotHexadecimal}
+use Rattle.ddcmp_input.specs.declared.entry.Entry.TheVariants.{TooLong, Empty}
+use Rattle.ddcmp_station.specs.Linking.{total_plus}
+use Rattle.ddcmp_session.specs.declared.errors.TheConstants.{SHORT_LINE}
+use Rattle.ddcmp_session.specs.declared.messages.Messages.{Messages}
+use Rattle.ddcmp_session.specs.declared.messages.Messages.TheVariants.{Digits, Binary}
+use Rattle.ddcmp_session.specs.declared.options.Options.{Options}
+use Rattle.ddcmp_session.specs.declared.session.TheConstants.{ERRORS_ROOM}
+use Rattle.ddcmp_session.specs.declared.text.TheConstants.{LINE_ROOM}
+use Rattle.ddcmp_session.specs.Errors.{ErrorsView, HasLine, no_lines, refused_text}
+use Rattle.ddcmp_session.specs.Logged.{LogView, LoggedSession, HasReport, read_after}
+use Rattle.ddcmp_session.specs.Logged.{read_at_end, read_unfinished}
+use Rattle.ddcmp_session.specs.Messages.{after_input, after_last, entries_of_input}
+use Rattle.ddcmp_session.specs.Messages.{entry_of_last}
+use Rattle.ddcmp_session.specs.Messages.{is_message_unfinished, is_question}
+use Rattle.ddcmp_session.specs.Trace.{TraceView, IsNew}
+
+-- ---- a new session
+
+-- how many bytes of lines are queued at most
+abbrev pub errors_room : Options → ℕ
+errors_room o = if o.trace then 8 * ERRORS_ROOM else ERRORS_ROOM
+
+abbrev pub log_made : Options → Option TraceView → LogView
+log_made o trace =
+    record { errors = no_lines (errors_room o); trace = trace; read = 0; as_objects = o.json }
+
+-- the longest message that a trace shows: 14 bits hold its length
+abbrev pub traced_length : Options → ℕ
+traced_length o = min (max o.config.max 1) 16383
+
+-- Nothing is traced yet; room is left to a received message and a notice of what is lost.
+pub record IsNewTrace (o : Options) (t : TraceView) : Type 0 where
+  pub sent : IsNew (traced_length o) t.sent
+  pub came : IsNew (traced_length o) t.came
+  pub spared : t.spared ≡ 2 * o.config.max + LINE_ROOM
+  pub now : t.now ≡ 0
+
+-- There is a trace if one is asked for.
+abbrev pub TracesIfAsked : Options → Option TraceView → Type 0
+TracesIfAsked o None = o.trace ≡ false
+TracesIfAsked o (Some t) = (o.trace ≡ true) × IsNewTrace o t
+
+-- ---- a part of the input that is no message
+
+abbrev pub line_number : Messages → Option ℕ
+line_number (Digits v) = Some v.number
+line_number (Binary v) = None
+
+-- what it is called, and its number, if so many were read
+abbrev pub part_name : Messages → List ℕ
+part_name (Digits v) = codes "line "
+part_name (Binary v) = codes "message "
+
+abbrev pub part_number : Messages → ℕ → ℕ
+part_number (Digits v) read = v.number
+part_number (Binary v) read = read
+
+-- what is wrong with it
+abbrev pub reason_text : Entry → List ℕ
+reason_text Message = codes "message"
+reason_text NotHexadecimal = codes "not hexadecimal"
+reason_text TooLong = codes "too long"
+reason_text Empty = codes "empty"
+
+-- The part that was read last is reported for this reason.
+abbrev pub HasRefused : List ℕ → Messages → ℕ → ErrorsView → ErrorsView → Type 0
+HasRefused why m read old new =
+    HasLine SHORT_LINE (refused_text (part_name m) (part_number m read) why) old new
+
+-- It counts as one that was read.
+abbrev pub RefusesEntry : Entry → Messages → ℕ → ErrorsView → ErrorsView → Type 0
+RefusesEntry entry m read old new = HasRefused (reason_text entry) m (total_plus read 1) old new
+
+-- the reason of a part whose end hasn't come
+abbrev pub unfinished_text : List ℕ
+unfinished_text = codes "unfinished"
+
+-- A message in binary whose end is missing is reported, and counts as one that was read.
+abbrev pub RefusesUnfinished : Messages → ℕ → ErrorsView → ErrorsView → Type 0
+RefusesUnfinished m read old new =
+    MatchBool (is_message_unfinished m)
+    (HasRefused unfinished_text m (total_plus read 1) old new) (new ≡ old)
+
+-- ---- while the session runs
+
+-- Of a message nothing is reported, of a question the counters.
+abbrev pub ReportsEntry : Entry → LoggedSession → ErrorsView → Type 0
+ReportsEntry Message s new = new ≡ s.log.errors
+ReportsEntry NotHexadecimal s new = MatchBool (is_question s.state.messages)
+    (HasReport s.log.as_objects s.state.course.lost s.state.link s.log.errors new)
+    (RefusesEntry NotHexadecimal s.state.messages s.log.read s.log.errors new)
+ReportsEntry entry s new = RefusesEntry entry s.state.messages s.log.read s.log.errors new
+
+-- what bytes complete, which is one part at most
+abbrev pub ReportsEach : List Entry → LoggedSession → ErrorsView → Type 0
+ReportsEach [] s new = new ≡ s.log.errors
+ReportsEach (entry ∷ rest) s new = ReportsEntry entry s new
+
+-- bytes of the input came, or its end
+abbrev pub with_messages : Messages → LoggedSession → LoggedSession
+with_messages m s = record s { state = record s.state { messages = m } }
+
+abbrev pub with_input : List ℕ → LoggedSession → LoggedSession
+with_input bytes s = with_messages (after_input bytes s.state.messages) s
+
+-- bytes of the input, up to the first that completes something
+abbrev pub ReportsTyped : List ℕ → LoggedSession → ErrorsView → Type 0
+ReportsTyped bytes s new =
+    ReportsEach (entries_of_input bytes s.state.messages) (with_input bytes s) new
+
+-- what the last line is, and then a message in binary whose end is missing
+abbrev pub ReportsLast : LoggedSession → ErrorsView → Type 0
+ReportsLast s new =
+    (mid : ErrorsView)
+    × ReportsEach (option_to_list (entry_of_last s.state.messages))
+    (with_messages (after_last s.state.messages) s) mid
+    × RefusesUnfinished (after_last s.state.messages)
+    (read_after (option_to_list (entry_of_last s.state.messages)) (after_last s.state.messages)
+    s.log.read) mid new
+
+-- ---- after it ran
+
+-- Of what is dropped no message is reported, and no question.
+abbrev pub DropsEntry : Entry → Messages → ℕ → ErrorsView → ErrorsView → Type 0
+DropsEntry Message m read old new = new ≡ old
+DropsEntry NotHexadecimal m read old new =
+    MatchBool (is_question m) (new ≡ old) (RefusesEntry NotHexadecimal m read old new)
+DropsEntry entry m read old new = RefusesEntry entry m read old new
+
+abbrev pub DropsEach : List Entry → Messages → ℕ → ErrorsView → ErrorsView → Type 0
+DropsEach [] m read old new = new ≡ old
+DropsEach (entry ∷ rest) m read old new = DropsEntry entry m read old new
+
+-- A last line is reported whose end hasn't come.
+abbrev pub CutsEach : List Entry → Messages → ℕ → ErrorsView → ErrorsView → Type 0
+CutsEach [] m read old new = new ≡ old
+CutsEach (entry ∷ rest) m read old new = HasRefused unfinished_text m read old new
+
+-- the same, with how many were read
+pub record Drops (entries : List Entry) (m : Messages) (old new : LogView) : Type 0 where
+  pub errors : DropsEach entries m old.read old.errors new.errors
+  pub stays : new ≡ record old { errors = new.errors; read = read_after entries m old.read }
+
+-- bytes, one after another
+unfoldable pub DropsBytes : List ℕ → Messages → LogView → LogView → Type 0
+DropsBytes [] m old new = new ≡ old
+DropsBytes (byte ∷ rest) m old new =
+    (mid : LogView)
+    × Drops (entries_of_input (byte ∷ []) m) (after_input (byte ∷ []) m) old mid
+    × DropsBytes rest (after_input (byte ∷ []) m) mid new
+
+-- the last line, which is whole if the input is at its end, and a message whose end is missing
+abbrev pub DropsLast : Bool → Messages → ℕ → ErrorsView → ErrorsView → Type 0
+DropsLast true m read old new =
+    (mid : ErrorsView)
+    × DropsEach (option_to_list (entry_of_last m)) (after_last m) read old mid
+    × RefusesUnfinished (after_last m)
+    (read_after (option_to_list (entry_of_last m)) (after_last m) read) mid new
+DropsLast false m read old new =
+    (mid : ErrorsView)
+    × CutsEach (option_to_list (entry_of_last m)) (after_last m) read old mid
+    × RefusesUnfinished (after_last m) read mid new
+
+-- how many were read by then
+abbrev pub read_at_last : Bool → Messages → ℕ → ℕ
+read_at_last is_at_end m n =
+    if is_at_end then read_at_end m n else read_unfinished (after_last m) n
+
+-- the end of the input, unless it was read before
+abbrev pub DropsEnd : Bool → Bool → Messages → LogView → LogView → Type 0
+DropsEnd true is_at_end m old new = new ≡ old
+DropsEnd false is_at_end m old new =
+    DropsLast is_at_end m old.read old.errors new.errors
+    × (new ≡ record old { errors = new.errors; read = read_at_last is_at_end m old.read })
+
+-- all of the input that wasn't sent
+abbrev pub DropsInput : List ℕ → Bool → LoggedSession → LogView → Type 0
+DropsInput bytes is_at_end s new =
+    (mid : LogView)
+    × DropsBytes bytes s.state.messages s.log mid
+    × DropsEnd s.state.is_read is_at_end (after_input bytes s.state.messages) mid new
