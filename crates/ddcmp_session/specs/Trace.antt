@@ -206,7 +206,7 @@ with_heard ToLine heard t = record t { sent = heard }
 with_heard FromLine heard t = record t { came = heard }
 
 -- A byte went this way: the lines of what it completed were queued.
-pub record TellsByte (way : Way) (byte : ℕ) (old new : TraceView) (before after : ErrorsView)
+pub record LogsByte (way : Way) (byte : ℕ) (old new : TraceView) (before after : ErrorsView)
     : Type 0 where
   pub given : Option Completed
   pub takes : TakesByte (heard_of way old) byte given (heard_of way new)
@@ -215,7 +215,7 @@ pub record TellsByte (way : Way) (byte : ℕ) (old new : TraceView) (before afte
   pub stays : new ≡ with_heard way (heard_of way new) old
 
 -- The line of what was discarded after the last item was queued, if it is this many bytes.
-pub record TellsDiscarded (way : Way) (least : ℕ) (old new : TraceView) (before after : ErrorsView)
+pub record LogsDiscarded (way : Way) (least : ℕ) (old new : TraceView) (before after : ErrorsView)
     : Type 0 where
   pub given : Option Skipped
   pub discards : Discards (heard_of way old) least given (heard_of way new)
@@ -224,17 +224,17 @@ pub record TellsDiscarded (way : Way) (least : ℕ) (old new : TraceView) (befor
 
 -- Bytes went this way, one after another; after them 256 bytes that were discarded are reported
 -- without an item.
-abbrev pub Tells : Way → List ℕ → TraceView → TraceView → ErrorsView → ErrorsView → Type 0
-Tells way [] old new before after = TellsDiscarded way 256 old new before after
-Tells way (byte ∷ later) old new before after =
-    (mid : TraceView) × (between : ErrorsView) × TellsByte way byte old mid before between
-    × Tells way later mid new between after
+abbrev pub Logs : Way → List ℕ → TraceView → TraceView → ErrorsView → ErrorsView → Type 0
+Logs way [] old new before after = LogsDiscarded way 256 old new before after
+Logs way (byte ∷ later) old new before after =
+    (mid : TraceView) × (between : ErrorsView) × LogsByte way byte old mid before between
+    × Logs way later mid new between after
 
 -- All that was discarded at the end of a line was reported.
-abbrev pub TellsEnd : TraceView → TraceView → ErrorsView → ErrorsView → Type 0
-TellsEnd old new before after =
-    (mid : TraceView) × (between : ErrorsView) × TellsDiscarded ToLine 1 old mid before between
-    × TellsDiscarded FromLine 1 mid new between after
+abbrev pub LogsEnd : TraceView → TraceView → ErrorsView → ErrorsView → Type 0
+LogsEnd old new before after =
+    (mid : TraceView) × (between : ErrorsView) × LogsDiscarded ToLine 1 old mid before between
+    × LogsDiscarded FromLine 1 mid new between after
 
 -- Nothing was heard yet of another line, of frames of at most this many bytes of data.
 abbrev pub IsNew : ℕ → HeardView → Type 0
@@ -243,7 +243,7 @@ IsNew most heard = HasHeard [] 0 heard × (heard.frames.max ≡ most)
 -- The line ended, and another begins.
 pub record BeginsAnew (old new : TraceView) (before after : ErrorsView) : Type 0 where
   pub last : TraceView
-  pub ended : TellsEnd old last before after
+  pub ended : LogsEnd old last before after
   pub sent : IsNew last.sent.frames.max new.sent
   pub came : IsNew last.came.frames.max new.came
   pub stays : new ≡ record last { sent = new.sent; came = new.came }

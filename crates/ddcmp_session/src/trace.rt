@@ -8,7 +8,7 @@ ghost use Rattle.ddcmp_io.specs.Written.{HandsOver};
 ghost use Rattle.ddcmp_session.specs.EndText.{queued};
 ghost use Rattle.ddcmp_session.specs.Errors.{HasLine, has_room};
 ghost use Rattle.ddcmp_session.specs.Trace.{BeginsAnew, Discards, HasLines, IsNew, TakesByte};
-ghost use Rattle.ddcmp_session.specs.Trace.{Tells, TellsByte, TellsDiscarded, TellsEnd, front_of};
+ghost use Rattle.ddcmp_session.specs.Trace.{Logs, LogsByte, LogsDiscarded, LogsEnd, front_of};
 ghost use Rattle.ddcmp_session.specs.Trace.{capped, heard_of, item_line, mark_of};
 ghost use Rattle.ddcmp_session.specs.Trace.{reason_in as reason_of, reason_text, room_beside};
 ghost use Rattle.ddcmp_session.specs.Trace.{skipped_line, skipped_lines};
@@ -111,28 +111,28 @@ impl Trace {
 
     /// The line has ended: what was discarded after the last frames is reported.
     pub(crate) fn end(&mut self, errors: &mut Errors)
-        ensures { TellsEnd self.old self.new errors.old errors.new }
+        ensures { LogsEnd self.old self.new errors.old errors.new }
     {
-        self.tell_discarded(Way::ToLine, 1, errors);
-        self.tell_discarded(Way::FromLine, 1, errors);
+        self.log_discarded(Way::ToLine, 1, errors);
+        self.log_discarded(Way::FromLine, 1, errors);
     }
 
     /// Puts the lines of the frames that bytes complete, which went this way, after a text, and of
     /// what was discarded before them.
-    pub(crate) fn tell(&mut self, way: Way, bytes: &[u8], errors: &mut Errors)
-        ensures { Tells way bytes.now self.old self.new errors.old errors.new }
+    pub(crate) fn log(&mut self, way: Way, bytes: &[u8], errors: &mut Errors)
+        ensures { Logs way bytes.now self.old self.new errors.old errors.new }
     {
         let mut at = 0;
         while at < bytes.len() {
-            self.tell_byte(way, bytes[at], errors);
+            self.log_byte(way, bytes[at], errors);
             at += 1;
         }
-        self.tell_discarded(way, MOST_DISCARDED, errors);
+        self.log_discarded(way, MOST_DISCARDED, errors);
     }
 
     /// Puts the lines of what a byte completes.
-    fn tell_byte(&mut self, way: Way, byte: u8, errors: &mut Errors)
-        ensures { TellsByte way byte self.old self.new errors.old errors.new }
+    fn log_byte(&mut self, way: Way, byte: u8, errors: &mut Errors)
+        ensures { LogsByte way byte self.old self.new errors.old errors.new }
     {
         match self.push(way, byte) {
             None => {}
@@ -166,8 +166,8 @@ impl Trace {
     }
 
     /// Puts the line of what was discarded after the last frame, if that many bytes were.
-    fn tell_discarded(&mut self, way: Way, least: u64, errors: &mut Errors)
-        ensures { TellsDiscarded way least self.old self.new errors.old errors.new }
+    fn log_discarded(&mut self, way: Way, least: u64, errors: &mut Errors)
+        ensures { LogsDiscarded way least self.old self.new errors.old errors.new }
     {
         let discarded = self.discard(way, least);
         put_skipped(self.spared, self.now, way, discarded, errors);

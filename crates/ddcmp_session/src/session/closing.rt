@@ -16,7 +16,7 @@ impl Session {
     ghost use Rattle.ddcmp_session.specs.EndText.{end_line, end_text, queued};
     ghost use Rattle.ddcmp_session.specs.Errors.{HasLine};
     ghost use Rattle.ddcmp_session.specs.Logged.{HasEnd, Traces};
-    ghost use Rattle.ddcmp_session.specs.Trace.{TellsEnd};
+    ghost use Rattle.ddcmp_session.specs.Trace.{LogsEnd};
     ghost use Rattle.ddcmp_session.specs.Text.{Wrote, reported_lost};
 
     /// Ends the run: halts the station. What was read of the input, and what was sent and isn't
@@ -50,7 +50,7 @@ impl Session {
     /// Writes the last lines, once all received messages are delivered.
     pub fn finish(&mut self)
         ensures state { self.new.state ≡ self.old.state }
-        ensures traced { Traces TellsEnd self.old.log.trace self.old.log self.new.log }
+        ensures traced { Traces LogsEnd self.old.log.trace self.old.log self.new.log }
         ensures log { self.new.log
             ≡ record self.old.log { errors = self.new.log.errors; trace = self.new.log.trace } }
     {

@@ -33,7 +33,7 @@ impl Session {
     ghost use Rattle.ddcmp_session.specs.Session.{reports_loss, wants_line};
     ghost use Rattle.ddcmp_session.specs.Errors.{ErrorsView};
     ghost use Rattle.ddcmp_session.specs.Logged.{HasLost, HasNotice, HasNotices, Traces};
-    ghost use Rattle.ddcmp_session.specs.Trace.{BeginsAnew, Tells};
+    ghost use Rattle.ddcmp_session.specs.Trace.{BeginsAnew, Logs};
     ghost use Rattle.ddcmp_session.specs.Course.{after_notice, lost_more};
     ghost use Rattle.ddcmp_session.specs.Session.{IsFilled, after_connected, course_received};
     ghost use Rattle.ddcmp_session.specs.Session.{is_paused, totals_received};
@@ -150,14 +150,14 @@ impl Session {
 
     /// Logs bytes that came from the line, if there is a trace: each once, before `received`.
     pub fn log_received(&mut self, bytes: &[u8])
-        ensures traced { Traces (Tells Way.FromLine bytes.now) self.old.log.trace
+        ensures traced { Traces (Logs Way.FromLine bytes.now) self.old.log.trace
             self.old.log self.new.log }
         ensures state { self.new.state ≡ self.old.state }
         ensures log { self.new.log
             ≡ record self.old.log { errors = self.new.log.errors; trace = self.new.log.trace } }
     {
         if let Some(trace) = &mut self.trace {
-            trace.tell(Way::FromLine, bytes, &mut self.errors);
+            trace.log(Way::FromLine, bytes, &mut self.errors);
         }
     }
 
@@ -293,7 +293,7 @@ impl Session {
           link = after_sent
               (min n (length self.old.state.link.outbox.waiting)) self.old.state.link;
         } }
-        ensures traced { Traces (Tells Way.ToLine (take n self.old.state.link.outbox.waiting))
+        ensures traced { Traces (Logs Way.ToLine (take n self.old.state.link.outbox.waiting))
             self.old.log.trace self.old.log self.new.log }
         ensures log { self.new.log
             ≡ record self.old.log { errors = self.new.log.errors; trace = self.new.log.trace } }
@@ -301,7 +301,7 @@ impl Session {
         let unsent = self.link.unsent();
         let n = n.min(unsent.len());
         if let Some(trace) = &mut self.trace {
-            trace.tell(Way::ToLine, &unsent[..n], &mut self.errors);
+            trace.log(Way::ToLine, &unsent[..n], &mut self.errors);
         }
         self.link.sent(n);
     }

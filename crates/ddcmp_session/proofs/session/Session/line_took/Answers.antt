@@ -2,7 +2,7 @@ use Rattle.std.proofs.Common.{◌∙◌, ap, sym, subst, take, List, ℕ, ◌≡
 use Rattle.std.proofs.lemmas.List.{take_min}
 use Rattle.ddcmp_session.specs.declared.trace.Way.TheVariants.{ToLine}
 use Rattle.ddcmp_session.specs.Logged.{LogView, Traces}
-use Rattle.ddcmp_session.specs.Trace.{Tells}
+use Rattle.ddcmp_session.specs.Trace.{Logs}
 use Rattle.ddcmp_session.proofs.LineLogLaws.{traces-some, traces-none}
 use Rattle.ddcmp_session.specs.contracts.session.Session as session
 use Rattle.ddcmp_session.proofs.session.Session.line_took.Goals.{in-Some, in_default}
@@ -19,15 +19,15 @@ returns-clause-traced c =
     rw (sym c.self.view_is) (elim c.match-self.branch [
       | in-Some w ↦
           subst
-          (λ i. Traces (Tells ToLine (take c.args.n waiting)) old.trace old
+          (λ i. Traces (Logs ToLine (take c.args.n waiting)) old.trace old
           (session.the_view i).log)
           (sym w.self-inside-is)
-          (traces-some (Tells ToLine (take c.args.n waiting)) w.in-Some.trace w.tell.new.self old
-          w.tell.new.errors w.in-Some.is
-          (subst (λ b. Tells ToLine b w.in-Some.trace w.tell.new.self old.errors
-          w.tell.new.errors) bytes w.tell.ensures))
+          (traces-some (Logs ToLine (take c.args.n waiting)) w.in-Some.trace w.log.new.self old
+          w.log.new.errors w.in-Some.is
+          (subst (λ b. Logs ToLine b w.in-Some.trace w.log.new.self old.errors
+          w.log.new.errors) bytes w.log.ensures))
       | in_default w ↦
-          traces-none (Tells ToLine (take c.args.n waiting)) old
+          traces-none (Logs ToLine (take c.args.n waiting)) old
           (session.the_view c.match-self.self-inside).log w.in_default.is
           (ap (λ i. (session.the_view i).log) w.self-inside-is)
     ])

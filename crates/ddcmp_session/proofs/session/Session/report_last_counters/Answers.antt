@@ -12,5 +12,6 @@ returns-then-begin_line-clause-errors c =
     c.begin_line.ensures.begun
     (queues-into _ _ c.write_counters_line.new.out _ (ap (λ s. s.errors) c.self-inside.view_is)
     (sends-as
-    (ap (λ (d : LinkView). counters_line [] d.station.core.counters) (ap (λ s. s.link) c.self-inside.view_is))
+    (ap (λ (d : LinkView). counters_line [] d.station.core.counters)
+    (ap (λ s. s.link) c.self-inside.view_is))
     c.write_counters_line.ensures)))

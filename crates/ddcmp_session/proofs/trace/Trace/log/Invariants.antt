@@ -1,14 +1,14 @@
 use Rattle.std.proofs.Common.{◌-◌, ◌≤◌, drop, length}
 use Rattle.ddcmp_session.specs.Errors.{ErrorsView}
-use Rattle.ddcmp_session.specs.Trace.{Tells, TraceView}
-use Rattle.ddcmp_session.proofs.trace.Trace.tell.Given as goal
+use Rattle.ddcmp_session.specs.Trace.{Logs, TraceView}
+use Rattle.ddcmp_session.proofs.trace.Trace.log.Given as goal
 
 abbrev pub invariant-loop-at : goal.invariant-loop-at
 invariant-loop-at l = record {
   within : l.at ≤ length l.bytes;
   told : (last : TraceView) (after : ErrorsView)
-      → Tells l.way (drop l.at l.bytes) l.self last l.errors after
-      → Tells l.way l.bytes l.initial.self last l.initial.errors after;
+      → Logs l.way (drop l.at l.bytes) l.self last l.errors after
+      → Logs l.way l.bytes l.initial.self last l.initial.errors after;
 }
 
 abbrev pub decreases-loop-at : goal.decreases-loop-at
