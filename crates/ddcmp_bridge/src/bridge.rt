@@ -15,8 +15,8 @@ use crate::lines::{Lines, Way};
 use std::alloc::Global;
 use std::marker::Model;
 
-/// After how many turns in which something moved the lines say anew which of them is ready, so that
-/// no direction starves the other.
+/// After how many turns in which something moved the lines are asked again which of them is ready,
+/// so that no direction starves the other.
 const TURNS: u64 = 16;
 
 /// Why a bridge has ended.

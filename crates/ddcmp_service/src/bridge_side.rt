@@ -85,6 +85,8 @@ impl Side {
             }
             Moved::Ended(why) => {
                 self.refuses = Some(why);
+                // A read finds at once whether it has something left.
+                self.ready.ready.to_read = true;
                 None
             }
         }
