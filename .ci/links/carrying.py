@@ -230,6 +230,27 @@ def large():
     exchange("50 MB", one, two, sent, sent[::-1])
 
 
-TRIALS = [tcp_both_ways, long_messages, digits, receiver_ends, last_acknowledged, last_line, refused_input, cut_message,
+def flooded():
+    """Junk comes without a pause: what is typed is sent nevertheless."""
+    with server() as it:
+        link = Link(f"connect:127.0.0.1:{it.getsockname()[1]}", "--timer-ms", "500")
+        peer = Peer(it.accept()[0])
+    if not peer.runs():
+        wrong("it doesn't run")
+
+    def flood():
+        with contextlib.suppress(OSError):
+            while True:
+                peer.sock.sendall(bytes(1 << 20))
+    threading.Thread(target=flood, daemon=True).start()
+    time.sleep(0.5)
+    link.give(b"61\n", close=False)
+    if not peer.waits(lambda it: it.mail == [b"a"], 5):
+        wrong(f"{peer.mail} {link.errors()}")
+    link.kill()
+    peer.close()
+
+
+TRIALS = [tcp_both_ways, flooded, long_messages, digits, receiver_ends, last_acknowledged, last_line, refused_input, cut_message,
           pseudo_terminals, bad_line, inputs]
 LONG_TRIALS = [large]

@@ -2,18 +2,19 @@
 use Rattle.std.proofs.Common.{length-drop}
 use Rattle.std.proofs.Common.{◌≡◌, ◌∙◌, ◌≤◌, ◌+◌, ◌-◌, ℕ, zero, suc, refl, ap, sym, subst, arith}
 use Rattle.std.proofs.Common.{length, List, [], ◌∷◌, ◌++◌, take, drop, take-add, take_all}
-use Rattle.std.proofs.Common.{Option, Some, None, option_to_list}
+use Rattle.std.proofs.Common.{Bool, Option, Some, None, option_to_list}
 use Rattle.ddcmp_input.specs.declared.entry.Entry.{Entry}
 use Rattle.ddcmp_session.specs.declared.messages.Messages.{Messages}
 use Rattle.ddcmp_session.specs.Errors.{ErrorsView}
 use Rattle.ddcmp_session.specs.Logged.{LogView, read_after}
 use Rattle.ddcmp_session.specs.Messages.{after_input, entries_of_input}
-use Rattle.ddcmp_session.specs.Reported.{Drops, DropsBytes, DropsEach}
+use Rattle.ddcmp_session.specs.Reported.{Dropping, Drops, DropsBytes, DropsEach}
+use Rattle.ddcmp_session.specs.Reported.{refused_after}
 use Rattle.ddcmp_session.proofs.DropLaws.{read-more, entries-more}
 use Rattle.ddcmp_session.proofs.InputLaws.{no-entries, nothing-read}
 
 -- some bytes and then others
-pub drops-then : (xs ys : List ℕ) (m : Messages) (a b c : LogView) → DropsBytes xs m a b
+pub drops-then : (xs ys : List ℕ) (m : Messages) (a b c : Dropping) → DropsBytes xs m a b
     → DropsBytes ys (after_input xs m) b c → DropsBytes (xs ++ ys) m a c
 unfolding DropsBytes
 drops-then [] ys m a b c first second =
@@ -34,12 +35,13 @@ no-rest : {A : Type 0} (xs ys : List A) → xs ++ ys ≡ [] → ys ≡ []
 no-rest [] ys e = e
 no-rest (x ∷ xs) ys e = cc
 
-drops-nothing : (es : List Entry) (m : Messages) (a : LogView) → es ≡ [] → Drops es m a a
+drops-nothing : (es : List Entry) (m : Messages) (a : Dropping) → es ≡ [] → Drops es m a a
 drops-nothing es m a is =
-    subst (λ es. Drops es m a a) (sym is) (record { errors = refl; stays = refl })
+    subst (λ es. Drops es m a a) (sym is)
+    (record { errors = refl; log = refl; refused = refl })
 
 -- bytes that complete nothing
-pub drops-silent : (xs : List ℕ) (m : Messages) (a : LogView) → entries_of_input xs m ≡ []
+pub drops-silent : (xs : List ℕ) (m : Messages) (a : Dropping) → entries_of_input xs m ≡ []
     → DropsBytes xs m a a
 unfolding DropsBytes
 drops-silent [] m a none = refl
@@ -53,7 +55,7 @@ drops-silent (x ∷ xs) m a none =
     )
 
 -- a byte that completes a part
-drops-byte : (zs : List ℕ) (m : Messages) (a b : LogView) (e : Entry)
+drops-byte : (zs : List ℕ) (m : Messages) (a b : Dropping) (e : Entry)
     → entries_of_input (take 1 zs) m ≡ e ∷ [] → Drops (e ∷ []) (after_input (take 1 zs) m) a b
     → DropsBytes (take 1 zs) m a b
 unfolding DropsBytes
@@ -62,7 +64,7 @@ drops-byte (z ∷ zs) m a b e is d =
     (b, subst (λ es. Drops es (after_input (z ∷ []) m) a b) (sym is) d, refl)
 
 -- bytes up to the first that completes a part, or all if none does
-drops-some : (n : ℕ) (rest : List ℕ) (m : Messages) (a b : LogView) (e : Entry)
+drops-some : (n : ℕ) (rest : List ℕ) (m : Messages) (a b : Dropping) (e : Entry)
     → entries_of_input (take n rest) m ≡ []
     → entries_of_input (take (n + 1) rest) m ≡ e ∷ []
     → Drops (e ∷ []) (after_input (take (n + 1) rest) m) a b
@@ -84,14 +86,17 @@ drops-some n rest m a b e none is d =
     (drops-byte (drop n rest) mid a b e split (subst (λ k. Drops (e ∷ []) k a b) after d)))
 
 pub drops-chunk : (used : ℕ) (rest : List ℕ) (m k : Messages) (entry : Option Entry)
-    (a b : LogView)
+    (a b : Dropping)
     → ((n : ℕ) (e : Entry) → entry ≡ Some e → used ≡ n + 1 → entries_of_input (take n rest) m ≡ [])
     → entries_of_input (take used rest) m ≡ option_to_list entry
     → k ≡ after_input (take used rest) m
     → Drops (option_to_list entry) k a b → DropsBytes (take used rest) m a b
 drops-chunk used rest m k None a b first is state d =
+    let log : b.log ≡ a.log =
+    d.log ∙ ap (λ (e : ErrorsView). record a.log { errors = e; read = a.log.read }) d.errors in
     let same : b ≡ a =
-    d.stays ∙ ap (λ (e : ErrorsView). record a { errors = e; read = a.read }) d.errors in
+    ap (λ (l : LogView). record { log = l; was_refused = b.was_refused }) log
+    ∙ ap (λ (r : Bool). record { log = a.log; was_refused = r }) d.refused in
     subst (λ l. DropsBytes (take used rest) m a l) (sym same)
     (drops-silent (take used rest) m a is)
 drops-chunk zero rest m k (Some e) a b first is state d =
@@ -106,7 +111,7 @@ drops-chunk (suc n) rest m k (Some e) a b first is state d =
 
 -- one part more, of what was dropped so far
 pub drops-part-more : (bytes : List ℕ) (at used : ℕ) (m now k : Messages) (entry : Option Entry)
-    (a b c : LogView) → now ≡ after_input (take at bytes) m
+    (a b c : Dropping) → now ≡ after_input (take at bytes) m
     → DropsBytes (take at bytes) m a b
     → ((n : ℕ) (e : Entry) → entry ≡ Some e → used ≡ n + 1
     → entries_of_input (take n (drop at bytes)) now ≡ [])
@@ -119,13 +124,13 @@ drops-part-more bytes at used m now k entry a b c was sofar first is state d =
     (subst (λ k. DropsBytes (take used (drop at bytes)) k b c) was
     (drops-chunk used (drop at bytes) now k entry b c first is state d)))
 
-pub drops-all : (bytes : List ℕ) (at : ℕ) (m : Messages) (a b : LogView) → length bytes ≤ at
+pub drops-all : (bytes : List ℕ) (at : ℕ) (m : Messages) (a b : Dropping) → length bytes ≤ at
     → DropsBytes (take at bytes) m a b → DropsBytes bytes m a b
 drops-all bytes at m a b all d = subst (λ xs. DropsBytes xs m a b) (take_all at bytes all) d
 
 -- the same of bytes that are those from there on
 pub drops-slice : (bytes rest : List ℕ) (at used : ℕ) (m now k : Messages) (entry : Option Entry)
-    (a b c : LogView) → rest ≡ take (length bytes - at) (drop at bytes)
+    (a b c : Dropping) → rest ≡ take (length bytes - at) (drop at bytes)
     → now ≡ after_input (take at bytes) m → DropsBytes (take at bytes) m a b
     → ((n : ℕ) (e : Entry) → entry ≡ Some e → used ≡ n + 1
     → entries_of_input (take n rest) now ≡ [])
@@ -143,16 +148,18 @@ drops-slice bytes rest at used m now k entry a b c whole was sofar first is stat
     (state ∙ ap (λ xs. after_input (take used xs) now) same) d
 
 -- what a call of `drop_entry` says that it does
-pub has-dropped : (entry : Option Entry) (m k : Messages) (old mid new : LogView) → mid ≡ old
+pub has-dropped : (entry : Option Entry) (m k : Messages) (old mid new : Dropping) → mid ≡ old
     → m ≡ k
-    → DropsEach (option_to_list entry) m mid.read mid.errors new.errors
-    → new.read ≡ read_after (option_to_list entry) m mid.read
-    → new ≡ record mid { errors = new.errors; read = new.read }
+    → DropsEach (option_to_list entry) m mid.log.read mid.log.errors new.log.errors
+    → new.log.read ≡ read_after (option_to_list entry) m mid.log.read
+    → new.was_refused ≡ refused_after (option_to_list entry) m mid.was_refused
+    → new.log ≡ record mid.log { errors = new.log.errors; read = new.log.read }
     → Drops (option_to_list entry) k old new
-has-dropped entry m k old mid new was same errors read log =
+has-dropped entry m k old mid new was same errors read refused log =
     subst (λ k. Drops (option_to_list entry) k old new) same
     (subst (λ l. Drops (option_to_list entry) m l new) was
     (record {
       errors = errors;
-      stays = log ∙ ap (λ n. record mid { errors = new.errors; read = n }) read;
+      log = log ∙ ap (λ n. record mid.log { errors = new.log.errors; read = n }) read;
+      refused = refused;
     }))

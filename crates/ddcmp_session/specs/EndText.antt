@@ -42,10 +42,13 @@ down_text (Failed kind.BrokenPipe) = codes "broken pipe"
 down_text (Failed kind.Other) = codes "input or output error"
 down_text (Failed other) = cause_words other
 
+abbrev pub line_down_text : Down → List ℕ
+line_down_text why = codes "line down: " ++ down_text why ++ codes "\n"
+
 -- a line is opened again
 abbrev pub pause_text : ℕ → List ℕ
-pause_text seconds = codes "retry in " ++ decimal seconds ++ codes " s"
+pause_text seconds = codes "retry in " ++ decimal seconds ++ codes " s\n"
 
 -- Standard output took nothing after the time of the run was over.
 abbrev pub unread_text : List ℕ
-unread_text = codes "ddcmp: standard output isn't read: received messages are lost"
+unread_text = codes "ddcmp: standard output isn't read: received messages are lost\n"

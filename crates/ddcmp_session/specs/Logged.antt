@@ -1,5 +1,5 @@
 -- A session with all that it has for standard error, and what each call puts there.
-use Rattle.std.specs.Prelude.{◌≡◌, ℕ, ◌+◌, ◌*◌, ◌==◌, Bool, true, false, MatchBool, if◌then◌else◌}
+use Rattle.std.specs.Prelude.{◌≡◌, ℕ, ◌+◌, ◌*◌, ◌==◌, ◌&&◌, not, Bool, true, false, MatchBool, if◌then◌else◌}
 use Rattle.std.specs.Prelude.{Option, None, Some, List, [], ◌∷◌, ◌++◌, option_to_list, codes}
 use Rattle.ddcmp_core.specs.declared.notice.Notice.{Notice}
 use Rattle.ddcmp_input.specs.declared.entry.Entry.{Entry}
@@ -7,19 +7,20 @@ use Rattle.ddcmp_input.specs.declared.entry.Entry.TheVariants.{NotHexadecimal}
 use Rattle.ddcmp_station.specs.CountersText.{counters_line}
 use Rattle.ddcmp_station.specs.Linking.{LinkView, after_wake, total_plus}
 use Rattle.ddcmp_station.specs.StationText.{notice_line}
+use Rattle.ddcmp_session.specs.declared.devices.Down.{Down}
 use Rattle.ddcmp_session.specs.declared.errors.TheConstants.{LAST_ROOM, SHORT_LINE}
 use Rattle.ddcmp_session.specs.declared.messages.Form.{Form}
 use Rattle.ddcmp_session.specs.declared.messages.Form.TheVariants as form
 use Rattle.ddcmp_session.specs.declared.messages.Messages.{Messages}
 use Rattle.ddcmp_session.specs.declared.text.TheConstants.{END_ROOM}
 use Rattle.ddcmp_session.specs.Course.{after_moment, after_pause, reports_at}
-use Rattle.ddcmp_session.specs.EndText.{end_line}
+use Rattle.ddcmp_session.specs.EndText.{end_line, line_down_text}
 use Rattle.ddcmp_session.specs.Errors.{ErrorsView, HasLine, HasObject, given_up_text, report_text}
 use Rattle.ddcmp_session.specs.Messages.{after_last, entry_of_last, is_message_unfinished}
 use Rattle.ddcmp_session.specs.Messages.{is_question}
-use Rattle.ddcmp_session.specs.Session.{SessionView, after_tried, expires, report_ms}
+use Rattle.ddcmp_session.specs.Session.{SessionView, after_tried, expires, is_delivered, report_ms}
 use Rattle.ddcmp_session.specs.Text.{dropped_by, lost_line}
-use Rattle.ddcmp_session.specs.Timing.{is_given_up}
+use Rattle.ddcmp_session.specs.Timing.{is_given_up, stays}
 use Rattle.ddcmp_session.specs.Trace.{TraceView, HasLines, timer_lines}
 
 -- The lines that wait, the trace of its line if there is one, how many messages of its input were
@@ -122,6 +123,12 @@ abbrev pub ReportsGivenUp : SessionView → ErrorsView → ErrorsView → Type 0
 ReportsGivenUp s old new =
     MatchBool (is_given_up s) (HasLine SHORT_LINE (given_up_text s.course.refusal) old new)
     (new ≡ old)
+
+-- why its line is down, unless all is delivered that was to be
+abbrev pub ReportsDown : Down → SessionView → ErrorsView → ErrorsView → Type 0
+ReportsDown why s old new =
+    MatchBool (is_delivered s && not (stays s)) (new ≡ old)
+    (HasLine SHORT_LINE (line_down_text why) old new)
 
 -- a session once an expiry was counted
 abbrev pub tried : ℕ → SessionView → SessionView

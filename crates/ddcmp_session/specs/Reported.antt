@@ -13,11 +13,12 @@ use Rattle.ddcmp_session.specs.declared.options.Options.{Options}
 use Rattle.ddcmp_session.specs.declared.session.TheConstants.{ERRORS_ROOM}
 use Rattle.ddcmp_session.specs.declared.text.TheConstants.{LINE_ROOM}
 use Rattle.ddcmp_session.specs.Errors.{ErrorsView, HasLine, no_lines, refused_text}
-use Rattle.ddcmp_session.specs.Logged.{LogView, LoggedSession, HasReport, read_after}
+use Rattle.ddcmp_session.specs.Logged.{LogView, LoggedSession, HasLost, HasReport, read_after}
 use Rattle.ddcmp_session.specs.Logged.{read_at_end, read_unfinished}
 use Rattle.ddcmp_session.specs.Messages.{after_input, after_last, entries_of_input}
 use Rattle.ddcmp_session.specs.Messages.{entry_of_last}
 use Rattle.ddcmp_session.specs.Messages.{is_message_unfinished, is_question}
+use Rattle.ddcmp_session.specs.Session.{form_of, lost_by_end}
 use Rattle.ddcmp_session.specs.Trace.{TraceView, IsNew}
 
 -- ---- a new session
@@ -142,16 +143,36 @@ abbrev pub CutsEach : List Entry → Messages → ℕ → ErrorsView → ErrorsV
 CutsEach [] m read old new = new ≡ old
 CutsEach (entry ∷ rest) m read old new = HasRefused unfinished_text m read old new
 
--- the same, with how many were read
-pub record Drops (entries : List Entry) (m : Messages) (old new : LogView) : Type 0 where
-  pub errors : DropsEach entries m old.read old.errors new.errors
-  pub stays : new ≡ record old { errors = new.errors; read = read_after entries m old.read }
+-- whether a part of the input was refused, after this one
+abbrev pub refused_with : Entry → Messages → Bool → Bool
+refused_with Message m was = was
+refused_with NotHexadecimal m was = if is_question m then was else true
+refused_with entry m was = true
+
+abbrev pub refused_after : List Entry → Messages → Bool → Bool
+refused_after [] m was = was
+refused_after (entry ∷ rest) m was = refused_with entry m was
+
+-- What changes as an input is dropped: the log, and whether a part of the input was refused.
+pub record Dropping : Type 0 where
+  pub log : LogView
+  pub was_refused : Bool
+
+abbrev pub dropping : LoggedSession → Dropping
+dropping s = record { log = s.log; was_refused = s.state.was_refused }
+
+-- what bytes complete, which is one part at most
+pub record Drops (entries : List Entry) (m : Messages) (old new : Dropping) : Type 0 where
+  pub errors : DropsEach entries m old.log.read old.log.errors new.log.errors
+  pub log : new.log
+      ≡ record old.log { errors = new.log.errors; read = read_after entries m old.log.read }
+  pub refused : new.was_refused ≡ refused_after entries m old.was_refused
 
 -- bytes, one after another
-unfoldable pub DropsBytes : List ℕ → Messages → LogView → LogView → Type 0
+unfoldable pub DropsBytes : List ℕ → Messages → Dropping → Dropping → Type 0
 DropsBytes [] m old new = new ≡ old
 DropsBytes (byte ∷ rest) m old new =
-    (mid : LogView)
+    (mid : Dropping)
     × Drops (entries_of_input (byte ∷ []) m) (after_input (byte ∷ []) m) old mid
     × DropsBytes rest (after_input (byte ∷ []) m) mid new
 
@@ -172,16 +193,43 @@ abbrev pub read_at_last : Bool → Messages → ℕ → ℕ
 read_at_last is_at_end m n =
     if is_at_end then read_at_end m n else read_unfinished (after_last m) n
 
+-- whether a part was refused by then
+abbrev pub refused_cut : Option Entry → Bool → Bool
+refused_cut None was = was
+refused_cut (Some entry) was = true
+
+abbrev pub refused_unfinished : Messages → Bool → Bool
+refused_unfinished m was = if is_message_unfinished m then true else was
+
+abbrev pub refused_at_last : Bool → Messages → Bool → Bool
+refused_at_last true m was = refused_unfinished (after_last m)
+    (refused_after (option_to_list (entry_of_last m)) (after_last m) was)
+refused_at_last false m was =
+    refused_unfinished (after_last m) (refused_cut (entry_of_last m) was)
+
 -- the end of the input, unless it was read before
-abbrev pub DropsEnd : Bool → Bool → Messages → LogView → LogView → Type 0
+abbrev pub DropsEnd : Bool → Bool → Messages → Dropping → Dropping → Type 0
 DropsEnd true is_at_end m old new = new ≡ old
 DropsEnd false is_at_end m old new =
-    DropsLast is_at_end m old.read old.errors new.errors
-    × (new ≡ record old { errors = new.errors; read = read_at_last is_at_end m old.read })
+    DropsLast is_at_end m old.log.read old.log.errors new.log.errors
+    × (new.log ≡ record old.log {
+      errors = new.log.errors;
+      read = read_at_last is_at_end m old.log.read;
+    })
+    × (new.was_refused ≡ refused_at_last is_at_end m old.was_refused)
 
 -- all of the input that wasn't sent
-abbrev pub DropsInput : List ℕ → Bool → LoggedSession → LogView → Type 0
+abbrev pub DropsInput : List ℕ → Bool → LoggedSession → Dropping → Type 0
 DropsInput bytes is_at_end s new =
-    (mid : LogView)
-    × DropsBytes bytes s.state.messages s.log mid
+    (mid : Dropping)
+    × DropsBytes bytes s.state.messages (dropping s) mid
     × DropsEnd s.state.is_read is_at_end (after_input bytes s.state.messages) mid new
+
+-- Then a session was closed: what its line had accepted is lost, too.
+pub record ClosesLog (left : List ℕ) (is_at_end : Bool) (old new : LoggedSession) : Type 0 where
+  pub dropped : Dropping
+  pub drops : DropsInput left is_at_end old dropped
+  pub refused : new.state.was_refused ≡ dropped.was_refused
+  pub loses : HasLost (form_of old.state.messages) (lost_by_end old.state) dropped.log.errors
+      new.log.errors
+  pub log : new.log ≡ record dropped.log { errors = new.log.errors }

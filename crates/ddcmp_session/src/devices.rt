@@ -1,6 +1,7 @@
 //! The devices of a session: the input, a line, two outputs, a clock and a wait.
 ghost use Rattle.std.specs.Prelude.{◌≡◌, ◌<◌, ◌≤◌, length, Option};
 ghost use Rattle.ddcmp_session.specs.Devices.{count_moved as moved};
+ghost use Rattle.ddcmp_session.specs.EndText.{down_text};
 
 use crate::buffers::Buffers;
 use crate::session::Session;
@@ -134,19 +135,27 @@ pub enum Down {
     Failed(ErrorKind),
 }
 
+impl Down {
+    /// Returns this in words.
+    pub(crate) fn words(self) -> &'static str
+        ensures { result.now ≡ down_text self }
+    {
+        match self {
+            Down::Closed => "closed by the other end",
+            Down::Failed(ErrorKind::BrokenPipe) => "broken pipe",
+            Down::Failed(ErrorKind::Other) => "input or output error",
+            Down::Failed(kind) => words_of(kind),
+        }
+    }
+}
+
 impl fmt::Display for Down {
     ghost use Rattle.std.specs.Prelude.{Some};
-    ghost use Rattle.ddcmp_session.specs.EndText.{down_text};
 
     ghost output = { λ d. Some (down_text d) };
 
     fn fmt<W: fmt::Write>(&self, f: &mut fmt::Formatter<W>) -> fmt::Result {
-        f.write_str(match self {
-            Down::Closed => "closed by the other end",
-            Down::Failed(ErrorKind::BrokenPipe) => "broken pipe",
-            Down::Failed(ErrorKind::Other) => "input or output error",
-            Down::Failed(kind) => words_of(*kind),
-        })
+        f.write_str(self.words())
     }
 }
 

@@ -1,6 +1,6 @@
 //! What a session reports, by a clock of the test's own: when, at which time of day, and what of
 //! its lines.
-use ddcmp_session::{Form, LineKind, Options, Session};
+use ddcmp_session::{Down, Form, LineKind, Options, Session};
 use ddcmp_station::Config;
 use std::process::Abort;
 
@@ -137,14 +137,10 @@ fn lines_down(rt: HostRuntime) {
     for stay in [false, true] {
         let mut session = running(&rt, stay);
         session.input_ended();
-        session.report_down(&"reason");
+        session.report_down(Down::Closed);
         if stay {
-            tells(
-                &rt,
-                &mut session,
-                "2001-09-09T01:46:40.000Z line down: reason\n",
-                "",
-            );
+            let line = "2001-09-09T01:46:40.000Z line down: closed by the other end\n";
+            tells(&rt, &mut session, line, "");
         } else {
             assert!(&rt; session.to_errors().is_empty());
         }

@@ -9,7 +9,6 @@ use crate::buffers::lines::Stop;
 use crate::buffers::running::{END_MS, drain_errors, drain_output};
 use crate::devices::{Devices, Fault};
 use crate::session::Session;
-use std::fmt;
 
 impl Buffers {
     ghost use Rattle.std.specs.Prelude.{◌≡◌, ◌≢◌, ◌<◌, Err, Ok, ℕ, false, is_ok};
@@ -109,22 +108,7 @@ fn deliver_rest<D: Devices>(session: &mut Session, devices: &mut D) -> Result<()
     let drained = drain_output(session, devices);
     session.finish();
     if drained == Err(Fault::Time) {
-        session.report(&Unread);
+        session.report_unread();
     }
     drained
-}
-
-/// Standard output took nothing after the time of the run was over.
-#[derive(Drop)]
-struct Unread;
-
-impl fmt::Display for Unread {
-    ghost use Rattle.std.specs.Prelude.{Some};
-    ghost use Rattle.ddcmp_session.specs.EndText.{unread_text};
-
-    ghost output = { λ u. Some unread_text };
-
-    fn fmt<W: fmt::Write>(&self, f: &mut fmt::Formatter<W>) -> fmt::Result {
-        f.write_str("ddcmp: standard output isn't read: received messages are lost")
-    }
 }

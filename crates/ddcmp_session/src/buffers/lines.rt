@@ -11,7 +11,6 @@ use crate::buffers::passing::write_errors;
 use crate::buffers::running::leave_line;
 use crate::devices::{Devices, Fault, Wanted};
 use crate::session::{End, Session};
-use std::fmt;
 
 /// Why a run ended before all was delivered.
 #[derive(Clone, Copy, Debug, PartialEq, Eq)]
@@ -136,7 +135,7 @@ impl Buffers {
             Ok(End::Restarted | End::GivenUp) => Ok(false),
             Ok(End::Time) => Err(Stop::Device(Fault::Time)),
             Err(Fault::Line(why)) => {
-                session.report_down(&why);
+                session.report_down(why);
                 Ok(false)
             }
             Err(fault) => Err(Stop::Device(fault)),
@@ -331,7 +330,7 @@ fn leave<D: Devices>(session: &mut Session, devices: &mut D) -> Result<(), Fault
     }
     let now = devices.now();
     if let Some(seconds) = session.pause_after_line(now) {
-        session.report(&Pause { seconds });
+        session.report_pause(seconds);
     }
     Ok(())
 }
@@ -356,21 +355,4 @@ fn pass_run(session: &mut Session)
 {
     let now = session.run_ends_at();
     session.pass_time(now);
-}
-
-/// A line is opened again after this many seconds.
-#[derive(Drop)]
-struct Pause {
-    seconds: u64,
-}
-
-impl fmt::Display for Pause {
-    ghost use Rattle.std.specs.Prelude.{Some};
-    ghost use Rattle.ddcmp_session.specs.EndText.{pause_text};
-
-    ghost output = { λ p. Some (pause_text p.seconds) };
-
-    fn fmt<W: fmt::Write>(&self, f: &mut fmt::Formatter<W>) -> fmt::Result {
-        write!(f, "retry in {} s", self.seconds)
-    }
 }

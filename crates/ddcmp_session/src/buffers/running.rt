@@ -13,13 +13,17 @@ use crate::buffers::passing::{deliver_all, write_errors, write_output};
 use crate::devices::{Devices, Fault, Wanted};
 use crate::session::{End, Session};
 
+/// After how many passes in which something moved the devices are asked again which of them is
+/// ready, so that none starves another.
+const PASSES: u64 = 16;
+
 /// How long an output may take nothing at the end of a run, in milliseconds.
 pub(super) const END_MS: u64 = 1000;
 
 impl Buffers {
-    ghost use Rattle.std.specs.Prelude.{◌≡◌, ◌≢◌, Err, Ok, Some};
+    ghost use Rattle.std.specs.Prelude.{◌≡◌, ◌≢◌, Err, None, Ok, Some, false};
     ghost use Rattle.ddcmp_session.specs.Timing.{end};
-    ghost use Rattle.ddcmp_session.specs.Devices.{GoesOn, Reports};
+    ghost use Rattle.ddcmp_session.specs.Devices.{Becomes, GoesOn, Reports, Rests, after_wait};
     ghost use Rattle.ddcmp_session.specs.declared.devices.Fault.{Fault as FaultValue};
     ghost use Rattle.ddcmp_session.specs.declared.session.End.{End as EndValue};
 
@@ -33,23 +37,21 @@ impl Buffers {
         ensures ended { (why : EndValue) → result ≡ Ok why → end session.new.state ≡ Some why }
         ensures untimed { result ≢ Err Fault.Time }
     {
-        for _pass in 0..u64::MAX {
+        for pass in 0..u64::MAX {
             let now = devices.now();
             session.handle_timeout(now);
             if let Some(end) = session.end() {
                 return Ok(end);
             }
-            match self.pass(session, devices) {
-                Ok(true) => continue,
-                Ok(false) => {}
+            let moved = match self.pass(session, devices) {
+                Ok(moved) => moved,
                 Err(fault) => return Err(fault),
-            }
+            };
             // The next turn returns it.
             if session.end().is_some() {
                 continue;
             }
-            let most = session.wait_ms();
-            if !devices.rest(session, self, most) {
+            if !self.wait(session, devices, moved, pass % PASSES == 0) {
                 return Err(Fault::Input);
             }
         }
@@ -57,6 +59,25 @@ impl Buffers {
         let now = session.run_ends_at();
         session.handle_timeout(now);
         Ok(End::Time)
+    }
+
+    /// Waits; or if something moved, asks without waiting which devices are ready, if it is to.
+    /// Returns whether it could.
+    fn wait<D: Devices>(
+        &self,
+        session: &Session,
+        devices: &mut D,
+        moved: bool,
+        asks: bool,
+    ) -> bool
+        requires rests { moved ≡ false → Rests self.now session.now.state }
+        requires goes_on { end session.now.state ≡ None }
+        ensures { Becomes (D.traffic devices.old) (D.traffic devices.new) (after_wait result) }
+    {
+        if !moved {
+            return devices.rest(session, self, session.wait_ms());
+        }
+        !asks || devices.wait(self.wanted(session), 0)
     }
 }
 

@@ -16,6 +16,7 @@ impl Session {
     ghost use Rattle.ddcmp_session.specs.EndText.{end_line, end_text, queued};
     ghost use Rattle.ddcmp_session.specs.Errors.{HasLine};
     ghost use Rattle.ddcmp_session.specs.Logged.{HasEnd, Traces};
+    ghost use Rattle.ddcmp_session.specs.Reported.{ClosesLog};
     ghost use Rattle.ddcmp_session.specs.Trace.{LogsEnd};
     ghost use Rattle.ddcmp_session.specs.Text.{Wrote, reported_lost};
 
@@ -40,6 +41,7 @@ impl Session {
           was_refused = self.new.state.was_refused;
           output = self.new.state.output;
         } }
+        ensures dropped { ClosesLog input.now input_is_at_end self.old self.new }
         ensures log { self.new.log
             ≡ record self.old.log { errors = self.new.log.errors; read = self.new.log.read } }
     {

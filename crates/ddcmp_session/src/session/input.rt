@@ -31,7 +31,8 @@ impl Session {
     ghost use Rattle.ddcmp_session.specs.Reported.{CutsEach, DropsBytes, DropsEach, DropsInput};
     ghost use Rattle.ddcmp_session.specs.Reported.{DropsLast, HasRefused, RefusesUnfinished};
     ghost use Rattle.ddcmp_session.specs.Reported.{ReportsEach, ReportsLast, ReportsTyped};
-    ghost use Rattle.ddcmp_session.specs.Reported.{read_at_last};
+    ghost use Rattle.ddcmp_session.specs.Reported.{dropping, read_at_last, refused_after};
+    ghost use Rattle.ddcmp_session.specs.Reported.{refused_at_last, refused_cut};
     ghost use Rattle.ddcmp_session.specs.Session.{wants_input, after_typed, after_input_end};
     ghost use Rattle.ddcmp_session.specs.Session.{after_entries, after_entry, after_unfinished};
     ghost use Rattle.ddcmp_session.specs.Session.{form_of, takes_in};
@@ -162,7 +163,7 @@ impl Session {
           course = lost_more (lost_at_end bytes.now is_at_end self.old.state)
               (lost_more (lost_among bytes.now self.old.state) self.old.state.course);
         } }
-        ensures dropped { DropsInput bytes.now is_at_end self.old self.new.log }
+        ensures dropped { DropsInput bytes.now is_at_end self.old (dropping self.new) }
         ensures log { self.new.log
             ≡ record self.old.log { errors = self.new.log.errors; read = self.new.log.read } }
     {
@@ -180,7 +181,8 @@ impl Session {
     /// Takes bytes of the input, and returns how many messages are lost with them.
     fn drop_bytes(&mut self, bytes: &[u8]) -> u64
         ensures lost { result ≡ lost_among bytes.now self.old.state }
-        ensures dropped { DropsBytes bytes.now self.old.state.messages self.old.log self.new.log }
+        ensures dropped { DropsBytes bytes.now self.old.state.messages (dropping self.old)
+            (dropping self.new) }
         ensures messages { self.new.state.messages ≡ after_input bytes.now self.old.state.messages }
         ensures stays { self.new.state ≡ record self.old.state {
           messages = self.new.state.messages;
@@ -210,6 +212,8 @@ impl Session {
         ensures errors { DropsLast is_at_end self.old.state.messages self.old.log.read
             self.old.log.errors self.new.log.errors }
         ensures form { form_of self.new.state.messages ≡ form_of self.old.state.messages }
+        ensures refused { self.new.state.was_refused ≡ refused_at_last is_at_end
+            self.old.state.messages self.old.state.was_refused }
         ensures stays { self.new.state ≡ record self.old.state {
           messages = self.new.state.messages;
           was_refused = self.new.state.was_refused;
@@ -234,6 +238,8 @@ impl Session {
         ensures none { result ≡ 0 }
         ensures errors { CutsEach (option_to_list entry) self.old.state.messages
             self.old.log.read self.old.log.errors self.new.log.errors }
+        ensures refused { self.new.state.was_refused
+            ≡ refused_cut entry self.old.state.was_refused }
         ensures stays { self.new.state
             ≡ record self.old.state { was_refused = self.new.state.was_refused } }
         ensures log { self.new.log ≡ record self.old.log { errors = self.new.log.errors } }
@@ -250,6 +256,9 @@ impl Session {
         ensures few { result ≤ 1 }
         ensures errors { DropsEach (option_to_list entry) self.old.state.messages
             self.old.log.read self.old.log.errors self.new.log.errors }
+        ensures refused { self.new.state.was_refused
+            ≡ refused_after (option_to_list entry) self.old.state.messages
+            self.old.state.was_refused }
         ensures stays { self.new.state
             ≡ record self.old.state { was_refused = self.new.state.was_refused } }
         ensures read { self.new.log.read

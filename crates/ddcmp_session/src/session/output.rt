@@ -1,4 +1,5 @@
 //! The two outputs of a session.
+use crate::devices::Down;
 use crate::errors::SHORT_LINE;
 use crate::messages::Form;
 use crate::session::Session;
@@ -13,9 +14,10 @@ impl Session {
     ghost use Rattle.ddcmp_window.specs.Store.{first_message};
     ghost use Rattle.ddcmp_io.specs.Queue.{after_pushed, after_taken};
     ghost use Rattle.ddcmp_session.specs.Course.{lost_more};
-    ghost use Rattle.ddcmp_session.specs.Errors.{Took};
+    ghost use Rattle.ddcmp_session.specs.EndText.{pause_text, unread_text};
+    ghost use Rattle.ddcmp_session.specs.Errors.{HasLine, Took};
     ghost use Rattle.ddcmp_session.specs.Finishing.{HasRoomIfEmpty};
-    ghost use Rattle.ddcmp_session.specs.Logged.{HasLost, HasReport};
+    ghost use Rattle.ddcmp_session.specs.Logged.{HasLost, HasReport, ReportsDown};
     ghost use Rattle.ddcmp_session.specs.Session.{form_of, reports_loss, room_for_mail};
     ghost use Rattle.ddcmp_session.specs.Text.{Wrote, mail_text, reported_lost};
 
@@ -100,15 +102,40 @@ impl Session {
     }
 
     /// Reports why the line is down, unless all is delivered that was to be.
-    pub fn report_down<E: fmt::Display>(&mut self, reason: &E)
+    pub fn report_down(&mut self, why: Down)
         ensures state { self.new.state ≡ self.old.state }
+        ensures errors { ReportsDown why self.old.state self.old.log.errors self.new.log.errors }
         ensures log { self.new.log ≡ record self.old.log { errors = self.new.log.errors } }
     {
         if self.is_delivered() && !self.stays() {
             return;
         }
         if self.errors.begin_line(SHORT_LINE) {
-            let _is_whole = write!(&mut self.errors.queue, "line down: {reason}\n");
+            text::write_down(&mut self.errors.queue, why);
+        }
+    }
+
+    /// Reports that a line is opened again after this many seconds.
+    pub(crate) fn report_pause(&mut self, seconds: u64)
+        ensures state { self.new.state ≡ self.old.state }
+        ensures errors { HasLine SHORT_LINE (pause_text seconds)
+            self.old.log.errors self.new.log.errors }
+        ensures log { self.new.log ≡ record self.old.log { errors = self.new.log.errors } }
+    {
+        if self.errors.begin_line(SHORT_LINE) {
+            text::write_pause(&mut self.errors.queue, seconds);
+        }
+    }
+
+    /// Reports that standard output took nothing after the time of the run was over.
+    pub(crate) fn report_unread(&mut self)
+        ensures state { self.new.state ≡ self.old.state }
+        ensures errors { HasLine SHORT_LINE unread_text
+            self.old.log.errors self.new.log.errors }
+        ensures log { self.new.log ≡ record self.old.log { errors = self.new.log.errors } }
+    {
+        if self.errors.begin_line(SHORT_LINE) {
+            text::write_unread(&mut self.errors.queue);
         }
     }
 

@@ -18,14 +18,6 @@ returns-in-Some-clause-on g c =
     (timed-goes c.now-now.result c.loop-pass.session.state c.handle_timeout.new.self.state
     c.handle_timeout.ensures.state))
 
-pub loop-pass-preserved-in-Ok-true : goal.loop-pass-preserved-in-Ok-true
-loop-pass-preserved-in-Ok-true g c =
-    goes-then c.loop-pass.invariant
-    (goes-then (stays refl c.now-now.ensures)
-    (goes-then
-    (timed-goes c.now-now.result c.loop-pass.session.state c.handle_timeout.new.self.state
-    c.handle_timeout.ensures.state) c.pass.ensures.on))
-
 pub returns-in-Err-clause-on : goal.returns-in-Err-clause-on
 returns-in-Err-clause-on g c =
     goes-then c.loop-pass.invariant
@@ -49,16 +41,16 @@ loop-pass-preserved g c =
     (goes-then
     (timed-goes c.now-now.result c.loop-pass.session.state c.handle_timeout.new.self.state
     c.handle_timeout.ensures.state)
-    (goes-then c.pass.ensures.on (waited c.rest.result c.rest.ensures))))
+    (goes-then c.pass.ensures.on (waited c.wait.result c.wait.ensures))))
 
-pub returns-then-not-rest-clause-on : goal.returns-then-not-rest-clause-on
-returns-then-not-rest-clause-on g c =
+pub returns-then-not-wait-clause-on : goal.returns-then-not-wait-clause-on
+returns-then-not-wait-clause-on g c =
     goes-then c.loop-pass.invariant
     (goes-then (stays refl c.now-now.ensures)
     (goes-then
     (timed-goes c.now-now.result c.loop-pass.session.state c.handle_timeout.new.self.state
     c.handle_timeout.ensures.state)
-    (goes-then c.pass.ensures.on (waited c.rest.result c.rest.ensures))))
+    (goes-then c.pass.ensures.on (waited c.wait.result c.wait.ensures))))
 
 same : {f f' : Fault} → ◌≡◌ {A = Result End Fault} (Err f) (Err f') → f ≡ f'
 same e = cc
@@ -74,17 +66,17 @@ returns-in-Err-clause-reports g c = λ fault e.
     (timed-goes c.now-now.result c.loop-pass.session.state c.handle_timeout.new.self.state
     c.handle_timeout.ensures.state) (c.in-Err.ensures.reports c.in-Err.fault refl))))
 
-pub returns-then-not-rest-clause-reports : goal.returns-then-not-rest-clause-reports
-returns-then-not-rest-clause-reports g c = λ fault e.
+pub returns-then-not-wait-clause-reports : goal.returns-then-not-wait-clause-reports
+returns-then-not-wait-clause-reports g c = λ fault e.
     subst
     (Reports c.args.self.now c.args.session.now.state (g.D.Devices.traffic c.args.devices.now)
-    (g.D.Devices.traffic c.rest.new.self)) (same e)
+    (g.D.Devices.traffic c.wait.new.devices)) (same e)
     (reports-then c.loop-pass.invariant
     (reports-then (stays refl c.now-now.ensures)
     (reports-then
     (timed-goes c.now-now.result c.loop-pass.session.state c.handle_timeout.new.self.state
     c.handle_timeout.ensures.state)
-    (reports-then c.pass.ensures.on (reported Input c.if-not-rest.ensures)))))
+    (reports-then c.pass.ensures.on (reported Input c.if-not-wait.ensures)))))
 
 pub returns-clause-on : goal.returns-clause-on
 returns-clause-on g c =

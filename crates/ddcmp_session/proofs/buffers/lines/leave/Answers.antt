@@ -9,7 +9,7 @@ returns-in-Some-clause-over g c = λ held.
     (over-then (none-over refl c.now-now.ensures)
     (over-then
     (paused c.now-now.result c.leave_line.new.session.state c.pause_after_line.new.self.state
-    c.pause_after_line.ensures.state) (none-over c.report.ensures.state refl)))
+    c.pause_after_line.ensures.state) (none-over c.report_pause.ensures.state refl)))
 
 pub returns-in_default-clause-over : goal.returns-in_default-clause-over
 returns-in_default-clause-over g c = λ held.
@@ -30,7 +30,7 @@ returns-in-Err-clause-time g c = λ e. c.note_time.ensures.time (same e)
 
 pub returns-in-Some-clause-ready : goal.returns-in-Some-clause-ready
 returns-in-Some-clause-ready g c = λ e.
-    ready-by c.report.ensures.state
+    ready-by c.report_pause.ensures.state
     (ready-by c.pause_after_line.ensures.state (c.leave_line.ensures.ready c.in-Ok.is))
 
 pub returns-in_default-clause-ready : goal.returns-in_default-clause-ready

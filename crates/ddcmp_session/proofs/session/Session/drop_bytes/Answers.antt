@@ -5,13 +5,14 @@ use Rattle.ddcmp_session.proofs.DropReportLaws.{drops-all, drops-silent, drops-s
 use Rattle.ddcmp_session.proofs.InputLaws.{no-entries}
 use Rattle.ddcmp_session.proofs.LogLaws.{reads-on}
 use Rattle.ddcmp_session.specs.Logged.{LoggedSession}
+use Rattle.ddcmp_session.specs.Reported.{dropping}
 use Rattle.ddcmp_session.proofs.session.Session.drop_bytes.Goals as goal
 
 pub loop-part-init : goal.loop-part-init
 loop-part-init c = (
   drops-none c.args.bytes.now c.args.self.now.state,
   refl,
-  drops-silent [] c.args.self.now.state.messages c.args.self.now.log
+  drops-silent [] c.args.self.now.state.messages (dropping c.args.self.now)
       (no-entries c.args.self.now.state.messages),
 )
 
@@ -39,16 +40,18 @@ loop-part-preserved c = (
       }) c.self.view_is c.drop_entry-lost.ensures.log),
   drops-slice c.args.bytes.now _ c.loop-part.at c.push-pushed.result.used
       c.args.self.now.state.messages (session.the_view c.self.inside).state.messages
-      c.push-pushed.new.self c.push-pushed.result.entry c.args.self.now.log c.loop-part.self.log
-      c.drop_entry-lost.new.self.log refl
+      c.push-pushed.new.self c.push-pushed.result.entry (dropping c.args.self.now)
+      (dropping c.loop-part.self) (dropping c.drop_entry-lost.new.self) refl
       (ap (λ (s : LoggedSession). s.state.messages) c.self.view_is
       ∙ c.loop-part.invariant.0.messages)
       c.loop-part.invariant.2 c.push-pushed.ensures.first c.push-pushed.ensures.entries
       c.push-pushed.ensures.state
       (has-dropped c.push-pushed.result.entry c.push-pushed.new.self c.push-pushed.new.self
-      c.loop-part.self.log (session.the_view c.self.inside).log c.drop_entry-lost.new.self.log
-      (ap (λ (s : LoggedSession). s.log) c.self.view_is) refl c.drop_entry-lost.ensures.errors
-      c.drop_entry-lost.ensures.read c.drop_entry-lost.ensures.log),
+      (dropping c.loop-part.self) (dropping (session.the_view c.self.inside))
+      (dropping c.drop_entry-lost.new.self)
+      (ap (λ (s : LoggedSession). dropping s) c.self.view_is) refl
+      c.drop_entry-lost.ensures.errors c.drop_entry-lost.ensures.read
+      c.drop_entry-lost.ensures.refused c.drop_entry-lost.ensures.log),
 )
 
 pub returns-after-loop-part-clause-lost : goal.returns-after-loop-part-clause-lost
@@ -79,11 +82,11 @@ returns-then-at-bytes-clause-messages c =
 
 pub returns-after-loop-part-clause-dropped : goal.returns-after-loop-part-clause-dropped
 returns-after-loop-part-clause-dropped c =
-    drops-all c.args.bytes.now c.loop-part.at c.args.self.now.state.messages c.args.self.now.log
-    c.loop-part.self.log
+    drops-all c.args.bytes.now c.loop-part.at c.args.self.now.state.messages
+    (dropping c.args.self.now) (dropping c.loop-part.self)
     (omega (arith, c.loop-part-test.false, c.loop-part.invariant.0.parts)) c.loop-part.invariant.2
 
 pub returns-then-at-bytes-clause-dropped : goal.returns-then-at-bytes-clause-dropped
 returns-then-at-bytes-clause-dropped c =
-    drops-all c.args.bytes.now c.loop-part.at c.args.self.now.state.messages c.args.self.now.log
-    c.loop-part.self.log (omega (arith, c.if-at-bytes.true)) c.loop-part.invariant.2
+    drops-all c.args.bytes.now c.loop-part.at c.args.self.now.state.messages
+    (dropping c.args.self.now) (dropping c.loop-part.self) (omega (arith, c.if-at-bytes.true)) c.loop-part.invariant.2
