@@ -1,5 +1,6 @@
 """Bridges between lines of each kind: two links over one, what of junk and damaged frames comes out, and the faults
 that a bridge makes."""
+import contextlib
 import json
 import os
 import re
@@ -268,6 +269,44 @@ def bridged_rest():
         wrong(f"{len(got)} of {had} frames, {bridge.lines()} {bridge.errors()}")
     for it in (first, second, two):
         it.close()
+
+
+def bridged_last():
+    """As a line ends, the peer of the other one sends on, and reads late: it gets all, and no reset. One that
+    doesn't close its connection is read for half a second at most, without a busy loop, and only while it sends."""
+    frames = b"".join(data(drawn.randbytes(990), it % 256) for it in range(200))
+    for sends_on, closes, late in ((True, True, 0.2), (False, True, 0), (True, False, 0), (False, False, 0)):
+        first, second = server(), server()
+        bridge = Bridge(*(f"connect:127.0.0.1:{it.getsockname()[1]}" for it in (first, second)))
+        one, two = first.accept()[0], second.accept()[0]
+        if sends_on:
+            threading.Thread(target=floods, args=(two,), daemon=True).start()
+        one.sendall(frames)
+        one.close()
+        bridge.waits(lambda it: b"first line down" in it.told)
+        began, used = time.monotonic(), bridge.processor_time()
+        time.sleep(late)
+        got = b""
+        with contextlib.suppress(ConnectionResetError):
+            while piece := two.recv(1 << 16):
+                got += piece
+        if closes:
+            with contextlib.suppress(OSError):  # it is gone already
+                two.shutdown(socket.SHUT_RDWR)
+        status, took = bridge.ended(), time.monotonic() - began
+        if status != 0 or got != frames:
+            wrong(f"{sends_on} {closes}: {status}, {len(got)} bytes, {bridge.errors()}")
+        is_left = sends_on and not closes
+        if is_left != (took > late + 0.3) or took > 1.5 or bridge.used - used > 0.1 and not sends_on:
+            wrong(f"{sends_on} {closes}: {took} s, {bridge.used - used} s of processor time")
+        for it in (first, second, two):
+            it.close()
+
+
+def floods(peer):
+    with contextlib.suppress(OSError):
+        while True:
+            peer.sendall(b"\x96" * (1 << 16))
 
 
 def faulty(*faults):
@@ -543,6 +582,6 @@ def ends_of_a_bridge():
 
 TRIALS = [
     over_faults, the_example, the_example_of_saving, bridged_slowly, bridged_rest, bridged_junk, device_to_udp, faults_by_a_seed,
-    udp_to_tcp, tcp_to_tcp, bridged_datagrams, delayed, saved, traced, ends_of_a_bridge,
+    bridged_last, udp_to_tcp, tcp_to_tcp, bridged_datagrams, delayed, saved, traced, ends_of_a_bridge,
 ]
 LONG_TRIALS = []

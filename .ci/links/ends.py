@@ -431,8 +431,34 @@ def line_is_reset():
         wrong(f"{link.lines()}")
 
 
+def peer_sends_on():
+    """The peer still sends as a link ends, and reads only then: it gets the last acknowledgement, and no reset. One that
+    never ends is left soon."""
+    def answer(peer, frame):
+        if frame.name != "DATA":
+            return good(peer, frame)
+        time.sleep(0.2)  # so that the end of the link's input was read
+        peer.send(b"".join(data(b"a", it) for it in range(1, 101)) + ack(1))
+        for _ in range(pieces):
+            peer.send(b"\x96" * (1 << 18))
+        return b""
+    for pieces in (8, 1 << 40):
+        with server() as it:
+            it.setsockopt(socket.SOL_SOCKET, socket.SO_SNDBUF, 1 << 16)
+            link = Link(f"connect:127.0.0.1:{it.getsockname()[1]}", "--linger-ms", "0")
+            peer = Peer(it.accept()[0], answer)
+        link.give(b"61\n")
+        wants(f"{pieces}", link, 0, seconds=10)
+        if link.took > 2:
+            wrong(f"{pieces}: {link.took:.2f} s")
+        peer.waits(lambda it: it.has_ended, 10)
+        got = [it.resp for it in peer.frames]
+        if pieces == 8 and (not link.mails() or got[-1:] != [len(link.mails())]):
+            wrong(f"{len(link.mails())} messages, {got[-3:]} acknowledged")
+
+
 TRIALS = [lost, lost_on_each_line, lost_once, lost_at_a_restart, peer_restarts, bytes_of_an_old_line, failed_input, peer_closes,
           pending_input, stay, again_ends, examples, one_example, serial_example, seconds, seconds_unfinished,
           seconds_in_each_state, no_line, timer_of_nothing, callers, listener_without_input, listener_refuses,
-          line_is_reset]
+          line_is_reset, peer_sends_on]
 LONG_TRIALS = [many_examples]

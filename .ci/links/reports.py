@@ -21,6 +21,8 @@ def reports_of(lines):
     for line in lines:
         if line.startswith("{"):
             found.append(json.loads(line))
+            if json.dumps(found[-1], separators=(",", ":")) != line:
+                wrong(f"{line}")
         elif REPORT.match(line):
             found.append(dict(it.split("=") for it in line.split() if "=" in it))
     return found

@@ -1,8 +1,16 @@
 -- The words that name lines.
 use Rattle.std.specs.Prelude.{ℕ, List, ◌++◌, ◌≢◌, codes, get_or, length, ◌<◌, ⊤}
+use Rattle.std.specs.Prelude.{Bool, if◌then◌else◌}
+use Rattle.std.specs.Borrow.{Bor}
+use Rattle.ddcmp_service.specs.declared.fault.Attempt.{Attempt}
+use Rattle.ddcmp_service.specs.declared.fault.Attempt.TheVariants as attempt
+use Rattle.ddcmp_service.specs.declared.fault.NotOpened.{NotOpened}
 use Rattle.ddcmp_service.specs.declared.line_name.LineName.{LineName}
 use Rattle.ddcmp_service.specs.declared.line_name.LineName.TheVariants.{Connect, Listen, Udp}
 use Rattle.ddcmp_service.specs.declared.line_name.LineName.TheVariants.{Device}
+use Rattle.ddcmp_service.specs.declared.opening.OpenRefusal.{OpenRefusal}
+use Rattle.ddcmp_session.specs.declared.options.LineKind.{LineKind}
+use Rattle.ddcmp_session.specs.declared.options.LineKind.TheVariants as kind
 
 -- what a line is called by
 unfoldable pub word_of : LineName → List ℕ
@@ -15,3 +23,33 @@ word_of (Device path) = codes "device:" ++ path.now
 unfoldable pub IsPlain : LineName → Type 0
 IsPlain (Udp local remote) = (k : ℕ) → k < length local.now → get_or local.now k 0 ≢ 44
 IsPlain _ = ⊤
+
+abbrev pub line_kind : LineName → LineKind
+line_kind (Connect at) = kind.Connect
+line_kind (Listen at) = kind.Listen
+line_kind (Udp local remote) = kind.Datagrams
+line_kind (Device path) = kind.Device
+
+-- ---- a line that couldn't be opened
+
+-- what was tried
+abbrev pub attempt_of : LineKind → Attempt
+attempt_of kind.Connect = attempt.Connect
+attempt_of kind.Listen = attempt.Listen
+attempt_of kind.Datagrams = attempt.Open
+attempt_of kind.Device = attempt.Open
+
+-- which name is to blame: of two addresses the remote one, or else the local one
+abbrev pub blamed : Bool → LineName → Bor (List ℕ)
+blamed is_remote (Connect at) = at
+blamed is_remote (Listen at) = at
+blamed is_remote (Udp local remote) = if is_remote then remote else local
+blamed is_remote (Device path) = path
+
+-- what is reported of it
+abbrev pub not_opened_of : LineName → OpenRefusal → NotOpened
+not_opened_of name refused = record {
+  attempt = attempt_of (line_kind name);
+  name = blamed refused.is_remote name;
+  cause = refused.cause;
+}

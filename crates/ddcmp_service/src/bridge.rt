@@ -1,10 +1,11 @@
 //! A bridge over two lines, from their opening to its end.
+ghost use Rattle.std.specs.Prelude.{◌≡◌, ◌*◌};
+
 use crate::bridge_intake::Intake;
 use crate::bridge_live::LiveLines;
 use crate::bridge_save::{Save, remove};
 use crate::bridge_side::Sides;
 use crate::bridge_trace::Trace;
-use crate::event::Event;
 use crate::fault::{Attempt, Cause, NotOpened};
 use crate::line::Line;
 use crate::line_name::LineName;
@@ -119,9 +120,11 @@ fn no_waiting<'a>(kind: ErrorKind) -> BridgeFault<'a> {
     }
 }
 
-/// Prints an event of a line.
-fn tell<E: Eprint>(system: &E, event: &Event<'_>) {
-    let _ = eprintln!(system; "{event}");
+/// Prints what came of opening a line, if that is reported.
+fn tell<E: Eprint>(system: &E, opened: &Opened) {
+    if let Some(event) = opened.event() {
+        let _ = eprintln!(system; "{event}");
+    }
 }
 
 /// A line that is being opened.
@@ -162,9 +165,8 @@ impl<'a> Opening<'a> {
     /// Listens if the line is one of whoever comes, and reports at which address.
     fn listen<S: System>(&mut self, system: &S) -> Result<(), BridgeFault<'a>> {
         match self.opener.listen(system, &mut self.waiting) {
-            Ok(None) => Ok(()),
-            Ok(Some(addr)) => {
-                tell(system, &Event::Listening(addr));
+            Ok(opened) => {
+                tell(system, &opened);
                 Ok(())
             }
             Err(refused) => Err(self.fault(refused)),
@@ -179,15 +181,13 @@ impl<'a> Opening<'a> {
         ends_at: u64,
     ) -> Result<Option<Line>, BridgeFault<'a>> {
         for _try in 0..u64::MAX {
-            match self.opener.open(system, &mut self.waiting) {
-                Ok(Opened::Line(line)) => return Ok(Some(line)),
-                Ok(Opened::Connected(line, peer)) => {
-                    tell(system, &Event::Connected(peer));
-                    return Ok(Some(line));
-                }
-                Ok(Opened::Connecting(peer)) => tell(system, &Event::Connecting(peer)),
-                Ok(Opened::NotYet) => {}
+            let opened = match self.opener.open(system, &mut self.waiting) {
+                Ok(opened) => opened,
                 Err(refused) => return Err(self.fault(refused)),
+            };
+            tell(system, &opened);
+            if let Some(line) = opened.into_line() {
+                return Ok(Some(line));
             }
             let left = ends_at.saturating_sub(clock.now());
             if left == 0 || !self.waiting.wait(Wanted::NOTHING, left) {
@@ -293,12 +293,15 @@ impl Ways {
         tell_unsaved(system, options.save_second, lines.back.unsaved());
         let was_stopped = ended == Ended::Stopped || lines.is_stopped();
         let has_failed = has_failed(first) || has_failed(second) || was_stopped;
+        lines.sides.close(&mut lines.clock);
         end_of(&bridge, &lines.there, &lines.back, has_failed)
     }
 }
 
 /// Returns the moment at which the time of a bridge is over.
-fn ends_at(options: &BridgeOptions<'_>) -> u64 {
+fn ends_at(options: &BridgeOptions<'_>) -> u64
+    ensures { result ≡ 1000 * options.now.seconds }
+{
     1000 * u64::from(options.seconds)
 }
 

@@ -1,5 +1,5 @@
 //! What is done with the bytes that come over a line of a bridge, but for passing them on.
-ghost use Rattle.std.specs.Prelude.{◌≤◌, length};
+ghost use Rattle.std.specs.Prelude.{◌≡◌, ◌≤◌, ◌+◌, ◌-◌, ◌^◌, false, length, min};
 
 use crate::bridge_save::Save;
 use crate::bridge_trace::Trace;
@@ -46,7 +46,8 @@ impl Intake {
 
     /// Saves bytes that came; returns how many of them are to be passed on.
     pub(crate) fn take(&mut self, bytes: &[u8], are_datagram: bool) -> usize
-        ensures { result ≤ length bytes.now }
+        ensures fits { result ≤ length bytes.now }
+        ensures stream { are_datagram ≡ false → result ≡ length bytes.now }
     {
         if let Some(save) = &mut self.save {
             save.write(bytes);
@@ -82,7 +83,11 @@ impl Intake {
     }
 
     /// Returns what was counted of what came, with what was dropped.
-    pub(crate) fn counts(&self, counts: Counts) -> Counts {
+    pub(crate) fn counts(&self, counts: Counts) -> Counts
+        ensures { result ≡ record counts {
+          skipped = min (counts.skipped + self.now.cut) (2 ^ 64 - 1);
+        } }
+    {
         Counts {
             skipped: counts.skipped.saturating_add(self.cut),
             ..counts

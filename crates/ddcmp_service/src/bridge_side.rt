@@ -1,11 +1,13 @@
 //! The two lines of a bridge, and waiting for both.
-ghost use Rattle.std.specs.Prelude.{◌≤◌, length};
+ghost use Rattle.std.specs.Prelude.{◌≡◌, ◌≤◌, ◌&&◌, is_none, length};
 ghost use Rattle.ddcmp_bridge.specs.Joining.{count_of};
+ghost use Rattle.ddcmp_service.specs.Lines.{has_datagrams};
 
 use crate::line::Line;
 use crate::waiting::{Descriptor, Ready};
 use ddcmp_bridge::Needs;
 use ddcmp_session::{Down, Moved};
+use ddcmp_station::Clock;
 use mio::{Events, Interest, Poll, Token};
 use std::alloc::Global;
 use std::io;
@@ -65,7 +67,9 @@ impl Side {
     }
 
     /// Whether it takes bytes, as far as it has room.
-    pub(crate) fn takes_bytes(&self) -> bool {
+    pub(crate) fn takes_bytes(&self) -> bool
+        ensures { result ≡ is_none self.now.down && is_none self.now.refuses }
+    {
         self.down.is_none() && self.refuses.is_none()
     }
 
@@ -92,8 +96,21 @@ impl Side {
         }
     }
 
+    /// Closes its line.
+    fn close<C: Clock>(self, clock: &mut C) {
+        let Side {
+            line,
+            ready: _,
+            refuses: _,
+            down: _,
+        } = self;
+        line.close(clock);
+    }
+
     /// Whether it is one of datagrams.
-    pub(crate) fn has_datagrams(&self) -> bool {
+    pub(crate) fn has_datagrams(&self) -> bool
+        ensures { result ≡ has_datagrams self.now.line }
+    {
         self.line.has_datagrams()
     }
 }
@@ -148,6 +165,18 @@ impl Sides {
             first,
             second,
         })
+    }
+
+    /// Closes both lines.
+    pub(crate) fn close<C: Clock>(self, clock: &mut C) {
+        let Sides {
+            poll: _poll,
+            events: _events,
+            first,
+            second,
+        } = self;
+        first.close(clock);
+        second.close(clock);
     }
 
     /// If neither line takes anything any more, nothing can be passed on: both are down.

@@ -1,5 +1,7 @@
 //! How the run of a link ends before all is delivered.
 ghost use Rattle.std.specs.Prelude.{◌≡◌, ◌≢◌, ℕ};
+ghost use Rattle.ddcmp_service.specs.LineNames.{not_opened_of};
+ghost use Rattle.ddcmp_service.specs.declared.opening.OpenRefusal.{OpenRefusal as RefusalValue};
 
 use crate::fault::{Attempt, Cause, NotOpened, ServiceFault};
 use crate::line_name::LineName;
@@ -26,6 +28,8 @@ impl Ended {
         ensures memory { self ≡ Ended.Memory → result ≡ ServiceFault.Memory }
         ensures lost { (count : ℕ) → self ≡ Ended.Stopped (Stop.Lost count)
             → result ≡ ServiceFault.Lost count }
+        ensures opened { (refused : RefusalValue) → self ≡ Ended.Stopped (Stop.NotOpened refused)
+            → result ≡ ServiceFault.Open (not_opened_of line.entry refused) }
     {
         match self {
             Ended::CannotWait(kind) => ServiceFault::Open(NotOpened {

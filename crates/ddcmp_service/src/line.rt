@@ -1,10 +1,23 @@
 //! The line of a service: a socket or a device that is read and written without waiting.
+ghost use Rattle.std.specs.Prelude.{◌≡◌, ◌≢◌, ℕ, IfErr, IfOk, MatchResult, Ok};
+ghost use Rattle.std.specs.IoError.{error_kind};
+ghost use Rattle.ddcmp_service.specs.Lines.{has_datagrams, moved_by_error};
+ghost use Rattle.ddcmp_session.specs.declared.devices.Down.{Down as DownValue};
+
 use ddcmp_session::{Down, Moved};
+use ddcmp_station::Clock;
 use mio::net::{TcpStream, UdpSocket};
 use std::fs::File;
 use std::io::{self, ErrorKind, Read, Write};
-use std::net::SocketAddr;
+use std::net::{self, Shutdown, SocketAddr};
 use std::os::fd::{AsRawFd, RawFd};
+use std::time::Duration;
+
+/// For how long a peer is read at most, once its line is closed here, in milliseconds, and how
+/// long it may be silent then.
+const CLOSING_MS: u64 = 500;
+
+const SILENT_MS: u64 = 100;
 
 /// A line that is open.
 pub(crate) enum Line {
@@ -26,7 +39,10 @@ impl Drop for Line {
 }
 
 /// What a call of the system returned.
-pub(crate) fn moved_by(answer: io::Result<usize>) -> Moved {
+pub(crate) fn moved_by(answer: io::Result<usize>) -> Moved
+    ensures { MatchResult answer (λ n. result ≡ Moved.Bytes n)
+        (λ error. result ≡ moved_by_error (error_kind error)) }
+{
     match answer {
         Ok(n) => Moved::Bytes(n),
         Err(error) => match error.kind() {
@@ -38,7 +54,11 @@ pub(crate) fn moved_by(answer: io::Result<usize>) -> Moved {
 }
 
 /// What the receiving of a datagram returned. No error ends a line of datagrams.
-fn received_by(answer: io::Result<(usize, SocketAddr)>, remote: SocketAddr) -> Moved {
+fn received_by(answer: io::Result<(usize, SocketAddr)>, remote: SocketAddr) -> Moved
+    ensures peer { (n : ℕ) → answer ≡ Ok (n, remote) → result ≡ Moved.Bytes n }
+    ensures stranger { IfOk answer (λ got. got.1 ≢ remote → result ≡ Moved.Bytes 0) }
+    ensures up { (why : DownValue) → result ≢ Moved.Ended why }
+{
     match answer {
         Ok((n, sender)) => Moved::Bytes(if sender == remote { n } else { 0 }),
         Err(error) => match error.kind() {
@@ -51,7 +71,12 @@ fn received_by(answer: io::Result<(usize, SocketAddr)>, remote: SocketAddr) -> M
 }
 
 /// What became of a datagram that was to be sent: what an error takes is lost, as on a line.
-fn sent_by(answer: io::Result<usize>, length: usize) -> Moved {
+fn sent_by(answer: io::Result<usize>, length: usize) -> Moved
+    ensures sent { IfOk answer (λ n. result ≡ Moved.Bytes length) }
+    ensures full { IfErr answer (λ error. error_kind error ≡ ErrorKind.WouldBlock
+        → result ≡ Moved.Nothing) }
+    ensures up { (why : DownValue) → result ≢ Moved.Ended why }
+{
     match answer {
         Ok(_) => Moved::Bytes(length),
         Err(error) => match error.kind() {
@@ -63,14 +88,52 @@ fn sent_by(answer: io::Result<usize>, length: usize) -> Moved {
 }
 
 /// Reads a stream, of which no bytes are the end.
-fn read_by(answer: io::Result<usize>) -> Moved {
+fn read_by(answer: io::Result<usize>) -> Moved
+    ensures end { answer ≡ Ok 0 → result ≡ Moved.Ended Down.Closed }
+    ensures bytes { IfOk answer (λ n. n ≢ 0 → result ≡ Moved.Bytes n) }
+    ensures error { IfErr answer (λ error. result ≡ moved_by_error (error_kind error)) }
+{
     match moved_by(answer) {
         Moved::Bytes(0) => Moved::Ended(Down::Closed),
         got => got,
     }
 }
 
+/// Reads and drops what a peer still sends, until it closes the connection, too, falls silent, or
+/// its time is over.
+fn drain<C: Clock>(mut stream: net::TcpStream, clock: &mut C) {
+    let ends_at = clock.now().saturating_add(CLOSING_MS);
+    let mut space = [0; 16384];
+    for _read in 0..u64::MAX {
+        let left = Duration::from_millis(ends_at.saturating_sub(clock.now()).min(SILENT_MS));
+        // No time at all is refused.
+        if stream.set_read_timeout(Some(left)).is_err() {
+            return;
+        }
+        match read_by(stream.read(&mut space)) {
+            Moved::Bytes(_) | Moved::Interrupted => {}
+            Moved::Nothing | Moved::Ended(_) => return,
+        }
+    }
+}
+
 impl Line {
+    /// Closes the line: the peer learns of that at once. A connection that is closed while bytes
+    /// still come is reset, and what was written last may be lost; so those are read first.
+    pub(crate) fn close<C: Clock>(self, clock: &mut C) {
+        match self {
+            Line::Stream(stream) => {
+                let stream = net::TcpStream::from(stream);
+                let has_ended = stream.shutdown(Shutdown::Write).is_err();
+                if !has_ended && stream.set_nonblocking(false).is_ok() {
+                    drain(stream, clock);
+                }
+            }
+            Line::Datagrams(_socket, _) => {}
+            Line::Device(_file) => {}
+        }
+    }
+
     /// Reads what has come.
     pub(crate) fn read(&mut self, space: &mut [u8]) -> Moved {
         match self {
@@ -101,7 +164,9 @@ impl Line {
     }
 
     /// Whether what is written at once arrives at once, or not at all.
-    pub(crate) fn has_datagrams(&self) -> bool {
+    pub(crate) fn has_datagrams(&self) -> bool
+        ensures { result ≡ has_datagrams self.now }
+    {
         matches!(self, Line::Datagrams(_, _))
     }
 }

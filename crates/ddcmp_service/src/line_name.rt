@@ -1,6 +1,6 @@
 //! The names of lines.
 ghost use Rattle.std.specs.Prelude.{◌≡◌, ◌≢◌, MatchOption};
-ghost use Rattle.ddcmp_service.specs.LineNames.{word_of, IsPlain};
+ghost use Rattle.ddcmp_service.specs.LineNames.{word_of, IsPlain, line_kind, not_opened_of};
 
 use crate::fault::{Attempt, NotOpened};
 use crate::opening::OpenRefusal;
@@ -39,7 +39,9 @@ impl<'a> LineName<'a> {
     }
 
     /// Returns what kind of line it names.
-    pub(crate) fn kind(self) -> LineKind {
+    pub(crate) fn kind(self) -> LineKind
+        ensures { result ≡ line_kind self.entry }
+    {
         match self {
             LineName::Connect(_) => LineKind::Connect,
             LineName::Listen(_) => LineKind::Listen,
@@ -50,7 +52,9 @@ impl<'a> LineName<'a> {
 
     /// What is reported of a line that couldn't be opened. Of the two addresses of a line of
     /// datagrams it names the one that is to blame.
-    pub(crate) fn not_opened(self, refused: OpenRefusal) -> NotOpened<'a> {
+    pub(crate) fn not_opened(self, refused: OpenRefusal) -> NotOpened<'a>
+        ensures { result ≡ not_opened_of self.entry refused }
+    {
         let (attempt, name) = match self {
             LineName::Connect(name) => (Attempt::Connect, name),
             LineName::Listen(name) => (Attempt::Listen, name),

@@ -1,9 +1,13 @@
 //! The devices of a link: what the system gives a session.
+ghost use Rattle.std.specs.Prelude.{◌≡◌, ◌≤◌, ◌↔◌, length};
+ghost use Rattle.ddcmp_service.specs.Outlets.{at_once};
+ghost use Rattle.ddcmp_session.specs.Devices.{count_moved, count_read};
+
 use crate::datagram::Framing;
 use crate::event::Event;
 use crate::line::Line;
 use crate::line_name::LineName;
-use crate::opening::{OpenRefusal, Opened, Opener};
+use crate::opening::{OpenRefusal, Opener};
 use crate::outlet::Outlet;
 use crate::system::System;
 use crate::waiting::{Descriptor, Waiting};
@@ -95,32 +99,51 @@ impl<'a, S: System, C: Clock + Drop, R: Source, W: Sink> Live<'a, S, C, R, W> {
     }
 
     /// Has the owner of standard output write some of what waits.
-    fn write_by_owner(&mut self, bytes: &[u8]) -> Moved {
-        let piece = &bytes[..bytes.len().min(self.output.most())];
-        if piece.is_empty() {
+    fn write_by_owner(&mut self, bytes: &[u8]) -> Moved
+        ensures { count_moved result ≤ length (at_once self.old.output bytes.now) }
+    {
+        let bytes = self.output.piece(bytes);
+        if bytes.is_empty() {
             return Moved::Nothing;
         }
         if self.writer.failed() {
             return FAILED;
         }
-        match self.writer.write(piece) {
+        match self.writer.write(bytes) {
             Some(n) => Moved::Bytes(n),
             None => FAILED,
         }
     }
 
     /// Prints some of what waits: whatever becomes of that, it was taken.
-    fn print_some(&mut self, bytes: &[u8]) -> Moved {
-        let n = bytes.len().min(self.errors.most());
-        if let Ok(text) = str::from_utf8(&bytes[..n]) {
+    fn print_some(&mut self, bytes: &[u8]) -> Moved
+        ensures { result ≡ Moved.Bytes (length (at_once self.old.errors bytes.now)) }
+    {
+        let bytes = self.errors.piece(bytes);
+        if let Ok(text) = str::from_utf8(bytes) {
             let _ = self.system.eprint(text);
         }
-        Moved::Bytes(n)
+        Moved::Bytes(bytes.len())
     }
 }
 
 /// A write by the owner of an output failed.
 const FAILED: Moved = Moved::Ended(Down::Failed(ErrorKind::Other));
+
+/// Reads an input, if it has something. One that has failed stays so.
+fn read_ready<R: Source>(reader: &mut R, there: &mut Descriptor, space: &mut [u8]) -> Got
+    ensures failed { (result ≡ Got.Failed) ↔ (R.state reader.new ≡ Worst.Failed) }
+    ensures fits { count_read result ≤ length space.new }
+{
+    if reader.worst() == Worst::Failed {
+        return Got::Failed;
+    }
+    if !there.ready.to_read {
+        return Got::Idle;
+    }
+    there.has_read();
+    reader.read(space)
+}
 
 /// Writes to an outlet that was opened again; none if its owner is to write, who learns of a
 /// failure.
@@ -147,26 +170,20 @@ impl<S: System, C: Clock + Drop, R: Source, W: Sink> Devices for Live<'_, S, C, 
     type Refusal = OpenRefusal;
 
     fn begin_lines(&mut self, session: &mut Session) -> Result<(), OpenRefusal> {
-        if let Some(addr) = self.opener.listen(self.system, &mut self.waiting)? {
-            session.report(&Event::Listening(addr));
+        let opened = self.opener.listen(self.system, &mut self.waiting)?;
+        if let Some(event) = opened.event() {
+            session.report(&event);
         }
         Ok(())
     }
 
     fn open_line(&mut self, session: &mut Session) -> Result<bool, OpenRefusal> {
-        match self.opener.open(self.system, &mut self.waiting)? {
-            Opened::Line(line) => self.line = Some(line),
-            Opened::Connected(line, peer) => {
-                session.report(&Event::Connected(peer));
-                self.line = Some(line);
-            }
-            Opened::Connecting(peer) => {
-                session.report(&Event::Connecting(peer));
-                return Ok(false);
-            }
-            Opened::NotYet => return Ok(false),
+        let opened = self.opener.open(self.system, &mut self.waiting)?;
+        if let Some(event) = opened.event() {
+            session.report(&event);
         }
-        Ok(true)
+        self.line = opened.into_line();
+        Ok(self.line.is_some())
     }
 
     fn report_retry(&mut self, session: &mut Session, refusal: OpenRefusal, seconds: u64) {
@@ -175,19 +192,14 @@ impl<S: System, C: Clock + Drop, R: Source, W: Sink> Devices for Live<'_, S, C, 
     }
 
     fn close_line(&mut self) {
-        self.line = None;
+        if let Some(line) = self.line.take() {
+            line.close(&mut self.clock);
+        }
         self.waiting.forget_line();
     }
 
     fn read_input(&mut self, space: &mut [u8]) -> Got {
-        if !self.waiting.input.ready.to_read {
-            return Got::Idle;
-        }
-        if self.reader.worst() == Worst::Failed {
-            return Got::Failed;
-        }
-        self.waiting.input.has_read();
-        self.reader.read(space)
+        read_ready(&mut *self.reader, &mut self.waiting.input, space)
     }
 
     fn may_read_line(&self) -> bool {

@@ -1,4 +1,10 @@
 //! Opening the line that a name names.
+ghost use Rattle.std.specs.Prelude.{◌≡◌, IfErr, IfOk, false};
+ghost use Rattle.ddcmp_service.specs.LineNames.{line_kind, not_opened_of};
+ghost use Rattle.ddcmp_service.specs.Opening.{Begins, Opens, event_of, line_of};
+ghost use Rattle.ddcmp_session.specs.declared.options.LineKind.TheVariants as kind;
+
+use crate::event::Event;
 use crate::fault::{Cause, NotOpened};
 use crate::line::Line;
 use crate::line_name::LineName;
@@ -45,8 +51,34 @@ pub(crate) enum Opened {
     Connected(Line, SocketAddr),
     /// A connection to there has been begun.
     Connecting(SocketAddr),
+    /// Callers are waited for at this address.
+    Listening(SocketAddr),
     /// Nobody has connected yet, or the connection isn't made yet.
     NotYet,
+}
+
+impl Opened {
+    /// Returns what is reported of it, if anything is.
+    pub(crate) fn event(&self) -> Option<Event<'static>>
+        ensures { result ≡ event_of self.now }
+    {
+        match self {
+            Opened::Connected(_, peer) => Some(Event::Connected(*peer)),
+            Opened::Connecting(peer) => Some(Event::Connecting(*peer)),
+            Opened::Listening(addr) => Some(Event::Listening(*addr)),
+            Opened::Line(_) | Opened::NotYet => None,
+        }
+    }
+
+    /// Returns the line, if it is open.
+    pub(crate) fn into_line(self) -> Option<Line>
+        ensures { result ≡ line_of self }
+    {
+        match self {
+            Opened::Line(line) | Opened::Connected(line, _) => Some(line),
+            Opened::Connecting(_) | Opened::Listening(_) | Opened::NotYet => None,
+        }
+    }
 }
 
 /// Why a line can't be opened, and whether that is the remote one of two addresses.
@@ -61,7 +93,9 @@ fn refused_by(error: &io::Error) -> OpenRefusal {
     refused(Cause::System(error.kind()))
 }
 
-fn refused(cause: Cause) -> OpenRefusal {
+fn refused(cause: Cause) -> OpenRefusal
+    ensures { result ≡ record { cause = cause; is_remote = false } }
+{
     OpenRefusal {
         cause,
         is_remote: false,
@@ -80,23 +114,27 @@ impl<'a> Opener<'a> {
     }
 
     /// Returns the fault of a line of this name that couldn't be opened.
-    pub(crate) fn fault(&self, refused: OpenRefusal) -> NotOpened<'a> {
+    pub(crate) fn fault(&self, refused: OpenRefusal) -> NotOpened<'a>
+        ensures { result ≡ not_opened_of self.now.name refused }
+    {
         self.name.not_opened(refused)
     }
 
-    /// Listens if the line is one of whoever comes: returns the address.
+    /// Listens if the line is one of whoever comes.
     pub(crate) fn listen<N: Net<Stream = net::TcpStream, Listener = net::TcpListener>>(
         &mut self,
         net: &N,
         waiting: &mut Waiting,
-    ) -> Result<Option<SocketAddr>, OpenRefusal> {
+    ) -> Result<Opened, OpenRefusal>
+        ensures { IfOk result (Begins (line_kind self.old.name)) }
+    {
         let LineName::Listen(name) = self.name else {
-            return Ok(None);
+            return Ok(Opened::NotYet);
         };
         match listening(net, waiting, name) {
             Ok((listener, addr)) => {
                 self.listener = Some(listener);
-                Ok(Some(addr))
+                Ok(Opened::Listening(addr))
             }
             Err(error) => Err(refused_by(&error)),
         }
@@ -110,6 +148,7 @@ impl<'a> Opener<'a> {
     ) -> Result<Opened, OpenRefusal>
     where
         S: Net<Stream = net::TcpStream, Listener = net::TcpListener> + Files<File = File>,
+        ensures { IfOk result (Opens (line_kind self.old.name)) }
     {
         match self.name {
             LineName::Connect(name) => self.connect(system, waiting, name),
@@ -128,7 +167,9 @@ impl<'a> Opener<'a> {
         net: &N,
         waiting: &mut Waiting,
         name: &str,
-    ) -> Result<Opened, OpenRefusal> {
+    ) -> Result<Opened, OpenRefusal>
+        ensures { IfOk result (Opens kind.Connect) }
+    {
         if let Some(stream) = self.connecting.take() {
             match peer_of(&stream) {
                 Ok(Some(peer)) => {
@@ -218,19 +259,18 @@ fn listening<N: Net<Stream = net::TcpStream, Listener = net::TcpListener>>(
     Ok((listener, addr))
 }
 
-/// A connection of a caller as the line.
-fn caller_line(waiting: &mut Waiting, mut stream: TcpStream) -> io::Result<Line> {
-    prepare_stream(&stream);
-    waiting.add_socket(&mut stream)?;
-    Ok(Line::Stream(stream))
-}
-
-fn accepted(listener: &Option<TcpListener>, waiting: &mut Waiting) -> io::Result<Opened> {
+fn accepted(listener: &Option<TcpListener>, waiting: &mut Waiting) -> io::Result<Opened>
+    ensures { IfOk result (Opens kind.Listen) }
+{
     let Some(listener) = listener else {
         return Ok(Opened::NotYet);
     };
     match listener.accept() {
-        Ok((stream, peer)) => Ok(Opened::Connected(caller_line(waiting, stream)?, peer)),
+        Ok((mut stream, peer)) => {
+            prepare_stream(&stream);
+            waiting.add_socket(&mut stream)?;
+            Ok(Opened::Connected(Line::Stream(stream), peer))
+        }
         Err(error) => match error.kind() {
             ErrorKind::WouldBlock | ErrorKind::Interrupted | ErrorKind::ConnectionAborted => {
                 Ok(Opened::NotYet)
@@ -252,7 +292,9 @@ fn address<N: Net>(net: &N, name: &str, index: usize) -> Result<Option<SocketAdd
 }
 
 /// The first address that a text names, for one end of a line of datagrams.
-fn first_address<N: Net>(net: &N, name: &str, is_remote: bool) -> Result<SocketAddr, OpenRefusal> {
+fn first_address<N: Net>(net: &N, name: &str, is_remote: bool) -> Result<SocketAddr, OpenRefusal>
+    ensures { IfErr result (λ refused. refused.is_remote ≡ is_remote) }
+{
     match address(net, name, 0) {
         Ok(Some(addr)) => Ok(addr),
         Ok(None) => Err(OpenRefusal {
@@ -268,7 +310,9 @@ fn bound<N: Net>(
     waiting: &mut Waiting,
     local: &str,
     remote: &str,
-) -> Result<Opened, OpenRefusal> {
+) -> Result<Opened, OpenRefusal>
+    ensures { IfOk result (Opens kind.Datagrams) }
+{
     let local = first_address(net, local, false)?;
     let remote = first_address(net, remote, true)?;
     if local.is_ipv4() != remote.is_ipv4() {
@@ -296,7 +340,9 @@ fn device<S: Files<File = File>>(
     files: &S,
     waiting: &mut Waiting,
     path: &str,
-) -> Result<Opened, OpenRefusal> {
+) -> Result<Opened, OpenRefusal>
+    ensures { IfOk result (Opens kind.Device) }
+{
     let kind = match fs::metadata(files, path) {
         Ok(metadata) => metadata.file_type(),
         Err(error) => return Err(refused_by(&error)),

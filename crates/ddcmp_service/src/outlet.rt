@@ -1,4 +1,7 @@
 //! Standard output and standard error, written without waiting.
+ghost use Rattle.std.specs.Prelude.{◌≡◌, take};
+ghost use Rattle.ddcmp_service.specs.Outlets.{at_once};
+
 use crate::line::moved_by;
 use ddcmp_session::Moved;
 use std::fs::{self, File, Files, OpenOptions};
@@ -49,13 +52,22 @@ impl Outlet {
         }
     }
 
-    /// The most bytes that its owner writes at once.
-    pub(crate) fn most(&self) -> usize {
+    /// Returns those of these bytes that its owner writes at once.
+    pub(crate) fn piece<'b>(&self, bytes: &'b [u8]) -> &'b [u8]
+        ensures { result.now ≡ at_once self.now bytes.now }
+    {
         match self {
-            Outlet::File => usize::MAX,
-            Outlet::Again(_) | Outlet::Other => SMALL,
+            Outlet::File => bytes,
+            Outlet::Again(_) | Outlet::Other => front(bytes),
         }
     }
+}
+
+/// The front of some bytes, so small that a write of it doesn't wait.
+fn front(bytes: &[u8]) -> &[u8]
+    ensures { result.now ≡ take 4096 bytes.now }
+{
+    &bytes[..SMALL.min(bytes.len())]
 }
 
 /// Opens a pipe or a terminal for writing, as one whose writes don't wait. The opening of a pipe

@@ -1,5 +1,5 @@
 //! A link over a line, from its opening to its end.
-ghost use Rattle.std.specs.Prelude.{◌≡◌, ◌≢◌, ◌↔◌, Err, IsTrue};
+ghost use Rattle.std.specs.Prelude.{◌≡◌, ◌≢◌, ◌↔◌, Err, IsTrue, false};
 
 use crate::ending::Ended;
 use crate::fault::ServiceFault;
@@ -7,7 +7,7 @@ use crate::line_name::LineName;
 use crate::live::{Live, Parts};
 use crate::system::System;
 use crate::waiting::Waiting;
-use ddcmp_io::{Sink, Source};
+use ddcmp_io::{Sink, Source, Worst};
 use ddcmp_session::{LineKind, LinkFault, Options, Served, run_link};
 use ddcmp_station::Elapsed;
 use std::alloc::Global;
@@ -32,21 +32,29 @@ where
         + Eprint
         + time::Clock,
     ensures broken { (result ≡ Err ServiceFault.Write) ↔ IsTrue (W.broken writer.new) }
+    ensures unread { R.state reader.new ≡ Worst.Failed → W.broken writer.new ≡ false
+        → result ≡ Err ServiceFault.Read }
 {
     let ended = serve(system, alloc, line, options, reader, writer);
-    ending_of(ended, line, writer)
+    ending_of(ended, line, reader, writer)
 }
 
-/// How a service ends over a line of this name: by a fault of the output first.
-fn ending_of<'a, W: Sink>(
+/// How a service ends over a line of this name: by a fault of the output first, then of the input.
+fn ending_of<'a, R: Source, W: Sink>(
     ended: Result<Served, Ended>,
     line: LineName<'a>,
+    reader: &R,
     writer: &W,
 ) -> Result<Served, ServiceFault<'a>>
     ensures broken { (result ≡ Err ServiceFault.Write) ↔ IsTrue (W.broken writer.now) }
+    ensures unread { R.state reader.now ≡ Worst.Failed → W.broken writer.now ≡ false
+        → result ≡ Err ServiceFault.Read }
 {
     if writer.failed() {
         return Err(ServiceFault::Write);
+    }
+    if reader.worst() == Worst::Failed {
+        return Err(ServiceFault::Read);
     }
     match ended {
         Ok(served) => Ok(served),
@@ -94,7 +102,10 @@ fn serve<S: System, R: Source, W: Sink>(
 }
 
 /// Why it can't wait for several devices.
-fn no_waiting(kind: ErrorKind) -> Ended {
+fn no_waiting(kind: ErrorKind) -> Ended
+    ensures memory { kind ≡ ErrorKind.OutOfMemory → result ≡ Ended.Memory }
+    ensures other { kind ≢ ErrorKind.OutOfMemory → result ≡ Ended.CannotWait kind }
+{
     match kind {
         ErrorKind::OutOfMemory => Ended::Memory,
         kind => Ended::CannotWait(kind),

@@ -1,4 +1,8 @@
 //! Waiting for whichever comes first: standard input, standard output, the line, or a moment.
+ghost use Rattle.std.specs.Prelude.{◌≡◌, ◌||◌, MatchOption, false, not};
+ghost use Rattle.mio.specs.Interest.{is_readable, is_writable};
+ghost use Rattle.ddcmp_service.specs.Readiness.{is_any_ready, line_ready};
+
 use ddcmp_session::Wanted;
 use mio::event::Source;
 use mio::unix::SourceFd;
@@ -41,7 +45,10 @@ impl Ready {
     };
 
     /// It is ready for this, too.
-    pub(crate) fn add(&mut self, told: Ready) {
+    pub(crate) fn add(&mut self, told: Ready)
+        ensures reads { self.new.to_read ≡ (self.old.to_read || told.to_read) }
+        ensures writes { self.new.to_write ≡ (self.old.to_write || told.to_write) }
+    {
         self.to_read = self.to_read || told.to_read;
         self.to_write = self.to_write || told.to_write;
     }
@@ -73,12 +80,20 @@ impl Descriptor {
     }
 
     /// A read returned what there was.
-    pub(crate) fn has_read(&mut self) {
+    pub(crate) fn has_read(&mut self)
+        ensures { self.new ≡ record self.old {
+          ready = record self.old.ready { to_read = not self.old.is_told };
+        } }
+    {
         self.ready.to_read = !self.is_told;
     }
 
     /// A write took what there was room for.
-    pub(crate) fn has_written(&mut self) {
+    pub(crate) fn has_written(&mut self)
+        ensures { self.new ≡ record self.old {
+          ready = record self.old.ready { to_write = not self.old.is_told };
+        } }
+    {
         self.ready.to_write = !self.is_told;
     }
 
@@ -86,11 +101,8 @@ impl Descriptor {
     pub(crate) fn ask(&mut self, poll: &Poll, to_read: bool, to_write: bool) {
         let reads = to_read && !self.ready.to_read;
         let writes = to_write && !self.ready.to_write;
-        let interest = match (reads, writes) {
-            (true, true) => Interest::READABLE | Interest::WRITABLE,
-            (true, false) => Interest::READABLE,
-            (false, true) => Interest::WRITABLE,
-            (false, false) => return,
+        let Some(interest) = interest_in(reads, writes) else {
+            return;
         };
         if self.is_told {
             let asked = poll
@@ -101,6 +113,19 @@ impl Descriptor {
                 self.ready = Ready::BOTH;
             }
         }
+    }
+}
+
+/// What a wait for a device is for; none if it isn't waited for.
+fn interest_in(to_read: bool, to_write: bool) -> Option<Interest>
+    ensures { MatchOption result ((to_read ≡ false) × (to_write ≡ false))
+        (λ interest. (is_readable interest ≡ to_read) × (is_writable interest ≡ to_write)) }
+{
+    match (to_read, to_write) {
+        (true, true) => Some(Interest::READABLE | Interest::WRITABLE),
+        (true, false) => Some(Interest::READABLE),
+        (false, true) => Some(Interest::WRITABLE),
+        (false, false) => None,
     }
 }
 
@@ -178,7 +203,9 @@ impl Waiting {
     }
 
     /// Whether a read from the line may give something.
-    pub(crate) fn may_read_line(&self) -> bool {
+    pub(crate) fn may_read_line(&self) -> bool
+        ensures { result ≡ (line_ready self.now).to_read }
+    {
         match &self.device {
             Some(device) => device.ready.to_read,
             None => self.socket.to_read,
@@ -186,7 +213,9 @@ impl Waiting {
     }
 
     /// Whether a write to the line may take something.
-    pub(crate) fn may_write_line(&self) -> bool {
+    pub(crate) fn may_write_line(&self) -> bool
+        ensures { result ≡ (line_ready self.now).to_write }
+    {
         match &self.device {
             Some(device) => device.ready.to_write,
             None => self.socket.to_write,
@@ -232,7 +261,9 @@ impl Waiting {
     }
 
     /// Whether something that is wanted is known to be ready, so that nothing is to be waited for.
-    fn is_any_ready(&self, wanted: Wanted) -> bool {
+    fn is_any_ready(&self, wanted: Wanted) -> bool
+        ensures { result ≡ is_any_ready wanted self.now }
+    {
         wanted.input && self.input.ready.to_read
             || wanted.output && self.output.ready.to_write
             || wanted.errors && self.errors.ready.to_write

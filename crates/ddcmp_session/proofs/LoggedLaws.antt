@@ -1,23 +1,27 @@
 -- What each call of a session puts on standard error.
-use Rattle.std.proofs.Common.{◌≡◌, refl, subst, ℕ, ◌+◌, ◌*◌, ◌++◌, Bool, true, false, List, []}
-use Rattle.std.proofs.Common.{codes}
+use Rattle.std.proofs.Common.{◌≡◌, refl, sym, subst, ℕ, ◌+◌, ◌*◌, Bool, true, false, []}
 use Rattle.ddcmp_station.specs.Linking.{LinkView}
 use Rattle.ddcmp_station.specs.CountersText.{counters_line}
 use Rattle.ddcmp_session.specs.declared.errors.TheConstants.{LAST_ROOM}
 use Rattle.ddcmp_session.specs.declared.text.TheConstants.{END_ROOM}
 use Rattle.ddcmp_session.specs.EndText.{end_line}
-use Rattle.ddcmp_session.specs.Errors.{ErrorsView, HasLine, HasObject, report_text}
+use Rattle.ddcmp_session.specs.Errors.{ErrorsView, HasLine, HasObject}
+use Rattle.ddcmp_session.specs.Errors.{report_members, report_text}
 use Rattle.ddcmp_session.specs.Logged.{LoggedSession, HasReport, HasEnd}
 use Rattle.ddcmp_session.proofs.ErrorsLaws.{if-room, if-none}
 
--- a report was written as a line, or as an object
-pub reported : (b : Bool) (lost : ℕ) (d : LinkView) (old new : ErrorsView)
-    → (b ≡ false → HasLine (END_ROOM + LAST_ROOM) (report_text lost d) old new)
-    → (b ≡ true → (members : List ℕ) × HasObject (2 * END_ROOM + LAST_ROOM)
-    (codes "\"event\":\"report\"" ++ members ++ codes "}\n") old new)
+-- a report was written as an object, or as a line
+pub reported-object : (b : Bool) (lost : ℕ) (d : LinkView) (old new : ErrorsView) → b ≡ true
+    → HasObject (2 * END_ROOM + LAST_ROOM) (report_members lost d) old new
     → HasReport b lost d old new
-reported false lost d old new line object = line refl
-reported true lost d old new line object = object refl
+reported-object b lost d old new is object =
+    subst (λ b. HasReport b lost d old new) (sym is) object
+
+pub reported-line : (b : Bool) (lost : ℕ) (d : LinkView) (old new : ErrorsView) → b ≡ false
+    → HasLine (END_ROOM + LAST_ROOM) (report_text lost d) old new
+    → HasReport b lost d old new
+reported-line b lost d old new is line =
+    subst (λ b. HasReport b lost d old new) (sym is) line
 
 -- The last line was written after the counters, or alone.
 pub ends-counted : (b : Bool) (old mid there : LoggedSession) (new : ErrorsView) → b ≡ true

@@ -7,22 +7,24 @@ use Rattle.ddcmp_session.specs.declared.devices.Down.TheVariants.{Closed, Failed
 use Rattle.ddcmp_io.specs.Queue.{QueueView}
 use Rattle.ddcmp_io.specs.Written.{Output}
 use Rattle.ddcmp_station.specs.Linking.{LinkView}
-use Rattle.ddcmp_station.specs.CountersText.{counters_line}
+use Rattle.ddcmp_station.specs.declared.counts.Layout.{Layout}
+use Rattle.ddcmp_station.specs.declared.counts.Layout.TheVariants.{Text}
+use Rattle.ddcmp_station.specs.CountersText.{counter_text, counters_line}
 use Rattle.ddcmp_station.specs.StationText.{state_text}
 
--- the state of a link and what it counted
-abbrev pub totals_text : LinkView → List ℕ
-totals_text d =
-    codes "state=" ++ state_text d.station.core.station.state
-    ++ (codes " read=" ++ decimal d.totals.read)
-    ++ (codes " written=" ++ decimal d.totals.written)
-    ++ (codes " sent=" ++ decimal d.totals.sent)
-    ++ (codes " acknowledged=" ++ decimal d.totals.acknowledged)
-    ++ (codes " handed=" ++ decimal d.totals.handed)
+-- what a link counted
+abbrev pub totals_text : Layout → LinkView → List ℕ
+totals_text layout d =
+    counter_text layout (codes "read") d.totals.read
+    ++ counter_text layout (codes "written") d.totals.written
+    ++ counter_text layout (codes "sent") d.totals.sent
+    ++ counter_text layout (codes "acknowledged") d.totals.acknowledged
+    ++ counter_text layout (codes "handed") d.totals.handed
 
 -- the last line of a run, and the counters before it, if they are asked for
 abbrev pub end_line : LinkView → List ℕ
-end_line d = totals_text d ++ codes "\n"
+end_line d =
+    codes "state=" ++ state_text d.station.core.station.state ++ totals_text Text d ++ codes "\n"
 
 abbrev pub end_text : Bool → LinkView → List ℕ
 end_text counted d =

@@ -5,12 +5,14 @@ use Rattle.std.specs.Prelude.{Option, Some, None, codes, decimal}
 use Rattle.jiff_core.specs.declared.civil.datetime.DateTime.{DateTime}
 use Rattle.jiff_core.specs.DateTime.{civil_nanos}
 use Rattle.jiff_fmt.specs.Text.{datetime_text}
-use Rattle.ddcmp_explain.specs.Json.{reason_in_words}
+use Rattle.ddcmp_explain.specs.Json.{member, quoted, reason_in_words}
 use Rattle.ddcmp_frame.specs.declared.nak.Nak.{Nak}
 use Rattle.ddcmp_io.specs.Queue.{QueueView, no_bytes, room_settled, after_taken}
 use Rattle.ddcmp_io.specs.Written.{HandsOver}
-use Rattle.ddcmp_station.specs.CountersText.{counters_line}
+use Rattle.ddcmp_station.specs.declared.counts.Layout.TheVariants.{Text, Json}
+use Rattle.ddcmp_station.specs.CountersText.{counter_text, counters_line, counts_text}
 use Rattle.ddcmp_station.specs.Linking.{LinkView}
+use Rattle.ddcmp_station.specs.StationText.{state_text}
 use Rattle.ddcmp_session.specs.EndText.{queued, totals_text}
 use Rattle.ddcmp_session.specs.declared.errors.TheConstants.{NOTE}
 
@@ -129,8 +131,16 @@ refused_text part number why =
 -- all that a link has counted, in one line
 abbrev pub report_text : ℕ → LinkView → List ℕ
 report_text lost d =
-    codes "report " ++ totals_text d ++ (codes " lost=" ++ decimal lost)
-    ++ counters_line (codes " ") d.station.core.counters
+    codes "report state=" ++ state_text d.station.core.station.state ++ totals_text Text d
+    ++ counter_text Text (codes "lost") lost ++ counters_line (codes " ") d.station.core.counters
+
+-- the same as the members of an object, and its end
+abbrev pub report_members : ℕ → LinkView → List ℕ
+report_members lost d =
+    codes "\"event\":\"report\""
+    ++ member (codes "state") (quoted (state_text d.station.core.station.state))
+    ++ totals_text Json d ++ counter_text Json (codes "lost") lost
+    ++ counts_text Json d.station.core.counters ++ codes "}\n"
 
 -- why a line is left on which nothing gets on
 abbrev pub given_up_text : Option Nak → List ℕ

@@ -1,6 +1,6 @@
 -- A session with all that it has for standard error, and what each call puts there.
-use Rattle.std.specs.Prelude.{◌≡◌, ℕ, ◌+◌, ◌*◌, ◌==◌, ◌&&◌, not, Bool, true, false, MatchBool, if◌then◌else◌}
-use Rattle.std.specs.Prelude.{Option, None, Some, List, [], ◌∷◌, ◌++◌, option_to_list, codes}
+use Rattle.std.specs.Prelude.{◌≡◌, ℕ, ◌+◌, ◌*◌, ◌==◌, ◌&&◌, not, Bool, true, false, MatchBool}
+use Rattle.std.specs.Prelude.{if◌then◌else◌, Option, None, Some, List, [], ◌∷◌, option_to_list}
 use Rattle.ddcmp_core.specs.declared.notice.Notice.{Notice}
 use Rattle.ddcmp_input.specs.declared.entry.Entry.{Entry}
 use Rattle.ddcmp_input.specs.declared.entry.Entry.TheVariants.{NotHexadecimal}
@@ -15,21 +15,22 @@ use Rattle.ddcmp_session.specs.declared.messages.Messages.{Messages}
 use Rattle.ddcmp_session.specs.declared.text.TheConstants.{END_ROOM}
 use Rattle.ddcmp_session.specs.Course.{after_moment, after_pause, reports_at}
 use Rattle.ddcmp_session.specs.EndText.{end_line, line_down_text}
-use Rattle.ddcmp_session.specs.Errors.{ErrorsView, HasLine, HasObject, given_up_text, report_text}
+use Rattle.ddcmp_session.specs.Errors.{ErrorsView, HasLine, HasObject, given_up_text}
+use Rattle.ddcmp_session.specs.Errors.{report_members, report_text}
 use Rattle.ddcmp_session.specs.Messages.{after_last, entry_of_last, is_message_unfinished}
 use Rattle.ddcmp_session.specs.Messages.{is_question}
-use Rattle.ddcmp_session.specs.Session.{SessionView, after_tried, expires, is_delivered, report_ms}
+use Rattle.ddcmp_session.specs.Session.{SessionView, after_tried, expires, is_delivered}
+use Rattle.ddcmp_session.specs.Session.{report_ms}
 use Rattle.ddcmp_session.specs.Text.{dropped_by, lost_line}
 use Rattle.ddcmp_session.specs.Timing.{is_given_up, stays}
 use Rattle.ddcmp_session.specs.Trace.{TraceView, HasLines, timer_lines}
 
--- The lines that wait, the trace of its line if there is one, how many messages of its input were
--- read, and whether its reports are JSON objects.
+-- The lines that wait, the trace of its line if there is one, and how many messages of its input
+-- were read.
 pub record LogView : Type 0 where
   pub errors : ErrorsView
   pub trace : Option TraceView
   pub read : ℕ
-  pub as_objects : Bool
 
 pub record LoggedSession : Type 0 where
   pub state : SessionView
@@ -76,8 +77,7 @@ Wakes now has_expired before after old new =
 abbrev pub HasReport : Bool → ℕ → LinkView → ErrorsView → ErrorsView → Type 0
 HasReport false lost d old new = HasLine (END_ROOM + LAST_ROOM) (report_text lost d) old new
 HasReport true lost d old new =
-    (members : List ℕ) × HasObject (2 * END_ROOM + LAST_ROOM)
-    (codes "\"event\":\"report\"" ++ members ++ codes "}\n") old new
+    HasObject (2 * END_ROOM + LAST_ROOM) (report_members lost d) old new
 
 -- how many accepted messages were dropped, if any, with messages in binary; else standard output
 -- has it
@@ -115,7 +115,7 @@ at_moment now e = record e { now = now }
 abbrev pub PassesMoment : ℕ → SessionView → LogView → ErrorsView → Type 0
 PassesMoment now s old new =
     MatchBool (reports_at (report_ms s.options) now s.course)
-    (HasReport old.as_objects s.course.lost s.link (at_moment now old.errors) new)
+    (HasReport s.options.json s.course.lost s.link (at_moment now old.errors) new)
     (new ≡ at_moment now old.errors)
 
 -- why its line is left, if it is since the peer doesn't answer, or refuses

@@ -28,8 +28,7 @@ abbrev pub errors_room : Options → ℕ
 errors_room o = if o.trace then 8 * ERRORS_ROOM else ERRORS_ROOM
 
 abbrev pub log_made : Options → Option TraceView → LogView
-log_made o trace =
-    record { errors = no_lines (errors_room o); trace = trace; read = 0; as_objects = o.json }
+log_made o trace = record { errors = no_lines (errors_room o); trace = trace; read = 0 }
 
 -- the longest message that a trace shows: 14 bits hold its length
 abbrev pub traced_length : Options → ℕ
@@ -94,7 +93,7 @@ RefusesUnfinished m read old new =
 abbrev pub ReportsEntry : Entry → LoggedSession → ErrorsView → Type 0
 ReportsEntry Message s new = new ≡ s.log.errors
 ReportsEntry NotHexadecimal s new = MatchBool (is_question s.state.messages)
-    (HasReport s.log.as_objects s.state.course.lost s.state.link s.log.errors new)
+    (HasReport s.state.options.json s.state.course.lost s.state.link s.log.errors new)
     (RefusesEntry NotHexadecimal s.state.messages s.log.read s.log.errors new)
 ReportsEntry entry s new = RefusesEntry entry s.state.messages s.log.read s.log.errors new
 

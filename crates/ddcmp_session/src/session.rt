@@ -12,7 +12,6 @@ use crate::course::Course;
 use crate::errors::Errors;
 use crate::messages::Messages;
 use crate::options::{LineKind, Options};
-use crate::report::Reports;
 use crate::text;
 use crate::trace::Trace;
 use ddcmp_io::ByteQueue;
@@ -58,7 +57,6 @@ pub struct Session {
     messages: Messages,
     output: ByteQueue,
     errors: Errors,
-    reports: Reports,
     mail: Vec<u8>,
     trace: Option<Trace>,
     course: Course,
@@ -93,7 +91,6 @@ impl Model for Session {
         errors = s.errors;
         trace = s.trace;
         read = s.read;
-        as_objects = s.reports.as_objects;
       };
     } };
 
@@ -111,7 +108,6 @@ impl Drop for Session {
             messages: _messages,
             output: _output,
             errors: _errors,
-            reports: _reports,
             mail: _mail,
             trace: _trace,
             course: _,
@@ -185,9 +181,6 @@ impl Session {
         let Ok(errors) = Errors::new(alloc, errors_room) else {
             return Err(ConfigRefusal::Memory);
         };
-        let Ok(reports) = Reports::new(alloc, options.json) else {
-            return Err(ConfigRefusal::Memory);
-        };
         let Ok(mail) = Vec::from_elem(alloc, 0u8, max as usize) else {
             return Err(ConfigRefusal::Memory);
         };
@@ -199,7 +192,6 @@ impl Session {
             messages,
             output,
             errors,
-            reports,
             mail,
             trace,
             course,

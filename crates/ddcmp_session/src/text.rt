@@ -1,10 +1,10 @@
 //! The text that a session writes.
-ghost use Rattle.std.specs.Prelude.{◌≡◌, ◌+◌, ◌*◌, ◌<◌, ◌≤◌, [], ◌++◌, length, decimal};
+ghost use Rattle.std.specs.Prelude.{◌≡◌, ◌+◌, ◌*◌, ◌<◌, ◌≤◌, [], ◌++◌, length};
 ghost use Rattle.hex.specs.Hex.{encode_lower};
 ghost use Rattle.ddcmp_io.specs.Written.{HandsOver, output_of};
 ghost use Rattle.ddcmp_session.specs.EndText.{totals_text, end_line, end_text, queued, paged};
 ghost use Rattle.ddcmp_session.specs.EndText.{line_down_text, pause_text, unread_text};
-ghost use Rattle.ddcmp_session.specs.Errors.{given_up_text, report_text};
+ghost use Rattle.ddcmp_session.specs.Errors.{given_up_text, report_members, report_text};
 ghost use Rattle.ddcmp_session.specs.Text.{Puts, mail_text, lost_line};
 ghost use Rattle.ddcmp_station.specs.CountersText.{counters_line};
 ghost use Rattle.ddcmp_station.specs.StationText.{notice_line, number_text};
@@ -16,7 +16,8 @@ use ddcmp_frame::Nak;
 use ddcmp_io::text::write_number;
 use ddcmp_io::{ByteQueue, Page, Sink};
 use ddcmp_station::{
-    Link, Notice, notice_name, notice_number, state_name, write_counters, write_notice,
+    Layout, Link, Notice, notice_name, notice_number, state_name, write_counter, write_counters,
+    write_counts, write_notice,
 };
 use itoa::Buffer;
 
@@ -219,7 +220,9 @@ fn write_end_line<W: Sink>(page: &mut Page, out: &mut W, link: &Link)
     ensures { HandsOver (output_of W.broken W.contents out.old page.old)
         (output_of W.broken W.contents out.new page.new) (end_line link.now) }
 {
-    write_totals(page, out, link);
+    page.write(out, b"state=");
+    page.write(out, state_name(link.state()));
+    write_totals(page, out, Layout::Text, link);
     page.write(out, b"\n");
 }
 
@@ -261,32 +264,38 @@ pub(crate) fn write_report(out: &mut ByteQueue, link: &Link, lost: u64)
     ensures { HandsOver (queued out.old) (queued out.new) (report_text lost link.now) }
 {
     let mut page = Page::new();
-    page.write(out, b"report ");
-    write_totals(&mut page, out, link);
-    write_total(&mut page, out, b" lost=", lost);
+    page.write(out, b"report state=");
+    page.write(out, state_name(link.state()));
+    write_totals(&mut page, out, Layout::Text, link);
+    write_counter(&mut page, out, Layout::Text, b"lost", lost);
     write_counters(&mut page, out, b" ", link.counters());
     let _is_whole = page.flush(out);
 }
 
-/// Writes the state and the totals of a link.
-fn write_totals<W: Sink>(page: &mut Page, out: &mut W, link: &Link)
-    ensures { HandsOver (output_of W.broken W.contents out.old page.old)
-        (output_of W.broken W.contents out.new page.new) (totals_text link.now) }
+/// Writes them as the members of a JSON object, and its end.
+pub(crate) fn write_members(out: &mut ByteQueue, link: &Link, lost: u64)
+    ensures { HandsOver (queued out.old) (queued out.new) (report_members lost link.now) }
 {
-    let totals = link.totals();
-    page.write(out, b"state=");
+    let mut page = Page::new();
+    page.write(out, b"\"event\":\"report\",\"state\":\"");
     page.write(out, state_name(link.state()));
-    write_total(page, out, b" read=", totals.read);
-    write_total(page, out, b" written=", totals.written);
-    write_total(page, out, b" sent=", totals.sent);
-    write_total(page, out, b" acknowledged=", totals.acknowledged);
-    write_total(page, out, b" handed=", totals.handed);
+    page.write(out, b"\"");
+    write_totals(&mut page, out, Layout::Json, link);
+    write_counter(&mut page, out, Layout::Json, b"lost", lost);
+    write_counts(&mut page, out, Layout::Json, link.counters());
+    page.write(out, b"}\n");
+    let _is_whole = page.flush(out);
 }
 
-fn write_total<W: Sink>(page: &mut Page, out: &mut W, name: &[u8], total: u64)
+/// Writes the totals of a link.
+fn write_totals<W: Sink>(page: &mut Page, out: &mut W, layout: Layout, link: &Link)
     ensures { HandsOver (output_of W.broken W.contents out.old page.old)
-        (output_of W.broken W.contents out.new page.new) (name.now ++ decimal total) }
+        (output_of W.broken W.contents out.new page.new) (totals_text layout link.now) }
 {
-    page.write(out, name);
-    write_number(page, out, total);
+    let totals = link.totals();
+    write_counter(page, out, layout, b"read", totals.read);
+    write_counter(page, out, layout, b"written", totals.written);
+    write_counter(page, out, layout, b"sent", totals.sent);
+    write_counter(page, out, layout, b"acknowledged", totals.acknowledged);
+    write_counter(page, out, layout, b"handed", totals.handed);
 }

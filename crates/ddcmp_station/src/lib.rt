@@ -14,7 +14,7 @@ mod reply_timer;
 mod states;
 mod user;
 
-pub use counts::write_counters;
+pub use counts::{Layout, write_counter, write_counters, write_counts};
 pub use ddcmp_frame::{Got, Sink, Source, Worst};
 pub use ddcmp_io::LineFault;
 pub use ddcmp_proto::{

@@ -33,12 +33,16 @@ fn options(stay: bool) -> Options {
     }
 }
 
-fn session(rt: &(impl Abort + AllocGlobal), stay: bool) -> Session {
-    let Ok(mut session) = Session::new(rt.alloc(), options(stay), LineKind::Connect) else {
+fn session_with(rt: &(impl Abort + AllocGlobal), options: Options) -> Session {
+    let Ok(mut session) = Session::new(rt.alloc(), options, LineKind::Connect) else {
         panic!(rt; "no memory");
     };
     session.began_at(BEGAN);
     session
+}
+
+fn session(rt: &(impl Abort + AllocGlobal), stay: bool) -> Session {
+    session_with(rt, options(stay))
 }
 
 /// Carries what an end has for the line.
@@ -95,6 +99,45 @@ fn whole_periods_apart(rt: HostRuntime) {
     assert!(&rt; session.to_errors().is_empty());
     session.pass_time(3000);
     tells(&rt, &mut session, "2001-09-09T01:46:43.000Z report ", "\n");
+}
+
+/// The same numbers as text and as an object, each of them whole.
+#[test]
+fn forms(rt: HostRuntime) {
+    let text = "2001-09-09T01:46:41.250Z report state=Running read=8 written=16 sent=2 \
+        acknowledged=0 handed=0 lost=0 counters nak_sent_header_check=0 nak_sent_data_check=0 \
+        nak_sent_reply_to_rep=0 nak_sent_no_buffer=0 nak_sent_overrun=0 nak_sent_too_long=0 \
+        nak_sent_format=0 nak_sent_other=0 nak_received_header_check=0 nak_received_data_check=0 \
+        nak_received_reply_to_rep=0 nak_received_no_buffer=0 nak_received_overrun=0 \
+        nak_received_too_long=0 nak_received_format=0 nak_received_other=0 rep_sent=0 \
+        rep_received=0 messages_sent=2 bytes_sent=3 messages_again=0 bytes_again=0 \
+        messages_up=0 bytes_up=0 expiries=0 header_checks=0 data_checks=0 too_longs=0 \
+        formats=0\n";
+    let object =
+        "{\"time\":\"2001-09-09T01:46:41.250Z\",\"event\":\"report\",\"state\":\"Running\",\
+        \"read\":8,\"written\":16,\"sent\":2,\"acknowledged\":0,\"handed\":0,\"lost\":0,\
+        \"nak_sent_header_check\":0,\"nak_sent_data_check\":0,\"nak_sent_reply_to_rep\":0,\
+        \"nak_sent_no_buffer\":0,\"nak_sent_overrun\":0,\"nak_sent_too_long\":0,\
+        \"nak_sent_format\":0,\"nak_sent_other\":0,\"nak_received_header_check\":0,\
+        \"nak_received_data_check\":0,\"nak_received_reply_to_rep\":0,\
+        \"nak_received_no_buffer\":0,\"nak_received_overrun\":0,\"nak_received_too_long\":0,\
+        \"nak_received_format\":0,\"nak_received_other\":0,\"rep_sent\":0,\"rep_received\":0,\
+        \"messages_sent\":2,\"bytes_sent\":3,\"messages_again\":0,\"bytes_again\":0,\
+        \"messages_up\":0,\"bytes_up\":0,\"expiries\":0,\"header_checks\":0,\"data_checks\":0,\
+        \"too_longs\":0,\"formats\":0}\n";
+    for (json, report) in [(false, text), (true, object)] {
+        let options = Options {
+            json,
+            ..options(false)
+        };
+        let mut session = session_with(&rt, options);
+        run(&rt, &mut session);
+        assert!(&rt; session.typed(b"61\n6262\n") == 3);
+        assert!(&rt; session.typed(b"6262\n") == 5);
+        session.fill();
+        session.pass_time(1250);
+        assert!(&rt; session.to_errors() == report.as_bytes());
+    }
 }
 
 #[test]

@@ -3,7 +3,7 @@ use crate::devices::Down;
 use crate::errors::SHORT_LINE;
 use crate::messages::Form;
 use crate::session::Session;
-use crate::text;
+use crate::{report, text};
 use std::fmt;
 use std::fmt::Write;
 
@@ -142,12 +142,15 @@ impl Session {
     /// Reports all that the link has counted on standard error.
     pub(super) fn report_counters(&mut self)
         ensures state { self.new.state ≡ self.old.state }
-        ensures errors { HasReport self.old.log.as_objects self.old.state.course.lost
+        ensures errors { HasReport self.old.state.options.json self.old.state.course.lost
             self.old.state.link self.old.log.errors self.new.log.errors }
         ensures log { self.new.log ≡ record self.old.log { errors = self.new.log.errors } }
     {
-        self.reports
-            .write(&self.link, self.course.lost, &mut self.errors);
+        if self.options.json {
+            report::write_object(&mut self.errors, &self.link, self.course.lost);
+        } else {
+            report::write_line(&mut self.errors, &self.link, self.course.lost);
+        }
     }
 
     /// Reports how many accepted messages were dropped, if any: returns whether standard output had

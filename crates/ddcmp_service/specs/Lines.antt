@@ -1,0 +1,21 @@
+-- What a line is, and what an error of it means.
+use Rattle.std.specs.Prelude.{Bool, true, false}
+use Rattle.std.specs.declared.io.ErrorKind.{ErrorKind}
+use Rattle.std.specs.declared.io.ErrorKind.TheVariants as kind
+use Rattle.ddcmp_service.specs.declared.line.Line.{Line}
+use Rattle.ddcmp_service.specs.declared.line.Line.TheVariants.{Stream, Datagrams, Device}
+use Rattle.ddcmp_session.specs.declared.devices.Down.TheVariants.{Failed}
+use Rattle.ddcmp_session.specs.declared.devices.Moved.{Moved}
+use Rattle.ddcmp_session.specs.declared.devices.Moved.TheVariants.{Nothing, Interrupted, Ended}
+
+-- what is written at once arrives at once, or not at all
+abbrev pub has_datagrams : Line → Bool
+has_datagrams (Stream stream) = false
+has_datagrams (Datagrams socket remote) = true
+has_datagrams (Device file) = false
+
+-- only a call that was interrupted, or would wait, leaves a line up
+abbrev pub moved_by_error : ErrorKind → Moved
+moved_by_error kind.WouldBlock = Nothing
+moved_by_error kind.Interrupted = Interrupted
+moved_by_error other = Ended (Failed other)

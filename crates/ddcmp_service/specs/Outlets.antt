@@ -1,0 +1,10 @@
+-- What the owner of an outlet writes at once.
+use Rattle.std.specs.Prelude.{ℕ, List, take}
+use Rattle.ddcmp_service.specs.declared.outlet.Outlet.{Outlet}
+use Rattle.ddcmp_service.specs.declared.outlet.Outlet.TheVariants.{Again, File, Other}
+
+-- to a file all; elsewhere a write might wait for room, but not for that of 4096 bytes
+abbrev pub at_once : Outlet → List ℕ → List ℕ
+at_once File bytes = bytes
+at_once (Again file) bytes = take 4096 bytes
+at_once Other bytes = take 4096 bytes

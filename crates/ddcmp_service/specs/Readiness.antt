@@ -1,0 +1,23 @@
+-- What is known to be ready of that which is waited for.
+use Rattle.std.specs.Prelude.{Bool, ◌&&◌, ◌||◌, Option, Some, None}
+use Rattle.ddcmp_service.specs.declared.waiting.Descriptor.{Descriptor}
+use Rattle.ddcmp_service.specs.declared.waiting.Ready.{Ready}
+use Rattle.ddcmp_service.specs.declared.waiting.Waiting.{Waiting}
+use Rattle.ddcmp_session.specs.declared.devices.Wanted.{Wanted}
+
+-- a serial device, or else a socket
+abbrev pub ready_of : Option Descriptor → Ready → Ready
+ready_of (Some device) socket = device.ready
+ready_of None socket = socket
+
+abbrev pub line_ready : Waiting → Ready
+line_ready w = ready_of w.device w.socket
+
+-- something that is wanted is
+abbrev pub is_any_ready : Wanted → Waiting → Bool
+is_any_ready wanted w =
+    wanted.input && w.input.ready.to_read
+    || wanted.output && w.output.ready.to_write
+    || wanted.errors && w.errors.ready.to_write
+    || wanted.from_line && (line_ready w).to_read
+    || wanted.to_line && (line_ready w).to_write
