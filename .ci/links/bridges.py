@@ -286,15 +286,17 @@ def bridged_last():
         bridge.waits(lambda it: b"first line down" in it.told)
         began, used = time.monotonic(), bridge.processor_time()
         time.sleep(late)
-        got = b""
-        with contextlib.suppress(ConnectionResetError):
+        got, was_reset = b"", False
+        try:
             while piece := two.recv(1 << 16):
                 got += piece
+        except ConnectionResetError:
+            was_reset = True
         if closes:
             with contextlib.suppress(OSError):  # it is gone already
                 two.shutdown(socket.SHUT_RDWR)
         status, took = bridge.ended(), time.monotonic() - began
-        if status != 0 or got != frames:
+        if status != 0 or got != frames or was_reset and closes:
             wrong(f"{sends_on} {closes}: {status}, {len(got)} bytes, {bridge.errors()}")
         is_left = sends_on and not closes
         if is_left != (took > late + 0.3) or took > 1.5 or bridge.used - used > 0.1 and not sends_on:

@@ -1,12 +1,12 @@
 -- What a line is, and what an error of it means.
-use Rattle.std.specs.Prelude.{Bool, true, false}
+use Rattle.std.specs.Prelude.{ℕ, Bool, true, false}
 use Rattle.std.specs.declared.io.ErrorKind.{ErrorKind}
 use Rattle.std.specs.declared.io.ErrorKind.TheVariants as kind
 use Rattle.ddcmp_service.specs.declared.line.Line.{Line}
 use Rattle.ddcmp_service.specs.declared.line.Line.TheVariants.{Stream, Datagrams, Device}
 use Rattle.ddcmp_session.specs.declared.devices.Down.TheVariants.{Failed}
 use Rattle.ddcmp_session.specs.declared.devices.Moved.{Moved}
-use Rattle.ddcmp_session.specs.declared.devices.Moved.TheVariants.{Nothing, Interrupted, Ended}
+use Rattle.ddcmp_session.specs.declared.devices.Moved.TheVariants.{Bytes, Nothing, Interrupted, Ended}
 
 -- what is written at once arrives at once, or not at all
 abbrev pub has_datagrams : Line → Bool
@@ -19,3 +19,15 @@ abbrev pub moved_by_error : ErrorKind → Moved
 moved_by_error kind.WouldBlock = Nothing
 moved_by_error kind.Interrupted = Interrupted
 moved_by_error other = Ended (Failed other)
+
+-- a datagram of a peer that isn't there yet is none; other errors say that nothing came
+abbrev pub received_by_error : ErrorKind → Moved
+received_by_error kind.ConnectionRefused = Bytes 0
+received_by_error kind.Interrupted = Interrupted
+received_by_error other = Nothing
+
+-- a datagram that an error takes is lost
+abbrev pub sent_by_error : ℕ → ErrorKind → Moved
+sent_by_error length kind.WouldBlock = Nothing
+sent_by_error length kind.Interrupted = Interrupted
+sent_by_error length other = Bytes length

@@ -1,4 +1,4 @@
--- What comes of opening a line, by its kind, and what is reported of it.
+-- What may come of opening a line, by its kind, whatever the addresses; and what is reported of it.
 use Rattle.std.specs.Prelude.{⊤, Option, Some, None}
 use Rattle.ddcmp_service.specs.declared.event.Event.{Event}
 use Rattle.ddcmp_service.specs.declared.event.Event.TheVariants as event

@@ -3,7 +3,7 @@ use Rattle.std.specs.Prelude.{ℕ, List, take}
 use Rattle.ddcmp_service.specs.declared.outlet.Outlet.{Outlet}
 use Rattle.ddcmp_service.specs.declared.outlet.Outlet.TheVariants.{Again, File, Other}
 
--- to a file all; elsewhere a write might wait for room, but not for that of 4096 bytes
+-- to a file all; elsewhere, once it is ready, a write of 4096 bytes doesn't wait for room
 abbrev pub at_once : Outlet → List ℕ → List ℕ
 at_once File bytes = bytes
 at_once (Again file) bytes = take 4096 bytes

@@ -1,4 +1,4 @@
--- What is known to be ready of that which is waited for.
+-- Which of the devices that are wanted are known to be ready.
 use Rattle.std.specs.Prelude.{Bool, ◌&&◌, ◌||◌, Option, Some, None}
 use Rattle.ddcmp_service.specs.declared.waiting.Descriptor.{Descriptor}
 use Rattle.ddcmp_service.specs.declared.waiting.Ready.{Ready}
@@ -13,7 +13,7 @@ ready_of None socket = socket
 abbrev pub line_ready : Waiting → Ready
 line_ready w = ready_of w.device w.socket
 
--- something that is wanted is
+-- a device that is wanted is ready
 abbrev pub is_any_ready : Wanted → Waiting → Bool
 is_any_ready wanted w =
     wanted.input && w.input.ready.to_read

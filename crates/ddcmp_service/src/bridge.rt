@@ -120,7 +120,7 @@ fn no_waiting<'a>(kind: ErrorKind) -> BridgeFault<'a> {
     }
 }
 
-/// Prints what came of opening a line, if that is reported.
+/// Prints how far a line is opened, if that is reported.
 fn tell<E: Eprint>(system: &E, opened: &Opened) {
     if let Some(event) = opened.event() {
         let _ = eprintln!(system; "{event}");

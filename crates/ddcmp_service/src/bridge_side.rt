@@ -175,6 +175,9 @@ impl Sides {
             first,
             second,
         } = self;
+        // Both peers learn of it before one of them is waited for.
+        let _is_up = first.line.shut();
+        let _is_up = second.line.shut();
         first.close(clock);
         second.close(clock);
     }

@@ -2,6 +2,7 @@
 ghost use Rattle.std.specs.Prelude.{◌≡◌, ◌≢◌, ℕ, IfErr, IfOk, MatchResult, Ok};
 ghost use Rattle.std.specs.IoError.{error_kind};
 ghost use Rattle.ddcmp_service.specs.Lines.{has_datagrams, moved_by_error};
+ghost use Rattle.ddcmp_service.specs.Lines.{received_by_error, sent_by_error};
 ghost use Rattle.ddcmp_session.specs.declared.devices.Down.{Down as DownValue};
 
 use ddcmp_session::{Down, Moved};
@@ -13,11 +14,14 @@ use std::net::{self, Shutdown, SocketAddr};
 use std::os::fd::{AsRawFd, RawFd};
 use std::time::Duration;
 
-/// For how long a peer is read at most, once its line is closed here, in milliseconds, and how
-/// long it may be silent then.
+/// For how long a peer is read at most, once its line is closed here, in milliseconds.
 const CLOSING_MS: u64 = 500;
 
+/// How long such a peer may be silent, in milliseconds.
 const SILENT_MS: u64 = 100;
+
+/// How often such a peer is read at most, so that a clock that has stopped ends it, too.
+const CLOSING_READS: u32 = 1 << 16;
 
 /// A line that is open.
 pub(crate) enum Line {
@@ -57,6 +61,7 @@ pub(crate) fn moved_by(answer: io::Result<usize>) -> Moved
 fn received_by(answer: io::Result<(usize, SocketAddr)>, remote: SocketAddr) -> Moved
     ensures peer { (n : ℕ) → answer ≡ Ok (n, remote) → result ≡ Moved.Bytes n }
     ensures stranger { IfOk answer (λ got. got.1 ≢ remote → result ≡ Moved.Bytes 0) }
+    ensures error { IfErr answer (λ error. result ≡ received_by_error (error_kind error)) }
     ensures up { (why : DownValue) → result ≢ Moved.Ended why }
 {
     match answer {
@@ -73,8 +78,7 @@ fn received_by(answer: io::Result<(usize, SocketAddr)>, remote: SocketAddr) -> M
 /// What became of a datagram that was to be sent: what an error takes is lost, as on a line.
 fn sent_by(answer: io::Result<usize>, length: usize) -> Moved
     ensures sent { IfOk answer (λ n. result ≡ Moved.Bytes length) }
-    ensures full { IfErr answer (λ error. error_kind error ≡ ErrorKind.WouldBlock
-        → result ≡ Moved.Nothing) }
+    ensures error { IfErr answer (λ error. result ≡ sent_by_error length (error_kind error)) }
     ensures up { (why : DownValue) → result ≢ Moved.Ended why }
 {
     match answer {
@@ -104,7 +108,7 @@ fn read_by(answer: io::Result<usize>) -> Moved
 fn drain<C: Clock>(mut stream: net::TcpStream, clock: &mut C) {
     let ends_at = clock.now().saturating_add(CLOSING_MS);
     let mut space = [0; 16384];
-    for _read in 0..u64::MAX {
+    for _read in 0..CLOSING_READS {
         let left = Duration::from_millis(ends_at.saturating_sub(clock.now()).min(SILENT_MS));
         // No time at all is refused.
         if stream.set_read_timeout(Some(left)).is_err() {
@@ -118,14 +122,23 @@ fn drain<C: Clock>(mut stream: net::TcpStream, clock: &mut C) {
 }
 
 impl Line {
-    /// Closes the line: the peer learns of that at once. A connection that is closed while bytes
-    /// still come is reset, and what was written last may be lost; so those are read first.
+    /// Ends what is written to the line: the peer learns of that at once. Returns whether it is a
+    /// connection that was up.
+    pub(crate) fn shut(&self) -> bool {
+        match self {
+            Line::Stream(stream) => stream.shutdown(Shutdown::Write).is_ok(),
+            Line::Datagrams(_, _) | Line::Device(_) => false,
+        }
+    }
+
+    /// Closes the line. A connection that is closed while bytes still come is reset, and what was
+    /// written last may be lost; so those are read first.
     pub(crate) fn close<C: Clock>(self, clock: &mut C) {
+        let is_up = self.shut();
         match self {
             Line::Stream(stream) => {
                 let stream = net::TcpStream::from(stream);
-                let has_ended = stream.shutdown(Shutdown::Write).is_err();
-                if !has_ended && stream.set_nonblocking(false).is_ok() {
+                if is_up && stream.set_nonblocking(false).is_ok() {
                     drain(stream, clock);
                 }
             }

@@ -53,7 +53,7 @@ pub(crate) enum Opened {
     Connecting(SocketAddr),
     /// Callers are waited for at this address.
     Listening(SocketAddr),
-    /// Nobody has connected yet, or the connection isn't made yet.
+    /// Nobody has connected yet, the connection isn't made yet, or nothing is listened for.
     NotYet,
 }
 
@@ -120,7 +120,7 @@ impl<'a> Opener<'a> {
         self.name.not_opened(refused)
     }
 
-    /// Listens if the line is one of whoever comes.
+    /// Listens if the line is one of whoever comes; else returns `NotYet`.
     pub(crate) fn listen<N: Net<Stream = net::TcpStream, Listener = net::TcpListener>>(
         &mut self,
         net: &N,

@@ -116,7 +116,7 @@ impl Descriptor {
     }
 }
 
-/// What a wait for a device is for; none if it isn't waited for.
+/// Returns what to wait for at a device; none if nothing is needed of it.
 fn interest_in(to_read: bool, to_write: bool) -> Option<Interest>
     ensures { MatchOption result ((to_read ≡ false) × (to_write ≡ false))
         (λ interest. (is_readable interest ≡ to_read) × (is_writable interest ≡ to_write)) }

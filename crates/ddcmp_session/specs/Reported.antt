@@ -152,7 +152,7 @@ abbrev pub refused_after : List Entry → Messages → Bool → Bool
 refused_after [] m was = was
 refused_after (entry ∷ rest) m was = refused_with entry m was
 
--- What changes as an input is dropped: the log, and whether a part of the input was refused.
+-- the log, and whether a part of the input was refused
 pub record Dropping : Type 0 where
   pub log : LogView
   pub was_refused : Bool

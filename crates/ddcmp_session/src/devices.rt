@@ -11,7 +11,7 @@ use std::fmt;
 use std::io::ErrorKind;
 
 /// The devices that a session runs over. Of these calls only `rest` and `wait` wait, and
-/// `close_line` for a moment. A line that was opened is read and written until that.
+/// `close_line` for a moment. A line that was opened is read and written until `close_line`.
 pub trait Devices {
     ghost use Rattle.ddcmp_session.specs.Devices.{Traffic, Becomes, after_read, after_came};
     ghost use Rattle.std.specs.Prelude.{None};
@@ -50,7 +50,8 @@ pub trait Devices {
             ≡ record session.old.log { errors = session.new.log.errors } }
         ensures devices { traffic self.new ≡ traffic self.old };
 
-    /// Closes the line, if one is open: the peer learns of that at once, and may do so, too.
+    /// Closes the line, if one is open: the peer learns of that at once, and has a moment to close
+    /// it, too.
     fn close_line(&mut self)
         ensures { traffic self.new ≡ traffic self.old };
 

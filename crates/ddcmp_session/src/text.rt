@@ -201,7 +201,10 @@ pub(crate) fn write_unread(out: &mut ByteQueue)
     ensures { HandsOver (queued out.old) (queued out.new) unread_text }
 {
     let mut page = Page::new();
-    page.write(out, b"ddcmp: standard output isn't read: received messages are lost\n");
+    page.write(
+        out,
+        b"ddcmp: standard output isn't read: received messages are lost\n",
+    );
     let _is_whole = page.flush(out);
 }
 
@@ -272,7 +275,7 @@ pub(crate) fn write_report(out: &mut ByteQueue, link: &Link, lost: u64)
     let _is_whole = page.flush(out);
 }
 
-/// Writes them as the members of a JSON object, and its end.
+/// Writes the same as the members of a JSON object, and its end.
 pub(crate) fn write_members(out: &mut ByteQueue, link: &Link, lost: u64)
     ensures { HandsOver (queued out.old) (queued out.new) (report_members lost link.now) }
 {

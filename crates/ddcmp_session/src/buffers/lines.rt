@@ -59,8 +59,9 @@ impl Buffers {
             (D.traffic devices.old) (D.traffic devices.new) fault }
     {
         let ran = self.run_each(session, devices);
+        let judged = self.judge(session, devices, ran);
         devices.close_line();
-        self.judge(session, devices, ran)
+        judged
     }
 
     /// Runs a session over one line after the other, until all is delivered or a line ends for

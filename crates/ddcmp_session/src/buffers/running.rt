@@ -13,8 +13,8 @@ use crate::buffers::passing::{deliver_all, write_errors, write_output};
 use crate::devices::{Devices, Fault, Wanted};
 use crate::session::{End, Session};
 
-/// After how many passes in which something moved the devices are asked again which of them is
-/// ready, so that none starves another.
+/// In how many passes the devices are asked once which of them is ready although something moved,
+/// so that none starves another.
 const PASSES: u64 = 16;
 
 /// How long an output may take nothing at the end of a run, in milliseconds.
@@ -61,15 +61,9 @@ impl Buffers {
         Ok(End::Time)
     }
 
-    /// Waits; or if something moved, asks without waiting which devices are ready, if it is to.
-    /// Returns whether it could.
-    fn wait<D: Devices>(
-        &self,
-        session: &Session,
-        devices: &mut D,
-        moved: bool,
-        asks: bool,
-    ) -> bool
+    /// Waits for a device or a moment if nothing moved; else asks without waiting which devices are
+    /// ready, if `asks`. Returns whether it could.
+    fn wait<D: Devices>(&self, session: &Session, devices: &mut D, moved: bool, asks: bool) -> bool
         requires rests { moved ≡ false → Rests self.now session.now.state }
         requires goes_on { end session.now.state ≡ None }
         ensures { Becomes (D.traffic devices.old) (D.traffic devices.new) (after_wait result) }

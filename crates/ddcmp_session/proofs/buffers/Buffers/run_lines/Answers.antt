@@ -8,9 +8,9 @@ returns-clause-ends g c = record {
   unclosed = c.run_each-ran.new.session.state;
   over =
       over-then c.run_each-ran.ensures.over
-      (over-then (none-over refl c.close_line.ensures) (goes-over c.judge.ensures.on));
-  closes = c.judge.ensures.closes;
-  well = c.judge.ensures.well;
+      (over-then (goes-over c.judge-judged.ensures.on) (none-over refl c.close_line.ensures));
+  closes = c.judge-judged.ensures.closes;
+  well = c.judge-judged.ensures.well;
 }
 
 pub returns-clause-stops : goal.returns-clause-stops
@@ -18,15 +18,14 @@ unfolding returns-clause-ends
 returns-clause-stops g c = (
   returns-clause-ends g c,
   stops c.run_each-ran.ensures.over
-      (keeps-then (keeps-same c.close_line.ensures) c.judge.ensures.keeps)
+      (keeps-then c.judge-judged.ensures.keeps (keeps-same c.close_line.ensures))
       c.run_each-ran.ensures.ended c.run_each-ran.ensures.left c.run_each-ran.ensures.shut
-      c.run_each-ran.ensures.time c.judge.ensures.judges,
+      c.run_each-ran.ensures.time c.judge-judged.ensures.judges,
 )
 
 pub returns-clause-reports : goal.returns-clause-reports
 returns-clause-reports g c = λ fault untimed e.
-    reports-by
-    (over-then c.run_each-ran.ensures.over (none-over refl c.close_line.ensures))
-    (λ same.
-    reports-at c.close_line.ensures (c.run_each-ran.ensures.reports fault untimed (same ∙ e)))
-    (c.judge.ensures.reports fault untimed e)
+    reports-at c.close_line.ensures
+    (reports-by c.run_each-ran.ensures.over
+    (λ same. c.run_each-ran.ensures.reports fault untimed (same ∙ e))
+    (c.judge-judged.ensures.reports fault untimed e))
