@@ -24,10 +24,10 @@ moved_by_error other = Ended (Failed other)
 abbrev pub received_by_error : ErrorKind → Moved
 received_by_error kind.ConnectionRefused = Bytes 0
 received_by_error kind.Interrupted = Interrupted
-received_by_error other = Nothing
+received_by_error _ = Nothing
 
 -- a datagram that an error takes is lost
 abbrev pub sent_by_error : ℕ → ErrorKind → Moved
 sent_by_error length kind.WouldBlock = Nothing
 sent_by_error length kind.Interrupted = Interrupted
-sent_by_error length other = Bytes length
+sent_by_error length _ = Bytes length
