@@ -1,5 +1,6 @@
 -- What a service reports of its line on standard error, without the line feed.
-use Rattle.std.specs.Prelude.{ℕ, List, ◌++◌, codes, decimal}
+use Rattle.std.specs.Prelude.{◌≡◌, ℕ, List, ◌++◌, codes, decimal, Option, Some, None}
+use Rattle.std.specs.Fmt.Cut.{IsTextOrCut}
 use Rattle.std.specs.Net.Text.{socket_text}
 use Rattle.ddcmp_io.specs.Causes.{cause_words}
 use Rattle.ddcmp_service.specs.declared.event.Event.{Event}
@@ -9,6 +10,8 @@ use Rattle.ddcmp_service.specs.declared.fault.Attempt.TheVariants as attempt
 use Rattle.ddcmp_service.specs.declared.fault.Cause.{Cause}
 use Rattle.ddcmp_service.specs.declared.fault.Cause.TheVariants as cause
 use Rattle.ddcmp_service.specs.declared.fault.NotOpened.{NotOpened}
+use Rattle.ddcmp_session.specs.Errors.{ErrorsView, HasEvent}
+use Rattle.ddcmp_session.specs.declared.errors.TheConstants.{EVENT_ROOM}
 
 abbrev pub attempt_text : Attempt → List ℕ
 attempt_text attempt.Connect = codes "connect"
@@ -39,3 +42,9 @@ event_text (event.Connected address) = codes "connected " ++ socket_text address
 event_text (event.Retry fault seconds) =
     codes "ddcmp: "
     ++ (not_opened_text fault ++ (codes "; retry in " ++ (decimal seconds ++ codes " s")))
+
+-- The event was reported, if there is one: its text, whole or cut to end in dots.
+abbrev pub Reports : Option Event → ErrorsView → ErrorsView → Type 0
+Reports None old new = new ≡ old
+Reports (Some event) old new =
+    (text : List ℕ) × IsTextOrCut EVENT_ROOM (event_text event) text × HasEvent text old new

@@ -1,5 +1,5 @@
 -- What may come of opening a line, by its kind, whatever the addresses; and what is reported of it.
-use Rattle.std.specs.Prelude.{⊤, Option, Some, None}
+use Rattle.std.specs.Prelude.{⊤, ◌≡◌, Option, Some, None}
 use Rattle.ddcmp_service.specs.declared.event.Event.{Event}
 use Rattle.ddcmp_service.specs.declared.event.Event.TheVariants as event
 use Rattle.ddcmp_service.specs.declared.line.Line.{Line as LineValue}
@@ -44,3 +44,8 @@ Opens kind.Listen NotYet = ⊤
 Opens kind.Datagrams (Line (line.Datagrams socket peer)) = ⊤
 Opens kind.Device (Line (line.Device file)) = ⊤
 Opens _ _ = ⊥
+
+-- If nothing came of it yet, the connection that is waited for, if one is, stays the same.
+abbrev pub SameIfNotYet : {C : Type 0} → C → C → Opened → Type 0
+SameIfNotYet old new NotYet = new ≡ old
+SameIfNotYet old new _ = ⊤

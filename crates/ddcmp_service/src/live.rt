@@ -1,5 +1,6 @@
 //! The devices of a link: what the system gives a session.
 ghost use Rattle.std.specs.Prelude.{◌≡◌, ◌≤◌, ◌↔◌, length};
+ghost use Rattle.ddcmp_service.specs.Events.{Reports};
 ghost use Rattle.ddcmp_service.specs.Outlets.{at_once};
 ghost use Rattle.ddcmp_session.specs.Devices.{count_moved, count_read};
 
@@ -16,6 +17,7 @@ use ddcmp_io::{Got, Sink, Source, Worst};
 use ddcmp_session::{Buffers, Devices, Down, Moved, Session, Wanted};
 use ddcmp_station::Clock;
 use std::alloc::Global;
+use std::fmt::InlineText;
 use std::io::{Eprint, ErrorKind};
 
 /// Standard input, output and error, a line and a clock.
@@ -162,33 +164,70 @@ fn written(outlet: &mut Outlet, there: &mut Descriptor, bytes: &[u8]) -> Option<
     }
 }
 
+/// Reports an event of the line on standard error, if there is one.
+fn report(session: &mut Session, event: Option<Event<'_>>)
+    ensures state { session.new.state ≡ session.old.state }
+    ensures errors { Reports event.entry session.old.log.errors session.new.log.errors }
+    ensures log { session.new.log ≡ record session.old.log { errors = session.new.log.errors } }
+{
+    if let Some(event) = event {
+        session.report(&InlineText::of(event));
+    }
+}
+
 impl<S: System, C: Clock + Drop, R: Source, W: Sink> Devices for Live<'_, S, C, R, W> {
-    ghost use Rattle.std.specs.Prelude.{None};
+    ghost use Rattle.std.specs.Prelude.{IfOk, OnErr, None, Some, is_some};
+    ghost use Rattle.ddcmp_service.specs.Events.{Reports};
+    ghost use Rattle.ddcmp_service.specs.LineNames.{line_kind, not_opened_of};
+    ghost use Rattle.ddcmp_service.specs.Opening.{Begins, SameIfNotYet, Opens, event_of, line_of};
+    ghost use Rattle.ddcmp_service.specs.declared.event.Event.TheVariants as event;
+    ghost use Rattle.ddcmp_service.specs.declared.opening.Opened.{Opened};
 
     ghost traffic = { λ _. None };
 
     type Refusal = OpenRefusal;
 
-    fn begin_lines(&mut self, session: &mut Session) -> Result<(), OpenRefusal> {
-        let opened = self.opener.listen(self.system, &mut self.waiting)?;
-        if let Some(event) = opened.event() {
-            session.report(&event);
-        }
+    fn begin_lines(&mut self, session: &mut Session) -> Result<(), OpenRefusal>
+        ensures session { session.new.state ≡ session.old.state }
+        ensures log { session.new.log
+            ≡ record session.old.log { errors = session.new.log.errors } }
+        ensures reports { IfOk result (λ _. (opened : Opened)
+            × Begins (line_kind self.old.opener.name) opened
+            × Reports (event_of opened) session.old.log.errors session.new.log.errors) }
+        ensures refused { OnErr result (session.new ≡ session.old) }
+    {
+        let begun = self.opener.listen(self.system, &mut self.waiting)?;
+        report(session, begun.event());
         Ok(())
     }
 
-    fn open_line(&mut self, session: &mut Session) -> Result<bool, OpenRefusal> {
+    fn open_line(&mut self, session: &mut Session) -> Result<bool, OpenRefusal>
+        ensures session { session.new.state ≡ session.old.state }
+        ensures log { session.new.log
+            ≡ record session.old.log { errors = session.new.log.errors } }
+        ensures reports { IfOk result (λ is_open. (opened : Opened)
+            × Opens (line_kind self.old.opener.name) opened
+            × SameIfNotYet self.old.opener.connecting self.new.opener.connecting opened
+            × (self.new.line ≡ line_of opened) × (is_open ≡ is_some (line_of opened))
+            × Reports (event_of opened) session.old.log.errors session.new.log.errors) }
+        ensures refused { OnErr result (session.new ≡ session.old) }
+    {
         let opened = self.opener.open(self.system, &mut self.waiting)?;
-        if let Some(event) = opened.event() {
-            session.report(&event);
-        }
+        report(session, opened.event());
         self.line = opened.into_line();
         Ok(self.line.is_some())
     }
 
-    fn report_retry(&mut self, session: &mut Session, refusal: OpenRefusal, seconds: u64) {
-        let name = self.name;
-        session.report(&Event::Retry(name.not_opened(refusal), seconds));
+    fn report_retry(&mut self, session: &mut Session, refusal: OpenRefusal, seconds: u64)
+        ensures session { session.new.state ≡ session.old.state }
+        ensures log { session.new.log
+            ≡ record session.old.log { errors = session.new.log.errors } }
+        ensures reports { Reports
+            (Some (event.Retry (not_opened_of self.old.name refusal) seconds))
+            session.old.log.errors session.new.log.errors }
+    {
+        let fault = self.name.not_opened(refusal);
+        report(session, Some(Event::Retry(fault, seconds)));
     }
 
     fn close_line(&mut self) {

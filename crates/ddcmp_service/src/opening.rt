@@ -1,7 +1,7 @@
 //! Opening the line that a name names.
 ghost use Rattle.std.specs.Prelude.{◌≡◌, IfErr, IfOk, false};
 ghost use Rattle.ddcmp_service.specs.LineNames.{line_kind, not_opened_of};
-ghost use Rattle.ddcmp_service.specs.Opening.{Begins, Opens, event_of, line_of};
+ghost use Rattle.ddcmp_service.specs.Opening.{Begins, SameIfNotYet, Opens, event_of, line_of};
 ghost use Rattle.ddcmp_session.specs.declared.options.LineKind.TheVariants as kind;
 
 use crate::event::Event;
@@ -148,7 +148,8 @@ impl<'a> Opener<'a> {
     ) -> Result<Opened, OpenRefusal>
     where
         S: Net<Stream = net::TcpStream, Listener = net::TcpListener> + Files<File = File>,
-        ensures { IfOk result (Opens (line_kind self.old.name)) }
+        ensures opened { IfOk result (Opens (line_kind self.old.name)) }
+        ensures begun { IfOk result (SameIfNotYet self.old.connecting self.new.connecting) }
     {
         match self.name {
             LineName::Connect(name) => self.connect(system, waiting, name),
@@ -168,7 +169,8 @@ impl<'a> Opener<'a> {
         waiting: &mut Waiting,
         name: &str,
     ) -> Result<Opened, OpenRefusal>
-        ensures { IfOk result (Opens kind.Connect) }
+        ensures opened { IfOk result (Opens kind.Connect) }
+        ensures begun { IfOk result (SameIfNotYet self.old.connecting self.new.connecting) }
     {
         if let Some(stream) = self.connecting.take() {
             match peer_of(&stream) {

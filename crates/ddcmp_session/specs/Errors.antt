@@ -14,7 +14,7 @@ use Rattle.ddcmp_station.specs.CountersText.{counter_text, counters_line, counts
 use Rattle.ddcmp_station.specs.Linking.{LinkView}
 use Rattle.ddcmp_station.specs.StationText.{state_text}
 use Rattle.ddcmp_session.specs.EndText.{queued, totals_text}
-use Rattle.ddcmp_session.specs.declared.errors.TheConstants.{NOTE}
+use Rattle.ddcmp_session.specs.declared.errors.TheConstants.{NOTE, SHORT_LINE}
 
 -- The lines that wait, how many were left out since the last that found room, how many milliseconds
 -- after 1970 the moment 0 is if lines begin with the time of day, and the moment of those to come.
@@ -122,6 +122,10 @@ HasLine needed text old new =
 abbrev pub HasObject : ℕ → List ℕ → ErrorsView → ErrorsView → Type 0
 HasObject needed text old new =
     MatchBool (has_room needed old) (HasQueuedObject text old new) (LeftOut old new)
+
+-- An event was reported, as a line of its own.
+abbrev pub HasEvent : List ℕ → ErrorsView → ErrorsView → Type 0
+HasEvent event old new = HasLine SHORT_LINE (event ++ codes "\n") old new
 
 -- a part of the input is no message
 abbrev pub refused_text : List ℕ → ℕ → List ℕ → List ℕ

@@ -19,6 +19,10 @@ pub(crate) const LAST_ROOM: usize = 8192;
 /// The room for a line that is no line of a trace, no line of counters and none of the last.
 pub(crate) const SHORT_LINE: usize = 512 + LAST_ROOM;
 
+/// The longest event: a name in it may be a path, of at most 4096 bytes. `SHORT_LINE` has room for
+/// it, and for a time of day and a line feed.
+pub const EVENT_ROOM: usize = 8192;
+
 /// Lines that are queued for standard error. A line that finds no room is left out, so that a
 /// standard error that isn't read holds nothing up. How many were left out is reported before the
 /// next line that finds room. Each begins with the time of day, if that is asked for.
@@ -51,6 +55,7 @@ impl Errors {
     ghost use Rattle.std.specs.Prelude.{◌≡◌, ◌+◌, [], ◌++◌, List, ℕ, IfOk, Some, true, false};
     ghost use Rattle.std.specs.Prelude.{nat_le};
     ghost use Rattle.ddcmp_session.specs.Errors.{no_lines, has_room, LeftOut, HasLine, HasObject};
+    ghost use Rattle.ddcmp_session.specs.Errors.{HasEvent};
     ghost use Rattle.ddcmp_session.specs.Errors.{HasNoted, ReportsLeftOut, Took, Queues, Stamps};
     ghost use Rattle.ddcmp_session.specs.Errors.{left_out_text, refused_text, reports_left_out};
     ghost use Rattle.ddcmp_session.specs.Errors.{settled, one_more};
@@ -210,6 +215,15 @@ impl Errors {
         write_number(&mut page, &mut self.queue, self.left_out);
         page.write(&mut self.queue, left_out_words(self.left_out));
         let _is_whole = page.flush(&mut self.queue);
+    }
+
+    /// Reports an event.
+    pub(crate) fn write_event(&mut self, event: &str)
+        ensures { HasEvent event.now self.old self.new }
+    {
+        if self.begin_line(SHORT_LINE) {
+            self.write_between(b"", event.as_bytes(), b"\n");
+        }
     }
 
     /// Reports that a part of the input, which `part` names, is no message.

@@ -2,6 +2,7 @@
 //! its lines.
 use ddcmp_session::{Down, Form, LineKind, Options, Session};
 use ddcmp_station::Config;
+use std::fmt::InlineText;
 use std::process::Abort;
 
 /// The second 10^9 after 1970, in milliseconds.
@@ -166,7 +167,7 @@ fn lines_left_out(rt: HostRuntime) {
     let mut session = session(&rt, false);
     session.pass_time(250);
     for _line in 0..5000u32 {
-        session.report(&"this is a line of standard error");
+        session.report(&InlineText::of("this is a line of standard error"));
     }
     let n = session.to_errors().len();
     session.errors_took(n);

@@ -1,21 +1,21 @@
 //! The two outputs of a session.
 use crate::devices::Down;
-use crate::errors::SHORT_LINE;
+use crate::errors::{EVENT_ROOM, SHORT_LINE};
 use crate::messages::Form;
 use crate::session::Session;
 use crate::{report, text};
-use std::fmt;
-use std::fmt::Write;
+use std::fmt::InlineText;
 
 impl Session {
     ghost use Rattle.std.specs.Prelude.{◌≡◌, ◌≤◌, ℕ, List, Some, true, false, min, length, is_some};
     ghost use Rattle.std.specs.Prelude.{◌⊎◌, ◌<◌, if◌then◌else◌, [], None};
+    ghost use Rattle.std.specs.Fmt.InlineText.{inline_text};
     ghost use Rattle.ddcmp_station.specs.Linking.{after_taking};
     ghost use Rattle.ddcmp_window.specs.Store.{first_message};
     ghost use Rattle.ddcmp_io.specs.Queue.{after_pushed, after_taken};
     ghost use Rattle.ddcmp_session.specs.Course.{lost_more};
     ghost use Rattle.ddcmp_session.specs.EndText.{pause_text, unread_text};
-    ghost use Rattle.ddcmp_session.specs.Errors.{HasLine, Took};
+    ghost use Rattle.ddcmp_session.specs.Errors.{HasEvent, HasLine, Took};
     ghost use Rattle.ddcmp_session.specs.Finishing.{HasRoomIfEmpty};
     ghost use Rattle.ddcmp_session.specs.Logged.{HasLost, HasReport, ReportsDown};
     ghost use Rattle.ddcmp_session.specs.Session.{form_of, reports_loss, room_for_mail};
@@ -92,13 +92,13 @@ impl Session {
     }
 
     /// Reports an event on standard error, as a line of its own.
-    pub fn report<E: fmt::Display>(&mut self, event: &E)
+    pub fn report(&mut self, event: &InlineText<EVENT_ROOM>)
         ensures state { self.new.state ≡ self.old.state }
+        ensures errors { HasEvent (inline_text event.now)
+            self.old.log.errors self.new.log.errors }
         ensures log { self.new.log ≡ record self.old.log { errors = self.new.log.errors } }
     {
-        if self.errors.begin_line(SHORT_LINE) {
-            let _is_whole = write!(&mut self.errors.queue, "{event}\n");
-        }
+        self.errors.write_event(event.as_str());
     }
 
     /// Reports why the line is down, unless all is delivered that was to be.
