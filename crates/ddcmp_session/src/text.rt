@@ -1,7 +1,7 @@
 //! The text that a session writes.
 ghost use Rattle.std.specs.Prelude.{◌≡◌, ◌+◌, ◌*◌, ◌<◌, ◌≤◌, [], ◌++◌, length};
 ghost use Rattle.hex.specs.Hex.{encode_lower};
-ghost use Rattle.ddcmp_io.specs.Written.{HandsOver, output_of};
+ghost use Rattle.ddcmp_io.specs.Written.{HandsOver};
 ghost use Rattle.ddcmp_session.specs.EndText.{totals_text, end_line, end_text, queued, paged};
 ghost use Rattle.ddcmp_session.specs.EndText.{line_down_text, pause_text, unread_text};
 ghost use Rattle.ddcmp_session.specs.Errors.{given_up_text, report_members, report_text};
@@ -14,7 +14,7 @@ use crate::messages::Form;
 use ddcmp_explain::reason_name;
 use ddcmp_frame::Nak;
 use ddcmp_io::text::write_number;
-use ddcmp_io::{ByteQueue, Page, Sink};
+use ddcmp_io::{ByteQueue, Page};
 use ddcmp_station::{
     Layout, Link, Notice, notice_name, notice_number, state_name, write_counter, write_counters,
     write_counts, write_notice,
@@ -219,9 +219,8 @@ pub(crate) fn write_counters_line(out: &mut ByteQueue, link: &Link)
 }
 
 /// Writes the line of the state and the totals of a link.
-fn write_end_line<W: Sink>(page: &mut Page, out: &mut W, link: &Link)
-    ensures { HandsOver (output_of W.broken W.contents out.old page.old)
-        (output_of W.broken W.contents out.new page.new) (end_line link.now) }
+fn write_end_line(page: &mut Page, out: &mut ByteQueue, link: &Link)
+    ensures { HandsOver (paged out.old page.old) (paged out.new page.new) (end_line link.now) }
 {
     page.write(out, b"state=");
     page.write(out, state_name(link.state()));
@@ -229,36 +228,15 @@ fn write_end_line<W: Sink>(page: &mut Page, out: &mut W, link: &Link)
     page.write(out, b"\n");
 }
 
-/// Writes the counters of a link, and then that line.
-fn write_counted_end<W: Sink>(page: &mut Page, out: &mut W, link: &Link)
-    ensures { HandsOver (output_of W.broken W.contents out.old page.old)
-        (output_of W.broken W.contents out.new page.new)
-        (counters_line [] link.now.station.core.counters ++ end_line link.now) }
-{
-    write_counters(page, out, b"", link.counters());
-    write_end_line(page, out, link);
-}
-
-/// Writes the line of the state and the totals of a link, after its counters if these are asked
-/// for.
-fn write_end_lines<W: Sink>(page: &mut Page, out: &mut W, link: &Link, counted: bool)
-    ensures { HandsOver (output_of W.broken W.contents out.old page.old)
-        (output_of W.broken W.contents out.new page.new) (end_text counted link.now) }
-{
-    if counted {
-        write_counted_end(page, out, link);
-    } else {
-        write_end_line(page, out, link);
-    }
-}
-
-/// Writes the last lines of a run.
-pub(crate) fn write_end<W: Sink>(out: &mut W, link: &Link, counted: bool)
-    ensures { HandsOver (output_of W.broken W.contents out.old [])
-        (output_of W.broken W.contents out.new []) (end_text counted link.now) }
+/// Writes the last lines of a run: that, after the counters if these are asked for.
+pub(crate) fn write_end(out: &mut ByteQueue, link: &Link, counted: bool)
+    ensures { HandsOver (queued out.old) (queued out.new) (end_text counted link.now) }
 {
     let mut page = Page::new();
-    write_end_lines(&mut page, out, link, counted);
+    if counted {
+        write_counters(&mut page, out, b"", link.counters());
+    }
+    write_end_line(&mut page, out, link);
     let _is_whole = page.flush(out);
 }
 
@@ -291,9 +269,9 @@ pub(crate) fn write_members(out: &mut ByteQueue, link: &Link, lost: u64)
 }
 
 /// Writes the totals of a link.
-fn write_totals<W: Sink>(page: &mut Page, out: &mut W, layout: Layout, link: &Link)
-    ensures { HandsOver (output_of W.broken W.contents out.old page.old)
-        (output_of W.broken W.contents out.new page.new) (totals_text layout link.now) }
+fn write_totals(page: &mut Page, out: &mut ByteQueue, layout: Layout, link: &Link)
+    ensures { HandsOver (paged out.old page.old) (paged out.new page.new)
+        (totals_text layout link.now) }
 {
     let totals = link.totals();
     write_counter(page, out, layout, b"read", totals.read);

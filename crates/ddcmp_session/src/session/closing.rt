@@ -130,13 +130,6 @@ impl Session {
         self.course.has_run
     }
 
-    /// Whether the whole input was read.
-    pub fn input_is_read(&self) -> bool
-        ensures { result ≡ self.now.state.is_read }
-    {
-        self.input_is_read
-    }
-
     /// Whether a part of the input was no message.
     pub fn was_refused(&self) -> bool
         ensures { result ≡ self.now.state.was_refused }

@@ -5,7 +5,7 @@ use Rattle.ddcmp_station.specs.StationText.{state_text}
 use Rattle.ddcmp_session.proofs.text.write_end_line.Goals as goal
 
 pub returns : goal.returns
-returns g c =
+returns c =
     sends-then
     (sends-then
     (sends-then c.write.ensures.sends

@@ -6,7 +6,7 @@ use Rattle.ddcmp_station.specs.CountersText.{counter_text}
 use Rattle.ddcmp_session.proofs.text.write_totals.Goals as goal
 
 pub returns : goal.returns
-returns g c =
+returns c =
     let e = c.totals-totals.ensures in
     let text = counter_text c.args.layout in
     sends-then
