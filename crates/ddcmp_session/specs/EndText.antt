@@ -53,4 +53,5 @@ pause_text seconds = codes "retry in " ++ decimal seconds ++ codes " s\n"
 
 -- Standard output took nothing after the time of the run was over.
 abbrev pub unread_text : List ℕ
-unread_text = codes "ddcmp: standard output isn't read: received messages are lost\n"
+unread_text =
+    codes "ddcmp: " ++ codes "standard output isn't read: received messages are lost" ++ codes "\n"

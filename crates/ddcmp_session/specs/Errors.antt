@@ -148,7 +148,7 @@ report_members lost d =
 
 -- why a line is left on which nothing gets on
 abbrev pub given_up_text : Option Nak → List ℕ
-given_up_text None = codes "ddcmp: peer doesn't answer\n"
+given_up_text None = codes "ddcmp: peer " ++ codes "doesn't answer" ++ codes "\n"
 given_up_text (Some reason) =
     codes "ddcmp: peer refuses: " ++ reason_in_words reason ++ codes "\n"
 

@@ -55,7 +55,6 @@ impl Errors {
     ghost use Rattle.std.specs.Prelude.{◌≡◌, ◌+◌, [], ◌++◌, List, ℕ, IfOk, Some, true, false};
     ghost use Rattle.std.specs.Prelude.{nat_le};
     ghost use Rattle.ddcmp_session.specs.Errors.{no_lines, has_room, LeftOut, HasLine, HasObject};
-    ghost use Rattle.ddcmp_session.specs.Errors.{HasEvent};
     ghost use Rattle.ddcmp_session.specs.Errors.{HasNoted, ReportsLeftOut, Took, Queues, Stamps};
     ghost use Rattle.ddcmp_session.specs.Errors.{left_out_text, refused_text, reports_left_out};
     ghost use Rattle.ddcmp_session.specs.Errors.{settled, one_more};
@@ -217,12 +216,12 @@ impl Errors {
         let _is_whole = page.flush(&mut self.queue);
     }
 
-    /// Reports an event.
-    pub(crate) fn write_event(&mut self, event: &str)
-        ensures { HasEvent event.now self.old self.new }
+    /// Queues a line: a text between two others.
+    pub(crate) fn write_line(&mut self, before: &[u8], text: &[u8], after: &[u8])
+        ensures { HasLine SHORT_LINE (before.now ++ text.now ++ after.now) self.old self.new }
     {
         if self.begin_line(SHORT_LINE) {
-            self.write_between(b"", event.as_bytes(), b"\n");
+            self.write_between(before, text, after);
         }
     }
 

@@ -3,17 +3,12 @@ ghost use Rattle.std.specs.Prelude.{◌≡◌, ◌+◌, ◌*◌, ◌<◌, ◌≤
 ghost use Rattle.hex.specs.Hex.{encode_lower};
 ghost use Rattle.ddcmp_io.specs.Written.{HandsOver};
 ghost use Rattle.ddcmp_session.specs.EndText.{totals_text, end_line, end_text, queued, paged};
-ghost use Rattle.ddcmp_session.specs.EndText.{line_down_text, pause_text, unread_text};
-ghost use Rattle.ddcmp_session.specs.Errors.{given_up_text, report_members, report_text};
+ghost use Rattle.ddcmp_session.specs.Errors.{report_members, report_text};
 ghost use Rattle.ddcmp_session.specs.Text.{Puts, mail_text, lost_line};
 ghost use Rattle.ddcmp_station.specs.CountersText.{counters_line};
 ghost use Rattle.ddcmp_station.specs.StationText.{notice_line, number_text};
 
-use crate::devices::Down;
 use crate::messages::Form;
-use ddcmp_explain::reason_name;
-use ddcmp_frame::Nak;
-use ddcmp_io::text::write_number;
 use ddcmp_io::{ByteQueue, Page};
 use ddcmp_station::{
     Layout, Link, Notice, notice_name, notice_number, state_name, write_counter, write_counters,
@@ -135,76 +130,6 @@ pub(crate) fn report_notice(out: &mut ByteQueue, notice: Notice)
 {
     let mut page = Page::new();
     write_notice(&mut page, out, b"", notice);
-    let _is_whole = page.flush(out);
-}
-
-/// Writes to standard error how many accepted messages were dropped.
-pub(crate) fn report_lost(out: &mut ByteQueue, lost: u8)
-    ensures { HandsOver (queued out.old) (queued out.new) (lost_line lost) }
-{
-    let mut page = Page::new();
-    page.write(out, b"lost ");
-    write_number(&mut page, out, lost);
-    page.write(out, b"\n");
-    let _is_whole = page.flush(out);
-}
-
-/// Writes why a line is left on which nothing gets on: the peer refuses messages for this reason,
-/// or doesn't answer.
-pub(crate) fn write_given_up(out: &mut ByteQueue, refusal: Option<Nak>)
-    ensures { HandsOver (queued out.old) (queued out.new) (given_up_text refusal) }
-{
-    let mut page = Page::new();
-    write_refusal(&mut page, out, refusal);
-    let _is_whole = page.flush(out);
-}
-
-/// Writes that the peer refuses messages for this reason, or doesn't answer.
-fn write_refusal(page: &mut Page, out: &mut ByteQueue, refusal: Option<Nak>)
-    ensures { HandsOver (paged out.old page.old) (paged out.new page.new)
-        (given_up_text refusal) }
-{
-    match refusal {
-        None => page.write(out, b"ddcmp: peer doesn't answer\n"),
-        Some(reason) => {
-            page.write(out, b"ddcmp: peer refuses: ");
-            page.write(out, reason_name(reason));
-            page.write(out, b"\n");
-        }
-    }
-}
-
-/// Writes why a line is down.
-pub(crate) fn write_down(out: &mut ByteQueue, why: Down)
-    ensures { HandsOver (queued out.old) (queued out.new) (line_down_text why) }
-{
-    let mut page = Page::new();
-    page.write(out, b"line down: ");
-    page.write(out, why.words().as_bytes());
-    page.write(out, b"\n");
-    let _is_whole = page.flush(out);
-}
-
-/// Writes that a line is opened again after this many seconds.
-pub(crate) fn write_pause(out: &mut ByteQueue, seconds: u64)
-    ensures { HandsOver (queued out.old) (queued out.new) (pause_text seconds) }
-{
-    let mut page = Page::new();
-    page.write(out, b"retry in ");
-    write_number(&mut page, out, seconds);
-    page.write(out, b" s\n");
-    let _is_whole = page.flush(out);
-}
-
-/// Writes that standard output took nothing after the time of the run was over.
-pub(crate) fn write_unread(out: &mut ByteQueue)
-    ensures { HandsOver (queued out.old) (queued out.new) unread_text }
-{
-    let mut page = Page::new();
-    page.write(
-        out,
-        b"ddcmp: standard output isn't read: received messages are lost\n",
-    );
     let _is_whole = page.flush(out);
 }
 

@@ -1,9 +1,10 @@
 //! The two outputs of a session.
 use crate::devices::Down;
-use crate::errors::{EVENT_ROOM, SHORT_LINE};
+use crate::errors::EVENT_ROOM;
 use crate::messages::Form;
 use crate::session::Session;
 use crate::{report, text};
+use itoa::Buffer;
 use std::fmt::InlineText;
 
 impl Session {
@@ -19,6 +20,7 @@ impl Session {
     ghost use Rattle.ddcmp_session.specs.Finishing.{HasRoomIfEmpty};
     ghost use Rattle.ddcmp_session.specs.Logged.{HasLost, HasReport, ReportsDown};
     ghost use Rattle.ddcmp_session.specs.Session.{form_of, reports_loss, room_for_mail};
+    ghost use Rattle.ddcmp_session.specs.declared.errors.TheConstants.{SHORT_LINE};
     ghost use Rattle.ddcmp_session.specs.Text.{Wrote, mail_text, reported_lost};
 
     /// Writes the first received message, if there is one and the output has room for it: returns
@@ -98,7 +100,8 @@ impl Session {
             self.old.log.errors self.new.log.errors }
         ensures log { self.new.log ≡ record self.old.log { errors = self.new.log.errors } }
     {
-        self.errors.write_event(event.as_str());
+        self.errors
+            .write_line(b"", event.as_str().as_bytes(), b"\n");
     }
 
     /// Reports why the line is down, unless all is delivered that was to be.
@@ -110,9 +113,8 @@ impl Session {
         if self.is_delivered() && !self.stays() {
             return;
         }
-        if self.errors.begin_line(SHORT_LINE) {
-            text::write_down(&mut self.errors.queue, why);
-        }
+        self.errors
+            .write_line(b"line down: ", why.words().as_bytes(), b"\n");
     }
 
     /// Reports that a line is opened again after this many seconds.
@@ -122,9 +124,9 @@ impl Session {
             self.old.log.errors self.new.log.errors }
         ensures log { self.new.log ≡ record self.old.log { errors = self.new.log.errors } }
     {
-        if self.errors.begin_line(SHORT_LINE) {
-            text::write_pause(&mut self.errors.queue, seconds);
-        }
+        let mut digits = Buffer::new();
+        let text = digits.format(seconds).as_bytes();
+        self.errors.write_line(b"retry in ", text, b" s\n");
     }
 
     /// Reports that standard output took nothing after the time of the run was over.
@@ -134,9 +136,8 @@ impl Session {
             self.old.log.errors self.new.log.errors }
         ensures log { self.new.log ≡ record self.old.log { errors = self.new.log.errors } }
     {
-        if self.errors.begin_line(SHORT_LINE) {
-            text::write_unread(&mut self.errors.queue);
-        }
+        let why = b"standard output isn't read: received messages are lost";
+        self.errors.write_line(b"ddcmp: ", why, b"\n");
     }
 
     /// Reports all that the link has counted on standard error.
@@ -177,9 +178,9 @@ impl Session {
             Form::Digits if has_room => text::write_lost(&mut self.output, lost),
             Form::Digits => {}
             Form::Binary => {
-                if self.errors.begin_line(SHORT_LINE) {
-                    text::report_lost(&mut self.errors.queue, lost);
-                }
+                let mut digits = Buffer::new();
+                let text = digits.format(lost).as_bytes();
+                self.errors.write_line(b"lost ", text, b"\n");
             }
         }
         has_room

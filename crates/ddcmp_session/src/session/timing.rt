@@ -1,11 +1,12 @@
 //! The moments of a session.
-ghost use Rattle.std.specs.Prelude.{◌≡◌};
+ghost use Rattle.std.specs.Prelude.{◌≡◌, ◌++◌, codes};
+ghost use Rattle.ddcmp_session.specs.Errors.{given_up_text};
 ghost use Rattle.ddcmp_session.specs.Timing.{most_tries};
 
-use crate::errors::SHORT_LINE;
 use crate::options::LineKind;
 use crate::session::{End, Session};
-use crate::text;
+use ddcmp_explain::reason_name;
+use ddcmp_frame::Nak;
 use ddcmp_station::State;
 
 impl Session {
@@ -187,9 +188,8 @@ impl Session {
         if !self.is_given_up() {
             return;
         }
-        if self.errors.begin_line(SHORT_LINE) {
-            text::write_given_up(&mut self.errors.queue, self.course.refusal);
-        }
+        let (before, why) = given_up_words(self.course.refusal);
+        self.errors.write_line(before, why, b"\n");
     }
 
     pub(super) fn is_delivered(&self) -> bool
@@ -274,5 +274,16 @@ fn most_tries(attempts: u32, runs: bool) -> u32
         u32::MAX if runs => 0,
         u32::MAX => START_ATTEMPTS,
         attempts => attempts,
+    }
+}
+
+/// Returns in two parts why a line is left on which nothing gets on: the peer refuses messages for
+/// this reason, or doesn't answer.
+fn given_up_words(refusal: Option<Nak>) -> (&'static [u8], &'static [u8])
+    ensures { given_up_text refusal ≡ result.0.now ++ result.1.now ++ codes "\n" }
+{
+    match refusal {
+        None => (b"ddcmp: peer ", b"doesn't answer"),
+        Some(reason) => (b"ddcmp: peer refuses: ", reason_name(reason)),
     }
 }
