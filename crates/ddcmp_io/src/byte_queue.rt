@@ -5,7 +5,6 @@ ghost use Rattle.ddcmp_io.specs.Queue.{cleared, room_settled};
 
 use crate::device::Sink;
 use std::alloc::{AllocError, Global};
-use std::fmt;
 use std::marker::Model;
 
 /// A queue of bytes: they are appended at its end and taken from its front, in one piece. It has a
@@ -144,15 +143,6 @@ impl ByteQueue {
         self.bytes.copy_within(self.start.., 0);
         self.bytes.truncate(left);
         self.start = 0;
-    }
-}
-
-/// Appends formatted text; what finds no room is dropped.
-impl fmt::Write for ByteQueue {
-    fn write_str(&mut self, text: &str) -> fmt::Result {
-        let n = text.len().min(self.room());
-        self.push(&text.as_bytes()[..n]);
-        Ok(())
     }
 }
 
