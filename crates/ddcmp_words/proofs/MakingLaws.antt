@@ -1,8 +1,11 @@
 -- Where a parser begins, and what is made of it.
-use Rattle.std.proofs.Common.{◌≡◌, ◌∷◌, [], ◌++◌, ◌+◌, ◌<◌, ◌∙◌, List, ℕ, length, map, take, ap}
-use Rattle.std.proofs.Common.{subst, sym, refl, false, Ok, get_or}
+use Rattle.std.proofs.Common.{◌≡◌, ◌∷◌, [], ◌++◌, ◌+◌, ◌<◌, ◌∙◌, ◌||◌, List, ℕ, length, map, take}
+use Rattle.std.proofs.Common.{ap, subst, sym, refl, false, Result, Ok, Err, IfOk, get_or}
 use Rattle.std.proofs.lemmas.List.{take_more, map-append}
-use Rattle.clap.specs.Words.{App, Rule, app_of, with_rule}
+use Rattle.std.specs.declared.alloc.AllocError.{AllocError}
+use Rattle.clap.specs.Words.{App, Rule, app_of, rule_of, shape_of, with_rule, with_subcommand}
+use Rattle.clap.specs.Built.{AddsArg, AddsSubcommand}
+use Rattle.clap.specs.declared.builder.arg.Arg.{Arg}
 use Rattle.clap.specs.declared.builder.command.Command.{Command}
 use Rattle.clap.specs.declared.builder.command.Command.TheViews.{out-Command as fields_of}
 use Rattle.ddcmp_words.specs.declared.parser.Parser.{Parser}
@@ -46,3 +49,37 @@ with-more parser app options i d lt h =
     ap (λ xs. with_rules app (map rule_of_option xs)) (take_more options i d lt)
     ∙ ap (with_rules app) mapped ∙ pushed in
     subst (Makes parser) (sym on) h
+
+-- what the parser stands for is what it made
+made_by : (parser : Parser) (command : Command) (app : App) → parser.made ≡ Ok command
+    → Makes parser app → (app_of command ≡ app) × ((fields_of command).has_globals ≡ false)
+made_by parser command app e makes = rw e at makes
+
+-- an option was added to what was made
+pub with_argument : (parser : Parser) (old : Command) (arg : Arg) (app : App) (rule : Rule)
+    (made : Result Command AllocError) → parser.made ≡ Ok old → Makes parser app
+    → rule_of arg ≡ rule → arg.global ≡ false → IfOk made (λ new. AddsArg old arg new)
+    → IfOk made (λ command. (app_of command ≡ with_rule app rule)
+    × ((fields_of command).has_globals ≡ false))
+with_argument parser old arg app rule (Ok new) e makes is local adds =
+    let h = made_by parser old app e makes in (
+      adds.shape local ∙ ap (λ (a : App). with_rule a (rule_of arg)) h.0 ∙ ap (with_rule app) is,
+      adds.globals ∙ ap (λ b. b || arg.global) h.1 ∙ local,
+    )
+with_argument parser old arg app rule (Err refused) e makes is local adds = tt
+
+-- a subcommand was added to a command
+pub with_under : (parser : Parser) (old sub : Command) (app under : App)
+    (made : Result Command AllocError) → parser.made ≡ Ok sub → Makes parser under
+    → app_of old ≡ app → (fields_of old).has_globals ≡ false
+    → IfOk made (λ new. AddsSubcommand old sub new)
+    → IfOk made (λ command. (app_of command ≡ with_subcommand app under.top)
+    × ((fields_of command).has_globals ≡ false))
+with_under parser old sub app under (Ok new) e makes is local adds =
+    let h = made_by parser sub under e makes in (
+      adds.shape h.1
+          ∙ (ap (λ (a : App). with_subcommand a (shape_of sub)) is
+          ∙ ap (λ (u : App). with_subcommand app u.top) h.0),
+      adds.globals ∙ (ap (λ b. b || (fields_of sub).has_globals) local ∙ h.1),
+    )
+with_under parser old sub app under (Err refused) e makes is local adds = tt

@@ -1,21 +1,21 @@
 //! The words of a bridge.
-ghost use Rattle.std.specs.Prelude.{◌≡◌, codes, false};
-ghost use Rattle.clap.specs.Words.{app_of, first_value, found_of, new_app, one_text};
-ghost use Rattle.clap.specs.declared.builder.command.Command.TheViews.{out-Command as fields_of};
+ghost use Rattle.clap.specs.Words.{first_value, found_of, one_text};
 ghost use Rattle.ddcmp_words.specs.Inside.Making.{Makes};
 ghost use Rattle.ddcmp_words.specs.Words.{HasBridge, bridge_app};
 
 use crate::bridged::Bridged;
 use crate::command::{flag_given, notation_given, number_given, text_given};
-use crate::options::{CommandOption, Takes};
+use crate::options::{CommandOption, CommandText, Takes};
 use crate::parser::Parser;
 use clap::ArgMatches;
 use ddcmp_bridge::Faults;
 use std::alloc::Global;
 
-/// What a bridge reads and writes, for a newcomer.
-fn bridge_help() -> &'static str {
-    "\
+/// `bridge`, with what it reads and writes.
+static BRIDGE: CommandText = CommandText {
+    name: "bridge",
+    about: "Pass the good frames of each of two lines on to the other",
+    help: "\
 LINE is one of:
   connect:HOST:PORT      a TCP connection to this address
   listen:HOST:PORT       a TCP connection from whoever calls
@@ -28,18 +28,8 @@ Output, at the end:
       from the first line to the second: good frames, bytes that are in none, frames
       and headers that came damaged; and how many good frames were lost and altered
   < frames=F skipped=S damaged=D lost=L altered=A
-      the same for the other direction"
-}
-
-/// `bridge` without its options.
-fn bridge_command<'a>(alloc: Global) -> clap::Command<'a>
-    ensures app { app_of result ≡ new_app (codes "bridge") }
-    ensures local { (fields_of result).has_globals ≡ false }
-{
-    clap::Command::new(alloc, "bridge")
-        .about("Pass the good frames of each of two lines on to the other")
-        .after_help(bridge_help())
-}
+      the same for the other direction",
+};
 
 /// The options of a bridge.
 static BRIDGE_OPTIONS: [CommandOption; 12] = [
@@ -130,7 +120,7 @@ static BRIDGE_OPTIONS: [CommandOption; 12] = [
 pub(crate) fn bridge_parser<'a>(alloc: Global) -> Parser<'a>
     ensures { Makes result bridge_app }
 {
-    Parser::new(alloc, bridge_command(alloc)).with(&BRIDGE_OPTIONS)
+    Parser::begin(alloc, &BRIDGE).with(&BRIDGE_OPTIONS)
 }
 
 /// The bridge that was asked for.

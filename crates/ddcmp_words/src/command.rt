@@ -7,10 +7,8 @@ ghost use Rattle.ddcmp_words.specs.Words.{Declines, IsAsked, IsName, Reads, bare
 ghost use Rattle.ddcmp_words.specs.Words.{program, HasExplain, HasFlag, HasForm, HasNotation};
 ghost use Rattle.ddcmp_words.specs.Words.{HasNumber, HasOptions, HasSizes, HasStation, HasStyle};
 ghost use Rattle.ddcmp_words.specs.Words.{explain_app, script_app, file_of, role_of, station_app};
-ghost use Rattle.ddcmp_words.specs.Words.{HasView, with_sizes as with_sizes_of};
-ghost use Rattle.ddcmp_words.specs.Words.{with_script as with_script_of, HasScript};
-ghost use Rattle.ddcmp_words.specs.Words.{with_view as with_view_of};
-ghost use Rattle.clap.specs.Words.{App, kind_of, app_of, new_app, first_of, first_value, found_of};
+ghost use Rattle.ddcmp_words.specs.Words.{HasScript, HasView};
+ghost use Rattle.clap.specs.Words.{kind_of, app_of, first_of, first_value, found_of};
 ghost use Rattle.clap.specs.Words.{one_of, one_text, subcommand_name_of, subcommand_rows_of};
 ghost use Rattle.clap.specs.declared.builder.command.Command.TheViews.{out-Command as fields_of};
 
@@ -20,7 +18,7 @@ use crate::declined::Declined;
 use crate::explained::Explained;
 use crate::link_words::{link_given, link_parser};
 use crate::linked::Linked;
-use crate::options::{CommandOption, Takes};
+use crate::options::{CommandOption, CommandText, Takes};
 use crate::parser::Parser;
 use crate::scripted::{Beginning, Scripted};
 use crate::served::{Role, Served};
@@ -53,23 +51,15 @@ pub enum Command<'a> {
     Bridge(Bridged<'a>),
 }
 
-/// `explain` without its options.
-fn explain_command<'a>(alloc: Global) -> clap::Command<'a>
-    ensures app { app_of result ≡ new_app (codes "explain") }
-    ensures local { (fields_of result).has_globals ≡ false }
-{
-    clap::Command::new(alloc, "explain")
-        .about("Decode captured bytes of a line")
-        .after_help(ladder_help())
-}
-
-/// What stands in a ladder of captures, for a newcomer.
-fn ladder_help() -> &'static str {
-    "\
+/// `explain`, with what stands in a ladder of captures.
+static EXPLAIN: CommandText = CommandText {
+    name: "explain",
+    about: "Decode captured bytes of a line",
+    help: "\
 With --ladder FILE and SECOND are the two directions of one line, drawn as arrows to the
 right and to the left. Captures have no times: the directions take turns, but a frame waits
-until what it answers is drawn; if both wait for data, these are missing."
-}
+until what it answers is drawn; if both wait for data, these are missing.",
+};
 
 /// The options of `explain`.
 static EXPLAIN_OPTIONS: [CommandOption; 8] = [
@@ -130,11 +120,11 @@ static EXPLAIN_OPTIONS: [CommandOption; 8] = [
 fn explain_parser<'a>(alloc: Global) -> Parser<'a>
     ensures { Makes result explain_app }
 {
-    Parser::new(alloc, explain_command(alloc)).with(&EXPLAIN_OPTIONS)
+    Parser::begin(alloc, &EXPLAIN).with(&EXPLAIN_OPTIONS)
 }
 
 /// The options of two ends.
-static SIZE_OPTIONS: [CommandOption; 5] = [
+pub(crate) static SIZE_OPTIONS: [CommandOption; 5] = [
     CommandOption {
         name: "window",
         takes: Takes::Number {
@@ -179,13 +169,6 @@ static SIZE_OPTIONS: [CommandOption; 5] = [
     },
 ];
 
-/// A parser with the options of two ends.
-pub(crate) fn with_sizes<'a>(parser: Parser<'a>) -> Parser<'a>
-    ensures { (app : App) → Makes parser.entry app → Makes result (with_sizes_of app) }
-{
-    parser.with(&SIZE_OPTIONS)
-}
-
 /// How a run is shown.
 static VIEW_OPTIONS: [CommandOption; 3] = [
     CommandOption {
@@ -208,16 +191,8 @@ static VIEW_OPTIONS: [CommandOption; 3] = [
     },
 ];
 
-/// A parser with the options for how a run is shown.
-fn with_view<'a>(parser: Parser<'a>) -> Parser<'a>
-    ensures { (app : App) → Makes parser.entry app → Makes result (with_view_of app) }
-{
-    parser.with(&VIEW_OPTIONS)
-}
-
 /// The lines of a script, for a newcomer.
-fn script_help() -> &'static str {
-    "\
+const SCRIPT_HELP: &str = "\
 Lines of a script (E is A or B):
   start E        start station E
   halt E         halt it
@@ -234,8 +209,21 @@ Lines of a script (E is A or B):
   settle         exchange frames until neither end has one
   recover        settle, then twice: both timers expire, and settle
   state E        print its state and numbers
-  # TEXT         a comment"
-}
+  # TEXT         a comment";
+
+/// `simulate`.
+static SIMULATE: CommandText = CommandText {
+    name: "simulate",
+    about: "Run a script between two simulated stations A and B",
+    help: SCRIPT_HELP,
+};
+
+/// `pair`.
+static PAIR: CommandText = CommandText {
+    name: "pair",
+    about: "Run a script as simulate does, over a TCP connection with itself",
+    help: SCRIPT_HELP,
+};
 
 /// Where a script is read, and where it begins.
 static SCRIPT_OPTIONS: [CommandOption; 2] = [
@@ -253,39 +241,14 @@ static SCRIPT_OPTIONS: [CommandOption; 2] = [
     },
 ];
 
-/// A parser with the file of a script, and where it begins.
-fn with_script<'a>(parser: Parser<'a>) -> Parser<'a>
-    ensures { (app : App) → Makes parser.entry app → Makes result (with_script_of app) }
+/// A command that runs a script, with its options.
+fn script_parser<'a>(alloc: Global, named: &CommandText) -> Parser<'a>
+    ensures { Makes result (script_app named.now.name.now) }
 {
-    parser.with(&SCRIPT_OPTIONS)
-}
-
-/// A command that runs a script, without its options.
-fn script_command<'a>(alloc: Global, name: &'a str, about: &'a str) -> clap::Command<'a>
-    ensures app { app_of result ≡ new_app name.entry.now }
-    ensures local { (fields_of result).has_globals ≡ false }
-{
-    clap::Command::new(alloc, name)
-        .about(about)
-        .after_help(script_help())
-}
-
-/// The options of a command that runs a script.
-fn script_parser<'a>(alloc: Global, name: &'a str, about: &'a str) -> Parser<'a>
-    ensures { Makes result (script_app name.entry.now) }
-{
-    let named = Parser::new(alloc, script_command(alloc, name, about));
-    with_view(with_sizes(with_script(named)))
-}
-
-/// `station` without its options.
-fn station_command<'a>(alloc: Global) -> clap::Command<'a>
-    ensures app { app_of result ≡ new_app (codes "station") }
-    ensures local { (fields_of result).has_globals ≡ false }
-{
-    clap::Command::new(alloc, "station")
-        .about("Run one station over TCP for a number of turns")
-        .after_help(report_help())
+    Parser::begin(alloc, named)
+        .with(&SCRIPT_OPTIONS)
+        .with(&SIZE_OPTIONS)
+        .with(&VIEW_OPTIONS)
 }
 
 /// The options of a station over a connection.
@@ -344,17 +307,19 @@ static STATION_OPTIONS: [CommandOption; 7] = [
 fn station_parser<'a>(alloc: Global) -> Parser<'a>
     ensures { Makes result station_app }
 {
-    Parser::new(alloc, station_command(alloc)).with(&STATION_OPTIONS)
+    Parser::begin(alloc, &STATION).with(&STATION_OPTIONS)
 }
 
-/// What a station writes, for a newcomer.
-fn report_help() -> &'static str {
-    "\
+/// `station`, with what it writes.
+static STATION: CommandText = CommandText {
+    name: "station",
+    about: "Run one station over TCP for a number of turns",
+    help: "\
 Output, as it happens:
   notice N                           a notice of the station, as Running or Acknowledged 1
   mail HEX                           a received message
-  turns=T state=S read=R written=W   at the end: turns made, bytes read and written"
-}
+  turns=T state=S read=R written=W   at the end: turns made, bytes read and written",
+};
 
 /// `ddcmp` without its commands.
 fn program_command<'a>(alloc: Global) -> clap::Command<'a>
@@ -372,16 +337,8 @@ fn program_parser<'a>(alloc: Global) -> Parser<'a>
 {
     Parser::new(alloc, program_command(alloc))
         .subcommand(explain_parser(alloc))
-        .subcommand(script_parser(
-            alloc,
-            "simulate",
-            "Run a script between two simulated stations A and B",
-        ))
-        .subcommand(script_parser(
-            alloc,
-            "pair",
-            "Run a script as simulate does, over a TCP connection with itself",
-        ))
+        .subcommand(script_parser(alloc, &SIMULATE))
+        .subcommand(script_parser(alloc, &PAIR))
         .subcommand(station_parser(alloc))
         .subcommand(tap_parser(alloc))
         .subcommand(link_parser(alloc))
@@ -505,10 +462,16 @@ pub(crate) fn sizes_given(options: &ArgMatches<'_>, usual_syn: u8) -> Config
     requires { usual_syn ≤ MAX_SYN }
     ensures { HasSizes usual_syn (one_text (found_of options.now)) result }
 {
+    let Config {
+        window,
+        inbox,
+        max,
+        ..
+    } = Config::USUAL;
     Config {
-        window: number_given(options, "window", 1, MAX_WINDOW as u32, 7) as u16,
-        inbox: number_given(options, "inbox", 1, MAX_INBOX as u32, 8) as u16,
-        max: number_given(options, "max", 1, MAX_COUNT as u32, 1500) as u16,
+        window: number_given(options, "window", 1, MAX_WINDOW as u32, window as u32) as u16,
+        inbox: number_given(options, "inbox", 1, MAX_INBOX as u32, inbox as u32) as u16,
+        max: number_given(options, "max", 1, MAX_COUNT as u32, max as u32) as u16,
         syn: number_given(options, "syn", 0, MAX_SYN as u32, usual_syn as u32) as u8,
         restart: flag_given(options, "restart"),
     }

@@ -1,22 +1,23 @@
 //! The words of a link.
-ghost use Rattle.std.specs.Prelude.{◌≡◌, ◌≤◌, codes, false};
-ghost use Rattle.clap.specs.Words.{app_of, first_value, found_of, new_app, one_text};
-ghost use Rattle.clap.specs.declared.builder.command.Command.TheViews.{out-Command as fields_of};
+ghost use Rattle.std.specs.Prelude.{◌≡◌, ◌≤◌, codes};
+ghost use Rattle.clap.specs.Words.{first_value, found_of, one_text};
 ghost use Rattle.ddcmp_words.specs.Inside.Making.{Makes};
-ghost use Rattle.ddcmp_words.specs.Words.{HasLink, HasMessages, link_app, line_app, usual_syn_of};
+ghost use Rattle.ddcmp_words.specs.Words.{HasLink, HasMessages, link_app, usual_syn_of};
 ghost use Rattle.ddcmp_proto.specs.declared.config.TheConstants.{MAX_SYN};
 
-use crate::command::{flag_given, number_given, sizes_given, text_given, with_sizes};
-use crate::linked::Linked;
-use crate::options::{CommandOption, Takes};
+use crate::command::{SIZE_OPTIONS, flag_given, number_given, sizes_given, text_given};
+use crate::linked::{Linked, USUAL_ATTEMPTS, USUAL_TIMER_MS};
+use crate::options::{CommandOption, CommandText, Takes};
 use crate::parser::Parser;
 use clap::ArgMatches;
 use ddcmp_session::{Form, Options};
 use std::alloc::Global;
 
-/// What a link reads and writes, for a newcomer.
-fn link_help() -> &'static str {
-    "\
+/// `link`, with what it reads and writes.
+static LINK: CommandText = CommandText {
+    name: "link",
+    about: "Exchange messages over a line, by standard input and output",
+    help: "\
 LINE is one of:
   connect:HOST:PORT      a TCP connection to this address
   listen:HOST:PORT       a TCP connection from whoever calls
@@ -33,8 +34,8 @@ Output, as it happens:
 With --binary each message is preceded by its length in two bytes, high byte first,
 and all else goes to standard error.
 With --maintenance, as for MOP, each message goes once: it may be lost, and is
-never damaged. Delivered is what the line has taken."
-}
+never damaged. Delivered is what the line has taken.",
+};
 
 /// The line of a link, which can't be left out.
 static LINE_OPTIONS: [CommandOption; 1] = [CommandOption {
@@ -43,23 +44,6 @@ static LINE_OPTIONS: [CommandOption; 1] = [CommandOption {
     is_required: true,
     help: "Line to open, as connect:127.0.0.1:7000",
 }];
-
-/// `link` with the name of its line alone.
-fn line_parser<'a>(alloc: Global) -> Parser<'a>
-    ensures { Makes result line_app }
-{
-    Parser::new(alloc, bare_command(alloc)).with(&LINE_OPTIONS)
-}
-
-/// `link` without its options.
-fn bare_command<'a>(alloc: Global) -> clap::Command<'a>
-    ensures app { app_of result ≡ new_app (codes "link") }
-    ensures local { (fields_of result).has_globals ≡ false }
-{
-    clap::Command::new(alloc, "link")
-        .about("Exchange messages over a line, by standard input and output")
-        .after_help(link_help())
-}
 
 /// The options of a link beside its line and its sizes.
 static LINK_OPTIONS: [CommandOption; 13] = [
@@ -162,7 +146,10 @@ static LINK_OPTIONS: [CommandOption; 13] = [
 pub(crate) fn link_parser<'a>(alloc: Global) -> Parser<'a>
     ensures { Makes result link_app }
 {
-    with_sizes(line_parser(alloc)).with(&LINK_OPTIONS)
+    Parser::begin(alloc, &LINK)
+        .with(&LINE_OPTIONS)
+        .with(&SIZE_OPTIONS)
+        .with(&LINK_OPTIONS)
 }
 
 /// How many SYN bytes a line has before each frame, if no option sets that: a serial line
@@ -193,8 +180,8 @@ pub(crate) fn link_given<'a>(options: &ArgMatches<'a>) -> Linked<'a>
     let line = text_given(options, "line");
     let options = Options {
         config: sizes_given(options, usual_syn(line)),
-        timer_ms: number_given(options, "timer-ms", 1, u32::MAX, 3000),
-        attempts: number_given(options, "attempts", 0, u32::MAX, u32::MAX),
+        timer_ms: number_given(options, "timer-ms", 1, u32::MAX, USUAL_TIMER_MS),
+        attempts: number_given(options, "attempts", 0, u32::MAX, USUAL_ATTEMPTS),
         linger_ms: number_given(options, "linger-ms", 0, u32::MAX, 500),
         seconds: number_given(options, "seconds", 1, u32::MAX, u32::MAX),
         report: number_given(options, "report", 0, u32::MAX, 0),

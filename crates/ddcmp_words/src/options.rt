@@ -7,6 +7,14 @@ ghost use Rattle.ddcmp_words.specs.Words.{flag_rule, number_rule, place_rule, te
 use clap::{Arg, ArgAction};
 use std::alloc::Global;
 
+/// The name of a command, what help says of it, and what follows its options there.
+#[derive(Clone, Copy)]
+pub(crate) struct CommandText {
+    pub(crate) name: &'static str,
+    pub(crate) about: &'static str,
+    pub(crate) help: &'static str,
+}
+
 /// An option of a command.
 #[derive(Clone, Copy)]
 pub(crate) struct CommandOption {

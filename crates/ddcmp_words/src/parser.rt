@@ -1,10 +1,10 @@
 //! A parser of words in the making.
 ghost use Rattle.std.specs.Prelude.{◌≡◌, Ok, false, map};
-ghost use Rattle.clap.specs.Words.{App, Rule, app_of, rule_of, with_rule, with_subcommand};
+ghost use Rattle.clap.specs.Words.{App, Rule, app_of, new_app, rule_of, with_rule, with_subcommand};
 ghost use Rattle.clap.specs.declared.builder.command.Command.TheViews.{out-Command as fields_of};
 ghost use Rattle.ddcmp_words.specs.Inside.Making.{Makes, rule_of_option, with_rules};
 
-use crate::options::{CommandOption, argument};
+use crate::options::{CommandOption, CommandText, argument};
 use clap::Arg;
 use std::alloc::{AllocError, Global};
 
@@ -23,11 +23,16 @@ fn under<'a>(command: clap::Command<'a>, other: Parser<'a>) -> Parser<'a>
         → Makes result (with_subcommand app under.top) }
 {
     let Parser { alloc, made } = other;
-    let made = match made {
-        Ok(subcommand) => command.subcommand(subcommand),
-        Err(refused) => Err(refused),
-    };
-    Parser { alloc, made }
+    match made {
+        Ok(subcommand) => Parser {
+            alloc,
+            made: command.subcommand(subcommand),
+        },
+        Err(refused) => Parser {
+            alloc,
+            made: Err(refused),
+        },
+    }
 }
 
 impl<'a> Parser<'a> {
@@ -38,6 +43,15 @@ impl<'a> Parser<'a> {
             alloc,
             made: Ok(command),
         }
+    }
+
+    /// Begins with a command that has no options.
+    pub(crate) fn begin(alloc: Global, named: &CommandText) -> Parser<'a>
+        ensures { Makes result (new_app named.now.name.now) }
+    {
+        let CommandText { name, about, help } = *named;
+        let command = clap::Command::new(alloc, name);
+        Parser::new(alloc, command.about(about).after_help(help))
     }
 
     /// With the options of a table.
@@ -60,11 +74,16 @@ impl<'a> Parser<'a> {
             → Makes result (with_rule app rule) }
     {
         let Parser { alloc, made } = self;
-        let made = match made {
-            Ok(command) => command.arg(option),
-            Err(refused) => Err(refused),
-        };
-        Parser { alloc, made }
+        match made {
+            Ok(command) => Parser {
+                alloc,
+                made: command.arg(option),
+            },
+            Err(refused) => Parser {
+                alloc,
+                made: Err(refused),
+            },
+        }
     }
 
     /// With a subcommand more.

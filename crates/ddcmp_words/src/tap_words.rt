@@ -1,36 +1,26 @@
 //! The words of a tap.
-ghost use Rattle.std.specs.Prelude.{◌≡◌, codes, false};
-ghost use Rattle.clap.specs.Words.{app_of, first_value, found_of, new_app, one_text};
-ghost use Rattle.clap.specs.declared.builder.command.Command.TheViews.{out-Command as fields_of};
+ghost use Rattle.clap.specs.Words.{first_value, found_of, one_text};
 ghost use Rattle.ddcmp_words.specs.Inside.Making.{Makes};
 ghost use Rattle.ddcmp_words.specs.Words.{HasTap, tap_app};
 
 use crate::command::{flag_given, notation_given, number_given, text_given};
-use crate::options::{CommandOption, Takes};
+use crate::options::{CommandOption, CommandText, Takes};
 use crate::parser::Parser;
 use crate::tapped::Tapped;
 use clap::ArgMatches;
 use ddcmp_core::MAX_COUNT;
 use std::alloc::Global;
 
-/// What a tap writes, for a newcomer.
-fn tap_help() -> &'static str {
-    "\
+/// `tap`, with what it writes.
+static TAP: CommandText = CommandText {
+    name: "tap",
+    about: "Log the traffic between two ends of a TCP line",
+    help: "\
 Output, as bytes arrive:
   > LINE                     a line of explain for the side that connected to the tap
   < LINE                     the same for the other side
-  > items=I bytes=B open=O   at the end, and the same for the other side"
-}
-
-/// `tap` without its options.
-fn tap_command<'a>(alloc: Global) -> clap::Command<'a>
-    ensures app { app_of result ≡ new_app (codes "tap") }
-    ensures local { (fields_of result).has_globals ≡ false }
-{
-    clap::Command::new(alloc, "tap")
-        .about("Log the traffic between two ends of a TCP line")
-        .after_help(tap_help())
-}
+  > items=I bytes=B open=O   at the end, and the same for the other side",
+};
 
 /// The options of a tap.
 static TAP_OPTIONS: [CommandOption; 7] = [
@@ -85,7 +75,7 @@ static TAP_OPTIONS: [CommandOption; 7] = [
 pub(crate) fn tap_parser<'a>(alloc: Global) -> Parser<'a>
     ensures { Makes result tap_app }
 {
-    Parser::new(alloc, tap_command(alloc)).with(&TAP_OPTIONS)
+    Parser::begin(alloc, &TAP).with(&TAP_OPTIONS)
 }
 
 /// The tap that was asked for.

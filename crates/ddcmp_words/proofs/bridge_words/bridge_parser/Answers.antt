@@ -1,9 +1,6 @@
-use Rattle.ddcmp_words.proofs.MakingLaws.{begun}
 use Rattle.ddcmp_words.specs.Inside.Making.{with_rules}
 use Rattle.ddcmp_words.proofs.bridge_words.bridge_parser.Goals as goal
 
 pub returns : goal.returns
 unfolding with_rules
-returns c =
-    c.with.ensures _
-    (begun _ _ _ c.new.ensures c.bridge_command.ensures.app c.bridge_command.ensures.local)
+returns c = c.with.ensures _ c.begin.ensures

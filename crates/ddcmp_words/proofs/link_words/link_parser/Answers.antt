@@ -3,4 +3,4 @@ use Rattle.ddcmp_words.proofs.link_words.link_parser.Goals as goal
 
 pub returns : goal.returns
 unfolding with_rules
-returns c = c.with.ensures _ (c.with_sizes.ensures _ c.line_parser.ensures)
+returns c = c.with-3.ensures _ (c.with-2.ensures _ (c.with.ensures _ c.begin.ensures))

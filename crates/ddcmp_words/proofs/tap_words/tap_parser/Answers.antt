@@ -1,9 +1,6 @@
-use Rattle.ddcmp_words.proofs.MakingLaws.{begun}
 use Rattle.ddcmp_words.specs.Inside.Making.{with_rules}
 use Rattle.ddcmp_words.proofs.tap_words.tap_parser.Goals as goal
 
 pub returns : goal.returns
 unfolding with_rules
-returns c =
-    c.with.ensures _
-    (begun _ _ _ c.new.ensures c.tap_command.ensures.app c.tap_command.ensures.local)
+returns c = c.with.ensures _ c.begin.ensures

@@ -1,9 +1,0 @@
-use Rattle.ddcmp_words.proofs.MakingLaws.{begun}
-use Rattle.ddcmp_words.specs.Inside.Making.{with_rules}
-use Rattle.ddcmp_words.proofs.link_words.line_parser.Goals as goal
-
-pub returns : goal.returns
-unfolding with_rules
-returns c =
-    c.with.ensures _
-    (begun _ _ _ c.new.ensures c.bare_command.ensures.app c.bare_command.ensures.local)
