@@ -96,7 +96,7 @@ fn put_last(
         (totals_in (wording_of notation) items bytes left_open) }
 {
     match notation {
-        Notation::Plain => {
+        Notation::Plain | Notation::Ladder => {
             write_plain_front(page, text, stamp, side);
             write_last(
                 page,
@@ -116,18 +116,6 @@ fn put_last(
             put_page(page, text)?;
             text.bytes.as_mut_slice()[brace] = b',';
             Ok(())
-        }
-        Notation::Ladder => {
-            write_plain_front(page, text, stamp, side);
-            write_last(
-                page,
-                text,
-                explain::Notation::Plain,
-                items,
-                bytes,
-                left_open,
-            );
-            put_page(page, text)
         }
     }
 }

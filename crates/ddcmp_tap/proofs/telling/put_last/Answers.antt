@@ -1,7 +1,23 @@
-use Rattle.std.proofs.Common.{◌∙◌, ◌<◌, arith, refl, ap, length, set}
+use Rattle.std.proofs.Common.{◌≡◌, ◌⊎◌, ◌++◌, ◌∙◌, ◌<◌, List, Option, ℕ, arith, refl, ap, inl, inr}
+use Rattle.std.proofs.Common.{length, set}
+use Rattle.ddcmp_explain.specs.Output.{totals_in}
+use Rattle.ddcmp_explain.specs.declared.notation.Notation.TheVariants as wording
+use Rattle.ddcmp_tap.specs.Tapped.{fronted, wording_of}
+use Rattle.ddcmp_tap.specs.declared.notation.Notation.{Notation}
+use Rattle.ddcmp_tap.specs.declared.notation.Notation.TheVariants.{Plain, Ladder}
+use Rattle.ddcmp_tap.specs.declared.side.Side.{Side}
 use Rattle.ddcmp_io.proofs.WrittenLaws.{sends-then}
 use Rattle.ddcmp_tap.proofs.TextLaws.{flushed, ok-whole, joined, inside, written-back}
 use Rattle.ddcmp_tap.proofs.telling.put_last.Goals as goal
+
+-- a ladder ends in words too
+in_words : (notation : Notation) (stamp : Option ℕ) (side : Side) (items bytes left_open : ℕ)
+    (before after : List ℕ) → (notation ≡ Plain) ⊎ (notation ≡ Ladder)
+    → after ≡ before ++ fronted Plain stamp side (totals_in wording.Plain items bytes left_open)
+    → after
+    ≡ before ++ fronted notation stamp side (totals_in (wording_of notation) items bytes left_open)
+in_words notation stamp side items bytes left_open before after (inl e) h = rw e h
+in_words notation stamp side items bytes left_open before after (inr e) h = rw e h
 
 pub bounds-as_mut_slice-brace : goal.bounds-as_mut_slice-brace
 bounds-as_mut_slice-brace c =
@@ -20,7 +36,8 @@ bounds-as_mut_slice-brace c =
     )
 
 pub returns-in-Plain-clause-puts : goal.returns-in-Plain-clause-puts
-returns-in-Plain-clause-puts c = λ ok. rw (c.in-Plain.is)
+returns-in-Plain-clause-puts c = λ ok.
+    in_words c.args.notation _ _ _ _ _ _ _ c.in-Plain.is
     (flushed _ _ _ _ _ _ _ _ c.requires.whole c.requires.empty
     (ok-whole _ c.put_page.result ok c.put_page.ensures.whole) c.put_page.ensures.empty
     (sends-then c.write_plain_front.ensures c.write_last.ensures) c.put_page.ensures.puts)
@@ -41,11 +58,3 @@ returns-in_ok-put_page-in-Json-2-clause-puts c = λ ok.
     _ _ c.as_mut_slice.ensures.value c.as_mut_slice.ensures.len
     ∙ ap (λ i. set c.put_page-in-Json-2.new.text.bytes.items i 44) at
     ∙ joined _ _ _ _ _ 123 front line refl)
-
-pub returns-in-Ladder-clause-puts : goal.returns-in-Ladder-clause-puts
-returns-in-Ladder-clause-puts c = λ ok. rw (c.in-Ladder.is)
-    (flushed _ _ _ _ _ _ _ _ c.requires.whole c.requires.empty
-    (ok-whole _ c.put_page-in-Ladder.result ok c.put_page-in-Ladder.ensures.whole)
-    c.put_page-in-Ladder.ensures.empty
-    (sends-then c.write_plain_front-in-Ladder.ensures c.write_last-in-Ladder.ensures)
-    c.put_page-in-Ladder.ensures.puts)
