@@ -6,11 +6,9 @@ use Rattle.std.specs.Prelude.{Result, Ok, Err}
 use Rattle.std.specs.Option.{option_map}
 use Rattle.std.specs.Io.KnownBytes.{Appends, Keeps}
 use Rattle.ddcmp_explain.specs.declared.explain_fault.ExplainFault.{ExplainFault}
-use Rattle.ddcmp_explain.specs.declared.explain_fault.ExplainFault.TheVariants as explaining
 use Rattle.ddcmp_explain.specs.declared.detected_fault.DetectedFault.{DetectedFault}
 use Rattle.ddcmp_explain.specs.declared.detected_fault.DetectedFault.TheVariants as detecting
 use Rattle.ddcmp_explain.specs.declared.dump_fault.DumpFault.{DumpFault}
-use Rattle.ddcmp_explain.specs.declared.dump_fault.DumpFault.TheVariants as dumping
 use Rattle.ddcmp_script_text.specs.declared.script_fault.ScriptFault.{ScriptFault}
 use Rattle.ddcmp_script_text.specs.declared.script_fault.ScriptFault.TheVariants as scripting
 use Rattle.ddcmp_cli.specs.declared.fault.Fault.{Fault}
@@ -61,7 +59,8 @@ use Rattle.ddcmp_words.specs.Words.{HasExplain, HasLink, HasStation, HasTap, Rea
 use Rattle.ddcmp_words.specs.Words.{text_in}
 use Rattle.ddcmp_words.specs.Words.{Asks, IsAsked, IsOutOfOrder, file_of}
 use Rattle.ddcmp_core.specs.Limits.{MAX_COUNT}
-use Rattle.ddcmp_explain.specs.Detection.{ExplainsDetected}
+use Rattle.ddcmp_explain.specs.Detection.{ExplainsDetected, digits_fault}
+use Rattle.ddcmp_explain.specs.Detection.{dump_fault as dump_fault_of}
 use Rattle.ddcmp_explain.specs.Dumps.{ExplainsDump}
 use Rattle.ddcmp_explain.specs.Explains.{Explains}
 use Rattle.ddcmp_net.specs.Serving.{Serves}
@@ -72,28 +71,14 @@ use Rattle.ddcmp_tap.specs.InTurn.{Lasts, SaysInTurn}
 use Rattle.ddcmp_tap.specs.declared.tap_fault.TapFault.{TapFault}
 use Rattle.ddcmp_cli.specs.LinkEndings.{LinesKnown, Links}
 use Rattle.ddcmp_cli.specs.BridgeEndings.{Bridges}
-use Rattle.ddcmp_cli.specs.Origins.{named_by, origin_of}
-use Rattle.ddcmp_cli.specs.declared.origin.Origin.{Origin}
-use Rattle.ddcmp_cli.specs.declared.origin.Origin.TheVariants as origin
+use Rattle.ddcmp_cli.specs.Origins.{origin_of, written as written_of}
+use Rattle.ddcmp_explain.specs.declared.spelled.Written.{Written}
+use Rattle.ddcmp_explain.specs.declared.spelled.Written.TheVariants.{As, Detected}
+use Rattle.ddcmp_explain.specs.declared.spelled.Written.TheVariants as written
 use Rattle.hex.specs.Hex.{decode_of}
 use Rattle.hex.specs.declared.error.FromHexError.{FromHexError}
 
--- what the program calls a fault of `explain`
-abbrev pub explain_fault : ExplainFault → Fault
-explain_fault explaining.Odd = Odd
-explain_fault (explaining.NotHex index) = NotHex index
-explain_fault explaining.Read = Read
-explain_fault explaining.Write = Write
-explain_fault explaining.Memory = NoMemory
-
--- and one of a dump
-abbrev pub dump_fault : DumpFault → Fault
-dump_fault (dumping.Line line) = Dump line
-dump_fault dumping.Read = Read
-dump_fault dumping.Write = Write
-dump_fault dumping.Memory = NoMemory
-
--- and one of an input whose form was detected
+-- what the program calls a fault of an input whose form was detected
 abbrev pub detected_fault : DetectedFault → Fault
 detected_fault detecting.Odd = Odd
 detected_fault (detecting.NotHex index) = NotHex index
@@ -101,6 +86,14 @@ detected_fault (detecting.Line line) = Dump line
 detected_fault detecting.Read = Read
 detected_fault detecting.Write = Write
 detected_fault detecting.Memory = NoMemory
+
+-- one of digits or bytes is called as if these were detected
+abbrev pub explain_fault : ExplainFault → Fault
+explain_fault fault = detected_fault (digits_fault fault)
+
+-- and one of a dump
+abbrev pub dump_fault : DumpFault → Fault
+dump_fault fault = detected_fault (dump_fault_of fault)
 
 -- and one of a script
 abbrev pub script_fault : ScriptFault → Fault
@@ -205,15 +198,14 @@ ExplainsDetectedTo e s ending =
     (result : Result (Unit {0}) DetectedFault) × (ending ≡ ending_of detected_fault result)
     × ExplainsDetected e.style e.max s.input s.left s.before s.after result
 
--- as it is written where a word names that, else in the form that is asked for
-abbrev pub ExplainsBy : Option Origin → Explained → Streams → Ending → Type 0
-ExplainsBy None e s ending = ExplainsTo e.form e s ending
-ExplainsBy (Some origin.Dump) e s ending = ExplainsDumpTo e s ending
-ExplainsBy (Some origin.Text) e s ending = ExplainsTo form.Text e s ending
-ExplainsBy (Some origin.Auto) e s ending = ExplainsDetectedTo e s ending
+-- an input that is so written was explained
+abbrev pub ExplainsBy : Written → Explained → Streams → Ending → Type 0
+ExplainsBy (As by) e s ending = ExplainsTo by e s ending
+ExplainsBy written.Dump e s ending = ExplainsDumpTo e s ending
+ExplainsBy Detected e s ending = ExplainsDetectedTo e s ending
 
 abbrev pub ExplainsInput : Explained → Streams → Ending → Type 0
-ExplainsInput e s ending = ExplainsBy (named_by e.from) e s ending
+ExplainsInput e s ending = ExplainsBy (written_of e) e s ending
 
 -- the ending reports that the file of this name can't be opened
 abbrev pub IsUnopened : List ℕ → Ending → Type 0

@@ -1,20 +1,26 @@
 -- How an input is written that `--from` names.
-use Rattle.std.specs.Prelude.{ℕ, ◌||◌, if◌then◌else◌, List, Option, Some, None, codes}
+use Rattle.std.specs.Prelude.{ℕ, ◌||◌, if◌then◌else◌, List, Option, Some, None, codes, unwrap_or}
 use Rattle.std.specs.Borrow.{Bor}
 use Rattle.std.specs.Option.{option_and_then}
 use Rattle.std.specs.Str.{bytes_eq}
 use Rattle.clap.specs.Words.{Text}
-use Rattle.ddcmp_cli.specs.declared.origin.Origin.{Origin}
-use Rattle.ddcmp_cli.specs.declared.origin.Origin.TheVariants as origin
+use Rattle.ddcmp_explain.specs.declared.form.Form.TheVariants as form
+use Rattle.ddcmp_explain.specs.declared.spelled.Written.{Written}
+use Rattle.ddcmp_explain.specs.declared.spelled.Written.TheVariants.{As, Dump, Detected}
+use Rattle.ddcmp_words.specs.declared.explained.Explained.{Explained}
 
 -- one reader takes the dumps of three programs
-abbrev pub origin_of : Text → Option Origin
+abbrev pub origin_of : Text → Option Written
 origin_of word =
     if bytes_eq word (codes "hexdump") || bytes_eq word (codes "xxd") || bytes_eq word (codes "od")
-    then Some origin.Dump
-    else if bytes_eq word (codes "text") then Some origin.Text
-    else if bytes_eq word (codes "auto") then Some origin.Auto
+    then Some Dump
+    else if bytes_eq word (codes "text") then Some (As form.Text)
+    else if bytes_eq word (codes "auto") then Some Detected
     else None
 
-abbrev pub named_by : Option (Bor (List ℕ)) → Option Origin
+abbrev pub named_by : Option (Bor (List ℕ)) → Option Written
 named_by from = option_and_then (λ word. origin_of word.now) from
+
+-- as a word names it, else in the form that is asked for
+abbrev pub written : Explained → Written
+written e = unwrap_or (named_by e.from) (As e.form)

@@ -4,7 +4,7 @@ ghost use Rattle.std.specs.Prelude.{Some, is_some};
 ghost use Rattle.ddcmp_core.specs.Limits.{MAX_COUNT};
 ghost use Rattle.ddcmp_io.specs.Change.{source_change};
 ghost use Rattle.ddcmp_io.specs.Input.{GaveMost};
-ghost use Rattle.ddcmp_cli.specs.Endings.{ExplainsAsked, ExplainsFrom, ExplainsInput, ExplainsTo};
+ghost use Rattle.ddcmp_cli.specs.Endings.{ExplainsAsked, ExplainsFrom, ExplainsInput};
 ghost use Rattle.ddcmp_cli.specs.Endings.{ReadsFile, is_ladder_misused};
 ghost use Rattle.ddcmp_cli.specs.Endings.{TellsDevices, streams};
 ghost use Rattle.std.specs.Option.{option_map};
@@ -14,10 +14,10 @@ use crate::ending::Ending;
 use crate::fault::Fault;
 use crate::inputs::{Inputs, unopened};
 use crate::ladder_command::draw_files;
-use crate::origin::{Origin, named, origin_of};
+use crate::origin::{origin_of, written};
 use crate::tap_command::{TWO_NOTATIONS, is_json};
 use crate::usage::usage;
-use ddcmp_explain::{Form, explain_detected, explain_dump, explain_with};
+use ddcmp_explain::{DetectedFault, Form, Written, explain_detected, explain_dump, explain_with};
 use ddcmp_io::{Sink, Source, Worst};
 use ddcmp_words::Explained;
 use std::alloc::Global;
@@ -36,39 +36,15 @@ const NO_LADDER: &str = "SECOND is for '--ladder'";
 
 /// What is typed at a terminal.
 fn typed(explained: &Explained<'_>) -> &'static str {
-    match (named(explained.from), explained.form) {
-        (Some(Origin::Dump), _) => "a dump",
-        (Some(Origin::Auto), _) => "hexadecimal digits, a dump or bytes",
-        (Some(Origin::Text), _) | (None, Form::Hex | Form::Text) => "hexadecimal digits",
-        (None, Form::Raw) => "bytes",
+    match written(explained) {
+        Written::Dump => "a dump",
+        Written::Detected => "hexadecimal digits, a dump or bytes",
+        Written::As(Form::Hex | Form::Text) => "hexadecimal digits",
+        Written::As(Form::Raw) => "bytes",
     }
 }
 
-/// Explains a source of a form.
-fn explain_form<R: Source, W: Sink>(
-    alloc: Global,
-    explained: &Explained<'_>,
-    form: Form,
-    reader: &mut R,
-    writer: &mut W,
-) -> Ending
-    requires fine { R.state reader.old ≡ Worst.Fine }
-    requires whole { W.broken writer.old ≡ false }
-    requires max { (1 ≤ explained.now.max) × (explained.now.max ≤ MAX_COUNT) }
-    ensures explains { (input : List ℕ) → R.left reader.old ≡ Some input
-        → ExplainsTo form explained.now (streams input (R.left reader.new) (W.contents writer.old)
-        (W.contents writer.new)) result }
-    ensures devices { TellsDevices (source_change (R.left reader.old) (R.left reader.new)
-        (R.state reader.new)) (W.broken writer.new) result }
-{
-    let Explained { style, max, .. } = *explained;
-    match explain_with(alloc, reader, writer, form, style, max) {
-        Ok(()) => Ending::Done,
-        Err(fault) => Ending::Fault(Fault::from(fault)),
-    }
-}
-
-/// Explains a source: what `--from` names, or what its form says.
+/// Explains a source, as it is written.
 fn explain_source<R: Source, W: Sink>(
     alloc: Global,
     explained: &Explained<'_>,
@@ -84,24 +60,20 @@ fn explain_source<R: Source, W: Sink>(
     ensures devices { TellsDevices (source_change (R.left reader.old) (R.left reader.new)
         (R.state reader.new)) (W.broken writer.new) result }
 {
-    let Explained {
-        from,
-        form,
-        style,
-        max,
-        ..
-    } = *explained;
-    match named(from) {
-        Some(Origin::Dump) => match explain_dump(alloc, reader, writer, style, max) {
+    let Explained { style, max, .. } = *explained;
+    match written(explained) {
+        Written::As(form) => match explain_with(alloc, reader, writer, form, style, max) {
+            Ok(()) => Ending::Done,
+            Err(fault) => Ending::Fault(Fault::from(DetectedFault::from(fault))),
+        },
+        Written::Dump => match explain_dump(alloc, reader, writer, style, max) {
+            Ok(()) => Ending::Done,
+            Err(fault) => Ending::Fault(Fault::from(DetectedFault::from(fault))),
+        },
+        Written::Detected => match explain_detected(alloc, reader, writer, style, max) {
             Ok(()) => Ending::Done,
             Err(fault) => Ending::Fault(Fault::from(fault)),
         },
-        Some(Origin::Text) => explain_form(alloc, explained, Form::Text, reader, writer),
-        Some(Origin::Auto) => match explain_detected(alloc, reader, writer, style, max) {
-            Ok(()) => Ending::Done,
-            Err(fault) => Ending::Fault(Fault::from(fault)),
-        },
-        None => explain_form(alloc, explained, form, reader, writer),
     }
 }
 

@@ -1,9 +1,8 @@
 //! Why a command didn't complete.
 ghost use Rattle.std.specs.Prelude.{◌≡◌};
-ghost use Rattle.ddcmp_cli.specs.Endings.{detected_fault, dump_fault, explain_fault};
-ghost use Rattle.ddcmp_cli.specs.Endings.{script_fault, serve_fault};
+ghost use Rattle.ddcmp_cli.specs.Endings.{detected_fault, script_fault, serve_fault};
 
-use ddcmp_explain::{DetectedFault, DumpFault, ExplainFault, NotDumped};
+use ddcmp_explain::{DetectedFault, ExplainFault, NotDumped};
 use ddcmp_line::ScriptFault;
 use ddcmp_net::ServeFault;
 use ddcmp_station::LineFault;
@@ -33,33 +32,6 @@ pub enum Fault {
     Ended,
     /// This number of messages of a link was read and not acknowledged.
     Lost(u64),
-}
-
-impl From<ExplainFault> for Fault {
-    ghost from_gives = { λ fault made. made ≡ explain_fault fault };
-
-    fn from(fault: ExplainFault) -> Fault {
-        match fault {
-            ExplainFault::Odd => Fault::Odd,
-            ExplainFault::NotHex(index) => Fault::NotHex(index),
-            ExplainFault::Read => Fault::Read,
-            ExplainFault::Write => Fault::Write,
-            ExplainFault::Memory => Fault::Memory,
-        }
-    }
-}
-
-impl From<DumpFault> for Fault {
-    ghost from_gives = { λ fault made. made ≡ dump_fault fault };
-
-    fn from(fault: DumpFault) -> Fault {
-        match fault {
-            DumpFault::Line(line) => Fault::Dump(line),
-            DumpFault::Read => Fault::Read,
-            DumpFault::Write => Fault::Write,
-            DumpFault::Memory => Fault::Memory,
-        }
-    }
 }
 
 impl From<DetectedFault> for Fault {

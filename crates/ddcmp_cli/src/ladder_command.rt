@@ -6,22 +6,12 @@ ghost use Rattle.ddcmp_cli.specs.Endings.{DrawsFiles, IsUnread};
 use crate::ending::Ending;
 use crate::fault::Fault;
 use crate::inputs::{Inputs, unopened};
-use crate::origin::{Origin, named};
-use ddcmp_explain::{DetectedFault, Form, Written};
+use crate::origin::written;
+use ddcmp_explain::DetectedFault;
 use ddcmp_io::{Sink, Source};
 use ddcmp_tap::{Capture, DrawFault, NoMemory, Side, draw_captures};
 use ddcmp_words::Explained;
 use std::alloc::Global;
-
-/// How the files are written: as `--from` names it, or in their form.
-fn written(explained: &Explained<'_>) -> Written {
-    match named(explained.from) {
-        Some(Origin::Dump) => Written::Dump,
-        Some(Origin::Text) => Written::As(Form::Text),
-        Some(Origin::Auto) => Written::Detected,
-        None => Written::As(explained.form),
-    }
-}
 
 /// The capture of a side.
 fn capture<R: Source + Drop>(

@@ -7,11 +7,12 @@ use crate::ending::Ending;
 use crate::fault::Fault;
 use crate::usage::usage;
 use ddcmp_io::{Sink, Source};
+use ddcmp_proto::Config;
 use ddcmp_service::{
     BridgeEnd, BridgeFault, BridgeOptions, LineName, NotOpened, Options, Served, ServiceFault,
     bridge_lines, serve_link,
 };
-use ddcmp_words::Linked;
+use ddcmp_words::linked::{Linked, USUAL_ATTEMPTS, USUAL_TIMER_MS};
 use std::alloc::Global;
 
 /// The usage error for another value of `--line`.
@@ -22,19 +23,12 @@ const NO_LINE: &str =
 const NOT_IN_MAINTENANCE: &str = "'--maintenance' acknowledges nothing: \
     it takes no '--window', '--restart', '--timer-ms' or '--attempts'";
 
-/// The values of these options if they aren't given.
-const USUAL_WINDOW: u16 = 7;
-
-const USUAL_TIMER_MS: u32 = 3000;
-
-const USUAL_ATTEMPTS: u32 = u32::MAX;
-
 /// Whether options were given that mean nothing in maintenance mode.
 fn means_nothing(options: &Options) -> bool
     ensures { result ≡ means_nothing options.now }
 {
     options.maintenance
-        && (options.config.window != USUAL_WINDOW
+        && (options.config.window != Config::USUAL.window
             || options.config.restart
             || options.timer_ms != USUAL_TIMER_MS
             || options.attempts != USUAL_ATTEMPTS)

@@ -1,39 +1,33 @@
-//! How an input is written that `--from` names.
+//! How an input is written, by the word of `--from`.
 ghost use Rattle.std.specs.Prelude.{◌≡◌};
 ghost use Rattle.ddcmp_cli.specs.Origins.{named_by, origin_of as origin_of_word};
+ghost use Rattle.ddcmp_cli.specs.Origins.{written as written_of};
 
-/// How an input is written.
-#[derive(Clone, Copy, Debug, PartialEq, Eq)]
-pub enum Origin {
-    /// A dump of `hexdump -C`, `xxd` or `od -A x -t x1`.
-    Dump,
-    /// Digits as logs have them.
-    Text,
-    /// One of these, or bytes as they are: what its first bytes say.
-    Auto,
-}
+use ddcmp_explain::{Form, Written};
+use ddcmp_words::Explained;
 
 /// Returns what a word of `--from` names.
-pub(crate) fn origin_of(word: &str) -> Option<Origin>
+pub(crate) fn origin_of(word: &str) -> Option<Written>
     ensures { result ≡ origin_of_word word.now }
 {
     if word == "hexdump" || word == "xxd" || word == "od" {
-        Some(Origin::Dump)
+        Some(Written::Dump)
     } else if word == "text" {
-        Some(Origin::Text)
+        Some(Written::As(Form::Text))
     } else if word == "auto" {
-        Some(Origin::Auto)
+        Some(Written::Detected)
     } else {
         None
     }
 }
 
-/// Returns what `--from` names, if it was given.
-pub(crate) fn named(from: Option<&str>) -> Option<Origin>
-    ensures { result ≡ named_by from.entry }
+/// How the input is written: as `--from` names it, else in its form.
+pub(crate) fn written(explained: &Explained<'_>) -> Written
+    ensures { result ≡ written_of explained.now }
 {
-    match from {
-        None => None,
+    let named = match explained.from {
         Some(word) => origin_of(word),
-    }
+        None => None,
+    };
+    named.unwrap_or(Written::As(explained.form))
 }

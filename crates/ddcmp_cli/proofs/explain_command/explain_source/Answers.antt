@@ -1,15 +1,14 @@
-use Rattle.std.proofs.Common.{◌≡◌, Err, Ok, Some, ap, refl, subst, sym, ◌∙◌}
+use Rattle.std.proofs.Common.{◌≡◌, Err, Ok, ap, refl, subst, sym, ◌∙◌}
 use Rattle.ddcmp_cli.specs.Endings.{ExplainsBy, streams}
-use Rattle.ddcmp_cli.specs.Origins.{named_by}
+use Rattle.ddcmp_cli.specs.Origins.{written}
 use Rattle.ddcmp_cli.specs.declared.ending.Ending.TheVariants.{Done, Fault}
-use Rattle.ddcmp_cli.specs.declared.origin.Origin.TheVariants.{Auto}
+use Rattle.ddcmp_explain.specs.declared.spelled.Written.TheVariants.{Detected}
 use Rattle.ddcmp_cli.proofs.explain_command.explain_source.Goals as goal
 
 pub returns-in-Ok-explain_detected-clause-explains
     : goal.returns-in-Ok-explain_detected-clause-explains
 returns-in-Ok-explain_detected-clause-explains g c = λ input e.
-    let asked : named_by c.args.explained.now.from ≡ Some Auto =
-    sym c.named.ensures ∙ c.in-Some-Auto.is ∙ ap Some c.in-Some-Auto.field-0-is in
+    let asked : written c.args.explained.now ≡ Detected = sym c.written.ensures ∙ c.in-Detected.is in
     subst (λ o. ExplainsBy o c.args.explained.now
     (streams input (g.R.Source.left c.explain_detected.new.reader)
     (g.W.Sink.contents c.args.writer.now) (g.W.Sink.contents c.explain_detected.new.writer)) Done)
@@ -22,8 +21,7 @@ returns-in-Ok-explain_detected-clause-explains g c = λ input e.
 pub returns-in-Err-explain_detected-clause-explains
     : goal.returns-in-Err-explain_detected-clause-explains
 returns-in-Err-explain_detected-clause-explains g c = λ input e.
-    let asked : named_by c.args.explained.now.from ≡ Some Auto =
-    sym c.named.ensures ∙ c.in-Some-Auto.is ∙ ap Some c.in-Some-Auto.field-0-is in
+    let asked : written c.args.explained.now ≡ Detected = sym c.written.ensures ∙ c.in-Detected.is in
     subst (λ o. ExplainsBy o c.args.explained.now
     (streams input (g.R.Source.left c.explain_detected.new.reader)
     (g.W.Sink.contents c.args.writer.now) (g.W.Sink.contents c.explain_detected.new.writer))
