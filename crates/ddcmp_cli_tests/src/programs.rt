@@ -1,5 +1,5 @@
 // Endings, and the program as a whole but for the system's streams. What words ask for and what is
-// written then is the matter of `worked_commands`.
+// written then is the matter of `worked`.
 use crate::same::{System, is};
 use ddcmp_cli::command::read_words;
 use ddcmp_cli::{Command, Declined, Ending, Fault, run, run_args};

@@ -1,5 +1,5 @@
 // Scripts that the program runs if a write fails, or the connection of `pair` can't be made or
-// fails. What they write else is the matter of `worked_commands`.
+// fails. What they write else is the matter of `worked`.
 use crate::same::is;
 use ddcmp_cli::{
     BridgeEnd, BridgeFault, BridgeOptions, Connection, Connections, Ending, Fault, Inputs,

@@ -1,5 +1,5 @@
 // Stations run by the program over connections that the test holds, and their faults. What their
-// words ask for is the matter of `worked_commands`.
+// words ask for is the matter of `worked`.
 use crate::same::{System, is};
 use ddcmp_cli::{Ending, Fault, run};
 use ddcmp_frame::failing::{Pieces, Taken};

@@ -1,8 +1,9 @@
-//! Worked examples of what stands below the commands: what comes of them is stored, and compared.
-//! The input has parts, each after a line with the name of its matter, and in a part examples,
-//! each after a line that says what it is of.
+//! Worked examples of the commands and of what stands below them: what comes of them is stored, and
+//! compared. The input has parts, each after a line with the name of its matter, and in a part
+//! examples, each after a line that says what it is of.
 #![tactic(auto)]
 
+mod commands;
 mod devices;
 mod pairs;
 mod pictures;
@@ -20,6 +21,7 @@ const EXAMPLE: &str = "=== ";
 /// Runs an example of a part.
 fn run(rt: &HostRuntime, part: &str, head: &str, lines: &str) -> io::Result<()> {
     match part {
+        "commands" => commands::run(rt, head, lines),
         "stations" => stations::run(rt, head, lines),
         "pairs" => pairs::run(rt, head, lines),
         "scripts" => scripts::run(rt, head, lines),

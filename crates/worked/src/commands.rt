@@ -1,14 +1,9 @@
-//! Worked words of the command line. The input has them one after another, each in a line after a
-//! mark; the lines up to the next mark are what the program reads when it is run with these words.
-//! What it writes and how it ends goes to the output. After `? ` stand words that are only read.
-#![tactic(auto)]
-
-use ddcmp_cli::{Declined, read_words, run};
+//! Words of the command line. The head of an example has them, and its lines are what the program
+//! reads when it is run with these words: what it writes and how it ends goes to the output. After
+//! `? ` stand words that are only read.
+use ddcmp_cli::{Declined, read_words};
 use ddcmp_frame::{FromRead, ToWrite};
-use std::io::{self, Read, Write};
-
-/// What stands before words.
-const MARK: &str = "=== ";
+use std::io::{self, Write};
 
 /// What stands before words that are only read.
 const READ: &str = "? ";
@@ -39,22 +34,15 @@ fn play(rt: &HostRuntime, line: &str, input: &str) -> io::Result<()> {
     let words = words_of(rt, line)?;
     let mut reader = FromRead::new(input.as_bytes());
     let mut writer = ToWrite::new(Vec::new(rt.alloc()));
-    let ending = run(rt, rt.alloc(), words.as_slice(), &mut reader, &mut writer);
+    let ending = ddcmp_cli::run(rt, rt.alloc(), words.as_slice(), &mut reader, &mut writer);
     rt.stdout().write_all(writer.into_inner().as_slice())?;
     println!(rt; "{ending}-> {}", ending.status())
 }
 
-fn main(rt: HostRuntime) -> io::Result<()> {
-    let mut text = String::new(rt.alloc());
-    rt.stdin().read_to_string(&mut text)?;
-    for part in text.as_str().split(MARK).skip(1) {
-        if let Some((line, input)) = part.split_once('\n') {
-            println!(rt; "{MARK}{line}")?;
-            match line.strip_prefix(READ) {
-                Some(words) => tell(&rt, words)?,
-                None => play(&rt, line, input)?,
-            }
-        }
+/// Reads the words, or runs the program with them.
+pub fn run(rt: &HostRuntime, head: &str, lines: &str) -> io::Result<()> {
+    match head.strip_prefix(READ) {
+        Some(words) => tell(rt, words),
+        None => play(rt, head, lines),
     }
-    Ok(())
 }
