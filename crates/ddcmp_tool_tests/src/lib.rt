@@ -3,7 +3,7 @@
 //! explains a direction of a line: what that forwards, its room and its text, and two captured
 //! directions as a ladder. Of `ddcmp_bridge`: its loop over lines in memory. Of `ddcmp_session`:
 //! two sessions over bad lines, a session through days, its loop over devices, what these tell it,
-//! and its reports.
+//! and its reports. Of sessions and taps: refused memory.
 #![tactic(auto)]
 
 #[cfg(test)]
@@ -24,6 +24,8 @@ mod joined;
 mod logs;
 #[cfg(test)]
 mod loops;
+#[cfg(test)]
+mod refused;
 #[cfg(test)]
 mod reports;
 #[cfg(test)]

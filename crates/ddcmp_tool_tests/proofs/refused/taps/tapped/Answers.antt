@@ -1,6 +1,6 @@
 use Rattle.std.proofs.Common.{◌∙◌, ap}
-use Rattle.ddcmp_memory_tests.proofs.FreshLaws.{fresh}
-use Rattle.ddcmp_memory_tests.proofs.taps.tapped.Goals as goal
+use Rattle.ddcmp_tool_tests.proofs.FreshLaws.{fresh}
+use Rattle.ddcmp_tool_tests.proofs.refused.taps.tapped.Goals as goal
 
 pub pump-requires-clause-ends : goal.pump-requires-clause-ends
 pump-requires-clause-ends g c = (
