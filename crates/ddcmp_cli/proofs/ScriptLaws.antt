@@ -8,8 +8,8 @@ use Rattle.ddcmp_run.specs.Run.{PairState, after_event, run}
 use Rattle.ddcmp_run.specs.Settle.{settled}
 use Rattle.ddcmp_run.specs.Carriages.{Carriage}
 use Rattle.ddcmp_line.specs.ScriptEnds.{around, Plays}
-use Rattle.ddcmp_script_text.specs.declared.script_fault.ScriptFault.{ScriptFault}
-use Rattle.ddcmp_script_text.specs.declared.script_fault.ScriptFault.TheVariants as scripting
+use Rattle.ddcmp_line.specs.declared.script_fault.ScriptFault.{ScriptFault}
+use Rattle.ddcmp_line.specs.declared.script_fault.ScriptFault.TheVariants as scripting
 use Rattle.ddcmp_cli.specs.declared.fault.Fault.{Fault}
 use Rattle.ddcmp_cli.specs.declared.fault.Fault.TheVariants.{Line, Hex as NotHexIn, Read, Write}
 use Rattle.ddcmp_cli.specs.declared.fault.Fault.TheVariants.{Memory, Carrier}

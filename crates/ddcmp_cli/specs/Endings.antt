@@ -9,8 +9,8 @@ use Rattle.ddcmp_explain.specs.declared.explain_fault.ExplainFault.{ExplainFault
 use Rattle.ddcmp_explain.specs.declared.detected_fault.DetectedFault.{DetectedFault}
 use Rattle.ddcmp_explain.specs.declared.detected_fault.DetectedFault.TheVariants as detecting
 use Rattle.ddcmp_explain.specs.declared.dump_fault.DumpFault.{DumpFault}
-use Rattle.ddcmp_script_text.specs.declared.script_fault.ScriptFault.{ScriptFault}
-use Rattle.ddcmp_script_text.specs.declared.script_fault.ScriptFault.TheVariants as scripting
+use Rattle.ddcmp_line.specs.declared.script_fault.ScriptFault.{ScriptFault}
+use Rattle.ddcmp_line.specs.declared.script_fault.ScriptFault.TheVariants as scripting
 use Rattle.ddcmp_cli.specs.declared.fault.Fault.{Fault}
 use Rattle.ddcmp_cli.specs.declared.fault.Fault.TheVariants.{Odd, NotHex, Dump, Line}
 use Rattle.ddcmp_cli.specs.declared.fault.Fault.TheVariants.{Hex as NotHexIn, Message, Read, Write}

@@ -16,15 +16,15 @@ use Rattle.ddcmp_io.proofs.Inputs.{read-all, Read as Counts}
 use Rattle.ddcmp_io.specs.Written.{Known, Output, HoldsBy, Holds, HandsOver, AppendsPart}
 use Rattle.ddcmp_io.proofs.WrittenLaws.{sends-then, part-append}
 use Rattle.ddcmp_run.specs.Run.{PairState}
-use Rattle.ddcmp_script_text.specs.declared.command.ParsedLine.{ParsedLine}
+use Rattle.ddcmp_line.specs.declared.command.ParsedLine.{ParsedLine}
 use Rattle.ddcmp_line.specs.declared.performing.Stop.{Stop}
 use Rattle.ddcmp_line.specs.declared.performing.Stop.TheVariants as stop
-use Rattle.ddcmp_script_text.specs.declared.script_fault.ScriptFault.{ScriptFault}
-use Rattle.ddcmp_script_text.specs.declared.script_fault.ScriptFault.TheVariants.{Line, Hex, Read}
-use Rattle.ddcmp_script_text.specs.declared.script_fault.ScriptFault.TheVariants.{Write, Memory}
-use Rattle.ddcmp_script_text.specs.declared.script_fault.ScriptFault.TheVariants.{Carrier}
-use Rattle.ddcmp_script_text.specs.ScriptWords.{lines_of}
-use Rattle.ddcmp_script_text.specs.ScriptText.{closing_text}
+use Rattle.ddcmp_line.specs.declared.script_fault.ScriptFault.{ScriptFault}
+use Rattle.ddcmp_line.specs.declared.script_fault.ScriptFault.TheVariants.{Line, Hex, Read}
+use Rattle.ddcmp_line.specs.declared.script_fault.ScriptFault.TheVariants.{Write, Memory}
+use Rattle.ddcmp_line.specs.declared.script_fault.ScriptFault.TheVariants.{Carrier}
+use Rattle.ddcmp_line.specs.ScriptWords.{lines_of}
+use Rattle.ddcmp_line.specs.ScriptText.{closing_text}
 use Rattle.ddcmp_run.specs.Carriages.{Carriage}
 use Rattle.ddcmp_line.specs.Script.{Between, AllFit, nothing_between, after_lines, text_of_lines}
 use Rattle.ddcmp_line.specs.Script.{carriages_of_lines, IsScriptLine, lines_done}

@@ -1,3 +1,7 @@
+pub mod Cutting
+pub mod EachText
 pub mod Endings
 pub mod Playing
+pub mod ReplyLaws
 pub mod Scenes
+pub mod TakingLaws

@@ -12,8 +12,8 @@ use Rattle.ddcmp_run.specs.Run.{PairState}
 use Rattle.ddcmp_line.specs.declared.performing.Stop.{Stop}
 use Rattle.ddcmp_line.specs.declared.performing.Stop.TheVariants.{NoCommand, NotHex, Write}
 use Rattle.ddcmp_line.specs.declared.performing.Stop.TheVariants.{Memory, Carrier}
-use Rattle.ddcmp_script_text.specs.ScriptWords.{reading_of, without_cr, lines_between, between_lf}
-use Rattle.ddcmp_script_text.specs.ScriptWords.{lines_of}
+use Rattle.ddcmp_line.specs.ScriptWords.{reading_of, without_cr, lines_between, between_lf}
+use Rattle.ddcmp_line.specs.ScriptWords.{lines_of}
 use Rattle.ddcmp_run.specs.Carriages.{Carriage}
 use Rattle.ddcmp_line.specs.Script.{Carries, Between, Scene, AreDirect, AreWithin, DoneLine}
 use Rattle.ddcmp_line.specs.Script.{after_line, text_of, carriages_by, after_lines, text_of_lines}
@@ -24,7 +24,7 @@ use Rattle.ddcmp_line.specs.ScriptEnds.{carriages_then, Around, around, Begins, 
 use Rattle.ddcmp_line.specs.ScriptEnds.{StoppedBefore}
 use Rattle.ddcmp_line.specs.Inside.ScriptProgress.{HasDone, HasDoneAll, PlaysOut, Stops, course}
 use Rattle.ddcmp_line.specs.Inside.ScriptProgress.{played}
-use Rattle.ddcmp_script_text.proofs.Cutting.{HasPart, has-part}
+use Rattle.ddcmp_line.proofs.Cutting.{HasPart, has-part}
 use Rattle.ddcmp_io.proofs.TextLaws.{sends-as}
 
 -- ---- one line more

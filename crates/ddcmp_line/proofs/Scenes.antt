@@ -8,11 +8,11 @@ use Rattle.ddcmp_core.specs.Store.{first_message}
 use Rattle.std.proofs.lemmas.List.{append-nil}
 use Rattle.ddcmp_io.specs.Device.{Logs}
 use Rattle.ddcmp_io.specs.Written.{Output, HandsOver, output_of}
-use Rattle.ddcmp_script_text.specs.declared.command.ScriptCommand.{ScriptCommand}
-use Rattle.ddcmp_script_text.specs.declared.command.ScriptCommand.TheVariants.{Happens, Carry, Lose}
-use Rattle.ddcmp_script_text.specs.declared.command.ScriptCommand.TheVariants.{Damage, Raw, Settle}
-use Rattle.ddcmp_script_text.specs.declared.command.ScriptCommand.TheVariants.{Recover, State}
-use Rattle.ddcmp_script_text.specs.declared.command.ParsedLine.TheVariants.{Asks}
+use Rattle.ddcmp_line.specs.declared.command.ScriptCommand.{ScriptCommand}
+use Rattle.ddcmp_line.specs.declared.command.ScriptCommand.TheVariants.{Happens, Carry, Lose}
+use Rattle.ddcmp_line.specs.declared.command.ScriptCommand.TheVariants.{Damage, Raw, Settle}
+use Rattle.ddcmp_line.specs.declared.command.ScriptCommand.TheVariants.{Recover, State}
+use Rattle.ddcmp_line.specs.declared.command.ParsedLine.TheVariants.{Asks}
 use Rattle.ddcmp_run.specs.declared.event.End.{End}
 use Rattle.ddcmp_run.specs.declared.event.End.TheVariants.{A, B}
 use Rattle.ddcmp_run.specs.declared.event.Event.{Event}
@@ -22,8 +22,8 @@ use Rattle.ddcmp_line.specs.declared.performing.Stop.{Stop}
 use Rattle.ddcmp_line.specs.declared.performing.Stop.TheVariants.{Memory}
 use Rattle.ddcmp_run.specs.Run.{PairState, at, end_of, reply_to, after_event, asks_memory, run}
 use Rattle.ddcmp_run.specs.Settle.{other, WantsMemory}
-use Rattle.ddcmp_script_text.specs.ScriptText.{end_name, name_before, reply_text, counted_line}
-use Rattle.ddcmp_script_text.specs.ScriptText.{station_line}
+use Rattle.ddcmp_line.specs.ScriptText.{end_name, name_before, reply_text, counted_line}
+use Rattle.ddcmp_line.specs.ScriptText.{station_line}
 use Rattle.ddcmp_run.specs.Carriages.{Carriage, HasCarried}
 use Rattle.ddcmp_line.specs.Script.{Carries, Between, Scene, Effect, AreDirect, AreWithin}
 use Rattle.ddcmp_line.specs.Script.{frames_of, with_frames, taken_off, part_of, frames_after}

@@ -1,10 +1,10 @@
 pub mod Inside
 pub mod Script
 pub mod ScriptEnds
+pub mod ScriptText
+pub mod ScriptWords
 pub use Rattle.ddcmp_run.specs.Carriages
 pub use Rattle.ddcmp_io.specs.Input
 pub use Rattle.ddcmp_net.specs.Connection
-pub use Rattle.ddcmp_script_text.specs.ScriptText
-pub use Rattle.ddcmp_script_text.specs.ScriptWords
 pub use Rattle.ddcmp_station.specs.StationText
 pub use Rattle.ddcmp_station.specs.CountersText

@@ -10,20 +10,20 @@ use Rattle.ddcmp_run.specs.declared.event.Event.{Event}
 use Rattle.ddcmp_run.specs.declared.event.Event.TheVariants as event
 use Rattle.ddcmp_run.specs.declared.event.Reply.{Reply}
 use Rattle.ddcmp_run.specs.declared.event.Reply.TheVariants as reply
-use Rattle.ddcmp_script_text.specs.declared.command.ScriptCommand.{ScriptCommand}
-use Rattle.ddcmp_script_text.specs.declared.command.ScriptCommand.TheVariants.{Happens, Carry, Lose}
-use Rattle.ddcmp_script_text.specs.declared.command.ScriptCommand.TheVariants.{Damage, Raw, Settle}
-use Rattle.ddcmp_script_text.specs.declared.command.ScriptCommand.TheVariants.{Recover, State}
-use Rattle.ddcmp_script_text.specs.declared.command.ParsedLine.{ParsedLine}
-use Rattle.ddcmp_script_text.specs.declared.command.ParsedLine.TheVariants.{Skipped, Asks}
-use Rattle.ddcmp_script_text.specs.declared.command.ParsedLine.TheVariants.{NoCommand, NotHex}
+use Rattle.ddcmp_line.specs.declared.command.ScriptCommand.{ScriptCommand}
+use Rattle.ddcmp_line.specs.declared.command.ScriptCommand.TheVariants.{Happens, Carry, Lose}
+use Rattle.ddcmp_line.specs.declared.command.ScriptCommand.TheVariants.{Damage, Raw, Settle}
+use Rattle.ddcmp_line.specs.declared.command.ScriptCommand.TheVariants.{Recover, State}
+use Rattle.ddcmp_line.specs.declared.command.ParsedLine.{ParsedLine}
+use Rattle.ddcmp_line.specs.declared.command.ParsedLine.TheVariants.{Skipped, Asks}
+use Rattle.ddcmp_line.specs.declared.command.ParsedLine.TheVariants.{NoCommand, NotHex}
 use Rattle.ddcmp_run.specs.Run.{PairState, at, reply_to, end_of, run}
 use Rattle.ddcmp_run.specs.Settle.{other, settling}
 use Rattle.ddcmp_run.specs.Recovery.{recovering, recovered, is_done}
-use Rattle.ddcmp_script_text.specs.ScriptWords.{reading_of}
-use Rattle.ddcmp_script_text.specs.ScriptText.{end_name, name_before, counted_line, reply_text}
-use Rattle.ddcmp_script_text.specs.ScriptText.{settled_text, recovered_text, damage_text}
-use Rattle.ddcmp_script_text.specs.ScriptText.{station_line}
+use Rattle.ddcmp_line.specs.ScriptWords.{reading_of}
+use Rattle.ddcmp_line.specs.ScriptText.{end_name, name_before, counted_line, reply_text}
+use Rattle.ddcmp_line.specs.ScriptText.{settled_text, recovered_text, damage_text}
+use Rattle.ddcmp_line.specs.ScriptText.{station_line}
 
 -- ---- both ends, and what is between them
 

@@ -10,15 +10,15 @@ use Rattle.ddcmp_run.specs.declared.event.End.{End}
 use Rattle.ddcmp_run.specs.InOrder.{IsInOrder}
 use Rattle.ddcmp_run.specs.Run.{PairState}
 use Rattle.ddcmp_run.specs.Settle.{WantsMemory}
-use Rattle.ddcmp_script_text.specs.declared.command.ScriptCommand.TheVariants as command
-use Rattle.ddcmp_script_text.specs.declared.command.ParsedLine.{ParsedLine}
-use Rattle.ddcmp_script_text.specs.declared.command.ParsedLine.TheVariants as reading
-use Rattle.ddcmp_script_text.specs.declared.script_fault.ScriptFault.{ScriptFault}
-use Rattle.ddcmp_script_text.specs.declared.script_fault.ScriptFault.TheVariants.{Line, Hex, Read}
-use Rattle.ddcmp_script_text.specs.declared.script_fault.ScriptFault.TheVariants.{Write, Memory}
-use Rattle.ddcmp_script_text.specs.declared.script_fault.ScriptFault.TheVariants.{Carrier}
-use Rattle.ddcmp_script_text.specs.ScriptWords.{reading_of, lines_of}
-use Rattle.ddcmp_script_text.specs.ScriptText.{closing_text}
+use Rattle.ddcmp_line.specs.declared.command.ScriptCommand.TheVariants as command
+use Rattle.ddcmp_line.specs.declared.command.ParsedLine.{ParsedLine}
+use Rattle.ddcmp_line.specs.declared.command.ParsedLine.TheVariants as reading
+use Rattle.ddcmp_line.specs.declared.script_fault.ScriptFault.{ScriptFault}
+use Rattle.ddcmp_line.specs.declared.script_fault.ScriptFault.TheVariants.{Line, Hex, Read}
+use Rattle.ddcmp_line.specs.declared.script_fault.ScriptFault.TheVariants.{Write, Memory}
+use Rattle.ddcmp_line.specs.declared.script_fault.ScriptFault.TheVariants.{Carrier}
+use Rattle.ddcmp_line.specs.ScriptWords.{reading_of, lines_of}
+use Rattle.ddcmp_line.specs.ScriptText.{closing_text}
 use Rattle.ddcmp_run.specs.Carriages.{Carriage}
 use Rattle.ddcmp_line.specs.Script.{Carries, Scene, DoneLine, AllFit, nothing_between, lines_done}
 use Rattle.ddcmp_line.specs.Script.{after_lines, text_of_lines, carriages_of_lines, events_by}

@@ -7,13 +7,13 @@
 
 ghost use Rattle.std.specs.Prelude.{◌≡◌, ◌++◌};
 ghost use Rattle.ddcmp_io.specs.Written.{HandsOver, output_of};
-ghost use Rattle.ddcmp_script_text.specs.ScriptText.{yes_or_no as yes_or_no_text, totals_line};
-ghost use Rattle.ddcmp_script_text.specs.ScriptText.{closing_text, counters_lines};
+ghost use Rattle.ddcmp_line.specs.ScriptText.{yes_or_no as yes_or_no_text, totals_line};
+ghost use Rattle.ddcmp_line.specs.ScriptText.{closing_text, counters_lines};
 
+use crate::reply_text::end_name;
 use ddcmp_io::text::write_number;
 use ddcmp_io::{Page, Sink};
 use ddcmp_pair::{End, Pair};
-use ddcmp_script_text::end_name;
 use ddcmp_station::write_counters;
 
 fn yes_or_no(is: bool) -> &'static [u8]

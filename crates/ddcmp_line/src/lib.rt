@@ -1,12 +1,20 @@
 //! Two stations on a line, joined by a carrier: `script` does what the lines of a text ask for
 //! between them, and writes what comes of it. What else such a program needs is re-exported from
 //! the crates below.
+//!
+//! ```text
+//! send A 616263     asks that the station at A is to send the message `abc`
+//! A accepted 1      is written when it accepted it as its message number 1
+//! ```
 #![tactic(auto)]
 
 pub mod closing;
+pub mod command;
 mod frame_lines;
 mod nowhere;
 mod performing;
+pub mod reply_text;
+mod script_fault;
 mod scripting;
 mod view;
 
@@ -18,7 +26,7 @@ pub use ddcmp_pair::{
     run,
 };
 pub use ddcmp_run::{Carrier, Direct, LineFault};
-pub use ddcmp_script_text::ScriptFault;
 pub use ddcmp_station::{state_name, write_notice};
+pub use script_fault::ScriptFault;
 pub use scripting::{script, script_viewed, script_with};
 pub use view::View;

@@ -6,8 +6,8 @@ ghost use Rattle.ddcmp_io.specs.Written.{HandsOver, output_of};
 ghost use Rattle.ddcmp_run.specs.Run.{PairState, at, end_of, after_event, reply_to, asks_memory};
 ghost use Rattle.ddcmp_run.specs.Settle.{other, settling, WantsMemory};
 ghost use Rattle.ddcmp_run.specs.Recovery.{recovering};
-ghost use Rattle.ddcmp_script_text.specs.ScriptWords.{reading_of};
-ghost use Rattle.ddcmp_script_text.specs.ScriptText.{end_name, name_before, reply_text};
+ghost use Rattle.ddcmp_line.specs.ScriptWords.{reading_of};
+ghost use Rattle.ddcmp_line.specs.ScriptText.{end_name, name_before, reply_text};
 ghost use Rattle.ddcmp_line.specs.Script.{nothing_between, frames_after, frames_of, part_of};
 ghost use Rattle.ddcmp_line.specs.Script.{outcome_of_event, outcome_of_lose, outcome_of_damage};
 ghost use Rattle.ddcmp_line.specs.Script.{outcome_of_settle, outcome_of_recover, arrival_text};
@@ -15,15 +15,16 @@ ghost use Rattle.ddcmp_line.specs.Inside.ScriptSteps.{scene_of, stopped_of, Come
 ghost use Rattle.ddcmp_line.specs.Inside.ScriptSteps.{TellsDevices};
 ghost use Rattle.ddcmp_run.specs.declared.event.Event.TheVariants as event_value;
 
+use crate::command::{ParsedLine, ScriptCommand, read_line};
 use crate::frame_lines::{FrameLeft, FrameLines};
+use crate::reply_text::{
+    answerer_name, damage_name, end_name, write_counted, write_plain, write_recovered, write_reply,
+    write_settled, write_station,
+};
 use crate::view::View;
 use ddcmp_io::{Page, Sink, WriteFailed};
 use ddcmp_pair::{Bytes, End, Event, Pair, Reply};
 use ddcmp_run::Carrier;
-use ddcmp_script_text::{
-    ParsedLine, ScriptCommand, answerer_name, damage_name, end_name, read_line, write_counted,
-    write_plain, write_recovered, write_reply, write_settled, write_station,
-};
 use ddcmp_station::Memory;
 use std::alloc::Global;
 use std::collections::VecDeque;

@@ -13,14 +13,15 @@ ghost use Rattle.ddcmp_line.specs.Inside.ScriptProgress.{Takes, moment, course, 
 ghost use Rattle.ddcmp_line.specs.Inside.ScriptSteps.{TellsDevices};
 
 use crate::closing::write_closing;
+use crate::command::without_cr;
 use crate::nowhere::Nowhere;
 use crate::performing::{Stage, Stop};
+use crate::script_fault::ScriptFault;
 use crate::view::View;
 use ddcmp_io::input::read_within;
 use ddcmp_io::{Got, Page, Sink, Source, Worst};
 use ddcmp_pair::{Pair, Unwatched};
 use ddcmp_run::Carrier;
-use ddcmp_script_text::{ScriptFault, without_cr};
 use std::alloc::Global;
 
 /// How many bytes of a script are read at once.

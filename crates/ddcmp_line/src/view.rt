@@ -1,9 +1,9 @@
 //! What shows a script.
 ghost use Rattle.std.specs.Prelude.{◌≡◌, ◌↔◌, false, IsTrue};
 
+use crate::command::ScriptCommand;
 use ddcmp_io::Sink;
 use ddcmp_pair::{Pair, Recovered, Settled, Unwatched, Watch};
-use ddcmp_script_text::ScriptCommand;
 
 /// Shows what the lines of a script do: it watches the pair, and is called before and after what a
 /// line does.

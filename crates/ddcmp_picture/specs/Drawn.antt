@@ -3,7 +3,7 @@ use Rattle.std.specs.Prelude.{ℕ, false, List, None, Result}
 use Rattle.std.specs.Io.KnownBytes.{Appends}
 use Rattle.ddcmp_io.specs.Written.{AppendsPart}
 use Rattle.ddcmp_line.specs.ScriptEnds.{Around, Plays}
-use Rattle.ddcmp_script_text.specs.declared.script_fault.ScriptFault.{ScriptFault}
+use Rattle.ddcmp_line.specs.declared.script_fault.ScriptFault.{ScriptFault}
 
 -- What each result says of the run that is drawn: which lines of the script were done and how the
 -- next one reads, and what the pair and its carrier are after. It is what the same result of

@@ -10,8 +10,8 @@ use Rattle.std.specs.Result.{result_ok}
 use Rattle.ddcmp_frame.specs.declared.header.Header.{Header}
 use Rattle.ddcmp_run.specs.declared.event.Reply.{Reply}
 use Rattle.ddcmp_run.specs.declared.event.Reply.TheVariants as reply
-use Rattle.ddcmp_script_text.specs.ScriptText.{start_refusal_text, clear_refusal_text}
-use Rattle.ddcmp_script_text.specs.ScriptText.{send_refusal_text, expired_text}
+use Rattle.ddcmp_line.specs.ScriptText.{start_refusal_text, clear_refusal_text}
+use Rattle.ddcmp_line.specs.ScriptText.{send_refusal_text, expired_text}
 use Rattle.ddcmp_station.specs.StationText.{notice_word, notice_number, state_text}
 use Rattle.ddcmp_picture.specs.declared.short_text.ShortText.{ShortText}
 use Rattle.ddcmp_picture.specs.ShortTexts.{no_text, is_blank, with_text, bytes_shown}

@@ -17,12 +17,12 @@ use Rattle.ddcmp_run.specs.declared.event.Event.{Event}
 use Rattle.ddcmp_run.specs.declared.event.Event.TheVariants as event
 use Rattle.ddcmp_run.specs.declared.event.Reply.{Reply}
 use Rattle.ddcmp_run.specs.declared.event.Reply.TheVariants as reply
-use Rattle.ddcmp_script_text.specs.ScriptText.{damage_text}
-use Rattle.ddcmp_script_text.specs.declared.command.ScriptCommand.{ScriptCommand}
-use Rattle.ddcmp_script_text.specs.declared.command.ScriptCommand.TheVariants.{Happens, Carry, Lose}
-use Rattle.ddcmp_script_text.specs.declared.command.ScriptCommand.TheVariants.{Damage, Raw, Settle}
-use Rattle.ddcmp_script_text.specs.declared.command.ScriptCommand.TheVariants.{Recover}
-use Rattle.ddcmp_script_text.specs.declared.command.ScriptCommand.TheVariants.{State as StateOf}
+use Rattle.ddcmp_line.specs.ScriptText.{damage_text}
+use Rattle.ddcmp_line.specs.declared.command.ScriptCommand.{ScriptCommand}
+use Rattle.ddcmp_line.specs.declared.command.ScriptCommand.TheVariants.{Happens, Carry, Lose}
+use Rattle.ddcmp_line.specs.declared.command.ScriptCommand.TheVariants.{Damage, Raw, Settle}
+use Rattle.ddcmp_line.specs.declared.command.ScriptCommand.TheVariants.{Recover}
+use Rattle.ddcmp_line.specs.declared.command.ScriptCommand.TheVariants.{State as StateOf}
 use Rattle.ddcmp_station.specs.StationText.{state_text}
 use Rattle.ddcmp_picture.specs.declared.asked.Asked.{Asked}
 use Rattle.ddcmp_picture.specs.declared.asked.Asked.TheVariants as asked

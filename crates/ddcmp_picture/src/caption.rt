@@ -3,7 +3,7 @@ ghost use Rattle.std.specs.Prelude.{◌≡◌, ◌≤◌, IsTrue, [], length};
 ghost use Rattle.ddcmp_io.specs.Written.{HandsOver, output_of};
 ghost use Rattle.ddcmp_picture.specs.Inside.Captions.{caption_text, is_gap, is_zero, unless_zero};
 ghost use Rattle.ddcmp_picture.specs.Inside.Captions.{without_zeros};
-ghost use Rattle.ddcmp_script_text.specs.ScriptText.{counters_lines};
+ghost use Rattle.ddcmp_line.specs.ScriptText.{counters_lines};
 
 use ddcmp_io::{MemorySink, Page, Sink};
 use ddcmp_line::closing::{write_both_counters, write_closing};

@@ -21,8 +21,8 @@ use crate::notes::{across, answer, look, note, sent, tell};
 use crate::paper::Paper;
 use crate::replies::{answer_text, words};
 use crate::states::{Seen, States};
+use ddcmp_line::command::ScriptCommand;
 use ddcmp_pair::{End, Event, Pair, Recovered, Reply, Settled};
-use ddcmp_script_text::ScriptCommand;
 use std::alloc::Global;
 
 /// A drawing of a run on a paper. As the view of a script (`ddcmp_line::script_viewed`) it puts

@@ -11,8 +11,8 @@ use crate::mark::{Fate, Mark};
 use crate::notes::note;
 use crate::paper::Paper;
 use crate::replies::words;
+use ddcmp_line::reply_text::damage_name;
 use ddcmp_pair::End;
-use ddcmp_script_text::damage_name;
 
 /// So many bytes of the first frame of an end arrived, of those that hadn't. The rest begins its
 /// way in the row of this arrival.

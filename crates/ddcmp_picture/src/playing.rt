@@ -8,10 +8,9 @@ ghost use Rattle.ddcmp_run.specs.InOrder.{IsInOrder};
 use crate::canvas::{Canvas, Picture};
 use crate::drawing::Drawing;
 use ddcmp_io::{Sink, Source, Worst};
-use ddcmp_line::script_viewed;
+use ddcmp_line::{ScriptFault, script_viewed};
 use ddcmp_pair::Pair;
 use ddcmp_run::Carrier;
-use ddcmp_script_text::ScriptFault;
 use std::alloc::Global;
 
 /// Returns the result for a picture whose script ended so, unless it wasn't drawn whole or the

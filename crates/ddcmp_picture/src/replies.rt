@@ -4,8 +4,10 @@ ghost use Rattle.ddcmp_picture.specs.Labels.{reply_label, words as words_of};
 
 use crate::labels::without_lf;
 use crate::short_text::ShortText;
+use ddcmp_line::reply_text::{
+    clear_refusal_name, expired_name, send_refusal_name, start_refusal_name,
+};
 use ddcmp_pair::Reply;
-use ddcmp_script_text::{clear_refusal_name, expired_name, send_refusal_name, start_refusal_name};
 
 /// A short text of these words.
 pub(crate) fn words(text: &[u8]) -> ShortText

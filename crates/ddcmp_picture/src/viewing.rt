@@ -3,9 +3,9 @@ use crate::canvas::Canvas;
 use crate::drawing::Drawing;
 use crate::paper::Paper;
 use ddcmp_io::Sink;
+use ddcmp_line::command::ScriptCommand;
 use ddcmp_line::{Recovered, Settled, View};
 use ddcmp_pair::{Event, Pair, Reply, Watch};
-use ddcmp_script_text::ScriptCommand;
 use std::alloc::Global;
 
 impl<P: Paper + Drop> Watch for Drawing<P> {

@@ -5,11 +5,11 @@ use Rattle.ddcmp_run.specs.Carriages.{Carriage}
 use Rattle.ddcmp_run.specs.Run.{PairState}
 use Rattle.ddcmp_line.specs.declared.scripting.Player.{Player}
 use Rattle.ddcmp_io.specs.Written.{Known, Output, HandsOver}
-use Rattle.ddcmp_script_text.specs.declared.command.ParsedLine.TheVariants as reading
+use Rattle.ddcmp_line.specs.declared.command.ParsedLine.TheVariants as reading
 use Rattle.ddcmp_line.specs.declared.performing.Stop.{Stop}
 use Rattle.ddcmp_line.specs.declared.performing.Stop.TheVariants.{NoCommand, NotHex, Write}
 use Rattle.ddcmp_line.specs.declared.performing.Stop.TheVariants.{Memory, Carrier}
-use Rattle.ddcmp_script_text.specs.ScriptWords.{lines_of}
+use Rattle.ddcmp_line.specs.ScriptWords.{lines_of}
 use Rattle.ddcmp_line.specs.Script.{Between, DoneLine}
 use Rattle.ddcmp_line.specs.ScriptEnds.{Around, around, HasNoLf, Begins, Did, StoppedAt, Broken}
 use Rattle.ddcmp_line.specs.ScriptEnds.{AsksCarrier, scene_then}

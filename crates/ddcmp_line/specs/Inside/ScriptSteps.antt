@@ -4,9 +4,9 @@ use Rattle.std.specs.Prelude.{Err}
 use Rattle.ddcmp_io.specs.Device.{Logs}
 use Rattle.ddcmp_io.specs.Written.{Output, HandsOver}
 use Rattle.ddcmp_run.specs.declared.event.End.{End}
-use Rattle.ddcmp_script_text.specs.declared.command.ScriptCommand.TheVariants.{Carry}
-use Rattle.ddcmp_script_text.specs.declared.command.ParsedLine.{ParsedLine}
-use Rattle.ddcmp_script_text.specs.declared.command.ParsedLine.TheVariants as reading
+use Rattle.ddcmp_line.specs.declared.command.ScriptCommand.TheVariants.{Carry}
+use Rattle.ddcmp_line.specs.declared.command.ParsedLine.{ParsedLine}
+use Rattle.ddcmp_line.specs.declared.command.ParsedLine.TheVariants as reading
 use Rattle.ddcmp_line.specs.declared.performing.Stop.{Stop}
 use Rattle.ddcmp_line.specs.declared.performing.Stop.TheVariants.{NoCommand, NotHex, Write}
 use Rattle.ddcmp_line.specs.declared.performing.Stop.TheVariants.{Memory, Carrier}

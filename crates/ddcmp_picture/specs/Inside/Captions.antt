@@ -2,7 +2,7 @@
 use Rattle.std.specs.Prelude.{ℕ, Bool, ◌-◌, if◌then◌else◌, nat_lt, ◌&&◌, ◌||◌, ◌==◌, List, [], ◌∷◌}
 use Rattle.std.specs.Prelude.{◌++◌, length, slice_index}
 use Rattle.ddcmp_run.specs.Run.{PairState}
-use Rattle.ddcmp_script_text.specs.ScriptText.{counters_lines, totals_line}
+use Rattle.ddcmp_line.specs.ScriptText.{counters_lines, totals_line}
 
 -- a word that ends in "=0"
 abbrev pub is_zero : List ℕ → Bool

@@ -4,7 +4,7 @@ use Rattle.ddcmp_io.specs.Change.{source_change}
 use Rattle.ddcmp_io.specs.Written.{AppendsPart}
 use Rattle.ddcmp_cli.specs.declared.ending.Ending.TheVariants.{Fault as Faulted}
 use Rattle.ddcmp_cli.specs.Endings.{ending_of, script_fault}
-use Rattle.ddcmp_script_text.specs.declared.script_fault.ScriptFault.TheVariants.{Carrier}
+use Rattle.ddcmp_line.specs.declared.script_fault.ScriptFault.TheVariants.{Carrier}
 use Rattle.ddcmp_cli.proofs.ScriptLaws.{tells, told-back, untold}
 use Rattle.ddcmp_cli.proofs.script_command.draw_over.Goals as goal
 

@@ -1,7 +1,7 @@
 use Rattle.std.proofs.Common.{ap, ◌∙◌}
 use Rattle.std.specs.Prelude.{decimal}
 use Rattle.ddcmp_io.proofs.WrittenLaws.{sends-then}
-use Rattle.ddcmp_script_text.specs.ScriptText.{yes_or_no}
+use Rattle.ddcmp_line.specs.ScriptText.{yes_or_no}
 use Rattle.ddcmp_io.proofs.TextLaws.{sends-as}
 use Rattle.ddcmp_line.proofs.closing.write_last_line.Goals as goal
 

@@ -3,7 +3,7 @@ use Rattle.std.specs.Io.KnownBytes.{Appends}
 use Rattle.ddcmp_io.specs.declared.device.Worst.TheVariants.{Fine}
 use Rattle.ddcmp_io.specs.Input.{GaveMost}
 use Rattle.ddcmp_io.specs.Written.{AppendsPart, output_of}
-use Rattle.ddcmp_script_text.specs.declared.script_fault.ScriptFault.TheVariants.{Read}
+use Rattle.ddcmp_line.specs.declared.script_fault.ScriptFault.TheVariants.{Read}
 use Rattle.ddcmp_line.specs.ScriptEnds.{around, Plays}
 use Rattle.ddcmp_line.specs.Inside.ScriptProgress.{HasDone, course, fresh, played}
 use Rattle.ddcmp_io.proofs.Inputs.{gave-most, read-all}

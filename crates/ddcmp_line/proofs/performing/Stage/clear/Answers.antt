@@ -1,6 +1,6 @@
 use Rattle.std.proofs.Common.{[], ap, refl, ◌∙◌}
 use Rattle.ddcmp_run.specs.declared.event.Event.TheVariants as event
-use Rattle.ddcmp_script_text.specs.ScriptText.{reply_text}
+use Rattle.ddcmp_line.specs.ScriptText.{reply_text}
 use Rattle.ddcmp_line.specs.Script.{cleared_by}
 use Rattle.ddcmp_line.proofs.Scenes.{comes-event}
 use Rattle.ddcmp_io.proofs.TextLaws.{sends-as}

@@ -1,6 +1,6 @@
 use Rattle.std.proofs.Common.{◌==◌, ◌++◌, length, ap, refl, ◌∙◌}
 use Rattle.ddcmp_line.specs.Script.{frames_of, outcome_of_damage}
-use Rattle.ddcmp_script_text.specs.ScriptText.{end_name, damage_text}
+use Rattle.ddcmp_line.specs.ScriptText.{end_name, damage_text}
 use Rattle.ddcmp_line.specs.Inside.ScriptSteps.{scene_of}
 use Rattle.ddcmp_line.proofs.Scenes.{comes-between}
 use Rattle.ddcmp_io.proofs.TextLaws.{sends-as}

@@ -1,7 +1,7 @@
 use Rattle.std.proofs.Common.{◌++◌, length, ap, sym, ◌∙◌}
 use Rattle.std.specs.Prelude.{codes}
 use Rattle.ddcmp_line.specs.Script.{frames_of}
-use Rattle.ddcmp_script_text.specs.ScriptText.{end_name, counted_line}
+use Rattle.ddcmp_line.specs.ScriptText.{end_name, counted_line}
 use Rattle.ddcmp_line.proofs.Scenes.{lose-comes, lose-nothing}
 use Rattle.ddcmp_io.proofs.TextLaws.{sends-as}
 use Rattle.ddcmp_line.proofs.performing.Stage.lose.Goals as goal

@@ -3,11 +3,11 @@ use Rattle.std.specs.Prelude.{codes}
 use Rattle.ddcmp_core.specs.Core.{CoreView}
 use Rattle.ddcmp_run.specs.Settle.{settling}
 use Rattle.ddcmp_run.specs.Recovery.{recovering}
-use Rattle.ddcmp_script_text.specs.declared.command.ScriptCommand.TheVariants.{Happens, Lose}
-use Rattle.ddcmp_script_text.specs.declared.command.ScriptCommand.TheVariants.{Damage, Raw, Settle}
-use Rattle.ddcmp_script_text.specs.declared.command.ScriptCommand.TheVariants.{Recover, State}
+use Rattle.ddcmp_line.specs.declared.command.ScriptCommand.TheVariants.{Happens, Lose}
+use Rattle.ddcmp_line.specs.declared.command.ScriptCommand.TheVariants.{Damage, Raw, Settle}
+use Rattle.ddcmp_line.specs.declared.command.ScriptCommand.TheVariants.{Recover, State}
 use Rattle.ddcmp_line.specs.Script.{outcome_of}
-use Rattle.ddcmp_script_text.specs.ScriptText.{end_name, station_line}
+use Rattle.ddcmp_line.specs.ScriptText.{end_name, station_line}
 use Rattle.ddcmp_line.proofs.Scenes.{arrival-comes, comes-as, refused-as, comes-between}
 use Rattle.ddcmp_line.proofs.Scenes.{ends-well, ends-by, happens-is, none-happens, lose-is}
 use Rattle.ddcmp_line.proofs.Scenes.{none-lose, damage-is, none-damage, raw-is, none-raw}

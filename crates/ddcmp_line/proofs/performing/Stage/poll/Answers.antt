@@ -3,7 +3,7 @@ use Rattle.ddcmp_io.specs.Written.{HandsOver, output_of}
 use Rattle.ddcmp_run.specs.declared.event.Event.TheVariants as event
 use Rattle.ddcmp_run.specs.Run.{reply_to}
 use Rattle.ddcmp_line.specs.declared.performing.Stage.{Stage}
-use Rattle.ddcmp_script_text.specs.ScriptText.{end_name, reply_text}
+use Rattle.ddcmp_line.specs.ScriptText.{end_name, reply_text}
 use Rattle.ddcmp_line.proofs.Scenes.{poll-comes-a, poll-comes-b}
 use Rattle.ddcmp_line.proofs.performing.Stage.poll.Goals as goal
 

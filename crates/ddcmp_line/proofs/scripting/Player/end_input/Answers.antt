@@ -1,7 +1,7 @@
 use Rattle.std.proofs.Common.{◌≡◌, ◌<◌, length, subst, arith}
 use Rattle.std.proofs.lemmas.Bool.Decides.{nat_tests}
 use Rattle.ddcmp_io.specs.Written.{output_of}
-use Rattle.ddcmp_script_text.specs.ScriptWords.{reading_of}
+use Rattle.ddcmp_line.specs.ScriptWords.{reading_of}
 use Rattle.ddcmp_line.specs.Inside.ScriptSteps.{scene_of, LineEnds}
 use Rattle.ddcmp_line.proofs.Playing.{end-nothing, end-any}
 use Rattle.ddcmp_line.proofs.scripting.Player.end_input.Goals as goal

@@ -4,12 +4,12 @@ use Rattle.std.proofs.Common.{length-take-le, rules, refl, sym, ap, subst, â—Œâˆ
 use Rattle.std.proofs.KnownBytes.{Consumes-nil, Consumes-kept}
 use Rattle.ddcmp_io.specs.Written.{output_of}
 use Rattle.ddcmp_io.proofs.Inputs.{read-more}
-use Rattle.ddcmp_script_text.proofs.TakingLaws.{stays_fine, worsens, stays_whole, stays_below}
-use Rattle.ddcmp_script_text.proofs.TakingLaws.{write_or_read, read_or_write, write_or_carrier}
-use Rattle.ddcmp_script_text.proofs.TakingLaws.{read_or_carrier, same_fault, true_or_false}
-use Rattle.ddcmp_script_text.specs.declared.script_fault.ScriptFault.{ScriptFault}
-use Rattle.ddcmp_script_text.specs.declared.script_fault.ScriptFault.TheVariants.{Read, Write}
-use Rattle.ddcmp_script_text.specs.declared.script_fault.ScriptFault.TheVariants.{Memory, Carrier}
+use Rattle.ddcmp_line.proofs.TakingLaws.{stays_fine, worsens, stays_whole, stays_below}
+use Rattle.ddcmp_line.proofs.TakingLaws.{write_or_read, read_or_write, write_or_carrier}
+use Rattle.ddcmp_line.proofs.TakingLaws.{read_or_carrier, same_fault, true_or_false}
+use Rattle.ddcmp_line.specs.declared.script_fault.ScriptFault.{ScriptFault}
+use Rattle.ddcmp_line.specs.declared.script_fault.ScriptFault.TheVariants.{Read, Write}
+use Rattle.ddcmp_line.specs.declared.script_fault.ScriptFault.TheVariants.{Memory, Carrier}
 use Rattle.ddcmp_line.specs.ScriptEnds.{around}
 use Rattle.ddcmp_line.specs.Inside.ScriptProgress.{HasDone, course, fresh, played}
 use Rattle.ddcmp_line.proofs.Endings.{has-flushed, plays-paused, plays-stopped, plays-unwritten}

@@ -1,6 +1,6 @@
 use Rattle.std.proofs.Common.{ap, sym, subst, ◌∙◌, ◌+◌, ◌∷◌, Ok, Err}
 use Rattle.ddcmp_io.specs.Written.{output_of}
-use Rattle.ddcmp_script_text.specs.ScriptWords.{reading_of, without_cr}
+use Rattle.ddcmp_line.specs.ScriptWords.{reading_of, without_cr}
 use Rattle.ddcmp_line.specs.Inside.ScriptSteps.{scene_of, LineEnds}
 use Rattle.ddcmp_line.specs.ScriptEnds.{around}
 use Rattle.ddcmp_line.specs.Inside.ScriptProgress.{HasDone, course, played}

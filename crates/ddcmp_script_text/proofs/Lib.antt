@@ -1,4 +1,0 @@
-pub mod Cutting
-pub mod EachText
-pub mod ReplyLaws
-pub mod TakingLaws
