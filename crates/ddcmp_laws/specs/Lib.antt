@@ -28,3 +28,15 @@ pub mod LinkSweeps
 pub mod DrivenSweeps
 pub mod StationRuns
 pub mod LinkRestarts
+pub mod Sessions
+pub mod Pipe
+pub mod PipeStory
+pub mod Loops
+pub mod OverLines
+pub mod Connections
+pub mod AnewStory
+pub mod SessionRuns
+pub mod Connected
+pub mod Endings
+pub mod LastConnection
+pub mod EachLine

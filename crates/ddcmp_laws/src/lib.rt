@@ -1,24 +1,32 @@
 //! What an engineer of the protocol expects of its definitions, stated apart from their tables, and
 //! recovery in any order: what a line without loss comes to, whatever the order in which its ends
 //! are asked and bytes arrive; and the promise for whoever calls two stations: any calls, the turns
-//! of `drive`, two driven stations over streams, and two links. Functions that do nothing, whose
-//! contracts are the laws; and in `station_steps` and `link_steps` one for each call of a station
-//! and of a link, which makes it.
+//! of `drive`, two driven stations over streams, two links, and two sessions, each of which writes
+//! what the other reads, as through a pipe. Functions that do nothing, whose contracts are the laws;
+//! and in `station_steps`, `link_steps` and `session_steps` one for each call of a station, of a link
+//! and of a session, which makes it.
 #![tactic(auto)]
 
 pub mod calls;
+pub mod connected;
 pub mod damage;
 pub mod delivers;
 pub mod drives_recover;
+pub mod endings;
 pub mod line;
 pub mod link_restarts;
 pub mod link_steps;
 pub mod links;
+pub mod loops;
+pub mod pipe;
 pub mod recovering;
 pub mod rests;
 pub mod rules;
 pub mod runs;
 pub mod served;
+pub mod session_runs;
+pub mod session_steps;
+pub mod sessions;
 pub mod settles;
 pub mod sizes;
 pub mod sleep;

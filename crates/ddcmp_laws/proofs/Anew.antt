@@ -1,0 +1,622 @@
+-- Sessions that are connected again, and their links.
+use Rattle.std.proofs.Common.{◌≡◌, ℕ, zero, suc, ◌+◌, Bool, true, false, cond, List, [], ◌∷◌}
+use Rattle.std.proofs.Common.{◌++◌, length, drop, refl, sym, ◌∙◌, ap, subst, append_assoc}
+use Rattle.std.proofs.Common.{append-nil, None, option_to_list}
+use Rattle.std.proofs.Math.Seq.{drop-append_seam}
+use Rattle.ddcmp_input.specs.declared.entry.Entry.{Entry}
+use Rattle.ddcmp_input.specs.declared.entry.Entry.TheVariants.{Message, NotHexadecimal, TooLong}
+use Rattle.ddcmp_input.specs.declared.entry.Entry.TheVariants.{Empty}
+use Rattle.std.specs.Prelude.{◌||◌}
+use Rattle.ddcmp_proto.specs.Config.{first_refusal}
+use Rattle.ddcmp_input.specs.InBinary.{in_binary}
+use Rattle.ddcmp_station.specs.Linking.{LinkView, after_frame, anew, delivered}
+use Rattle.ddcmp_run.specs.declared.event.End.{End}
+use Rattle.ddcmp_run.specs.declared.event.End.TheVariants.{A, B}
+use Rattle.ddcmp_run.specs.Prefix.{IsPrefixOf}
+use Rattle.ddcmp_run.specs.Run.{new_pair, is_clean}
+use Rattle.ddcmp_session.specs.Messages.{message_in, after_input, entries_of_input, after_last}
+use Rattle.ddcmp_session.specs.Messages.{entry_of_last}
+use Rattle.ddcmp_session.specs.Session.{SessionView, wants_input}
+use Rattle.ddcmp_laws.specs.Links.{LinkCall, Starts, BeginsAnew, Halts, Wakes, Offers, FillsOne}
+use Rattle.ddcmp_laws.specs.Links.{IsSent, Feeds, Takes, LinkHistory, LinkStep, Links, link_at}
+use Rattle.ddcmp_laws.specs.Links.{IsHistory, after_history, LinkReaches, HasDone, used_by}
+use Rattle.ddcmp_laws.specs.Links.{gone_by, accepted_by, taken_by, acknowledged_after, received}
+use Rattle.ddcmp_laws.specs.Links as links
+use Rattle.ddcmp_laws.specs.LinkRestarts.{history_by, AreCallsOfLinks, after_links}
+use Rattle.ddcmp_laws.specs.LinkRestarts.{calls_of_links, history_at}
+use Rattle.ddcmp_laws.specs.LinkRestarts as restarts
+use Rattle.ddcmp_laws.specs.StationRuns.{run_station_calls}
+use Rattle.ddcmp_laws.proofs.LinkRestarts.{anew-to-b, anew-to-a, anew-all-to-b, anew-all-to-a}
+use Rattle.ddcmp_laws.proofs.LinkRestarts.{anew-acknowledged-to-b, anew-acknowledged-to-a}
+use Rattle.ddcmp_laws.proofs.TwoLinks.{NoneOut}
+use Rattle.ddcmp_session.specs.Calls.{SessionCall, Typed, InputEnded, Connected, LineEnded}
+use Rattle.ddcmp_session.specs.Calls.{Received, Filled, LineTook, TimedOut, TimePassed, Delivered}
+use Rattle.ddcmp_session.specs.Calls.{OutputTook}
+use Rattle.ddcmp_session.specs.Calls.{Closed, SessionDoes, SessionStep}
+use Rattle.ddcmp_session.specs.Calls.{after_session_step}
+use Rattle.ddcmp_session.specs.Session.{after_connected, starts}
+use Rattle.ddcmp_laws.specs.Sessions.{messages_of, mail_in, link_steps_of, offers_of, frames_put}
+use Rattle.ddcmp_laws.specs.Sessions.{texts_of}
+use Rattle.ddcmp_laws.specs.Pipe.{Made, links_made, steps_at_end, undelivered}
+use Rattle.ddcmp_session.specs.Connections as connections
+use Rattle.ddcmp_session.specs.Connections.{Connection, Does, after_step, after_all}
+use Rattle.ddcmp_laws.specs.Connections.{Connections, first_connection, first_connections, at}
+use Rattle.ddcmp_laws.specs.Connections.{after_step_at, AreCalls, after_steps, link_steps}
+use Rattle.ddcmp_laws.specs.Connections.{read_since, delivered_since, PipesAnew, PipesAllAnew}
+use Rattle.ddcmp_laws.specs.Connections.{PipesClosedAnew, WritesAnew}
+use Rattle.ddcmp_laws.proofs.Losing.{closed-none, new-counts}
+use Rattle.ddcmp_laws.proofs.LosingAnew.{counts-anew-a, counts-anew-b}
+use Rattle.ddcmp_laws.proofs.Holding.{Holds, link_history, parts}
+use Rattle.ddcmp_laws.proofs.Outcomes.{binary_more, last_true}
+use Rattle.ddcmp_laws.proofs.Texts.{IsText, only_mail}
+use Rattle.ddcmp_laws.proofs.LinkSteps.{begins, step_leads, link_only, same_link, with_line}
+use Rattle.ddcmp_laws.proofs.LinkSteps.{holds_with_line, connected_is, course_connected}
+
+-- ---- calls of a link that don't begin it anew
+
+abbrev IsCalm : LinkCall → Type 0
+IsCalm BeginsAnew = ⊥
+IsCalm _ = Unit {0}
+
+abbrev AreCalm : List LinkStep → Type 0
+AreCalm [] = Unit {0}
+AreCalm (x ∷ xs) = IsCalm x.call × AreCalm xs
+
+abbrev pub AreDone : List LinkStep → LinkHistory → Type 0
+AreDone [] l = Unit {0}
+AreDone (x ∷ xs) l = restarts.Does x.call l.used l.link x.link × AreDone xs (history_by x.call x l)
+
+unfoldable pub after_done : List LinkStep → LinkHistory → LinkHistory
+after_done [] l = l
+after_done (x ∷ xs) l = after_done xs (history_by x.call x l)
+
+does_calm : (call : LinkCall) → IsCalm call → (text : List ℕ) (old new : LinkView)
+    → HasDone call text old new → restarts.Does call text old new
+does_calm Starts i text old new d = d
+does_calm BeginsAnew i text old new d = absurd i
+does_calm Halts i text old new d = d
+does_calm (Wakes now) i text old new d = d
+does_calm (Offers message) i text old new d = d
+does_calm FillsOne i text old new d = d
+does_calm (IsSent n) i text old new d = d
+does_calm (Feeds used) i text old new d = d
+does_calm Takes i text old new d = d
+
+history_calm : (call : LinkCall) → IsCalm call → (x : LinkStep) (l : LinkHistory)
+    → history_by call x l ≡ links.after_step x l
+history_calm Starts i x l = refl
+history_calm BeginsAnew i x l = absurd i
+history_calm Halts i x l = refl
+history_calm (Wakes now) i x l = refl
+history_calm (Offers message) i x l = refl
+history_calm FillsOne i x l = refl
+history_calm (IsSent n) i x l = refl
+history_calm (Feeds used) i x l = refl
+history_calm Takes i x l = refl
+
+calm : (xs : List LinkStep) (l : LinkHistory) → AreCalm xs → IsHistory xs l
+    → AreDone xs l × (after_done xs l ≡ after_history xs l)
+unfolding after_done after_history
+calm [] l i h = (tt, refl)
+calm (x ∷ xs) l i h =
+    let e = history_calm x.call i.0 x l in
+    let r = calm xs (links.after_step x l) i.1 h.1 in (
+      (
+        does_calm x.call i.0 l.used l.link x.link h.0,
+        subst (AreDone xs) (sym e) r.0,
+      ),
+      ap (after_done xs) e ∙ r.1,
+    )
+
+frames_calm : (n : ℕ) (d : LinkView) → AreCalm (frames_put n d)
+unfolding frames_put
+frames_calm zero d = tt
+frames_calm (suc n) d = (tt, frames_calm n (after_frame d))
+
+offers_calm : (es : List Entry) (message : List ℕ) (new : LinkView)
+    → AreCalm (offers_of es message new)
+offers_calm [] message new = tt
+offers_calm (Message ∷ rest) message new = (tt, tt)
+offers_calm (NotHexadecimal ∷ rest) message new = tt
+offers_calm (TooLong ∷ rest) message new = tt
+offers_calm (Empty ∷ rest) message new = tt
+
+-- ---- what came before is left out
+
+-- what some calls lead to, if these messages were accepted and taken before
+abbrev Shifts : List LinkStep → List (List ℕ) → List (List ℕ) → LinkHistory → LinkHistory → Type 0
+Shifts xs a t big small =
+    (x : List (List ℕ)) × (y : List (List ℕ)) × (k : ℕ)
+    × (after_history xs small
+    ≡ parts (after_history xs big).link (after_history xs big).used (after_history xs big).gone x y
+    k)
+    × ((after_history xs big).accepted ≡ a ++ x)
+    × ((after_history xs big).taken ≡ t ++ y)
+
+shift : (xs : List LinkStep) (d : LinkView) (u g : List ℕ) (a x t y : List (List ℕ)) (j k : ℕ)
+    → IsHistory xs (parts d u g (a ++ x) (t ++ y) j)
+    → IsHistory xs (parts d u g x y k)
+    × Shifts xs a t (parts d u g (a ++ x) (t ++ y) j) (parts d u g x y k)
+unfolding after_history
+shift [] d u g a x t y j k h = (tt, (x, y, k, refl, refl, refl))
+shift (s ∷ xs) d u g a x t y j k h =
+    let big = parts d u g (a ++ x) (t ++ y) j in
+    let small = parts d u g x y k in
+    let acc = accepted_by s.call d in
+    let tk = taken_by s.call d in
+    let m = j + acknowledged_after s.call big in
+    let n = k + acknowledged_after s.call small in
+    let e
+    : links.after_step s big
+    ≡ parts s.link (u ++ used_by s.call) (g ++ gone_by s.call d) (a ++ (x ++ acc))
+    (t ++ (y ++ tk)) m =
+    λ i. parts s.link (u ++ used_by s.call) (g ++ gone_by s.call d) (append_assoc a x acc i)
+    (append_assoc t y tk i) m in
+    let r =
+    shift xs s.link (u ++ used_by s.call) (g ++ gone_by s.call d) a (x ++ acc) t (y ++ tk) m n
+    (subst (IsHistory xs) e h.1) in (
+      (h.0, r.0),
+      subst (λ l. Shifts xs a t l (links.after_step s small)) (sym e) r.1,
+    )
+
+-- ---- one session
+
+-- the history of its link since it was connected
+abbrev pub since : Made → Connection → ℕ → LinkHistory
+since made c k =
+    parts c.history.session.link c.history.used c.history.gone (read_since made c)
+    (delivered_since c) k
+
+-- what stays
+pub record Stays (made : Made) (c : Connection) : Type 0 where
+  pub holds : Holds made.options.form made.options.config.max c.history
+  pub read
+      : messages_of made.options.form made.options.config.max c.history.input
+      ≡ messages_of made.options.form made.options.config.max c.input_before ++ read_since made c
+  pub delivered : mail_in c.history.shown ≡ mail_in c.shown_before ++ delivered_since c
+
+-- a call of a session leads its link from one history since it was connected to the next
+abbrev pub Follows : Made → List LinkStep → Connection → ℕ → Connection → Type 0
+Follows made xs c k next =
+    AreDone xs (since made c k)
+    × ((m : ℕ) × (after_done xs (since made c k) ≡ since made next m))
+    × Stays made next
+
+pub left_out : (a b x : List (List ℕ)) → b ≡ a ++ x → drop (length a) b ≡ x
+left_out a b x e = ap (drop (length a)) e ∙ drop-append_seam a x
+
+-- a call that doesn't connect it
+goes_on : (made : Made) (one : SessionStep) (c : Connection) (k : ℕ)
+    → SessionDoes one.call c.history.used c.history.session one.session → Stays made c
+    → AreCalm (link_steps_of one.call c.history.session one.session.link)
+    → Follows made (link_steps_of one.call c.history.session one.session.link) c k
+    (record c { history = after_session_step one c.history })
+goes_on made one c k does stays is_calm =
+    let f = made.options.form in
+    let max = made.options.config.max in
+    let xs = link_steps_of one.call c.history.session one.session.link in
+    let next : Connection = record c { history = after_session_step one c.history } in
+    let before = messages_of f max c.input_before in
+    let shown = mail_in c.shown_before in
+    let s = step_leads f max one c.history k does stays.holds in
+    let big = link_history f max c.history k in
+    let e
+    : big
+    ≡ parts c.history.session.link c.history.used c.history.gone
+    (before ++ read_since made c) (shown ++ delivered_since c) k =
+    λ i. parts c.history.session.link c.history.used c.history.gone (stays.read i)
+    (stays.delivered i) k in
+    let r =
+    shift xs c.history.session.link c.history.used c.history.gone before (read_since made c) shown
+    (delivered_since c) k k (subst (IsHistory xs) e s.0.0) in
+    let moved = subst (λ l. Shifts xs before shown l (since made c k)) (sym e) r.1 in
+    let small = since made c k in
+    let x = moved.0 in
+    let y = moved.1 in
+    let m = moved.2 in
+    let after
+    : after_history xs small
+    ≡ parts next.history.session.link next.history.used next.history.gone x y m =
+    moved.3
+    ∙ ap (λ (l : LinkHistory). parts l.link l.used l.gone x y m) s.0.1.1 in
+    let read : messages_of f max next.history.input ≡ before ++ x =
+    ap (λ (l : LinkHistory). l.accepted) (sym s.0.1.1) ∙ moved.4 in
+    let taken : mail_in next.history.shown ≡ shown ++ y =
+    ap (λ (l : LinkHistory). l.taken) (sym s.0.1.1) ∙ moved.5 in
+    let x_is = left_out before (messages_of f max next.history.input) x read in
+    let y_is = left_out shown (mail_in next.history.shown) y taken in
+    let calls = calm xs small is_calm r.0 in (
+      calls.0,
+      (
+        m,
+        calls.1
+            ∙ after
+            ∙ (λ i. parts next.history.session.link next.history.used next.history.gone
+            (sym x_is i) (sym y_is i) m),
+      ),
+      record {
+        holds = s.1;
+        read = read ∙ ap (λ z. before ++ z) (sym x_is);
+        delivered = taken ∙ ap (λ z. shown ++ z) (sym y_is);
+      },
+    )
+
+all_left_out : (a : List (List ℕ)) → drop (length a) a ≡ []
+all_left_out a = left_out a a [] (sym (append-nil a))
+
+none_since : (a : List (List ℕ)) → a ≡ a ++ drop (length a) a
+none_since a = sym (append-nil a) ∙ ap (λ x. a ++ x) (sym (all_left_out a))
+
+-- a call that does
+begins_anew : (made : Made) (new : SessionView) (c : Connection) (k : ℕ)
+    → new ≡ after_connected new.link.station.line c.history.session
+    → Stays made c
+    → Follows made (link_steps_of Connected c.history.session new.link) c k
+    (after_step (record { call = Connected; session = new }) c)
+unfolding after_done
+begins_anew made new c k is stays =
+    let f = made.options.form in
+    let max = made.options.config.max in
+    let h = c.history in
+    let b = starts h.session || h.session.has_line in
+    let same = connected_is h.session new stays.holds.of_data is in
+    let course = course_connected h.session in
+    let input = messages_of f max (h.input ++ []) in
+    let mail = mail_in (h.shown ++ []) in (
+      (ap (λ (x : SessionView). x.link) same, tt),
+      (
+        0,
+        λ i. parts new.link [] [] (sym (all_left_out input) i) (sym (all_left_out mail) i) 0,
+      ),
+      record {
+        holds =
+            link_only f max (with_line b course h) new [] []
+            (holds_with_line f max b course h stays.holds)
+            (same_link (with_line b course h).session new
+            (anew new.link.station.line h.session.link) same)
+            (ap (λ (x : SessionView). x.link.station.core.limits.longest) same);
+        read = none_since input;
+        delivered = none_since mail;
+      },
+    )
+
+pub follows : (made : Made) (one : SessionStep) (c : Connection) (k : ℕ)
+    → Does one.call c.history.used c.history.session one.session → Stays made c
+    → Follows made (link_steps_of one.call c.history.session one.session.link) c k
+    (after_step one c)
+follows made one c k does stays = by one.call one.session does
+  where
+    ended : (w : Bool) (new : SessionView)
+        → AreCalm
+        (cond w
+        (offers_of (option_to_list (entry_of_last c.history.session.messages))
+        (message_in (after_last c.history.session.messages)) new.link) [])
+    ended true new =
+        offers_calm (option_to_list (entry_of_last c.history.session.messages))
+        (message_in (after_last c.history.session.messages)) new.link
+    ended false new = tt
+
+    by : (call : SessionCall) (new : SessionView)
+        → Does call c.history.used c.history.session new
+        → Follows made (link_steps_of call c.history.session new.link) c k
+        (after_step (record { call = call; session = new }) c)
+    by (Typed used) new d =
+        goes_on made (record { call = Typed used; session = new }) c k d stays
+        (offers_calm (entries_of_input used c.history.session.messages)
+        (message_in (after_input used c.history.session.messages)) new.link)
+    by InputEnded new d =
+        goes_on made (record { call = InputEnded; session = new }) c k d stays
+        (ended (wants_input c.history.session) new)
+    by Connected new d = begins_anew made new c k d stays
+    by (LineEnded r) new d =
+        goes_on made (record { call = LineEnded r; session = new }) c k d stays (tt, tt)
+    by (Received used) new d =
+        goes_on made (record { call = Received used; session = new }) c k d stays (tt, tt)
+    by (Filled n) new d =
+        goes_on made (record { call = Filled n; session = new }) c k d stays
+        (frames_calm n c.history.session.link)
+    by (LineTook n) new d =
+        goes_on made (record { call = LineTook n; session = new }) c k d stays (tt, tt)
+    by (TimedOut now) new d =
+        goes_on made (record { call = TimedOut now; session = new }) c k d stays (tt, tt)
+    by TimePassed new d = goes_on made (record { call = TimePassed; session = new }) c k d stays tt
+    by (Delivered true) new d =
+        goes_on made (record { call = Delivered true; session = new }) c k d stays (tt, tt)
+    by (Delivered false) new d =
+        goes_on made (record { call = Delivered false; session = new }) c k d stays tt
+    by (OutputTook n) new d =
+        goes_on made (record { call = OutputTook n; session = new }) c k d stays tt
+    by (Closed left over r) new d =
+        goes_on made (record { call = Closed left over r; session = new }) c k d stays (tt, tt)
+
+-- ---- steps at one end
+
+abbrev CallsThen : End → List LinkStep → List (End × LinkStep) → Links → Links → Type 0
+CallsThen end xs rest q r =
+    AreCallsOfLinks (steps_at_end end xs ++ rest) q
+    × (after_links (steps_at_end end xs ++ rest) q ≡ after_links rest r)
+
+then_a : (xs : List LinkStep) (rest : List (End × LinkStep)) (q : Links) → AreDone xs q.a
+    → AreCallsOfLinks rest (record { a = after_done xs q.a; b = q.b })
+    → CallsThen A xs rest q (record { a = after_done xs q.a; b = q.b })
+unfolding after_done after_links
+then_a [] rest q h more = (more, refl)
+then_a (x ∷ xs) rest q h more =
+    let r = then_a xs rest (record { a = history_by x.call x q.a; b = q.b }) h.1 more in
+    ((h.0, r.0), r.1)
+
+then_b : (xs : List LinkStep) (rest : List (End × LinkStep)) (q : Links) → AreDone xs q.b
+    → AreCallsOfLinks rest (record { a = q.a; b = after_done xs q.b })
+    → CallsThen B xs rest q (record { a = q.a; b = after_done xs q.b })
+unfolding after_done after_links
+then_b [] rest q h more = (more, refl)
+then_b (x ∷ xs) rest q h more =
+    let r = then_b xs rest (record { a = q.a; b = history_by x.call x q.b }) h.1 more in
+    ((h.0, r.0), r.1)
+
+-- ---- two sessions
+
+abbrev pub both : Made → Made → Connections → ℕ → ℕ → Links
+both first second p j k = record { a = since first p.a j; b = since second p.b k }
+
+abbrev Keeps : Made → Made → List (End × SessionStep) → Connections → ℕ → ℕ → Type 0
+Keeps first second steps p j k =
+    AreCallsOfLinks (link_steps steps p) (both first second p j k)
+    × ((m : ℕ) × (n : ℕ)
+    × (after_links (link_steps steps p) (both first second p j k)
+    ≡ both first second (after_steps steps p) m n))
+    × Stays first (after_steps steps p).a
+    × Stays second (after_steps steps p).b
+
+abbrev StepKeeps : Made → Made → End → SessionStep → List (End × SessionStep) → Connections → ℕ → ℕ
+    → Type 0
+StepKeeps first second end one rest p j k =
+    AreCallsOfLinks
+    (steps_at_end end
+    (link_steps_of one.call (at end p).history.session one.session.link)
+    ++ link_steps rest (after_step_at end one p)) (both first second p j k)
+    × ((m : ℕ) × (n : ℕ)
+    × (after_links
+    (steps_at_end end
+    (link_steps_of one.call (at end p).history.session one.session.link)
+    ++ link_steps rest (after_step_at end one p)) (both first second p j k)
+    ≡ both first second (after_steps rest (after_step_at end one p)) m n))
+    × Stays first (after_steps rest (after_step_at end one p)).a
+    × Stays second (after_steps rest (after_step_at end one p)).b
+
+keeps_steps : (first second : Made) (steps : List (End × SessionStep)) (p : Connections) (j k : ℕ)
+    → AreCalls steps p → Stays first p.a → Stays second p.b → Keeps first second steps p j k
+unfolding link_steps after_links after_steps
+keeps_steps first second [] p j k does sa sb = (tt, (j, k, refl), sa, sb)
+keeps_steps first second (step ∷ rest) p j k does sa sb =
+    by step.0 step.1 does.0
+    (λ m n. keeps_steps first second rest (after_step_at step.0 step.1 p) m n does.1)
+  where
+    by : (end : End) (one : SessionStep)
+        → Does one.call (at end p).history.used (at end p).history.session one.session
+        → ((m n : ℕ) → Stays first (after_step_at end one p).a
+        → Stays second (after_step_at end one p).b
+        → Keeps first second rest (after_step_at end one p) m n)
+        → StepKeeps first second end one rest p j k
+    by A one d more =
+        let s = follows first one p.a j d sa in
+        let xs = link_steps_of one.call p.a.history.session one.session.link in
+        let ys = link_steps rest (after_step_at A one p) in
+        let q = both first second p j k in
+        let r = more s.1.0 k s.2 sb in
+        let t = then_a xs ys q s.0
+        (subst (λ l. AreCallsOfLinks ys (record { a = l; b = q.b })) (sym s.1.1) r.0) in (
+          t.0,
+          (
+            r.1.0,
+            r.1.1,
+            t.1 ∙ ap (λ l. after_links ys (record { a = l; b = q.b })) s.1.1 ∙ r.1.2,
+          ),
+          r.2,
+          r.3,
+        )
+    by B one d more =
+        let s = follows second one p.b k d sb in
+        let xs = link_steps_of one.call p.b.history.session one.session.link in
+        let ys = link_steps rest (after_step_at B one p) in
+        let q = both first second p j k in
+        let r = more j s.1.0 sa s.2 in
+        let t = then_b xs ys q s.0
+        (subst (λ l. AreCallsOfLinks ys (record { a = q.a; b = l })) (sym s.1.1) r.0) in (
+          t.0,
+          (
+            r.1.0,
+            r.1.1,
+            t.1 ∙ ap (λ l. after_links ys (record { a = q.a; b = l })) s.1.1 ∙ r.1.2,
+          ),
+          r.2,
+          r.3,
+        )
+
+-- ---- its output
+
+writes_anew : (made : Made) (c : Connection) → Stays made c → WritesAnew made c
+writes_anew made c s is =
+    s.holds.text
+    ∙ ap (λ f. texts_of f c.history.shown) is
+    ∙ only_mail c.history.shown
+    ∙ ap in_binary s.delivered
+    ∙ binary_more (mail_in c.shown_before) (delivered_since c)
+
+-- ---- from two new sessions
+
+pub stays_first : (made : Made) → Stays made (first_connection made)
+stays_first made = record {
+  holds = (begins made.options made.kind made.line made.of_data).0;
+  read = none_since (messages_of made.options.form made.options.config.max []);
+  delivered = none_since (mail_in []);
+}
+
+-- whatever was done, the output is the text of what was delivered and reported
+pub stays_all : (made : Made) (steps : List SessionStep) (c : Connection)
+    → connections.AreDone steps c → Stays made c → Stays made (after_all steps c)
+unfolding after_all
+stays_all made [] c does stays = stays
+stays_all made (step ∷ rest) c does stays =
+    stays_all made rest (after_step step c) does.1 (follows made step c 0 does.0 stays).2
+
+pub text_of_all : (made : Made) (steps : List SessionStep)
+    → connections.AreDone steps (first_connection made)
+    → IsText made.options.form
+    (after_all steps (first_connection made)).history.written
+    (after_all steps (first_connection made)).history.session.output
+    (after_all steps (first_connection made)).history.shown
+text_of_all made steps does =
+    (stays_all made steps (first_connection made) does (stays_first made)).holds.text
+
+pub since_first : (made : Made)
+    → links.new_history made.options.config made.options.timer_ms made.line
+    ≡ since made (first_connection made) 0
+since_first made =
+    (begins made.options made.kind made.line made.of_data).1
+    ∙ (λ i. parts (first_connection made).history.session.link [] []
+    (e (messages_of made.options.form made.options.config.max []) (ap (λ (l : LinkHistory). l.accepted) begun) i)
+    (e (mail_in []) (ap (λ (l : LinkHistory). l.taken) begun) i) 0)
+  where
+    begun
+        : link_history made.options.form made.options.config.max (first_connection made).history 0
+        ≡ links.new_history made.options.config made.options.timer_ms made.line
+    begun = sym (begins made.options made.kind made.line made.of_data).1
+
+    e : (a : List (List ℕ)) → a ≡ [] → a ≡ drop (length a) a
+    e a none = none ∙ sym (all_left_out a)
+
+-- If nothing is left to be acknowledged, the other has received all.
+abbrev pub AcknowledgedAnew : Made → Connection → Connection → Type 0
+AcknowledgedAnew made giver taker =
+    giver.history.session.link.station.core.station.out ≡ []
+    → delivered_since taker ++ undelivered taker.history ≡ read_since made giver
+
+module _ (first second : Made) (steps : List (End × SessionStep))
+    (f : first_refusal first.options.config ≡ None) (g : first_refusal second.options.config ≡ None)
+    (does : AreCalls steps (first_connections first second))
+    (honest : (run_station_calls
+    (calls_of_links (link_steps steps (first_connections first second)) (links_made first second))
+    (new_pair first.options.config second.options.config)).honest ≡ true)
+    (clean : is_clean
+    (run_station_calls
+    (calls_of_links (link_steps steps (first_connections first second)) (links_made first second))
+    (new_pair first.options.config second.options.config)) ≡ true) where
+  made_links : links_made first second ≡ both first second (first_connections first second) 0 0
+  made_links = λ i. record { a = since_first first i; b = since_first second i }
+
+  keeps : Keeps first second steps (first_connections first second) 0 0
+  keeps =
+      keeps_steps first second steps (first_connections first second) 0 0 does (stays_first first)
+      (stays_first second)
+
+  are : AreCallsOfLinks (link_steps steps (first_connections first second))
+      (links_made first second)
+  are =
+      subst (AreCallsOfLinks (link_steps steps (first_connections first second))) (sym made_links)
+      keeps.0
+
+  done : after_links (link_steps steps (first_connections first second))
+      (links_made first second)
+      ≡ both first second (after_steps steps (first_connections first second)) keeps.1.0
+      keeps.1.1
+  done =
+      ap (after_links (link_steps steps (first_connections first second))) made_links
+      ∙ keeps.1.2
+
+  first_of : {giver taker : LinkHistory} → LinkReaches giver taker
+      → IsPrefixOf taker.taken giver.accepted
+  first_of {giver} {taker} r =
+      let inbox = taker.link.station.core.station.inbox in (
+        inbox ++ r.order.0,
+        sym (append_assoc taker.taken inbox r.order.0) ∙ r.order.1,
+      )
+
+  pub pipes_anew_b : PipesAnew first (after_steps steps (first_connections first second)).a
+      (after_steps steps (first_connections first second)).b
+  pipes_anew_b =
+      first_of
+      (subst (λ q. LinkReaches q.a q.b) done
+      (anew-to-b first.options.config second.options.config first.options.timer_ms second.options.timer_ms first.line
+      second.line (link_steps steps (first_connections first second)) f g are honest clean))
+
+  pub pipes_anew_a : PipesAnew second (after_steps steps (first_connections first second)).b
+      (after_steps steps (first_connections first second)).a
+  pipes_anew_a =
+      first_of
+      (subst (λ q. LinkReaches q.b q.a) done
+      (anew-to-a first.options.config second.options.config first.options.timer_ms second.options.timer_ms first.line
+      second.line (link_steps steps (first_connections first second)) f g are honest clean))
+
+  pub pipes_all_anew_b
+      : PipesAllAnew first (after_steps steps (first_connections first second)).a
+      (after_steps steps (first_connections first second)).b
+  pipes_all_anew_b over =
+      let s = (after_steps steps (first_connections first second)).a.history.session in
+      subst (λ (q : Links). delivered q.a.link ≡ true → received q.b ≡ q.a.accepted) done
+      (anew-all-to-b first.options.config second.options.config first.options.timer_ms second.options.timer_ms first.line
+      second.line (link_steps steps (first_connections first second)) f g are honest clean)
+      (last_true s.is_read (delivered s.link) over)
+
+  pub pipes_all_anew_a
+      : PipesAllAnew second (after_steps steps (first_connections first second)).b
+      (after_steps steps (first_connections first second)).a
+  pipes_all_anew_a over =
+      let s = (after_steps steps (first_connections first second)).b.history.session in
+      subst (λ (q : Links). delivered q.b.link ≡ true → received q.a ≡ q.b.accepted) done
+      (anew-all-to-a first.options.config second.options.config first.options.timer_ms second.options.timer_ms first.line
+      second.line (link_steps steps (first_connections first second)) f g are honest clean)
+      (last_true s.is_read (delivered s.link) over)
+
+  pub acknowledged_anew_b
+      : AcknowledgedAnew first (after_steps steps (first_connections first second)).a
+      (after_steps steps (first_connections first second)).b
+  acknowledged_anew_b none =
+      subst (λ (q : Links). NoneOut q.a → received q.b ≡ q.a.accepted) done
+      (anew-acknowledged-to-b first.options.config second.options.config first.options.timer_ms
+      second.options.timer_ms first.line second.line
+      (link_steps steps (first_connections first second)) f g are honest clean)
+      (ap length none)
+
+  pub acknowledged_anew_a
+      : AcknowledgedAnew second (after_steps steps (first_connections first second)).b
+      (after_steps steps (first_connections first second)).a
+  acknowledged_anew_a none =
+      subst (λ (q : Links). NoneOut q.b → received q.a ≡ q.b.accepted) done
+      (anew-acknowledged-to-a first.options.config second.options.config first.options.timer_ms
+      second.options.timer_ms first.line second.line
+      (link_steps steps (first_connections first second)) f g are honest clean)
+      (ap length none)
+
+  pub closed_anew_b
+      : PipesClosedAnew first (after_steps steps (first_connections first second)).a
+      (after_steps steps (first_connections first second)).b
+  closed_anew_b left over r closed is none =
+      let s = (after_steps steps (first_connections first second)).a.history.session in
+      let nothing = closed-none left over r s closed is none
+      (counts-anew-a steps (first_connections first second) does (new-counts first)) in
+      (acknowledged_anew_b nothing.0, nothing.1, nothing.2)
+
+  pub closed_anew_a
+      : PipesClosedAnew second (after_steps steps (first_connections first second)).b
+      (after_steps steps (first_connections first second)).a
+  closed_anew_a left over r closed is none =
+      let s = (after_steps steps (first_connections first second)).b.history.session in
+      let nothing = closed-none left over r s closed is none
+      (counts-anew-b steps (first_connections first second) does (new-counts second)) in
+      (acknowledged_anew_a nothing.0, nothing.1, nothing.2)
+
+  -- what stays of each
+  pub stays_a : Stays first (after_steps steps (first_connections first second)).a
+  stays_a = keeps.2
+
+  pub stays_b : Stays second (after_steps steps (first_connections first second)).b
+  stays_b = keeps.3
+
+  pub writes_anew_a : WritesAnew first (after_steps steps (first_connections first second)).a
+  writes_anew_a =
+      writes_anew first (after_steps steps (first_connections first second)).a keeps.2
+
+  pub writes_anew_b : WritesAnew second (after_steps steps (first_connections first second)).b
+  writes_anew_b =
+      writes_anew second (after_steps steps (first_connections first second)).b keeps.3

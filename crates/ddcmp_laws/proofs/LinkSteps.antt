@@ -1,0 +1,439 @@
+-- The calls of a session are calls of its link, and the histories of both keep together.
+use Rattle.std.proofs.Common.{◌≡◌, ℕ, Bool, true, false, cond, List, [], ◌∷◌}
+use Rattle.std.proofs.Common.{◌++◌, map, take, refl, sym, ◌∙◌, ap}
+use Rattle.std.proofs.Common.{append-nil, option_to_list}
+use Rattle.std.specs.Prelude.{◌||◌}
+use Rattle.ddcmp_frame.specs.Reader.{ReaderView}
+use Rattle.ddcmp_window.specs.Store.{first_message}
+use Rattle.ddcmp_input.specs.declared.entry.Entry.{Entry}
+use Rattle.ddcmp_input.specs.HexLines as hex
+use Rattle.ddcmp_input.specs.InBinary as binary
+use Rattle.ddcmp_input.specs.InBinary.{Fits}
+use Rattle.ddcmp_input.specs.InLines as lines
+use Rattle.ddcmp_input.specs.Lengths as lengths
+use Rattle.ddcmp_proto.specs.Bytes.{notices_of_piece}
+use Rattle.ddcmp_station.specs.Linking.{LinkView}
+use Rattle.ddcmp_station.specs.Linking.{after_frames, after_wake, after_sent}
+use Rattle.ddcmp_station.specs.Linking.{anew}
+use Rattle.ddcmp_session.specs.declared.messages.Form.{Form}
+use Rattle.ddcmp_session.specs.declared.messages.Form.TheVariants as form
+use Rattle.ddcmp_session.specs.declared.messages.Messages.{Messages}
+use Rattle.ddcmp_session.specs.Messages.{messages_begun, message_in, after_input, entries_of_input}
+use Rattle.ddcmp_session.specs.Messages.{after_last, entry_of_last}
+use Rattle.ddcmp_session.specs.Session.{SessionView, form_of, wants_input}
+use Rattle.ddcmp_session.specs.Session.{after_last_line, after_unfinished, after_input_end}
+use Rattle.ddcmp_session.specs.declared.course.Course.{Course}
+use Rattle.ddcmp_session.specs.declared.options.LineKind.{LineKind}
+use Rattle.ddcmp_session.specs.declared.options.Options.{Options}
+use Rattle.ddcmp_session.specs.Course.{after_connecting, lost_more}
+use Rattle.ddcmp_session.specs.Session.{lost_by_end, after_timeout, after_connected, anew_in}
+use Rattle.ddcmp_session.specs.Session.{after_connecting_in, lost_by_start, starts}
+use Rattle.ddcmp_session.specs.Text.{reported_lost, mail_text, notices_text}
+use Rattle.ddcmp_laws.specs.Links.{LinkCall, BeginsAnew, Halts, Wakes, IsSent, Feeds}
+use Rattle.ddcmp_laws.specs.Links.{Takes, HasDone, HasFed, new_history}
+use Rattle.ddcmp_laws.specs.Links.{after_step, after_history}
+use Rattle.ddcmp_laws.specs.Links.{offered_in}
+use Rattle.ddcmp_session.specs.Calls.{SessionCall, Typed, InputEnded, Connected, LineEnded}
+use Rattle.ddcmp_session.specs.Calls.{Received, Filled, LineTook, TimedOut, TimePassed, Delivered}
+use Rattle.ddcmp_session.specs.Calls.{OutputTook}
+use Rattle.ddcmp_session.specs.Calls.{Closed, HasReceived, HasDelivered, HasLeft, HasClosed}
+use Rattle.ddcmp_session.specs.Calls.{SessionDoes, Shown, Mail, Reports, SessionHistory}
+use Rattle.ddcmp_session.specs.Calls.{new_session, SessionStep, end_in, losses}
+use Rattle.ddcmp_laws.specs.Sessions.{messages_of, got_in, mail_in, texts_of, link_step}
+use Rattle.ddcmp_laws.specs.Sessions.{offers_of, frames_put}
+use Rattle.ddcmp_laws.proofs.Texts.{mail_more, no_mail, mail_is, nothing_lost, notices_are}
+use Rattle.ddcmp_laws.proofs.Texts.{mail_text_is, lost_text_is, no_text, IsText, writes}
+use Rattle.ddcmp_laws.proofs.Texts.{took}
+use Rattle.ddcmp_laws.proofs.Limits.{fed_longest, frames_longest, longest_of, wake_longest}
+use Rattle.ddcmp_laws.proofs.Holding.{Holds, Leads, StepLeads, frames_done, frames_offer_none}
+use Rattle.ddcmp_laws.proofs.Holding.{holds_on, link_history, no_call, no_input, no_offer, one_call}
+use Rattle.ddcmp_laws.proofs.Holding.{parts, quiet_mail, quiet_mail_more, session_parts, text_on}
+use Rattle.ddcmp_laws.proofs.Reading.{HasRead, ended_reads, offered_is, read_holds, read_leads}
+use Rattle.ddcmp_laws.proofs.Reading.{typed_reads}
+
+-- ---- each call
+
+pub read_step : {told : Bool} (f : Form) (max : ℕ) (h : SessionHistory) (used : List ℕ) (es : List Entry)
+    (message : List ℕ) (new : SessionView) (k : ℕ) → Holds f max h
+    → HasRead f max h used es message new
+    → Leads (offers_of es message new.link) (link_history f max h k) f max
+    (session_parts told new (h.used ++ []) (h.gone ++ []) (h.input ++ used) (h.written ++ [])
+    (h.shown ++ []))
+    × Holds f max
+    (session_parts told new (h.used ++ []) (h.gone ++ []) (h.input ++ used) (h.written ++ [])
+    (h.shown ++ []))
+    × (messages_of f max (h.input ++ used)
+    ≡ messages_of f max h.input ++ offered_in (offers_of es message new.link))
+read_step {told} f max h used es message new k holds r = (
+  read_leads f max h used es message new k holds r,
+  read_holds f max h used es message new holds r,
+  r.more ∙ ap (λ ms. messages_of f max h.input ++ ms) (sym (offered_is es message new.link)),
+)
+
+pub ended_step : (f : Form) (max : ℕ) (h : SessionHistory) (new : SessionView) (k : ℕ)
+    → Holds f max h
+    → new ≡ after_input_end h.session
+    → StepLeads f max (record { call = InputEnded; session = new }) h k
+unfolding offered_in
+ended_step f max h new k holds e = by (wants_input h.session) refl e
+  where
+    m : Messages
+    m = h.session.messages
+
+    by : (w : Bool) → wants_input h.session ≡ w
+        → new ≡ cond w (after_unfinished (after_last_line h.session)) h.session
+        → Leads
+        (cond w
+        (offers_of (option_to_list (entry_of_last h.session.messages))
+        (message_in (after_last h.session.messages)) new.link) []) (link_history f max h k) f max
+        (session_parts (w || h.is_told) new (h.used ++ []) (h.gone ++ [])
+        (h.input ++ cond w (end_in (form_of h.session.messages)) []) (h.written ++ [])
+        (h.shown ++ []))
+        × Holds f max
+        (session_parts (w || h.is_told) new (h.used ++ []) (h.gone ++ [])
+        (h.input ++ cond w (end_in (form_of h.session.messages)) []) (h.written ++ [])
+        (h.shown ++ []))
+        × (messages_of f max (h.input ++ cond w (end_in (form_of h.session.messages)) [])
+        ≡ messages_of f max h.input
+        ++ offered_in
+        (cond w
+        (offers_of (option_to_list (entry_of_last h.session.messages))
+        (message_in (after_last h.session.messages)) new.link) []))
+    by true wants is =
+        read_step f max h (end_in (form_of h.session.messages))
+        (option_to_list (entry_of_last h.session.messages))
+        (message_in (after_last h.session.messages)) new k holds
+        (ended_reads f max h new holds wants is)
+    by false wants is = (
+      no_call f max h new k (h.written ++ []) (h.shown ++ []) (ap (λ (x : SessionView). x.link) is)
+          (quiet_mail h.shown),
+      holds_on f max h new (h.used ++ []) (h.gone ++ []) (h.written ++ []) (h.shown ++ []) holds
+          (ap (λ (x : SessionView). x.messages) is) (ap (λ (x : SessionView). x.is_read) is)
+          (ap (λ (x : SessionView). longest_of x.link) is)
+          (text_on f max h new holds (ap (λ (x : SessionView). x.output) is))
+          (ap (λ (x : SessionView). x.options.maintenance) is),
+      no_offer f max h.input [] refl,
+    )
+
+-- a call of the link that leaves all but the link
+pub link_only : {told : Bool} (f : Form) (max : ℕ) (h : SessionHistory) (new : SessionView) (used gone : List ℕ)
+    → Holds f max h → new ≡ record h.session { link = new.link }
+    → longest_of new.link ≡ longest_of h.session.link
+    → Holds f max
+    (session_parts told new used gone (h.input ++ []) (h.written ++ []) (h.shown ++ []))
+link_only {told} f max h new used gone k is longest =
+    holds_on f max h new used gone (h.written ++ []) (h.shown ++ []) k
+    (ap (λ (x : SessionView). x.messages) is) (ap (λ (x : SessionView). x.is_read) is) longest
+    (text_on f max h new k (ap (λ (x : SessionView). x.output) is))
+    (ap (λ (x : SessionView). x.options.maintenance) is)
+
+pub same_link : (old new : SessionView) (d : LinkView) → new ≡ record old { link = d }
+    → new ≡ record old { link = new.link }
+same_link old new d e =
+    e ∙ ap (λ x. record old { link = x }) (sym (ap (λ (x : SessionView). x.link) e))
+
+-- a call of the link and no text
+pub link_step_leads : {told : Bool} (f : Form) (max : ℕ) (h : SessionHistory) (new : SessionView) (k : ℕ)
+    (call : LinkCall) (used gone : List ℕ) (d : LinkView) → Holds f max h
+    → new ≡ record h.session { link = d } → HasDone call h.used h.session.link new.link
+    → longest_of d ≡ longest_of h.session.link
+    → after_history (link_step call new.link ∷ []) (link_history f max h k)
+    ≡ parts new.link used gone (messages_of f max h.input ++ []) (mail_in h.shown ++ [])
+    (after_step (link_step call new.link) (link_history f max h k)).acknowledged
+    → offered_in (link_step call new.link ∷ []) ≡ []
+    → Leads (link_step call new.link ∷ []) (link_history f max h k) f max
+    (session_parts told new used gone (h.input ++ []) (h.written ++ []) (h.shown ++ []))
+    × Holds f max (session_parts told new used gone (h.input ++ []) (h.written ++ []) (h.shown ++ []))
+    × (messages_of f max (h.input ++ [])
+    ≡ messages_of f max h.input ++ offered_in (link_step call new.link ∷ []))
+link_step_leads {told} f max h new k call used gone d holds is done longest after quiet = (
+  one_call f max h new k call used gone (h.written ++ []) (h.shown ++ []) [] done after
+      (quiet_mail_more h.shown),
+  link_only f max h new used gone holds (same_link h.session new d is)
+      (ap (λ (x : SessionView). longest_of x.link) is ∙ longest),
+  no_offer f max h.input (link_step call new.link ∷ []) quiet,
+)
+
+pub filled_step : (f : Form) (max : ℕ) (h : SessionHistory) (new : SessionView) (k frames : ℕ)
+    → Holds f max h → new ≡ record h.session { link = after_frames frames h.session.link }
+    → StepLeads f max (record { call = Filled frames; session = new }) h k
+filled_step f max h new k frames holds is =
+    let r = frames_done frames (link_history f max h k) in (
+      (
+        r.0,
+        (
+          k,
+          r.1
+              ∙ (λ i. parts (sym (ap (λ (x : SessionView). x.link) is) i)
+              (sym (append-nil h.used) i) (sym (append-nil h.gone) i)
+              (sym (no_input f max h.input) i) (sym (quiet_mail h.shown) i) k),
+        ),
+      ),
+      link_only f max h new (h.used ++ []) (h.gone ++ []) holds
+          (same_link h.session new (after_frames frames h.session.link) is)
+          (ap (λ (x : SessionView). longest_of x.link) is ∙ frames_longest frames h.session.link),
+      no_offer f max h.input (frames_put frames h.session.link)
+          (frames_offer_none frames h.session.link),
+    )
+
+-- what a session received, its link was fed
+fed_of : (text used : List ℕ) (old new : SessionView) → HasReceived text used old new
+    → HasFed text used old.link new.link
+fed_of text used old new r = record { core = r.core; syn = r.syn; stays = r.link }
+
+pub received_step : (f : Form) (max : ℕ) (h : SessionHistory) (new : SessionView) (k : ℕ)
+    (used : List ℕ) → Holds f max h → HasReceived h.used used h.session new
+    → StepLeads f max (record { call = Received used; session = new }) h k
+unfolding after_history offered_in
+received_step f max h new k used holds r =
+    let notices = notices_of_piece h.used used h.session.link.station.core in
+    let shown = h.shown ++ map Reports notices in
+    let mail : mail_in shown ≡ mail_in h.shown ++ [] =
+    mail_more h.shown (map Reports notices) ∙ ap (λ ms. mail_in h.shown ++ ms) (no_mail notices)
+    in (
+      one_call f max h new k (Feeds used) (h.used ++ used) (h.gone ++ []) (h.written ++ []) shown []
+          (fed_of h.used used h.session new r) refl mail,
+      holds_on f max h new (h.used ++ used) (h.gone ++ []) (h.written ++ []) shown holds
+          (ap (λ (x : SessionView). x.messages) r.stays) (ap (λ (x : SessionView). x.is_read)
+          r.stays)
+          (fed_longest h.used used h.session.link new.link (fed_of h.used used h.session new r))
+          (writes f h.written h.shown (map Reports notices) h.session.output new.output
+          (notices_text (form_of h.session.messages) notices) holds.text r.wrote
+          (ap (λ g. notices_text g notices) holds.kind ∙ notices_are f notices))
+          (ap (λ (x : SessionView). x.options.maintenance) r.stays),
+      no_offer f max h.input (link_step (Feeds used) new.link ∷ []) refl,
+    )
+
+pub delivered_step : (f : Form) (max : ℕ) (h : SessionHistory) (new : SessionView) (k : ℕ)
+    → Holds f max h → HasDelivered h.session new
+    → StepLeads f max (record { call = Delivered true; session = new }) h k
+unfolding after_history offered_in
+delivered_step f max h new k holds r =
+    let first = first_message h.session.link.station.core.station.inbox in
+    let messages = option_to_list first in
+    let shown = h.shown ++ map Mail messages in
+    let mail : mail_in shown ≡ mail_in h.shown ++ messages =
+    mail_more h.shown (map Mail messages) ∙ ap (λ ms. mail_in h.shown ++ ms) (mail_is messages) in (
+      one_call f max h new k Takes (h.used ++ []) (h.gone ++ []) (h.written ++ []) shown messages
+          r.link refl mail,
+      holds_on f max h new (h.used ++ []) (h.gone ++ []) (h.written ++ []) shown holds
+          (ap (λ (x : SessionView). x.messages) r.stays) (ap (λ (x : SessionView). x.is_read)
+          r.stays)
+          (ap longest_of r.link)
+          (writes f h.written h.shown (map Mail messages) h.session.output new.output
+          (mail_text (form_of h.session.messages) r.wrote.0) holds.text r.wrote.2
+          (ap (λ g. mail_text g r.wrote.0) holds.kind ∙ mail_text_is f first r.wrote.0 r.wrote.1))
+          (ap (λ (x : SessionView). x.options.maintenance) r.stays),
+      no_offer f max h.input (link_step Takes new.link ∷ []) refl,
+    )
+
+-- a call that leaves the link
+pub output_step : {told : Bool} (f : Form) (max : ℕ) (h : SessionHistory) (new : SessionView) (k : ℕ)
+    (written : List ℕ) (shown : List Shown) → Holds f max h
+    → new ≡ record h.session { output = new.output } → mail_in shown ≡ mail_in h.shown
+    → IsText f written new.output shown
+    → Leads [] (link_history f max h k) f max
+    (session_parts told new (h.used ++ []) (h.gone ++ []) (h.input ++ []) written shown)
+    × Holds f max (session_parts told new (h.used ++ []) (h.gone ++ []) (h.input ++ []) written shown)
+    × (messages_of f max (h.input ++ []) ≡ messages_of f max h.input ++ offered_in [])
+unfolding offered_in
+output_step {told} f max h new k written shown holds is mail text = (
+  no_call f max h new k written shown (ap (λ (x : SessionView). x.link) is) mail,
+  holds_on f max h new (h.used ++ []) (h.gone ++ []) written shown holds
+      (ap (λ (x : SessionView). x.messages) is) (ap (λ (x : SessionView). x.is_read) is)
+      (ap (λ (x : SessionView). longest_of x.link) is) text
+      (ap (λ (x : SessionView). x.options.maintenance) is),
+  no_offer f max h.input [] refl,
+)
+
+pub left_step : (f : Form) (max : ℕ) (h : SessionHistory) (r : Bool) (new : SessionView) (k : ℕ)
+    → Holds f max h → HasLeft r h.session new
+    → StepLeads f max (record { call = LineEnded r; session = new }) h k
+unfolding after_history offered_in
+left_step f max h r new k holds d =
+    let count = lost_by_end h.session in
+    let lost = losses r h.session in
+    let shown = h.shown ++ lost in
+    let mail : mail_in shown ≡ mail_in h.shown ++ [] =
+    mail_more h.shown lost ∙ ap (λ ms. mail_in h.shown ++ ms) (nothing_lost r h.session)
+    in (
+      one_call f max h new k Halts (h.used ++ []) (h.gone ++ []) (h.written ++ []) shown [] d.link
+          refl mail,
+      holds_on f max h new (h.used ++ []) (h.gone ++ []) (h.written ++ []) shown holds
+          (ap (λ (x : SessionView). x.messages) d.stays) (ap (λ (x : SessionView). x.is_read)
+          d.stays)
+          (ap longest_of d.link)
+          (writes f h.written h.shown lost h.session.output new.output
+          (reported_lost r (form_of h.session.messages) count) holds.text d.wrote
+          (ap (λ g. reported_lost r g count) holds.kind ∙ lost_text_is r f h.session))
+          (ap (λ (x : SessionView). x.options.maintenance) d.stays),
+      no_offer f max h.input (link_step Halts new.link ∷ []) refl,
+    )
+
+pub closed_step : (f : Form) (max : ℕ) (h : SessionHistory) (left : List ℕ) (over r : Bool)
+    (new : SessionView) (k : ℕ) → Holds f max h → HasClosed left over r h.session new
+    → StepLeads f max (record { call = Closed left over r; session = new }) h k
+unfolding after_history offered_in
+closed_step f max h left over r new k holds d =
+    let count = lost_by_end h.session in
+    let lost = losses r h.session in
+    let shown = h.shown ++ lost in
+    let mail : mail_in shown ≡ mail_in h.shown ++ [] =
+    mail_more h.shown lost ∙ ap (λ ms. mail_in h.shown ++ ms) (nothing_lost r h.session)
+    in (
+      one_call f max h new k Halts (h.used ++ []) (h.gone ++ []) (h.written ++ []) shown [] d.link
+          refl mail,
+      record {
+        kind = d.form ∙ holds.kind;
+        longest = ap longest_of d.link ∙ holds.longest;
+        reads = λ going. no (sym (ap (λ (x : SessionView). x.is_read) d.stays) ∙ going);
+        text =
+            writes f h.written h.shown lost h.session.output new.output
+            (reported_lost r (form_of h.session.messages) count) holds.text d.wrote
+            (ap (λ g. reported_lost r g count) holds.kind ∙ lost_text_is r f h.session);
+        of_data = ap (λ (x : SessionView). x.options.maintenance) d.stays ∙ holds.of_data;
+      },
+      no_offer f max h.input (link_step Halts new.link ∷ []) refl,
+    )
+  where
+    no : {P : Type 0} → true ≡ false → P
+    no e = cc
+
+-- a session that has a line, or none, and gets on so
+abbrev pub with_line : Bool → Course → SessionHistory → SessionHistory
+with_line has_line course h =
+    record h { session = record h.session { has_line = has_line; course = course } }
+
+pub holds_with_line : (f : Form) (max : ℕ) (b : Bool) (c : Course) (h : SessionHistory)
+    → Holds f max h → Holds f max (with_line b c h)
+holds_with_line f max b c h k =
+    record {
+      kind = k.kind;
+      longest = k.longest;
+      reads = k.reads;
+      text = k.text;
+      of_data = k.of_data;
+    }
+
+-- a session of data was connected
+abbrev pub course_connected : SessionView → Course
+course_connected s = after_connecting (lost_more (lost_by_start s) s.course)
+
+pub connected_is : (s new : SessionView) → s.options.maintenance ≡ false
+    → new ≡ after_connected new.link.station.line s
+    → new ≡ record s {
+      link = anew new.link.station.line s.link;
+      has_line = starts s || s.has_line;
+      course = course_connected s;
+    }
+connected_is s new of_data e =
+    e
+    ∙ ap
+    (λ b. record s {
+      link = anew_in b new.link.station.line s.link;
+      has_line = starts s || s.has_line;
+      course = after_connecting_in b (starts s) (lost_more (lost_by_start s) s.course);
+    }) of_data
+
+pub step_leads : (f : Form) (max : ℕ) (step : SessionStep) (h : SessionHistory) (k : ℕ)
+    → SessionDoes step.call h.used h.session step.session → Holds f max h
+    → StepLeads f max step h k
+unfolding after_history offered_in
+step_leads f max step h k does holds = by step.call step.session does
+  where
+    by : (call : SessionCall) (new : SessionView) → SessionDoes call h.used h.session new
+        → StepLeads f max (record { call = call; session = new }) h k
+    by (Typed used) new d =
+        read_step f max h used (entries_of_input used h.session.messages)
+        (message_in (after_input used h.session.messages)) new k holds
+        (typed_reads f max h used new holds d)
+    by InputEnded new d = ended_step f max h new k holds d
+    by Connected new d =
+        let b = starts h.session || h.session.has_line in
+        let c = course_connected h.session in
+        let is = connected_is h.session new holds.of_data d.0 in
+        link_step_leads f max (with_line b c h) new k BeginsAnew (h.used ++ []) (h.gone ++ [])
+        (anew new.link.station.line h.session.link) (holds_with_line f max b c h holds) is
+        (ap (λ (x : SessionView). x.link) is, d.1, d.2) refl refl refl
+    by (LineEnded r) new d = left_step f max h r new k holds d
+    by (Received used) new d = received_step f max h new k used holds d
+    by (Filled frames) new d = filled_step f max h new k frames holds d.0
+    by (LineTook n) new d =
+        link_step_leads f max h new k (IsSent n) (h.used ++ [])
+        (h.gone ++ take n h.session.link.outbox.waiting) (after_sent n h.session.link) holds d
+        (ap (λ (x : SessionView). x.link) d) refl refl refl
+    by (TimedOut now) new d =
+        let b = h.session.has_line in
+        let c = (after_timeout now h.session).course in
+        link_step_leads f max (with_line b c h) new k (Wakes now) (h.used ++ []) (h.gone ++ [])
+        (after_wake now h.session.link) (holds_with_line f max b c h holds) d
+        (ap (λ (x : SessionView). x.link) d)
+        (wake_longest now h.session.link) refl refl
+    by TimePassed new d =
+        output_step f max (with_line h.session.has_line new.course h) new k (h.written ++ [])
+        (h.shown ++ []) (holds_with_line f max h.session.has_line new.course h holds)
+        (d.stays
+        ∙ ap (λ q. record h.session { course = new.course; output = q })
+        (sym (ap (λ (x : SessionView). x.output) d.stays)))
+        (quiet_mail h.shown)
+        (took f h.written 0 h.shown h.session.output new.output holds.text
+        (ap (λ (x : SessionView). x.output.waiting) d.stays))
+    by (Delivered true) new d = delivered_step f max h new k holds d
+    by (Delivered false) new d =
+        output_step f max h new k (h.written ++ []) (h.shown ++ []) holds d.stays
+        (quiet_mail h.shown)
+        (writes f h.written h.shown [] h.session.output new.output [] holds.text d.wrote
+        (no_text f))
+    by (OutputTook n) new d =
+        output_step f max h new k (h.written ++ take n h.session.output.waiting) (h.shown ++ [])
+        holds
+        (d
+        ∙ ap (λ q. record h.session { output = q })
+        (sym (ap (λ (x : SessionView). x.output) d)))
+        (quiet_mail h.shown)
+        (took f h.written n h.shown h.session.output new.output holds.text
+        (ap (λ (x : SessionView). x.output.waiting) d))
+    by (Closed left over r) new d = closed_step f max h left over r new k holds d
+
+-- ---- a new session
+
+-- whatever the form of its messages
+begun : Form → Options → LineKind → ReaderView → SessionHistory
+begun f o kind line =
+    let h = new_session o kind line in
+    record h { session = record h.session { messages = messages_begun f o.config.max } }
+
+begun_holds : (f : Form) (o : Options) (kind : LineKind) (line : ReaderView)
+    → o.maintenance ≡ false
+    → Holds f o.config.max (begun f o kind line)
+    × (new_history o.config o.timer_ms line
+    ≡ link_history f o.config.max (begun f o kind line) 0)
+unfolding begun got_in mail_in texts_of binary.told_in lines.told_in lengths.after_bytes hex.after_bytes
+begun_holds form.Digits o kind line of_data = (
+  record {
+    kind = refl;
+    longest = refl;
+    reads = λ going. refl;
+    text = refl;
+    of_data = of_data;
+  },
+  refl,
+)
+begun_holds form.Binary o kind line of_data = (
+  record {
+    kind = refl;
+    longest = refl;
+    reads = λ going. refl;
+    text = refl;
+    of_data = of_data;
+  },
+  refl,
+)
+
+pub begins : (o : Options) (kind : LineKind) (line : ReaderView)
+    → o.maintenance ≡ false
+    → Holds o.form o.config.max (new_session o kind line)
+    × (new_history o.config o.timer_ms line
+    ≡ link_history o.form o.config.max (new_session o kind line) 0)
+unfolding begun
+begins o kind line of_data = begun_holds o.form o kind line of_data

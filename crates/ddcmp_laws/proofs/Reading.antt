@@ -1,0 +1,355 @@
+-- What a session reads of its input.
+use Rattle.std.proofs.Common.{◌≡◌, ℕ, ◌+◌, Bool, true, false, cond, List, [], ◌∷◌}
+use Rattle.std.proofs.Common.{◌++◌, refl, sym, ◌∙◌, ap, subst}
+use Rattle.std.proofs.Common.{append-nil, option_to_list}
+use Rattle.std.specs.Prelude.{◌&&◌, not}
+use Rattle.ddcmp_input.specs.declared.entry.Entry.{Entry}
+use Rattle.ddcmp_input.specs.declared.entry.Entry.TheVariants.{Message, NotHexadecimal, TooLong}
+use Rattle.ddcmp_input.specs.declared.entry.Entry.TheVariants.{Empty}
+use Rattle.ddcmp_input.specs.HexLines as hex
+use Rattle.ddcmp_input.specs.InBinary.{Fits}
+use Rattle.ddcmp_input.specs.Lengths as lengths
+use Rattle.ddcmp_station.specs.Linking.{LinkView}
+use Rattle.ddcmp_station.specs.Linking.{after_offered, takes_message}
+use Rattle.ddcmp_session.specs.declared.messages.Form.{Form}
+use Rattle.ddcmp_session.specs.declared.messages.Messages.{Messages}
+use Rattle.ddcmp_session.specs.declared.messages.Messages.TheVariants.{Digits, Binary}
+use Rattle.ddcmp_session.specs.Messages.{message_in, after_input, entries_of_input}
+use Rattle.ddcmp_session.specs.Messages.{after_last, entry_of_last, is_message_unfinished}
+use Rattle.ddcmp_session.specs.Session.{SessionView, form_of, wants_input, after_entries}
+use Rattle.ddcmp_session.specs.Session.{after_last_line, after_unfinished, after_offered_in}
+use Rattle.ddcmp_session.specs.Session.{takes_in}
+use Rattle.ddcmp_laws.specs.Links.{Offers}
+use Rattle.ddcmp_laws.specs.Links.{after_history}
+use Rattle.ddcmp_laws.specs.Links.{offered_in}
+use Rattle.ddcmp_session.specs.Calls.{CompletesLast, HasTyped, SessionHistory, end_in}
+use Rattle.ddcmp_laws.specs.Sessions.{messages_of, link_step, offers_of}
+use Rattle.ddcmp_session.proofs.InputLaws.{form-stays}
+use Rattle.ddcmp_laws.proofs.Inputs.{read_by, read_more, after_more, read_fits}
+use Rattle.ddcmp_laws.proofs.Inputs.{IfMessage}
+use Rattle.ddcmp_laws.proofs.Limits.{accepts, both, longest_of, offered_longest}
+use Rattle.ddcmp_laws.proofs.Holding.{Holds, Leads, link_history, no_input, parts, quiet_mail}
+use Rattle.ddcmp_laws.proofs.Holding.{quiet_mail_more, same_parts, session_parts, text_on}
+
+-- ---- what is read of the input
+
+-- the link after some entries
+abbrev pub IsEntered : List Entry → List ℕ → LinkView → LinkView → Type 0
+IsEntered (Message ∷ rest) message old new = new ≡ after_offered message old
+IsEntered _ message old new = new ≡ old
+
+abbrev pub Entered : List Entry → SessionView → SessionView → Type 0
+Entered es s new =
+    (new.messages ≡ s.messages)
+    × (new.output ≡ s.output)
+    × IsEntered es (message_in s.messages) s.link new.link
+    × (new.is_read ≡ s.is_read)
+
+pub entered : (es : List Entry) (s new : SessionView) → s.options.maintenance ≡ false
+    → new ≡ after_entries es s → Entered es s new
+entered [] s new of_data e = (
+  ap (λ (x : SessionView). x.messages) e,
+  ap (λ (x : SessionView). x.output) e,
+  ap (λ (x : SessionView). x.link) e,
+  ap (λ (x : SessionView). x.is_read) e,
+)
+entered (Message ∷ rest) s new of_data e = (
+  ap (λ (x : SessionView). x.messages) e,
+  ap (λ (x : SessionView). x.output) e,
+  ap (λ (x : SessionView). x.link) e
+      ∙ ap (λ b. after_offered_in b (message_in s.messages) s.link) of_data,
+  ap (λ (x : SessionView). x.is_read) e,
+)
+entered (NotHexadecimal ∷ rest) s new of_data e = (
+  ap (λ (x : SessionView). x.messages) e,
+  ap (λ (x : SessionView). x.output) e,
+  ap (λ (x : SessionView). x.link) e,
+  ap (λ (x : SessionView). x.is_read) e,
+)
+entered (TooLong ∷ rest) s new of_data e = (
+  ap (λ (x : SessionView). x.messages) e,
+  ap (λ (x : SessionView). x.output) e,
+  ap (λ (x : SessionView). x.link) e,
+  ap (λ (x : SessionView). x.is_read) e,
+)
+entered (Empty ∷ rest) s new of_data e = (
+  ap (λ (x : SessionView). x.messages) e,
+  ap (λ (x : SessionView). x.output) e,
+  ap (λ (x : SessionView). x.link) e,
+  ap (λ (x : SessionView). x.is_read) e,
+)
+
+abbrev SameMode : SessionView → SessionView → Type 0
+SameMode s new = new.options.maintenance ≡ s.options.maintenance
+
+entered_mode : (es : List Entry) (s : SessionView) → SameMode s (after_entries es s)
+entered_mode [] s = refl
+entered_mode (Message ∷ rest) s = refl
+entered_mode (NotHexadecimal ∷ rest) s = refl
+entered_mode (TooLong ∷ rest) s = refl
+entered_mode (Empty ∷ rest) s = refl
+
+unfinished_mode : (s : SessionView) → SameMode s (after_unfinished s)
+unfinished_mode s = by (is_message_unfinished s.messages)
+  where
+    by : (b : Bool) → SameMode s (cond b (record s { was_refused = true }) s)
+    by true = refl
+    by false = refl
+
+-- what reading needs of what was read
+pub record HasRead (f : Form) (max : ℕ) (h : SessionHistory) (used : List ℕ) (es : List Entry)
+    (message : List ℕ) (new : SessionView) : Type 0 where
+  pub messages : new.messages ≡ after_input used h.session.messages
+  pub output : new.output ≡ h.session.output
+  pub mode : new.options.maintenance ≡ h.session.options.maintenance
+  pub going : new.is_read ≡ false → h.session.is_read ≡ false
+  pub link : IsEntered es message h.session.link new.link
+  pub fits : IfMessage es (Fits max message)
+  pub takes : IfMessage es (takes_message h.session.link ≡ true)
+  pub more : messages_of f max (h.input ++ used) ≡ messages_of f max h.input ++ read_by es message
+
+pub entered_longest : (es : List Entry) (message : List ℕ) (old new : LinkView)
+    → IsEntered es message old new → longest_of new ≡ longest_of old
+entered_longest [] message old new e = ap longest_of e
+entered_longest (Message ∷ rest) message old new e = ap longest_of e ∙ offered_longest message old
+entered_longest (NotHexadecimal ∷ rest) message old new e = ap longest_of e
+entered_longest (TooLong ∷ rest) message old new e = ap longest_of e
+entered_longest (Empty ∷ rest) message old new e = ap longest_of e
+
+pub read_holds : {told : Bool} (f : Form) (max : ℕ) (h : SessionHistory) (used : List ℕ) (es : List Entry)
+    (message : List ℕ) (new : SessionView) → Holds f max h → HasRead f max h used es message new
+    → Holds f max
+    (session_parts told new (h.used ++ []) (h.gone ++ []) (h.input ++ used) (h.written ++ [])
+    (h.shown ++ []))
+read_holds {told} f max h used es message new k r = record {
+  kind = ap form_of r.messages ∙ form-stays used h.session.messages ∙ k.kind;
+  longest = entered_longest es message h.session.link new.link r.link ∙ k.longest;
+  reads = λ going. r.messages
+      ∙ after_more f max h.input used h.session.messages (k.reads (r.going going));
+  text = text_on f max h new k r.output;
+  of_data = r.mode ∙ k.of_data;
+}
+
+pub offered_is : (es : List Entry) (message : List ℕ) (d : LinkView)
+    → offered_in (offers_of es message d) ≡ read_by es message
+unfolding offered_in
+offered_is [] message d = refl
+offered_is (Message ∷ rest) message d = refl
+offered_is (NotHexadecimal ∷ rest) message d = refl
+offered_is (TooLong ∷ rest) message d = refl
+offered_is (Empty ∷ rest) message d = refl
+
+abbrev pub after_reading : SessionHistory → List ℕ → SessionView → SessionHistory
+after_reading h used new =
+    session_parts false new (h.used ++ []) (h.gone ++ []) (h.input ++ used) (h.written ++ [])
+    (h.shown ++ [])
+
+pub read_leads : (f : Form) (max : ℕ) (h : SessionHistory) (used : List ℕ) (es : List Entry)
+    (message : List ℕ) (new : SessionView) (k : ℕ) → Holds f max h
+    → HasRead f max h used es message new
+    → Leads (offers_of es message new.link) (link_history f max h k) f max
+    (session_parts false new (h.used ++ []) (h.gone ++ []) (h.input ++ used) (h.written ++ [])
+    (h.shown ++ []))
+unfolding after_history
+read_leads f max h used es message new k holds r =
+    by es r.link r.fits r.takes r.more
+  where
+    quiet : new.link ≡ h.session.link
+        → messages_of f max (h.input ++ used) ≡ messages_of f max h.input ++ []
+        → Leads [] (link_history f max h k) f max (after_reading h used new)
+    quiet e more = (
+      tt,
+      (
+        k,
+        λ i. parts (sym e i) (sym (append-nil h.used) i) (sym (append-nil h.gone) i)
+            (sym (more ∙ append-nil (messages_of f max h.input)) i) (sym (quiet_mail h.shown) i) k,
+      ),
+    )
+
+    offers : new.link ≡ after_offered message h.session.link → Fits max message
+        → takes_message h.session.link ≡ true
+        → messages_of f max (h.input ++ used) ≡ messages_of f max h.input ++ message ∷ []
+        → Leads (link_step (Offers message) new.link ∷ []) (link_history f max h k) f max
+        (after_reading h used new)
+    offers e fit takes more = (
+      (e, tt),
+      (
+        k + 0,
+        same_parts new.link (k + 0) refl refl
+            (ap (λ b. messages_of f max h.input ++ cond b (message ∷ []) [])
+            (accepts h.session.link message takes
+            (subst (λ n. Fits n message) (sym holds.longest) fit))
+            ∙ sym more)
+            (sym (quiet_mail_more h.shown)),
+      ),
+    )
+
+    by : (xs : List Entry) → IsEntered xs message h.session.link new.link
+        → IfMessage xs (Fits max message)
+        → IfMessage xs (takes_message h.session.link ≡ true)
+        → messages_of f max (h.input ++ used) ≡ messages_of f max h.input ++ read_by xs message
+        → Leads (offers_of xs message new.link) (link_history f max h k) f max
+        (after_reading h used new)
+    by [] e fit takes more = quiet e more
+    by (Message ∷ rest) e fit takes more = offers e fit takes more
+    by (NotHexadecimal ∷ rest) e fit takes more = quiet e more
+    by (TooLong ∷ rest) e fit takes more = quiet e more
+    by (Empty ∷ rest) e fit takes more = quiet e more
+
+pub none_read : (m : Messages) → entries_of_input [] m ≡ []
+unfolding lengths.entries_of_bytes hex.entries_of_bytes
+none_read (Digits v) = refl
+none_read (Binary v) = refl
+
+pub if_message : (es : List Entry) {P : Type 0} → P → IfMessage es P
+if_message [] p = tt
+if_message (Message ∷ rest) p = p
+if_message (NotHexadecimal ∷ rest) p = tt
+if_message (TooLong ∷ rest) p = tt
+if_message (Empty ∷ rest) p = tt
+
+-- some bytes were read: what they complete fits, is taken, and is more of the messages
+abbrev pub IsReading : Form → ℕ → SessionHistory → List ℕ → Type 0
+IsReading f max h used =
+    IfMessage (entries_of_input used h.session.messages)
+    (Fits max (message_in (after_input used h.session.messages)))
+    × IfMessage (entries_of_input used h.session.messages) (takes_message h.session.link ≡ true)
+    × (messages_of f max (h.input ++ used)
+    ≡ messages_of f max h.input
+    ++ read_by (entries_of_input used h.session.messages)
+    (message_in (after_input used h.session.messages)))
+
+pub none_reading : (f : Form) (max : ℕ) (h : SessionHistory) → IsReading f max h []
+none_reading f max h =
+    let m = h.session.messages in
+    let none = sym (none_read m) in (
+      subst (λ es. IfMessage es (Fits max (message_in (after_input [] m)))) none tt,
+      subst (λ es. IfMessage es (takes_message h.session.link ≡ true)) none tt,
+      no_input f max h.input
+          ∙ sym (append-nil (messages_of f max h.input))
+          ∙ ap (λ es. messages_of f max h.input ++ read_by es (message_in (after_input [] m))) none,
+    )
+
+pub is_reading : (f : Form) (max : ℕ) (h : SessionHistory) (used : List ℕ) → Holds f max h
+    → (wants_input h.session ≡ false → used ≡ []) → CompletesLast used h.session.messages
+    → IsReading f max h used
+is_reading f max h used k wanted part =
+    by h.session.is_read (takes_message h.session.link)
+    (λ e. wanted (ap (λ b. not h.session.is_read && takes_in b h.session.link) k.of_data ∙ e)) refl
+    refl
+  where
+    by : (is_read takes : Bool) → (not is_read && takes ≡ false → used ≡ [])
+        → h.session.is_read ≡ is_read → takes_message h.session.link ≡ takes
+        → IsReading f max h used
+    by true takes wanted e t = subst (IsReading f max h) (sym (wanted refl)) (none_reading f max h)
+    by false false wanted e t = subst (IsReading f max h) (sym (wanted refl)) (none_reading f max h)
+    by false true wanted e t = (
+      read_fits f max h.input used h.session.messages (k.reads e) part,
+      if_message (entries_of_input used h.session.messages) t,
+      read_more f max h.input used h.session.messages (k.reads e) part,
+    )
+
+pub typed_reads : (f : Form) (max : ℕ) (h : SessionHistory) (used : List ℕ) (new : SessionView)
+    → Holds f max h → HasTyped used h.session new
+    → HasRead f max h used (entries_of_input used h.session.messages)
+    (message_in (after_input used h.session.messages)) new
+typed_reads f max h used new k t =
+    let e = entered (entries_of_input used h.session.messages)
+    (record h.session { messages = after_input used h.session.messages }) new k.of_data t.state in
+    let r = is_reading f max h used k t.wanted t.part in
+    record {
+      messages = e.0;
+      output = e.1;
+      mode =
+          ap (λ (x : SessionView). x.options.maintenance) t.state
+          ∙ entered_mode (entries_of_input used h.session.messages)
+          (record h.session { messages = after_input used h.session.messages });
+      going = λ going. sym e.3 ∙ going;
+      link = e.2;
+      fits = r.0;
+      takes = r.1;
+      more = r.2;
+    }
+
+-- ---- the end of the input
+
+pub record LastReads (m : Messages) : Type 0 where
+  pub state : after_last m ≡ after_input (end_in (form_of m)) m
+  pub entries : option_to_list (entry_of_last m) ≡ entries_of_input (end_in (form_of m)) m
+  pub part : CompletesLast (end_in (form_of m)) m
+
+pub one_byte : (m : Messages) → CompletesLast (10 ∷ []) m
+one_byte m [] byte e = none_read m
+one_byte m (x ∷ []) byte e = cc
+one_byte m (x ∷ y ∷ front) byte e = cc
+
+pub no_byte : (m : Messages) → CompletesLast [] m
+no_byte m [] byte e = cc
+no_byte m (x ∷ front) byte e = cc
+
+pub last_reads : (m : Messages) → LastReads m
+unfolding lengths.entries_of_bytes hex.entries_of_bytes lengths.after_bytes hex.after_bytes
+last_reads (Digits v) = record {
+  state = refl;
+  entries = sym (append-nil (option_to_list (hex.entry_of_byte 10 v)));
+  part = one_byte (Digits v);
+}
+last_reads (Binary v) = record { state = refl; entries = refl; part = no_byte (Binary v) }
+
+abbrev pub KeepsView : SessionView → SessionView → Type 0
+KeepsView s new =
+    (new.messages ≡ s.messages) × (new.output ≡ s.output) × (new.link ≡ s.link)
+
+pub unfinished_keeps : (s : SessionView) → KeepsView s (after_unfinished s)
+unfinished_keeps s = by (is_message_unfinished s.messages)
+  where
+    by : (b : Bool) → KeepsView s (cond b (record s { was_refused = true }) s)
+    by true = (refl, refl, refl)
+    by false = (refl, refl, refl)
+
+pub entered_same : (es : List Entry) (message : List ℕ) (old mid new : LinkView) → new ≡ mid
+    → IsEntered es message old mid → IsEntered es message old new
+entered_same es message old mid new e = subst (IsEntered es message old) (sym e)
+
+pub not_true : (b : Bool) → not b ≡ true → b ≡ false
+not_true true e = cc
+not_true false e = refl
+
+pub ended_reads : (f : Form) (max : ℕ) (h : SessionHistory) (new : SessionView) → Holds f max h
+    → wants_input h.session ≡ true → new ≡ after_unfinished (after_last_line h.session)
+    → HasRead f max h (end_in (form_of h.session.messages))
+    (option_to_list (entry_of_last h.session.messages))
+    (message_in (after_last h.session.messages)) new
+ended_reads f max h new k wants is =
+    let m = h.session.messages in
+    let used = end_in (form_of m) in
+    let es = option_to_list (entry_of_last m) in
+    let r = last_reads m in
+    let mid = after_last_line h.session in
+    let last = record h.session { messages = after_last m; is_read = true } in
+    let e = entered es last mid k.of_data refl in
+    let u = unfinished_keeps mid in
+    let w = both (not h.session.is_read) (takes_message h.session.link)
+    (sym (ap (λ b. not h.session.is_read && takes_in b h.session.link) k.of_data) ∙ wants) in
+    let going = not_true h.session.is_read w.0 in
+    record {
+      messages = ap (λ (x : SessionView). x.messages) is ∙ u.0 ∙ e.0 ∙ r.state;
+      output = ap (λ (x : SessionView). x.output) is ∙ u.1 ∙ e.1;
+      mode =
+          ap (λ (x : SessionView). x.options.maintenance) is ∙ unfinished_mode mid
+          ∙ entered_mode es last;
+      going = λ _. going;
+      link =
+          entered_same es (message_in (after_last m)) h.session.link mid.link new.link
+          (ap (λ (x : SessionView). x.link) is ∙ u.2) e.2;
+      fits =
+          subst (λ xs. IfMessage xs (Fits max (message_in (after_last m)))) (sym r.entries)
+          (subst (λ x. IfMessage (entries_of_input used m) (Fits max (message_in x)))
+          (sym r.state) (read_fits f max h.input used m (k.reads going) r.part));
+      takes = if_message es w.1;
+      more =
+          read_more f max h.input used m (k.reads going) r.part
+          ∙ ap (λ xs. messages_of f max h.input ++ read_by xs (message_in (after_input used m)))
+          (sym r.entries)
+          ∙ ap (λ x. messages_of f max h.input ++ read_by es (message_in x)) (sym r.state);
+    }

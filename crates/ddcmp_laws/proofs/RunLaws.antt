@@ -1,0 +1,403 @@
+-- Two runs over devices, in some order of their calls.
+use Rattle.std.proofs.Common.{◌≡◌, ◌∙◌, ap, sym, subst, refl, Bool, true, false, cond, List, []}
+use Rattle.std.proofs.Common.{◌∷◌, ◌++◌, length, drop, append_assoc, append-nil, Option, Some, None}
+use Rattle.std.specs.Prelude.{◌||◌}
+use Rattle.ddcmp_frame.specs.Reader.{StandsFor}
+use Rattle.ddcmp_input.specs.InBinary.{in_binary, told_in}
+use Rattle.ddcmp_proto.specs.Config.{first_refusal}
+use Rattle.ddcmp_laws.specs.Faithful.{Begins}
+use Rattle.ddcmp_run.specs.declared.event.End.{End}
+use Rattle.ddcmp_run.specs.declared.event.End.TheVariants.{A, B}
+use Rattle.ddcmp_session.specs.declared.messages.Form.TheVariants as form
+use Rattle.ddcmp_session.specs.Session.{SessionView, wants_input, after_last_line}
+use Rattle.ddcmp_session.specs.Session.{after_unfinished}
+use Rattle.ddcmp_session.specs.Calls.{SessionCall, Typed, InputEnded, Connected, LineEnded}
+use Rattle.ddcmp_session.specs.Calls.{Received, Filled, LineTook, TimedOut, TimePassed, Delivered}
+use Rattle.ddcmp_session.specs.Calls.{OutputTook, Closed, SessionStep, SessionHistory, end_in}
+use Rattle.ddcmp_session.specs.Calls.{is_told_in}
+use Rattle.ddcmp_session.specs.Connections.{AreDone, Connection, Does, after_all, after_step}
+use Rattle.ddcmp_session.specs.Devices.{BuffersView, Traffic, nothing_read}
+use Rattle.ddcmp_session.specs.Lines.{AllKeepOpen, Closes, Ends, IsReady, KeepsOpen, WentOver}
+use Rattle.ddcmp_session.specs.Messages.{after_input, entries_of_input}
+use Rattle.ddcmp_session.proofs.InputGoes.{entries-read}
+use Rattle.ddcmp_session.proofs.GoingLaws.{same-at}
+use Rattle.ddcmp_laws.specs.Sessions.{got_in, messages_of, mail_in}
+use Rattle.ddcmp_laws.specs.Pipe.{Made, session_of}
+use Rattle.ddcmp_laws.specs.Connections.{AreCalls, Connections, PipesAnew, PipesClosedAnew}
+use Rattle.ddcmp_laws.specs.Connections.{WritesAnew, after_steps, after_step_at, delivered_since}
+use Rattle.ddcmp_laws.specs.Connections.{first_connection, first_connections, read_since}
+use Rattle.ddcmp_laws.specs.EachLine.{DeliversLine, IsReadOverLines, read_over_lines}
+use Rattle.ddcmp_laws.specs.Loops.{messages_given, no_traffic}
+use Rattle.ddcmp_laws.specs.SessionRuns.{DeliversAll, DeliversFirst, FilesBegin, FilesPass}
+use Rattle.ddcmp_laws.specs.SessionRuns.{Ran, RanTogether, WasEnded, calls_of, given_since, got_to}
+use Rattle.ddcmp_laws.proofs.Anew.{AcknowledgedAnew, Stays, acknowledged_anew_a}
+use Rattle.ddcmp_laws.proofs.Anew.{acknowledged_anew_b, closed_anew_a, closed_anew_b, left_out}
+use Rattle.ddcmp_laws.proofs.Anew.{pipes_anew_a, pipes_anew_b, stays_a, stays_all, stays_b}
+use Rattle.ddcmp_laws.proofs.Anew.{stays_first, writes_anew_a, writes_anew_b}
+use Rattle.ddcmp_laws.proofs.EachLine.{left-with-none, none-in-nothing, read-over-lines}
+use Rattle.ddcmp_laws.proofs.Given.{gave_more, messages_more, no_more, none_unread, unread}
+use Rattle.ddcmp_laws.proofs.Losing.{closed-loses}
+use Rattle.ddcmp_laws.proofs.LosingAnew.{session-after}
+use Rattle.ddcmp_laws.proofs.Outcomes.{binary_more, read_all, read_first}
+use Rattle.ddcmp_laws.proofs.OverLines.{agrees_first}
+
+-- ---- calls in an order
+
+abbrev Ordered : List (End × SessionStep) → Connections → Type 0
+Ordered steps p =
+    AreCalls steps p
+    × (after_steps steps p
+    ≡ record { a = after_all (calls_of A steps) p.a; b = after_all (calls_of B steps) p.b })
+
+pub ordered : (steps : List (End × SessionStep)) (p : Connections)
+    → AreDone (calls_of A steps) p.a → AreDone (calls_of B steps) p.b → Ordered steps p
+unfolding after_steps after_all calls_of
+ordered [] p of_a of_b = (tt, refl)
+ordered ((A, step) ∷ rest) p of_a of_b =
+    let r = ordered rest (after_step_at A step p) of_a.1 of_b in ((of_a.0, r.0), r.1)
+ordered ((B, step) ∷ rest) p of_a of_b =
+    let r = ordered rest (after_step_at B step p) of_a of_b.1 in ((of_b.0, r.0), r.1)
+
+-- ---- a session that wasn't closed has read its input if it was told of its end
+
+abbrev ReadTold : SessionView → Bool → Type 0
+ReadTold s told = s.is_read ≡ true → told ≡ true
+
+same-read : (told : Bool) (old new : SessionView) → new.is_read ≡ old.is_read → ReadTold old told
+    → ReadTold new told
+same-read told old new same was e = was (sym same ∙ e)
+
+ended-read : (wants told : Bool) (old last new : SessionView) → new ≡ cond wants last old
+    → ReadTold old told → ReadTold new (wants || told)
+ended-read true told old last new is was e = refl
+ended-read false told old last new is was e =
+    same-read told old new (ap (λ (s : SessionView). s.is_read) is) was e
+
+read-step : (call : SessionCall) (h : SessionHistory) (new : SessionView) → KeepsOpen call
+    → Does call h.used h.session new → ReadTold h.session h.is_told
+    → ReadTold new (is_told_in call h.session || h.is_told)
+read-step (Typed used) h new of d =
+    let s : SessionView =
+    record h.session { messages = after_input used h.session.messages } in
+    same-read h.is_told h.session new
+    (same-at (λ x. x.is_read) new _ d.state
+    ∙ entries-read (entries_of_input used h.session.messages) s)
+read-step InputEnded h new of d =
+    ended-read (wants_input h.session) h.is_told h.session
+    (after_unfinished (after_last_line h.session)) new d
+read-step Connected h new of d = same-read h.is_told h.session new (same-at (λ s. s.is_read) new _ d)
+read-step (LineEnded r) h new of d =
+    same-read h.is_told h.session new (same-at (λ s. s.is_read) new _ d.stays)
+read-step (Received used) h new of d =
+    same-read h.is_told h.session new (same-at (λ s. s.is_read) new _ d.stays)
+read-step (Filled n) h new of d =
+    same-read h.is_told h.session new (same-at (λ s. s.is_read) new _ d.0)
+read-step (LineTook n) h new of d =
+    same-read h.is_told h.session new (same-at (λ s. s.is_read) new _ d)
+read-step (TimedOut now) h new of d =
+    same-read h.is_told h.session new (same-at (λ s. s.is_read) new _ d)
+read-step TimePassed h new of d =
+    same-read h.is_told h.session new (same-at (λ s. s.is_read) new _ d.stays)
+read-step (Delivered true) h new of d =
+    same-read h.is_told h.session new (same-at (λ s. s.is_read) new _ d.stays)
+read-step (Delivered false) h new of d =
+    same-read h.is_told h.session new (same-at (λ s. s.is_read) new _ d.stays)
+read-step (OutputTook n) h new of d =
+    same-read h.is_told h.session new (same-at (λ s. s.is_read) new _ d)
+read-step (Closed left over r) h new of d = absurd of
+
+told-after : (call : SessionCall) (new : SessionView) (c : Connection)
+    → (after_step (record { call = call; session = new }) c).history.is_told
+    ≡ is_told_in call c.history.session || c.history.is_told
+told-after Connected new c = refl
+told-after (Typed used) new c = refl
+told-after InputEnded new c = refl
+told-after (LineEnded r) new c = refl
+told-after (Received used) new c = refl
+told-after (Filled n) new c = refl
+told-after (LineTook n) new c = refl
+told-after (TimedOut now) new c = refl
+told-after TimePassed new c = refl
+told-after (Delivered has) new c = refl
+told-after (OutputTook n) new c = refl
+told-after (Closed left over r) new c = refl
+
+all-read : (steps : List SessionStep) (c : Connection) → AreDone steps c → AllKeepOpen steps
+    → ReadTold c.history.session c.history.is_told
+    → ReadTold (after_all steps c).history.session (after_all steps c).history.is_told
+unfolding after_all
+all-read [] c does of was = was
+all-read (step ∷ rest) c does of was =
+    all-read rest (after_step step c) does.1 of.1
+    (λ e.
+    told-after step.call step.session c
+    ∙ read-step step.call c.history step.session of.0 does.0 was
+    (sym (ap (λ (s : SessionView). s.is_read) (session-after step.call step.session c)) ∙ e))
+
+-- ---- what an input gave since
+
+-- what was delivered begins what was given
+delivers_first : (giver taker : Ran) → PipesAnew giver.made (got_to giver) (got_to taker)
+    → Stays giver.made (got_to giver) → DeliversFirst giver taker
+delivers_first giver taker pipes stays held t agrees =
+    let f = giver.made.options.form in
+    let max = giver.made.options.config.max in
+    let c = got_to giver in
+    let before = messages_of f max c.input_before in
+    let since = read_since giver.made c in
+    let mail = delivered_since (got_to taker) in
+    let m = messages_more f max c.history.input (unread f c.history.is_told held) in
+    let given : messages_given giver.made t ≡ before ++ (since ++ m.0) =
+    ap (messages_of f max) (gave_more f c.history held t stays.holds.kind agrees)
+    ∙ m.1
+    ∙ ap (λ ms. ms ++ m.0) stays.read
+    ∙ append_assoc before since m.0 in (
+      pipes.0 ++ m.0,
+      sym (append_assoc mail pipes.0 m.0)
+          ∙ ap (λ ms. ms ++ m.0) pipes.1
+          ∙ sym (left_out before (messages_given giver.made t) (since ++ m.0) given),
+    )
+
+-- All that was given was read, if the run was ended and lost nothing.
+given-read : (ran : Ran) → AreDone ran.steps (first_connection ran.made)
+    → (held : BuffersView) (t : Traffic) (closed : SessionView) → WasEnded ran held t closed
+    → closed.course.lost ≡ 0
+    → messages_given ran.made t
+    ≡ messages_of ran.made.options.form ran.made.options.config.max (got_to ran).history.input
+given-read ran does held t closed ended none =
+    let f = ran.made.options.form in
+    let max = ran.made.options.config.max in
+    let h = (got_to ran).history in
+    let holds =
+    (stays_all ran.made ran.steps (first_connection ran.made) does (stays_first ran.made)).holds in
+    let told = all-read ran.steps (first_connection ran.made) does ended.only (λ e. e) in
+    let p =
+    closed-loses held.input held.is_over ended.closes.is_reported h.session closed
+    ended.closes.closed none in
+    ap (messages_of f max) (gave_more f h held t holds.kind ended.agrees)
+    ∙ none_unread f max h held holds told p.1 p.2
+
+-- and was delivered then
+delivers_all : (giver taker : Ran) → PipesClosedAnew giver.made (got_to giver) (got_to taker)
+    → AreDone giver.steps (first_connection giver.made) → DeliversAll giver taker
+delivers_all giver taker whole does held t closed ended none =
+    let f = giver.made.options.form in
+    let max = giver.made.options.config.max in
+    let c = got_to giver in
+    (whole held.input held.is_over ended.closes.is_reported closed ended.closes.closed none).0
+    ∙ ap (drop (length (messages_of f max c.input_before)))
+    (sym (given-read giver does held t closed ended none))
+
+-- ---- over each line
+
+delivers_line : (giver taker : Ran)
+    → AcknowledgedAnew giver.made (got_to giver) (got_to taker)
+    → AreDone giver.steps (first_connection giver.made) → DeliversLine giver taker
+delivers_line giver taker all does rest more over held t closed ended none =
+    all (left-with-none giver rest does more over held t closed ended none)
+
+pub reads_over_lines : (ran : Ran) → AreDone ran.steps (first_connection ran.made)
+    → IsReadOverLines ran
+reads_over_lines ran does held t closed ended none =
+    let made = ran.made in
+    let first = first_connection made in
+    given-read ran does held t closed ended none
+    ∙ sym (read-over-lines made ran.steps first does (stays_first made))
+    ∙ ap (λ ms. ms ++ read_over_lines made ran.steps first)
+    (none-in-nothing made.options.form made.options.config.max)
+
+-- ---- files
+
+pub given_binary : (made : Made) (c : Connection) (t : Traffic) → made.options.form ≡ form.Binary
+    → c.input_before ≡ []
+    → given_since made c t ≡ messages_of form.Binary made.options.config.max t.read
+unfolding got_in told_in
+given_binary made c t is none =
+    let max = made.options.config.max in
+    ap (λ xs. drop (length (messages_of made.options.form max xs)) (messages_given made t)) none
+    ∙ ap
+    (λ f. drop (length (messages_of f max []))
+    (messages_of f max (t.read ++ cond t.is_over (end_in f) []))) is
+    ∙ ap (messages_of form.Binary max) (no_more t.read t.is_over)
+
+written_is : (taker : Ran) → taker.made.options.form ≡ form.Binary
+    → mail_in (got_to taker).shown_before ≡ [] → WritesAnew taker.made (got_to taker)
+    → (got_to taker).history.written ++ (got_to taker).history.session.output.waiting
+    ≡ in_binary (delivered_since (got_to taker))
+unfolding in_binary
+written_is taker is none writes =
+    writes is ∙ ap (λ ms. in_binary ms ++ in_binary (delivered_since (got_to taker))) none
+
+files_begin : (giver taker : Ran) → DeliversFirst giver taker
+    → WritesAnew taker.made (got_to taker) → FilesBegin giver taker
+files_begin giver taker delivers writes files messages fit held other_held t other_t a b begins =
+    let max = giver.made.options.config.max in
+    let h = (got_to taker).history in
+    let waiting = h.session.output.waiting in
+    let mail = delivered_since (got_to taker) in
+    let order = delivers held t a in
+    let r = read_first max t.read begins.0 messages fit begins.1 in
+    let all : mail ++ (order.0 ++ r.0) ≡ messages =
+    sym (append_assoc mail order.0 r.0)
+    ∙ ap (λ ms. ms ++ r.0)
+    (order.1 ∙ given_binary giver.made (got_to giver) t files.giver_form files.none_read)
+    ∙ r.1 in
+    subst (λ xs. Begins xs (in_binary messages)) (sym b.written) (
+      waiting ++ in_binary (order.0 ++ r.0),
+      sym (append_assoc h.written waiting (in_binary (order.0 ++ r.0)))
+          ∙ ap (λ xs. xs ++ in_binary (order.0 ++ r.0))
+          (written_is taker files.taker_form files.none_delivered writes)
+          ∙ sym (binary_more mail (order.0 ++ r.0))
+          ∙ ap in_binary all,
+    )
+
+files_pass : (giver taker : Ran) → DeliversAll giver taker
+    → WritesAnew taker.made (got_to taker) → FilesPass giver taker
+files_pass giver taker delivers writes files messages fit held other_held t other_t closed ended b
+    none file no_mail still =
+    let max = giver.made.options.config.max in
+    let h = (got_to taker).history in
+    let mail = delivered_since (got_to taker) in
+    let given : mail ≡ messages =
+    sym (append-nil mail)
+    ∙ ap (λ ms. mail ++ ms) (sym no_mail)
+    ∙ delivers held t closed ended none
+    ∙ given_binary giver.made (got_to giver) t files.giver_form files.none_read
+    ∙ ap (messages_of form.Binary max) file
+    ∙ read_all max messages fit in
+    b.written
+    ∙ sym (append-nil h.written)
+    ∙ ap (λ xs. h.written ++ xs) (sym still)
+    ∙ written_is taker files.taker_form files.none_delivered writes
+    ∙ ap in_binary given
+
+-- ---- of two runs
+
+module _ (a b : Ran) (f : first_refusal a.made.options.config ≡ None)
+    (g : first_refusal b.made.options.config ≡ None)
+    (done_a : AreDone a.steps (first_connection a.made))
+    (done_b : AreDone b.steps (first_connection b.made))
+    (together : RanTogether a b) where
+  abbrev steps : List (End × SessionStep)
+  steps = together.steps
+
+  in_order : Ordered steps (first_connections a.made b.made)
+  in_order =
+      ordered steps (first_connections a.made b.made)
+      (subst (λ xs. AreDone xs (first_connection a.made)) (sym together.of_a) done_a)
+      (subst (λ xs. AreDone xs (first_connection b.made)) (sym together.of_b) done_b)
+
+  both_at : after_steps steps (first_connections a.made b.made)
+      ≡ record { a = got_to a; b = got_to b }
+  both_at =
+      in_order.1
+      ∙ (λ i. record {
+        a = after_all (together.of_a i) (first_connection a.made);
+        b = after_all (together.of_b i) (first_connection b.made);
+      })
+
+  at_a : Stays a.made (got_to a)
+  at_a =
+      subst (λ (q : Connections). Stays a.made q.a) both_at
+      (stays_a a.made b.made steps f g in_order.0 together.honest together.clean)
+
+  at_b : Stays b.made (got_to b)
+  at_b =
+      subst (λ (q : Connections). Stays b.made q.b) both_at
+      (stays_b a.made b.made steps f g in_order.0 together.honest together.clean)
+
+  writes_a : WritesAnew a.made (got_to a)
+  writes_a =
+      subst (λ (q : Connections). WritesAnew a.made q.a) both_at
+      (writes_anew_a a.made b.made steps f g in_order.0 together.honest together.clean)
+
+  writes_b : WritesAnew b.made (got_to b)
+  writes_b =
+      subst (λ (q : Connections). WritesAnew b.made q.b) both_at
+      (writes_anew_b a.made b.made steps f g in_order.0 together.honest together.clean)
+
+  pub first-to-b : DeliversFirst a b
+  first-to-b =
+      delivers_first a b
+      (subst (λ (q : Connections). PipesAnew a.made q.a q.b) both_at
+      (pipes_anew_b a.made b.made steps f g in_order.0 together.honest together.clean))
+      at_a
+
+  pub first-to-a : DeliversFirst b a
+  first-to-a =
+      delivers_first b a
+      (subst (λ (q : Connections). PipesAnew b.made q.b q.a) both_at
+      (pipes_anew_a a.made b.made steps f g in_order.0 together.honest together.clean))
+      at_b
+
+  pub all-to-b : DeliversAll a b
+  all-to-b =
+      delivers_all a b
+      (subst (λ (q : Connections). PipesClosedAnew a.made q.a q.b) both_at
+      (closed_anew_b a.made b.made steps f g in_order.0 together.honest together.clean))
+      done_a
+
+  pub all-to-a : DeliversAll b a
+  all-to-a =
+      delivers_all b a
+      (subst (λ (q : Connections). PipesClosedAnew b.made q.b q.a) both_at
+      (closed_anew_a a.made b.made steps f g in_order.0 together.honest together.clean))
+      done_b
+
+  pub lines-to-b : DeliversLine a b
+  lines-to-b =
+      delivers_line a b
+      (subst (λ (q : Connections). AcknowledgedAnew a.made q.a q.b) both_at
+      (acknowledged_anew_b a.made b.made steps f g in_order.0 together.honest together.clean))
+      done_a
+
+  pub lines-to-a : DeliversLine b a
+  lines-to-a =
+      delivers_line b a
+      (subst (λ (q : Connections). AcknowledgedAnew b.made q.b q.a) both_at
+      (acknowledged_anew_a a.made b.made steps f g in_order.0 together.honest together.clean))
+      done_b
+
+  pub files-begin-b : FilesBegin a b
+  files-begin-b = files_begin a b first-to-b writes_b
+
+  pub files-begin-a : FilesBegin b a
+  files-begin-a = files_begin b a first-to-a writes_a
+
+  pub files-pass-b : FilesPass a b
+  files-pass-b = files_pass a b all-to-b writes_b
+
+  pub files-pass-a : FilesPass b a
+  files-pass-a = files_pass b a all-to-a writes_a
+
+-- ---- how a run ends
+
+pub ended-after : (made : Made) (is_well : Bool) (held : BuffersView) (now : SessionView)
+    (known : Option Traffic) → StandsFor made.line []
+    → (ends : Ends is_well nothing_read (session_of made).session (Some no_traffic) held now known)
+    → (t : Traffic) × (known ≡ Some t)
+    × (went : WentOver (IsReady (session_of made).session) (first_connection made) ends.unclosed
+    held t)
+    × WasEnded (record { made = made; steps = went.steps }) held t now
+ended-after made is_well held now known stands ends =
+    let a = ends.over (first_connection made) no_traffic refl refl (agrees_first made stands) in
+    let w = a.2 in (
+      a.0,
+      a.1,
+      w,
+      record {
+        only = w.only;
+        agrees = w.agrees;
+        closes = subst (λ s. Closes held s now) (sym w.session) ends.closes;
+      },
+    )
+
+pub runs_to_end : (made : Made) (is_well : Bool) (held : BuffersView) (now : SessionView)
+    (known : Option Traffic) → StandsFor made.line []
+    → Ends is_well nothing_read (session_of made).session (Some no_traffic) held now known
+    → (t : Traffic) × (known ≡ Some t)
+    × (steps : List SessionStep) × AreDone steps (first_connection made)
+    × WasEnded (record { made = made; steps = steps }) held t now
+runs_to_end made is_well held now known stands ends =
+    let a = ended-after made is_well held now known stands ends in
+    (a.0, a.1, a.2.steps, a.2.calls, a.3)

@@ -1,0 +1,297 @@
+-- A session that hasn't been connected: it is halted and holds nothing, and its calls add nothing
+-- to its history.
+use Rattle.std.proofs.Common.{◌≡◌, ◌∙◌, ap, sym, subst, refl, ℕ, zero, suc}
+use Rattle.std.proofs.Common.{Bool, true, false, cond, List, [], ◌++◌, drop, take, Some, None}
+use Rattle.std.specs.Prelude.{◌&&◌}
+use Rattle.std.proofs.Math.Seq.{drop-nil}
+use Rattle.ddcmp_window.specs.Store.{first_message}
+use Rattle.ddcmp_core.specs.Core.{CoreView}
+use Rattle.ddcmp_core.specs.declared.state.State.TheVariants.{Halted}
+use Rattle.ddcmp_core.specs.declared.state.Timer.{Timer}
+use Rattle.ddcmp_core.specs.declared.state.Timer.TheVariants as timer
+use Rattle.ddcmp_core.specs.Table.{StationState, after_expire_in, after_expire_with, after_halt}
+use Rattle.ddcmp_core.specs.Table.{is_on, next, next_by, next_frame}
+use Rattle.ddcmp_proto.specs.Bytes.{items_added, notices_of_piece}
+use Rattle.ddcmp_io.specs.Queue.{after_taken}
+use Rattle.ddcmp_station.specs.Driving.{core_after_expire, core_after_take_arm, deadline_at, is_due}
+use Rattle.ddcmp_station.specs.Linking.{LinkView, after_frame, after_frames, after_polled}
+use Rattle.ddcmp_station.specs.Linking.{after_sent, after_wake, bytes_of, frame_of_link, polls}
+use Rattle.ddcmp_station.specs.Linking.{with_state}
+use Rattle.ddcmp_session.specs.Messages.{after_input, entries_of_input}
+use Rattle.ddcmp_session.specs.Session.{SessionView, after_last_line, after_timeout}
+use Rattle.ddcmp_session.specs.Session.{after_unfinished, form_of, wants_line}
+use Rattle.ddcmp_session.specs.Calls.{Closed, Connected, Delivered, Filled, HasDelivered}
+use Rattle.ddcmp_session.specs.Calls.{HasReceived, HasTyped, InputEnded, LineEnded, LineTook}
+use Rattle.ddcmp_session.specs.Calls.{OutputTook, Received, SessionCall, SessionDoes, TimePassed}
+use Rattle.ddcmp_session.specs.Calls.{TimedOut, Typed, end_in, gone_in, input_in, shown_in, used_in}
+use Rattle.ddcmp_session.proofs.GoingLaws.{same-at}
+use Rattle.ddcmp_laws.specs.Pipe.{connects_in_call}
+use Rattle.ddcmp_laws.specs.Sessions.{mail_in}
+use Rattle.ddcmp_laws.proofs.Losing.{entries-halted, entries-keep, frames-halted, input-halted}
+use Rattle.ddcmp_laws.proofs.Losing.{items-halted, station_of, wake-halted}
+use Rattle.ddcmp_laws.proofs.Texts.{no_mail, nothing_lost}
+
+-- ---- a session without a line holds nothing
+
+pub record IsIdle (s : SessionView) : Type 0 where
+  pub shut : s.has_line ≡ false
+  pub halted : s.link.station.core.station.state ≡ Halted
+  pub inbox : s.link.station.core.station.inbox ≡ []
+  pub waiting : s.link.outbox.waiting ≡ []
+
+still : (old new : SessionView) → new.has_line ≡ old.has_line
+    → (station_of new).state ≡ Halted → (station_of new).inbox ≡ (station_of old).inbox
+    → new.link.outbox.waiting ≡ old.link.outbox.waiting → IsIdle old → IsIdle new
+still old new line halted inbox waiting was = record {
+  shut = line ∙ was.shut;
+  halted = halted;
+  inbox = inbox ∙ was.inbox;
+  waiting = waiting ∙ was.waiting;
+}
+
+-- its station is the same
+same-station : (old new : SessionView) → new.has_line ≡ old.has_line
+    → station_of new ≡ station_of old → new.link.outbox.waiting ≡ old.link.outbox.waiting
+    → IsIdle old → IsIdle new
+same-station old new line station waiting was =
+    still old new line (ap (λ (x : StationState). x.state) station ∙ was.halted)
+    (ap (λ (x : StationState). x.inbox) station) waiting was
+
+same-link : (old new : SessionView) → new.has_line ≡ old.has_line → new.link ≡ old.link
+    → IsIdle old → IsIdle new
+same-link old new line link was =
+    same-station old new line (ap (λ (d : LinkView). d.station.core.station) link)
+    (ap (λ (d : LinkView). d.outbox.waiting) link) was
+
+-- ---- what its link leaves as it is
+
+pub none-more : {A : Type 0} (xs ys : List A) → xs ≡ [] → ys ≡ [] → xs ++ ys ≡ []
+none-more xs ys e f = ap (λ zs. zs ++ ys) e ∙ f
+
+take-none : (n : ℕ) → ◌≡◌ {A = List ℕ} (take n []) []
+take-none zero = refl
+take-none (suc n) = refl
+
+unwanted : (s : SessionView) → s.has_line ≡ false → wants_line s ≡ false
+unwanted s shut = ap (λ b. wants_line (record s { has_line = b })) shut
+
+no-frame : (d : LinkView) → d.station.core.station.state ≡ Halted
+    → bytes_of d.station.syn (frame_of_link d) ≡ []
+unfolding next
+no-frame d halted =
+    ap (λ st. bytes_of d.station.syn (next_frame (next_by st d.station.core.station))) halted
+
+frame-waiting : (d : LinkView) → d.station.core.station.state ≡ Halted → d.outbox.waiting ≡ []
+    → (after_frame d).outbox.waiting ≡ []
+frame-waiting d halted empty = by (polls d)
+  where
+    by : (b : Bool) → (cond b (after_polled d) d).outbox.waiting ≡ []
+    by true =
+        none-more d.outbox.waiting (bytes_of d.station.syn (frame_of_link d)) empty
+        (no-frame d halted)
+    by false = empty
+
+frames-waiting : (n : ℕ) (d : LinkView) → d.station.core.station.state ≡ Halted
+    → d.outbox.waiting ≡ [] → (after_frames n d).outbox.waiting ≡ []
+unfolding after_frames
+frames-waiting zero d halted empty = empty
+frames-waiting (suc n) d halted empty =
+    frame-waiting (after_frames n d)
+    (ap (λ (s : StationState). s.state) (frames-halted n d halted) ∙ halted)
+    (frames-waiting n d halted empty)
+
+expire-inbox : (t : Timer) (s : StationState) → s.state ≡ Halted
+    → (after_expire_with t s).inbox ≡ s.inbox
+expire-inbox timer.Off s halted = refl
+expire-inbox timer.Fresh s halted =
+    ap (λ (x : StationState). x.inbox) (ap (λ st. after_expire_in st s) halted)
+expire-inbox timer.On s halted =
+    ap (λ (x : StationState). x.inbox) (ap (λ st. after_expire_in st s) halted)
+
+wake-inbox : (now : ℕ) (d : LinkView) → d.station.core.station.state ≡ Halted
+    → (after_wake now d).station.core.station.inbox ≡ d.station.core.station.inbox
+wake-inbox now d halted =
+    by (is_on (core_after_take_arm d.station.core).station.timer
+    && is_due now (deadline_at d.milliseconds now d.station.core.station.timer d.deadline))
+  where
+    by : (b : Bool)
+        → (cond b (core_after_expire (core_after_take_arm d.station.core))
+        (core_after_take_arm d.station.core)).station.inbox
+        ≡ d.station.core.station.inbox
+    by true =
+        expire-inbox (core_after_take_arm d.station.core).station.timer
+        (core_after_take_arm d.station.core).station halted
+    by false = refl
+
+-- ---- each call before it is connected
+
+-- it is idle again, and the call has added nothing to its history
+pub record AddsNone (call : SessionCall) (text : List ℕ) (old new : SessionView) : Type 0 where
+  pub idle : IsIdle new
+  pub used : used_in call ≡ []
+  pub gone : gone_in call old ≡ []
+  pub input : input_in call old ≡ []
+  pub mail : mail_in (shown_in call text old) ≡ []
+
+typed-none : (used text : List ℕ) (old new : SessionView) → HasTyped used old new → IsIdle old
+    → AddsNone (Typed used) text old new
+unfolding mail_in
+typed-none used text old new d was =
+    let es = entries_of_input used old.messages in
+    let s : SessionView = record old { messages = after_input used old.messages } in
+    record {
+      idle =
+          same-link old new
+          (ap (λ (x : SessionView). x.has_line) d.state ∙ (entries-keep es s).0)
+          (ap (λ (x : SessionView). x.link) d.state ∙ entries-halted es s was.halted) was;
+      used = refl;
+      gone = refl;
+      input = d.wanted (input-halted old was.halted);
+      mail = refl;
+    }
+
+ended-none : (text : List ℕ) (old new : SessionView) → SessionDoes InputEnded text old new
+    → IsIdle old → AddsNone InputEnded text old new
+unfolding mail_in
+ended-none text old new d was =
+    let e : new ≡ old =
+    d
+    ∙ ap (λ b. cond b (after_unfinished (after_last_line old)) old)
+    (input-halted old was.halted) in
+    record {
+      idle = subst IsIdle (sym e) was;
+      used = refl;
+      gone = refl;
+      input = ap (λ b. cond b (end_in (form_of old.messages)) []) (input-halted old was.halted);
+      mail = refl;
+    }
+
+-- the station is halted, and there is no line
+halted-idle : (old new : SessionView) → new.has_line ≡ false
+    → new.link ≡ with_state (after_halt old.link.station.core.station) old.link → IsIdle old
+    → IsIdle new
+halted-idle old new shut link was = record {
+  shut = shut;
+  halted = ap (λ (d : LinkView). d.station.core.station.state) link;
+  inbox = ap (λ (d : LinkView). d.station.core.station.inbox) link ∙ was.inbox;
+  waiting = ap (λ (d : LinkView). d.outbox.waiting) link ∙ was.waiting;
+}
+
+received-none : (used text : List ℕ) (old new : SessionView) → HasReceived text used old new
+    → IsIdle old → AddsNone (Received used) text old new
+received-none used text old new d was =
+    let to = record old { link = new.link; course = new.course; output = new.output } in
+    record {
+      idle =
+          same-station old new (same-at (λ x. x.has_line) new to d.stays)
+          (ap (λ (k : CoreView). k.station) d.core
+          ∙ items-halted (items_added old.link.station.core.limits.longest text used)
+          old.link.station.core was.halted)
+          (ap (λ (k : LinkView). k.outbox.waiting) d.link) was;
+      used = d.wanted (unwanted old was.shut);
+      gone = refl;
+      input = refl;
+      mail = no_mail (notices_of_piece text used old.link.station.core);
+    }
+
+delivered-none : (text : List ℕ) (old new : SessionView) → HasDelivered old new → IsIdle old
+    → AddsNone (Delivered true) text old new
+delivered-none text old new d was = no (sym (ap first_message was.inbox) ∙ d.wrote.1)
+  where
+    no : {P : Type 0} {message : List ℕ} → None ≡ Some message → P
+    no e = cc
+
+-- a call of any other kind
+pub call-none : (call : SessionCall) → connects_in_call call ≡ 0 → (text : List ℕ)
+    (old new : SessionView) → SessionDoes call text old new → IsIdle old
+    → AddsNone call text old new
+unfolding mail_in
+call-none Connected none text old new d was = cc
+call-none (Typed used) none text old new d was = typed-none used text old new d was
+call-none InputEnded none text old new d was = ended-none text old new d was
+call-none (LineEnded r) none text old new d was = record {
+  idle = halted-idle old new (ap (λ (x : SessionView). x.has_line) d.stays) d.link was;
+  used = refl;
+  gone = refl;
+  input = refl;
+  mail = nothing_lost r old;
+}
+call-none (Received used) none text old new d was = received-none used text old new d was
+call-none (Filled n) none text old new d was = record {
+  idle =
+      same-station old new
+      (same-at (λ x. x.has_line) new (record old { link = after_frames n old.link }) d.0)
+      (ap station_of d.0 ∙ frames-halted n old.link was.halted)
+      (ap (λ (x : SessionView). x.link.outbox.waiting) d.0
+      ∙ frames-waiting n old.link was.halted was.waiting
+      ∙ sym was.waiting) was;
+  used = refl;
+  gone = refl;
+  input = refl;
+  mail = refl;
+}
+call-none (LineTook n) none text old new d was = record {
+  idle =
+      same-station old new
+      (same-at (λ x. x.has_line) new (record old { link = after_sent n old.link }) d)
+      (ap station_of d)
+      (ap (λ (x : SessionView). x.link.outbox.waiting) d
+      ∙ ap (drop n) was.waiting
+      ∙ drop-nil n
+      ∙ sym was.waiting) was;
+  used = refl;
+  gone = ap (take n) was.waiting ∙ take-none n;
+  input = refl;
+  mail = refl;
+}
+call-none (TimedOut now) none text old new d was = record {
+  idle =
+      still old new (same-at (λ x. x.has_line) new (after_timeout now old) d)
+      (same-at (λ x. (station_of x).state) new (after_timeout now old) d
+      ∙ (wake-halted now old.link was.halted).0)
+      (same-at (λ x. (station_of x).inbox) new (after_timeout now old) d
+      ∙ wake-inbox now old.link was.halted)
+      (same-at (λ x. x.link.outbox.waiting) new (after_timeout now old) d) was;
+  used = refl;
+  gone = refl;
+  input = refl;
+  mail = refl;
+}
+call-none TimePassed none text old new d was = record {
+  idle =
+      same-link old new
+      (same-at (λ x. x.has_line) new (record old { course = new.course }) d.stays)
+      (ap (λ (x : SessionView). x.link) d.stays) was;
+  used = refl;
+  gone = refl;
+  input = refl;
+  mail = refl;
+}
+call-none (Delivered true) none text old new d was = delivered-none text old new d was
+call-none (Delivered false) none text old new d was = record {
+  idle =
+      same-link old new
+      (same-at (λ x. x.has_line) new (record old { output = new.output }) d.stays)
+      (ap (λ (x : SessionView). x.link) d.stays) was;
+  used = refl;
+  gone = refl;
+  input = refl;
+  mail = refl;
+}
+call-none (OutputTook n) none text old new d was = record {
+  idle =
+      same-link old new
+      (same-at (λ x. x.has_line) new (record old { output = after_taken n old.output }) d)
+      (ap (λ (x : SessionView). x.link) d) was;
+  used = refl;
+  gone = refl;
+  input = refl;
+  mail = refl;
+}
+call-none (Closed left over r) none text old new d was = record {
+  idle = halted-idle old new (ap (λ (x : SessionView). x.has_line) d.stays) d.link was;
+  used = refl;
+  gone = refl;
+  input = refl;
+  mail = nothing_lost r old;
+}

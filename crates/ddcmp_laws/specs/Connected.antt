@@ -1,0 +1,80 @@
+-- Two runs over one connection, which gives its bytes in order: without a word of frames, what the
+-- input of one gave is what the output of the other took.
+use Rattle.std.specs.Prelude.{◌≡◌, ℕ, ◌+◌, ◌≤◌, ⊤, List, [], ◌∷◌, None}
+use Rattle.ddcmp_proto.specs.Config.{first_refusal}
+use Rattle.ddcmp_run.specs.declared.event.End.{End}
+use Rattle.ddcmp_run.specs.declared.event.End.TheVariants.{A, B}
+use Rattle.ddcmp_session.specs.declared.messages.Form.TheVariants as form
+use Rattle.ddcmp_session.specs.Calls.{IsSessionHistory, SessionStep, after_session_steps}
+use Rattle.ddcmp_session.specs.Connections.{AreDone, Connection}
+use Rattle.ddcmp_laws.specs.Connections.{Connections, after_step_at, first_connection}
+use Rattle.ddcmp_laws.specs.Connections.{first_connections}
+use Rattle.ddcmp_laws.specs.Pipe.{AreSessionStreams, Made, Sessions, connects_in_call}
+use Rattle.ddcmp_laws.specs.Pipe.{session_of}
+use Rattle.ddcmp_laws.specs.SessionRuns.{InFiles, Ran, calls_of, got_to}
+use Rattle.ddcmp_laws.specs.Sessions.{mail_in}
+
+-- how often its session was connected
+unfoldable pub connections_in : List SessionStep → ℕ
+connections_in [] = 0
+connections_in (step ∷ rest) = connects_in_call step.call + connections_in rest
+
+abbrev pub IsConnectedOnce : Ran → Type 0
+IsConnectedOnce ran = connections_in ran.steps ≤ 1
+
+-- ---- one run
+
+-- nothing was read, and no message delivered, before the session was connected
+pub record IsBareBefore (c : Connection) : Type 0 where
+  pub none_read : c.input_before ≡ []
+  pub none_delivered : mail_in c.shown_before ≡ []
+
+-- The calls of a run, in which `connected` clears the line, are a history of its session, in which
+-- the line was clear; and all that it has had and given, it has since it was connected.
+pub record IsOneHistory (ran : Ran) : Type 0 where
+  pub calls : IsSessionHistory ran.steps (session_of ran.made)
+  pub same : (got_to ran).history ≡ after_session_steps ran.steps (session_of ran.made)
+  pub before : IsBareBefore (got_to ran)
+
+-- ---- two runs in some order of their calls
+
+-- what both have had and given since they were connected
+abbrev pub histories_of : Connections → Sessions
+histories_of p = record { a = p.a.history; b = p.b.history }
+
+-- After each of these calls the lines are streams.
+abbrev pub AreOverStreams : List (End × SessionStep) → Connections → Type 0
+AreOverStreams [] p = ⊤
+AreOverStreams (step ∷ rest) p =
+    AreSessionStreams (histories_of (after_step_at step.0 step.1 p))
+    × AreOverStreams rest (after_step_at step.0 step.1 p)
+
+-- After each call, what each has used of its line is a beginning of what the line of the other has
+-- taken.
+pub record RanOverStreams (a b : Ran) : Type 0 where
+  pub steps : List (End × SessionStep)
+  pub of_a : calls_of A steps ≡ a.steps
+  pub of_b : calls_of B steps ≡ b.steps
+  pub streams : AreOverStreams steps (first_connections a.made b.made)
+
+-- A promise about two runs is kept over one connection: of new sessions of any sizes in range, each
+-- connected at most once, whatever their calls.
+abbrev pub IsKeptOverOneConnection : (Ran → Ran → Type 0) → Type 0
+IsKeptOverOneConnection Promise = (a b : Ran)
+    → first_refusal a.made.options.config ≡ None → first_refusal b.made.options.config ≡ None
+    → AreDone a.steps (first_connection a.made) → AreDone b.steps (first_connection b.made)
+    → IsConnectedOnce a → IsConnectedOnce b
+    → RanOverStreams a b → Promise a b
+
+-- Calls of two sessions as in the laws of sessions over connections are two such runs.
+pub record AreTwoRuns (first second : Made) (steps : List (End × SessionStep)) : Type 0 where
+  pub of_a : AreDone (calls_of A steps) (first_connection first)
+  pub of_b : AreDone (calls_of B steps) (first_connection second)
+  pub once_a : connections_in (calls_of A steps) ≤ 1
+  pub once_b : connections_in (calls_of B steps) ≤ 1
+  pub streams : AreOverStreams steps (first_connections first second)
+
+-- Two runs in binary are in files: over the lines before, of which there is none, no message came.
+abbrev pub BinaryIsInFiles : Ran → Ran → Type 0
+BinaryIsInFiles giver taker = giver.made.options.form ≡ form.Binary
+    → taker.made.options.form ≡ form.Binary → InFiles giver taker

@@ -1,0 +1,51 @@
+-- Each line of a run that was ended and lost nothing.
+use Rattle.std.specs.Prelude.{◌≡◌, ℕ, ⊤, List, [], ◌∷◌, ◌++◌}
+use Rattle.ddcmp_session.specs.Calls.{Connected, LineEnded, SessionCall, SessionStep}
+use Rattle.ddcmp_session.specs.Connections.{AreDone, Connection, after_step}
+use Rattle.ddcmp_session.specs.Devices.{BuffersView, Traffic}
+use Rattle.ddcmp_session.specs.Session.{SessionView}
+use Rattle.ddcmp_laws.specs.Connections.{delivered_since, first_connection, read_since}
+use Rattle.ddcmp_laws.specs.Loops.{messages_given}
+use Rattle.ddcmp_laws.specs.Pipe.{Made, undelivered}
+use Rattle.ddcmp_laws.specs.SessionRuns.{Ran, WasEnded, got_to}
+
+abbrev pub EndsALine : SessionCall → Type 0
+EndsALine Connected = ⊤
+EndsALine (LineEnded is_reported) = ⊤
+EndsALine _ = ⊥
+
+-- The line of a run that goes on so is over: it ends now, or the session is connected again, or the
+-- run ends.
+abbrev pub LineIsOver : List SessionStep → Type 0
+LineIsOver [] = ⊤
+LineIsOver (step ∷ rest) = EndsALine step.call
+
+-- If the line of one run is over, and the run goes on until it is ended and has lost nothing, the
+-- other has received all of the messages that the one's input had over that line: these, and no
+-- others.
+abbrev pub DeliversLine : Ran → Ran → Type 0
+DeliversLine giver taker = (rest : List SessionStep) → AreDone rest (got_to giver)
+    → LineIsOver rest
+    → (held : BuffersView) (t : Traffic) (closed : SessionView)
+    → WasEnded (record { made = giver.made; steps = giver.steps ++ rest }) held t closed
+    → closed.course.lost ≡ 0
+    → delivered_since (got_to taker) ++ undelivered (got_to taker).history
+    ≡ read_since giver.made (got_to giver)
+
+-- if it is connected again, the messages that its input has had over the line before
+abbrev pub read_before : SessionCall → Made → Connection → List (List ℕ)
+read_before Connected made c = read_since made c
+read_before _ made c = []
+
+-- the messages that its input has had over its lines, one line after the other
+unfoldable pub read_over_lines : Made → List SessionStep → Connection → List (List ℕ)
+read_over_lines made [] c = read_since made c
+read_over_lines made (step ∷ rest) c =
+    read_before step.call made c ++ read_over_lines made rest (after_step step c)
+
+-- If a run was ended and nothing was lost, these are all of the messages that its input gave.
+abbrev pub IsReadOverLines : Ran → Type 0
+IsReadOverLines ran = (held : BuffersView) (t : Traffic) (closed : SessionView)
+    → WasEnded ran held t closed → closed.course.lost ≡ 0
+    → messages_given ran.made t
+    ≡ read_over_lines ran.made ran.steps (first_connection ran.made)

@@ -1,0 +1,55 @@
+-- Runs over devices to their end: all that was received is delivered, and the output takes it.
+use Rattle.std.specs.Prelude.{◌≡◌, ◌⊎◌, ℕ, Bool, true, false, List, [], ◌++◌, map, Some}
+use Rattle.std.specs.List.{All}
+use Rattle.ddcmp_input.specs.InBinary.{in_binary, Fits}
+use Rattle.ddcmp_session.specs.declared.messages.Form.{Form}
+use Rattle.ddcmp_session.specs.declared.messages.Form.TheVariants as form
+use Rattle.ddcmp_session.specs.Session.{SessionView}
+use Rattle.ddcmp_session.specs.Calls.{SessionHistory, Shown, Mail, losses}
+use Rattle.ddcmp_session.specs.Devices.{BuffersView, Traffic}
+use Rattle.ddcmp_session.specs.EndText.{end_text}
+use Rattle.ddcmp_session.specs.Finishing.{Finishes}
+use Rattle.ddcmp_laws.specs.Pipe.{undelivered}
+use Rattle.ddcmp_laws.specs.SessionRuns.{InFiles, Ran, WasEnded, got_to}
+use Rattle.ddcmp_laws.specs.Sessions.{texts_of}
+
+-- A run was ended, and finished: `t` is what its devices had given and taken before that, and
+-- `after` what they have at last.
+pub record WasFinished (is_well : Bool) (ran : Ran) (held : BuffersView) (t : Traffic)
+    (last : SessionView) (after : Traffic) : Type 0 where
+  pub closed : SessionView
+  pub ended : WasEnded ran held t closed
+  pub finishes : Finishes is_well closed (Some t) last (Some after)
+
+-- all that a session has shown: until it was closed, what was lost then, and the messages that it
+-- had received
+abbrev pub shown_at_last : Bool → SessionHistory → List Shown
+shown_at_last is_reported h =
+    h.shown ++ (losses is_reported h.session ++ map Mail (undelivered h))
+
+-- in binary the last lines are no part of the output
+abbrev pub last_text : Form → SessionView → List ℕ
+last_text form.Digits s = end_text s.options.counters s.link
+last_text form.Binary s = []
+
+-- Nothing waits. The output took the text of all that, and then the last lines, unless these found
+-- no room.
+pub record TookAll (is_reported : Bool) (ran : Ran) (last : SessionView) (after : Traffic) : Type 0
+  where
+    pub none_waits : last.output.waiting ≡ []
+    pub no_mail : last.link.station.core.station.inbox ≡ []
+    pub wrote : (ran.made.options.form ≡ form.Binary) ⊎ (last.output.is_cut ≡ false)
+        → after.written
+        ≡ texts_of ran.made.options.form (shown_at_last is_reported (got_to ran).history)
+        ++ last_text ran.made.options.form last
+
+-- Of two runs that ended well, the one of which lost nothing: in binary, if the one's input gave a
+-- file of messages that fit, that file is what the other's output took.
+abbrev pub FilesArrive : Ran → Ran → Type 0
+FilesArrive giver taker = InFiles giver taker
+    → (messages : List (List ℕ)) → All (Fits giver.made.options.config.max) messages
+    → (held other_held : BuffersView) (t other_t after other_after : Traffic)
+    (last other_last : SessionView)
+    → WasFinished true giver held t last after → last.course.lost ≡ 0
+    → WasFinished true taker other_held other_t other_last other_after
+    → after.read ≡ in_binary messages → other_after.written ≡ in_binary messages

@@ -1,0 +1,85 @@
+-- Sessions that run over devices.
+use Rattle.std.specs.Prelude.{◌≡◌, ℕ, true, false, if◌then◌else◌, List, [], ◌++◌}
+use Rattle.std.specs.List.{All}
+use Rattle.ddcmp_input.specs.InBinary.{in_binary, Fits}
+use Rattle.ddcmp_laws.specs.Faithful.{Begins}
+use Rattle.ddcmp_session.specs.declared.messages.Form.TheVariants as form
+use Rattle.ddcmp_session.specs.Session.{SessionView, is_delivered}
+use Rattle.ddcmp_session.specs.Calls.{SessionHistory, SessionStep, IsSessionHistory}
+use Rattle.ddcmp_session.specs.Calls.{after_session_steps, end_in}
+use Rattle.ddcmp_session.specs.Devices.{Agrees, BuffersView, Traffic}
+use Rattle.ddcmp_session.specs.Lines.{Closes}
+use Rattle.ddcmp_laws.specs.Pipe.{Made, session_of, undelivered}
+use Rattle.ddcmp_laws.specs.Sessions.{mail_in, messages_of}
+
+-- Nothing was given or taken yet.
+abbrev pub no_traffic : Traffic
+no_traffic = record {
+  read = [];
+  is_over = false;
+  came = [];
+  gone = [];
+  written = [];
+  faults = [];
+}
+
+-- A history of a session from its beginning, which agrees with its devices at its end.
+pub record HasRun (made : Made) (new : SessionView) (held : BuffersView) (t : Traffic) : Type 0
+  where
+    pub steps : List SessionStep
+    pub calls : IsSessionHistory steps (session_of made)
+    pub session : (after_session_steps steps (session_of made)).session ≡ new
+    pub agrees : Agrees held (after_session_steps steps (session_of made)) t
+
+-- In binary, if what one's input gave begins a file of messages that fit, then what the other's
+-- output took begins that file too.
+abbrev pub DevicesPipe : Made → Made → SessionHistory → SessionHistory → Type 0
+DevicesPipe made other giver taker = made.options.form ≡ form.Binary
+    → other.options.form ≡ form.Binary
+    → (messages : List (List ℕ)) → All (Fits made.options.config.max) messages
+    → (held other_held : BuffersView) (t other_t : Traffic)
+    → Agrees held giver t → Agrees other_held taker other_t
+    → Begins t.read (in_binary messages) → Begins other_t.written (in_binary messages)
+
+-- And if the input gave all of the file, of which nothing is held, and the one may end as
+-- delivered, then the other's output took all of it, once nothing waits there.
+abbrev pub DevicesPipeAll : Made → Made → SessionHistory → SessionHistory → Type 0
+DevicesPipeAll made other giver taker = made.options.form ≡ form.Binary
+    → other.options.form ≡ form.Binary
+    → (messages : List (List ℕ)) → All (Fits made.options.config.max) messages
+    → (held other_held : BuffersView) (t other_t : Traffic)
+    → Agrees held giver t → Agrees other_held taker other_t
+    → t.read ≡ in_binary messages → held.input ≡ [] → is_delivered giver.session ≡ true
+    → undelivered taker ≡ [] → taker.session.output.waiting ≡ []
+    → other_t.written ≡ in_binary messages
+
+-- ---- until the session is closed
+
+-- the messages that an input gave; its end ends a last line
+abbrev pub messages_given : Made → Traffic → List (List ℕ)
+messages_given made t =
+    messages_of made.options.form made.options.config.max
+    (t.read ++ (if t.is_over then end_in made.options.form else []))
+
+-- If the one, which no call before had closed, is closed then, with what is held of its input, and
+-- nothing was lost, the other has received all of the messages that the input gave: these, in their
+-- order, each once and unchanged, and no others.
+abbrev pub DevicesDeliver : Made → SessionHistory → SessionHistory → Type 0
+DevicesDeliver made giver taker = (held : BuffersView) (t : Traffic) (closed : SessionView)
+    → (giver.session.is_read ≡ true → giver.is_told ≡ true)
+    → Agrees held giver t → Closes held giver.session closed → closed.course.lost ≡ 0
+    → mail_in taker.shown ++ undelivered taker ≡ messages_given made t
+
+-- And in binary, if the input gave all of a file of messages that fit, the other's output took all
+-- of the file, once nothing waits there.
+abbrev pub DevicesPipeClosed : Made → Made → SessionHistory → SessionHistory → Type 0
+DevicesPipeClosed made other giver taker = made.options.form ≡ form.Binary
+    → other.options.form ≡ form.Binary
+    → (messages : List (List ℕ)) → All (Fits made.options.config.max) messages
+    → (held other_held : BuffersView) (t other_t : Traffic) (closed : SessionView)
+    → (giver.session.is_read ≡ true → giver.is_told ≡ true)
+    → Agrees held giver t → Agrees other_held taker other_t
+    → Closes held giver.session closed → closed.course.lost ≡ 0
+    → t.read ≡ in_binary messages → undelivered taker ≡ []
+    → taker.session.output.waiting ≡ []
+    → other_t.written ≡ in_binary messages

@@ -1,0 +1,171 @@
+-- Two sessions on a line, as pipes: what comes out of one is what went into the other.
+use Rattle.std.specs.Prelude.{◌≡◌, ℕ, ◌+◌, ◌≤◌, Bool, true, false, List, [], ◌∷◌, ◌++◌, map, None}
+use Rattle.std.specs.List.{All}
+use Rattle.ddcmp_frame.specs.Reader.{ReaderView}
+use Rattle.ddcmp_input.specs.InBinary.{in_binary, Fits}
+use Rattle.ddcmp_proto.specs.Config.{first_refusal}
+use Rattle.ddcmp_run.specs.declared.event.End.{End}
+use Rattle.ddcmp_run.specs.declared.event.End.TheVariants.{A, B}
+use Rattle.ddcmp_run.specs.Prefix.{IsPrefixOf}
+use Rattle.ddcmp_run.specs.Run.{new_pair}
+use Rattle.ddcmp_laws.specs.Faithful.{Begins}
+use Rattle.ddcmp_session.specs.declared.messages.Form.TheVariants as form
+use Rattle.ddcmp_session.specs.declared.options.LineKind.{LineKind}
+use Rattle.ddcmp_session.specs.declared.options.Options.{Options}
+use Rattle.ddcmp_session.specs.Session.{SessionView, is_delivered, lost_among, lost_at_end}
+use Rattle.ddcmp_laws.specs.PairCalls.{run_calls}
+use Rattle.ddcmp_laws.specs.Links.{LinkStep, Links, new_links, count_if}
+use Rattle.ddcmp_laws.specs.LinkLines.{calls_of_steps}
+use Rattle.ddcmp_session.specs.Calls.{HasClosed, SessionCall, Connected, SessionDoes}
+use Rattle.ddcmp_session.specs.Calls.{SessionHistory}
+use Rattle.ddcmp_session.specs.Calls.{new_session, SessionStep, after_session_step}
+use Rattle.ddcmp_laws.specs.Sessions.{messages_of, mail_in, link_steps_of}
+
+-- how a session is made, whose messages are of data
+pub record Made : Type 0 where
+  pub options : Options
+  pub of_data : options.maintenance ≡ false
+  pub kind : LineKind
+  pub line : ReaderView
+
+abbrev pub session_of : Made → SessionHistory
+session_of made = new_session made.options made.kind made.line
+
+-- the histories of two sessions
+pub record Sessions : Type 0 where
+  pub a : SessionHistory
+  pub b : SessionHistory
+
+abbrev pub new_sessions : Made → Made → Sessions
+new_sessions first second = record { a = session_of first; b = session_of second }
+
+abbrev pub links_made : Made → Made → Links
+links_made first second =
+    new_links first.options.config first.options.timer_ms first.line second.options.config
+    second.options.timer_ms second.line
+
+abbrev pub session_at : End → Sessions → SessionHistory
+session_at A p = p.a
+session_at B p = p.b
+
+abbrev pub after_session_at : End → SessionStep → Sessions → Sessions
+after_session_at A step p = record { a = after_session_step step p.a; b = p.b }
+after_session_at B step p = record { a = p.a; b = after_session_step step p.b }
+
+-- Each step is a call of one of two sessions, as its contract says.
+abbrev pub AreSessionCalls : List (End × SessionStep) → Sessions → Type 0
+AreSessionCalls [] p = Unit {0}
+AreSessionCalls (step ∷ rest) p =
+    SessionDoes step.1.call (session_at step.0 p).used (session_at step.0 p).session step.1.session
+    × AreSessionCalls rest (after_session_at step.0 step.1 p)
+
+unfoldable pub after_sessions : List (End × SessionStep) → Sessions → Sessions
+after_sessions [] p = p
+after_sessions (step ∷ rest) p = after_sessions rest (after_session_at step.0 step.1 p)
+
+-- the calls of both links that these steps make
+abbrev pub steps_at_end : End → List LinkStep → List (End × LinkStep)
+steps_at_end end steps = map (λ step. (end, step)) steps
+
+unfoldable pub link_steps_at : List (End × SessionStep) → Sessions → List (End × LinkStep)
+link_steps_at [] p = []
+link_steps_at (step ∷ rest) p =
+    steps_at_end step.0
+    (link_steps_of step.1.call (session_at step.0 p).session step.1.session.link)
+    ++ link_steps_at rest (after_session_at step.0 step.1 p)
+
+-- how often a session is connected
+abbrev pub connects_in_call : SessionCall → ℕ
+connects_in_call Connected = 1
+connects_in_call _ = 0
+
+unfoldable pub connects : End → List (End × SessionStep) → ℕ
+connects e [] = 0
+connects e (step ∷ rest) = count_if e step.0 (connects_in_call step.1.call) + connects e rest
+
+-- each is connected at most once
+pub record AreConnectedOnce (steps : List (End × SessionStep)) : Type 0 where
+  pub at_a : connects A steps ≤ 1
+  pub at_b : connects B steps ≤ 1
+
+-- A promise about two sessions is kept over honest lines: it holds for two new sessions of any
+-- sizes in range, each connected at most once, whatever the calls, the moments and the cuts, if the
+-- good frames that each received are, in their order, among those that the other sent.
+abbrev pub IsKeptByPipes : (Made → Made → Sessions → Type 0) → Type 0
+IsKeptByPipes Promise = (first second : Made) (steps : List (End × SessionStep))
+    → first_refusal first.options.config ≡ None → first_refusal second.options.config ≡ None
+    → AreSessionCalls steps (new_sessions first second)
+    → (run_calls
+    (calls_of_steps (link_steps_at steps (new_sessions first second)) (links_made first second))
+    (new_pair first.options.config second.options.config)).honest ≡ true
+    → AreConnectedOnce steps
+    → Promise first second (after_sessions steps (new_sessions first second))
+
+-- what each used is a beginning of what the line of the other took
+pub record AreSessionStreams (p : Sessions) : Type 0 where
+  pub to_a : Begins p.a.used p.b.gone
+  pub to_b : Begins p.b.used p.a.gone
+
+-- Each step is a call of one of two sessions, as its contract says, and after each the lines are
+-- streams.
+abbrev pub SessionsOverStreams : List (End × SessionStep) → Sessions → Type 0
+SessionsOverStreams [] p = Unit {0}
+SessionsOverStreams (step ∷ rest) p =
+    SessionDoes step.1.call (session_at step.0 p).used (session_at step.0 p).session step.1.session
+    × AreSessionStreams (after_session_at step.0 step.1 p)
+    × SessionsOverStreams rest (after_session_at step.0 step.1 p)
+
+-- The same over connections, which give their bytes in order: no other premise is needed.
+abbrev pub IsKeptOverConnections : (Made → Made → Sessions → Type 0) → Type 0
+IsKeptOverConnections Promise = (first second : Made) (steps : List (End × SessionStep))
+    → first_refusal first.options.config ≡ None → first_refusal second.options.config ≡ None
+    → SessionsOverStreams steps (new_sessions first second)
+    → AreConnectedOnce steps
+    → Promise first second (after_sessions steps (new_sessions first second))
+
+-- the received messages that wait to be delivered
+abbrev pub undelivered : SessionHistory → List (List ℕ)
+undelivered h = h.session.link.station.core.station.inbox
+
+-- What one session delivered are the first of the messages that the input of the other has, in
+-- their order, each once and unchanged.
+abbrev pub Pipes : Made → SessionHistory → SessionHistory → Type 0
+Pipes made giver taker =
+    IsPrefixOf (mail_in taker.shown)
+    (messages_of made.options.form made.options.config.max giver.input)
+
+-- If one session may end as delivered, the other has received all of the messages that its input
+-- has: these, and no others.
+abbrev pub PipesAll : Made → SessionHistory → SessionHistory → Type 0
+PipesAll made giver taker = is_delivered giver.session ≡ true
+    → mail_in taker.shown ++ undelivered taker
+    ≡ messages_of made.options.form made.options.config.max giver.input
+
+-- If one session is closed then, and nothing was lost, the other has received all of the messages
+-- that its input has, and what was left of the input has none.
+abbrev pub PipesClosed : Made → SessionHistory → SessionHistory → Type 0
+PipesClosed made giver taker = (left : List ℕ) (is_at_end is_reported : Bool) (closed : SessionView)
+    → HasClosed left is_at_end is_reported giver.session closed → closed.course.lost ≡ 0
+    → (mail_in taker.shown ++ undelivered taker
+    ≡ messages_of made.options.form made.options.config.max giver.input)
+    × (lost_among left giver.session ≡ 0)
+    × (lost_at_end left is_at_end giver.session ≡ 0)
+
+-- In binary, if what was read of one's input begins a file of messages that fit, then what the
+-- other's output took begins that file too.
+abbrev pub PipesBytes : Made → Made → SessionHistory → SessionHistory → Type 0
+PipesBytes made other giver taker = made.options.form ≡ form.Binary
+    → other.options.form ≡ form.Binary
+    → (messages : List (List ℕ)) → All (Fits made.options.config.max) messages
+    → Begins giver.input (in_binary messages)
+    → Begins taker.written (in_binary messages)
+
+-- And if all of the file was read, and the one may end as delivered, then the other's output has
+-- all of it, once nothing waits there.
+abbrev pub PipesWhole : Made → Made → SessionHistory → SessionHistory → Type 0
+PipesWhole made other giver taker = made.options.form ≡ form.Binary
+    → other.options.form ≡ form.Binary
+    → (messages : List (List ℕ)) → All (Fits made.options.config.max) messages
+    → giver.input ≡ in_binary messages
+    → is_delivered giver.session ≡ true → undelivered taker ≡ [] → taker.session.output.waiting ≡ []
+    → taker.written ≡ in_binary messages

@@ -1,0 +1,85 @@
+//! Two runs over devices, over one line after the other: what the input of one gave is what the
+//! output of the other took.
+ghost use Rattle.std.specs.Prelude.{◌≡◌, ◌++◌, Bool, List, [], Option, Some};
+ghost use Rattle.ddcmp_frame.specs.Reader.{StandsFor};
+ghost use Rattle.ddcmp_run.specs.declared.event.End.{End};
+ghost use Rattle.ddcmp_run.specs.declared.event.End.TheVariants.{A, B};
+ghost use Rattle.ddcmp_session.specs.Session.{SessionView};
+ghost use Rattle.ddcmp_session.specs.Calls.{SessionStep};
+ghost use Rattle.ddcmp_session.specs.Connections.{AreDone, Connection, after_all};
+ghost use Rattle.ddcmp_session.specs.Devices.{BuffersView, Traffic, nothing_read};
+ghost use Rattle.ddcmp_session.specs.Lines.{Ends};
+ghost use Rattle.ddcmp_laws.specs.Connections.{AreCalls, Connections, after_steps};
+ghost use Rattle.ddcmp_laws.specs.Connections.{first_connection};
+ghost use Rattle.ddcmp_laws.specs.EachLine.{DeliversLine, IsReadOverLines};
+ghost use Rattle.ddcmp_laws.specs.LastConnection.{IsKeptOverLastConnection, StartsEach};
+ghost use Rattle.ddcmp_laws.specs.LastConnection.{StartsLast};
+ghost use Rattle.ddcmp_laws.specs.Loops.{no_traffic};
+ghost use Rattle.ddcmp_laws.specs.Pipe.{Made, session_of};
+ghost use Rattle.ddcmp_laws.specs.SessionRuns.{DeliversAll, DeliversFirst, FilesBegin, FilesPass};
+ghost use Rattle.ddcmp_laws.specs.SessionRuns.{IsKeptByRuns, Ran, WasEnded, calls_of};
+
+/// A new session that `ddcmp_session::Buffers::run_lines` has run and closed was ended as the other
+/// laws have it: after calls of which none closed it, with what was held of its input.
+pub fn runs_end()
+    ensures { (made : Made) (is_well : Bool) (held : BuffersView) (now : SessionView)
+        (known : Option Traffic) → StandsFor made.line []
+        → Ends is_well nothing_read (session_of made).session (Some no_traffic) held now known
+        → (t : Traffic) × (known ≡ Some t)
+        × (steps : List SessionStep) × AreDone steps (first_connection made)
+        × WasEnded (record { made = made; steps = steps }) held t now }
+{}
+
+/// When such a session was connected, that returned true each time. So the premise of
+/// `runs_over_the_last_connection` that it did so last holds of its calls up to any point.
+pub fn runs_start()
+    ensures each { (made : Made) (is_well : Bool) (held : BuffersView) (now : SessionView)
+        (known : Option Traffic) → StandsFor made.line []
+        → Ends is_well nothing_read (session_of made).session (Some no_traffic) held now known
+        → (t : Traffic) × (known ≡ Some t)
+        × (steps : List SessionStep) × AreDone steps (first_connection made)
+        × WasEnded (record { made = made; steps = steps }) held t now
+        × StartsEach steps (first_connection made) }
+    ensures last { (before after : List SessionStep) (c : Connection)
+        → StartsEach (before ++ after) c → StartsLast before c }
+{}
+
+/// The calls of two sessions, in whatever order they were made, are those of the laws of `pipe`,
+/// and lead each session to where its own calls lead it.
+pub fn runs_are_calls()
+    ensures { (steps : List (End × SessionStep)) (p : Connections)
+        → AreDone (calls_of A steps) p.a → AreDone (calls_of B steps) p.b
+        → AreCalls steps p
+        × (after_steps steps p
+        ≡ record { a = after_all (calls_of A steps) p.a; b = after_all (calls_of B steps) p.b }) }
+{}
+
+/// Two such runs, in an order of their calls over an honest line in a clean run: what one has
+/// delivered since it was connected last is a beginning of what the other's input has given since,
+/// and it has received all of that if the other's run was ended and lost nothing, as `run_lines`
+/// returns `Ok` for. In binary, if before that the one delivered and the other read nothing: what
+/// the output took is a beginning of each file of messages that fit that the input gave a beginning
+/// of, and then, once nothing waits, the file.
+pub fn runs_are_pipes()
+    ensures to_b { IsKeptByRuns (λ a b. DeliversFirst a b) }
+    ensures to_a { IsKeptByRuns (λ a b. DeliversFirst b a) }
+    ensures all_to_b { IsKeptByRuns (λ a b. DeliversAll a b) }
+    ensures all_to_a { IsKeptByRuns (λ a b. DeliversAll b a) }
+    ensures files_to_b { IsKeptByRuns (λ a b. FilesBegin a b) }
+    ensures files_to_a { IsKeptByRuns (λ a b. FilesBegin b a) }
+    ensures whole_to_b { IsKeptByRuns (λ a b. FilesPass a b) }
+    ensures whole_to_a { IsKeptByRuns (λ a b. FilesPass b a) }
+{}
+
+/// A run that was ended and lost nothing has lost nothing over any of its lines: whenever one is
+/// over, the session at its other end has received all messages that the run's input had over it,
+/// as `runs_are_pipes` and `runs_over_the_last_connection` have it of calls up to there. And all
+/// messages that the input gave are those that it had over its lines, one line after the other.
+pub fn runs_over_each_line()
+    ensures to_b { IsKeptByRuns (λ a b. DeliversLine a b) }
+    ensures to_a { IsKeptByRuns (λ a b. DeliversLine b a) }
+    ensures connected_to_b { IsKeptOverLastConnection (λ a b. DeliversLine a b) }
+    ensures connected_to_a { IsKeptOverLastConnection (λ a b. DeliversLine b a) }
+    ensures input { (ran : Ran) → AreDone ran.steps (first_connection ran.made)
+        → IsReadOverLines ran }
+{}

@@ -1,0 +1,52 @@
+//! What a session does is what its link does, and what it writes is the text of that.
+ghost use Rattle.std.specs.Prelude.{◌≡◌, ◌++◌, ℕ, List, false};
+ghost use Rattle.ddcmp_frame.specs.Reader.{ReaderView};
+ghost use Rattle.ddcmp_input.specs.InBinary.{in_binary};
+ghost use Rattle.ddcmp_session.specs.declared.options.LineKind.{LineKind as LineKindValue};
+ghost use Rattle.ddcmp_session.specs.declared.options.Options.{Options as OptionsValue};
+ghost use Rattle.ddcmp_session.specs.declared.messages.Form.TheVariants.{Binary};
+ghost use Rattle.ddcmp_laws.specs.Links.{IsHistory, after_history, new_history, offered_in};
+ghost use Rattle.ddcmp_session.specs.Calls.{SessionStep, new_session, IsSessionHistory};
+ghost use Rattle.ddcmp_session.specs.Calls.{after_session_steps, Shown};
+ghost use Rattle.ddcmp_laws.specs.Sessions.{link_steps_in, IsOfLink, messages_of, mail_in};
+ghost use Rattle.ddcmp_laws.specs.Sessions.{texts_of};
+
+/// Each list of calls of a new session of data is a list of calls of its link. Of these the bytes
+/// of the line that were used and that the line took are those of the session; the messages that
+/// were offered are those of the input, in their order, each once, and all of them were accepted;
+/// and the messages that were taken are those that the session delivered.
+pub fn session_calls_are_link_calls()
+    ensures calls { (options : OptionsValue) (kind : LineKindValue) (line : ReaderView)
+        (steps : List SessionStep) → options.maintenance ≡ false
+        → IsSessionHistory steps (new_session options kind line)
+        → IsHistory (link_steps_in steps (new_session options kind line))
+        (new_history options.config options.timer_ms line) }
+    ensures same { (options : OptionsValue) (kind : LineKindValue) (line : ReaderView)
+        (steps : List SessionStep) → options.maintenance ≡ false
+        → IsSessionHistory steps (new_session options kind line)
+        → IsOfLink options.form options.config.max
+        (after_session_steps steps (new_session options kind line))
+        (after_history (link_steps_in steps (new_session options kind line))
+        (new_history options.config options.timer_ms line)) }
+    ensures offers { (options : OptionsValue) (kind : LineKindValue) (line : ReaderView)
+        (steps : List SessionStep) → options.maintenance ≡ false
+        → IsSessionHistory steps (new_session options kind line)
+        → offered_in (link_steps_in steps (new_session options kind line))
+        ≡ messages_of options.form options.config.max
+        (after_session_steps steps (new_session options kind line)).input }
+{}
+
+/// What standard output took of a new session, and after it what waits for it, is the text of the
+/// messages that were delivered and of what was reported, in their order. In binary it is the
+/// messages alone, each after its length.
+pub fn output_is_text_of()
+    ensures text { (options : OptionsValue) (kind : LineKindValue) (line : ReaderView)
+        (steps : List SessionStep)
+        → IsSessionHistory steps (new_session options kind line)
+        → (after_session_steps steps (new_session options kind line)).written
+        ++ (after_session_steps steps
+        (new_session options kind line)).session.output.waiting
+        ≡ texts_of options.form
+        (after_session_steps steps (new_session options kind line)).shown }
+    ensures binary { (shown : List Shown) → texts_of Binary shown ≡ in_binary (mail_in shown) }
+{}

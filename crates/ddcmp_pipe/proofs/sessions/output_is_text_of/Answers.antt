@@ -1,9 +1,0 @@
-use Rattle.ddcmp_pipe.proofs.Writing.{is_text}
-use Rattle.ddcmp_pipe.proofs.Texts.{only_mail}
-use Rattle.ddcmp_pipe.proofs.sessions.output_is_text_of.Goals as goal
-
-pub returns-clause-text : goal.returns-clause-text
-returns-clause-text c = is_text
-
-pub returns-clause-binary : goal.returns-clause-binary
-returns-clause-binary c = only_mail
