@@ -7,12 +7,10 @@ ghost use Rattle.ddcmp_picture.specs.Labels.{holding_label, with_fault};
 use crate::short_text::ShortText;
 use ddcmp_explain::{LABEL_ROOM, label_frame};
 use ddcmp_frame::Header;
+use ddcmp_frame::codes::SYN;
 use ddcmp_pair::{Notice, Station};
 use ddcmp_proto::Counters;
 use ddcmp_station::{notice_name, notice_number, state_name};
-
-/// The fill before a frame.
-const SYN: u8 = 0x96;
 
 /// How many bytes of fill stand in front.
 #[tactic(auto, using(crate::proofs::LabelLaws::fill_step, crate::proofs::LabelLaws::fill_ends, crate::proofs::LabelLaws::fill_all))]

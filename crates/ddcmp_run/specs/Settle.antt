@@ -78,13 +78,6 @@ settling p =
 abbrev pub settled : PairState → PairState
 settled p = run (settling p).events p
 
--- A pair that stopped between two of these events: some were done, and the rest wasn't.
-pub record StoppedAmong (events : List Event) (before after : PairState) : Type 0 where
-  pub done : List Event
-  pub rest : List Event
-  pub events_are : done ++ rest ≡ events
-  pub state : after ≡ run done before
-
 -- An allocation failure stopped a pair between two of these events: some were done, each of them
 -- whole, and the next one allocates.
 pub record WantsMemory (events : List Event) (before after : PairState) : Type 0 where
