@@ -79,6 +79,28 @@ def late_server():
         wrong(f"{link.errors()}")
 
 
+def taken_address():
+    """An address that another program listens at ends a link, and with --again is tried again."""
+    with server() as it:
+        port = it.getsockname()[1]
+        name = f"127.0.0.1:{port}"
+        wants("taken", Link(f"listen:{name}"), 3, f"ddcmp: listen {name}: address in use")
+        link = Link(f"listen:{name}", "--again")
+        if not link.waits(lambda it: len(it.faults()) == 2, 6):
+            wrong(f"{link.errors()}")
+    if not link.waits(lambda it: it.events() == [f"listening {name}"], 6):
+        wrong(f"{link.errors()}")
+    other = Link(f"connect:{name}")
+    other.give(b"61\n")
+    if other.ended(10) != 0 or not link.waits(lambda it: b"mail 61\n" in it.said):
+        wrong(f"{other.errors()} {link.lines()} {link.errors()}")
+    link.kill()
+    wanted = [f"ddcmp: listen {name}: address in use; retry in {it} s" for it in (1, 2)]
+    if link.faults()[:2] != wanted:
+        wrong(f"{link.errors()}")
+    wants("unknown", Link("listen:nosuchhost.invalid:1"), 3, "ddcmp: listen nosuchhost.invalid:1: no such host", 20)
+
+
 def server_away():
     """A server that is away for 2.5 s and comes back; while it is there the first retry is at once."""
     it = server()
@@ -303,6 +325,6 @@ def pace_of_lines():
     it.close()
 
 
-TRIALS = [again, closed_at_once, late_server, server_away, udp_pair, datagrams, cut_datagrams, datagram_names,
+TRIALS = [again, closed_at_once, late_server, taken_address, server_away, udp_pair, datagrams, cut_datagrams, datagram_names,
           no_device, pace, first_nak, pace_of_lines, seconds_in_pause]
 LONG_TRIALS = [restarts, longest_pause]

@@ -34,18 +34,20 @@ Begins kind.Datagrams NotYet = ⊤
 Begins kind.Device NotYet = ⊤
 Begins _ _ = ⊥
 
--- a connection is begun and made, and one from a caller only made; other lines are open at once
+-- a connection is begun and made, and one from a caller listened for and made; other lines are open
+-- at once
 abbrev pub Opens : LineKind → Opened → Type 0
 Opens kind.Connect (Connected (line.Stream stream) peer) = ⊤
 Opens kind.Connect (Connecting peer) = ⊤
 Opens kind.Connect NotYet = ⊤
+Opens kind.Listen (Listening address) = ⊤
 Opens kind.Listen (Connected (line.Stream stream) peer) = ⊤
 Opens kind.Listen NotYet = ⊤
 Opens kind.Datagrams (Line (line.Datagrams socket peer)) = ⊤
 Opens kind.Device (Line (line.Device file)) = ⊤
 Opens _ _ = ⊥
 
--- If nothing came of it yet, the connection that is waited for, if one is, stays the same.
+-- If nothing came of it yet, the connection or the listener stays the same, if there is one.
 abbrev pub SameIfNotYet : {C : Type 0} → C → C → Opened → Type 0
 SameIfNotYet old new NotYet = new ≡ old
 SameIfNotYet old new _ = ⊤

@@ -179,7 +179,7 @@ impl<S: System, C: Clock + Drop, R: Source, W: Sink> Devices for Live<'_, S, C, 
     ghost use Rattle.std.specs.Prelude.{IfOk, OnErr, None, Some, is_some};
     ghost use Rattle.ddcmp_service.specs.Events.{Reports};
     ghost use Rattle.ddcmp_service.specs.LineNames.{line_kind, not_opened_of};
-    ghost use Rattle.ddcmp_service.specs.Opening.{Begins, SameIfNotYet, Opens, event_of, line_of};
+    ghost use Rattle.ddcmp_service.specs.Opening.{SameIfNotYet, Opens, event_of, line_of};
     ghost use Rattle.ddcmp_service.specs.declared.event.Event.TheVariants as event;
     ghost use Rattle.ddcmp_service.specs.declared.opening.Opened.{Opened};
 
@@ -187,17 +187,8 @@ impl<S: System, C: Clock + Drop, R: Source, W: Sink> Devices for Live<'_, S, C, 
 
     type Refusal = OpenRefusal;
 
-    fn begin_lines(&mut self, session: &mut Session) -> Result<(), OpenRefusal>
-        ensures session { session.new.state ≡ session.old.state }
-        ensures log { session.new.log
-            ≡ record session.old.log { errors = session.new.log.errors } }
-        ensures reports { IfOk result (λ _. (opened : Opened)
-            × Begins (line_kind self.old.opener.name) opened
-            × Reports (event_of opened) session.old.log.errors session.new.log.errors) }
-        ensures refused { OnErr result (session.new ≡ session.old) }
-    {
-        let begun = self.opener.listen(self.system, &mut self.waiting)?;
-        report(session, begun.event());
+    // A listener is made as the first line is opened, since that may be tried again.
+    fn begin_lines(&mut self, _session: &mut Session) -> Result<(), OpenRefusal> {
         Ok(())
     }
 
@@ -208,6 +199,7 @@ impl<S: System, C: Clock + Drop, R: Source, W: Sink> Devices for Live<'_, S, C, 
         ensures reports { IfOk result (λ is_open. (opened : Opened)
             × Opens (line_kind self.old.opener.name) opened
             × SameIfNotYet self.old.opener.connecting self.new.opener.connecting opened
+            × SameIfNotYet self.old.opener.listener self.new.opener.listener opened
             × (self.new.line ≡ line_of opened) × (is_open ≡ is_some (line_of opened))
             × Reports (event_of opened) session.old.log.errors session.new.log.errors) }
         ensures refused { OnErr result (session.new ≡ session.old) }

@@ -1,5 +1,5 @@
 //! Opening the line that a name names.
-ghost use Rattle.std.specs.Prelude.{◌≡◌, IfErr, IfOk, false};
+ghost use Rattle.std.specs.Prelude.{◌≡◌, ◌+◌, ◌-◌, ◌^◌, IfErr, IfOk, None, Some, false, min};
 ghost use Rattle.ddcmp_service.specs.LineNames.{line_kind, not_opened_of};
 ghost use Rattle.ddcmp_service.specs.Opening.{Begins, SameIfNotYet, Opens, event_of, line_of};
 ghost use Rattle.ddcmp_session.specs.declared.options.LineKind.TheVariants as kind;
@@ -136,11 +136,12 @@ impl<'a> Opener<'a> {
                 self.listener = Some(listener);
                 Ok(Opened::Listening(addr))
             }
-            Err(error) => Err(refused_by(&error)),
+            Err(cause) => Err(refused(cause)),
         }
     }
 
-    /// Opens the line, takes who has come, or sees whether a connection is there.
+    /// Opens the line, takes who has come, or sees whether a connection is there; listens first, if
+    /// the line is one of whoever comes and that hasn't been done.
     pub(crate) fn open<S>(
         &mut self,
         system: &S,
@@ -150,12 +151,16 @@ impl<'a> Opener<'a> {
         S: Net<Stream = net::TcpStream, Listener = net::TcpListener> + Files<File = File>,
         ensures opened { IfOk result (Opens (line_kind self.old.name)) }
         ensures begun { IfOk result (SameIfNotYet self.old.connecting self.new.connecting) }
+        ensures listens { IfOk result (SameIfNotYet self.old.listener self.new.listener) }
     {
         match self.name {
             LineName::Connect(name) => self.connect(system, waiting, name),
-            LineName::Listen(_) => match accepted(&self.listener, waiting) {
-                Ok(opened) => Ok(opened),
-                Err(error) => Err(refused_by(&error)),
+            LineName::Listen(_) => match &self.listener {
+                None => self.listen(system, waiting),
+                Some(listener) => match accepted(listener, waiting) {
+                    Ok(opened) => Ok(opened),
+                    Err(error) => Err(refused_by(&error)),
+                },
             },
             LineName::Udp { local, remote } => bound(system, waiting, local, remote),
             LineName::Device(path) => device(system, waiting, path),
@@ -171,6 +176,7 @@ impl<'a> Opener<'a> {
     ) -> Result<Opened, OpenRefusal>
         ensures opened { IfOk result (Opens kind.Connect) }
         ensures begun { IfOk result (SameIfNotYet self.old.connecting self.new.connecting) }
+        ensures listener { self.new.listener ≡ self.old.listener }
     {
         if let Some(stream) = self.connecting.take() {
             match peer_of(&stream) {
@@ -208,13 +214,18 @@ impl<'a> Opener<'a> {
     }
 
     /// An address failed so: the next one is tried.
-    fn fails(&mut self, kind: ErrorKind) {
+    fn fails(&mut self, kind: ErrorKind)
+        ensures { self.new
+            ≡ record self.old { failed = Some kind; which = min (self.old.which + 1) (2 ^ 64 - 1) } }
+    {
         self.failed = Some(kind);
         self.which = self.which.saturating_add(1);
     }
 
     /// The next connection is to the first address of its name.
-    fn begin_anew(&mut self) {
+    fn begin_anew(&mut self)
+        ensures { self.new ≡ record self.old { failed = None; which = 0 } }
+    {
         self.failed = None;
         self.which = 0;
     }
@@ -247,13 +258,31 @@ fn begin_connecting<N: Net>(
     Ok(stream)
 }
 
-/// A listener at an address, and which address it has.
+/// A listener at the first address of a name that can be listened at, and which address it has.
 fn listening<N: Net<Stream = net::TcpStream, Listener = net::TcpListener>>(
     net: &N,
     waiting: &mut Waiting,
     name: &str,
+) -> Result<(TcpListener, SocketAddr), Cause> {
+    let mut failed = ErrorKind::InvalidInput;
+    for index in 0..usize::MAX {
+        let Some(addr) = address(net, name, index)? else {
+            break;
+        };
+        match listening_at(net, waiting, addr) {
+            Ok(listens) => return Ok(listens),
+            Err(error) => failed = error.kind(),
+        }
+    }
+    Err(Cause::System(failed))
+}
+
+fn listening_at<N: Net<Stream = net::TcpStream, Listener = net::TcpListener>>(
+    net: &N,
+    waiting: &mut Waiting,
+    addr: SocketAddr,
 ) -> io::Result<(TcpListener, SocketAddr)> {
-    let listener = net::TcpListener::bind(net, name)?;
+    let listener = net::TcpListener::bind(net, addr)?;
     let addr = listener.local_addr()?;
     listener.set_nonblocking(true)?;
     let mut listener = TcpListener::from_std(listener);
@@ -261,12 +290,9 @@ fn listening<N: Net<Stream = net::TcpStream, Listener = net::TcpListener>>(
     Ok((listener, addr))
 }
 
-fn accepted(listener: &Option<TcpListener>, waiting: &mut Waiting) -> io::Result<Opened>
+fn accepted(listener: &TcpListener, waiting: &mut Waiting) -> io::Result<Opened>
     ensures { IfOk result (Opens kind.Listen) }
 {
-    let Some(listener) = listener else {
-        return Ok(Opened::NotYet);
-    };
     match listener.accept() {
         Ok((mut stream, peer)) => {
             prepare_stream(&stream);
@@ -293,18 +319,58 @@ fn address<N: Net>(net: &N, name: &str, index: usize) -> Result<Option<SocketAdd
     }
 }
 
-/// The first address that a text names, for one end of a line of datagrams.
-fn first_address<N: Net>(net: &N, name: &str, is_remote: bool) -> Result<SocketAddr, OpenRefusal>
+/// The address of this index of one end of a line of datagrams; its name has a first one.
+fn address_of_end<N: Net>(
+    net: &N,
+    name: &str,
+    index: usize,
+    is_remote: bool,
+) -> Result<Option<SocketAddr>, OpenRefusal>
     ensures { IfErr result (λ refused. refused.is_remote ≡ is_remote) }
 {
-    match address(net, name, 0) {
-        Ok(Some(addr)) => Ok(addr),
-        Ok(None) => Err(OpenRefusal {
+    match address(net, name, index) {
+        Ok(None) if index == 0 => Err(OpenRefusal {
             cause: Cause::UnknownHost,
             is_remote,
         }),
+        Ok(found) => Ok(found),
         Err(cause) => Err(OpenRefusal { cause, is_remote }),
     }
+}
+
+/// The first address of the remote end that is of the family of a local one.
+fn address_like<N: Net>(
+    net: &N,
+    remote: &str,
+    local: SocketAddr,
+) -> Result<Option<SocketAddr>, OpenRefusal> {
+    for index in 0..usize::MAX {
+        match address_of_end(net, remote, index, true) {
+            Ok(Some(addr)) if addr.is_ipv4() != local.is_ipv4() => {}
+            found => return found,
+        }
+    }
+    Ok(None)
+}
+
+/// The first address of the local end of whose family the remote end has one, and that.
+fn addresses<N: Net>(
+    net: &N,
+    local: &str,
+    remote: &str,
+) -> Result<(SocketAddr, SocketAddr), OpenRefusal> {
+    for index in 0..usize::MAX {
+        let Some(here) = address_of_end(net, local, index, false)? else {
+            break;
+        };
+        if let Some(there) = address_like(net, remote, here)? {
+            return Ok((here, there));
+        }
+    }
+    Err(OpenRefusal {
+        cause: Cause::OtherFamily,
+        is_remote: true,
+    })
 }
 
 fn bound<N: Net>(
@@ -315,14 +381,7 @@ fn bound<N: Net>(
 ) -> Result<Opened, OpenRefusal>
     ensures { IfOk result (Opens kind.Datagrams) }
 {
-    let local = first_address(net, local, false)?;
-    let remote = first_address(net, remote, true)?;
-    if local.is_ipv4() != remote.is_ipv4() {
-        return Err(OpenRefusal {
-            cause: Cause::OtherFamily,
-            is_remote: true,
-        });
-    }
+    let (local, remote) = addresses(net, local, remote)?;
     match bind(net, waiting, local) {
         Ok(socket) => Ok(Opened::Line(Line::Datagrams(socket, remote))),
         Err(error) => Err(refused_by(&error)),
