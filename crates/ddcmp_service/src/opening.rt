@@ -290,22 +290,26 @@ fn listening_at<N: Net<Stream = net::TcpStream, Listener = net::TcpListener>>(
     Ok((listener, addr))
 }
 
+/// Takes who has come first and hasn't gone since.
 fn accepted(listener: &TcpListener, waiting: &mut Waiting) -> io::Result<Opened>
     ensures { IfOk result (Opens kind.Listen) }
 {
-    match listener.accept() {
-        Ok((mut stream, peer)) => {
-            prepare_stream(&stream);
-            waiting.add_socket(&mut stream)?;
-            Ok(Opened::Connected(Line::Stream(stream), peer))
-        }
-        Err(error) => match error.kind() {
-            ErrorKind::WouldBlock | ErrorKind::Interrupted | ErrorKind::ConnectionAborted => {
-                Ok(Opened::NotYet)
+    for _caller in 0..u64::MAX {
+        match listener.accept() {
+            Ok((mut stream, peer)) => {
+                prepare_stream(&stream);
+                waiting.add_socket(&mut stream)?;
+                return Ok(Opened::Connected(Line::Stream(stream), peer));
             }
-            _ => Err(error),
-        },
+            Err(error) => match error.kind() {
+                // Others may wait behind it, of whom no event tells any more.
+                ErrorKind::Interrupted | ErrorKind::ConnectionAborted => {}
+                ErrorKind::WouldBlock => return Ok(Opened::NotYet),
+                _ => return Err(error),
+            },
+        }
     }
+    Ok(Opened::NotYet)
 }
 
 /// The address of this index among those that a text names.
