@@ -14,8 +14,8 @@ ghost use Rattle.ddcmp_laws.specs.Loops.{no_traffic};
 ghost use Rattle.ddcmp_laws.specs.Pipe.{Made, session_of};
 ghost use Rattle.ddcmp_laws.specs.SessionRuns.{IsKeptByRuns, Ran};
 
-/// A new session that `ddcmp_session::Buffers::run_to_end` has run was ended as in the laws of
-/// `runs`, and then finished.
+/// A new session that `ddcmp_session::Buffers::run_to_end` has run was ended as `runs_end` has
+/// it, and then finished.
 pub fn runs_finish()
     ensures { (made : Made) (is_well : Bool) (held : BuffersView) (last : SessionView)
         (known : Option Traffic) → StandsFor made.line []
