@@ -2,9 +2,9 @@
 //! recovery in any order: what a line without loss comes to, whatever the order in which its ends
 //! are asked and bytes arrive; and the promise for whoever calls two stations: any calls, the turns
 //! of `drive`, two driven stations over streams, two links, and two sessions, each of which writes
-//! what the other reads, as through a pipe. Functions that do nothing, whose contracts are the laws;
-//! and in `station_steps`, `link_steps` and `session_steps` one for each call of a station, of a link
-//! and of a session, which makes it.
+//! what the other reads, as through a pipe. Functions that do nothing, whose contracts are the
+//! laws; and in `station_steps`, `link_steps` and `session_steps` one for each call of a station,
+//! of a link and of a session, which makes it.
 #![tactic(auto)]
 
 pub mod calls;

@@ -215,8 +215,10 @@ impl<'a> Opener<'a> {
 
     /// An address failed so: the next one is tried.
     fn fails(&mut self, kind: ErrorKind)
-        ensures { self.new
-            ≡ record self.old { failed = Some kind; which = min (self.old.which + 1) (2 ^ 64 - 1) } }
+        ensures { self.new ≡ record self.old {
+          failed = Some kind;
+          which = min (self.old.which + 1) (2 ^ 64 - 1);
+        } }
     {
         self.failed = Some(kind);
         self.which = self.which.saturating_add(1);
@@ -302,7 +304,7 @@ fn accepted(listener: &TcpListener, waiting: &mut Waiting) -> io::Result<Opened>
                 return Ok(Opened::Connected(Line::Stream(stream), peer));
             }
             Err(error) => match error.kind() {
-                // Others may wait behind it, of whom no event tells any more.
+                // Others may wait behind it, and the next wait doesn't report them again.
                 ErrorKind::Interrupted | ErrorKind::ConnectionAborted => {}
                 ErrorKind::WouldBlock => return Ok(Opened::NotYet),
                 _ => return Err(error),
