@@ -160,7 +160,7 @@ impl Flow {
     {
         let came = &self.came[self.from..self.end];
         let Taken { used, fate } = self.direction.push(now, came);
-        lines.tell(way, now, &came[..used], fate);
+        lines.log(way, now, &came[..used], fate);
         self.from += used;
     }
 

@@ -60,7 +60,7 @@ pub trait Lines {
 
     /// Bytes that came in this direction were taken at this moment, and completed a frame with this
     /// fate, if they did.
-    fn tell(&mut self, way: Way, now: u64, bytes: &[u8], fate: Option<Fate>)
+    fn log(&mut self, way: Way, now: u64, bytes: &[u8], fate: Option<Fate>)
         ensures { traffic self.new ≡ traffic self.old };
 
     /// Waits until something that is needed is ready, at most this many milliseconds; returns

@@ -1,15 +1,15 @@
 //! A station of DDCMP for C, and a reader alone.
 #![tactic(auto)]
 
-mod asking;
 mod frame_values;
 mod handle;
+mod lifecycle;
 mod line;
 mod loose;
-mod making;
 mod messages;
+mod queries;
+mod reader;
 mod reader_handle;
-mod reading;
 mod values;
 
 pub use handle::Handle;

@@ -9,8 +9,8 @@ use Rattle.ddcmp_cli.specs.declared.fault.Fault.TheVariants.{Write}
 use Rattle.std.specs.Str.{bytes_eq}
 use Rattle.std.proofs.lemmas.Slice.Eq.{bytes_eq-Decides}
 use Rattle.std.specs.Prelude.{IsOk, IsTrue}
-use Rattle.ddcmp_words.specs.declared.declined.Declined.{Declined}
-use Rattle.ddcmp_words.specs.declared.declined.Declined.TheVariants.{Memory}
+use Rattle.ddcmp_words.specs.declared.no_command.NoCommand.{NoCommand}
+use Rattle.ddcmp_words.specs.declared.no_command.NoCommand.TheVariants.{Memory}
 use Rattle.std.proofs.Common.{Bool, ap, false, inl, inr, ◌⊎◌, Result, Ok, Err, ℕ, codes, ◌≡◌, ◌∙◌}
 use Rattle.std.proofs.Common.{sym, refl, true, ◌≢◌, List, Option, Some, None}
 use Rattle.clap.specs.Words.{Text}
@@ -19,11 +19,11 @@ use Rattle.ddcmp_words.specs.Words.{IsAsked}
 use Rattle.ddcmp_words.specs.declared.command.Command.{Command}
 use Rattle.ddcmp_words.specs.declared.command.Command.TheVariants.{Explain, Simulate, Pair, Station}
 use Rattle.ddcmp_words.specs.declared.command.Command.TheVariants.{Tap, Link, Bridge}
-use Rattle.ddcmp_words.specs.declared.served.Served.{Served}
+use Rattle.ddcmp_words.specs.declared.station_args.StationArgs.{StationArgs}
 use Rattle.ddcmp_cli.specs.Connections.{Peers}
-use Rattle.ddcmp_words.specs.declared.tapped.Tapped.{Tapped}
-use Rattle.ddcmp_words.specs.declared.linked.Linked.{Linked}
-use Rattle.ddcmp_words.specs.declared.bridged.Bridged.{Bridged}
+use Rattle.ddcmp_words.specs.declared.tap_args.TapArgs.{TapArgs}
+use Rattle.ddcmp_words.specs.declared.link_args.LinkArgs.{LinkArgs}
+use Rattle.ddcmp_words.specs.declared.bridge_args.BridgeArgs.{BridgeArgs}
 
 -- Names that differ as texts aren't one name. A new command costs one line of each law below.
 other : (a b : Text) → bytes_eq a b ≡ false → ◌≡◌ {A = Option Text} (Some a) (Some b) → ⊥
@@ -55,7 +55,7 @@ pub stationed : {R : Type 0} (peers : Peers) (words : List Text) (command : Comm
     (reader reader_after : R) (old new : Option (List ℕ)) (ending : Ending)
     → IsAsked words (codes "station") → named_by words ≡ Some (name_of command)
     → HasOptions (option_in words) (text_in words) command
-    → ((served : Served) → command ≡ Station served
+    → ((served : StationArgs) → command ≡ Station served
     → (reader_after ≡ reader) × Stations peers served old new ending)
     → (reader_after ≡ reader) × StationsOrNoMemory peers words old new ending
 stationed peers words (Explain e) reader after old new ending a n h p =
@@ -79,7 +79,7 @@ pub tapped : {R : Type 0} (Further : Type 0) (words : List Text) (command : Comm
     (reader reader_after : R) (old new : Option (List ℕ)) (ending : Ending)
     → IsAsked words (codes "tap") → named_by words ≡ Some (name_of command)
     → HasOptions (option_in words) (text_in words) command
-    → ((tapped : Tapped) → command ≡ Tap tapped
+    → ((tapped : TapArgs) → command ≡ Tap tapped
     → (reader_after ≡ reader) × TapsAsked tapped old new ending × Further)
     → (reader_after ≡ reader) × TapsOrNoMemory words old new ending × Further
 tapped F words (Explain e) reader after old new ending a n h p =
@@ -102,7 +102,7 @@ tapped F words (Bridge b) reader after old new ending a n h p =
 pub linked : (lines : LinesKnown) (words : List Text) (command : Command) (ending : Ending)
     → IsAsked words (codes "link") → named_by words ≡ Some (name_of command)
     → HasOptions (option_in words) (text_in words) command
-    → ((linked : Linked) → command ≡ Link linked → Links lines linked ending)
+    → ((linked : LinkArgs) → command ≡ Link linked → Links lines linked ending)
     → LinksOrNoMemory lines words ending
 linked lines words (Explain e) ending a n h p =
     absurd (other (codes "link") (codes "explain") refl (sym a.names ∙ n))
@@ -121,7 +121,7 @@ linked lines words (Bridge b) ending a n h p =
 -- words that ask for a bridge are answered by it
 pub bridged : (Answered : Type 0) (words : List Text) (command : Command)
     → IsAsked words (codes "bridge") → named_by words ≡ Some (name_of command)
-    → ((bridged : Bridged) → command ≡ Bridge bridged → Answered) → Answered
+    → ((bridged : BridgeArgs) → command ≡ Bridge bridged → Answered) → Answered
 bridged A words (Explain e) a n p =
     absurd (other (codes "bridge") (codes "explain") refl (sym a.names ∙ n))
 bridged A words (Simulate scripted) a n p =
@@ -178,7 +178,7 @@ reads_a_file A words (Bridge bridged) name r a n h some then =
     no_reader name (codes "bridge") r refl refl refl (sym a.names ∙ n)
 
 -- words that ask for a command are declined for want of memory alone
-pub not_declined : {C : Type 0} (r : Result C Declined) (d : Declined) → r ≡ Err d → d ≢ Memory
+pub not_declined : {C : Type 0} (r : Result C NoCommand) (d : NoCommand) → r ≡ Err d → d ≢ Memory
     → IsOk r ⊎ (r ≡ Err Memory) → ⊥
 not_declined (Ok x) d e n h = let bad : Ok x ≡ Err d = e in cc
 not_declined (Err f) d e n (inl ok) = let bad : ◌≡◌ {A = Bool} false true = ok in cc

@@ -5,8 +5,8 @@ use Rattle.std.specs.Result.{result_ok}
 use Rattle.hex.specs.Hex.{decode_of}
 use Rattle.hex.specs.declared.error.FromHexError.{FromHexError}
 use Rattle.ddcmp_cli.specs.declared.ending.Ending.{Ending}
-use Rattle.ddcmp_words.specs.declared.served.Served.{Served}
-use Rattle.ddcmp_words.specs.declared.served.Role.{Role}
+use Rattle.ddcmp_words.specs.declared.station_args.StationArgs.{StationArgs}
+use Rattle.ddcmp_words.specs.declared.station_args.Role.{Role}
 use Rattle.ddcmp_cli.specs.Connections.{Peers}
 use Rattle.ddcmp_cli.specs.declared.ending.Ending.TheVariants.{Fault as Faulted}
 use Rattle.ddcmp_cli.specs.declared.fault.Fault.TheVariants.{Memory as NoMemory}
@@ -15,7 +15,7 @@ use Rattle.ddcmp_net.specs.declared.serve_fault.ServeFault.TheVariants as servin
 use Rattle.ddcmp_io.specs.declared.device.LineFault.TheVariants as line
 use Rattle.ddcmp_cli.specs.Endings.{Connects, SendsDecoded, Stations, ending_of, serve_fault}
 
-decoded : (peers : Peers) (role : Role) (served : Served) (d : Result (List ℕ) FromHexError)
+decoded : (peers : Peers) (role : Role) (served : StationArgs) (d : Result (List ℕ) FromHexError)
     (message : List ℕ) (old new : Option (List ℕ)) (ending : Ending)
     → Some message ≡ result_ok d → Connects peers role served message old new ending
     → SendsDecoded peers role served d old new ending
@@ -37,7 +37,7 @@ want-of (Err (serving.Line line.Ended)) e = cc
 want-of (Err (serving.Line line.Memory)) e = inr refl
 
 -- a message was read, and then the connection was opened or not
-pub connects : (peers : Peers) (role : Role) (served : Served) (message : List ℕ)
+pub connects : (peers : Peers) (role : Role) (served : StationArgs) (message : List ℕ)
     (old new : Option (List ℕ)) (ending : Ending)
     → served.role ≡ Some role → length served.send.now ≤ 3000
     → Some message ≡ result_ok (decode_of served.send.now)

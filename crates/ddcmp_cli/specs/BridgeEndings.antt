@@ -10,7 +10,7 @@ use Rattle.ddcmp_explain.specs.declared.notation.Notation.{Notation as Wording}
 use Rattle.ddcmp_explain.specs.declared.notation.Notation.TheVariants as words
 use Rattle.ddcmp_tap.specs.declared.notation.Notation.{Notation}
 use Rattle.ddcmp_tap.specs.declared.notation.Notation.TheVariants.{Plain, Ladder, Json}
-use Rattle.ddcmp_words.specs.declared.bridged.Bridged.{Bridged}
+use Rattle.ddcmp_words.specs.declared.bridge_args.BridgeArgs.{BridgeArgs}
 use Rattle.ddcmp_cli.specs.declared.fault.Fault.TheVariants.{Write, Memory, Ended}
 use Rattle.ddcmp_cli.specs.declared.ending.Ending.{Ending}
 use Rattle.ddcmp_cli.specs.declared.ending.Ending.TheVariants.{Done, Usage, Fault as Faulted}
@@ -22,7 +22,7 @@ lines_of words.Json trace = Some Json
 lines_of words.Plain trace = if trace then Some Plain else None
 
 -- or as a ladder, if one is asked for
-abbrev pub trace_of : Bridged → Option Notation
+abbrev pub trace_of : BridgeArgs → Option Notation
 trace_of bridged =
     if bridged.ladder then Some Ladder else lines_of bridged.notation bridged.trace
 

@@ -1,7 +1,7 @@
 -- What is known of the connections that stations are served over.
 use Rattle.std.specs.Prelude.{ℕ, Bool, List, Option, None}
 use Rattle.ddcmp_io.specs.Written.{Known}
-use Rattle.ddcmp_words.specs.declared.served.Role.{Role}
+use Rattle.ddcmp_words.specs.declared.station_args.Role.{Role}
 
 -- Of a connection in this role to this address: whether it can be had, and the bytes that come over
 -- it, where that is known.

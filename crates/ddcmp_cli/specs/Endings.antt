@@ -37,19 +37,19 @@ use Rattle.clap.specs.Words.{Text}
 use Rattle.ddcmp_words.specs.declared.command.Command.{Command}
 use Rattle.ddcmp_words.specs.declared.command.Command.TheVariants.{Explain, Simulate, Pair, Station}
 use Rattle.ddcmp_words.specs.declared.command.Command.TheVariants.{Tap, Link, Bridge}
-use Rattle.ddcmp_words.specs.declared.explained.Explained.{Explained}
-use Rattle.ddcmp_words.specs.declared.scripted.Beginning.{Beginning}
-use Rattle.ddcmp_words.specs.declared.scripted.Scripted.{Scripted}
-use Rattle.ddcmp_words.specs.declared.served.Served.{Served}
-use Rattle.ddcmp_words.specs.declared.served.Role.{Role}
+use Rattle.ddcmp_words.specs.declared.explain_args.ExplainArgs.{ExplainArgs}
+use Rattle.ddcmp_words.specs.declared.script_args.Beginning.{Beginning}
+use Rattle.ddcmp_words.specs.declared.script_args.ScriptArgs.{ScriptArgs}
+use Rattle.ddcmp_words.specs.declared.station_args.StationArgs.{StationArgs}
+use Rattle.ddcmp_words.specs.declared.station_args.Role.{Role}
 use Rattle.ddcmp_cli.specs.Connections.{Peers}
 use Rattle.ddcmp_net.specs.declared.serve_fault.ServeFault.{ServeFault}
 use Rattle.ddcmp_net.specs.declared.serve_fault.ServeFault.TheVariants as serving
 use Rattle.ddcmp_io.specs.declared.device.LineFault.TheVariants as line
-use Rattle.ddcmp_words.specs.declared.linked.Linked.{Linked}
-use Rattle.ddcmp_words.specs.declared.tapped.Tapped.{Tapped}
-use Rattle.ddcmp_words.specs.declared.declined.Declined.{Declined}
-use Rattle.ddcmp_words.specs.declared.declined.Declined.TheVariants.{Help, Version, Usage, Memory}
+use Rattle.ddcmp_words.specs.declared.link_args.LinkArgs.{LinkArgs}
+use Rattle.ddcmp_words.specs.declared.tap_args.TapArgs.{TapArgs}
+use Rattle.ddcmp_words.specs.declared.no_command.NoCommand.{NoCommand}
+use Rattle.ddcmp_words.specs.declared.no_command.NoCommand.TheVariants.{Help, Version, Usage, Memory}
 use Rattle.ddcmp_io.specs.declared.device.Worst.TheVariants.{Fine}
 use Rattle.ddcmp_io.specs.Change.{SourceChange, SinkChange}
 use Rattle.ddcmp_io.specs.Input.{GaveMost}
@@ -65,16 +65,16 @@ use Rattle.ddcmp_explain.specs.Dumps.{ExplainsDump}
 use Rattle.ddcmp_explain.specs.Explains.{Explains}
 use Rattle.ddcmp_net.specs.Serving.{Serves}
 use Rattle.ddcmp_station.specs.Driving.{Devices}
-use Rattle.ddcmp_cli.specs.TapEndings.{TapEnds, told_as}
+use Rattle.ddcmp_cli.specs.TapEndings.{TapEnds, notation_of}
 use Rattle.ddcmp_tap.specs.Pumping.{Says, head_of}
 use Rattle.ddcmp_tap.specs.InTurn.{Lasts, SaysInTurn}
 use Rattle.ddcmp_tap.specs.declared.tap_fault.TapFault.{TapFault}
 use Rattle.ddcmp_cli.specs.LinkEndings.{LinesKnown, Links}
 use Rattle.ddcmp_cli.specs.BridgeEndings.{Bridges}
 use Rattle.ddcmp_cli.specs.Origins.{origin_of, written as written_of}
-use Rattle.ddcmp_explain.specs.declared.spelled.Written.{Written}
-use Rattle.ddcmp_explain.specs.declared.spelled.Written.TheVariants.{As, Detected}
-use Rattle.ddcmp_explain.specs.declared.spelled.Written.TheVariants as written
+use Rattle.ddcmp_explain.specs.declared.input_bytes.Written.{Written}
+use Rattle.ddcmp_explain.specs.declared.input_bytes.Written.TheVariants.{As, Detected}
+use Rattle.ddcmp_explain.specs.declared.input_bytes.Written.TheVariants as written
 use Rattle.hex.specs.Hex.{decode_of}
 use Rattle.hex.specs.declared.error.FromHexError.{FromHexError}
 
@@ -181,30 +181,30 @@ abbrev pub Untouched : Streams → Type 0
 Untouched s = (s.left ≡ Some s.input) × Keeps s.before s.after
 
 -- some input of a form was explained, and the ending reports the result
-abbrev pub ExplainsTo : Form → Explained → Streams → Ending → Type 0
+abbrev pub ExplainsTo : Form → ExplainArgs → Streams → Ending → Type 0
 ExplainsTo by e s ending =
     (result : Result (Unit {0}) ExplainFault) × (ending ≡ ending_of explain_fault result)
     × Explains by e.style e.max s.input s.left s.before s.after result
 
 -- some dump was explained, and the ending reports the result
-abbrev pub ExplainsDumpTo : Explained → Streams → Ending → Type 0
+abbrev pub ExplainsDumpTo : ExplainArgs → Streams → Ending → Type 0
 ExplainsDumpTo e s ending =
     (result : Result (Unit {0}) DumpFault) × (ending ≡ ending_of dump_fault result)
     × ExplainsDump e.style e.max s.input s.left s.before s.after result
 
 -- some input was explained as what its first bytes are, and the ending reports the result
-abbrev pub ExplainsDetectedTo : Explained → Streams → Ending → Type 0
+abbrev pub ExplainsDetectedTo : ExplainArgs → Streams → Ending → Type 0
 ExplainsDetectedTo e s ending =
     (result : Result (Unit {0}) DetectedFault) × (ending ≡ ending_of detected_fault result)
     × ExplainsDetected e.style e.max s.input s.left s.before s.after result
 
 -- an input that is so written was explained
-abbrev pub ExplainsBy : Written → Explained → Streams → Ending → Type 0
+abbrev pub ExplainsBy : Written → ExplainArgs → Streams → Ending → Type 0
 ExplainsBy (As by) e s ending = ExplainsTo by e s ending
 ExplainsBy written.Dump e s ending = ExplainsDumpTo e s ending
 ExplainsBy Detected e s ending = ExplainsDetectedTo e s ending
 
-abbrev pub ExplainsInput : Explained → Streams → Ending → Type 0
+abbrev pub ExplainsInput : ExplainArgs → Streams → Ending → Type 0
 ExplainsInput e s ending = ExplainsBy (written_of e) e s ending
 
 -- the ending reports that the file of this name can't be opened
@@ -230,7 +230,7 @@ ReadsFile name held Reading before after ending =
 
 -- standard input was explained, or a file, and then standard input wasn't read; of each name `held`
 -- says what the file holds
-abbrev pub ExplainsFrom : (List ℕ → Known) → Option (Bor (List ℕ)) → Explained → Streams → Ending
+abbrev pub ExplainsFrom : (List ℕ → Known) → Option (Bor (List ℕ)) → ExplainArgs → Streams → Ending
     → Type 0
 ExplainsFrom held None e s ending = ExplainsInput e s ending
 ExplainsFrom held (Some name) e s ending =
@@ -255,7 +255,7 @@ UnlessMisused true Refused Explained ending = (is_refusal ending ≡ true) × Re
 UnlessMisused false Refused Explained ending = Explained ending
 
 -- a ladder is of two files, and two files are for a ladder, which isn't in JSON
-abbrev pub is_ladder_misused : Explained → Bool
+abbrev pub is_ladder_misused : ExplainArgs → Bool
 is_ladder_misused e =
     if e.ladder then is_none e.file || (is_none e.second || is_json e.style.notation)
     else is_some e.second
@@ -275,14 +275,14 @@ DrawsFiles first second before after ending =
 
 -- two files were drawn, and standard input wasn't read, or one input was explained
 abbrev pub ExplainsOrDraws : (List ℕ → Known) → Option (Bor (List ℕ)) → Option (Bor (List ℕ))
-    → Explained → Streams → Ending → Type 0
+    → ExplainArgs → Streams → Ending → Type 0
 ExplainsOrDraws held file None e s ending = ExplainsFrom held file e s ending
 ExplainsOrDraws held None (Some second) e s ending = ExplainsFrom held None e s ending
 ExplainsOrDraws held (Some first) (Some second) e s ending =
     (s.left ≡ Some s.input) × DrawsFiles first.now second.now s.before s.after ending
 
 -- `explain` with its options
-abbrev pub ExplainsAsked : (List ℕ → Known) → Explained → Streams → Ending → Type 0
+abbrev pub ExplainsAsked : (List ℕ → Known) → ExplainArgs → Streams → Ending → Type 0
 ExplainsAsked held e s ending =
     UnlessMisused (is_misused e.form e.from || is_ladder_misused e) (λ ended. Untouched s)
     (λ ended. ExplainsOrDraws held e.file e.second e s ended) ending
@@ -292,7 +292,7 @@ ExplainsAsked held e s ending =
 abbrev pub ExplainsOrNoMemory : (List ℕ → Known) → List Text → Streams → Ending → Type 0
 ExplainsOrNoMemory held words s ending =
     ((ending ≡ Faulted NoMemory) × (s.left ≡ Some s.input) × Appends s.before s.after [])
-    ⊎ ((e : Explained) × HasExplain (option_in words) (text_in words) e
+    ⊎ ((e : ExplainArgs) × HasExplain (option_in words) (text_in words) e
     × ExplainsAsked held e s ending)
 
 -- the name of the file that a command reads in place of standard input
@@ -405,12 +405,12 @@ ShowsFrom held (Some name) view Draws Writes s ending =
     (ReadsFile name.now (held name.now) Writes s.before s.after ending)
 
 -- `simulate` and `pair` with their options
-abbrev pub SimulatesAsked : (List ℕ → Known) → Scripted → Streams → Ending → Type 0
+abbrev pub SimulatesAsked : (List ℕ → Known) → ScriptArgs → Streams → Ending → Type 0
 SimulatesAsked held it s ending =
     ShowsFrom held it.file it.view (DrawsSimulated it.from)
     (Simulates it.from it.view.counters) s ending
 
-abbrev pub PairsAsked : (List ℕ → Known) → Scripted → Streams → Ending → Type 0
+abbrev pub PairsAsked : (List ℕ → Known) → ScriptArgs → Streams → Ending → Type 0
 PairsAsked held it s ending =
     ShowsFrom held it.file it.view (DrawsPaired it.from) (Pairs it.from it.view.counters) s
     ending
@@ -425,7 +425,7 @@ pub record TellsDevices (source : SourceChange) (broken : Bool) (ending : Ending
 
 -- A station was served over a connection, of which this comes where that is known, with this
 -- message to send, and the ending reports the result. On an allocation failure nothing was written.
-pub record ServesOver (gives : Known) (served : Served) (message : List ℕ) (old new : Known)
+pub record ServesOver (gives : Known) (served : StationArgs) (message : List ℕ) (old new : Known)
     (ending : Ending) : Type 0 where
   pub answer : Result (Unit {0}) ServeFault
   pub failed : Bool
@@ -438,14 +438,14 @@ pub record ServesOver (gives : Known) (served : Served) (message : List ℕ) (ol
 
 -- The connection can't be made, or a station is served over it. Where it is known whether the
 -- connection can be had, only one of both comes.
-abbrev pub Connects : Peers → Role → Served → List ℕ → Known → Known → Ending → Type 0
+abbrev pub Connects : Peers → Role → StationArgs → List ℕ → Known → Known → Ending → Type 0
 Connects peers role served message old new ending =
     ((peers.opens role served.addr.now ≢ Some true) × (ending ≡ Faulted Carrier) × Keeps old new)
     ⊎ ((peers.opens role served.addr.now ≢ Some false)
     × ServesOver (peers.gives role served.addr.now) served message old new ending)
 
 -- what became of a message of digits that aren't too many
-abbrev pub SendsDecoded : Peers → Role → Served → Result (List ℕ) FromHexError → Known → Known
+abbrev pub SendsDecoded : Peers → Role → StationArgs → Result (List ℕ) FromHexError → Known → Known
     → Ending → Type 0
 SendsDecoded peers role served (Ok message) old new ending =
     Connects peers role served message old new ending
@@ -455,7 +455,7 @@ SendsDecoded peers role served (Err refused) old new ending =
 -- What became of a station that was asked for. A word that names no role and the digits of more
 -- than 1500 bytes are usage errors, or allocation fails as they are reported; then come digits that
 -- spell no bytes, and then the connection. Only a station that is served writes.
-abbrev pub Stations : Peers → Served → Known → Known → Ending → Type 0
+abbrev pub Stations : Peers → StationArgs → Known → Known → Ending → Type 0
 Stations peers served old new ending =
     (((served.role ≡ None) ⊎ (3000 < length served.send.now))
     × (is_refusal ending ≡ true) × Keeps old new)
@@ -466,30 +466,30 @@ Stations peers served old new ending =
 abbrev pub StationsOrNoMemory : Peers → List Text → Known → Known → Ending → Type 0
 StationsOrNoMemory peers words old new ending =
     ((ending ≡ Faulted NoMemory) × Keeps old new)
-    ⊎ ((served : Served) × HasStation (option_in words) (text_in words) served
+    ⊎ ((served : StationArgs) × HasStation (option_in words) (text_in words) served
     × Stations peers served old new ending)
 
 -- some pieces of what both sides said were reported, below the head of a ladder, and the ending
 -- reports the result
-abbrev pub Taps : Tapped → Known → Known → Ending → Type 0
+abbrev pub Taps : TapArgs → Known → Known → Ending → Type 0
 Taps tapped old new ending =
     (result : Result (Unit {0}) TapFault) × TapEnds result ending
-    × Says (head_of (told_as tapped)) (told_as tapped) tapped.time tapped.max old new result
+    × Says (head_of (notation_of tapped)) (notation_of tapped) tapped.time tapped.max old new result
 
 -- callers were carried one after another until a fault that isn't of one side, and the ending
 -- reports it
-abbrev pub TapsInTurn : Tapped → Known → Known → Ending → Type 0
+abbrev pub TapsInTurn : TapArgs → Known → Known → Ending → Type 0
 TapsInTurn tapped old new ending =
     (fault : TapFault) × TapEnds (Err fault) ending × Lasts fault
-    × SaysInTurn (told_as tapped) tapped.time tapped.max old new fault
+    × SaysInTurn (notation_of tapped) tapped.time tapped.max old new fault
 
 -- one caller, or one after another if `--again` was given
-abbrev pub TapsBy : Bool → Tapped → Known → Known → Ending → Type 0
+abbrev pub TapsBy : Bool → TapArgs → Known → Known → Ending → Type 0
 TapsBy false tapped old new ending = Taps tapped old new ending
 TapsBy true tapped old new ending = TapsInTurn tapped old new ending
 
 -- what became of a tap that was asked for: JSON and a ladder at once are usage
-abbrev pub TapsAsked : Tapped → Known → Known → Ending → Type 0
+abbrev pub TapsAsked : TapArgs → Known → Known → Ending → Type 0
 TapsAsked tapped old new ending =
     UnlessMisused (tapped.ladder && is_json tapped.notation) (λ e. Keeps old new)
     (TapsBy tapped.again tapped old new) ending
@@ -498,14 +498,14 @@ TapsAsked tapped old new ending =
 abbrev pub TapsOrNoMemory : List Text → Known → Known → Ending → Type 0
 TapsOrNoMemory words old new ending =
     ((ending ≡ Faulted NoMemory) × Keeps old new)
-    ⊎ ((tapped : Tapped) × HasTap (option_in words) (text_in words) tapped
+    ⊎ ((tapped : TapArgs) × HasTap (option_in words) (text_in words) tapped
     × TapsAsked tapped old new ending)
 
 -- the link was that of the words, or there was no memory for them
 abbrev pub LinksOrNoMemory : LinesKnown → List Text → Ending → Type 0
 LinksOrNoMemory lines words ending =
     (ending ≡ Faulted NoMemory)
-    ⊎ ((linked : Linked) × HasLink (option_in words) (text_in words) linked
+    ⊎ ((linked : LinkArgs) × HasLink (option_in words) (text_in words) linked
     × Links lines linked ending)
 
 -- A command was run, and the ending reports its result. Of each name `held` says what the file
@@ -529,7 +529,7 @@ Shows text old new ending =
 
 -- What became of words that were read: `before` and `left` are what the source had and has left,
 -- old and new what the sink held and holds. Only a command reads, and usage writes nothing here.
-abbrev pub Answers : (List ℕ → Known) → Peers → LinesKnown → Result Command Declined → Known
+abbrev pub Answers : (List ℕ → Known) → Peers → LinesKnown → Result Command NoCommand → Known
     → Known → Known → Known → Ending → Type 0
 Answers held peers lines (Ok command) before left old new ending =
     (input : List ℕ) → before ≡ Some input
@@ -547,7 +547,7 @@ Answers held peers lines (Err Memory) before left old new ending =
 abbrev pub Ends : (List ℕ → Known) → Peers → LinesKnown → List Text → Known → Known → Known
     → Known → Ending → Type 0
 Ends held peers lines words before left old new ending =
-    (read : Result Command Declined) × Reads words read
+    (read : Result Command NoCommand) × Reads words read
     × Answers held peers lines read before left old new ending
 
 -- What a run of the program did, as these words ask. `Unread` and `Unwritten` say that its input

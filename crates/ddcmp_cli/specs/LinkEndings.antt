@@ -8,7 +8,7 @@ use Rattle.ddcmp_service.specs.declared.fault.ServiceFault.TheVariants as servic
 use Rattle.ddcmp_service.specs.declared.line_name.LineName.{LineName}
 use Rattle.ddcmp_session.specs.declared.link.Served.{Served}
 use Rattle.ddcmp_session.specs.declared.link.Served.TheVariants as served
-use Rattle.ddcmp_words.specs.declared.linked.Linked.{Linked}
+use Rattle.ddcmp_words.specs.declared.link_args.LinkArgs.{LinkArgs}
 use Rattle.ddcmp_cli.specs.declared.fault.Fault.TheVariants.{Read, Write, Memory, Ended, Lost}
 use Rattle.ddcmp_cli.specs.declared.ending.Ending.{Ending}
 use Rattle.ddcmp_cli.specs.declared.ending.Ending.TheVariants.{Done, SomeRefused}
@@ -46,7 +46,7 @@ means_nothing o =
 -- What became of a link that was asked for. A word that names no line is refused, and so are
 -- options that mean nothing; else a link was run over the line of that word, with these options,
 -- and the program ends as that did.
-abbrev pub Links : LinesKnown → Linked → Ending → Type 0
+abbrev pub Links : LinesKnown → LinkArgs → Ending → Type 0
 Links lines linked ending =
     (((line : LineName) → word_of line ≢ linked.line.now) × IsNoLine ending)
     ⊎ ((means_nothing linked.options ≡ true) × IsNoLine ending)

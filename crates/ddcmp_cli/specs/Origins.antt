@@ -5,9 +5,9 @@ use Rattle.std.specs.Option.{option_and_then}
 use Rattle.std.specs.Str.{bytes_eq}
 use Rattle.clap.specs.Words.{Text}
 use Rattle.ddcmp_explain.specs.declared.form.Form.TheVariants as form
-use Rattle.ddcmp_explain.specs.declared.spelled.Written.{Written}
-use Rattle.ddcmp_explain.specs.declared.spelled.Written.TheVariants.{As, Dump, Detected}
-use Rattle.ddcmp_words.specs.declared.explained.Explained.{Explained}
+use Rattle.ddcmp_explain.specs.declared.input_bytes.Written.{Written}
+use Rattle.ddcmp_explain.specs.declared.input_bytes.Written.TheVariants.{As, Dump, Detected}
+use Rattle.ddcmp_words.specs.declared.explain_args.ExplainArgs.{ExplainArgs}
 
 -- one reader takes the dumps of three programs
 abbrev pub origin_of : Text → Option Written
@@ -22,5 +22,5 @@ abbrev pub named_by : Option (Bor (List ℕ)) → Option Written
 named_by from = option_and_then (λ word. origin_of word.now) from
 
 -- as a word names it, else in the form that is asked for
-abbrev pub written : Explained → Written
+abbrev pub written : ExplainArgs → Written
 written e = unwrap_or (named_by e.from) (As e.form)

@@ -4,7 +4,7 @@ use Rattle.ddcmp_explain.specs.declared.notation.Notation.{Notation}
 use Rattle.ddcmp_explain.specs.declared.notation.Notation.TheVariants.{Plain, Json}
 use Rattle.ddcmp_tap.specs.declared.notation.Notation.{Notation as TapNotation}
 use Rattle.ddcmp_tap.specs.declared.notation.Notation.TheVariants as told
-use Rattle.ddcmp_words.specs.declared.tapped.Tapped.{Tapped}
+use Rattle.ddcmp_words.specs.declared.tap_args.TapArgs.{TapArgs}
 use Rattle.ddcmp_tap.specs.declared.tap_fault.TapFault.{TapFault}
 use Rattle.ddcmp_tap.specs.declared.tap_fault.TapFault.TheVariants as tapping
 use Rattle.ddcmp_tap.specs.declared.tap_fault.Stage.{Stage}
@@ -42,5 +42,5 @@ lines_in Plain = told.Plain
 lines_in Json = told.Json
 
 -- or a ladder, where one is asked for
-abbrev pub told_as : Tapped → TapNotation
-told_as tapped = if tapped.ladder then told.Ladder else lines_in tapped.notation
+abbrev pub notation_of : TapArgs → TapNotation
+notation_of tapped = if tapped.ladder then told.Ladder else lines_in tapped.notation

@@ -12,7 +12,7 @@ use ddcmp_explain::Notation as Wording;
 use ddcmp_io::Sink;
 use ddcmp_service::{BridgeEnd, BridgeFault, BridgeOptions, LineName};
 use ddcmp_tap::Notation;
-use ddcmp_words::Bridged;
+use ddcmp_words::BridgeArgs;
 use std::alloc::Global;
 
 /// The usage error for a word that is no line.
@@ -52,7 +52,7 @@ fn report<W: Sink>(end: &BridgeEnd, writer: &mut W) -> Ending
 }
 
 /// How the frames that come are printed: drawn if they are to be drawn and printed.
-fn traced_as(bridged: &Bridged<'_>) -> Option<Notation>
+fn traced_as(bridged: &BridgeArgs<'_>) -> Option<Notation>
     ensures { result ≡ trace_of bridged.now }
 {
     match (bridged.ladder, bridged.notation, bridged.trace) {
@@ -67,7 +67,7 @@ fn traced_as(bridged: &Bridged<'_>) -> Option<Notation>
 pub(crate) fn bridge<S: Lines, W: Sink>(
     system: &S,
     alloc: Global,
-    bridged: &Bridged<'_>,
+    bridged: &BridgeArgs<'_>,
     writer: &mut W,
 ) -> Ending
     requires whole { W.broken writer.old ≡ false }

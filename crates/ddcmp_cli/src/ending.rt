@@ -59,7 +59,7 @@ impl Ending {
 }
 
 /// Writes a line of the program for this.
-fn tell<W: fmt::Write, T: Display>(f: &mut fmt::Formatter<W>, told: &T) -> fmt::Result {
+fn write_fault<W: fmt::Write, T: Display>(f: &mut fmt::Formatter<W>, told: &T) -> fmt::Result {
     f.write_str("ddcmp: ")?;
     told.fmt(f)?;
     f.write_str("\n")
@@ -98,12 +98,12 @@ impl Display for Ending {
     fn fmt<W: fmt::Write>(&self, f: &mut fmt::Formatter<W>) -> fmt::Result {
         match self {
             Ending::Done | Ending::SomeRefused => Ok(()),
-            Ending::NoLine(why) => tell(f, why),
+            Ending::NoLine(why) => write_fault(f, why),
             Ending::Usage(text) => f.write_str(text.as_str()),
             Ending::NotText => f.write_str("ddcmp: a word is not text\n"),
             Ending::Unopened(name, why) => tell_unopened(f, name, *why),
             Ending::Unread(name, fault) => tell_unread(f, name, fault),
-            Ending::Fault(fault) => tell(f, fault),
+            Ending::Fault(fault) => write_fault(f, fault),
         }
     }
 }

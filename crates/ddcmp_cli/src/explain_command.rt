@@ -19,7 +19,7 @@ use crate::tap_command::{TWO_NOTATIONS, is_json};
 use crate::usage::usage;
 use ddcmp_explain::{DetectedFault, Form, Written, explain_detected, explain_dump, explain_with};
 use ddcmp_io::{Sink, Source, Worst};
-use ddcmp_words::Explained;
+use ddcmp_words::ExplainArgs;
 use std::alloc::Global;
 
 /// The usage error for `--raw` with `--from`.
@@ -35,7 +35,7 @@ const NO_PAIR: &str = "'--ladder' draws two files, FILE and SECOND";
 const NO_LADDER: &str = "SECOND is for '--ladder'";
 
 /// What is typed at a terminal.
-fn typed(explained: &Explained<'_>) -> &'static str {
+fn typed(explained: &ExplainArgs<'_>) -> &'static str {
     match written(explained) {
         Written::Dump => "a dump",
         Written::Detected => "hexadecimal digits, a dump or bytes",
@@ -47,7 +47,7 @@ fn typed(explained: &Explained<'_>) -> &'static str {
 /// Explains a source, as it is written.
 fn explain_source<R: Source, W: Sink>(
     alloc: Global,
-    explained: &Explained<'_>,
+    explained: &ExplainArgs<'_>,
     reader: &mut R,
     writer: &mut W,
 ) -> Ending
@@ -60,7 +60,7 @@ fn explain_source<R: Source, W: Sink>(
     ensures devices { TellsDevices (source_change (R.left reader.old) (R.left reader.new)
         (R.state reader.new)) (W.broken writer.new) result }
 {
-    let Explained { style, max, .. } = *explained;
+    let ExplainArgs { style, max, .. } = *explained;
     match written(explained) {
         Written::As(form) => match explain_with(alloc, reader, writer, form, style, max) {
             Ok(()) => Ending::Done,
@@ -82,7 +82,7 @@ fn explain_file<I: Inputs, W: Sink>(
     inputs: &I,
     alloc: Global,
     name: &str,
-    explained: &Explained<'_>,
+    explained: &ExplainArgs<'_>,
     writer: &mut W,
 ) -> Ending
     requires whole { W.broken writer.old ≡ false }
@@ -102,7 +102,7 @@ fn explain_file<I: Inputs, W: Sink>(
 fn explain_one<I: Inputs, R: Source, W: Sink>(
     inputs: &I,
     alloc: Global,
-    explained: &Explained<'_>,
+    explained: &ExplainArgs<'_>,
     reader: &mut R,
     writer: &mut W,
 ) -> Ending
@@ -153,7 +153,7 @@ fn misuse(form: Form) -> &'static str {
 
 /// The usage error of a ladder that isn't of two files, or is to be JSON, and of a second file
 /// without a ladder.
-fn ladder_misuse(explained: &Explained<'_>) -> Option<&'static str>
+fn ladder_misuse(explained: &ExplainArgs<'_>) -> Option<&'static str>
     ensures { is_some result ≡ is_ladder_misused explained.now }
 {
     match (explained.ladder, explained.file, explained.second) {
@@ -172,7 +172,7 @@ fn ladder_misuse(explained: &Explained<'_>) -> Option<&'static str>
 pub(crate) fn explain_asked<I: Inputs, R: Source, W: Sink>(
     inputs: &I,
     alloc: Global,
-    explained: &Explained<'_>,
+    explained: &ExplainArgs<'_>,
     reader: &mut R,
     writer: &mut W,
 ) -> Ending

@@ -10,7 +10,7 @@ use crate::origin::written;
 use ddcmp_explain::DetectedFault;
 use ddcmp_io::{Sink, Source};
 use ddcmp_tap::{Capture, DrawFault, NoMemory, Side, draw_captures};
-use ddcmp_words::Explained;
+use ddcmp_words::ExplainArgs;
 use std::alloc::Global;
 
 /// The capture of a side.
@@ -18,7 +18,7 @@ fn capture<R: Source + Drop>(
     alloc: Global,
     reader: R,
     side: Side,
-    explained: &Explained<'_>,
+    explained: &ExplainArgs<'_>,
 ) -> Result<Capture<R>, NoMemory>
     requires max { (1 ≤ explained.now.max) × (explained.now.max ≤ MAX_COUNT) }
 {
@@ -48,7 +48,7 @@ pub(crate) fn draw_files<I: Inputs, W: Sink>(
     alloc: Global,
     first: &str,
     second: &str,
-    explained: &Explained<'_>,
+    explained: &ExplainArgs<'_>,
     writer: &mut W,
 ) -> Ending
     requires whole { W.broken writer.old ≡ false }

@@ -19,17 +19,18 @@ mod usage;
 
 pub use connections::{Connection, Connections};
 pub use ddcmp_explain::{
-    DumpFault, ExplainFault, Form, NotDumped, Notation, Style, dump_fault, dumped, explain,
-    explain_as, explain_dump, explain_fault, explain_with, explaining, form, notation, style,
+    DumpFault, ExplainFault, Form, NotDumped, Notation, Style, dump, dump_fault, explain,
+    explain_as, explain_dump, explain_fault, explain_with, explanation, form, notation, style,
 };
-pub use ddcmp_net::{SERVED_MAX, ServeFault, serve, serve_fault, serving};
+pub use ddcmp_net::{SERVED_MAX, ServeFault, serve, serve_fault, server};
 pub use ddcmp_service::{
     BridgeEnd, BridgeFault, BridgeOptions, LineName, Options, Served as LinkServed, ServiceFault,
 };
 pub use ddcmp_tap::{TapFault, tap_fault};
 pub use ddcmp_words::{
-    Beginning, Bridged, Command, Declined, Linked, Role, Scripted, Served, Tapped, View, bridged,
-    command, declined, linked, read_words, scripted, served, tapped, view,
+    Beginning, BridgeArgs, Command, LinkArgs, NoCommand, Role, ScriptArgs, StationArgs, TapArgs,
+    View, bridge_args, command, link_args, no_command, read_words, script_args, station_args,
+    tap_args, view,
 };
 pub use ending::Ending;
 pub use fault::Fault;

@@ -12,7 +12,7 @@ use ddcmp_service::{
     BridgeEnd, BridgeFault, BridgeOptions, LineName, NotOpened, Options, Served, ServiceFault,
     bridge_lines, serve_link,
 };
-use ddcmp_words::linked::{Linked, USUAL_ATTEMPTS, USUAL_TIMER_MS};
+use ddcmp_words::link_args::{LinkArgs, USUAL_ATTEMPTS, USUAL_TIMER_MS};
 use std::alloc::Global;
 
 /// The usage error for another value of `--line`.
@@ -113,7 +113,7 @@ impl Lines for HostRuntime {
 pub(crate) fn link<S: Lines, R: Source, W: Sink>(
     system: &S,
     alloc: Global,
-    linked: &Linked<'_>,
+    linked: &LinkArgs<'_>,
     reader: &mut R,
     writer: &mut W,
 ) -> Ending

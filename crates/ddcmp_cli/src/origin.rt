@@ -4,7 +4,7 @@ ghost use Rattle.ddcmp_cli.specs.Origins.{named_by, origin_of as origin_of_word}
 ghost use Rattle.ddcmp_cli.specs.Origins.{written as written_of};
 
 use ddcmp_explain::{Form, Written};
-use ddcmp_words::Explained;
+use ddcmp_words::ExplainArgs;
 
 /// Returns what a word of `--from` names.
 pub(crate) fn origin_of(word: &str) -> Option<Written>
@@ -22,7 +22,7 @@ pub(crate) fn origin_of(word: &str) -> Option<Written>
 }
 
 /// How the input is written: as `--from` names it, else in its form.
-pub(crate) fn written(explained: &Explained<'_>) -> Written
+pub(crate) fn written(explained: &ExplainArgs<'_>) -> Written
     ensures { result ≡ written_of explained.now }
 {
     let named = match explained.from {

@@ -4,15 +4,15 @@ ghost use Rattle.std.specs.Prelude.{List, ℕ, None, Some, codes, map, string_by
 ghost use Rattle.std.specs.IoError.{error_kind};
 ghost use Rattle.ddcmp_io.specs.Input.{GaveMost};
 ghost use Rattle.ddcmp_words.specs.Words.{name_of};
-ghost use Rattle.ddcmp_words.specs.declared.served.Served.{Served as ServedValue};
+ghost use Rattle.ddcmp_words.specs.declared.station_args.StationArgs.{StationArgs as ServedValue};
 ghost use Rattle.ddcmp_cli.specs.Endings.{CanRun, Performs, Shows};
 ghost use Rattle.ddcmp_cli.specs.Endings.{streams};
-ghost use Rattle.ddcmp_words.specs.declared.tapped.Tapped.{Tapped as TappedValue};
+ghost use Rattle.ddcmp_words.specs.declared.tap_args.TapArgs.{TapArgs as TappedValue};
 ghost use Rattle.ddcmp_cli.specs.Endings.{file_named, Stations};
 ghost use Rattle.ddcmp_cli.specs.Endings.{TapsAsked};
-ghost use Rattle.ddcmp_words.specs.declared.linked.Linked.{Linked as LinkedValue};
+ghost use Rattle.ddcmp_words.specs.declared.link_args.LinkArgs.{LinkArgs as LinkedValue};
 ghost use Rattle.ddcmp_cli.specs.LinkEndings.{Links};
-ghost use Rattle.ddcmp_words.specs.declared.bridged.Bridged.{Bridged as BridgedValue};
+ghost use Rattle.ddcmp_words.specs.declared.bridge_args.BridgeArgs.{BridgeArgs as BridgedValue};
 ghost use Rattle.ddcmp_cli.specs.BridgeEndings.{Bridges};
 ghost use Rattle.ddcmp_cli.specs.Endings.{RunsAs};
 ghost use Rattle.ddcmp_io.specs.Change.{sink_change, source_change};
@@ -28,7 +28,7 @@ use crate::script_command::{pair_asked, simulate_asked};
 use crate::station_command::station;
 use crate::tap_command::tap;
 use ddcmp_io::{Sink, Source, Worst, write_all};
-use ddcmp_words::{Command, Declined, read_words};
+use ddcmp_words::{Command, NoCommand, read_words};
 pub use ddcmp_words::{
     bridge_is_asked, explain_is_asked, link_is_asked, pair_is_asked, simulate_is_asked,
     station_is_asked, tap_is_asked,
@@ -117,10 +117,10 @@ pub fn run<
 {
     match read_words(alloc, words) {
         Ok(command) => perform(system, alloc, command, reader, writer),
-        Err(Declined::Help(text)) => show(writer, text.as_str()),
-        Err(Declined::Version(text)) => show(writer, text.as_str()),
-        Err(Declined::Usage(text)) => Ending::Usage(text),
-        Err(Declined::Memory) => Ending::Fault(Fault::Memory),
+        Err(NoCommand::Help(text)) => show(writer, text.as_str()),
+        Err(NoCommand::Version(text)) => show(writer, text.as_str()),
+        Err(NoCommand::Usage(text)) => Ending::Usage(text),
+        Err(NoCommand::Memory) => Ending::Fault(Fault::Memory),
     }
 }
 

@@ -21,7 +21,7 @@ use ddcmp_net::Sockets;
 use ddcmp_pair::{Memory, Pair};
 use ddcmp_picture::{Picture, draw};
 use ddcmp_run::{End, Event};
-use ddcmp_words::{Beginning, Scripted, View};
+use ddcmp_words::{Beginning, ScriptArgs, View};
 use std::alloc::Global;
 use std::net::{Net, TcpStream};
 
@@ -204,7 +204,7 @@ fn simulate_file<I: Inputs, W: Sink>(
 pub(crate) fn simulate_asked<I: Inputs, R: Source, W: Sink>(
     inputs: &I,
     alloc: Global,
-    scripted: &Scripted<'_>,
+    scripted: &ScriptArgs<'_>,
     reader: &mut R,
     writer: &mut W,
 ) -> Ending
@@ -222,7 +222,7 @@ pub(crate) fn simulate_asked<I: Inputs, R: Source, W: Sink>(
     ensures untouched { option_map (λ name. name.now) scripted.now.file ≢ None
         → reader.new ≡ reader.old }
 {
-    let Scripted { from, view, file } = *scripted;
+    let ScriptArgs { from, view, file } = *scripted;
     match file {
         None => show_simulation(alloc, from, view, reader, writer),
         Some(name) => simulate_file(inputs, alloc, name, from, view, writer),
@@ -261,7 +261,7 @@ fn pair_file<S: Net<Stream = TcpStream> + Inputs, W: Sink>(
 pub(crate) fn pair_asked<S: Net<Stream = TcpStream> + Inputs, R: Source, W: Sink>(
     system: &S,
     alloc: Global,
-    scripted: &Scripted<'_>,
+    scripted: &ScriptArgs<'_>,
     reader: &mut R,
     writer: &mut W,
 ) -> Ending
@@ -279,7 +279,7 @@ pub(crate) fn pair_asked<S: Net<Stream = TcpStream> + Inputs, R: Source, W: Sink
     ensures untouched { option_map (λ name. name.now) scripted.now.file ≢ None
         → reader.new ≡ reader.old }
 {
-    let Scripted { from, view, file } = *scripted;
+    let ScriptArgs { from, view, file } = *scripted;
     match file {
         None => show_pair(system, alloc, from, view, reader, writer),
         Some(name) => pair_file(system, alloc, name, from, view, writer),

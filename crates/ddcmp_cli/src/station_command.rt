@@ -11,7 +11,7 @@ use crate::usage::usage;
 use ddcmp_io::Sink;
 use ddcmp_net::{SERVED_MAX, serve};
 use ddcmp_station::Elapsed;
-use ddcmp_words::Served;
+use ddcmp_words::StationArgs;
 use std::alloc::Global;
 use std::time;
 
@@ -38,7 +38,7 @@ fn message_in<'a>(digits: &str, buffer: &'a mut [u8]) -> Option<&'a [u8]>
 pub(crate) fn station<S: Connections + time::Clock, W: Sink>(
     system: &S,
     alloc: Global,
-    served: &Served<'_>,
+    served: &StationArgs<'_>,
     report: &mut W,
 ) -> Ending
     requires { W.broken report.old ≡ false }

@@ -3,7 +3,7 @@ ghost use Rattle.std.specs.Prelude.{◌≡◌, ◌≤◌, Err, IsTrue, false};
 ghost use Rattle.ddcmp_core.specs.Limits.{MAX_COUNT};
 ghost use Rattle.ddcmp_cli.specs.Endings.{Taps, TapsAsked, TapsInTurn};
 ghost use Rattle.ddcmp_cli.specs.Endings.{is_json as is_json_notation};
-ghost use Rattle.ddcmp_cli.specs.TapEndings.{TapEnds, attempt_of, told_as as notation_of};
+ghost use Rattle.ddcmp_cli.specs.TapEndings.{TapEnds, attempt_of, notation_of as notation};
 
 use crate::ending::Ending;
 use crate::fault::Fault;
@@ -13,14 +13,14 @@ use ddcmp_explain::Notation;
 use ddcmp_io::Sink;
 use ddcmp_service::{Attempt, Cause, NotOpened};
 use ddcmp_tap::{NotMade, Notation as TapNotation, Stage, TapFault, tap_again};
-use ddcmp_words::Tapped;
+use ddcmp_words::TapArgs;
 use std::alloc::Global;
 use std::io::Eprint;
 use std::net::{Net, TcpStream};
 use std::time;
 
 /// The connection that a tap can't make, as a link's line is called.
-fn not_opened<'a>(tapped: &Tapped<'a>, why: NotMade) -> NotOpened<'a>
+fn not_opened<'a>(tapped: &TapArgs<'a>, why: NotMade) -> NotOpened<'a>
     ensures { result.attempt ≡ attempt_of why.stage }
 {
     let (attempt, name) = match why.stage {
@@ -39,7 +39,7 @@ fn not_opened<'a>(tapped: &Tapped<'a>, why: NotMade) -> NotOpened<'a>
 }
 
 /// How the program ends if a tap ended so.
-fn ending_of_fault(alloc: Global, tapped: &Tapped<'_>, fault: TapFault) -> Ending
+fn ending_of_fault(alloc: Global, tapped: &TapArgs<'_>, fault: TapFault) -> Ending
     ensures ends { TapEnds (Err fault) result }
     ensures write { fault ≡ TapFault.Report → result ≡ Ending.Fault Fault.Write }
 {
@@ -64,8 +64,8 @@ pub(crate) fn is_json(notation: Notation) -> bool
 }
 
 /// How the tap logs the traffic.
-fn told_as(tapped: &Tapped<'_>) -> TapNotation
-    ensures { result ≡ notation_of tapped.now }
+fn notation_of(tapped: &TapArgs<'_>) -> TapNotation
+    ensures { result ≡ notation tapped.now }
 {
     match (tapped.notation, tapped.ladder) {
         (_, true) => TapNotation::Ladder,
@@ -78,7 +78,7 @@ fn told_as(tapped: &Tapped<'_>) -> TapNotation
 fn tap_between<S: Net<Stream = TcpStream> + Eprint + time::Clock, W: Sink>(
     system: &S,
     alloc: Global,
-    tapped: &Tapped<'_>,
+    tapped: &TapArgs<'_>,
     writer: &mut W,
 ) -> Ending
     requires whole { W.broken writer.old ≡ false }
@@ -92,7 +92,7 @@ fn tap_between<S: Net<Stream = TcpStream> + Eprint + time::Clock, W: Sink>(
         alloc,
         tapped.listen,
         tapped.connect,
-        told_as(tapped),
+        notation_of(tapped),
         tapped.time,
         tapped.max,
         writer,
@@ -106,7 +106,7 @@ fn tap_between<S: Net<Stream = TcpStream> + Eprint + time::Clock, W: Sink>(
 fn tap_in_turn<S: Net<Stream = TcpStream> + Eprint + time::Clock, W: Sink>(
     system: &S,
     alloc: Global,
-    tapped: &Tapped<'_>,
+    tapped: &TapArgs<'_>,
     writer: &mut W,
 ) -> Ending
     requires whole { W.broken writer.old ≡ false }
@@ -115,14 +115,14 @@ fn tap_in_turn<S: Net<Stream = TcpStream> + Eprint + time::Clock, W: Sink>(
     ensures taps { TapsInTurn tapped.now (W.contents writer.old) (W.contents writer.new) result }
     ensures written { IsTrue (W.broken writer.new) → result ≡ Ending.Fault Fault.Write }
 {
-    let Tapped {
+    let TapArgs {
         listen,
         connect,
         time,
         max,
         ..
     } = *tapped;
-    let notation = told_as(tapped);
+    let notation = notation_of(tapped);
     let fault = tap_again(system, alloc, listen, connect, notation, time, max, writer);
     ending_of_fault(alloc, tapped, fault)
 }
@@ -131,7 +131,7 @@ fn tap_in_turn<S: Net<Stream = TcpStream> + Eprint + time::Clock, W: Sink>(
 pub(crate) fn tap<S: Net<Stream = TcpStream> + Eprint + time::Clock, W: Sink>(
     system: &S,
     alloc: Global,
-    tapped: &Tapped<'_>,
+    tapped: &TapArgs<'_>,
     writer: &mut W,
 ) -> Ending
     requires whole { W.broken writer.old ≡ false }

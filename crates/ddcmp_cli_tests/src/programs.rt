@@ -2,7 +2,7 @@
 // written then is the matter of `worked`.
 use crate::same::{System, is};
 use ddcmp_cli::command::read_words;
-use ddcmp_cli::{Command, Declined, Ending, Fault, run, run_args};
+use ddcmp_cli::{Command, Ending, Fault, NoCommand, run, run_args};
 use ddcmp_frame::failing::{Pieces, Taken};
 use std::alloc::Global;
 use std::io::{self, ErrorKind};
@@ -183,7 +183,7 @@ fn words_that_are_no_text_are_told(rt: HostRuntime) {
 }
 
 /// What words ask for.
-fn read<'a>(alloc: Global, words: &'a [&'a str]) -> Result<Command<'a>, Declined> {
+fn read<'a>(alloc: Global, words: &'a [&'a str]) -> Result<Command<'a>, NoCommand> {
     read_words(alloc, words)
 }
 
@@ -191,10 +191,10 @@ fn read<'a>(alloc: Global, words: &'a [&'a str]) -> Result<Command<'a>, Declined
 fn text_of(alloc: Global, words: &[&str]) -> Option<(bool, String)> {
     match read(alloc, words) {
         Ok(_command) => None,
-        Err(Declined::Help(text)) => Some((false, text)),
-        Err(Declined::Version(text)) => Some((false, text)),
-        Err(Declined::Usage(text)) => Some((true, text)),
-        Err(Declined::Memory) => None,
+        Err(NoCommand::Help(text)) => Some((false, text)),
+        Err(NoCommand::Version(text)) => Some((false, text)),
+        Err(NoCommand::Usage(text)) => Some((true, text)),
+        Err(NoCommand::Memory) => None,
     }
 }
 

@@ -1,6 +1,6 @@
 //! A station over two stores.
-mod receiving;
-mod sending;
+mod receiver;
+mod sender;
 
 use crate::counters::Counters;
 use crate::state::{Owed, State, Timer};

@@ -12,10 +12,10 @@ ghost use Rattle.ddcmp_explain.specs.Inside.Openings.{IsExplainedAs};
 
 use crate::detected_fault::DetectedFault;
 use crate::detection::{Detected, detect};
+use crate::dump::explain_opened_dump;
 use crate::dump_fault::DumpFault;
-use crate::dumped::explain_opened_dump;
 use crate::explain_fault::ExplainFault;
-use crate::explaining::explain_opened;
+use crate::explanation::explain_opened;
 use crate::form::Form;
 use crate::opening::{OPENING, Opening, read_opening};
 use crate::style::Style;

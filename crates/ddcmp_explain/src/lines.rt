@@ -9,7 +9,7 @@ ghost use Rattle.ddcmp_explain.specs.Discarded.{behind, end_in, lines_in, opened
 ghost use Rattle.ddcmp_explain.specs.Discarded.{none_text, passed, rest_by};
 ghost use Rattle.ddcmp_explain.specs.Inside.Heads.{Heads};
 
-use crate::discarded::{write_discarded, write_open};
+use crate::discards::{write_discarded, write_open};
 use crate::head::Head;
 use crate::notation::{Notation, write_item, write_item_by, write_last};
 use crate::put::LINE;

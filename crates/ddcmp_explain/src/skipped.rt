@@ -5,7 +5,7 @@ ghost use Rattle.ddcmp_frame.specs.Reading.{good_frame_of};
 ghost use Rattle.ddcmp_frame.specs.Step.{item_offset};
 ghost use Rattle.ddcmp_explain.specs.Discarded.{has_frame, passed, skipped_parts, taken_by};
 
-use crate::discarded::frame_length;
+use crate::discards::frame_length;
 use ddcmp_frame::Item;
 
 /// An item: its offset, and how many bytes it takes.

@@ -4,7 +4,7 @@ use Rattle.std.proofs.Common.{append_assoc, append-nil, Some, None, Ok, Err}
 use Rattle.std.specs.Prelude.{Result}
 use Rattle.std.proofs.lemmas.List.{take-append-drop}
 use Rattle.ddcmp_station.specs.UserCalls.{UserCall}
-use Rattle.ddcmp_station.specs.declared.driving.Driven.{Driven}
+use Rattle.ddcmp_station.specs.declared.driver.Driven.{Driven}
 use Rattle.ddcmp_io.specs.declared.device.LineFault.{LineFault}
 use Rattle.ddcmp_io.specs.declared.device.LineFault.TheVariants.{Read, Write, Ended, Memory}
 use Rattle.ddcmp_station.specs.Driving.{DriveTurn, Driving, Devices, driving_from, after_turn}

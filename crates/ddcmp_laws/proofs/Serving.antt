@@ -4,7 +4,7 @@ use Rattle.std.specs.Prelude.{Result}
 use Rattle.ddcmp_io.specs.Written.{Known}
 use Rattle.ddcmp_core.specs.Core.{CoreView}
 use Rattle.ddcmp_station.specs.UserCalls.{UserCall}
-use Rattle.ddcmp_station.specs.declared.driving.Driven.{Driven}
+use Rattle.ddcmp_station.specs.declared.driver.Driven.{Driven}
 use Rattle.ddcmp_io.specs.declared.device.LineFault.{LineFault}
 use Rattle.ddcmp_io.specs.declared.device.LineFault.TheVariants.{Memory}
 use Rattle.ddcmp_station.specs.Driving.{Driving, Devices}

@@ -3,7 +3,7 @@ use Rattle.std.specs.Prelude.{◌≡◌, ℕ, Bool, List, [], ◌∷◌, Result}
 use Rattle.std.specs.Io.KnownBytes.{Appends, Consumes}
 use Rattle.ddcmp_io.specs.Written.{Known}
 use Rattle.ddcmp_core.specs.Core.{CoreView}
-use Rattle.ddcmp_station.specs.declared.driving.Driven.{Driven}
+use Rattle.ddcmp_station.specs.declared.driver.Driven.{Driven}
 use Rattle.ddcmp_io.specs.declared.device.LineFault.{LineFault}
 use Rattle.ddcmp_station.specs.Driving.{Devices, bytes_read}
 use Rattle.ddcmp_net.specs.Serving.{usual_config, OffersOnce, WritesOut, report_text}

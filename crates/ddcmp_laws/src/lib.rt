@@ -8,7 +8,7 @@
 #![tactic(auto)]
 
 pub mod calls;
-pub mod connected;
+pub mod connections;
 pub mod damage;
 pub mod delivers;
 pub mod drives_recover;
@@ -19,11 +19,11 @@ pub mod link_steps;
 pub mod links;
 pub mod loops;
 pub mod pipe;
-pub mod recovering;
+pub mod recovery;
 pub mod rests;
 pub mod rules;
 pub mod runs;
-pub mod served;
+pub mod server;
 pub mod session_runs;
 pub mod session_steps;
 pub mod sessions;

@@ -3,7 +3,7 @@ ghost use Rattle.std.specs.Prelude.{◌≡◌, ◌≢◌, ◌+◌, ◌++◌, ℕ
 ghost use Rattle.ddcmp_proto.specs.Config.{first_refusal};
 ghost use Rattle.ddcmp_proto.specs.declared.config.Config.{Config as ConfigValue};
 ghost use Rattle.ddcmp_proto.specs.Station.{StationView};
-ghost use Rattle.ddcmp_station.specs.declared.driving.Driven.{Driven as DrivenValue};
+ghost use Rattle.ddcmp_station.specs.declared.driver.Driven.{Driven as DrivenValue};
 ghost use Rattle.ddcmp_io.specs.declared.device.LineFault.{LineFault as LineFaultValue};
 ghost use Rattle.ddcmp_io.specs.declared.device.LineFault.TheVariants.{Memory};
 ghost use Rattle.ddcmp_station.specs.UserCalls.{Calls};

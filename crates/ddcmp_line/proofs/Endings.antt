@@ -17,8 +17,8 @@ use Rattle.ddcmp_io.specs.Written.{Known, Output, HoldsBy, Holds, HandsOver, App
 use Rattle.ddcmp_io.proofs.WrittenLaws.{sends-then, part-append}
 use Rattle.ddcmp_run.specs.Run.{PairState}
 use Rattle.ddcmp_line.specs.declared.command.ParsedLine.{ParsedLine}
-use Rattle.ddcmp_line.specs.declared.performing.Stop.{Stop}
-use Rattle.ddcmp_line.specs.declared.performing.Stop.TheVariants as stop
+use Rattle.ddcmp_line.specs.declared.performer.Stop.{Stop}
+use Rattle.ddcmp_line.specs.declared.performer.Stop.TheVariants as stop
 use Rattle.ddcmp_line.specs.declared.script_fault.ScriptFault.{ScriptFault}
 use Rattle.ddcmp_line.specs.declared.script_fault.ScriptFault.TheVariants.{Line, Hex, Read}
 use Rattle.ddcmp_line.specs.declared.script_fault.ScriptFault.TheVariants.{Write, Memory}

@@ -9,9 +9,9 @@ use Rattle.ddcmp_io.specs.Device.{Logs}
 use Rattle.ddcmp_io.specs.Written.{Output, HandsOver}
 use Rattle.ddcmp_io.proofs.WrittenLaws.{sends-then}
 use Rattle.ddcmp_run.specs.Run.{PairState}
-use Rattle.ddcmp_line.specs.declared.performing.Stop.{Stop}
-use Rattle.ddcmp_line.specs.declared.performing.Stop.TheVariants.{NoCommand, NotHex, Write}
-use Rattle.ddcmp_line.specs.declared.performing.Stop.TheVariants.{Memory, Carrier}
+use Rattle.ddcmp_line.specs.declared.performer.Stop.{Stop}
+use Rattle.ddcmp_line.specs.declared.performer.Stop.TheVariants.{NoCommand, NotHex, Write}
+use Rattle.ddcmp_line.specs.declared.performer.Stop.TheVariants.{Memory, Carrier}
 use Rattle.ddcmp_line.specs.ScriptWords.{reading_of, without_cr, lines_between, between_lf}
 use Rattle.ddcmp_line.specs.ScriptWords.{lines_of}
 use Rattle.ddcmp_run.specs.Carriages.{Carriage}

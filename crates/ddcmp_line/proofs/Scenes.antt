@@ -18,8 +18,8 @@ use Rattle.ddcmp_run.specs.declared.event.End.TheVariants.{A, B}
 use Rattle.ddcmp_run.specs.declared.event.Event.{Event}
 use Rattle.ddcmp_run.specs.declared.event.Event.TheVariants as event
 use Rattle.ddcmp_run.specs.declared.event.Reply.{Reply}
-use Rattle.ddcmp_line.specs.declared.performing.Stop.{Stop}
-use Rattle.ddcmp_line.specs.declared.performing.Stop.TheVariants.{Memory}
+use Rattle.ddcmp_line.specs.declared.performer.Stop.{Stop}
+use Rattle.ddcmp_line.specs.declared.performer.Stop.TheVariants.{Memory}
 use Rattle.ddcmp_run.specs.Run.{PairState, at, end_of, reply_to, after_event, asks_memory, run}
 use Rattle.ddcmp_run.specs.Settle.{other, WantsMemory}
 use Rattle.ddcmp_line.specs.ScriptText.{end_name, name_before, reply_text, counted_line}

@@ -12,10 +12,10 @@ pub mod closing;
 pub mod command;
 mod frame_lines;
 mod nowhere;
-mod performing;
+mod performer;
+mod player;
 pub mod reply_text;
 mod script_fault;
-mod scripting;
 mod view;
 
 pub use ddcmp_io::{input, text};
@@ -27,6 +27,6 @@ pub use ddcmp_pair::{
 };
 pub use ddcmp_run::{Carrier, Direct, LineFault};
 pub use ddcmp_station::{state_name, write_notice};
+pub use player::{script, script_viewed, script_with};
 pub use script_fault::ScriptFault;
-pub use scripting::{script, script_viewed, script_with};
 pub use view::View;

@@ -15,7 +15,7 @@ use Rattle.ddcmp_io.proofs.TextLaws.{sends-nothing}
 use Rattle.ddcmp_proto.specs.declared.config.Config.{Config}
 use Rattle.ddcmp_proto.specs.Bytes.{after_piece, notices_of_piece}
 use Rattle.ddcmp_proto.proofs.FeedLaws.{after_piece-limits}
-use Rattle.ddcmp_station.specs.declared.driving.Driven.{Driven}
+use Rattle.ddcmp_station.specs.declared.driver.Driven.{Driven}
 use Rattle.ddcmp_io.specs.declared.device.LineFault.{LineFault}
 use Rattle.ddcmp_io.specs.declared.device.LineFault.TheVariants.{Read, Write, Ended, Memory}
 use Rattle.ddcmp_station.specs.Config.{core_made}

@@ -10,7 +10,7 @@ use Rattle.ddcmp_core.specs.Table.{new_station, after_start}
 use Rattle.ddcmp_frame.specs.Reader.{StandsFor}
 use Rattle.ddcmp_io.specs.Written.{Known, AppendsPart}
 use Rattle.ddcmp_proto.specs.declared.config.Config.{Config}
-use Rattle.ddcmp_station.specs.declared.driving.Driven.{Driven}
+use Rattle.ddcmp_station.specs.declared.driver.Driven.{Driven}
 use Rattle.ddcmp_io.specs.declared.device.LineFault.{LineFault}
 use Rattle.ddcmp_station.specs.Config.{core_made}
 use Rattle.ddcmp_station.specs.Driving.{Devices, Drives}

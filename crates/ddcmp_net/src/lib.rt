@@ -6,10 +6,10 @@
 mod connection;
 mod reporter;
 pub mod serve_fault;
-pub mod serving;
+pub mod server;
 mod sockets;
 
 pub use connection::{accept, connect};
 pub use serve_fault::ServeFault;
-pub use serving::{SERVED_MAX, serve};
+pub use server::{SERVED_MAX, serve};
 pub use sockets::Sockets;

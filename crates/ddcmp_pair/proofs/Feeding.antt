@@ -21,7 +21,7 @@ use Rattle.ddcmp_proto.specs.Bytes.{received_of, after_item, after_items, notice
 use Rattle.ddcmp_proto.specs.Bytes.{notices_of_items, items_added, after_piece, notices_of_piece}
 use Rattle.ddcmp_proto.proofs.FeedLaws.{after_piece-append, notices_of_piece-append}
 use Rattle.ddcmp_proto.proofs.FeedLaws.{after_piece-none, notices_of_piece-none}
-use Rattle.ddcmp_pair.specs.declared.side.hearing.Heard.{Heard}
+use Rattle.ddcmp_pair.specs.declared.side.receiver.Heard.{Heard}
 use Rattle.ddcmp_run.specs.Run.{acknowledged_in, restarts_by, restarts_in}
 
 -- what is to be done from `at` on is what was to be done from `from` on

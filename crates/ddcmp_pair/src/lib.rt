@@ -5,9 +5,9 @@ mod ends;
 mod frames;
 mod messages;
 mod pair;
-mod recovering;
-mod running;
-mod settling;
+mod recovery;
+mod runner;
+mod settlement;
 mod side;
 mod watch;
 
@@ -16,7 +16,7 @@ pub use ddcmp_proto::{
 };
 pub use ddcmp_run::{Bytes, End, Event, Notices, Reply, laws};
 pub use pair::{Pair, PairRefusal};
-pub use recovering::Recovered;
-pub use running::{RunRefusal, run};
-pub use settling::Settled;
+pub use recovery::Recovered;
+pub use runner::{RunRefusal, run};
+pub use settlement::Settled;
 pub use watch::{Unwatched, Watch};

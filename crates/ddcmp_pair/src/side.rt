@@ -1,6 +1,6 @@
 //! One end of a pair: its station, and what it has done since the line was cleared.
-mod hearing;
-mod speaking;
+mod receiver;
+mod sender;
 
 use crate::frames::Frames;
 use crate::messages::Messages;

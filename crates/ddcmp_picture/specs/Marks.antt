@@ -24,8 +24,8 @@ use Rattle.ddcmp_line.specs.declared.command.ScriptCommand.TheVariants.{Damage, 
 use Rattle.ddcmp_line.specs.declared.command.ScriptCommand.TheVariants.{Recover}
 use Rattle.ddcmp_line.specs.declared.command.ScriptCommand.TheVariants.{State as StateOf}
 use Rattle.ddcmp_station.specs.StationText.{state_text}
-use Rattle.ddcmp_picture.specs.declared.asked.Asked.{Asked}
-use Rattle.ddcmp_picture.specs.declared.asked.Asked.TheVariants as asked
+use Rattle.ddcmp_picture.specs.declared.request.Asked.{Asked}
+use Rattle.ddcmp_picture.specs.declared.request.Asked.TheVariants as asked
 use Rattle.ddcmp_picture.specs.declared.mark.Fate.{Fate}
 use Rattle.ddcmp_picture.specs.declared.mark.Fate.TheVariants.{Arrived, Cut, Lost}
 use Rattle.ddcmp_picture.specs.declared.mark.Mark.{Mark}

@@ -12,14 +12,14 @@ ghost use Rattle.ddcmp_picture.specs.Marks.{told_marks};
 ghost use Rattle.ddcmp_picture.specs.Trips.{no_trips};
 ghost use Rattle.ddcmp_picture.specs.Marks.{settled_label, step_marks, step_trips, states_in};
 
-use crate::asked::Asked;
 use crate::endings::{damage, end_all, land, lose};
 use crate::flights::Flights;
 use crate::labels::label_of;
 use crate::mark::{Fate, Mark, Trip};
-use crate::notes::{across, answer, look, note, sent, tell};
+use crate::notes::{across, answer, look, note, report, sent};
 use crate::paper::Paper;
 use crate::replies::{answer_text, words};
+use crate::request::Asked;
 use crate::states::{Seen, States};
 use ddcmp_line::command::ScriptCommand;
 use ddcmp_pair::{End, Event, Pair, Recovered, Reply, Settled};
@@ -187,9 +187,9 @@ impl<P: Paper + Drop> Drawing<P> {
         let (before, now) = (self.states.at(to), Seen::of(pair, to));
         match reply {
             Reply::Notices(notices) => {
-                tell(&mut self.paper, to, notices.as_slice(), before, &now);
+                report(&mut self.paper, to, notices.as_slice(), before, &now);
             }
-            _ => tell(&mut self.paper, to, &[], before, &now),
+            _ => report(&mut self.paper, to, &[], before, &now),
         }
     }
 

@@ -8,7 +8,6 @@
 #![tactic(auto)]
 
 mod arrow;
-mod asked;
 mod canvas;
 mod caption;
 mod drawing;
@@ -21,16 +20,17 @@ mod lettering;
 mod mark;
 mod notes;
 mod paper;
-mod playing;
+mod player;
 mod replies;
+mod request;
+mod script_view;
 mod short_text;
 mod states;
 mod svg;
-mod viewing;
 
 pub use canvas::Picture;
 pub use drawing::Drawing;
 pub use mark::{Fate, Mark, Trip};
 pub use paper::Paper;
-pub use playing::draw;
+pub use player::draw;
 pub use short_text::ShortText;

@@ -137,7 +137,13 @@ fn tell_state<P: Paper>(
 /// What an end made of an arrival, in its row and below: its notices, the faults that it saw, and
 /// the state if no notice says it.
 #[tactic(auto, using(crate::proofs::NoteLaws::logs_then))]
-pub(crate) fn tell<P: Paper>(paper: &mut P, to: End, notices: &[Notice], before: &Seen, now: &Seen)
+pub(crate) fn report<P: Paper>(
+    paper: &mut P,
+    to: End,
+    notices: &[Notice],
+    before: &Seen,
+    now: &Seen,
+)
     ensures { Logs (P.drawn paper.old) (P.drawn paper.new)
         (told_marks to notices.now before.now now.now) }
 {

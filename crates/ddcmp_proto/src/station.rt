@@ -1,5 +1,5 @@
 //! A station over the bytes of its line.
-mod feeding;
+mod feed;
 
 ghost use Rattle.std.specs.Prelude.{◌≡◌, ◌+◌, ◌≤◌, ◌++◌, length, drop, replicate, option_map};
 ghost use Rattle.std.specs.Prelude.{IfSome};
@@ -15,7 +15,7 @@ use ddcmp_core::{
 use ddcmp_frame::codes::SYN;
 use ddcmp_frame::{Reader, write_around};
 use ddcmp_window::SlotStore;
-pub use feeding::Fed;
+pub use feed::Fed;
 use std::alloc::Global;
 use std::marker::Model;
 

@@ -1,6 +1,6 @@
 //! Tests of `ddcmp_station::drive` if memory is refused and at every size, of the largest
 //! stations, and of two driven stations over streams. Worked calls are in `worked`.
 
-mod driving;
+mod driver;
 mod largest;
 mod streams;

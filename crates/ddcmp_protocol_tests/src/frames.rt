@@ -2,6 +2,6 @@
 
 mod calls;
 mod devices;
-mod failing;
+mod faults;
 mod readers;
 mod vectors;

@@ -8,7 +8,7 @@ use Rattle.ddcmp_service.specs.declared.fault.NotOpened.{NotOpened}
 use Rattle.ddcmp_service.specs.declared.line_name.LineName.{LineName}
 use Rattle.ddcmp_service.specs.declared.line_name.LineName.TheVariants.{Connect, Listen, Udp}
 use Rattle.ddcmp_service.specs.declared.line_name.LineName.TheVariants.{Device}
-use Rattle.ddcmp_service.specs.declared.opening.OpenRefusal.{OpenRefusal}
+use Rattle.ddcmp_service.specs.declared.opener.OpenRefusal.{OpenRefusal}
 use Rattle.ddcmp_session.specs.declared.options.LineKind.{LineKind}
 use Rattle.ddcmp_session.specs.declared.options.LineKind.TheVariants as kind
 

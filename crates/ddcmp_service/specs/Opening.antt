@@ -4,9 +4,9 @@ use Rattle.ddcmp_service.specs.declared.event.Event.{Event}
 use Rattle.ddcmp_service.specs.declared.event.Event.TheVariants as event
 use Rattle.ddcmp_service.specs.declared.line.Line.{Line as LineValue}
 use Rattle.ddcmp_service.specs.declared.line.Line.TheVariants as line
-use Rattle.ddcmp_service.specs.declared.opening.Opened.{Opened}
-use Rattle.ddcmp_service.specs.declared.opening.Opened.TheVariants.{Line, Connected, Connecting}
-use Rattle.ddcmp_service.specs.declared.opening.Opened.TheVariants.{Listening, NotYet}
+use Rattle.ddcmp_service.specs.declared.opener.Opened.{Opened}
+use Rattle.ddcmp_service.specs.declared.opener.Opened.TheVariants.{Line, Connected, Connecting}
+use Rattle.ddcmp_service.specs.declared.opener.Opened.TheVariants.{Listening, NotYet}
 use Rattle.ddcmp_session.specs.declared.options.LineKind.{LineKind}
 use Rattle.ddcmp_session.specs.declared.options.LineKind.TheVariants as kind
 

@@ -1,8 +1,8 @@
 -- Which of the devices that are wanted are known to be ready.
 use Rattle.std.specs.Prelude.{Bool, ◌&&◌, ◌||◌, Option, Some, None}
-use Rattle.ddcmp_service.specs.declared.waiting.Descriptor.{Descriptor}
-use Rattle.ddcmp_service.specs.declared.waiting.Ready.{Ready}
-use Rattle.ddcmp_service.specs.declared.waiting.Waiting.{Waiting}
+use Rattle.ddcmp_service.specs.declared.poller.Descriptor.{Descriptor}
+use Rattle.ddcmp_service.specs.declared.poller.Ready.{Ready}
+use Rattle.ddcmp_service.specs.declared.poller.Poller.{Poller}
 use Rattle.ddcmp_session.specs.declared.devices.Wanted.{Wanted}
 
 -- a serial device, or else a socket
@@ -10,11 +10,11 @@ abbrev pub ready_of : Option Descriptor → Ready → Ready
 ready_of (Some device) socket = device.ready
 ready_of None socket = socket
 
-abbrev pub line_ready : Waiting → Ready
+abbrev pub line_ready : Poller → Ready
 line_ready w = ready_of w.device w.socket
 
 -- a device that is wanted is ready
-abbrev pub is_any_ready : Wanted → Waiting → Bool
+abbrev pub is_any_ready : Wanted → Poller → Bool
 is_any_ready wanted w =
     wanted.input && w.input.ready.to_read
     || wanted.output && w.output.ready.to_write

@@ -9,9 +9,9 @@ use crate::bridge_trace::Trace;
 use crate::fault::{Attempt, Cause, NotOpened};
 use crate::line::Line;
 use crate::line_name::LineName;
-use crate::opening::{OpenRefusal, Opened, Opener};
+use crate::opener::{OpenRefusal, Opened, Opener};
+use crate::poller::Poller;
 use crate::system::System;
-use crate::waiting::Waiting;
 use ddcmp_bridge::{Bridge, Counts, Ended, Faults, Lines, Way};
 use ddcmp_session::{Down, Wanted};
 use ddcmp_station::{Clock, Elapsed};
@@ -109,7 +109,7 @@ fn save_in<'a, S: Files<File = File>>(
 }
 
 /// Why it can't wait for several lines.
-fn no_waiting<'a>(kind: ErrorKind) -> BridgeFault<'a> {
+fn no_poller<'a>(kind: ErrorKind) -> BridgeFault<'a> {
     match kind {
         ErrorKind::OutOfMemory => BridgeFault::Memory,
         kind => BridgeFault::Open(NotOpened {
@@ -121,7 +121,7 @@ fn no_waiting<'a>(kind: ErrorKind) -> BridgeFault<'a> {
 }
 
 /// Prints how far a line is opened, if that is reported.
-fn tell<E: Eprint>(system: &E, opened: &Opened) {
+fn report<E: Eprint>(system: &E, opened: &Opened) {
     if let Some(event) = opened.event() {
         let _ = eprintln!(system; "{event}");
     }
@@ -130,7 +130,7 @@ fn tell<E: Eprint>(system: &E, opened: &Opened) {
 /// A line that is being opened.
 struct Opening<'a> {
     opener: Opener<'a>,
-    waiting: Waiting,
+    poller: Poller,
 }
 
 // By hand, so that it is dropped by a call: a derived one is written out at each such place.
@@ -138,7 +138,7 @@ impl Drop for Opening<'_> {
     fn drop(self) {
         let Opening {
             opener: _opener,
-            waiting: _waiting,
+            poller: _poller,
         } = self;
     }
 }
@@ -149,12 +149,12 @@ impl<'a> Opening<'a> {
         alloc: Global,
         name: LineName<'a>,
     ) -> Result<Opening<'a>, BridgeFault<'a>> {
-        match Waiting::new(net, alloc) {
-            Ok(waiting) => Ok(Opening {
+        match Poller::new(net, alloc) {
+            Ok(poller) => Ok(Opening {
                 opener: Opener::new(name),
-                waiting,
+                poller,
             }),
-            Err(error) => Err(no_waiting(error.kind())),
+            Err(error) => Err(no_poller(error.kind())),
         }
     }
 
@@ -164,9 +164,9 @@ impl<'a> Opening<'a> {
 
     /// Listens if the line is one of whoever comes, and reports at which address.
     fn listen<S: System>(&mut self, system: &S) -> Result<(), BridgeFault<'a>> {
-        match self.opener.listen(system, &mut self.waiting) {
+        match self.opener.listen(system, &mut self.poller) {
             Ok(opened) => {
-                tell(system, &opened);
+                report(system, &opened);
                 Ok(())
             }
             Err(refused) => Err(self.fault(refused)),
@@ -181,16 +181,16 @@ impl<'a> Opening<'a> {
         ends_at: u64,
     ) -> Result<Option<Line>, BridgeFault<'a>> {
         for _try in 0..u64::MAX {
-            let opened = match self.opener.open(system, &mut self.waiting) {
+            let opened = match self.opener.open(system, &mut self.poller) {
                 Ok(opened) => opened,
                 Err(refused) => return Err(self.fault(refused)),
             };
-            tell(system, &opened);
+            report(system, &opened);
             if let Some(line) = opened.into_line() {
                 return Ok(Some(line));
             }
             let left = ends_at.saturating_sub(clock.now());
-            if left == 0 || !self.waiting.wait(Wanted::NOTHING, left) {
+            if left == 0 || !self.poller.wait(Wanted::NOTHING, left) {
                 break;
             }
         }
@@ -258,7 +258,7 @@ impl Ways {
         };
         match Sides::new(system, alloc, first, second) {
             Ok(sides) => Ok(self.run(system, sides, clock, options)),
-            Err(error) => Err(no_waiting(error.kind())),
+            Err(error) => Err(no_poller(error.kind())),
         }
     }
 

@@ -62,7 +62,7 @@ impl Intake {
     }
 
     /// Logs bytes that were taken, and the fate of the frame that they completed.
-    pub(crate) fn tell<E: Eprint>(
+    pub(crate) fn log<E: Eprint>(
         &mut self,
         system: &E,
         now: u64,
@@ -70,7 +70,7 @@ impl Intake {
         fate: Option<Fate>,
     ) {
         if let Some(trace) = &mut self.trace {
-            trace.tell(system, now, bytes, fate);
+            trace.log(system, now, bytes, fate);
         }
     }
 

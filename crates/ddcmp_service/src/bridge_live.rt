@@ -75,10 +75,10 @@ impl<E: Eprint, C: Clock> Lines for LiveLines<'_, E, C> {
         self.there.unsaved().is_some() || self.back.unsaved().is_some()
     }
 
-    fn tell(&mut self, way: Way, now: u64, bytes: &[u8], fate: Option<Fate>) {
+    fn log(&mut self, way: Way, now: u64, bytes: &[u8], fate: Option<Fate>) {
         match way {
-            Way::There => self.there.tell(self.system, now, bytes, fate),
-            Way::Back => self.back.tell(self.system, now, bytes, fate),
+            Way::There => self.there.log(self.system, now, bytes, fate),
+            Way::Back => self.back.log(self.system, now, bytes, fate),
         }
     }
 

@@ -4,7 +4,7 @@ ghost use Rattle.ddcmp_bridge.specs.Joining.{count_of};
 ghost use Rattle.ddcmp_service.specs.Lines.{has_datagrams};
 
 use crate::line::Line;
-use crate::waiting::{Descriptor, Ready};
+use crate::poller::{Descriptor, Ready};
 use ddcmp_bridge::Needs;
 use ddcmp_session::{Down, Moved};
 use ddcmp_station::Clock;

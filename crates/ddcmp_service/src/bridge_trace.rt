@@ -37,7 +37,7 @@ impl Trace {
 
     /// Prints the lines of bytes that came, and the fate of the frame that they completed. What
     /// there is no memory for isn't printed.
-    pub(crate) fn tell<E: Eprint>(
+    pub(crate) fn log<E: Eprint>(
         &mut self,
         system: &E,
         now: u64,

@@ -1,11 +1,11 @@
 //! How the run of a link ends before all is delivered.
 ghost use Rattle.std.specs.Prelude.{◌≡◌, ◌≢◌, ℕ};
 ghost use Rattle.ddcmp_service.specs.LineNames.{not_opened_of};
-ghost use Rattle.ddcmp_service.specs.declared.opening.OpenRefusal.{OpenRefusal as RefusalValue};
+ghost use Rattle.ddcmp_service.specs.declared.opener.OpenRefusal.{OpenRefusal as RefusalValue};
 
 use crate::fault::{Attempt, Cause, NotOpened, ServiceFault};
 use crate::line_name::LineName;
-use crate::opening::OpenRefusal;
+use crate::opener::OpenRefusal;
 use ddcmp_session::{Fault, Stop};
 use std::io::ErrorKind;
 

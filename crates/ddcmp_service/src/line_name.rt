@@ -3,7 +3,7 @@ ghost use Rattle.std.specs.Prelude.{◌≡◌, ◌≢◌, MatchOption};
 ghost use Rattle.ddcmp_service.specs.LineNames.{word_of, IsPlain, line_kind, not_opened_of};
 
 use crate::fault::{Attempt, NotOpened};
-use crate::opening::OpenRefusal;
+use crate::opener::OpenRefusal;
 use ddcmp_session::LineKind;
 
 /// A line, as a word names it.

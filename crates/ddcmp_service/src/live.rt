@@ -8,10 +8,10 @@ use crate::datagram::Framing;
 use crate::event::Event;
 use crate::line::Line;
 use crate::line_name::LineName;
-use crate::opening::{OpenRefusal, Opener};
+use crate::opener::{OpenRefusal, Opener};
 use crate::outlet::Outlet;
+use crate::poller::{Descriptor, Poller};
 use crate::system::System;
-use crate::waiting::{Descriptor, Waiting};
 use ddcmp_frame::ReaderRefusal;
 use ddcmp_io::{Got, Sink, Source, Worst};
 use ddcmp_session::{Buffers, Devices, Down, Moved, Session, Wanted};
@@ -23,7 +23,7 @@ use std::io::{Eprint, ErrorKind};
 /// Standard input, output and error, a line and a clock.
 pub(crate) struct Live<'a, S, C, R, W> {
     system: &'a S,
-    waiting: Waiting,
+    poller: Poller,
     name: LineName<'a>,
     opener: Opener<'a>,
     line: Option<Line>,
@@ -41,7 +41,7 @@ impl<S, C: Drop, R, W> Drop for Live<'_, S, C, R, W> {
     fn drop(self) {
         let Live {
             system: _,
-            waiting: _waiting,
+            poller: _poller,
             name: _,
             opener: _opener,
             line: _line,
@@ -58,7 +58,7 @@ impl<S, C: Drop, R, W> Drop for Live<'_, S, C, R, W> {
 /// How a session's devices are made.
 pub(crate) struct Parts<'a, S, C, R, W> {
     pub(crate) system: &'a S,
-    pub(crate) waiting: Waiting,
+    pub(crate) poller: Poller,
     pub(crate) name: LineName<'a>,
     pub(crate) clock: C,
     pub(crate) reader: &'a mut R,
@@ -75,7 +75,7 @@ impl<'a, S: System, C: Clock + Drop, R: Source, W: Sink> Live<'a, S, C, R, W> {
     ) -> Result<Self, ReaderRefusal> {
         let Parts {
             system,
-            waiting,
+            poller,
             name,
             clock,
             reader,
@@ -87,7 +87,7 @@ impl<'a, S: System, C: Clock + Drop, R: Source, W: Sink> Live<'a, S, C, R, W> {
         };
         Ok(Live {
             system,
-            waiting,
+            poller,
             name,
             opener: Opener::new(name),
             line: None,
@@ -181,16 +181,11 @@ impl<S: System, C: Clock + Drop, R: Source, W: Sink> Devices for Live<'_, S, C, 
     ghost use Rattle.ddcmp_service.specs.LineNames.{line_kind, not_opened_of};
     ghost use Rattle.ddcmp_service.specs.Opening.{SameIfNotYet, Opens, event_of, line_of};
     ghost use Rattle.ddcmp_service.specs.declared.event.Event.TheVariants as event;
-    ghost use Rattle.ddcmp_service.specs.declared.opening.Opened.{Opened};
+    ghost use Rattle.ddcmp_service.specs.declared.opener.Opened.{Opened};
 
     ghost traffic = { λ _. None };
 
     type Refusal = OpenRefusal;
-
-    // A listener is made as the first line is opened, since that may be tried again.
-    fn begin_lines(&mut self, _session: &mut Session) -> Result<(), OpenRefusal> {
-        Ok(())
-    }
 
     fn open_line(&mut self, session: &mut Session) -> Result<bool, OpenRefusal>
         ensures session { session.new.state ≡ session.old.state }
@@ -204,7 +199,7 @@ impl<S: System, C: Clock + Drop, R: Source, W: Sink> Devices for Live<'_, S, C, 
             × Reports (event_of opened) session.old.log.errors session.new.log.errors) }
         ensures refused { OnErr result (session.new ≡ session.old) }
     {
-        let opened = self.opener.open(self.system, &mut self.waiting)?;
+        let opened = self.opener.open(self.system, &mut self.poller)?;
         report(session, opened.event());
         self.line = opened.into_line();
         Ok(self.line.is_some())
@@ -226,15 +221,15 @@ impl<S: System, C: Clock + Drop, R: Source, W: Sink> Devices for Live<'_, S, C, 
         if let Some(line) = self.line.take() {
             line.close(&mut self.clock);
         }
-        self.waiting.forget_line();
+        self.poller.forget_line();
     }
 
     fn read_input(&mut self, space: &mut [u8]) -> Got {
-        read_ready(&mut *self.reader, &mut self.waiting.input, space)
+        read_ready(&mut *self.reader, &mut self.poller.input, space)
     }
 
     fn may_read_line(&self) -> bool {
-        self.waiting.may_read_line()
+        self.poller.may_read_line()
     }
 
     fn read_line(&mut self, space: &mut [u8]) -> Moved {
@@ -242,7 +237,7 @@ impl<S: System, C: Clock + Drop, R: Source, W: Sink> Devices for Live<'_, S, C, 
             return Moved::Ended(Down::Closed);
         };
         let got = line.read(space);
-        self.waiting.line_was_read(got == Moved::Nothing);
+        self.poller.line_was_read(got == Moved::Nothing);
         match (got, &mut self.framing) {
             // No frame goes on in the next datagram, so an unfinished one is dropped.
             (Moved::Bytes(n), Some(framing)) => {
@@ -259,40 +254,40 @@ impl<S: System, C: Clock + Drop, R: Source, W: Sink> Devices for Live<'_, S, C, 
         let Some(line) = &mut self.line else {
             return Moved::Ended(Down::Closed);
         };
-        if !self.waiting.may_write_line() {
+        if !self.poller.may_write_line() {
             return Moved::Nothing;
         }
         let took = line.write(bytes);
-        self.waiting.line_was_written(took == Moved::Nothing);
+        self.poller.line_was_written(took == Moved::Nothing);
         took
     }
 
     fn write_output(&mut self, bytes: &[u8]) -> Moved {
-        if !self.waiting.output.ready.to_write {
+        if !self.poller.output.ready.to_write {
             return Moved::Nothing;
         }
-        match written(&mut self.output, &mut self.waiting.output, bytes) {
+        match written(&mut self.output, &mut self.poller.output, bytes) {
             Some(moved) => moved,
             None => self.write_by_owner(bytes),
         }
     }
 
     fn write_errors(&mut self, bytes: &[u8]) -> Moved {
-        if !self.waiting.errors.ready.to_write {
+        if !self.poller.errors.ready.to_write {
             return Moved::Nothing;
         }
-        match written(&mut self.errors, &mut self.waiting.errors, bytes) {
+        match written(&mut self.errors, &mut self.poller.errors, bytes) {
             Some(moved) => moved,
             None => self.print_some(bytes),
         }
     }
 
     fn rest(&mut self, session: &Session, buffers: &Buffers, most_ms: u64) -> bool {
-        self.waiting.wait(buffers.wanted(session), most_ms)
+        self.poller.wait(buffers.wanted(session), most_ms)
     }
 
     fn wait(&mut self, wanted: Wanted, most_ms: u64) -> bool {
-        self.waiting.wait(wanted, most_ms)
+        self.poller.wait(wanted, most_ms)
     }
 
     fn now(&mut self) -> u64 {

@@ -5,8 +5,8 @@ use crate::ending::Ended;
 use crate::fault::ServiceFault;
 use crate::line_name::LineName;
 use crate::live::{Live, Parts};
+use crate::poller::Poller;
 use crate::system::System;
-use crate::waiting::Waiting;
 use ddcmp_io::{Sink, Source, Worst};
 use ddcmp_session::{LineKind, LinkFault, Options, Served, run_link};
 use ddcmp_station::Elapsed;
@@ -71,13 +71,13 @@ fn serve<S: System, R: Source, W: Sink>(
     reader: &mut R,
     writer: &mut W,
 ) -> Result<Served, Ended> {
-    let waiting = match Waiting::new(system, alloc) {
-        Ok(waiting) => waiting,
-        Err(error) => return Err(no_waiting(error.kind())),
+    let poller = match Poller::new(system, alloc) {
+        Ok(poller) => poller,
+        Err(error) => return Err(no_poller(error.kind())),
     };
     let parts = Parts {
         system,
-        waiting,
+        poller,
         name: line,
         clock: Elapsed::new(system),
         reader,
@@ -102,7 +102,7 @@ fn serve<S: System, R: Source, W: Sink>(
 }
 
 /// Why it can't wait for several devices.
-fn no_waiting(kind: ErrorKind) -> Ended
+fn no_poller(kind: ErrorKind) -> Ended
     ensures memory { kind ≡ ErrorKind.OutOfMemory → result ≡ Ended.Memory }
     ensures other { kind ≢ ErrorKind.OutOfMemory → result ≡ Ended.CannotWait kind }
 {

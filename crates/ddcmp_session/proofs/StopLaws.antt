@@ -16,7 +16,7 @@ use Rattle.ddcmp_session.specs.Devices.{Becomes, BuffersView, HasReported, Keeps
 use Rattle.ddcmp_session.specs.Devices.{after_fault, after_read, after_wait}
 use Rattle.ddcmp_session.specs.Lines.{GoesOver, ReportsOver}
 use Rattle.ddcmp_session.specs.Session.{SessionView, after_time}
-use Rattle.ddcmp_session.specs.Stopping.{IfNotOpened, IsLeft, IsShut, IsTimeOver, Judges}
+use Rattle.ddcmp_session.specs.Stopping.{IfNotOpened, IsLeft, IsTimeOver, Judges}
 use Rattle.ddcmp_session.specs.Stopping.{LeavesLine, MayBeWell, MayStop, Stops}
 use Rattle.ddcmp_session.specs.Stopping.{StopsToEnd}
 use Rattle.ddcmp_session.specs.Timing.{end, run_ends_at}
@@ -130,7 +130,7 @@ module _ {R : Type 0} {ran : Result (Unit {0}) (the_data R)} {h0 h1 : BuffersVie
     {s0 s : SessionView} {k0 k1 k2 : Option Traffic} (over : GoesOver h0 s0 k0 h1 s k1)
     (keeps : KeepsFaults k1 k2) (ended : ran ≡ Ok tt → end s ≡ Some end_of.Delivered)
     (left : ran ≡ Err Left → IsLeft h0 s0 k0 s k1)
-    (shut : IfNotOpened ran (IsShut s0 s))
+    (shut : IfNotOpened ran (s.options.again ≡ false))
     (time : ran ≡ Err (Device fault.Time) → IsTimeOver h0 s0 k0 s k1) where
   may-stop : MayBeWell ran → MayStop h0 s0 k0 s k2
   may-stop (inl ok) = inl (ended ok)

@@ -44,10 +44,6 @@ MayStop held old before s after =
     (end s ≡ Some end_of.Delivered)
     ⊎ (IsLeft held old before s after ⊎ IsTimeOver held old before s after)
 
--- lines couldn't begin, and nothing was done; or one couldn't be opened, and isn't tried again
-abbrev pub IsShut : SessionView → SessionView → Type 0
-IsShut old s = (s ≡ old) ⊎ (s.options.again ≡ false)
-
 -- if a line couldn't be opened
 abbrev pub IfNotOpened : {A R : Type 0} → Result A (the_data R) → Type 0 → Type 0
 IfNotOpened {A} {R} result Then = (refusal : R) → result ≡ Err (NotOpened refusal) → Then
@@ -59,7 +55,7 @@ pub record Stops {R : Type 0} (result : Result (Unit {0}) (the_data R)) (held : 
   pub well : result ≡ Ok tt → MayStop held old before s after
   pub lost : (count : ℕ) → result ≡ Err (Lost count) → MayStop held old before s after
   pub left : result ≡ Err Left → IsLeft held old before s after
-  pub shut : IfNotOpened result (IsShut old s)
+  pub shut : IfNotOpened result (s.options.again ≡ false)
   pub time : result ≡ Err (Device fault.Time) → IsTimeOver held old before s after
 
 -- A run to its end returned this so too; but it is out of time also if the output took nothing once
@@ -70,7 +66,7 @@ pub record StopsToEnd {R : Type 0} (result : Result (Unit {0}) (the_data R)) (he
   pub well : result ≡ Ok tt → MayStop held old before s after
   pub lost : (count : ℕ) → result ≡ Err (Lost count) → MayStop held old before s after
   pub left : result ≡ Err Left → IsLeft held old before s after
-  pub shut : IfNotOpened result (IsShut old s)
+  pub shut : IfNotOpened result (s.options.again ≡ false)
   pub time : result ≡ Err (Device fault.Time) → MayStop held old before s after
 
 -- The lines ended so, or the line was left, or a time was over: a run may end well then.

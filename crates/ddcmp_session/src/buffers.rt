@@ -2,16 +2,16 @@
 ghost use Rattle.std.specs.Prelude.{◌≡◌, [], IfOk};
 ghost use Rattle.ddcmp_session.specs.Devices.{nothing_read};
 
-mod finishing;
+mod finish;
+mod flow;
 mod lines;
-mod passing;
-mod running;
+mod runner;
 
 use crate::chunk::Chunk;
 use crate::devices::{Down, Wanted};
 use crate::session::Session;
 pub use lines::Stop;
-pub use running::{drain_errors, drain_output};
+pub use runner::{drain_errors, drain_output};
 use std::alloc::{AllocError, Global};
 use std::marker::Model;
 

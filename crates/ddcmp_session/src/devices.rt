@@ -27,13 +27,6 @@ pub trait Devices {
     /// Why a line can't be opened.
     type Refusal: Copy;
 
-    /// Begins what all lines need, as listening for whoever calls, and reports that.
-    fn begin_lines(&mut self, session: &mut Session) -> Result<(), Self::Refusal>
-        ensures session { session.new.state ≡ session.old.state }
-        ensures log { session.new.log
-            ≡ record session.old.log { errors = session.new.log.errors } }
-        ensures devices { traffic self.new ≡ traffic self.old };
-
     /// Opens a line as far as that doesn't wait, and reports to whom; returns whether it is open.
     fn open_line(&mut self, session: &mut Session) -> Result<bool, Self::Refusal>
         ensures session { session.new.state ≡ session.old.state }

@@ -15,7 +15,7 @@ use Rattle.ddcmp_proto.specs.Station.{StationView}
 use Rattle.ddcmp_core.specs.Table.{next_frame, next, is_on}
 use Rattle.ddcmp_io.specs.declared.device.LineFault.{LineFault}
 use Rattle.ddcmp_io.specs.declared.device.LineFault.TheVariants.{Read, Write, Ended, Memory}
-use Rattle.ddcmp_station.specs.declared.driving.Tally.{Tally}
+use Rattle.ddcmp_station.specs.declared.driver.Tally.{Tally}
 use Rattle.ddcmp_station.specs.Driving.{Devices, IsSentPart, deadline_at, is_due, core_after_expire}
 use Rattle.ddcmp_station.specs.Driving.{core_after_take_arm, core_at_deadline, core_after_message}
 use Rattle.ddcmp_station.specs.Driving.{frame_bytes, core_after_mail, before_read, after_read}

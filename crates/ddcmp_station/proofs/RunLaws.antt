@@ -10,7 +10,7 @@ use Rattle.ddcmp_io.specs.declared.device.Worst.TheVariants.{Fine}
 use Rattle.ddcmp_frame.specs.Reader.{StandsFor}
 use Rattle.ddcmp_io.specs.declared.device.LineFault.{LineFault}
 use Rattle.ddcmp_io.specs.declared.device.LineFault.TheVariants.{Read, Write, Ended, Memory}
-use Rattle.ddcmp_station.specs.declared.driving.Tally.{Tally}
+use Rattle.ddcmp_station.specs.declared.driver.Tally.{Tally}
 use Rattle.ddcmp_proto.specs.Station.{StationView}
 use Rattle.ddcmp_station.specs.Driving.{DriveTurn, Driving, Devices, driving_from, core_after_halt}
 use Rattle.ddcmp_station.specs.Driving.{before_read, after_turn, after_turns, bytes_read, moments}

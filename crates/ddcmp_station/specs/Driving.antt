@@ -16,7 +16,7 @@ use Rattle.ddcmp_core.specs.Table.{Frame, after_halt, may_send, after_accept, af
 use Rattle.ddcmp_core.specs.Table.{after_take_arm, is_on, next, next_frame}
 use Rattle.ddcmp_core.specs.Counting.{counters_after_expire}
 use Rattle.ddcmp_core.specs.Core.{CoreView}
-use Rattle.ddcmp_station.specs.declared.driving.Driven.{Driven}
+use Rattle.ddcmp_station.specs.declared.driver.Driven.{Driven}
 use Rattle.ddcmp_io.specs.declared.device.LineFault.{LineFault}
 use Rattle.ddcmp_io.specs.declared.device.LineFault.TheVariants.{Read, Write, Ended, Memory}
 use Rattle.ddcmp_proto.specs.Bytes.{after_piece, notices_of_piece, frame_on_line, after_poll}

@@ -5,7 +5,7 @@
 #![tactic(auto)]
 
 mod counts;
-mod driving;
+mod driver;
 mod elapsed;
 mod link;
 mod notices;
@@ -21,7 +21,7 @@ pub use ddcmp_proto::{
     Config, ConfigRefusal, Counters, Fed, Header, MAX_COUNT, MAX_INBOX, MAX_SYN, MAX_WINDOW,
     Memory, NakCounts, Notice, Numbers, SendRefusal, Seq, StartRefusal, State, Station, laws,
 };
-pub use driving::{Driven, READ_ROOM, drive};
+pub use driver::{Driven, READ_ROOM, drive};
 pub use elapsed::Elapsed;
 pub use link::{Link, Totals};
 pub use notices::{notice_name, notice_number, write_notice};

@@ -8,7 +8,7 @@ use crate::order::{Order, Word};
 use crate::rung::write_rung;
 use crate::side::Side;
 use ddcmp_explain::{
-    DetectedFault, Notation, PIECE, Reached, Spelled, Written, reached_by, write_discarded,
+    DetectedFault, InputBytes, Notation, PIECE, Reached, Written, reached_by, write_discarded,
     write_last,
 };
 use ddcmp_frame::{Item, Pushed, Reader};
@@ -19,7 +19,7 @@ use std::alloc::Global;
 pub struct Capture<R> {
     side: Side,
     discarded: bool,
-    spelled: Spelled<R>,
+    spelled: InputBytes<R>,
     frames: Reader,
     // Bytes that were read, of which those from `at` up to `end` weren't taken.
     bytes: [u8; PIECE],
@@ -93,7 +93,7 @@ impl<R: Source + Drop> Capture<R> {
         Ok(Capture {
             side,
             discarded,
-            spelled: Spelled::new(reader, written),
+            spelled: InputBytes::new(reader, written),
             frames,
             bytes: [0; PIECE],
             at: 0,

@@ -5,10 +5,10 @@ ghost use Rattle.ddcmp_frame.specs.Limits.{MAX_COUNT};
 ghost use Rattle.ddcmp_tap.specs.Passing.{HasTold, Passes, Tells, room_of};
 ghost use Rattle.ddcmp_tap.specs.Tapped.{tapped_last};
 
+use crate::item_log::ItemLog;
 use crate::no_memory::NoMemory;
 use crate::notation::Notation;
 use crate::side::Side;
-use crate::telling::Telling;
 use ddcmp_frame::Reader;
 use ddcmp_io::{ByteQueue, MemorySink};
 use std::alloc::Global;
@@ -22,7 +22,7 @@ pub const ROOM: usize = 65536;
 pub struct Direction {
     waiting: ByteQueue,
     untold: ByteQueue,
-    telling: Telling,
+    log: ItemLog,
     text: MemorySink,
     ended: bool,
 }
@@ -33,7 +33,7 @@ impl Drop for Direction {
         let Direction {
             waiting: _waiting,
             untold: _untold,
-            telling: _telling,
+            log: _log,
             text: _text,
             ended: _,
         } = self;
@@ -48,20 +48,20 @@ impl Model for Direction {
     ghost Value = { DirectionView };
 
     ghost view = { λ d. record {
-      side = d.telling.side;
-      notation = d.telling.notation;
+      side = d.log.side;
+      notation = d.log.notation;
       queue = record {
         waiting = d.waiting.waiting;
         untold = d.untold.waiting;
         room = min d.waiting.room d.untold.room;
       };
       ended = d.ended;
-      frames = d.telling.frames;
-      items = d.telling.items;
+      frames = d.log.frames;
+      items = d.log.items;
       text = d.text.bytes.items;
     } };
 
-    ghost invariant = { λ d. (d.telling.frames.offset + length d.untold.waiting < 2 ^ 64)
+    ghost invariant = { λ d. (d.log.frames.offset + length d.untold.waiting < 2 ^ 64)
         × (d.waiting.size ≡ ROOM) × (d.untold.size ≡ ROOM) };
 }
 
@@ -94,7 +94,7 @@ impl Direction {
         Ok(Direction {
             waiting,
             untold,
-            telling: Telling {
+            log: ItemLog {
                 side,
                 notation,
                 frames,
@@ -115,7 +115,7 @@ impl Direction {
     {
         let room = self.waiting.room().min(self.untold.room());
         let untold = self.untold.waiting().len() as u64;
-        let countable = u64::MAX - self.telling.frames.offset() - untold;
+        let countable = u64::MAX - self.log.frames.offset() - untold;
         if countable < room as u64 {
             countable as usize
         } else {
@@ -188,9 +188,7 @@ impl Direction {
         ensures ended { self.new.ended ≡ self.old.ended }
     {
         self.text.clear();
-        let told = self
-            .telling
-            .tell(&mut self.text, stamp, self.untold.waiting());
+        let told = self.log.log(&mut self.text, stamp, self.untold.waiting());
         self.untold.clear();
         told
     }
@@ -204,7 +202,7 @@ impl Direction {
         ensures stays { self.new ≡ record self.old { text = self.new.text } }
     {
         self.text.clear();
-        self.telling.finish(&mut self.text, stamp)
+        self.log.finish(&mut self.text, stamp)
     }
 
     /// Returns the text that was made last.

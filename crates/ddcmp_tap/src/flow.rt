@@ -147,7 +147,7 @@ impl<R: Source, O: Outlet> Flow<R, O> {
     }
 
     /// Writes the lines of what has come since the last call.
-    pub(crate) fn tell<W: Sink>(
+    pub(crate) fn log<W: Sink>(
         &mut self,
         writer: &mut W,
         stamp: Option<u64>,

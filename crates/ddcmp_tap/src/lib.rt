@@ -5,29 +5,29 @@
 #![tactic(auto)]
 
 pub mod captures;
+mod connections;
 pub mod direction;
 mod flow;
 mod front;
+mod item_log;
 mod no_memory;
 pub mod notation;
 pub mod order;
 pub mod outlet;
-mod pumping;
+mod pump;
 mod rung;
 pub mod side;
 mod sockets;
 pub mod tap_fault;
-mod tapping;
-mod telling;
 
 pub use captures::{Capture, DrawFault, draw_captures};
+pub use connections::{tap, tap_again};
 pub use direction::{Direction, ROOM};
 pub use flow::Flow;
 pub use no_memory::NoMemory;
 pub use notation::Notation;
 pub use order::{Drawn, Order, Word};
 pub use outlet::Outlet;
-pub use pumping::{Readiness, pump};
+pub use pump::{Readiness, pump};
 pub use side::Side;
 pub use tap_fault::{NotMade, Stage, TapFault};
-pub use tapping::{tap, tap_again};

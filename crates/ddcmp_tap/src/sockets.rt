@@ -2,7 +2,7 @@
 ghost use Rattle.std.specs.Prelude.{◌≡◌, false};
 
 use crate::outlet::Outlet;
-use crate::pumping::Readiness;
+use crate::pump::Readiness;
 use ddcmp_io::cause::words_of;
 use mio::net::TcpStream;
 use mio::{Events, Interest, Poll, Token};
@@ -97,7 +97,7 @@ impl Outlet for ToSocket<'_> {
 
     fn close(&mut self) {
         self.closed = true;
-        // A peer that is gone needs no telling.
+        // A peer that is gone needs no log.
         let _ = self.socket.stream.shutdown(Shutdown::Write);
     }
 

@@ -76,7 +76,7 @@ impl Lines for Joined {
         false
     }
 
-    fn tell(&mut self, _way: Way, _now: u64, _bytes: &[u8], _fate: Option<Fate>) {}
+    fn log(&mut self, _way: Way, _now: u64, _bytes: &[u8], _fate: Option<Fate>) {}
 
     fn wait(&mut self, _there: Needs, _back: Needs, _most_ms: u64) -> bool {
         true

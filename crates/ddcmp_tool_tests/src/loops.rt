@@ -133,10 +133,6 @@ impl Devices for Desk {
 
     type Refusal = ();
 
-    fn begin_lines(&mut self, _session: &mut Session) -> Result<(), ()> {
-        Ok(())
-    }
-
     fn open_line(&mut self, _session: &mut Session) -> Result<bool, ()> {
         match self.draws.below(4) {
             0 => Err(()),

@@ -56,10 +56,6 @@ impl Devices for Told {
 
     type Refusal = ();
 
-    fn begin_lines(&mut self, _session: &mut Session) -> Result<(), ()> {
-        Ok(())
-    }
-
     fn open_line(&mut self, _session: &mut Session) -> Result<bool, ()> {
         self.came.clear();
         self.gone.clear();

@@ -3,8 +3,8 @@ use Rattle.clap.specs.Words.{IsAmong, fault_of, is_simple_and_free}
 use Rattle.clap.specs.declared.error.kind.ErrorKind.{ErrorKind}
 use Rattle.clap.specs.declared.error.kind.ErrorKind.TheVariants.{DisplayHelp, DisplayVersion}
 use Rattle.clap.specs.declared.error.kind.ErrorKind.TheVariants.{OutOfMemory}
-use Rattle.ddcmp_words.specs.declared.declined.Declined.{Declined}
-use Rattle.ddcmp_words.specs.declared.declined.Declined.TheVariants.{Help, Version, Usage, Memory}
+use Rattle.ddcmp_words.specs.declared.no_command.NoCommand.{NoCommand}
+use Rattle.ddcmp_words.specs.declared.no_command.NoCommand.TheVariants.{Help, Version, Usage, Memory}
 use Rattle.ddcmp_words.specs.Words.{Declines, Reads}
 use Rattle.std.proofs.Common.{ℕ, unwrap_or, [], inl, inr, ◌≢◌, ◌⊎◌, Err, codes, ◌≡◌, ◌∙◌, ap, sym}
 use Rattle.std.proofs.Common.{subst, refl, true, List, Option, Some, None}
@@ -27,7 +27,7 @@ use Rattle.ddcmp_session.specs.declared.options.Options.{Options}
 use Rattle.ddcmp_core.specs.Limits.{MAX_COUNT, MAX_WINDOW}
 use Rattle.ddcmp_proto.specs.declared.config.Config.{Config}
 use Rattle.ddcmp_proto.specs.declared.config.TheConstants.{MAX_INBOX, MAX_SYN}
-use Rattle.ddcmp_words.specs.declared.scripted.Scripted.{Scripted}
+use Rattle.ddcmp_words.specs.declared.script_args.ScriptArgs.{ScriptArgs}
 use Rattle.ddcmp_words.specs.declared.view.View.{View}
 use Rattle.ddcmp_words.specs.declared.command.Command.{Command}
 use Rattle.ddcmp_words.specs.declared.command.Command.TheVariants.{Explain, Simulate, Pair, Station}
@@ -106,7 +106,7 @@ view_as o p view e h = record {
   counters = subst (λ t. HasFlag t view.counters) (e (codes "counters")) h.counters;
 }
 
-script_as : (o p t u : Text → Option Text) (scripted : Scripted) → ((id : Text) → o id ≡ p id)
+script_as : (o p t u : Text → Option Text) (scripted : ScriptArgs) → ((id : Text) → o id ≡ p id)
     → ((id : Text) → t id ≡ u id) → HasScript o t scripted → HasScript p u scripted
 script_as o p t u scripted e w h = record {
   config = sizes_as 0 o p scripted.from.config e h.config;
@@ -218,7 +218,7 @@ pub at-program : (F : App → Type 0) (app : App) → app ≡ program
     → (is_simple_and_free app ≡ true → F app) → F program
 at-program F app e f = subst F e (f (ap is_simple_and_free e ∙ program-free))
 
-pub declined-memory : (kind : ErrorKind) (d : Declined) → Declines kind d → kind ≡ OutOfMemory
+pub declined-memory : (kind : ErrorKind) (d : NoCommand) → Declines kind d → kind ≡ OutOfMemory
     → d ≡ Memory
 declined-memory kind (Help t) h e = let bad : DisplayHelp ≡ OutOfMemory = sym h ∙ e in cc
 declined-memory kind (Version t) h e = let bad : DisplayVersion ≡ OutOfMemory = sym h ∙ e in cc
@@ -231,7 +231,7 @@ among : (words : List Text) (kind known : ErrorKind) → kind ≡ known → know
 among words kind known e n (inl oom) = absurd (n (sym e ∙ oom))
 among words kind known e n (inr a) = subst (λ k. IsAmong k (fault_of program words)) e a
 
-pub reads-fault : (words : List Text) (kind : ErrorKind) (d : Declined) → Declines kind d
+pub reads-fault : (words : List Text) (kind : ErrorKind) (d : NoCommand) → Declines kind d
     → (kind ≡ OutOfMemory) ⊎ IsAmong kind (fault_of program words) → Reads words (Err d)
 reads-fault words kind (Help t) h a = among words kind DisplayHelp h (λ e. cc) a
 reads-fault words kind (Version t) h a = among words kind DisplayVersion h (λ e. cc) a

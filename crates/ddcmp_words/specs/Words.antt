@@ -14,21 +14,21 @@ use Rattle.ddcmp_explain.specs.declared.style.Style.{Style}
 use Rattle.ddcmp_words.specs.declared.command.Command.{Command}
 use Rattle.ddcmp_words.specs.declared.command.Command.TheVariants.{Explain, Simulate, Pair, Station}
 use Rattle.ddcmp_words.specs.declared.command.Command.TheVariants.{Tap, Link, Bridge}
-use Rattle.ddcmp_words.specs.declared.explained.Explained.{Explained}
-use Rattle.ddcmp_words.specs.declared.scripted.Scripted.{Scripted}
-use Rattle.ddcmp_words.specs.declared.served.Role.{Role}
-use Rattle.ddcmp_words.specs.declared.served.Role.TheVariants.{Connect, Listen}
-use Rattle.ddcmp_words.specs.declared.served.Served.{Served}
-use Rattle.ddcmp_words.specs.declared.tapped.Tapped.{Tapped}
-use Rattle.ddcmp_words.specs.declared.linked.Linked.{Linked}
-use Rattle.ddcmp_words.specs.declared.bridged.Bridged.{Bridged}
+use Rattle.ddcmp_words.specs.declared.explain_args.ExplainArgs.{ExplainArgs}
+use Rattle.ddcmp_words.specs.declared.script_args.ScriptArgs.{ScriptArgs}
+use Rattle.ddcmp_words.specs.declared.station_args.Role.{Role}
+use Rattle.ddcmp_words.specs.declared.station_args.Role.TheVariants.{Connect, Listen}
+use Rattle.ddcmp_words.specs.declared.station_args.StationArgs.{StationArgs}
+use Rattle.ddcmp_words.specs.declared.tap_args.TapArgs.{TapArgs}
+use Rattle.ddcmp_words.specs.declared.link_args.LinkArgs.{LinkArgs}
+use Rattle.ddcmp_words.specs.declared.bridge_args.BridgeArgs.{BridgeArgs}
 use Rattle.ddcmp_bridge.specs.declared.faults.Faults.{Faults}
 use Rattle.ddcmp_session.specs.declared.messages.Form.{Form as MessageForm}
 use Rattle.ddcmp_session.specs.declared.messages.Form.TheVariants.{Digits, Binary}
 use Rattle.ddcmp_session.specs.declared.options.Options.{Options}
 use Rattle.ddcmp_words.specs.declared.view.View.{View}
-use Rattle.ddcmp_words.specs.declared.declined.Declined.{Declined}
-use Rattle.ddcmp_words.specs.declared.declined.Declined.TheVariants.{Help, Version, Usage, Memory}
+use Rattle.ddcmp_words.specs.declared.no_command.NoCommand.{NoCommand}
+use Rattle.ddcmp_words.specs.declared.no_command.NoCommand.TheVariants.{Help, Version, Usage, Memory}
 use Rattle.clap.specs.declared.error.kind.ErrorKind.{ErrorKind}
 use Rattle.clap.specs.declared.error.kind.ErrorKind.TheVariants.{DisplayHelp, DisplayVersion}
 use Rattle.clap.specs.declared.error.kind.ErrorKind.TheVariants.{OutOfMemory}
@@ -270,7 +270,7 @@ pub record HasSizes (usual_syn : ℕ) (option : Text → Option Text) (config : 
   pub restart : HasFlag (option (codes "restart")) config.restart
 
 -- The options of what is explained. The word for what it comes from is kept as it was written.
-pub record HasExplain (option text : Text → Option Text) (explained : Explained) : Type 0 where
+pub record HasExplain (option text : Text → Option Text) (explained : ExplainArgs) : Type 0 where
   pub form : HasForm (option (codes "raw")) explained.form
   pub from : option_map (λ word. word.now) explained.from ≡ text (codes "from")
   pub style : HasStyle option explained.style
@@ -286,7 +286,7 @@ pub record HasView (option : Text → Option Text) (view : View) : Type 0 where
   pub counters : HasFlag (option (codes "counters")) view.counters
 
 -- The options of a script that is run.
-pub record HasScript (option text : Text → Option Text) (scripted : Scripted) : Type 0 where
+pub record HasScript (option text : Text → Option Text) (scripted : ScriptArgs) : Type 0 where
   pub config : HasSizes 0 option scripted.from.config
   pub begun : HasFlag (option (codes "begun")) scripted.from.begun
   pub view : HasView option scripted.view
@@ -300,7 +300,7 @@ role_of word =
     else None
 
 -- The options of a station over a connection. Those that can't be left out are always there.
-pub record HasStation (option text : Text → Option Text) (served : Served) : Type 0 where
+pub record HasStation (option text : Text → Option Text) (served : StationArgs) : Type 0 where
   pub role : served.role ≡ role_of (unwrap_or (text (codes "role")) [])
   pub addr : served.addr.now ≡ unwrap_or (text (codes "addr")) []
   pub turns : HasNumber 0 MOST 0 (option (codes "turns")) served.turns
@@ -310,7 +310,7 @@ pub record HasStation (option text : Text → Option Text) (served : Served) : T
   pub counters : HasFlag (option (codes "counters")) served.counters
 
 -- The options of a tap. The two addresses are always there.
-pub record HasTap (option text : Text → Option Text) (tapped : Tapped) : Type 0 where
+pub record HasTap (option text : Text → Option Text) (tapped : TapArgs) : Type 0 where
   pub listen : tapped.listen.now ≡ unwrap_or (text (codes "listen")) []
   pub connect : tapped.connect.now ≡ unwrap_or (text (codes "connect")) []
   pub again : HasFlag (option (codes "again")) tapped.again
@@ -348,7 +348,7 @@ pub record HasLinkOptions (line : Text) (option : Text → Option Text) (options
   pub json : HasFlag (option (codes "json")) options.json
 
 -- The options of a link. Its line is always there.
-pub record HasLink (option text : Text → Option Text) (linked : Linked) : Type 0 where
+pub record HasLink (option text : Text → Option Text) (linked : LinkArgs) : Type 0 where
   pub line : linked.line.now ≡ unwrap_or (text (codes "line")) []
   pub options : HasLinkOptions linked.line.now option linked.options
 
@@ -359,7 +359,7 @@ pub record HasFaults (option : Text → Option Text) (faults : Faults) : Type 0 
   pub seed : HasNumber 0 MOST 1 (option (codes "seed")) faults.seed
 
 -- The words of a bridge. Its lines are always there.
-pub record HasBridge (option text : Text → Option Text) (bridged : Bridged) : Type 0 where
+pub record HasBridge (option text : Text → Option Text) (bridged : BridgeArgs) : Type 0 where
   pub first : bridged.first.now ≡ unwrap_or (text (codes "first")) []
   pub second : bridged.second.now ≡ unwrap_or (text (codes "second")) []
   pub seconds : HasNumber 1 MOST MOST (option (codes "seconds")) bridged.seconds
@@ -394,7 +394,7 @@ pub record IsOutOfOrder (words : List Text) : Type 0 where
   pub no_version : ¬ IsAmong DisplayVersion (fault_of program words)
 
 -- how words are declined for an error of this kind; for want of memory for any
-abbrev pub Declines : ErrorKind → Declined → Type 0
+abbrev pub Declines : ErrorKind → NoCommand → Type 0
 Declines kind (Help text) = kind ≡ DisplayHelp
 Declines kind (Version text) = kind ≡ DisplayVersion
 Declines kind (Usage text) = (kind ≢ DisplayHelp) × (kind ≢ DisplayVersion) × (kind ≢ OutOfMemory)
@@ -409,7 +409,7 @@ IsMistaken words =
 -- What words ask for: where clap finds no fault the command that they name, with its options, and
 -- else help, the version or usage as its kinds of error are. For want of memory any words
 -- are declined.
-abbrev pub Reads : List Text → Result Command Declined → Type 0
+abbrev pub Reads : List Text → Result Command NoCommand → Type 0
 Reads words (Ok command) =
     (fault_of program words ≡ []) × (named_by words ≡ Some (name_of command))
     × HasOptions (option_in words) (text_in words) command

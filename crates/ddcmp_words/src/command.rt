@@ -12,18 +12,15 @@ ghost use Rattle.clap.specs.Words.{kind_of, app_of, first_of, first_value, found
 ghost use Rattle.clap.specs.Words.{one_of, one_text, subcommand_name_of, subcommand_rows_of};
 ghost use Rattle.clap.specs.declared.builder.command.Command.TheViews.{out-Command as fields_of};
 
-use crate::bridge_words::{bridge_given, bridge_parser};
-use crate::bridged::Bridged;
-use crate::declined::Declined;
-use crate::explained::Explained;
-use crate::link_words::{link_given, link_parser};
-use crate::linked::Linked;
+use crate::bridge_args::{BridgeArgs, bridge_given, bridge_parser};
+use crate::explain_args::ExplainArgs;
+use crate::link_args::{LinkArgs, link_given, link_parser};
+use crate::no_command::NoCommand;
 use crate::options::{CommandOption, CommandText, Takes};
 use crate::parser::Parser;
-use crate::scripted::{Beginning, Scripted};
-use crate::served::{Role, Served};
-use crate::tap_words::{tap_given, tap_parser};
-use crate::tapped::Tapped;
+use crate::script_args::{Beginning, ScriptArgs};
+use crate::station_args::{Role, StationArgs};
+use crate::tap_args::{TapArgs, tap_given, tap_parser};
 use crate::view::View;
 use clap::error::ErrorKind;
 use clap::{ArgMatches, Error};
@@ -36,19 +33,19 @@ use std::alloc::Global;
 #[derive(Clone, Copy, Debug, PartialEq, Eq)]
 pub enum Command<'a> {
     /// Explain an input.
-    Explain(Explained<'a>),
+    Explain(ExplainArgs<'a>),
     /// Run a script between two ends.
-    Simulate(Scripted<'a>),
+    Simulate(ScriptArgs<'a>),
     /// The same, and the bytes that pass go over a TCP connection.
-    Pair(Scripted<'a>),
+    Pair(ScriptArgs<'a>),
     /// Drive a station over a connection.
-    Station(Served<'a>),
+    Station(StationArgs<'a>),
     /// Stand between two ends of a line over TCP.
-    Tap(Tapped<'a>),
+    Tap(TapArgs<'a>),
     /// Run a station over a line, with messages on standard input and output.
-    Link(Linked<'a>),
+    Link(LinkArgs<'a>),
     /// Stand between two lines, and pass good frames on.
-    Bridge(Bridged<'a>),
+    Bridge(BridgeArgs<'a>),
 }
 
 /// `explain`, with what stands in a ladder of captures.
@@ -346,17 +343,17 @@ fn program_parser<'a>(alloc: Global) -> Parser<'a>
 }
 
 /// A usage error as this crate reports it.
-fn decline(alloc: Global, error: &Error) -> Declined
+fn decline(alloc: Global, error: &Error) -> NoCommand
     ensures { Declines (kind_of error.now) result }
 {
     match error.to_string(alloc) {
         Ok(text) => match error.kind() {
-            ErrorKind::OutOfMemory => Declined::Memory,
-            ErrorKind::DisplayHelp => Declined::Help(text),
-            ErrorKind::DisplayVersion => Declined::Version(text),
-            _ => Declined::Usage(text),
+            ErrorKind::OutOfMemory => NoCommand::Memory,
+            ErrorKind::DisplayHelp => NoCommand::Help(text),
+            ErrorKind::DisplayVersion => NoCommand::Version(text),
+            _ => NoCommand::Usage(text),
         },
-        Err(_refused) => Declined::Memory,
+        Err(_refused) => NoCommand::Memory,
     }
 }
 
@@ -430,11 +427,11 @@ fn is_within(low: u32, number: u32, high: u32) -> bool
 }
 
 /// The options of `explain`, as they were given or as they are without.
-fn explain_given<'a>(options: &ArgMatches<'a>) -> Explained<'a>
+fn explain_given<'a>(options: &ArgMatches<'a>) -> ExplainArgs<'a>
     ensures { HasExplain (one_text (found_of options.now)) (first_value (found_of options.now))
         result }
 {
-    Explained {
+    ExplainArgs {
         form: form_given(options),
         from: options.get_str("from"),
         style: style_given(options),
@@ -489,12 +486,12 @@ fn view_given(options: &ArgMatches<'_>) -> View
 }
 
 /// The script that was asked for, and how it is run.
-fn script_given<'a>(options: &ArgMatches<'a>) -> Scripted<'a>
+fn script_given<'a>(options: &ArgMatches<'a>) -> ScriptArgs<'a>
     ensures { HasScript (one_text (found_of options.now)) (first_value (found_of options.now))
         result }
 {
     let file = file_given(options, "file");
-    Scripted {
+    ScriptArgs {
         from: Beginning {
             config: sizes_given(options, 0),
             begun: flag_given(options, "begun"),
@@ -525,13 +522,13 @@ fn role_named(name: &str) -> Option<Role>
 }
 
 /// The station that was asked for.
-fn station_given<'a>(options: &ArgMatches<'a>) -> Served<'a>
+fn station_given<'a>(options: &ArgMatches<'a>) -> StationArgs<'a>
     ensures { HasStation (one_text (found_of options.now)) (first_value (found_of options.now))
         result }
 {
     let restart = flag_given(options, "restart");
     let counters = flag_given(options, "counters");
-    Served {
+    StationArgs {
         role: role_named(text_given(options, "role")),
         addr: text_given(options, "addr"),
         turns: number_given(options, "turns", 0, u32::MAX, 0),
@@ -576,21 +573,21 @@ fn asked<'a>(matches: &ArgMatches<'a>) -> Option<Command<'a>>
 }
 
 /// Reads the words of a command line, of which the first is the program's name.
-pub fn read_words<'a>(alloc: Global, words: &'a [&'a str]) -> Result<Command<'a>, Declined>
+pub fn read_words<'a>(alloc: Global, words: &'a [&'a str]) -> Result<Command<'a>, NoCommand>
     ensures asked { (name : List ℕ) → IsName name
         → IsAsked (map (λ word. word.now) words.entry.now) name
-        → IsOk result ⊎ (result ≡ Err Declined.Memory) }
+        → IsOk result ⊎ (result ≡ Err NoCommand.Memory) }
     // What the words ask for, whatever they are.
     ensures reads { Reads (map (λ word. word.now) words.entry.now) result }
 {
     let command = match program_parser(alloc).made() {
         Ok(made) => made,
-        Err(_refused) => return Err(Declined::Memory),
+        Err(_refused) => return Err(NoCommand::Memory),
     };
     match command.try_get_matches_from(words) {
         Ok(matches) => match asked(&matches) {
             Some(command) => Ok(command),
-            None => Err(Declined::Usage(String::new(alloc))),
+            None => Err(NoCommand::Usage(String::new(alloc))),
         },
         Err(error) => Err(decline(alloc, &error)),
     }

@@ -1,32 +1,29 @@
 //! The words of the command line: what they ask for, and how they are declined. It runs nothing.
 #![tactic(auto)]
 
-mod asked;
-mod bridge_words;
-pub mod bridged;
+pub mod bridge_args;
 pub mod command;
-pub mod declined;
-pub mod explained;
-mod link_words;
-pub mod linked;
+pub mod explain_args;
+mod laws;
+pub mod link_args;
+pub mod no_command;
 mod options;
 mod parser;
-pub mod scripted;
-pub mod served;
-mod tap_words;
-pub mod tapped;
+pub mod script_args;
+pub mod station_args;
+pub mod tap_args;
 pub mod view;
 
-pub use asked::{
+pub use bridge_args::BridgeArgs;
+pub use command::{Command, read_words};
+pub use explain_args::ExplainArgs;
+pub use laws::{
     bridge_is_asked, explain_is_asked, link_is_asked, pair_is_asked, simulate_is_asked,
     station_is_asked, tap_is_asked,
 };
-pub use bridged::Bridged;
-pub use command::{Command, read_words};
-pub use declined::Declined;
-pub use explained::Explained;
-pub use linked::Linked;
-pub use scripted::{Beginning, Scripted};
-pub use served::{Role, Served};
-pub use tapped::Tapped;
+pub use link_args::LinkArgs;
+pub use no_command::NoCommand;
+pub use script_args::{Beginning, ScriptArgs};
+pub use station_args::{Role, StationArgs};
+pub use tap_args::TapArgs;
 pub use view::View;

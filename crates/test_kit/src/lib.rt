@@ -7,8 +7,8 @@
 
 pub mod devices;
 pub mod draws;
-pub mod reading;
+pub mod parse;
 
 pub use devices::{Moments, Recorder, Seen};
 pub use draws::Draws;
-pub use reading::{bytes_of, config_of, number};
+pub use parse::{bytes_of, config_of, number};

@@ -1,7 +1,7 @@
 //! Words of the command line. The head of an example has them, and its lines are what the program
 //! reads when it is run with these words: what it writes and how it ends goes to the output. After
 //! `? ` stand words that are only read.
-use ddcmp_cli::{Declined, read_words};
+use ddcmp_cli::{NoCommand, read_words};
 use ddcmp_frame::{FromRead, ToWrite};
 use std::io::{self, Write};
 
@@ -22,10 +22,10 @@ fn tell(rt: &HostRuntime, line: &str) -> io::Result<()> {
     let words = words_of(rt, line)?;
     match read_words(rt.alloc(), words.as_slice()) {
         Ok(command) => println!(rt; "{command:?}"),
-        Err(Declined::Help(_)) => println!(rt; "help"),
-        Err(Declined::Version(_)) => println!(rt; "version"),
-        Err(Declined::Usage(text)) => print!(rt; "{text}"),
-        Err(Declined::Memory) => println!(rt; "memory"),
+        Err(NoCommand::Help(_)) => println!(rt; "help"),
+        Err(NoCommand::Version(_)) => println!(rt; "version"),
+        Err(NoCommand::Usage(text)) => print!(rt; "{text}"),
+        Err(NoCommand::Memory) => println!(rt; "memory"),
     }
 }
 

@@ -3,8 +3,8 @@ use Rattle.std.specs.Prelude.{◌≡◌, ◌<◌, true, false, [], length, drop,
 use Rattle.ddcmp_core.specs.declared.state.State.TheVariants.{Running, Maintenance}
 use Rattle.ddcmp_core.specs.declared.state.Owed.TheVariants.{Quiet}
 use Rattle.ddcmp_core.specs.declared.state.Timer.TheVariants.{Fresh}
-use Rattle.ddcmp_core.specs.declared.station_core.sending.Sending.{Sending}
-use Rattle.ddcmp_core.specs.declared.station_core.sending.Sending.TheVariants as sending
+use Rattle.ddcmp_core.specs.declared.station_core.sender.Sending.{Sending}
+use Rattle.ddcmp_core.specs.declared.station_core.sender.Sending.TheVariants as sending
 use Rattle.ddcmp_core.specs.Table.{StationState, Data, Acked, Naked, Rep, Strt, Stack, Maint, Next}
 use Rattle.ddcmp_core.specs.Table.{Idle, Sends, before_next, message_at_next, after_data}
 use Rattle.ddcmp_core.specs.Core.{is_sent_reason}

@@ -3,12 +3,12 @@ use Rattle.std.specs.Prelude.{◌≡◌, ℕ, ◌+◌, Bool, false, List, [], �
 use Rattle.std.specs.Prelude.{Result, Ok, Err}
 use Rattle.ddcmp_run.specs.Carriages.{Carriage}
 use Rattle.ddcmp_run.specs.Run.{PairState}
-use Rattle.ddcmp_line.specs.declared.scripting.Player.{Player}
+use Rattle.ddcmp_line.specs.declared.player.Player.{Player}
 use Rattle.ddcmp_io.specs.Written.{Known, Output, HandsOver}
 use Rattle.ddcmp_line.specs.declared.command.ParsedLine.TheVariants as reading
-use Rattle.ddcmp_line.specs.declared.performing.Stop.{Stop}
-use Rattle.ddcmp_line.specs.declared.performing.Stop.TheVariants.{NoCommand, NotHex, Write}
-use Rattle.ddcmp_line.specs.declared.performing.Stop.TheVariants.{Memory, Carrier}
+use Rattle.ddcmp_line.specs.declared.performer.Stop.{Stop}
+use Rattle.ddcmp_line.specs.declared.performer.Stop.TheVariants.{NoCommand, NotHex, Write}
+use Rattle.ddcmp_line.specs.declared.performer.Stop.TheVariants.{Memory, Carrier}
 use Rattle.ddcmp_line.specs.ScriptWords.{lines_of}
 use Rattle.ddcmp_line.specs.Script.{Between, DoneLine}
 use Rattle.ddcmp_line.specs.ScriptEnds.{Around, around, HasNoLf, Begins, Did, StoppedAt, Broken}

@@ -7,9 +7,9 @@ use Rattle.ddcmp_run.specs.declared.event.End.{End}
 use Rattle.ddcmp_line.specs.declared.command.ScriptCommand.TheVariants.{Carry}
 use Rattle.ddcmp_line.specs.declared.command.ParsedLine.{ParsedLine}
 use Rattle.ddcmp_line.specs.declared.command.ParsedLine.TheVariants as reading
-use Rattle.ddcmp_line.specs.declared.performing.Stop.{Stop}
-use Rattle.ddcmp_line.specs.declared.performing.Stop.TheVariants.{NoCommand, NotHex, Write}
-use Rattle.ddcmp_line.specs.declared.performing.Stop.TheVariants.{Memory, Carrier}
+use Rattle.ddcmp_line.specs.declared.performer.Stop.{Stop}
+use Rattle.ddcmp_line.specs.declared.performer.Stop.TheVariants.{NoCommand, NotHex, Write}
+use Rattle.ddcmp_line.specs.declared.performer.Stop.TheVariants.{Memory, Carrier}
 use Rattle.ddcmp_run.specs.Run.{PairState}
 use Rattle.ddcmp_run.specs.Settle.{WantsMemory}
 use Rattle.ddcmp_run.specs.Carriages.{Carriage}

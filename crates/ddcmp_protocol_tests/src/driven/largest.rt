@@ -1,7 +1,7 @@
 //! Stations of the largest sizes, a message of the most bytes, and many turns.
 ghost use Rattle.std.specs.Prelude.{◌≡◌};
 
-use crate::driven::driving::{SILENCE, STACK, STRT, USUAL, driven, drives, is_told, started};
+use crate::driven::driver::{SILENCE, STACK, STRT, USUAL, driven, drives, is_told, started};
 use crate::same::is;
 use ddcmp_station::{Config, Fed, Notice, StartRefusal, Station};
 use std::alloc::Global;

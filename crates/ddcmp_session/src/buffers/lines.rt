@@ -7,8 +7,8 @@ ghost use Rattle.ddcmp_session.specs.Timing.{end};
 ghost use Rattle.ddcmp_session.specs.declared.devices.Fault.{Fault as FaultValue};
 
 use crate::buffers::Buffers;
-use crate::buffers::passing::write_errors;
-use crate::buffers::running::leave_line;
+use crate::buffers::flow::write_errors;
+use crate::buffers::runner::leave_line;
 use crate::devices::{Devices, Fault, Wanted};
 use crate::session::{End, Session};
 
@@ -31,7 +31,7 @@ impl Buffers {
     ghost use Rattle.ddcmp_session.specs.Session.{SessionView, is_delivered};
     ghost use Rattle.ddcmp_session.specs.Lines.{Closes, Ends, GoesOver, IsReady, MayEndWell};
     ghost use Rattle.ddcmp_session.specs.Lines.{ReportsOver};
-    ghost use Rattle.ddcmp_session.specs.Stopping.{HasNotStarted, IfNotOpened, IsLeft, IsShut};
+    ghost use Rattle.ddcmp_session.specs.Stopping.{HasNotStarted, IfNotOpened, IsLeft};
     ghost use Rattle.ddcmp_session.specs.Stopping.{IsTimeOver, Judges, LeavesLine, Stops};
     ghost use Rattle.ddcmp_session.specs.Timing.{end};
     ghost use Rattle.ddcmp_session.specs.declared.devices.Fault.{Fault as FaultValue};
@@ -80,15 +80,11 @@ impl Buffers {
         ensures ended { result ≡ Ok tt → end session.new.state ≡ Some End.Delivered }
         ensures left { result ≡ Err Stop.Left → IsLeft self.old session.old.state
             (D.traffic devices.old) session.new.state (D.traffic devices.new) }
-        ensures shut { IfNotOpened result (IsShut session.old.state session.new.state) }
+        ensures shut { IfNotOpened result (session.new.state.options.again ≡ false) }
         ensures time { result ≡ Err (Stop.Device Fault.Time) → IsTimeOver self.old session.old.state
             (D.traffic devices.old) session.new.state (D.traffic devices.new) }
         ensures unjudged { (count : ℕ) → result ≢ Err (Stop.Lost count) }
     {
-        match devices.begin_lines(session) {
-            Ok(()) => {}
-            Err(refusal) => return Err(Stop::NotOpened(refusal)),
-        }
         for _line in 0..u64::MAX {
             match self.run_one(session, devices) {
                 Ok(true) => return Ok(()),

@@ -1,6 +1,6 @@
 use Rattle.std.proofs.Common.{◌∙◌, ap, codes, inl, inr, refl, Err, List, Ok, Some, map, ℕ}
 use Rattle.std.proofs.KnownBytes.{Keeps-refl}
-use Rattle.ddcmp_words.specs.declared.declined.Declined.TheVariants.{Memory}
+use Rattle.ddcmp_words.specs.declared.no_command.NoCommand.TheVariants.{Memory}
 use borrow.Author.Rules.{rules}
 use Rattle.ddcmp_words.specs.Words.{IsAsked, IsName}
 use Rattle.ddcmp_cli.proofs.CommandLaws.{bridged, linked, not_declined, performed, stationed}

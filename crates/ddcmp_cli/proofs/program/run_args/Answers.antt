@@ -1,6 +1,6 @@
 use Rattle.std.proofs.Common.{◌≡◌, ◌∙◌, ap, subst, List, ℕ, map, string_bytes, Err, inl, refl}
 use Rattle.std.proofs.KnownBytes.{Keeps-refl}
-use Rattle.ddcmp_words.specs.declared.declined.Declined.TheVariants.{Memory}
+use Rattle.ddcmp_words.specs.declared.no_command.NoCommand.TheVariants.{Memory}
 use Rattle.ddcmp_io.specs.Change.{source_change, sink_change}
 use Rattle.ddcmp_cli.specs.Endings.{RunsAs}
 use borrow.Author.Rules.{rules}

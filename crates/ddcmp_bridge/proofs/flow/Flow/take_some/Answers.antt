@@ -9,7 +9,7 @@ returns-clause-flows g c =
     let was = c.self.inside in
     let size : was.from + (was.end - was.from) ≡ was.end = omega (arith, c.self.invariant.0) in
     flow-took c.args.way c.args.self.now _ _ _ _ _ c.push-used.result.used c.self.view_is
-    c.tell.ensures
+    c.log.ensures
     (sym (drop-drop was.from c.push-used.result.used (take was.end was.came.items)))
     (ap (λ xs. take (was.end - was.from) (drop was.from xs)) c.deref.ensures.value
     ∙ sym (drop-take was.from (was.end - was.from) was.came.items)

@@ -5,10 +5,7 @@ use Rattle.ddcmp_session.proofs.StopLaws.{line-later, of-leave, time-later}
 use Rattle.ddcmp_session.proofs.buffers.Buffers.run_each.Goals as goal
 
 pub loop-line-init : goal.loop-line-init
-loop-line-init g c = (
-  none-over c.begin_lines.ensures.session c.begin_lines.ensures.devices,
-  ready-by c.begin_lines.ensures.session,
-)
+loop-line-init g c = (none-over refl refl, ready-by refl)
 
 pub loop-line-preserved : goal.loop-line-preserved
 loop-line-preserved g c = (
@@ -30,10 +27,6 @@ returns-in-Err-leave-clause-reports g c = λ fault untimed e.
     (reports-later c.run_one.ensures.over
     (reports-later (none-over refl c.close_line.ensures)
     (c.in-Err-leave.ensures.reports _ fault untimed (same-fault e))))
-
-pub returns-in-Err-clause-over : goal.returns-in-Err-clause-over
-returns-in-Err-clause-over g c =
-    none-over c.begin_lines.ensures.session c.begin_lines.ensures.devices
 
 pub returns-in-Ok-true-clause-over : goal.returns-in-Ok-true-clause-over
 returns-in-Ok-true-clause-over g c =
@@ -77,7 +70,4 @@ returns-in-Err-run_one-clause-left g c = λ e. inl (c.in-Err-run_one.ensures.lef
 
 pub returns-in-Err-run_one-clause-shut : goal.returns-in-Err-run_one-clause-shut
 returns-in-Err-run_one-clause-shut g c = λ refusal e.
-    inr (c.in-Err-run_one.ensures.shut refusal (same-err e))
-
-pub returns-in-Err-clause-shut : goal.returns-in-Err-clause-shut
-returns-in-Err-clause-shut g c = λ refusal e. inl c.begin_lines.ensures.session
+    c.in-Err-run_one.ensures.shut refusal (same-err e)

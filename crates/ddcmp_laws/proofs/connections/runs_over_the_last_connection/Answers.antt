@@ -1,0 +1,44 @@
+use Rattle.ddcmp_laws.proofs.LastRuns.{runs-together}
+use Rattle.ddcmp_laws.proofs.RunLaws.{all-to-a, all-to-b, files-begin-a, files-begin-b}
+use Rattle.ddcmp_laws.proofs.RunLaws.{files-pass-a, files-pass-b, first-to-a, first-to-b}
+use Rattle.ddcmp_laws.proofs.connections.runs_over_the_last_connection.Goals as goal
+
+pub returns-clause-to_b : goal.returns-clause-to_b
+returns-clause-to_b c = λ a b f g done_a done_b ready_a ready_b ran.
+    first-to-b a b f g done_a done_b
+    (runs-together a b f g done_a done_b ready_a ready_b ran)
+
+pub returns-clause-to_a : goal.returns-clause-to_a
+returns-clause-to_a c = λ a b f g done_a done_b ready_a ready_b ran.
+    first-to-a a b f g done_a done_b
+    (runs-together a b f g done_a done_b ready_a ready_b ran)
+
+pub returns-clause-all_to_b : goal.returns-clause-all_to_b
+returns-clause-all_to_b c = λ a b f g done_a done_b ready_a ready_b ran.
+    all-to-b a b f g done_a done_b
+    (runs-together a b f g done_a done_b ready_a ready_b ran)
+
+pub returns-clause-all_to_a : goal.returns-clause-all_to_a
+returns-clause-all_to_a c = λ a b f g done_a done_b ready_a ready_b ran.
+    all-to-a a b f g done_a done_b
+    (runs-together a b f g done_a done_b ready_a ready_b ran)
+
+pub returns-clause-files_to_b : goal.returns-clause-files_to_b
+returns-clause-files_to_b c = λ a b f g done_a done_b ready_a ready_b ran.
+    files-begin-b a b f g done_a done_b
+    (runs-together a b f g done_a done_b ready_a ready_b ran)
+
+pub returns-clause-files_to_a : goal.returns-clause-files_to_a
+returns-clause-files_to_a c = λ a b f g done_a done_b ready_a ready_b ran.
+    files-begin-a a b f g done_a done_b
+    (runs-together a b f g done_a done_b ready_a ready_b ran)
+
+pub returns-clause-whole_to_b : goal.returns-clause-whole_to_b
+returns-clause-whole_to_b c = λ a b f g done_a done_b ready_a ready_b ran.
+    files-pass-b a b f g done_a done_b
+    (runs-together a b f g done_a done_b ready_a ready_b ran)
+
+pub returns-clause-whole_to_a : goal.returns-clause-whole_to_a
+returns-clause-whole_to_a c = λ a b f g done_a done_b ready_a ready_b ran.
+    files-pass-a a b f g done_a done_b
+    (runs-together a b f g done_a done_b ready_a ready_b ran)

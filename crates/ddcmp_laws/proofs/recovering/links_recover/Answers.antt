@@ -1,5 +1,0 @@
-use Rattle.ddcmp_laws.proofs.LinkRecovery.{recover}
-use Rattle.ddcmp_laws.proofs.recovering.links_recover.Goals as goal
-
-pub returns : goal.returns
-returns c = recover

@@ -1,6 +1,0 @@
-use Rattle.std.proofs.Common.{◌≡◌, take}
-use Rattle.ddcmp_run.specs.Run.{run}
-use Rattle.ddcmp_pair.proofs.running.play.Given as goal
-
-abbrev pub invariant-loop-done : goal.invariant-loop-done
-invariant-loop-done l = l.pair ≡ run (take l.done l.events) l.initial.pair

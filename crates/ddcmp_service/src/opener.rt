@@ -1,0 +1,431 @@
+//! Opening the line that a name names.
+ghost use Rattle.std.specs.Prelude.{◌≡◌, ◌+◌, ◌-◌, ◌^◌, IfErr, IfOk, None, Some, false, min};
+ghost use Rattle.ddcmp_service.specs.LineNames.{line_kind, not_opened_of};
+ghost use Rattle.ddcmp_service.specs.Opening.{Begins, SameIfNotYet, Opens, event_of, line_of};
+ghost use Rattle.ddcmp_session.specs.declared.options.LineKind.TheVariants as kind;
+
+use crate::event::Event;
+use crate::fault::{Cause, NotOpened};
+use crate::line::Line;
+use crate::line_name::LineName;
+use crate::poller::Poller;
+use crate::socket::{prepare_datagrams, prepare_stream};
+use mio::net::{TcpListener, TcpStream, UdpSocket};
+use std::fs::{self, File, Files, OpenOptions, TryLockError};
+use std::io::{self, ErrorKind};
+use std::net::{self, Net, OpenListener, SocketAddr, ToSocketAddrs};
+use std::os::fd::AsRawFd;
+use std::os::unix::fs::FileTypeExt;
+
+/// Opens a line, once or again and again.
+pub(crate) struct Opener<'a> {
+    name: LineName<'a>,
+    /// Who comes is taken here, once it listens.
+    listener: Option<TcpListener>,
+    /// A connection that isn't there yet.
+    connecting: Option<TcpStream>,
+    /// Which of the addresses of its name it is to.
+    which: usize,
+    /// Why that before it failed.
+    failed: Option<ErrorKind>,
+}
+
+// By hand, so that it is dropped by a call: a derived one is written out at each such place.
+impl Drop for Opener<'_> {
+    fn drop(self) {
+        let Opener {
+            name: _,
+            listener: _listener,
+            connecting: _connecting,
+            which: _,
+            failed: _,
+        } = self;
+    }
+}
+
+/// A line, or whom to wait for.
+#[derive(Drop)]
+pub(crate) enum Opened {
+    Line(Line),
+    /// A connection, and to whom.
+    Connected(Line, SocketAddr),
+    /// A connection to there has been begun.
+    Connecting(SocketAddr),
+    /// Callers are waited for at this address.
+    Listening(SocketAddr),
+    /// Nobody has connected yet, the connection isn't made yet, or nothing is listened for.
+    NotYet,
+}
+
+impl Opened {
+    /// Returns what is reported of it, if anything is.
+    pub(crate) fn event(&self) -> Option<Event<'static>>
+        ensures { result ≡ event_of self.now }
+    {
+        match self {
+            Opened::Connected(_, peer) => Some(Event::Connected(*peer)),
+            Opened::Connecting(peer) => Some(Event::Connecting(*peer)),
+            Opened::Listening(addr) => Some(Event::Listening(*addr)),
+            Opened::Line(_) | Opened::NotYet => None,
+        }
+    }
+
+    /// Returns the line, if it is open.
+    pub(crate) fn into_line(self) -> Option<Line>
+        ensures { result ≡ line_of self }
+    {
+        match self {
+            Opened::Line(line) | Opened::Connected(line, _) => Some(line),
+            Opened::Connecting(_) | Opened::Listening(_) | Opened::NotYet => None,
+        }
+    }
+}
+
+/// Why a line can't be opened, and whether that is the remote one of two addresses.
+#[derive(Clone, Copy, PartialEq, Eq)]
+pub(crate) struct OpenRefusal {
+    pub(crate) cause: Cause,
+    pub(crate) is_remote: bool,
+}
+
+/// The system refused it.
+fn refused_by(error: &io::Error) -> OpenRefusal {
+    refused(Cause::System(error.kind()))
+}
+
+fn refused(cause: Cause) -> OpenRefusal
+    ensures { result ≡ record { cause = cause; is_remote = false } }
+{
+    OpenRefusal {
+        cause,
+        is_remote: false,
+    }
+}
+
+impl<'a> Opener<'a> {
+    pub(crate) fn new(name: LineName<'a>) -> Opener<'a> {
+        Opener {
+            name,
+            listener: None,
+            connecting: None,
+            which: 0,
+            failed: None,
+        }
+    }
+
+    /// Returns the fault of a line of this name that couldn't be opened.
+    pub(crate) fn fault(&self, refused: OpenRefusal) -> NotOpened<'a>
+        ensures { result ≡ not_opened_of self.now.name refused }
+    {
+        self.name.not_opened(refused)
+    }
+
+    /// Listens if the line is one of whoever comes; else returns `NotYet`.
+    pub(crate) fn listen<N: Net<Stream = net::TcpStream, Listener = net::TcpListener>>(
+        &mut self,
+        net: &N,
+        poller: &mut Poller,
+    ) -> Result<Opened, OpenRefusal>
+        ensures { IfOk result (Begins (line_kind self.old.name)) }
+    {
+        let LineName::Listen(name) = self.name else {
+            return Ok(Opened::NotYet);
+        };
+        match listening(net, poller, name) {
+            Ok((listener, addr)) => {
+                self.listener = Some(listener);
+                Ok(Opened::Listening(addr))
+            }
+            Err(cause) => Err(refused(cause)),
+        }
+    }
+
+    /// Opens the line, takes who has come, or sees whether a connection is there; listens first, if
+    /// the line is one of whoever comes and that hasn't been done.
+    pub(crate) fn open<S>(&mut self, system: &S, poller: &mut Poller) -> Result<Opened, OpenRefusal>
+    where
+        S: Net<Stream = net::TcpStream, Listener = net::TcpListener> + Files<File = File>,
+        ensures opened { IfOk result (Opens (line_kind self.old.name)) }
+        ensures begun { IfOk result (SameIfNotYet self.old.connecting self.new.connecting) }
+        ensures listens { IfOk result (SameIfNotYet self.old.listener self.new.listener) }
+    {
+        match self.name {
+            LineName::Connect(name) => self.connect(system, poller, name),
+            LineName::Listen(_) => match &self.listener {
+                None => self.listen(system, poller),
+                Some(listener) => match accepted(listener, poller) {
+                    Ok(opened) => Ok(opened),
+                    Err(error) => Err(refused_by(&error)),
+                },
+            },
+            LineName::Udp { local, remote } => bound(system, poller, local, remote),
+            LineName::Device(path) => device(system, poller, path),
+        }
+    }
+
+    /// Connects to the addresses of a name, one after the other, without waiting for a result.
+    fn connect<N: Net>(
+        &mut self,
+        net: &N,
+        poller: &mut Poller,
+        name: &str,
+    ) -> Result<Opened, OpenRefusal>
+        ensures opened { IfOk result (Opens kind.Connect) }
+        ensures begun { IfOk result (SameIfNotYet self.old.connecting self.new.connecting) }
+        ensures listener { self.new.listener ≡ self.old.listener }
+    {
+        if let Some(stream) = self.connecting.take() {
+            match peer_of(&stream) {
+                Ok(Some(peer)) => {
+                    self.begin_anew();
+                    return Ok(Opened::Connected(Line::Stream(stream), peer));
+                }
+                Ok(None) => {
+                    self.connecting = Some(stream);
+                    return Ok(Opened::NotYet);
+                }
+                Err(kind) => self.fails(kind),
+            }
+        }
+        for _address in 0..u64::MAX {
+            let addr = match address(net, name, self.which) {
+                Ok(Some(addr)) => addr,
+                Ok(None) => break,
+                Err(cause) => {
+                    self.begin_anew();
+                    return Err(refused(cause));
+                }
+            };
+            match begin_connecting(net, poller, addr) {
+                Ok(stream) => {
+                    self.connecting = Some(stream);
+                    return Ok(Opened::Connecting(addr));
+                }
+                Err(error) => self.fails(error.kind()),
+            }
+        }
+        let kind = self.failed.unwrap_or(ErrorKind::InvalidInput);
+        self.begin_anew();
+        Err(refused(Cause::System(kind)))
+    }
+
+    /// An address failed so: the next one is tried.
+    fn fails(&mut self, kind: ErrorKind)
+        ensures { self.new ≡ record self.old {
+          failed = Some kind;
+          which = min (self.old.which + 1) (2 ^ 64 - 1);
+        } }
+    {
+        self.failed = Some(kind);
+        self.which = self.which.saturating_add(1);
+    }
+
+    /// The next connection is to the first address of its name.
+    fn begin_anew(&mut self)
+        ensures { self.new ≡ record self.old { failed = None; which = 0 } }
+    {
+        self.failed = None;
+        self.which = 0;
+    }
+}
+
+/// Returns to whom a connection is, once it is there, or why it failed.
+fn peer_of(stream: &TcpStream) -> Result<Option<SocketAddr>, ErrorKind> {
+    match stream.take_error() {
+        Ok(Some(error)) | Err(error) => return Err(error.kind()),
+        Ok(None) => {}
+    }
+    match stream.peer_addr() {
+        Ok(peer) => Ok(Some(peer)),
+        Err(error) => match error.kind() {
+            ErrorKind::NotConnected => Ok(None),
+            kind => Err(kind),
+        },
+    }
+}
+
+/// Begins to connect to an address.
+fn begin_connecting<N: Net>(
+    net: &N,
+    poller: &mut Poller,
+    addr: SocketAddr,
+) -> io::Result<TcpStream> {
+    let mut stream = TcpStream::connect(net, addr)?;
+    prepare_stream(&stream);
+    poller.add_socket(&mut stream)?;
+    Ok(stream)
+}
+
+/// A listener at the first address of a name that can be listened at, and which address it has.
+fn listening<N: Net<Stream = net::TcpStream, Listener = net::TcpListener>>(
+    net: &N,
+    poller: &mut Poller,
+    name: &str,
+) -> Result<(TcpListener, SocketAddr), Cause> {
+    let mut failed = ErrorKind::InvalidInput;
+    for index in 0..usize::MAX {
+        let Some(addr) = address(net, name, index)? else {
+            break;
+        };
+        match listening_at(net, poller, addr) {
+            Ok(listens) => return Ok(listens),
+            Err(error) => failed = error.kind(),
+        }
+    }
+    Err(Cause::System(failed))
+}
+
+fn listening_at<N: Net<Stream = net::TcpStream, Listener = net::TcpListener>>(
+    net: &N,
+    poller: &mut Poller,
+    addr: SocketAddr,
+) -> io::Result<(TcpListener, SocketAddr)> {
+    let listener = net::TcpListener::bind(net, addr)?;
+    let addr = listener.local_addr()?;
+    listener.set_nonblocking(true)?;
+    let mut listener = TcpListener::from_std(listener);
+    poller.add_listener(&mut listener)?;
+    Ok((listener, addr))
+}
+
+/// Takes who has come first and hasn't gone since.
+fn accepted(listener: &TcpListener, poller: &mut Poller) -> io::Result<Opened>
+    ensures { IfOk result (Opens kind.Listen) }
+{
+    for _caller in 0..u64::MAX {
+        match listener.accept() {
+            Ok((mut stream, peer)) => {
+                prepare_stream(&stream);
+                poller.add_socket(&mut stream)?;
+                return Ok(Opened::Connected(Line::Stream(stream), peer));
+            }
+            Err(error) => match error.kind() {
+                // Others may wait behind it, and the next wait doesn't report them again.
+                ErrorKind::Interrupted | ErrorKind::ConnectionAborted => {}
+                ErrorKind::WouldBlock => return Ok(Opened::NotYet),
+                _ => return Err(error),
+            },
+        }
+    }
+    Ok(Opened::NotYet)
+}
+
+/// The address of this index among those that a text names.
+fn address<N: Net>(net: &N, name: &str, index: usize) -> Result<Option<SocketAddr>, Cause> {
+    match name.to_socket_addrs(net) {
+        Ok(mut found) => Ok(found.nth(index)),
+        Err(error) => Err(match error.kind() {
+            ErrorKind::InvalidInput => Cause::System(ErrorKind::InvalidInput),
+            _ => Cause::UnknownHost,
+        }),
+    }
+}
+
+/// The address of this index of one end of a line of datagrams; its name has a first one.
+fn address_of_end<N: Net>(
+    net: &N,
+    name: &str,
+    index: usize,
+    is_remote: bool,
+) -> Result<Option<SocketAddr>, OpenRefusal>
+    ensures { IfErr result (λ refused. refused.is_remote ≡ is_remote) }
+{
+    match address(net, name, index) {
+        Ok(None) if index == 0 => Err(OpenRefusal {
+            cause: Cause::UnknownHost,
+            is_remote,
+        }),
+        Ok(found) => Ok(found),
+        Err(cause) => Err(OpenRefusal { cause, is_remote }),
+    }
+}
+
+/// The first address of the remote end that is of the family of a local one.
+fn address_like<N: Net>(
+    net: &N,
+    remote: &str,
+    local: SocketAddr,
+) -> Result<Option<SocketAddr>, OpenRefusal> {
+    for index in 0..usize::MAX {
+        match address_of_end(net, remote, index, true) {
+            Ok(Some(addr)) if addr.is_ipv4() != local.is_ipv4() => {}
+            found => return found,
+        }
+    }
+    Ok(None)
+}
+
+/// The first address of the local end of whose family the remote end has one, and that.
+fn addresses<N: Net>(
+    net: &N,
+    local: &str,
+    remote: &str,
+) -> Result<(SocketAddr, SocketAddr), OpenRefusal> {
+    for index in 0..usize::MAX {
+        let Some(here) = address_of_end(net, local, index, false)? else {
+            break;
+        };
+        if let Some(there) = address_like(net, remote, here)? {
+            return Ok((here, there));
+        }
+    }
+    Err(OpenRefusal {
+        cause: Cause::OtherFamily,
+        is_remote: true,
+    })
+}
+
+fn bound<N: Net>(
+    net: &N,
+    poller: &mut Poller,
+    local: &str,
+    remote: &str,
+) -> Result<Opened, OpenRefusal>
+    ensures { IfOk result (Opens kind.Datagrams) }
+{
+    let (local, remote) = addresses(net, local, remote)?;
+    match bind(net, poller, local) {
+        Ok(socket) => Ok(Opened::Line(Line::Datagrams(socket, remote))),
+        Err(error) => Err(refused_by(&error)),
+    }
+}
+
+fn bind<N: Net>(net: &N, poller: &mut Poller, local: SocketAddr) -> io::Result<UdpSocket> {
+    let mut socket = UdpSocket::bind(net, local)?;
+    prepare_datagrams(&socket);
+    poller.add_socket(&mut socket)?;
+    Ok(socket)
+}
+
+/// Opens a character device, whose reads and writes don't wait, and locks it; nothing else is
+/// opened for writing.
+fn device<S: Files<File = File>>(
+    files: &S,
+    poller: &mut Poller,
+    path: &str,
+) -> Result<Opened, OpenRefusal>
+    ensures { IfOk result (Opens kind.Device) }
+{
+    let kind = match fs::metadata(files, path) {
+        Ok(metadata) => metadata.file_type(),
+        Err(error) => return Err(refused_by(&error)),
+    };
+    if kind.is_dir() {
+        return Err(refused(Cause::System(ErrorKind::IsADirectory)));
+    }
+    if !kind.is_char_device() {
+        return Err(refused(Cause::NotDevice));
+    }
+    let file = match OpenOptions::new().read(true).write(true).open(files, path) {
+        Ok(file) => file,
+        Err(error) => return Err(refused_by(&error)),
+    };
+    if let Err(TryLockError::WouldBlock) = file.try_lock() {
+        return Err(refused(Cause::InUse));
+    }
+    if os::set_nonblocking(file.as_raw_fd(), true) < 0 {
+        return Err(refused(Cause::System(ErrorKind::Other)));
+    }
+    poller.add_device(file.as_raw_fd());
+    Ok(Opened::Line(Line::Device(file)))
+}

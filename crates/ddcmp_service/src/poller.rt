@@ -1,0 +1,312 @@
+//! Waiting for whichever comes first: standard input, standard output, the line, or a moment.
+ghost use Rattle.std.specs.Prelude.{◌≡◌, ◌||◌, MatchOption, false, not};
+ghost use Rattle.mio.specs.Interest.{is_readable, is_writable};
+ghost use Rattle.ddcmp_service.specs.Readiness.{is_any_ready, line_ready};
+
+use ddcmp_session::Wanted;
+use mio::event::Source;
+use mio::unix::SourceFd;
+use mio::{Events, Interest, Poll, Token};
+use std::alloc::Global;
+use std::io;
+use std::net::Net;
+use std::os::fd::RawFd;
+use std::time::Duration;
+
+/// The longest wait at once, in milliseconds.
+const HOUR_MS: u64 = 3_600_000;
+
+const INPUT: Token = Token(0);
+
+const OUTPUT: Token = Token(1);
+
+const ERRORS: Token = Token(2);
+
+const LINE: Token = Token(3);
+
+const CALLERS: Token = Token(4);
+
+/// What is known of a device: whether a read gives something now, and a write takes something.
+#[derive(Clone, Copy)]
+pub(crate) struct Ready {
+    pub(crate) to_read: bool,
+    pub(crate) to_write: bool,
+}
+
+impl Ready {
+    pub(crate) const NOT: Ready = Ready {
+        to_read: false,
+        to_write: false,
+    };
+
+    pub(crate) const BOTH: Ready = Ready {
+        to_read: true,
+        to_write: true,
+    };
+
+    /// It is ready for this, too.
+    pub(crate) fn add(&mut self, told: Ready)
+        ensures reads { self.new.to_read ≡ (self.old.to_read || told.to_read) }
+        ensures writes { self.new.to_write ≡ (self.old.to_write || told.to_write) }
+    {
+        self.to_read = self.to_read || told.to_read;
+        self.to_write = self.to_write || told.to_write;
+    }
+}
+
+/// A descriptor that waits if it isn't ready, and so is asked for again before each wait.
+#[derive(Clone, Copy)]
+pub(crate) struct Descriptor {
+    number: RawFd,
+    token: Token,
+    /// Whether the system reports it; not of a file, which is always ready.
+    is_told: bool,
+    pub(crate) ready: Ready,
+}
+
+impl Descriptor {
+    /// Has it reported from now on, if the system reports such a descriptor.
+    pub(crate) fn new(poll: &Poll, number: RawFd, token: Token, interest: Interest) -> Descriptor {
+        let is_told = poll
+            .registry()
+            .register(&mut SourceFd(&number), token, interest)
+            .is_ok();
+        Descriptor {
+            number,
+            token,
+            is_told,
+            ready: if is_told { Ready::NOT } else { Ready::BOTH },
+        }
+    }
+
+    /// A read returned what there was.
+    pub(crate) fn has_read(&mut self)
+        ensures { self.new ≡ record self.old {
+          ready = record self.old.ready { to_read = not self.old.is_told };
+        } }
+    {
+        self.ready.to_read = !self.is_told;
+    }
+
+    /// A write took what there was room for.
+    pub(crate) fn has_written(&mut self)
+        ensures { self.new ≡ record self.old {
+          ready = record self.old.ready { to_write = not self.old.is_told };
+        } }
+    {
+        self.ready.to_write = !self.is_told;
+    }
+
+    /// Has the next wait report it, if it is needed and not known to be ready.
+    pub(crate) fn ask(&mut self, poll: &Poll, to_read: bool, to_write: bool) {
+        let reads = to_read && !self.ready.to_read;
+        let writes = to_write && !self.ready.to_write;
+        let Some(interest) = interest_in(reads, writes) else {
+            return;
+        };
+        if self.is_told {
+            let asked = poll
+                .registry()
+                .reregister(&mut SourceFd(&self.number), self.token, interest);
+            if asked.is_err() {
+                // It can't be waited for, so the next read or write finds out.
+                self.ready = Ready::BOTH;
+            }
+        }
+    }
+}
+
+/// Returns what to wait for at a device; none if nothing is needed of it.
+fn interest_in(to_read: bool, to_write: bool) -> Option<Interest>
+    ensures { MatchOption result ((to_read ≡ false) × (to_write ≡ false))
+        (λ interest. (is_readable interest ≡ to_read) × (is_writable interest ≡ to_write)) }
+{
+    match (to_read, to_write) {
+        (true, true) => Some(Interest::READABLE | Interest::WRITABLE),
+        (true, false) => Some(Interest::READABLE),
+        (false, true) => Some(Interest::WRITABLE),
+        (false, false) => None,
+    }
+}
+
+/// What a service waits for.
+pub(crate) struct Poller {
+    poll: Poll,
+    events: Events,
+    pub(crate) input: Descriptor,
+    pub(crate) output: Descriptor,
+    pub(crate) errors: Descriptor,
+    /// The line, if it is a serial device.
+    pub(crate) device: Option<Descriptor>,
+    /// The line, if it is a socket.
+    pub(crate) socket: Ready,
+}
+
+// By hand, so that what waits is dropped by a call: a derived one is written out at
+// each such place.
+impl Drop for Poller {
+    fn drop(self) {
+        let Poller {
+            poll: _poll,
+            events: _events,
+            input: _input,
+            output: _output,
+            errors: _errors,
+            device: _device,
+            socket: _,
+        } = self;
+    }
+}
+
+impl Poller {
+    /// Waits for standard input, output and error from now on.
+    pub(crate) fn new<N: Net>(net: &N, alloc: Global) -> io::Result<Poller> {
+        let poll = Poll::new(net)?;
+        let events = Events::with_capacity(alloc, 5)?;
+        let input = Descriptor::new(&poll, 0, INPUT, Interest::READABLE);
+        let output = Descriptor::new(&poll, 1, OUTPUT, Interest::WRITABLE);
+        let errors = Descriptor::new(&poll, 2, ERRORS, Interest::WRITABLE);
+        Ok(Poller {
+            poll,
+            events,
+            input,
+            output,
+            errors,
+            device: None,
+            socket: Ready::NOT,
+        })
+    }
+
+    /// Waits for a socket as the line, too.
+    pub(crate) fn add_socket<S: Source>(&mut self, socket: &mut S) -> io::Result<()> {
+        self.socket = Ready::BOTH;
+        let both = Interest::READABLE | Interest::WRITABLE;
+        self.poll.registry().register(socket, LINE, both)
+    }
+
+    /// Waits for a serial device as the line, too.
+    pub(crate) fn add_device(&mut self, number: RawFd) {
+        let both = Interest::READABLE | Interest::WRITABLE;
+        self.device = Some(Descriptor::new(&self.poll, number, LINE, both));
+    }
+
+    /// Waits for callers of a listener, too.
+    pub(crate) fn add_listener<S: Source>(&mut self, listener: &mut S) -> io::Result<()> {
+        let registry = self.poll.registry();
+        registry.register(listener, CALLERS, Interest::READABLE)
+    }
+
+    /// The line is no more.
+    pub(crate) fn forget_line(&mut self) {
+        self.socket = Ready::NOT;
+        self.device = None;
+    }
+
+    /// Whether a read from the line may give something.
+    pub(crate) fn may_read_line(&self) -> bool
+        ensures { result ≡ (line_ready self.now).to_read }
+    {
+        match &self.device {
+            Some(device) => device.ready.to_read,
+            None => self.socket.to_read,
+        }
+    }
+
+    /// Whether a write to the line may take something.
+    pub(crate) fn may_write_line(&self) -> bool
+        ensures { result ≡ (line_ready self.now).to_write }
+    {
+        match &self.device {
+            Some(device) => device.ready.to_write,
+            None => self.socket.to_write,
+        }
+    }
+
+    /// A read from the line returned something, or nothing, and then `is_dry`.
+    pub(crate) fn line_was_read(&mut self, is_dry: bool) {
+        match &mut self.device {
+            Some(device) => device.has_read(),
+            None => self.socket.to_read = !is_dry,
+        }
+    }
+
+    /// A write to the line took something, or nothing, and then `is_full`.
+    pub(crate) fn line_was_written(&mut self, is_full: bool) {
+        match &mut self.device {
+            Some(device) => device.has_written(),
+            None => self.socket.to_write = !is_full,
+        }
+    }
+
+    /// Waits until something that is needed is ready, or `most_ms` milliseconds have passed, or an
+    /// hour: whether it could wait.
+    pub(crate) fn wait(&mut self, wanted: Wanted, most_ms: u64) -> bool {
+        self.input.ask(&self.poll, wanted.input, false);
+        self.output.ask(&self.poll, false, wanted.output);
+        self.errors.ask(&self.poll, false, wanted.errors);
+        if let Some(device) = &mut self.device {
+            device.ask(&self.poll, wanted.from_line, wanted.to_line);
+        }
+        let most = if self.is_any_ready(wanted) {
+            0
+        } else {
+            most_ms.min(HOUR_MS)
+        };
+        let most = Some(Duration::from_millis(most));
+        if self.poll.poll(&mut self.events, most).is_err() {
+            return false;
+        }
+        self.note();
+        true
+    }
+
+    /// Whether something that is wanted is known to be ready, so that nothing is to be waited for.
+    fn is_any_ready(&self, wanted: Wanted) -> bool
+        ensures { result ≡ is_any_ready wanted self.now }
+    {
+        wanted.input && self.input.ready.to_read
+            || wanted.output && self.output.ready.to_write
+            || wanted.errors && self.errors.ready.to_write
+            || wanted.from_line && self.may_read_line()
+            || wanted.to_line && self.may_write_line()
+    }
+
+    /// Takes over what the wait reported.
+    fn note(&mut self) {
+        for event in self.events.iter() {
+            let told = Ready {
+                to_read: event.is_readable() || event.is_read_closed() || event.is_error(),
+                to_write: event.is_writable() || event.is_write_closed() || event.is_error(),
+            };
+            match event.token() {
+                INPUT => self.input.ready.add(told),
+                OUTPUT => self.output.ready.add(told),
+                ERRORS => self.errors.ready.add(told),
+                LINE => add_to_line(&mut self.device, &mut self.socket, told),
+                _ => {}
+            }
+        }
+    }
+}
+
+/// Whether standard error takes something, now or within a second.
+pub fn errors_take<N: Net>(net: &N, alloc: Global) -> bool {
+    let Ok(mut poller) = Poller::new(net, alloc) else {
+        return true;
+    };
+    // What comes of standard input may end a wait.
+    for _try in 0..4u8 {
+        if poller.errors.ready.to_write || !poller.wait(Wanted::ERRORS, 250) {
+            return true;
+        }
+    }
+    poller.errors.ready.to_write
+}
+
+/// Takes over what the wait reported of the line.
+fn add_to_line(device: &mut Option<Descriptor>, socket: &mut Ready, told: Ready) {
+    match device {
+        Some(device) => device.ready.add(told),
+        None => socket.add(told),
+    }
+}

@@ -1,0 +1,114 @@
+//! The end of a run: what was received is delivered, and then the last lines are written.
+ghost use Rattle.std.specs.Prelude.{◌≡◌, ◌≢◌, ◌&&◌, ◌⊎◌, Err, Ok, is_ok};
+ghost use Rattle.ddcmp_session.specs.Devices.{BuffersView, GoesOn, Reports};
+ghost use Rattle.ddcmp_session.specs.Finishing.{Drains, Finishes, IsDrained};
+ghost use Rattle.ddcmp_session.specs.declared.devices.Fault.{Fault as FaultValue};
+
+use crate::buffers::Buffers;
+use crate::buffers::lines::Stop;
+use crate::buffers::runner::{END_MS, drain_errors, drain_output};
+use crate::devices::{Devices, Fault};
+use crate::session::Session;
+
+impl Buffers {
+    ghost use Rattle.std.specs.Prelude.{◌≡◌, ◌≢◌, ◌<◌, Err, Ok, ℕ, false, is_ok};
+    ghost use Rattle.ddcmp_session.specs.Finishing.{RunsToEnd};
+    ghost use Rattle.ddcmp_session.specs.Lines.{ReportsOver};
+    ghost use Rattle.ddcmp_session.specs.Stopping.{StopsToEnd};
+    ghost use Rattle.ddcmp_session.specs.declared.devices.Fault.{Fault as FaultValue};
+
+    /// Runs a new session as `run_lines` does, and then writes all that was received, and the last
+    /// lines. It ends well only if nothing is lost and the output has taken all.
+    pub fn run_to_end<D: Devices>(
+        &mut self,
+        session: &mut Session,
+        devices: &mut D,
+    ) -> Result<(), Stop<D::Refusal>>
+        ensures ends { RunsToEnd (is_ok result) self.old session.old.state (D.traffic devices.old)
+            self.new session.new.state (D.traffic devices.new) }
+        ensures stops { (ends : RunsToEnd (is_ok result) self.old session.old.state
+            (D.traffic devices.old) self.new session.new.state (D.traffic devices.new))
+            × StopsToEnd result self.old session.old.state (D.traffic devices.old)
+            ends.ends.unclosed
+            ends.between }
+        ensures whole { result ≡ Ok tt → session.new.state.course.lost ≡ 0 }
+        ensures lost { (count : ℕ) → result ≡ Err (Stop.Lost count)
+            → (count ≡ session.new.state.course.lost) × (0 < count) }
+        ensures left { result ≡ Err Stop.Left → session.new.state.course.has_run ≡ false }
+        ensures reports { (fault : FaultValue) → fault ≢ Fault.Time
+            → result ≡ Err (Stop.Device fault) → ReportsOver self.old session.old.state
+            (D.traffic devices.old) (D.traffic devices.new) fault }
+    {
+        let ran = self.run_lines(session, devices);
+        let finished = finish(session, devices);
+        drain_errors(session, devices, END_MS);
+        outcome(ran, finished)
+    }
+}
+
+/// Returns how a run ended: as its lines did, and if that was well as its output did.
+fn outcome<R: Copy>(ran: Result<(), Stop<R>>, finished: Result<(), Fault>) -> Result<(), Stop<R>>
+    ensures well { is_ok result ≡ is_ok ran && is_ok finished }
+    ensures whole { result ≡ Ok tt → (ran ≡ Ok tt) × (finished ≡ Ok tt) }
+    ensures fault { (fault : FaultValue) → result ≡ Err (Stop.Device fault)
+        → (ran ≡ result) ⊎ (finished ≡ Err fault) }
+    ensures device { (fault : FaultValue) → ran ≡ Ok tt → finished ≡ Err fault
+        → result ≡ Err (Stop.Device fault) }
+    ensures stop { ran ≢ Ok tt → result ≡ ran }
+    ensures stops { (result ≡ ran) ⊎ ((fault : FaultValue) × (ran ≡ Ok tt)
+        × (result ≡ Err (Stop.Device fault))) }
+{
+    match ran {
+        Ok(()) => {}
+        Err(stop) => return Err(stop),
+    }
+    match finished {
+        Ok(()) => Ok(()),
+        Err(fault) => Err(Stop::Device(fault)),
+    }
+}
+
+/// Writes all received messages, and then the last lines.
+fn finish<D: Devices>(session: &mut Session, devices: &mut D) -> Result<(), Fault>
+    ensures finishes { Finishes (is_ok result) session.old.state (D.traffic devices.old)
+        session.new.state (D.traffic devices.new) }
+    ensures reports { (held : BuffersView) (fault : FaultValue) → result ≡ Err fault
+        → fault ≢ Fault.Time
+        → Reports held session.old.state (D.traffic devices.old) (D.traffic devices.new) fault }
+    ensures course { session.new.state.course ≡ session.old.state.course }
+    ensures log { session.new.log ≡ record session.old.log {
+      errors = session.new.log.errors;
+      trace = session.new.log.trace;
+    } }
+{
+    match deliver_rest(session, devices) {
+        Ok(()) => {}
+        Err(fault) => return Err(fault),
+    }
+    session.write_end();
+    drain_output(session, devices)
+}
+
+/// Writes all received messages, and reports it if they are lost since nobody reads them.
+fn deliver_rest<D: Devices>(session: &mut Session, devices: &mut D) -> Result<(), Fault>
+    ensures drains { Drains session.old.state (D.traffic devices.old)
+        session.new.state (D.traffic devices.new) }
+    ensures on { (held : BuffersView) → GoesOn held session.old.state (D.traffic devices.old)
+        held session.new.state (D.traffic devices.new) }
+    ensures reports { (held : BuffersView) (fault : FaultValue) → result ≡ Err fault
+        → fault ≢ Fault.Time
+        → Reports held session.old.state (D.traffic devices.old) (D.traffic devices.new) fault }
+    ensures course { session.new.state.course ≡ session.old.state.course }
+    ensures log { session.new.log ≡ record session.old.log {
+      errors = session.new.log.errors;
+      trace = session.new.log.trace;
+    } }
+    ensures emptied { result ≡ Ok tt → IsDrained session.new.state }
+{
+    let drained = drain_output(session, devices);
+    session.finish();
+    if drained == Err(Fault::Time) {
+        session.report_unread();
+    }
+    drained
+}

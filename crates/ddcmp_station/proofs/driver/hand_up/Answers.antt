@@ -1,0 +1,24 @@
+use Rattle.std.proofs.Common.{[], refl, sym, ◌∙◌, arith}
+use Rattle.ddcmp_station.proofs.SeenLaws.{hands-one}
+use Rattle.ddcmp_station.proofs.DriveLaws.{Calls-none}
+use Rattle.ddcmp_station.proofs.driver.hand_up.Goals as goal
+
+pub loop-length-init : goal.loop-length-init
+loop-length-init g c = record {
+  room = c.requires;
+  rest = refl;
+  seen = ([], Calls-none g.U.User.becomes c.args.user.now, refl);
+}
+
+pub loop-length-preserved : goal.loop-length-preserved
+loop-length-preserved g c =
+    let i = c.loop-length.invariant in
+    let t = c.take.ensures in
+    record {
+      room = rw t.state (omega (arith, i.room, c.take.auto.out));
+      rest = rw t.state i.rest;
+      seen =
+          rw t.state
+          (hands-one g.U.User.becomes _ _ _ c.loop-length.station.core.station.inbox _
+          c.in-Some.length _ _ i.seen (sym t.length ∙ c.in-Some.is) t.out c.mail.ensures);
+    }

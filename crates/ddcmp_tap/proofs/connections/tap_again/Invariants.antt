@@ -1,0 +1,10 @@
+use Rattle.std.proofs.Common.{◌≡◌, false}
+use Rattle.ddcmp_tap.proofs.InTurnLaws.{Whole}
+use Rattle.ddcmp_tap.proofs.connections.tap_again.Given as goal
+
+abbrev pub invariant-loop-turn : goal.invariant-loop-turn
+invariant-loop-turn g l = record {
+  whole : g.W.Sink.broken l.writer ≡ false;
+  wrote : Whole l.notation l.timed l.max (g.W.Sink.contents l.initial.writer)
+      (g.W.Sink.contents l.writer);
+}

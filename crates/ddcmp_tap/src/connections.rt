@@ -1,0 +1,295 @@
+//! A tap between two addresses.
+ghost use Rattle.std.specs.Prelude.{◌≡◌, ◌≢◌, ◌<◌, ◌≤◌, ◌↔◌, ◌⊎◌, Err, IfSome, IsTrue, None, false};
+ghost use Rattle.std.specs.Prelude.{is_err};
+ghost use Rattle.ddcmp_io.specs.Written.{Writes};
+ghost use Rattle.ddcmp_frame.specs.Limits.{MAX_COUNT};
+ghost use Rattle.ddcmp_tap.specs.Pumping.{Says, head_of};
+ghost use Rattle.ddcmp_tap.specs.InTurn.{Lasts, PassesOver, SaysInTurn};
+
+use crate::direction::{Direction, ROOM};
+use crate::flow::Flow;
+use crate::notation::Notation;
+use crate::pump::pump;
+use crate::side::Side;
+use crate::sockets::{Socket, Sockets, ToSocket};
+use crate::tap_fault::{NotMade, Stage, TapFault};
+use ddcmp_io::{FromRead, Sink, WriteFailed, write_all};
+use ddcmp_station::Elapsed;
+use mio::net::TcpStream;
+use std::alloc::Global;
+use std::io::{self, Eprint, ErrorKind};
+use std::net::{self, Net, OpenListener, SocketAddr, TcpListener, ToSocketAddrs};
+use std::time;
+
+/// The head of a ladder, with who is on which side.
+const LADDER_HEAD: &[u8] =
+    b"> who connected to the tap                         whom the tap connected to <\n";
+
+/// Writes what is above all that passes.
+fn write_head<W: Sink>(writer: &mut W, notation: Notation) -> Result<(), WriteFailed>
+    requires whole { W.broken writer.old ≡ false }
+    ensures written { Writes (W.contents writer.old) (W.contents writer.new) result
+        (head_of notation) }
+    ensures broken { W.broken writer.new ≡ is_err result }
+{
+    match notation {
+        Notation::Plain | Notation::Json => Ok(()),
+        Notation::Ladder => write_all(writer, LADDER_HEAD),
+    }
+}
+
+/// Makes a connection that neither blocks nor holds bytes back to fill a packet.
+fn prompt(stream: net::TcpStream) -> io::Result<TcpStream> {
+    stream.set_nodelay(true)?;
+    stream.set_nonblocking(true)?;
+    Ok(TcpStream::from_std(stream))
+}
+
+/// The connection of a caller, and its address.
+#[derive(Drop)]
+struct Caller {
+    stream: TcpStream,
+    peer: SocketAddr,
+}
+
+/// Returns the next connection to a listener.
+fn accept_next<L: OpenListener<Stream = net::TcpStream>>(listener: &L) -> io::Result<Caller> {
+    for _caller in 0..u64::MAX {
+        match listener.accept() {
+            Ok((stream, peer)) => {
+                let stream = prompt(stream)?;
+                return Ok(Caller { stream, peer });
+            }
+            // Who called has left again.
+            Err(error) => match error.kind() {
+                ErrorKind::ConnectionAborted | ErrorKind::Interrupted => {}
+                _ => return Err(error),
+            },
+        }
+    }
+    Err(io::Error::from(ErrorKind::Interrupted))
+}
+
+/// Returns the first connection to an address.
+fn accept_first<N: Net<Stream = net::TcpStream>>(net: &N, name: &str) -> io::Result<Caller> {
+    accept_next(&TcpListener::bind(net, name)?)
+}
+
+/// Returns a connection to an address.
+fn connect_to<N: Net<Stream = net::TcpStream>>(net: &N, name: &str) -> io::Result<TcpStream> {
+    prompt(net::TcpStream::connect(net, name)?)
+}
+
+/// Says why there is no connection at an address, by this error: no host may have its name.
+fn not_made<N: Net>(net: &N, stage: Stage, name: &str, error: &io::Error) -> NotMade
+    ensures stage { result.stage ≡ stage }
+{
+    let is_unknown = match name.to_socket_addrs(net) {
+        Ok(_found) => false,
+        Err(unknown) => unknown.kind() != ErrorKind::InvalidInput,
+    };
+    NotMade {
+        stage,
+        cause: if is_unknown { None } else { Some(error.kind()) },
+    }
+}
+
+/// What a tap ends with that can't have the system report what comes of both sides.
+fn no_waiting(error: &io::Error) -> TapFault
+    ensures { (result ≡ TapFault.Memory)
+        ⊎ ((why : NotMade) × (result ≡ TapFault.Carrier why)) }
+{
+    match error.kind() {
+        ErrorKind::OutOfMemory => TapFault::Memory,
+        kind => TapFault::Carrier(NotMade {
+            stage: Stage::Wait,
+            cause: Some(kind),
+        }),
+    }
+}
+
+/// Waits at one address until someone connects, connects to the other, and forwards between the two
+/// until both have ended. The log goes to the writer, line by line, as bytes come; why a side
+/// failed goes to standard error.
+pub fn tap<S: Net<Stream = net::TcpStream> + Eprint + time::Clock, W: Sink>(
+    system: &S,
+    alloc: Global,
+    listen: &str,
+    connect: &str,
+    notation: Notation,
+    timed: bool,
+    max: u16,
+    writer: &mut W,
+) -> Result<(), TapFault>
+    requires whole { W.broken writer.old ≡ false }
+    requires low { 0 < max }
+    requires high { max ≤ MAX_COUNT }
+    ensures says { Says (head_of notation) notation timed max
+        (W.contents writer.old) (W.contents writer.new) result }
+    ensures carrier { (why : NotMade) → result ≡ Err (TapFault.Carrier why)
+        → writer.new ≡ writer.old }
+    ensures broken { (result ≡ Err TapFault.Report) ↔ IsTrue (W.broken writer.new) }
+{
+    match accept_first(system, listen) {
+        Ok(caller) => carry(system, alloc, caller, connect, notation, timed, max, writer),
+        Err(error) => Err(TapFault::Carrier(not_made(system, Stage::Listen, listen, &error))),
+    }
+}
+
+/// Connects to an address for a caller, and forwards between the two until both have ended.
+fn carry<S: Net<Stream = net::TcpStream> + Eprint + time::Clock, W: Sink>(
+    system: &S,
+    alloc: Global,
+    caller: Caller,
+    connect: &str,
+    notation: Notation,
+    timed: bool,
+    max: u16,
+    writer: &mut W,
+) -> Result<(), TapFault>
+    requires whole { W.broken writer.old ≡ false }
+    requires low { 0 < max }
+    requires high { max ≤ MAX_COUNT }
+    ensures says { Says (head_of notation) notation timed max
+        (W.contents writer.old) (W.contents writer.new) result }
+    ensures carrier { (why : NotMade) → result ≡ Err (TapFault.Carrier why)
+        → writer.new ≡ writer.old }
+    ensures broken { (result ≡ Err TapFault.Report) ↔ IsTrue (W.broken writer.new) }
+{
+    let Caller {
+        stream: mut caller,
+        peer,
+    } = caller;
+    let mut called = match connect_to(system, connect) {
+        Ok(called) => called,
+        Err(error) => {
+            let why = not_made(system, Stage::Connect, connect, &error);
+            return Err(TapFault::Carrier(why));
+        }
+    };
+    let mut sockets = match Sockets::new(system, alloc, &mut caller, &mut called) {
+        Ok(sockets) => sockets,
+        Err(error) => return Err(no_waiting(&error)),
+    };
+    let (caller, called) = (Socket::new(caller), Socket::new(called));
+    let ended = between(
+        system,
+        alloc,
+        &caller,
+        &called,
+        &mut sockets,
+        notation,
+        timed,
+        max,
+        writer,
+    );
+    caller.report(system, "caller", &peer);
+    called.report(system, "called", &connect);
+    ended
+}
+
+/// Returns the fault that ends the tap too, and not only the connection of one caller: none if both
+/// sides ended or one failed, or the other address can't be reached, which goes to standard error.
+fn lasting<S: Eprint>(system: &S, connect: &str, ended: Result<(), TapFault>) -> Option<TapFault>
+    ensures lasts { IfSome result (λ fault. (ended ≡ Err fault) × Lasts fault) }
+    ensures passes { result ≡ None → PassesOver ended }
+{
+    match ended {
+        Ok(()) | Err(TapFault::Read | TapFault::Write) => None,
+        Err(TapFault::Carrier(why)) => match why.stage {
+            Stage::Connect => {
+                let reason = why.reason();
+                let _ = eprintln!(system; "ddcmp: connect {connect}: {reason}");
+                None
+            }
+            Stage::Listen | Stage::Wait => Some(TapFault::Carrier(why)),
+        },
+        Err(TapFault::Report) => Some(TapFault::Report),
+        Err(TapFault::Memory) => Some(TapFault::Memory),
+    }
+}
+
+/// Listens at one address, and carries one caller after another to the other, as `tap` carries one;
+/// who calls meanwhile waits. A fault of a side ends only its connection. Returns why it ends.
+pub fn tap_again<S: Net<Stream = net::TcpStream> + Eprint + time::Clock, W: Sink>(
+    system: &S,
+    alloc: Global,
+    listen: &str,
+    connect: &str,
+    notation: Notation,
+    timed: bool,
+    max: u16,
+    writer: &mut W,
+) -> TapFault
+    requires whole { W.broken writer.old ≡ false }
+    requires low { 0 < max }
+    requires high { max ≤ MAX_COUNT }
+    ensures says { SaysInTurn notation timed max (W.contents writer.old) (W.contents writer.new)
+        result }
+    ensures lasts { Lasts result }
+    ensures broken { (result ≡ TapFault.Report) ↔ IsTrue (W.broken writer.new) }
+{
+    let listener = match TcpListener::bind(system, listen) {
+        Ok(listener) => listener,
+        Err(error) => return TapFault::Carrier(not_made(system, Stage::Listen, listen, &error)),
+    };
+    for turn in 0..u64::MAX {
+        let caller = match accept_next(&listener) {
+            Ok(caller) => caller,
+            Err(error) => {
+                return TapFault::Carrier(not_made(system, Stage::Listen, listen, &error));
+            }
+        };
+        let ended = carry(system, alloc, caller, connect, notation, timed, max, writer);
+        if let Some(fault) = lasting(system, connect, ended) {
+            return fault;
+        }
+    }
+    TapFault::Carrier(NotMade {
+        stage: Stage::Listen,
+        cause: Some(ErrorKind::Other),
+    })
+}
+
+/// Forwards between two sockets.
+fn between<C: time::Clock, W: Sink>(
+    clock: &C,
+    alloc: Global,
+    caller: &Socket,
+    called: &Socket,
+    sockets: &mut Sockets,
+    notation: Notation,
+    timed: bool,
+    max: u16,
+    writer: &mut W,
+) -> Result<(), TapFault>
+    requires whole { W.broken writer.old ≡ false }
+    requires low { 0 < max }
+    requires high { max ≤ MAX_COUNT }
+    ensures says { Says (head_of notation) notation timed max
+        (W.contents writer.old) (W.contents writer.new) result }
+    ensures met { (why : NotMade) → result ≢ Err (TapFault.Carrier why) }
+    ensures broken { (result ≡ Err TapFault.Report) ↔ IsTrue (W.broken writer.new) }
+{
+    let Ok(up) = Direction::new(alloc, Side::Caller, notation, max) else {
+        return Err(TapFault::Memory);
+    };
+    let Ok(down) = Direction::new(alloc, Side::Called, notation, max) else {
+        return Err(TapFault::Memory);
+    };
+    let Ok(mut buffer) = Vec::from_elem(alloc, 0u8, ROOM) else {
+        return Err(TapFault::Memory);
+    };
+    if write_head(writer, notation).is_err() {
+        return Err(TapFault::Report);
+    }
+    pump(
+        &mut Flow::new(up, FromRead::new(caller), ToSocket::new(called)),
+        &mut Flow::new(down, FromRead::new(called), ToSocket::new(caller)),
+        sockets,
+        &mut Elapsed::new(clock),
+        timed,
+        buffer.as_mut_slice(),
+        writer,
+    )
+}

@@ -1,0 +1,21 @@
+//! What script the words ask to run.
+use crate::view::View;
+use ddcmp_proto::Config;
+
+/// The two ends that a script begins with.
+#[derive(Clone, Copy, Debug, PartialEq, Eq)]
+pub struct Beginning {
+    /// The sizes of both.
+    pub config: Config,
+    /// Whether both were started, and all was exchanged.
+    pub begun: bool,
+}
+
+/// A script between two ends, as the words ask for it.
+#[derive(Clone, Copy, Debug, PartialEq, Eq)]
+pub struct ScriptArgs<'a> {
+    pub from: Beginning,
+    pub view: View,
+    /// The file that the script is in; standard input if there is none.
+    pub file: Option<&'a str>,
+}
