@@ -11,7 +11,7 @@ def read(path):
 
 
 class Definitions:
-    """The definitions below a folder of crates. A file is named as ddcmp_run/specs/Run.antt."""
+    """The definitions below a folder of crates. A file is named as ddcmp_pair/specs/Run.antt."""
 
     def __init__(self, crates):
         self.crates = crates
@@ -48,7 +48,7 @@ class Definitions:
         return self.known[path]
 
     def of_law(self, law):
-        """The files that a law rests on, which is named as ddcmp_run::laws::in_order; None if there is none."""
+        """The files that a law rests on, which is named as ddcmp_pair::laws::in_order; None if there is none."""
         crate, module, name = law.split("::")
         source = f"{self.crates}/{crate}/src/{module}.rt"
         text = read(source) if os.path.isfile(source) else ""

@@ -2,11 +2,11 @@
 use Rattle.std.proofs.Common.{◌≡◌, ◌≢◌, ◌⊎◌, ◌↔◌, IsTrue, ◌∙◌, sym, ap, subst, ℕ, Bool, true, false}
 use Rattle.std.proofs.Common.{List, Option, Some, None, Result, Err, refl, inl, inr, ◌&&◌}
 use Rattle.std.specs.Io.KnownBytes.{Keeps}
-use Rattle.ddcmp_run.specs.declared.event.End.TheVariants.{A, B}
-use Rattle.ddcmp_run.specs.declared.event.Event.TheVariants as event
-use Rattle.ddcmp_run.specs.Run.{PairState, after_event, run}
-use Rattle.ddcmp_run.specs.Settle.{settled}
-use Rattle.ddcmp_run.specs.Carriages.{Carriage}
+use Rattle.ddcmp_pair.specs.declared.event.End.TheVariants.{A, B}
+use Rattle.ddcmp_pair.specs.declared.event.Event.TheVariants as event
+use Rattle.ddcmp_pair.specs.Run.{PairState, after_event, run}
+use Rattle.ddcmp_pair.specs.Settle.{settled}
+use Rattle.ddcmp_pair.specs.Carriages.{Carriage}
 use Rattle.ddcmp_line.specs.ScriptEnds.{around, Plays}
 use Rattle.ddcmp_line.specs.declared.script_fault.ScriptFault.{ScriptFault}
 use Rattle.ddcmp_line.specs.declared.script_fault.ScriptFault.TheVariants as scripting

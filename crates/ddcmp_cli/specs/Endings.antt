@@ -16,10 +16,10 @@ use Rattle.ddcmp_cli.specs.declared.fault.Fault.TheVariants.{Odd, NotHex, Dump, 
 use Rattle.ddcmp_cli.specs.declared.fault.Fault.TheVariants.{Hex as NotHexIn, Message, Read, Write}
 use Rattle.ddcmp_cli.specs.declared.fault.Fault.TheVariants.{Memory as NoMemory, Carrier, Ended}
 use Rattle.ddcmp_cli.specs.declared.fault.Fault.TheVariants.{Lost}
-use Rattle.ddcmp_run.specs.declared.event.End.TheVariants.{A, B}
-use Rattle.ddcmp_run.specs.declared.event.Event.TheVariants as event
-use Rattle.ddcmp_run.specs.Run.{PairState, new_pair, run}
-use Rattle.ddcmp_run.specs.Settle.{settled}
+use Rattle.ddcmp_pair.specs.declared.event.End.TheVariants.{A, B}
+use Rattle.ddcmp_pair.specs.declared.event.Event.TheVariants as event
+use Rattle.ddcmp_pair.specs.Run.{PairState, new_pair, run}
+use Rattle.ddcmp_pair.specs.Settle.{settled}
 use Rattle.ddcmp_line.specs.ScriptEnds.{around, Plays}
 use Rattle.ddcmp_picture.specs.Drawn.{DrawsScript}
 use Rattle.ddcmp_station.specs.Config.{first_refusal}

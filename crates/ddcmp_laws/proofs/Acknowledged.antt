@@ -5,12 +5,12 @@ use Rattle.std.specs.Prelude.{◌&&◌, ◌==◌}
 use Rattle.std.proofs.lemmas.List.{length-drop}
 use Rattle.ddcmp_proto.specs.Config.{first_refusal}
 use Rattle.ddcmp_proto.specs.declared.config.Config.{Config}
-use Rattle.ddcmp_run.specs.declared.event.End.{End}
-use Rattle.ddcmp_run.specs.InOrder.{Delivers}
-use Rattle.ddcmp_run.specs.Run.{EndState, PairState, handed_up, run, new_pair, is_clean}
-use Rattle.ddcmp_run.proofs.Relation.{Face, face, Stands, not_begun, begun}
-use Rattle.ddcmp_run.proofs.Linked.{Linked, linked-turned}
-use Rattle.ddcmp_run.proofs.Ordered.{run-holds, run-of}
+use Rattle.ddcmp_pair.specs.declared.event.End.{End}
+use Rattle.ddcmp_pair.specs.InOrder.{Delivers}
+use Rattle.ddcmp_pair.specs.Run.{EndState, PairState, handed_up, run, new_pair, is_clean}
+use Rattle.ddcmp_pair.proofs.Relation.{Face, face, Stands, not_begun, begun}
+use Rattle.ddcmp_pair.proofs.Linked.{Linked, linked-turned}
+use Rattle.ddcmp_pair.proofs.Ordered.{run-holds, run-of}
 use Rattle.ddcmp_laws.specs.PairCalls.{Call, run_calls, events_in, noted}
 use Rattle.ddcmp_laws.proofs.PairCallLaws.{run_same, honest_same, clean_same}
 

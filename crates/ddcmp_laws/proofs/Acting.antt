@@ -21,12 +21,12 @@ use Rattle.ddcmp_core.specs.Table.{message_at_next}
 use Rattle.ddcmp_core.specs.NextFrame.{SentFor, sends_strt, sends_stack, sends_nak, sends_rep}
 use Rattle.ddcmp_core.specs.NextFrame.{sends_data, sends_ack, sends_maint, halted_idles}
 use Rattle.ddcmp_core.specs.NextFrame.{starting_idles, running_idles, maintenance_idles}
-use Rattle.ddcmp_run.proofs.Relation.{Face, Counts}
-use Rattle.ddcmp_run.proofs.Numbering.{out_length}
-use Rattle.ddcmp_run.proofs.Sendings.{counts_sent}
-use Rattle.ddcmp_run.proofs.Calls.{take-up}
-use Rattle.ddcmp_run.proofs.Views.{View}
-use Rattle.ddcmp_run.proofs.Sees.{sees_sent}
+use Rattle.ddcmp_pair.proofs.Relation.{Face, Counts}
+use Rattle.ddcmp_pair.proofs.Numbering.{out_length}
+use Rattle.ddcmp_pair.proofs.Sendings.{counts_sent}
+use Rattle.ddcmp_pair.proofs.Calls.{take-up}
+use Rattle.ddcmp_pair.proofs.Views.{View}
+use Rattle.ddcmp_pair.proofs.Sees.{sees_sent}
 use Rattle.ddcmp_laws.proofs.Flights.{Flight, data_flies, ack_flies, nak_flies, rep_flies}
 use Rattle.ddcmp_laws.proofs.Flights.{strt_flies, stack_flies, frame}
 use Rattle.ddcmp_laws.proofs.Traffic.{Polls, p_strt, p_stack, p_nak, p_rep, p_data, p_ack}

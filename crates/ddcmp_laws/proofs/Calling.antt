@@ -12,12 +12,12 @@ use Rattle.ddcmp_core.specs.Core.{CoreView}
 use Rattle.ddcmp_proto.specs.Bytes.{received_of, after_item, notices_of_item, after_items}
 use Rattle.ddcmp_proto.specs.Bytes.{notices_of_items, items_added}
 use Rattle.ddcmp_station.specs.Driving.{core_after_take_arm}
-use Rattle.ddcmp_run.specs.declared.event.End.{End}
-use Rattle.ddcmp_run.specs.declared.event.End.TheVariants.{A, B}
-use Rattle.ddcmp_run.specs.Place.{WholeFrame}
-use Rattle.ddcmp_run.specs.Run.{EndState, PairState, with_station, whole_frame, notices_at}
-use Rattle.ddcmp_run.specs.Run.{after_start_here, after_send_here, after_take_here, acknowledged_in}
-use Rattle.ddcmp_run.specs.Run.{restarts_in}
+use Rattle.ddcmp_pair.specs.declared.event.End.{End}
+use Rattle.ddcmp_pair.specs.declared.event.End.TheVariants.{A, B}
+use Rattle.ddcmp_pair.specs.Place.{WholeFrame}
+use Rattle.ddcmp_pair.specs.Run.{EndState, PairState, with_station, whole_frame, notices_at}
+use Rattle.ddcmp_pair.specs.Run.{after_start_here, after_send_here, after_take_here, acknowledged_in}
+use Rattle.ddcmp_pair.specs.Run.{restarts_in}
 use Rattle.ddcmp_core.specs.Counting.{count_plus}
 use Rattle.ddcmp_laws.specs.PairCalls.{Call, Start, Halt, Send, Poll, Arrive, Expire, Take, Arm}
 use Rattle.ddcmp_laws.specs.PairCalls.{Ask}

@@ -24,22 +24,22 @@ use Rattle.ddcmp_core.specs.Table.{next_frame}
 use Rattle.ddcmp_core.proofs.Sent.{sending}
 use Rattle.ddcmp_proto.specs.Config.{first_refusal}
 use Rattle.ddcmp_proto.specs.declared.config.Config.{Config}
-use Rattle.ddcmp_run.specs.declared.event.End.{End}
-use Rattle.ddcmp_run.specs.declared.event.End.TheVariants.{A, B}
-use Rattle.ddcmp_run.specs.declared.event.Event.{Event}
-use Rattle.ddcmp_run.specs.declared.event.Event.TheVariants as event
-use Rattle.ddcmp_run.specs.declared.event.Reply.TheVariants as reply
-use Rattle.ddcmp_run.specs.InOrder.{IsRun}
-use Rattle.ddcmp_run.specs.Link.{message_at}
-use Rattle.ddcmp_run.specs.Place.{WholeFrame}
-use Rattle.ddcmp_run.specs.Run.{EndState, PairState, at, whole_frame, frames_polled, accepted}
-use Rattle.ddcmp_run.specs.Run.{after_event_here, clear_refusal, after_clear_by, end_of}
-use Rattle.ddcmp_run.specs.Run.{after_event_at, after_event, reply_to, run, new_pair, is_clean}
-use Rattle.ddcmp_run.proofs.Relation.{face, Counts}
-use Rattle.ddcmp_run.proofs.Numbers.{before-is}
-use Rattle.ddcmp_run.proofs.Sendings.{awake, is-awake}
-use Rattle.ddcmp_run.proofs.Linked.{Linked, linked-turned, starts-grow}
-use Rattle.ddcmp_run.proofs.Ordered.{run-holds, run-new, run-of, run-event}
+use Rattle.ddcmp_pair.specs.declared.event.End.{End}
+use Rattle.ddcmp_pair.specs.declared.event.End.TheVariants.{A, B}
+use Rattle.ddcmp_pair.specs.declared.event.Event.{Event}
+use Rattle.ddcmp_pair.specs.declared.event.Event.TheVariants as event
+use Rattle.ddcmp_pair.specs.declared.event.Reply.TheVariants as reply
+use Rattle.ddcmp_pair.specs.InOrder.{IsRun}
+use Rattle.ddcmp_pair.specs.Link.{message_at}
+use Rattle.ddcmp_pair.specs.Place.{WholeFrame}
+use Rattle.ddcmp_pair.specs.Run.{EndState, PairState, at, whole_frame, frames_polled, accepted}
+use Rattle.ddcmp_pair.specs.Run.{after_event_here, clear_refusal, after_clear_by, end_of}
+use Rattle.ddcmp_pair.specs.Run.{after_event_at, after_event, reply_to, run, new_pair, is_clean}
+use Rattle.ddcmp_pair.proofs.Relation.{face, Counts}
+use Rattle.ddcmp_pair.proofs.Numbers.{before-is}
+use Rattle.ddcmp_pair.proofs.Sendings.{awake, is-awake}
+use Rattle.ddcmp_pair.proofs.Linked.{Linked, linked-turned, starts-grow}
+use Rattle.ddcmp_pair.proofs.Ordered.{run-holds, run-new, run-of, run-event}
 use Rattle.ddcmp_laws.specs.Positions.{CarriesPosition, CarryPositions}
 
 -- ---- the number that is answered

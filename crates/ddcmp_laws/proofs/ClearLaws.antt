@@ -33,30 +33,30 @@ use Rattle.ddcmp_proto.specs.Bytes.{after_item, after_items, items_added}
 use Rattle.ddcmp_proto.specs.Config.{first_refusal}
 use Rattle.ddcmp_proto.specs.declared.config.Config.{Config}
 use Rattle.ddcmp_proto.proofs.FeedLaws.{items_added-all, after_piece-limits}
-use Rattle.ddcmp_run.specs.declared.event.End.{End}
-use Rattle.ddcmp_run.specs.declared.event.End.TheVariants.{A, B}
-use Rattle.ddcmp_run.specs.declared.event.Event.{Event}
-use Rattle.ddcmp_run.specs.declared.event.Event.TheVariants as event
-use Rattle.ddcmp_run.specs.InOrder.{IsRun}
-use Rattle.ddcmp_run.specs.Link.{link_of}
-use Rattle.ddcmp_run.specs.Place.{WholeFrame, place_of}
-use Rattle.ddcmp_run.specs.Run.{EndState, PairState, with_station, restarts_in, notices_at}
-use Rattle.ddcmp_run.specs.Run.{frames_polled, whole_frame, after_start_here, after_send_here}
-use Rattle.ddcmp_run.specs.Run.{after_poll_here, after_arrival_here, after_expire_here}
-use Rattle.ddcmp_run.specs.Run.{after_take_here, after_event_here, clear_refusal, cleared}
-use Rattle.ddcmp_run.specs.Run.{after_clear_by, end_of, after_event_at, after_event, run, new_end}
-use Rattle.ddcmp_run.specs.Run.{new_pair}
-use Rattle.ddcmp_run.proofs.Places.{good_frames_in-append}
-use Rattle.ddcmp_run.proofs.Modulo.{back-between}
-use Rattle.ddcmp_run.proofs.Relation.{Face, face, up, Wire, no_wire, wire_data, StateFits, Stands}
-use Rattle.ddcmp_run.proofs.Relation.{not_begun, begun, Fits, Pending}
-use Rattle.ddcmp_run.proofs.Comings.{comes}
-use Rattle.ddcmp_run.proofs.Sendings.{awake}
-use Rattle.ddcmp_run.proofs.Receptions.{hearing, fits_frame}
-use Rattle.ddcmp_run.proofs.Startups.{starting-comes, starting-hears, no-strt-comes}
-use Rattle.ddcmp_run.proofs.Arrivals.{seen, on_the_way, Related}
-use Rattle.ddcmp_run.proofs.Linked.{Linked, linked-turned, linked-arrival, none-anew, same-starts}
-use Rattle.ddcmp_run.proofs.Ordered.{run-holds, run-new, run-event}
+use Rattle.ddcmp_pair.specs.declared.event.End.{End}
+use Rattle.ddcmp_pair.specs.declared.event.End.TheVariants.{A, B}
+use Rattle.ddcmp_pair.specs.declared.event.Event.{Event}
+use Rattle.ddcmp_pair.specs.declared.event.Event.TheVariants as event
+use Rattle.ddcmp_pair.specs.InOrder.{IsRun}
+use Rattle.ddcmp_pair.specs.Link.{link_of}
+use Rattle.ddcmp_pair.specs.Place.{WholeFrame, place_of}
+use Rattle.ddcmp_pair.specs.Run.{EndState, PairState, with_station, restarts_in, notices_at}
+use Rattle.ddcmp_pair.specs.Run.{frames_polled, whole_frame, after_start_here, after_send_here}
+use Rattle.ddcmp_pair.specs.Run.{after_poll_here, after_arrival_here, after_expire_here}
+use Rattle.ddcmp_pair.specs.Run.{after_take_here, after_event_here, clear_refusal, cleared}
+use Rattle.ddcmp_pair.specs.Run.{after_clear_by, end_of, after_event_at, after_event, run, new_end}
+use Rattle.ddcmp_pair.specs.Run.{new_pair}
+use Rattle.ddcmp_pair.proofs.Places.{good_frames_in-append}
+use Rattle.ddcmp_pair.proofs.Modulo.{back-between}
+use Rattle.ddcmp_pair.proofs.Relation.{Face, face, up, Wire, no_wire, wire_data, StateFits, Stands}
+use Rattle.ddcmp_pair.proofs.Relation.{not_begun, begun, Fits, Pending}
+use Rattle.ddcmp_pair.proofs.Comings.{comes}
+use Rattle.ddcmp_pair.proofs.Sendings.{awake}
+use Rattle.ddcmp_pair.proofs.Receptions.{hearing, fits_frame}
+use Rattle.ddcmp_pair.proofs.Startups.{starting-comes, starting-hears, no-strt-comes}
+use Rattle.ddcmp_pair.proofs.Arrivals.{seen, on_the_way, Related}
+use Rattle.ddcmp_pair.proofs.Linked.{Linked, linked-turned, linked-arrival, none-anew, same-starts}
+use Rattle.ddcmp_pair.proofs.Ordered.{run-holds, run-new, run-event}
 use Rattle.ddcmp_laws.specs.Counted.{is_nak, is_nak_type, frames_of}
 use Rattle.ddcmp_laws.specs.Faithful.{written, Begins, IsFaithful}
 use Rattle.ddcmp_laws.specs.Positions.{messages_in}

@@ -15,12 +15,12 @@ use Rattle.ddcmp_core.specs.Frames.{frame_of}
 use Rattle.ddcmp_core.specs.Core.{CoreView}
 use Rattle.ddcmp_proto.specs.Bytes.{after_item, after_items, items_added}
 use Rattle.ddcmp_proto.proofs.FeedLaws.{items_added-all}
-use Rattle.ddcmp_run.specs.Place.{WholeFrame, first_index, place_after, place_from, place_of}
-use Rattle.ddcmp_run.proofs.Frames.{same-refl}
-use Rattle.ddcmp_run.proofs.Places.{good_frames_in-append}
-use Rattle.ddcmp_run.proofs.Relation.{Face}
-use Rattle.ddcmp_run.proofs.Receptions.{hearing}
-use Rattle.ddcmp_run.proofs.Arrivals.{seen, on_the_way}
+use Rattle.ddcmp_pair.specs.Place.{WholeFrame, first_index, place_after, place_from, place_of}
+use Rattle.ddcmp_pair.proofs.Frames.{same-refl}
+use Rattle.ddcmp_pair.proofs.Places.{good_frames_in-append}
+use Rattle.ddcmp_pair.proofs.Relation.{Face}
+use Rattle.ddcmp_pair.proofs.Receptions.{hearing}
+use Rattle.ddcmp_pair.proofs.Arrivals.{seen, on_the_way}
 use Rattle.ddcmp_laws.specs.Faithful.{bytes_of, Begins}
 use Rattle.ddcmp_laws.proofs.FaithfulLaws.{AllWritable}
 

@@ -7,9 +7,9 @@ use Rattle.ddcmp_core.specs.Core.{CoreView}
 use Rattle.ddcmp_core.specs.Table.{Data, Acked, Naked, Rep, Strt, Stack, Maint, Received, Good}
 use Rattle.ddcmp_core.specs.Table.{BadHeader, BadData, TooLong, BadFormat}
 use Rattle.ddcmp_proto.specs.Bytes.{received_of, after_item, items_added}
-use Rattle.ddcmp_run.specs.declared.event.Event.{Event}
-use Rattle.ddcmp_run.specs.declared.event.Event.TheVariants as event
-use Rattle.ddcmp_run.specs.Run.{PairState, at, after_event}
+use Rattle.ddcmp_pair.specs.declared.event.Event.{Event}
+use Rattle.ddcmp_pair.specs.declared.event.Event.TheVariants as event
+use Rattle.ddcmp_pair.specs.Run.{PairState, at, after_event}
 use Rattle.ddcmp_laws.specs.Faithful.{written, Begins, IsFaithful}
 use Rattle.ddcmp_laws.specs.Clear.{IsMessage, FindRoom, FindsRoom, StaysClear}
 

@@ -25,9 +25,9 @@ use Rattle.ddcmp_core.specs.NextFrame.{is_nak as owes_nak, SentFor, sends_strt, 
 use Rattle.ddcmp_core.specs.NextFrame.{sends_nak, sends_rep, sends_data, sends_ack, sends_maint}
 use Rattle.ddcmp_core.specs.NextFrame.{halted_idles, starting_idles, running_idles}
 use Rattle.ddcmp_core.specs.NextFrame.{maintenance_idles}
-use Rattle.ddcmp_run.specs.Place.{WholeFrame}
-use Rattle.ddcmp_run.specs.Run.{whole_frame}
-use Rattle.ddcmp_run.proofs.Arrivals.{seen}
+use Rattle.ddcmp_pair.specs.Place.{WholeFrame}
+use Rattle.ddcmp_pair.specs.Run.{whole_frame}
+use Rattle.ddcmp_pair.proofs.Arrivals.{seen}
 use Rattle.ddcmp_laws.specs.Counted.{is_nak}
 use Rattle.ddcmp_laws.specs.Positions.{messages_in}
 

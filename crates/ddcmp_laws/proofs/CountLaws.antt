@@ -28,15 +28,15 @@ use Rattle.ddcmp_core.specs.Counting.{counters_after_next}
 use Rattle.ddcmp_core.specs.Core.{CoreView}
 use Rattle.ddcmp_proto.specs.Bytes.{received_of, after_item, after_items, items_added}
 use Rattle.ddcmp_proto.specs.declared.config.Config.{Config}
-use Rattle.ddcmp_run.specs.declared.event.End.{End}
-use Rattle.ddcmp_run.specs.declared.event.End.TheVariants.{A, B}
-use Rattle.ddcmp_run.specs.declared.event.Event.{Event}
-use Rattle.ddcmp_run.specs.declared.event.Event.TheVariants as event
-use Rattle.ddcmp_run.specs.Place.{WholeFrame}
-use Rattle.ddcmp_run.specs.Run.{EndState, PairState, at, whole_frame, after_event, after_event_here}
-use Rattle.ddcmp_run.specs.Run.{run, new_end, new_pair}
-use Rattle.ddcmp_run.proofs.Calls.{take-up}
-use Rattle.ddcmp_run.proofs.Steady.{inbox-sent, expired-inbox}
+use Rattle.ddcmp_pair.specs.declared.event.End.{End}
+use Rattle.ddcmp_pair.specs.declared.event.End.TheVariants.{A, B}
+use Rattle.ddcmp_pair.specs.declared.event.Event.{Event}
+use Rattle.ddcmp_pair.specs.declared.event.Event.TheVariants as event
+use Rattle.ddcmp_pair.specs.Place.{WholeFrame}
+use Rattle.ddcmp_pair.specs.Run.{EndState, PairState, at, whole_frame, after_event, after_event_here}
+use Rattle.ddcmp_pair.specs.Run.{run, new_end, new_pair}
+use Rattle.ddcmp_pair.proofs.Calls.{take-up}
+use Rattle.ddcmp_pair.proofs.Steady.{inbox-sent, expired-inbox}
 use Rattle.ddcmp_core.proofs.Sent.{sending}
 use Rattle.ddcmp_laws.proofs.StationLaws.{nak_by}
 use Rattle.ddcmp_laws.specs.Counted.{is_rep, is_nak, is_message, frames_of, all_naks, NeverClears}

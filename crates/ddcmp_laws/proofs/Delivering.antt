@@ -22,13 +22,13 @@ use Rattle.ddcmp_core.proofs.StartLaws.{read_sent}
 use Rattle.ddcmp_proto.specs.Bytes.{received_of, after_item, after_items, notices_of_item}
 use Rattle.ddcmp_proto.specs.Bytes.{notices_of_items, items_added, frame_on_line}
 use Rattle.ddcmp_proto.proofs.FeedLaws.{items_added-is, items_added-append, after_piece-limits}
-use Rattle.ddcmp_run.specs.Run.{EndState, acknowledged_in, line_bytes, whole_frame, after_send_here}
-use Rattle.ddcmp_run.specs.Run.{after_poll_here, after_arrival_here, after_expire_here}
-use Rattle.ddcmp_run.specs.Run.{after_take_here}
-use Rattle.ddcmp_run.proofs.Relation.{Face, face}
-use Rattle.ddcmp_run.proofs.Receptions.{hearing}
-use Rattle.ddcmp_run.proofs.Arrivals.{faced}
-use Rattle.ddcmp_run.proofs.Views.{View}
+use Rattle.ddcmp_pair.specs.Run.{EndState, acknowledged_in, line_bytes, whole_frame, after_send_here}
+use Rattle.ddcmp_pair.specs.Run.{after_poll_here, after_arrival_here, after_expire_here}
+use Rattle.ddcmp_pair.specs.Run.{after_take_here}
+use Rattle.ddcmp_pair.proofs.Relation.{Face, face}
+use Rattle.ddcmp_pair.proofs.Receptions.{hearing}
+use Rattle.ddcmp_pair.proofs.Arrivals.{faced}
+use Rattle.ddcmp_pair.proofs.Views.{View}
 use Rattle.ddcmp_laws.specs.LossFree.{bytes_or_none}
 use Rattle.ddcmp_laws.proofs.Settling.{Fine, drop_front}
 use Rattle.ddcmp_laws.proofs.Flights.{Flight, frame}

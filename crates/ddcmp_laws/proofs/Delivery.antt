@@ -15,11 +15,11 @@ use Rattle.ddcmp_station.specs.Driving.{DriveTurn, Driving, driving_from, is_due
 use Rattle.ddcmp_station.specs.Driving.{core_after_take_arm, core_at_deadline, core_after_message}
 use Rattle.ddcmp_station.specs.Driving.{deadline_at, before_offer, before_frame, before_read}
 use Rattle.ddcmp_station.specs.Driving.{after_turn, after_turns}
-use Rattle.ddcmp_run.specs.declared.event.End.{End}
-use Rattle.ddcmp_run.specs.declared.event.End.TheVariants.{A, B}
-use Rattle.ddcmp_run.specs.InOrder.{Delivers}
-use Rattle.ddcmp_run.specs.Run.{EndState, PairState, handed_up, new_end, new_pair, is_clean}
-use Rattle.ddcmp_run.proofs.Steady.{inbox-sent, expired-inbox}
+use Rattle.ddcmp_pair.specs.declared.event.End.{End}
+use Rattle.ddcmp_pair.specs.declared.event.End.TheVariants.{A, B}
+use Rattle.ddcmp_pair.specs.InOrder.{Delivers}
+use Rattle.ddcmp_pair.specs.Run.{EndState, PairState, handed_up, new_end, new_pair, is_clean}
+use Rattle.ddcmp_pair.proofs.Steady.{inbox-sent, expired-inbox}
 use Rattle.ddcmp_laws.specs.PairCalls.{Call, Start, Halt, Send, Poll, Arrive, Expire, Take, Arm}
 use Rattle.ddcmp_laws.specs.PairCalls.{after_call_here, after_calls_here, after_call, run_calls}
 use Rattle.ddcmp_laws.specs.PairCalls.{calls_if, calls_at, starts_by, starts_in, IsStartedOnce}

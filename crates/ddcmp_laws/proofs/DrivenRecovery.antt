@@ -8,14 +8,14 @@ use Rattle.ddcmp_proto.specs.Config.{first_refusal}
 use Rattle.ddcmp_proto.specs.declared.config.Config.{Config}
 use Rattle.ddcmp_station.specs.Driving.{is_due, core_after_take_arm}
 use Rattle.ddcmp_station.specs.Driving.{before_offer}
-use Rattle.ddcmp_run.specs.declared.event.End.{End}
-use Rattle.ddcmp_run.specs.declared.event.End.TheVariants.{A, B}
-use Rattle.ddcmp_run.specs.declared.event.Event.{Event}
-use Rattle.ddcmp_run.specs.declared.event.Event.TheVariants as event
-use Rattle.ddcmp_run.specs.InOrder.{IsRun}
-use Rattle.ddcmp_run.specs.Recovery.{IsDelivered, IsDone}
-use Rattle.ddcmp_run.specs.Run.{EndState, PairState, line_bytes, run, after_event, new_pair}
-use Rattle.ddcmp_run.proofs.Runs.{run-append}
+use Rattle.ddcmp_pair.specs.declared.event.End.{End}
+use Rattle.ddcmp_pair.specs.declared.event.End.TheVariants.{A, B}
+use Rattle.ddcmp_pair.specs.declared.event.Event.{Event}
+use Rattle.ddcmp_pair.specs.declared.event.Event.TheVariants as event
+use Rattle.ddcmp_pair.specs.InOrder.{IsRun}
+use Rattle.ddcmp_pair.specs.Recovery.{IsDelivered, IsDone}
+use Rattle.ddcmp_pair.specs.Run.{EndState, PairState, line_bytes, run, after_event, new_pair}
+use Rattle.ddcmp_pair.proofs.Runs.{run-append}
 use Rattle.ddcmp_laws.specs.LossFree.{Line, bytes_or_none}
 use Rattle.ddcmp_laws.specs.LossFree.{IsLossFree, run_on_line, IsWhole}
 use Rattle.ddcmp_laws.specs.Rests.{IsUnderWay}

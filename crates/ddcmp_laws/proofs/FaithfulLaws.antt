@@ -28,16 +28,16 @@ use Rattle.ddcmp_proto.specs.Bytes.{received_of, after_item, after_items, items_
 use Rattle.ddcmp_proto.specs.Bytes.{frame_on_line}
 use Rattle.ddcmp_proto.specs.Config.{first_refusal, limits_of}
 use Rattle.ddcmp_proto.specs.declared.config.Config.{Config}
-use Rattle.ddcmp_run.specs.declared.event.End.{End}
-use Rattle.ddcmp_run.specs.declared.event.End.TheVariants.{A, B}
-use Rattle.ddcmp_run.specs.declared.event.Event.{Event}
-use Rattle.ddcmp_run.specs.declared.event.Event.TheVariants as event
-use Rattle.ddcmp_run.specs.declared.event.Reply.TheVariants as reply
-use Rattle.ddcmp_run.specs.Place.{WholeFrame, place_of, IsSubsequence}
-use Rattle.ddcmp_run.specs.Run.{EndState, PairState, at, wrote, reply_to, whole_frame}
-use Rattle.ddcmp_run.specs.Run.{clear_refusal, after_clear_by, after_event, after_event_here, run}
-use Rattle.ddcmp_run.specs.Run.{new_end, new_pair}
-use Rattle.ddcmp_run.proofs.Subsequences.{place-decides}
+use Rattle.ddcmp_pair.specs.declared.event.End.{End}
+use Rattle.ddcmp_pair.specs.declared.event.End.TheVariants.{A, B}
+use Rattle.ddcmp_pair.specs.declared.event.Event.{Event}
+use Rattle.ddcmp_pair.specs.declared.event.Event.TheVariants as event
+use Rattle.ddcmp_pair.specs.declared.event.Reply.TheVariants as reply
+use Rattle.ddcmp_pair.specs.Place.{WholeFrame, place_of, IsSubsequence}
+use Rattle.ddcmp_pair.specs.Run.{EndState, PairState, at, wrote, reply_to, whole_frame}
+use Rattle.ddcmp_pair.specs.Run.{clear_refusal, after_clear_by, after_event, after_event_here, run}
+use Rattle.ddcmp_pair.specs.Run.{new_end, new_pair}
+use Rattle.ddcmp_pair.proofs.Subsequences.{place-decides}
 use Rattle.ddcmp_laws.specs.Faithful.{bytes_of, written, Begins, IsFaithful, StaysFaithful}
 use Rattle.ddcmp_laws.proofs.PassedLaws.{passed_items, passed_closed}
 

@@ -17,12 +17,12 @@ use Rattle.ddcmp_core.specs.Table.{Limits, StationState, Good, is_starting, afte
 use Rattle.ddcmp_core.specs.Table.{after_startup, after_offer, on_data, on_nak, takes_data}
 use Rattle.ddcmp_core.specs.Table.{acknowledged_by, notice_of, on}
 use Rattle.ddcmp_core.proofs.ToldLaws.{number_told_data}
-use Rattle.ddcmp_run.proofs.Relation.{Face, Counts}
-use Rattle.ddcmp_run.proofs.Numbers.{newly-is, counts-after-ack}
-use Rattle.ddcmp_run.proofs.Views.{View, tells, back, ran}
-use Rattle.ddcmp_run.proofs.Sees.{looks, same_test, sees_tells, sees_strt, sees_stack, sees_rep}
-use Rattle.ddcmp_run.proofs.Sees.{sees_nak, sees_ack}
-use Rattle.ddcmp_run.proofs.Receptions.{hearing_by, hearing}
+use Rattle.ddcmp_pair.proofs.Relation.{Face, Counts}
+use Rattle.ddcmp_pair.proofs.Numbers.{newly-is, counts-after-ack}
+use Rattle.ddcmp_pair.proofs.Views.{View, tells, back, ran}
+use Rattle.ddcmp_pair.proofs.Sees.{looks, same_test, sees_tells, sees_strt, sees_stack, sees_rep}
+use Rattle.ddcmp_pair.proofs.Sees.{sees_nak, sees_ack}
+use Rattle.ddcmp_pair.proofs.Receptions.{hearing_by, hearing}
 use Rattle.ddcmp_laws.proofs.Flights.{Flight, data_flies, ack_flies, nak_flies, rep_flies}
 use Rattle.ddcmp_laws.proofs.Flights.{strt_flies, stack_flies, frame, told, is_start}
 use Rattle.ddcmp_laws.proofs.Flights.{is_strt_flight, Each, each-first, rises-first, rises-ends}

@@ -5,20 +5,20 @@ use Rattle.std.proofs.Common.{length, drop, Option, Some, None, refl, sym, ap, â
 use Rattle.std.proofs.Common.{append-nil}
 use Rattle.std.specs.Prelude.{is_some, replicate}
 use Rattle.ddcmp_core.specs.Core.{IsSound}
-use Rattle.ddcmp_run.specs.declared.event.End.{End}
-use Rattle.ddcmp_run.specs.declared.event.End.TheVariants.{A, B}
-use Rattle.ddcmp_run.specs.declared.event.Event.{Event}
-use Rattle.ddcmp_run.specs.declared.event.Event.TheVariants as event
-use Rattle.ddcmp_run.specs.InOrder.{IsRun}
-use Rattle.ddcmp_run.specs.Recovery.{both_expire, rounding, rounded, is_ready}
-use Rattle.ddcmp_run.specs.Run.{PairState, line_bytes, after_event, run}
-use Rattle.ddcmp_run.specs.Settle.{mail_events, carried, crossing_of, crossing, exchange}
-use Rattle.ddcmp_run.specs.Settle.{either_writes, counted, exchanges_within, most_exchanges}
-use Rattle.ddcmp_run.specs.Settle.{all_mail, settling, settled}
-use Rattle.ddcmp_run.proofs.Quiets.{Rests}
-use Rattle.ddcmp_run.proofs.Ready.{run-recovers}
-use Rattle.ddcmp_run.proofs.Recoveries.{rounding-events}
-use Rattle.ddcmp_run.proofs.Runs.{run-append}
+use Rattle.ddcmp_pair.specs.declared.event.End.{End}
+use Rattle.ddcmp_pair.specs.declared.event.End.TheVariants.{A, B}
+use Rattle.ddcmp_pair.specs.declared.event.Event.{Event}
+use Rattle.ddcmp_pair.specs.declared.event.Event.TheVariants as event
+use Rattle.ddcmp_pair.specs.InOrder.{IsRun}
+use Rattle.ddcmp_pair.specs.Recovery.{both_expire, rounding, rounded, is_ready}
+use Rattle.ddcmp_pair.specs.Run.{PairState, line_bytes, after_event, run}
+use Rattle.ddcmp_pair.specs.Settle.{mail_events, carried, crossing_of, crossing, exchange}
+use Rattle.ddcmp_pair.specs.Settle.{either_writes, counted, exchanges_within, most_exchanges}
+use Rattle.ddcmp_pair.specs.Settle.{all_mail, settling, settled}
+use Rattle.ddcmp_pair.proofs.Quiets.{Rests}
+use Rattle.ddcmp_pair.proofs.Ready.{run-recovers}
+use Rattle.ddcmp_pair.proofs.Recoveries.{rounding-events}
+use Rattle.ddcmp_pair.proofs.Runs.{run-append}
 use Rattle.ddcmp_laws.specs.LossFree.{Line, empty_line, bytes_or_none, after_on_line}
 use Rattle.ddcmp_laws.specs.LossFree.{IsLossFree, run_on_line}
 use Rattle.ddcmp_laws.specs.Rests.{GoesOn}

@@ -5,8 +5,8 @@ use Rattle.ddcmp_frame.specs.declared.nak.Nak.TheVariants as reason
 use Rattle.ddcmp_core.specs.declared.state.State.TheVariants.{AStart}
 use Rattle.ddcmp_core.specs.declared.state.Owed.TheVariants.{Quiet, Ack, Nak}
 use Rattle.ddcmp_core.specs.Table.{is_starting}
-use Rattle.ddcmp_run.proofs.Views.{View, tells, back, ran}
-use Rattle.ddcmp_run.proofs.Waking.{is_quiet}
+use Rattle.ddcmp_pair.proofs.Views.{View, tells, back, ran}
+use Rattle.ddcmp_pair.proofs.Waking.{is_quiet}
 use Rattle.ddcmp_laws.proofs.Flights.{Flight, data_flies, ack_flies, nak_flies, rep_flies}
 use Rattle.ddcmp_laws.proofs.Flights.{strt_flies, stack_flies, told, latest, Uncounted}
 use Rattle.ddcmp_laws.proofs.Flights.{tells_count, is_rep_flight, Has, latest-behind}

@@ -12,9 +12,9 @@ use Rattle.ddcmp_station.specs.Driving.{deadline_at, is_due, core_after_take_arm
 use Rattle.ddcmp_station.specs.Linking.{LinkView, total_plus, with_state, started, anew, after_wake}
 use Rattle.ddcmp_station.specs.Linking.{after_offered, polls, frame_of_link, bytes_of as bytes_put}
 use Rattle.ddcmp_station.specs.Linking.{after_polled, after_frame, after_sent, after_taking}
-use Rattle.ddcmp_run.specs.Place.{WholeFrame}
-use Rattle.ddcmp_run.specs.Run.{EndState, with_station, new_end, after_start_here, after_halt_here}
-use Rattle.ddcmp_run.specs.Run.{after_poll_here, after_arrival_here}
+use Rattle.ddcmp_pair.specs.Place.{WholeFrame}
+use Rattle.ddcmp_pair.specs.Run.{EndState, with_station, new_end, after_start_here, after_halt_here}
+use Rattle.ddcmp_pair.specs.Run.{after_poll_here, after_arrival_here}
 use Rattle.ddcmp_laws.specs.Faithful.{bytes_of}
 use Rattle.ddcmp_laws.specs.PairCalls.{Call, Poll, Expire, after_arm_here, after_calls_here}
 use Rattle.ddcmp_laws.specs.Links.{LinkCall, Starts, BeginsAnew, Halts, Wakes, Offers, FillsOne}

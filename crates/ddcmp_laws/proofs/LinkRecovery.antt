@@ -18,13 +18,13 @@ use Rattle.ddcmp_proto.specs.declared.config.Config.{Config}
 use Rattle.ddcmp_station.specs.Driving.{deadline_at, is_due, core_after_take_arm}
 use Rattle.ddcmp_station.specs.Linking.{LinkView, OutboxView, frame_of_link, bytes_of, polls}
 use Rattle.ddcmp_station.specs.Linking.{after_polled, with_state, total_plus}
-use Rattle.ddcmp_run.specs.declared.event.End.{End}
-use Rattle.ddcmp_run.specs.declared.event.End.TheVariants.{A, B}
-use Rattle.ddcmp_run.specs.declared.event.Event.{Event}
-use Rattle.ddcmp_run.specs.InOrder.{IsRun}
-use Rattle.ddcmp_run.specs.Recovery.{IsDone}
-use Rattle.ddcmp_run.specs.Run.{EndState, PairState, line_bytes, run, new_pair}
-use Rattle.ddcmp_run.proofs.Runs.{run-append}
+use Rattle.ddcmp_pair.specs.declared.event.End.{End}
+use Rattle.ddcmp_pair.specs.declared.event.End.TheVariants.{A, B}
+use Rattle.ddcmp_pair.specs.declared.event.Event.{Event}
+use Rattle.ddcmp_pair.specs.InOrder.{IsRun}
+use Rattle.ddcmp_pair.specs.Recovery.{IsDone}
+use Rattle.ddcmp_pair.specs.Run.{EndState, PairState, line_bytes, run, new_pair}
+use Rattle.ddcmp_pair.proofs.Runs.{run-append}
 use Rattle.ddcmp_laws.specs.LossFree.{Line, bytes_or_none, ComesFirst}
 use Rattle.ddcmp_laws.specs.LossFree.{IsLossFree, run_on_line, IsWhole}
 use Rattle.ddcmp_laws.specs.Rests.{IsUnderWay}

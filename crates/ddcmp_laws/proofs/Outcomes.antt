@@ -10,9 +10,9 @@ use Rattle.ddcmp_input.specs.Told.{Got}
 use Rattle.ddcmp_input.proofs.BinaryLaws as in_binary_laws
 use Rattle.ddcmp_proto.specs.Config.{first_refusal}
 use Rattle.ddcmp_station.specs.Linking.{delivered}
-use Rattle.ddcmp_run.specs.declared.event.End.{End}
-use Rattle.ddcmp_run.specs.Prefix.{IsPrefixOf}
-use Rattle.ddcmp_run.specs.Run.{new_pair}
+use Rattle.ddcmp_pair.specs.declared.event.End.{End}
+use Rattle.ddcmp_pair.specs.Prefix.{IsPrefixOf}
+use Rattle.ddcmp_pair.specs.Run.{new_pair}
 use Rattle.ddcmp_session.specs.declared.messages.Form.{Form}
 use Rattle.ddcmp_session.specs.declared.messages.Form.TheVariants as form
 use Rattle.ddcmp_laws.specs.PairCalls.{run_calls}

@@ -12,15 +12,15 @@ use Rattle.ddcmp_core.specs.Laws.{tells_restart}
 use Rattle.ddcmp_core.specs.Table.{may_start}
 use Rattle.ddcmp_proto.specs.Config.{first_refusal}
 use Rattle.ddcmp_proto.specs.declared.config.Config.{Config}
-use Rattle.ddcmp_run.specs.declared.event.End.{End}
-use Rattle.ddcmp_run.specs.declared.event.End.TheVariants.{A, B}
-use Rattle.ddcmp_run.specs.declared.event.Event.TheVariants as event
-use Rattle.ddcmp_run.specs.InOrder.{Delivers, IsInOrder, IsRun, IsLink}
-use Rattle.ddcmp_run.specs.Run.{EndState, PairState, at, notices_at, restarts_by, restarts_in}
-use Rattle.ddcmp_run.specs.Run.{after_event, reply_to, run, new_pair, is_clean}
-use Rattle.ddcmp_run.proofs.Runs.{run-append}
-use Rattle.ddcmp_run.proofs.Ordered.{run-of, run-new, run-more, run-in-order, run-linked}
-use Rattle.ddcmp_run.proofs.Ordered.{no-restart}
+use Rattle.ddcmp_pair.specs.declared.event.End.{End}
+use Rattle.ddcmp_pair.specs.declared.event.End.TheVariants.{A, B}
+use Rattle.ddcmp_pair.specs.declared.event.Event.TheVariants as event
+use Rattle.ddcmp_pair.specs.InOrder.{Delivers, IsInOrder, IsRun, IsLink}
+use Rattle.ddcmp_pair.specs.Run.{EndState, PairState, at, notices_at, restarts_by, restarts_in}
+use Rattle.ddcmp_pair.specs.Run.{after_event, reply_to, run, new_pair, is_clean}
+use Rattle.ddcmp_pair.proofs.Runs.{run-append}
+use Rattle.ddcmp_pair.proofs.Ordered.{run-of, run-new, run-more, run-in-order, run-linked}
+use Rattle.ddcmp_pair.proofs.Ordered.{no-restart}
 use Rattle.ddcmp_laws.specs.PairCalls.{Call, Start, Halt, Send, Poll, Arrive, Expire, Take, Arm}
 use Rattle.ddcmp_laws.specs.PairCalls.{Ask}
 use Rattle.ddcmp_laws.specs.PairCalls.{after_arm_here, after_call_here, after_call, run_calls}

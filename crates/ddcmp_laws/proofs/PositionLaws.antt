@@ -5,15 +5,15 @@ use Rattle.std.specs.Prelude.{slice_get, slice_index_or}
 use Rattle.ddcmp_core.specs.Table.{Frame}
 use Rattle.ddcmp_proto.specs.Config.{first_refusal}
 use Rattle.ddcmp_proto.specs.declared.config.Config.{Config}
-use Rattle.ddcmp_run.specs.declared.event.Event.{Event}
-use Rattle.ddcmp_run.specs.Link.{message_at}
-use Rattle.ddcmp_run.specs.Run.{EndState, PairState, run, new_pair, is_clean}
-use Rattle.ddcmp_run.proofs.Wires.{get-index}
-use Rattle.ddcmp_run.proofs.Relation.{Face, face, up, Wire, no_wire, wire_data, wire_ack, wire_nak}
-use Rattle.ddcmp_run.proofs.Relation.{wire_rep, wire_strt, wire_stack, Counts, Stands, not_begun}
-use Rattle.ddcmp_run.proofs.Relation.{begun}
-use Rattle.ddcmp_run.proofs.Linked.{Linked, linked-turned}
-use Rattle.ddcmp_run.proofs.Ordered.{run-holds, run-of}
+use Rattle.ddcmp_pair.specs.declared.event.Event.{Event}
+use Rattle.ddcmp_pair.specs.Link.{message_at}
+use Rattle.ddcmp_pair.specs.Run.{EndState, PairState, run, new_pair, is_clean}
+use Rattle.ddcmp_pair.proofs.Wires.{get-index}
+use Rattle.ddcmp_pair.proofs.Relation.{Face, face, up, Wire, no_wire, wire_data, wire_ack, wire_nak}
+use Rattle.ddcmp_pair.proofs.Relation.{wire_rep, wire_strt, wire_stack, Counts, Stands, not_begun}
+use Rattle.ddcmp_pair.proofs.Relation.{begun}
+use Rattle.ddcmp_pair.proofs.Linked.{Linked, linked-turned}
+use Rattle.ddcmp_pair.proofs.Ordered.{run-holds, run-of}
 use Rattle.ddcmp_laws.specs.Positions.{nums_in, messages_in, resps_in, bytes_of_numbers}
 use Rattle.ddcmp_laws.specs.Positions.{IsNumberedLink}
 

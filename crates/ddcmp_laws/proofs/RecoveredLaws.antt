@@ -15,28 +15,28 @@ use Rattle.ddcmp_core.specs.Core.{IsSound}
 use Rattle.ddcmp_core.proofs.Sound.{sound_accepted, sound_started}
 use Rattle.ddcmp_proto.specs.Config.{first_refusal}
 use Rattle.ddcmp_proto.specs.declared.config.Config.{Config}
-use Rattle.ddcmp_run.specs.declared.event.End.{End}
-use Rattle.ddcmp_run.specs.declared.event.End.TheVariants.{A, B}
-use Rattle.ddcmp_run.specs.declared.event.Event.{Event}
-use Rattle.ddcmp_run.specs.declared.event.Event.TheVariants as event
-use Rattle.ddcmp_run.specs.declared.event.Reply.TheVariants as reply
-use Rattle.ddcmp_run.specs.InOrder.{IsRun}
-use Rattle.ddcmp_run.specs.Recovery.{both_expire, is_ready, rounded, recovering, recovered}
-use Rattle.ddcmp_run.specs.Recovery.{IsDelivered, IsDone}
-use Rattle.ddcmp_run.specs.Run.{EndState, PairState, at, handed_up, with_station, accepted}
-use Rattle.ddcmp_run.specs.Run.{reply_to, after_send_here, after_event, run, new_pair, line_bytes}
-use Rattle.ddcmp_run.specs.Run.{is_clean}
-use Rattle.ddcmp_run.specs.Settle.{other, exchange, either_writes, exchanges_within, all_mail}
-use Rattle.ddcmp_run.specs.Settle.{most_exchanges, settled}
-use Rattle.ddcmp_run.proofs.Runs.{run-append}
-use Rattle.ddcmp_run.proofs.Settles.{exchanged, quieted, settled-is}
-use Rattle.ddcmp_run.proofs.Crossings.{all-mail, turned, crossed_by, half, exchange-is}
-use Rattle.ddcmp_run.proofs.Limits.{run-limits}
-use Rattle.ddcmp_run.proofs.Recoveries.{rounded-is, recovering-state}
-use Rattle.ddcmp_run.proofs.Rounds.{both-expire-is}
-use Rattle.ddcmp_run.proofs.Steady.{Shows}
-use Rattle.ddcmp_run.proofs.Ordered.{run-of, run-more, run-event}
-use Rattle.ddcmp_run.proofs.Ready.{kept, run-recovers}
+use Rattle.ddcmp_pair.specs.declared.event.End.{End}
+use Rattle.ddcmp_pair.specs.declared.event.End.TheVariants.{A, B}
+use Rattle.ddcmp_pair.specs.declared.event.Event.{Event}
+use Rattle.ddcmp_pair.specs.declared.event.Event.TheVariants as event
+use Rattle.ddcmp_pair.specs.declared.event.Reply.TheVariants as reply
+use Rattle.ddcmp_pair.specs.InOrder.{IsRun}
+use Rattle.ddcmp_pair.specs.Recovery.{both_expire, is_ready, rounded, recovering, recovered}
+use Rattle.ddcmp_pair.specs.Recovery.{IsDelivered, IsDone}
+use Rattle.ddcmp_pair.specs.Run.{EndState, PairState, at, handed_up, with_station, accepted}
+use Rattle.ddcmp_pair.specs.Run.{reply_to, after_send_here, after_event, run, new_pair, line_bytes}
+use Rattle.ddcmp_pair.specs.Run.{is_clean}
+use Rattle.ddcmp_pair.specs.Settle.{other, exchange, either_writes, exchanges_within, all_mail}
+use Rattle.ddcmp_pair.specs.Settle.{most_exchanges, settled}
+use Rattle.ddcmp_pair.proofs.Runs.{run-append}
+use Rattle.ddcmp_pair.proofs.Settles.{exchanged, quieted, settled-is}
+use Rattle.ddcmp_pair.proofs.Crossings.{all-mail, turned, crossed_by, half, exchange-is}
+use Rattle.ddcmp_pair.proofs.Limits.{run-limits}
+use Rattle.ddcmp_pair.proofs.Recoveries.{rounded-is, recovering-state}
+use Rattle.ddcmp_pair.proofs.Rounds.{both-expire-is}
+use Rattle.ddcmp_pair.proofs.Steady.{Shows}
+use Rattle.ddcmp_pair.proofs.Ordered.{run-of, run-more, run-event}
+use Rattle.ddcmp_pair.proofs.Ready.{kept, run-recovers}
 use Rattle.ddcmp_laws.specs.Story.{number}
 use Rattle.ddcmp_laws.specs.Starts.{both_start}
 use Rattle.ddcmp_laws.specs.Recovered.{Accepts, sent_over, HandsOver}

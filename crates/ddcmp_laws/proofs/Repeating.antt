@@ -8,7 +8,7 @@ use Rattle.ddcmp_core.specs.declared.state.Owed.{Owed}
 use Rattle.ddcmp_core.specs.declared.state.Owed.TheVariants.{Quiet, Ack, Nak}
 use Rattle.ddcmp_core.specs.Table.{is_starting}
 use Rattle.ddcmp_core.specs.NextFrame.{is_nak}
-use Rattle.ddcmp_run.proofs.Views.{View, tells, back}
+use Rattle.ddcmp_pair.proofs.Views.{View, tells, back}
 use Rattle.ddcmp_laws.proofs.Flights.{Flight, data_flies, ack_flies, nak_flies, rep_flies}
 use Rattle.ddcmp_laws.proofs.Flights.{strt_flies, stack_flies, moved, reach, Chained, TellsAll}
 use Rattle.ddcmp_laws.proofs.Flights.{is_start, is_rep_flight, is_nak_flight, Has, Each}

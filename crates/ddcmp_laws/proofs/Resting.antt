@@ -26,20 +26,20 @@ use Rattle.ddcmp_core.proofs.StartLaws.{next_state, expired_state}
 use Rattle.ddcmp_proto.specs.Bytes.{received_of, after_item, after_items, notices_of_items}
 use Rattle.ddcmp_proto.specs.Bytes.{items_added, frame_on_line}
 use Rattle.ddcmp_proto.proofs.FeedLaws.{after_piece-limits}
-use Rattle.ddcmp_run.specs.declared.event.End.TheVariants.{A, B}
-use Rattle.ddcmp_run.specs.declared.event.Event.{Event}
-use Rattle.ddcmp_run.specs.declared.event.Event.TheVariants as event
-use Rattle.ddcmp_run.specs.InOrder.{IsRun}
-use Rattle.ddcmp_run.specs.Place.{WholeFrame, place_of, IsSubsequence}
-use Rattle.ddcmp_run.specs.Recovery.{is_ready_here, is_ready, IsRepaired}
-use Rattle.ddcmp_run.specs.Run.{EndState, line_bytes, whole_frame, frames_polled, notices_at}
-use Rattle.ddcmp_run.specs.Run.{after_arrival_here, after_send_here, after_event, reply_to}
-use Rattle.ddcmp_run.proofs.Linked.{none-anew}
-use Rattle.ddcmp_run.proofs.Ordered.{no-restart, run-event}
-use Rattle.ddcmp_run.proofs.Ready.{run-repaired}
-use Rattle.ddcmp_run.proofs.Steady.{starts-same}
-use Rattle.ddcmp_run.proofs.Subsequences.{place-decides}
-use Rattle.ddcmp_run.proofs.WholeArrivals.{honest-arrival}
+use Rattle.ddcmp_pair.specs.declared.event.End.TheVariants.{A, B}
+use Rattle.ddcmp_pair.specs.declared.event.Event.{Event}
+use Rattle.ddcmp_pair.specs.declared.event.Event.TheVariants as event
+use Rattle.ddcmp_pair.specs.InOrder.{IsRun}
+use Rattle.ddcmp_pair.specs.Place.{WholeFrame, place_of, IsSubsequence}
+use Rattle.ddcmp_pair.specs.Recovery.{is_ready_here, is_ready, IsRepaired}
+use Rattle.ddcmp_pair.specs.Run.{EndState, line_bytes, whole_frame, frames_polled, notices_at}
+use Rattle.ddcmp_pair.specs.Run.{after_arrival_here, after_send_here, after_event, reply_to}
+use Rattle.ddcmp_pair.proofs.Linked.{none-anew}
+use Rattle.ddcmp_pair.proofs.Ordered.{no-restart, run-event}
+use Rattle.ddcmp_pair.proofs.Ready.{run-repaired}
+use Rattle.ddcmp_pair.proofs.Steady.{starts-same}
+use Rattle.ddcmp_pair.proofs.Subsequences.{place-decides}
+use Rattle.ddcmp_pair.proofs.WholeArrivals.{honest-arrival}
 use Rattle.ddcmp_laws.specs.LossFree.{Line, bytes_or_none, after_on_line, LosesNothing}
 use Rattle.ddcmp_laws.specs.LossFree.{IsLossFree, run_on_line, IsWhole}
 use Rattle.ddcmp_laws.specs.Rests.{GoesOn, IsUnderWay}

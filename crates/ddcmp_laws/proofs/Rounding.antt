@@ -9,20 +9,20 @@ use Rattle.ddcmp_core.specs.Table.{Next, Idle, Sends, next, next_frame}
 use Rattle.ddcmp_core.proofs.Sent.{sending}
 use Rattle.ddcmp_proto.specs.Bytes.{items_added, frame_on_line}
 use Rattle.ddcmp_proto.proofs.FeedLaws.{items_added-none}
-use Rattle.ddcmp_run.specs.declared.event.End.TheVariants.{A, B}
-use Rattle.ddcmp_run.specs.declared.event.Event.{Event}
-use Rattle.ddcmp_run.specs.declared.event.Event.TheVariants as event
-use Rattle.ddcmp_run.specs.InOrder.{IsRun}
-use Rattle.ddcmp_run.specs.Prefix.{IsPrefixOf}
-use Rattle.ddcmp_run.specs.Recovery.{larger_window, IsDelivered, IsDone}
-use Rattle.ddcmp_run.specs.Run.{EndState, PairState, handed_up, line_bytes, after_event, new_pair}
-use Rattle.ddcmp_run.proofs.Alone.{BothAlone, alone-run, alone-begun}
-use Rattle.ddcmp_run.proofs.Numbering.{sent_is, next_is}
-use Rattle.ddcmp_run.proofs.Ordered.{run-event}
-use Rattle.ddcmp_run.proofs.Ready.{kept}
-use Rattle.ddcmp_run.proofs.Relation.{face, Counts}
-use Rattle.ddcmp_run.proofs.Steady.{Shows}
-use Rattle.ddcmp_run.proofs.Views.{View}
+use Rattle.ddcmp_pair.specs.declared.event.End.TheVariants.{A, B}
+use Rattle.ddcmp_pair.specs.declared.event.Event.{Event}
+use Rattle.ddcmp_pair.specs.declared.event.Event.TheVariants as event
+use Rattle.ddcmp_pair.specs.InOrder.{IsRun}
+use Rattle.ddcmp_pair.specs.Prefix.{IsPrefixOf}
+use Rattle.ddcmp_pair.specs.Recovery.{larger_window, IsDelivered, IsDone}
+use Rattle.ddcmp_pair.specs.Run.{EndState, PairState, handed_up, line_bytes, after_event, new_pair}
+use Rattle.ddcmp_pair.proofs.Alone.{BothAlone, alone-run, alone-begun}
+use Rattle.ddcmp_pair.proofs.Numbering.{sent_is, next_is}
+use Rattle.ddcmp_pair.proofs.Ordered.{run-event}
+use Rattle.ddcmp_pair.proofs.Ready.{kept}
+use Rattle.ddcmp_pair.proofs.Relation.{face, Counts}
+use Rattle.ddcmp_pair.proofs.Steady.{Shows}
+use Rattle.ddcmp_pair.proofs.Views.{View}
 use Rattle.ddcmp_laws.specs.LossFree.{Line, after_on_line, LosesNothing, IsLossFree}
 use Rattle.ddcmp_laws.specs.LossFree.{run_on_line, IsWhole}
 use Rattle.ddcmp_laws.specs.Rests.{GoesOn, IsUnderWay}

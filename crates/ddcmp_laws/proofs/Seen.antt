@@ -11,7 +11,7 @@ use Rattle.ddcmp_core.specs.Store.{first_message}
 use Rattle.ddcmp_core.specs.declared.notice.Notice.{Notice}
 use Rattle.ddcmp_core.specs.Table.{Limits, StationState, is_running, may_send, acknowledged_by}
 use Rattle.ddcmp_station.specs.UserCalls.{UserCall, Asked, Told, Handed, is_user_asked}
-use Rattle.ddcmp_run.specs.Run.{EndState, acknowledged_in, notices_at}
+use Rattle.ddcmp_pair.specs.Run.{EndState, acknowledged_in, notices_at}
 use Rattle.ddcmp_laws.specs.PairCalls.{Call, Start, Halt, Send, Poll, Arrive, Expire, Take, Arm}
 use Rattle.ddcmp_laws.specs.PairCalls.{Ask}
 use Rattle.ddcmp_laws.specs.PairCalls.{after_call_here, after_calls_here}

@@ -23,14 +23,14 @@ use Rattle.ddcmp_proto.specs.declared.config.Config.{Config}
 use Rattle.ddcmp_laws.proofs.FaithfulLaws.{sound_made}
 use Rattle.ddcmp_proto.specs.Bytes.{received_of, items_added, frame_on_line}
 use Rattle.ddcmp_proto.proofs.FeedLaws.{after_piece-limits, items_added-none}
-use Rattle.ddcmp_run.specs.declared.event.End.TheVariants.{A, B}
-use Rattle.ddcmp_run.specs.declared.event.Event.{Event}
-use Rattle.ddcmp_run.specs.declared.event.Event.TheVariants as event
-use Rattle.ddcmp_run.specs.Run.{EndState, PairState, line_bytes, wrote, started, accepted, took}
-use Rattle.ddcmp_run.specs.Run.{after_start_here, after_halt_here, after_send_here, after_poll_here}
-use Rattle.ddcmp_run.specs.Run.{after_arrival_here, after_expire_here, after_take_here, after_event}
-use Rattle.ddcmp_run.specs.Run.{reply_to, new_end, new_pair}
-use Rattle.ddcmp_run.specs.Recovery.{larger_window}
+use Rattle.ddcmp_pair.specs.declared.event.End.TheVariants.{A, B}
+use Rattle.ddcmp_pair.specs.declared.event.Event.{Event}
+use Rattle.ddcmp_pair.specs.declared.event.Event.TheVariants as event
+use Rattle.ddcmp_pair.specs.Run.{EndState, PairState, line_bytes, wrote, started, accepted, took}
+use Rattle.ddcmp_pair.specs.Run.{after_start_here, after_halt_here, after_send_here, after_poll_here}
+use Rattle.ddcmp_pair.specs.Run.{after_arrival_here, after_expire_here, after_take_here, after_event}
+use Rattle.ddcmp_pair.specs.Run.{reply_to, new_end, new_pair}
+use Rattle.ddcmp_pair.specs.Recovery.{larger_window}
 use Rattle.ddcmp_laws.specs.LossFree.{Line, bytes_or_none, after_on_line, LosesNothing}
 use Rattle.ddcmp_laws.specs.LossFree.{IsLossFree, run_on_line, empty_line, ComesWhole, IsWhole}
 use Rattle.ddcmp_laws.specs.Price.{price_of_received, price_of_items, items_on_way}

@@ -15,13 +15,13 @@ use Rattle.ddcmp_core.specs.Counting.{counters_on, counters_after_next}
 use Rattle.ddcmp_proto.specs.Bytes.{after_items, notices_of_items}
 use Rattle.ddcmp_proto.specs.Config.{first_refusal}
 use Rattle.ddcmp_proto.specs.declared.config.Config.{Config}
-use Rattle.ddcmp_run.specs.declared.event.End.{End}
-use Rattle.ddcmp_run.specs.declared.event.End.TheVariants.{A, B}
-use Rattle.ddcmp_run.specs.declared.event.Event.TheVariants as event
-use Rattle.ddcmp_run.specs.declared.event.Reply.TheVariants as reply
-use Rattle.ddcmp_run.specs.Place.{first_index, place_from}
-use Rattle.ddcmp_run.specs.Recovery.{is_ready}
-use Rattle.ddcmp_run.specs.Run.{at, after_event, reply_to, run, new_pair, accepted}
+use Rattle.ddcmp_pair.specs.declared.event.End.{End}
+use Rattle.ddcmp_pair.specs.declared.event.End.TheVariants.{A, B}
+use Rattle.ddcmp_pair.specs.declared.event.Event.TheVariants as event
+use Rattle.ddcmp_pair.specs.declared.event.Reply.TheVariants as reply
+use Rattle.ddcmp_pair.specs.Place.{first_index, place_from}
+use Rattle.ddcmp_pair.specs.Recovery.{is_ready}
+use Rattle.ddcmp_pair.specs.Run.{at, after_event, reply_to, run, new_pair, accepted}
 use Rattle.ddcmp_laws.specs.Starts.{both_start, started, IsUp}
 
 pub ready_after_start : (first second : Config) → first.max ≡ second.max

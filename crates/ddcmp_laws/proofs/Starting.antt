@@ -6,7 +6,7 @@ use Rattle.ddcmp_core.specs.declared.state.State.TheVariants.{Halted, IStart, AS
 use Rattle.ddcmp_core.specs.declared.state.State.TheVariants.{Maintenance}
 use Rattle.ddcmp_core.specs.declared.state.Owed.TheVariants.{Quiet, Ack}
 use Rattle.ddcmp_core.specs.Table.{is_starting}
-use Rattle.ddcmp_run.proofs.Views.{View, ran}
+use Rattle.ddcmp_pair.proofs.Views.{View, ran}
 use Rattle.ddcmp_laws.proofs.Flights.{Flight, data_flies, ack_flies, nak_flies, rep_flies}
 use Rattle.ddcmp_laws.proofs.Flights.{strt_flies, stack_flies, rouses, is_start, Has, Each}
 use Rattle.ddcmp_laws.proofs.Flights.{has-behind, has-last, has-first, has-none, each-first}

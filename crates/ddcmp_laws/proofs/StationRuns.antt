@@ -29,22 +29,22 @@ use Rattle.ddcmp_proto.specs.StationCalls.{StationCall, Starts, Halts, Sends, Po
 use Rattle.ddcmp_proto.specs.StationCalls.{Takes, TakesArm, Asks, ClearsLine, EntersMaintenance}
 use Rattle.ddcmp_proto.specs.StationCalls.{SendsMaintenance, HasCleared, HasDone}
 use Rattle.ddcmp_proto.proofs.FeedLaws.{items_added-all, after_piece-limits}
-use Rattle.ddcmp_run.specs.declared.event.End.{End}
-use Rattle.ddcmp_run.specs.declared.event.End.TheVariants.{A, B}
-use Rattle.ddcmp_run.specs.declared.event.Event.{Event}
-use Rattle.ddcmp_run.specs.declared.event.Event.TheVariants as event
-use Rattle.ddcmp_run.specs.InOrder.{Delivers, IsInOrder, IsLink}
-use Rattle.ddcmp_run.specs.Place.{place_of}
-use Rattle.ddcmp_run.specs.Run.{EndState, PairState, at, notices_at, with_station, cleared}
-use Rattle.ddcmp_run.specs.Run.{acknowledged_in}
-use Rattle.ddcmp_run.specs.Run.{after_arrival_here, after_event_here, after_event_at, after_event}
-use Rattle.ddcmp_run.specs.Run.{clear_refusal, after_clear_by, run, new_end, new_pair, is_clean}
-use Rattle.ddcmp_run.proofs.Linked.{Linked, linked-turned, linked-event, starts-grow}
-use Rattle.ddcmp_run.proofs.Ordered.{Holds, IsFresh, clean-means, fresh-linked, fresh-new}
-use Rattle.ddcmp_run.proofs.Ordered.{fresh-cleared, holds-new, holds-at, none-at, delivers}
-use Rattle.ddcmp_run.proofs.Ordered.{may-clear}
-use Rattle.ddcmp_run.proofs.Places.{place_of-none, good_frames_in-append}
-use Rattle.ddcmp_run.proofs.Relation.{Face, face, Stands, not_begun, begun, StateFits}
+use Rattle.ddcmp_pair.specs.declared.event.End.{End}
+use Rattle.ddcmp_pair.specs.declared.event.End.TheVariants.{A, B}
+use Rattle.ddcmp_pair.specs.declared.event.Event.{Event}
+use Rattle.ddcmp_pair.specs.declared.event.Event.TheVariants as event
+use Rattle.ddcmp_pair.specs.InOrder.{Delivers, IsInOrder, IsLink}
+use Rattle.ddcmp_pair.specs.Place.{place_of}
+use Rattle.ddcmp_pair.specs.Run.{EndState, PairState, at, notices_at, with_station, cleared}
+use Rattle.ddcmp_pair.specs.Run.{acknowledged_in}
+use Rattle.ddcmp_pair.specs.Run.{after_arrival_here, after_event_here, after_event_at, after_event}
+use Rattle.ddcmp_pair.specs.Run.{clear_refusal, after_clear_by, run, new_end, new_pair, is_clean}
+use Rattle.ddcmp_pair.proofs.Linked.{Linked, linked-turned, linked-event, starts-grow}
+use Rattle.ddcmp_pair.proofs.Ordered.{Holds, IsFresh, clean-means, fresh-linked, fresh-new}
+use Rattle.ddcmp_pair.proofs.Ordered.{fresh-cleared, holds-new, holds-at, none-at, delivers}
+use Rattle.ddcmp_pair.proofs.Ordered.{may-clear}
+use Rattle.ddcmp_pair.proofs.Places.{place_of-none, good_frames_in-append}
+use Rattle.ddcmp_pair.proofs.Relation.{Face, face, Stands, not_begun, begun, StateFits}
 use Rattle.ddcmp_laws.specs.PairCalls.{Call, Start, Halt, Send, Poll, Arrive, Expire, Take, Arm}
 use Rattle.ddcmp_laws.specs.PairCalls.{Ask}
 use Rattle.ddcmp_laws.specs.PairCalls.{after_arm_here, after_call, run_calls, events_of, noted}

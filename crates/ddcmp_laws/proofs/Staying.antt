@@ -1,7 +1,7 @@
 -- What stays whatever two ends do: what is known of both ends in a first round, and in a second
 -- one.
 use Rattle.std.proofs.Common.{◌≡◌, ℕ, Bool, true, List, [], ◌∷◌, ◌++◌, refl}
-use Rattle.ddcmp_run.proofs.Views.{View}
+use Rattle.ddcmp_pair.proofs.Views.{View}
 use Rattle.ddcmp_laws.proofs.Flights.{Flight}
 use Rattle.ddcmp_laws.proofs.Traffic.{Polls, Heard, Expires, x_asks, x_told, x_repeats, x_back}
 use Rattle.ddcmp_laws.proofs.Traffic.{Base, flags-here, same-there}

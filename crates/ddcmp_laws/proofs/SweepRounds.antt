@@ -6,13 +6,13 @@ use Rattle.ddcmp_core.specs.declared.state.Timer.{Timer}
 use Rattle.ddcmp_core.specs.declared.state.Timer.TheVariants.{Off, Fresh, On}
 use Rattle.ddcmp_core.specs.Counting.{count_plus}
 use Rattle.ddcmp_core.specs.Table.{after_expire_with, is_on}
-use Rattle.ddcmp_run.specs.declared.event.End.{End}
-use Rattle.ddcmp_run.specs.declared.event.End.TheVariants.{A, B}
-use Rattle.ddcmp_run.specs.declared.event.Event.{Event}
-use Rattle.ddcmp_run.specs.declared.event.Event.TheVariants as event
-use Rattle.ddcmp_run.specs.InOrder.{IsRun}
-use Rattle.ddcmp_run.specs.Recovery.{IsDone, larger_window}
-use Rattle.ddcmp_run.specs.Run.{EndState, PairState, at, after_expire_here, after_event, run}
+use Rattle.ddcmp_pair.specs.declared.event.End.{End}
+use Rattle.ddcmp_pair.specs.declared.event.End.TheVariants.{A, B}
+use Rattle.ddcmp_pair.specs.declared.event.Event.{Event}
+use Rattle.ddcmp_pair.specs.declared.event.Event.TheVariants as event
+use Rattle.ddcmp_pair.specs.InOrder.{IsRun}
+use Rattle.ddcmp_pair.specs.Recovery.{IsDone, larger_window}
+use Rattle.ddcmp_pair.specs.Run.{EndState, PairState, at, after_expire_here, after_event, run}
 use Rattle.ddcmp_laws.specs.LossFree.{Line, after_on_line, IsLossFree, run_on_line, IsWhole}
 use Rattle.ddcmp_laws.specs.Rests.{GoesOn, IsUnderWay}
 use Rattle.ddcmp_laws.specs.Delivers.{IsAtRest, is_expiry, runs_out, IsRoundInAnyOrder}

@@ -16,12 +16,12 @@ use Rattle.ddcmp_core.specs.Table.{after_next, has_message, message_at_next, aft
 use Rattle.ddcmp_core.specs.Core.{CoreView}
 use Rattle.ddcmp_proto.specs.Bytes.{after_items, frame_on_line}
 use Rattle.ddcmp_proto.proofs.FeedLaws.{items_added-none}
-use Rattle.ddcmp_run.specs.declared.event.End.{End}
-use Rattle.ddcmp_run.specs.declared.event.End.TheVariants.{A, B}
-use Rattle.ddcmp_run.specs.declared.event.Event.{Event}
-use Rattle.ddcmp_run.specs.declared.event.Event.TheVariants as event
-use Rattle.ddcmp_run.specs.Run.{EndState, PairState, line_bytes, wrote, took, after_poll_here}
-use Rattle.ddcmp_run.specs.Run.{after_arrival_here, after_take_here, after_event, reply_to}
+use Rattle.ddcmp_pair.specs.declared.event.End.{End}
+use Rattle.ddcmp_pair.specs.declared.event.End.TheVariants.{A, B}
+use Rattle.ddcmp_pair.specs.declared.event.Event.{Event}
+use Rattle.ddcmp_pair.specs.declared.event.Event.TheVariants as event
+use Rattle.ddcmp_pair.specs.Run.{EndState, PairState, line_bytes, wrote, took, after_poll_here}
+use Rattle.ddcmp_pair.specs.Run.{after_arrival_here, after_take_here, after_event, reply_to}
 use Rattle.ddcmp_laws.specs.LossFree.{Line, bytes_or_none, after_on_line, LosesNothing}
 use Rattle.ddcmp_laws.specs.LossFree.{IsLossFree, run_on_line}
 use Rattle.ddcmp_laws.specs.Price.{price, frames_of, added_by, added}

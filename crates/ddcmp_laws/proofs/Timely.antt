@@ -27,17 +27,17 @@ use Rattle.ddcmp_core.specs.Table.{on_data, may_restart, on_by, on}
 use Rattle.ddcmp_core.specs.Core.{CoreView}
 use Rattle.ddcmp_core.proofs.Sent.{sending}
 use Rattle.ddcmp_proto.specs.Bytes.{received_of, after_item, after_items, items_added}
-use Rattle.ddcmp_run.specs.declared.event.End.TheVariants.{A, B}
-use Rattle.ddcmp_run.specs.declared.event.Event.{Event}
-use Rattle.ddcmp_run.specs.declared.event.Event.TheVariants as event
-use Rattle.ddcmp_run.specs.InOrder.{IsRun}
-use Rattle.ddcmp_run.specs.Prefix.{IsPrefixOf}
-use Rattle.ddcmp_run.specs.Recovery.{larger_window}
-use Rattle.ddcmp_run.specs.Run.{EndState, PairState, handed_up, after_poll_here, after_take_here}
-use Rattle.ddcmp_run.specs.Run.{after_arrival_here, after_event}
-use Rattle.ddcmp_run.proofs.Calls.{take-up}
-use Rattle.ddcmp_run.proofs.Ready.{kept}
-use Rattle.ddcmp_run.proofs.Steady.{Shows, IsAwake, inbox-sent}
+use Rattle.ddcmp_pair.specs.declared.event.End.TheVariants.{A, B}
+use Rattle.ddcmp_pair.specs.declared.event.Event.{Event}
+use Rattle.ddcmp_pair.specs.declared.event.Event.TheVariants as event
+use Rattle.ddcmp_pair.specs.InOrder.{IsRun}
+use Rattle.ddcmp_pair.specs.Prefix.{IsPrefixOf}
+use Rattle.ddcmp_pair.specs.Recovery.{larger_window}
+use Rattle.ddcmp_pair.specs.Run.{EndState, PairState, handed_up, after_poll_here, after_take_here}
+use Rattle.ddcmp_pair.specs.Run.{after_arrival_here, after_event}
+use Rattle.ddcmp_pair.proofs.Calls.{take-up}
+use Rattle.ddcmp_pair.proofs.Ready.{kept}
+use Rattle.ddcmp_pair.proofs.Steady.{Shows, IsAwake, inbox-sent}
 use Rattle.ddcmp_laws.specs.LossFree.{Line, after_on_line, IsLossFree, run_on_line, IsWhole}
 use Rattle.ddcmp_laws.specs.Price.{refusal_price, added_by}
 use Rattle.ddcmp_laws.specs.Rests.{GoesOn, IsUnderWay}

@@ -7,11 +7,11 @@ use Rattle.ddcmp_core.specs.declared.state.Timer.TheVariants.{Off, Fresh, On}
 use Rattle.ddcmp_core.specs.Table.{is_fresh, is_on, may_send}
 use Rattle.ddcmp_proto.specs.Bytes.{after_piece}
 use Rattle.ddcmp_station.specs.Driving.{DriveTurn, is_due, before_offer}
-use Rattle.ddcmp_run.specs.declared.event.End.{End}
-use Rattle.ddcmp_run.specs.declared.event.End.TheVariants.{A, B}
-use Rattle.ddcmp_run.specs.declared.event.Event.{Event}
-use Rattle.ddcmp_run.specs.declared.event.Event.TheVariants as event
-use Rattle.ddcmp_run.specs.Run.{PairState}
+use Rattle.ddcmp_pair.specs.declared.event.End.{End}
+use Rattle.ddcmp_pair.specs.declared.event.End.TheVariants.{A, B}
+use Rattle.ddcmp_pair.specs.declared.event.Event.{Event}
+use Rattle.ddcmp_pair.specs.declared.event.Event.TheVariants as event
+use Rattle.ddcmp_pair.specs.Run.{PairState}
 use Rattle.ddcmp_laws.specs.Sweeps.{OnlyCarries, bytes_brought, is_poll, is_asked}
 use Rattle.ddcmp_laws.specs.Sweeps.{IsSweep}
 use Rattle.ddcmp_laws.specs.PairCalls.{Send, Poll, Expire, Take, Arm, events_in}

@@ -12,9 +12,9 @@ use Rattle.ddcmp_station.specs.Driving.{DriveTurn, Driving, driving_from, deadli
 use Rattle.ddcmp_station.specs.Driving.{core_after_expire, core_after_take_arm, core_at_deadline}
 use Rattle.ddcmp_station.specs.Driving.{core_after_message, frame_bytes, core_after_halt}
 use Rattle.ddcmp_station.specs.Driving.{before_read, after_read, after_turn, after_turns}
-use Rattle.ddcmp_run.specs.Place.{WholeFrame}
-use Rattle.ddcmp_run.specs.Run.{EndState, with_station, whole_frame, after_poll_here}
-use Rattle.ddcmp_run.specs.Run.{after_arrival_here}
+use Rattle.ddcmp_pair.specs.Place.{WholeFrame}
+use Rattle.ddcmp_pair.specs.Run.{EndState, with_station, whole_frame, after_poll_here}
+use Rattle.ddcmp_pair.specs.Run.{after_arrival_here}
 use Rattle.ddcmp_laws.specs.Faithful.{bytes_of, written}
 use Rattle.ddcmp_laws.specs.PairCalls.{Call, Halt, Send, Poll, Arrive, Expire, Take, Arm}
 use Rattle.ddcmp_laws.specs.PairCalls.{after_arm_here, after_call_here, after_calls_here}

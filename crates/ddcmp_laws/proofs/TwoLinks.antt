@@ -10,10 +10,10 @@ use Rattle.ddcmp_proto.specs.declared.config.Config.{Config}
 use Rattle.ddcmp_station.specs.Driving.{deadline_at, is_due, core_after_take_arm}
 use Rattle.ddcmp_core.specs.Core.{CoreView}
 use Rattle.ddcmp_station.specs.Linking.{LinkView, polls, delivered}
-use Rattle.ddcmp_run.specs.declared.event.End.{End}
-use Rattle.ddcmp_run.specs.declared.event.End.TheVariants.{A, B}
-use Rattle.ddcmp_run.specs.InOrder.{Delivers}
-use Rattle.ddcmp_run.specs.Run.{EndState, PairState, new_pair, is_clean}
+use Rattle.ddcmp_pair.specs.declared.event.End.{End}
+use Rattle.ddcmp_pair.specs.declared.event.End.TheVariants.{A, B}
+use Rattle.ddcmp_pair.specs.InOrder.{Delivers}
+use Rattle.ddcmp_pair.specs.Run.{EndState, PairState, new_pair, is_clean}
 use Rattle.ddcmp_laws.specs.Faithful.{written, Begins, IsFaithful}
 use Rattle.ddcmp_laws.specs.PairCalls.{Call, Poll, Expire, after_calls_here, after_call, run_calls}
 use Rattle.ddcmp_laws.specs.PairCalls.{calls_at, starts_by, starts_in}

@@ -6,13 +6,13 @@ use Rattle.ddcmp_core.specs.declared.state.Timer.TheVariants.{Off}
 use Rattle.ddcmp_core.specs.Numbers.{next_number}
 use Rattle.ddcmp_core.specs.Core.{IsTimed}
 use Rattle.ddcmp_core.specs.Table.{StationState}
-use Rattle.ddcmp_run.specs.InOrder.{IsRun}
-use Rattle.ddcmp_run.specs.Recovery.{IsDelivered}
-use Rattle.ddcmp_run.specs.Run.{EndState, PairState, handed_up, is_clean, line_bytes}
-use Rattle.ddcmp_run.proofs.Numbering.{next_is}
-use Rattle.ddcmp_run.proofs.Ready.{kept}
-use Rattle.ddcmp_run.proofs.Relation.{face, Counts}
-use Rattle.ddcmp_run.proofs.Steady.{Shows}
+use Rattle.ddcmp_pair.specs.InOrder.{IsRun}
+use Rattle.ddcmp_pair.specs.Recovery.{IsDelivered}
+use Rattle.ddcmp_pair.specs.Run.{EndState, PairState, handed_up, is_clean, line_bytes}
+use Rattle.ddcmp_pair.proofs.Numbering.{next_is}
+use Rattle.ddcmp_pair.proofs.Ready.{kept}
+use Rattle.ddcmp_pair.proofs.Relation.{face, Counts}
+use Rattle.ddcmp_pair.proofs.Steady.{Shows}
 use Rattle.ddcmp_laws.proofs.Hearing.{sight}
 use Rattle.ddcmp_laws.proofs.Starting.{Idles, i_starts, i_runs}
 use Rattle.ddcmp_laws.proofs.Delivering.{Both}

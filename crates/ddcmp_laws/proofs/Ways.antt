@@ -21,7 +21,7 @@ use Rattle.ddcmp_core.proofs.StartLaws.{read_sent}
 use Rattle.ddcmp_proto.specs.Bytes.{received_of, after_item, after_items, after_piece, items_added}
 use Rattle.ddcmp_proto.specs.Bytes.{frame_on_line}
 use Rattle.ddcmp_proto.proofs.FeedLaws.{items_added-is, items_added-append, after_piece-limits}
-use Rattle.ddcmp_run.specs.Run.{EndState, after_arrival_here}
+use Rattle.ddcmp_pair.specs.Run.{EndState, after_arrival_here}
 use Rattle.ddcmp_laws.specs.LossFree.{ComesWhole}
 use Rattle.ddcmp_laws.specs.Price.{price_of_frame, price_of_received, price_of_items}
 use Rattle.ddcmp_laws.specs.Price.{price_of_station, price_of_end}

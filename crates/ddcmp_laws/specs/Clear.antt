@@ -5,10 +5,10 @@ use Rattle.ddcmp_core.specs.Core.{CoreView}
 use Rattle.ddcmp_core.specs.Frames.{frame_of}
 use Rattle.ddcmp_core.specs.Table.{Data, Received, Good}
 use Rattle.ddcmp_proto.specs.Bytes.{received_of, after_item, items_added}
-use Rattle.ddcmp_run.specs.declared.event.Event.{Event}
-use Rattle.ddcmp_run.specs.declared.event.Event.TheVariants as event
-use Rattle.ddcmp_run.specs.Prefix.{IsPrefixOf}
-use Rattle.ddcmp_run.specs.Run.{EndState, PairState, at, after_event}
+use Rattle.ddcmp_pair.specs.declared.event.Event.{Event}
+use Rattle.ddcmp_pair.specs.declared.event.Event.TheVariants as event
+use Rattle.ddcmp_pair.specs.Prefix.{IsPrefixOf}
+use Rattle.ddcmp_pair.specs.Run.{EndState, PairState, at, after_event}
 use Rattle.ddcmp_laws.specs.Counted.{is_nak, frames_of}
 use Rattle.ddcmp_laws.specs.Faithful.{IsFaithful}
 use Rattle.ddcmp_laws.specs.Positions.{messages_in}

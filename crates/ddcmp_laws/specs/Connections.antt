@@ -2,10 +2,10 @@
 -- connected last.
 use Rattle.std.specs.Prelude.{◌≡◌, ℕ, Bool, true, List, [], ◌∷◌, ◌++◌, length, drop, None}
 use Rattle.ddcmp_proto.specs.Config.{first_refusal}
-use Rattle.ddcmp_run.specs.declared.event.End.{End}
-use Rattle.ddcmp_run.specs.declared.event.End.TheVariants.{A, B}
-use Rattle.ddcmp_run.specs.Prefix.{IsPrefixOf}
-use Rattle.ddcmp_run.specs.Run.{new_pair, is_clean}
+use Rattle.ddcmp_pair.specs.declared.event.End.{End}
+use Rattle.ddcmp_pair.specs.declared.event.End.TheVariants.{A, B}
+use Rattle.ddcmp_pair.specs.Prefix.{IsPrefixOf}
+use Rattle.ddcmp_pair.specs.Run.{new_pair, is_clean}
 use Rattle.ddcmp_input.specs.InBinary.{in_binary}
 use Rattle.ddcmp_session.specs.declared.messages.Form.TheVariants as form
 use Rattle.ddcmp_session.specs.Session.{SessionView, is_delivered, lost_among, lost_at_end}

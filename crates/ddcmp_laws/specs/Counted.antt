@@ -11,10 +11,10 @@ use Rattle.ddcmp_core.specs.declared.counters.NakCounts.{NakCounts}
 use Rattle.ddcmp_core.specs.Counting.{no_counts, counters_on}
 use Rattle.ddcmp_core.specs.Table.{Limits, StationState, Frame, Naked, Rep, Received, Good}
 use Rattle.ddcmp_core.specs.Table.{BadHeader, BadData, TooLong, BadFormat, on}
-use Rattle.ddcmp_run.specs.declared.event.Event.{Event}
-use Rattle.ddcmp_run.specs.declared.event.Event.TheVariants as event
-use Rattle.ddcmp_run.specs.Place.{WholeFrame}
-use Rattle.ddcmp_run.specs.Run.{EndState, handed_up}
+use Rattle.ddcmp_pair.specs.declared.event.Event.{Event}
+use Rattle.ddcmp_pair.specs.declared.event.Event.TheVariants as event
+use Rattle.ddcmp_pair.specs.Place.{WholeFrame}
+use Rattle.ddcmp_pair.specs.Run.{EndState, handed_up}
 
 -- ---- frames of a kind
 

@@ -2,13 +2,13 @@
 -- again.
 use Rattle.std.specs.Prelude.{◌≡◌, Bool, true, false, ◌||◌, List, [], ◌∷◌, length, None}
 use Rattle.ddcmp_core.specs.declared.state.State.TheVariants.{Running}
-use Rattle.ddcmp_run.specs.declared.event.End.{End}
-use Rattle.ddcmp_run.specs.declared.event.End.TheVariants.{A, B}
-use Rattle.ddcmp_run.specs.declared.event.Event.{Event}
-use Rattle.ddcmp_run.specs.declared.event.Event.TheVariants as event
-use Rattle.ddcmp_run.specs.Run.{EndState, PairState, handed_up, line_bytes}
-use Rattle.ddcmp_run.specs.Settle.{settling, settled}
-use Rattle.ddcmp_run.specs.Recovery.{rounding, rounded, recovered}
+use Rattle.ddcmp_pair.specs.declared.event.End.{End}
+use Rattle.ddcmp_pair.specs.declared.event.End.TheVariants.{A, B}
+use Rattle.ddcmp_pair.specs.declared.event.Event.{Event}
+use Rattle.ddcmp_pair.specs.declared.event.Event.TheVariants as event
+use Rattle.ddcmp_pair.specs.Run.{EndState, PairState, handed_up, line_bytes}
+use Rattle.ddcmp_pair.specs.Settle.{settling, settled}
+use Rattle.ddcmp_pair.specs.Recovery.{rounding, rounded, recovered}
 use Rattle.ddcmp_laws.specs.LossFree.{Line, empty_line, IsLossFree, run_on_line}
 use Rattle.ddcmp_laws.specs.Rests.{GoesOn}
 

@@ -2,9 +2,9 @@
 use Rattle.std.specs.Prelude.{◌≡◌, ℕ, List, [], ◌∷◌, ◌++◌, replicate}
 use Rattle.ddcmp_frame.specs.declared.codes.TheConstants.{SYN}
 use Rattle.ddcmp_frame.specs.Wire.{wire}
-use Rattle.ddcmp_run.specs.declared.event.Event.{Event}
-use Rattle.ddcmp_run.specs.Place.{WholeFrame}
-use Rattle.ddcmp_run.specs.Run.{EndState, PairState, after_event}
+use Rattle.ddcmp_pair.specs.declared.event.Event.{Event}
+use Rattle.ddcmp_pair.specs.Place.{WholeFrame}
+use Rattle.ddcmp_pair.specs.Run.{EndState, PairState, after_event}
 
 -- frames on the line one after another, each after its fill
 unfoldable pub bytes_of : ℕ → List WholeFrame → List ℕ

@@ -3,14 +3,14 @@
 use Rattle.std.specs.Prelude.{◌≡◌, ℕ, ◌≤◌, Bool, true, ◌&&◌, is_some, List, [], ◌∷◌, ◌++◌, sum_by}
 use Rattle.ddcmp_frame.specs.Reading.{good_frames}
 use Rattle.ddcmp_core.specs.Table.{StationState, after_take_arm}
-use Rattle.ddcmp_run.specs.declared.event.End.{End}
-use Rattle.ddcmp_run.specs.declared.event.End.TheVariants.{A, B}
-use Rattle.ddcmp_run.specs.declared.event.Event.{Event}
-use Rattle.ddcmp_run.specs.declared.event.Event.TheVariants as event
-use Rattle.ddcmp_run.specs.Place.{WholeFrame, place_of}
-use Rattle.ddcmp_run.specs.Run.{EndState, PairState, with_station, after_start_here}
-use Rattle.ddcmp_run.specs.Run.{after_halt_here, after_send_here, after_poll_here}
-use Rattle.ddcmp_run.specs.Run.{after_arrival_here, after_expire_here, after_take_here}
+use Rattle.ddcmp_pair.specs.declared.event.End.{End}
+use Rattle.ddcmp_pair.specs.declared.event.End.TheVariants.{A, B}
+use Rattle.ddcmp_pair.specs.declared.event.Event.{Event}
+use Rattle.ddcmp_pair.specs.declared.event.Event.TheVariants as event
+use Rattle.ddcmp_pair.specs.Place.{WholeFrame, place_of}
+use Rattle.ddcmp_pair.specs.Run.{EndState, PairState, with_station, after_start_here}
+use Rattle.ddcmp_pair.specs.Run.{after_halt_here, after_send_here, after_poll_here}
+use Rattle.ddcmp_pair.specs.Run.{after_arrival_here, after_expire_here, after_take_here}
 
 -- A call of a station: one that is an event of a run, by its name; Arm, which asks whether the
 -- timer was started; or Ask, any call that only returns something.

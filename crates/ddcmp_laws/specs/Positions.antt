@@ -3,9 +3,9 @@ use Rattle.std.specs.Prelude.{◌≡◌, ℕ, ◌+◌, ◌%◌, ◌<◌, ◌≤�
 use Rattle.ddcmp_frame.specs.Reading.{good_frames}
 use Rattle.ddcmp_core.specs.Frames.{frame_of}
 use Rattle.ddcmp_core.specs.Table.{Frame, Data, Acked, Naked}
-use Rattle.ddcmp_run.specs.Link.{IsReached, link_of, message_at}
-use Rattle.ddcmp_run.specs.Place.{WholeFrame, place_of}
-use Rattle.ddcmp_run.specs.Run.{EndState, handed_up}
+use Rattle.ddcmp_pair.specs.Link.{IsReached, link_of, message_at}
+use Rattle.ddcmp_pair.specs.Place.{WholeFrame, place_of}
+use Rattle.ddcmp_pair.specs.Run.{EndState, handed_up}
 
 -- ---- what frames carry
 

@@ -12,11 +12,11 @@ use Rattle.ddcmp_core.specs.declared.state.Owed.TheVariants.{Quiet, Ack, Nak}
 use Rattle.ddcmp_core.specs.Table.{StationState, Frame, Data, Acked, Naked, Rep, Strt, Stack, Maint}
 use Rattle.ddcmp_core.specs.Table.{Received, Good, next, next_frame, before_next}
 use Rattle.ddcmp_proto.specs.Bytes.{received_of, items_added}
-use Rattle.ddcmp_run.specs.declared.event.Event.{Event}
-use Rattle.ddcmp_run.specs.declared.event.Event.TheVariants as event
-use Rattle.ddcmp_run.specs.declared.event.Reply.{Reply}
-use Rattle.ddcmp_run.specs.declared.event.Reply.TheVariants as reply
-use Rattle.ddcmp_run.specs.Run.{EndState, PairState, at, after_event, reply_to}
+use Rattle.ddcmp_pair.specs.declared.event.Event.{Event}
+use Rattle.ddcmp_pair.specs.declared.event.Event.TheVariants as event
+use Rattle.ddcmp_pair.specs.declared.event.Reply.{Reply}
+use Rattle.ddcmp_pair.specs.declared.event.Reply.TheVariants as reply
+use Rattle.ddcmp_pair.specs.Run.{EndState, PairState, at, after_event, reply_to}
 use Rattle.ddcmp_laws.specs.LossFree.{Line}
 
 -- ---- what is in flight

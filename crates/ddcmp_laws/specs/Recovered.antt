@@ -1,11 +1,11 @@
 -- What two ends do once their line has recovered.
 use Rattle.std.specs.Prelude.{◌≡◌, ℕ, ◌+◌, ◌%◌, List, [], ◌∷◌, ◌++◌, length}
-use Rattle.ddcmp_run.specs.declared.event.End.{End}
-use Rattle.ddcmp_run.specs.declared.event.Event.TheVariants as event
-use Rattle.ddcmp_run.specs.declared.event.Reply.TheVariants as reply
-use Rattle.ddcmp_run.specs.Run.{PairState, at, after_event, reply_to, handed_up}
-use Rattle.ddcmp_run.specs.Settle.{other}
-use Rattle.ddcmp_run.specs.Recovery.{recovered, IsDone}
+use Rattle.ddcmp_pair.specs.declared.event.End.{End}
+use Rattle.ddcmp_pair.specs.declared.event.Event.TheVariants as event
+use Rattle.ddcmp_pair.specs.declared.event.Reply.TheVariants as reply
+use Rattle.ddcmp_pair.specs.Run.{PairState, at, after_event, reply_to, handed_up}
+use Rattle.ddcmp_pair.specs.Settle.{other}
+use Rattle.ddcmp_pair.specs.Recovery.{recovered, IsDone}
 use Rattle.ddcmp_laws.specs.Story.{number}
 
 -- An end accepts this message, under the number after those of all that it accepted before.

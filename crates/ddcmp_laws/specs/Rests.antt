@@ -2,10 +2,10 @@
 use Rattle.std.specs.Prelude.{◌≡◌, ◌≢◌, true, List, [], ◌∷◌, ◌++◌, is_some}
 use Rattle.ddcmp_frame.specs.Reading.{good_frames}
 use Rattle.ddcmp_core.specs.declared.state.State.TheVariants.{Halted}
-use Rattle.ddcmp_run.specs.declared.event.Event.{Event}
-use Rattle.ddcmp_run.specs.declared.event.Event.TheVariants as event
-use Rattle.ddcmp_run.specs.Place.{place_of}
-use Rattle.ddcmp_run.specs.Run.{is_clean}
+use Rattle.ddcmp_pair.specs.declared.event.Event.{Event}
+use Rattle.ddcmp_pair.specs.declared.event.Event.TheVariants as event
+use Rattle.ddcmp_pair.specs.Place.{place_of}
+use Rattle.ddcmp_pair.specs.Run.{is_clean}
 use Rattle.ddcmp_laws.specs.LossFree.{Line}
 
 -- no end starts or halts

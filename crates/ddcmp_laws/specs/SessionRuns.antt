@@ -5,10 +5,10 @@ use Rattle.std.specs.Prelude.{drop, None}
 use Rattle.std.specs.List.{All}
 use Rattle.ddcmp_input.specs.InBinary.{in_binary, Fits}
 use Rattle.ddcmp_proto.specs.Config.{first_refusal}
-use Rattle.ddcmp_run.specs.declared.event.End.{End}
-use Rattle.ddcmp_run.specs.declared.event.End.TheVariants.{A, B}
-use Rattle.ddcmp_run.specs.Prefix.{IsPrefixOf}
-use Rattle.ddcmp_run.specs.Run.{new_pair, is_clean}
+use Rattle.ddcmp_pair.specs.declared.event.End.{End}
+use Rattle.ddcmp_pair.specs.declared.event.End.TheVariants.{A, B}
+use Rattle.ddcmp_pair.specs.Prefix.{IsPrefixOf}
+use Rattle.ddcmp_pair.specs.Run.{new_pair, is_clean}
 use Rattle.ddcmp_laws.specs.Faithful.{Begins}
 use Rattle.ddcmp_laws.specs.LinkRestarts.{calls_of_links}
 use Rattle.ddcmp_laws.specs.StationRuns.{run_station_calls}

@@ -2,7 +2,7 @@
 use Rattle.std.specs.Prelude.{◌≡◌, ◌≢◌, None}
 use Rattle.ddcmp_core.specs.declared.state.State.TheVariants.{Halted}
 use Rattle.ddcmp_core.specs.declared.state.Timer.TheVariants.{Off}
-use Rattle.ddcmp_run.specs.Run.{EndState, PairState, line_bytes}
+use Rattle.ddcmp_pair.specs.Run.{EndState, PairState, line_bytes}
 
 -- An end sleeps if it has no frame to send and its reply timer is off.
 pub record IsAsleep (x : EndState) : Type 0 where

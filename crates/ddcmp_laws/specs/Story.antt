@@ -7,13 +7,13 @@ use Rattle.ddcmp_core.specs.declared.counters.NakCounts.{NakCounts}
 use Rattle.ddcmp_core.specs.Counting.{no_naks, no_counts}
 use Rattle.ddcmp_core.specs.Seq.{Seq}
 use Rattle.ddcmp_proto.specs.declared.config.Config.{Config}
-use Rattle.ddcmp_run.specs.declared.event.End.TheVariants.{A, B}
-use Rattle.ddcmp_run.specs.declared.event.Event.{Event}
-use Rattle.ddcmp_run.specs.declared.event.Event.TheVariants as event
-use Rattle.ddcmp_run.specs.declared.event.Reply.{Reply}
-use Rattle.ddcmp_run.specs.declared.event.Reply.TheVariants as reply
-use Rattle.ddcmp_run.specs.Recovery.{is_done}
-use Rattle.ddcmp_run.specs.Run.{PairState, after_event, reply_to, handed_up, is_clean}
+use Rattle.ddcmp_pair.specs.declared.event.End.TheVariants.{A, B}
+use Rattle.ddcmp_pair.specs.declared.event.Event.{Event}
+use Rattle.ddcmp_pair.specs.declared.event.Event.TheVariants as event
+use Rattle.ddcmp_pair.specs.declared.event.Reply.{Reply}
+use Rattle.ddcmp_pair.specs.declared.event.Reply.TheVariants as reply
+use Rattle.ddcmp_pair.specs.Recovery.{is_done}
+use Rattle.ddcmp_pair.specs.Run.{PairState, after_event, reply_to, handed_up, is_clean}
 use Rattle.ddcmp_laws.specs.Vectors.{abc}
 
 -- ---- what goes over the line

@@ -1,9 +1,9 @@
 -- Two stations over streams, each of which gives what it took, in its order.
 use Rattle.std.specs.Prelude.{ℕ, List, [], ◌∷◌, ◌++◌}
 use Rattle.ddcmp_station.specs.Driving.{Driving}
-use Rattle.ddcmp_run.specs.declared.event.End.{End}
-use Rattle.ddcmp_run.specs.declared.event.End.TheVariants.{A, B}
-use Rattle.ddcmp_run.specs.Run.{PairState}
+use Rattle.ddcmp_pair.specs.declared.event.End.{End}
+use Rattle.ddcmp_pair.specs.declared.event.End.TheVariants.{A, B}
+use Rattle.ddcmp_pair.specs.Run.{PairState}
 use Rattle.ddcmp_laws.specs.Faithful.{Begins, IsFaithful}
 use Rattle.ddcmp_laws.specs.PairCalls.{Call, after_call}
 use Rattle.ddcmp_laws.specs.Driven.{DriveCall, after_drive}

@@ -4,11 +4,11 @@ use Rattle.ddcmp_proto.specs.declared.config.Config.{Config}
 use Rattle.ddcmp_laws.specs.Story.{strt_bytes, stack_bytes, ack_0_bytes, rep_1_bytes, nak_3_bytes}
 use Rattle.ddcmp_laws.specs.Story.{first_bytes, ack_1_bytes}
 use Rattle.ddcmp_laws.specs.Vectors.{abc}
-use Rattle.ddcmp_run.specs.declared.event.End.TheVariants.{A, B}
-use Rattle.ddcmp_run.specs.declared.event.Event.{Event}
-use Rattle.ddcmp_run.specs.declared.event.Event.TheVariants as event
-use Rattle.ddcmp_run.specs.Recovery.{both_expire}
-use Rattle.ddcmp_run.specs.Run.{new_pair, run}
+use Rattle.ddcmp_pair.specs.declared.event.End.TheVariants.{A, B}
+use Rattle.ddcmp_pair.specs.declared.event.Event.{Event}
+use Rattle.ddcmp_pair.specs.declared.event.Event.TheVariants as event
+use Rattle.ddcmp_pair.specs.Recovery.{both_expire}
+use Rattle.ddcmp_pair.specs.Run.{new_pair, run}
 use Rattle.ddcmp_laws.specs.LossFree.{Line, empty_line}
 use Rattle.ddcmp_laws.specs.Sweeps.{in_a_row}
 

@@ -5,12 +5,12 @@ use Rattle.std.specs.Prelude.{◌++◌, length}
 use Rattle.ddcmp_core.specs.declared.state.Timer.TheVariants.{Off}
 use Rattle.ddcmp_core.specs.Table.{has_room}
 use Rattle.ddcmp_proto.specs.Bytes.{items_added}
-use Rattle.ddcmp_run.specs.declared.event.End.{End}
-use Rattle.ddcmp_run.specs.declared.event.End.TheVariants.{A, B}
-use Rattle.ddcmp_run.specs.declared.event.Event.{Event}
-use Rattle.ddcmp_run.specs.declared.event.Event.TheVariants as event
-use Rattle.ddcmp_run.specs.Recovery.{larger_window}
-use Rattle.ddcmp_run.specs.Run.{EndState, PairState, at, after_event}
+use Rattle.ddcmp_pair.specs.declared.event.End.{End}
+use Rattle.ddcmp_pair.specs.declared.event.End.TheVariants.{A, B}
+use Rattle.ddcmp_pair.specs.declared.event.Event.{Event}
+use Rattle.ddcmp_pair.specs.declared.event.Event.TheVariants as event
+use Rattle.ddcmp_pair.specs.Recovery.{larger_window}
+use Rattle.ddcmp_pair.specs.Run.{EndState, PairState, at, after_event}
 use Rattle.ddcmp_laws.specs.LossFree.{Line, run_on_line}
 use Rattle.ddcmp_laws.specs.Price.{price, added, items_on_way}
 use Rattle.ddcmp_laws.specs.Rests.{GoesOn}

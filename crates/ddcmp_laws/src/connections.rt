@@ -1,7 +1,7 @@
 //! Two runs over one connection: without a word of frames, what the input of one gave is what the
 //! output of the other took.
 ghost use Rattle.std.specs.Prelude.{List};
-ghost use Rattle.ddcmp_run.specs.declared.event.End.{End};
+ghost use Rattle.ddcmp_pair.specs.declared.event.End.{End};
 ghost use Rattle.ddcmp_session.specs.Calls.{SessionStep};
 ghost use Rattle.ddcmp_session.specs.Connections.{AreDone};
 ghost use Rattle.ddcmp_laws.specs.Connected.{AreTwoRuns, BinaryIsInFiles, IsConnectedOnce};

@@ -6,7 +6,7 @@ ghost use Rattle.ddcmp_frame.specs.Reader.{StandsFor};
 ghost use Rattle.ddcmp_core.specs.Table.{acknowledged_by, after_halt, answer_to_start};
 ghost use Rattle.ddcmp_station.specs.Linking.{countable, answer_to_offered, puts_frame};
 ghost use Rattle.ddcmp_proto.specs.Bytes.{notices_of_piece};
-ghost use Rattle.ddcmp_run.specs.Run.{acknowledged_in};
+ghost use Rattle.ddcmp_pair.specs.Run.{acknowledged_in};
 ghost use Rattle.ddcmp_laws.specs.Links.{Starts, BeginsAnew, Halts, Wakes, Offers, FillsOne};
 ghost use Rattle.ddcmp_laws.specs.Links.{IsSent, Feeds, Takes, HasDone, accepted_by, taken_by};
 ghost use Rattle.ddcmp_laws.specs.LinkRestarts.{Does};

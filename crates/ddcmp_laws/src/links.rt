@@ -3,7 +3,7 @@ ghost use Rattle.std.specs.Prelude.{◌≡◌, ◌⊎◌, ℕ, List, true};
 ghost use Rattle.ddcmp_frame.specs.Reader.{ReaderView};
 ghost use Rattle.ddcmp_station.specs.Linking.{delivered};
 ghost use Rattle.ddcmp_proto.specs.declared.config.Config.{Config as ConfigValue};
-ghost use Rattle.ddcmp_run.specs.Run.{EndState, new_end, new_pair};
+ghost use Rattle.ddcmp_pair.specs.Run.{EndState, new_end, new_pair};
 ghost use Rattle.ddcmp_laws.specs.PairCalls.{after_calls_here, run_calls};
 ghost use Rattle.ddcmp_laws.specs.Links.{LinkStep, LinkHistory, station_calls, HasDone};
 ghost use Rattle.ddcmp_laws.specs.Links.{new_history, after_step, IsHistory, after_history};

@@ -2,9 +2,9 @@
 ghost use Rattle.std.specs.Prelude.{◌≡◌, List, [], None, true};
 ghost use Rattle.ddcmp_proto.specs.Config.{first_refusal};
 ghost use Rattle.ddcmp_proto.specs.declared.config.Config.{Config as ConfigValue};
-ghost use Rattle.ddcmp_run.specs.Recovery.{is_ready, IsRepaired};
-ghost use Rattle.ddcmp_run.specs.Run.{new_pair, run};
-ghost use Rattle.ddcmp_run.specs.declared.event.Event.{Event as EventValue};
+ghost use Rattle.ddcmp_pair.specs.Recovery.{is_ready, IsRepaired};
+ghost use Rattle.ddcmp_pair.specs.Run.{new_pair, run};
+ghost use Rattle.ddcmp_pair.specs.declared.event.Event.{Event as EventValue};
 ghost use Rattle.ddcmp_laws.specs.LossFree.{Line, IsLossFree, run_on_line, IsWhole};
 ghost use Rattle.ddcmp_laws.specs.Rests.{GoesOn, IsUnderWay};
 

@@ -3,12 +3,12 @@ ghost use Rattle.std.specs.Prelude.{◌≡◌, ◌+◌, ◌%◌, ◌++◌, ℕ, 
 ghost use Rattle.ddcmp_core.specs.Seq.{Seq as SeqValue};
 ghost use Rattle.ddcmp_proto.specs.Config.{first_refusal};
 ghost use Rattle.ddcmp_proto.specs.declared.config.Config.{Config as ConfigValue};
-ghost use Rattle.ddcmp_run.specs.declared.event.End.{End as EndValue};
-ghost use Rattle.ddcmp_run.specs.declared.event.Event.{Event as EventValue};
-ghost use Rattle.ddcmp_run.specs.declared.event.Event.TheVariants.{Send, Poll};
-ghost use Rattle.ddcmp_run.specs.declared.event.Reply.TheVariants.{Accepted, Wrote};
-ghost use Rattle.ddcmp_run.specs.Run.{PairState, at, after_event, reply_to, run, new_pair};
-ghost use Rattle.ddcmp_run.specs.Run.{is_clean};
+ghost use Rattle.ddcmp_pair.specs.declared.event.End.{End as EndValue};
+ghost use Rattle.ddcmp_pair.specs.declared.event.Event.{Event as EventValue};
+ghost use Rattle.ddcmp_pair.specs.declared.event.Event.TheVariants.{Send, Poll};
+ghost use Rattle.ddcmp_pair.specs.declared.event.Reply.TheVariants.{Accepted, Wrote};
+ghost use Rattle.ddcmp_pair.specs.Run.{PairState, at, after_event, reply_to, run, new_pair};
+ghost use Rattle.ddcmp_pair.specs.Run.{is_clean};
 ghost use Rattle.ddcmp_laws.specs.Faithful.{written, StaysFaithful};
 ghost use Rattle.ddcmp_laws.specs.Positions.{CarryPositions, IsNumberedLink};
 ghost use Rattle.ddcmp_laws.specs.Clear.{StaysClear, WastesNothing};

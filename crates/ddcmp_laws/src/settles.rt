@@ -2,9 +2,9 @@
 ghost use Rattle.std.specs.Prelude.{◌≡◌, ◌+◌, ◌*◌, ◌≤◌, List, None};
 ghost use Rattle.ddcmp_proto.specs.Config.{first_refusal};
 ghost use Rattle.ddcmp_proto.specs.declared.config.Config.{Config as ConfigValue};
-ghost use Rattle.ddcmp_run.specs.Recovery.{larger_window};
-ghost use Rattle.ddcmp_run.specs.Run.{new_pair};
-ghost use Rattle.ddcmp_run.specs.declared.event.Event.{Event as EventValue};
+ghost use Rattle.ddcmp_pair.specs.Recovery.{larger_window};
+ghost use Rattle.ddcmp_pair.specs.Run.{new_pair};
+ghost use Rattle.ddcmp_pair.specs.declared.event.Event.{Event as EventValue};
 ghost use Rattle.ddcmp_laws.specs.LossFree.{Line, empty_line, IsLossFree, run_on_line, IsWhole};
 ghost use Rattle.ddcmp_laws.specs.Price.{price, frames_given, added, items_on_way};
 

@@ -2,9 +2,9 @@
 ghost use Rattle.std.specs.Prelude.{◌≡◌, List, None, true};
 ghost use Rattle.ddcmp_proto.specs.Config.{first_refusal};
 ghost use Rattle.ddcmp_proto.specs.declared.config.Config.{Config as ConfigValue};
-ghost use Rattle.ddcmp_run.specs.Recovery.{IsDelivered};
-ghost use Rattle.ddcmp_run.specs.Run.{PairState, new_pair, run, is_clean};
-ghost use Rattle.ddcmp_run.specs.declared.event.Event.{Event as EventValue};
+ghost use Rattle.ddcmp_pair.specs.Recovery.{IsDelivered};
+ghost use Rattle.ddcmp_pair.specs.Run.{PairState, new_pair, run, is_clean};
+ghost use Rattle.ddcmp_pair.specs.declared.event.Event.{Event as EventValue};
 ghost use Rattle.ddcmp_laws.specs.Sleep.{IsAsleep, AreUp};
 
 /// Nobody waits for nothing: no line hangs. After any honest and clean run of two stations of any

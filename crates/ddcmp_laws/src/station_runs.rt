@@ -9,12 +9,12 @@ ghost use Rattle.ddcmp_proto.specs.declared.config.Config.{Config as ConfigValue
 ghost use Rattle.ddcmp_proto.specs.Station.{StationView};
 ghost use Rattle.ddcmp_proto.specs.StationCalls.{StationCall, Feeds, ClearsLine, EntersMaintenance};
 ghost use Rattle.ddcmp_proto.specs.StationCalls.{HasDone};
-ghost use Rattle.ddcmp_run.specs.declared.event.End.{End as EndValue};
-ghost use Rattle.ddcmp_run.specs.declared.event.End.TheVariants.{A, B};
-ghost use Rattle.ddcmp_run.specs.declared.event.Event.TheVariants.{Clear};
-ghost use Rattle.ddcmp_run.specs.Run.{EndState, PairState, at, notices_at, new_end, new_pair};
-ghost use Rattle.ddcmp_run.specs.Run.{is_clean, clear_refusal, after_event};
-ghost use Rattle.ddcmp_run.specs.InOrder.{IsInOrder, IsLink};
+ghost use Rattle.ddcmp_pair.specs.declared.event.End.{End as EndValue};
+ghost use Rattle.ddcmp_pair.specs.declared.event.End.TheVariants.{A, B};
+ghost use Rattle.ddcmp_pair.specs.declared.event.Event.TheVariants.{Clear};
+ghost use Rattle.ddcmp_pair.specs.Run.{EndState, PairState, at, notices_at, new_end, new_pair};
+ghost use Rattle.ddcmp_pair.specs.Run.{is_clean, clear_refusal, after_event};
+ghost use Rattle.ddcmp_pair.specs.InOrder.{IsInOrder, IsLink};
 ghost use Rattle.ddcmp_laws.specs.PairCalls.{Call, run_calls};
 ghost use Rattle.ddcmp_laws.specs.StationRuns.{after_station_call_here, after_station_call};
 ghost use Rattle.ddcmp_laws.specs.StationRuns.{run_station_calls, station_calls, IsStationAt};

@@ -9,7 +9,7 @@ ghost use Rattle.ddcmp_proto.specs.Bytes.{frame_on_line, notices_of_piece};
 ghost use Rattle.ddcmp_proto.specs.StationCalls.{HasDone, Starts, Halts, Sends, Polls, Feeds};
 ghost use Rattle.ddcmp_proto.specs.StationCalls.{Expires, Takes, TakesArm, ClearsLine};
 ghost use Rattle.ddcmp_proto.specs.StationCalls.{EntersMaintenance, SendsMaintenance};
-ghost use Rattle.ddcmp_run.specs.Run.{new_end, acknowledged_in};
+ghost use Rattle.ddcmp_pair.specs.Run.{new_end, acknowledged_in};
 ghost use Rattle.ddcmp_laws.specs.StationRuns.{IsStationAt, accepted_by, taken_by};
 
 use ddcmp_proto::{Config, ConfigRefusal, Fed, SendRefusal, Seq, StartRefusal, Station};

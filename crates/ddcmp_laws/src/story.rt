@@ -1,6 +1,6 @@
 //! Three runs of two ends, written out.
 ghost use Rattle.std.specs.Prelude.{◌≡◌, [], ◌∷◌, map};
-ghost use Rattle.ddcmp_run.specs.Run.{run, new_pair};
+ghost use Rattle.ddcmp_pair.specs.Run.{run, new_pair};
 ghost use Rattle.ddcmp_laws.specs.Vectors.{abc};
 ghost use Rattle.ddcmp_laws.specs.Story.{de, f, g, usual, tight, written_run, second_run};
 ghost use Rattle.ddcmp_laws.specs.Story.{clear_run, event_in, reply_in, replies_to, EndsWell};

@@ -15,7 +15,7 @@ use Rattle.ddcmp_io.specs.Device.{ReadGives}
 use Rattle.ddcmp_io.proofs.Inputs.{read-all, Read as Counts}
 use Rattle.ddcmp_io.specs.Written.{Known, Output, HoldsBy, Holds, HandsOver, AppendsPart}
 use Rattle.ddcmp_io.proofs.WrittenLaws.{sends-then, part-append}
-use Rattle.ddcmp_run.specs.Run.{PairState}
+use Rattle.ddcmp_pair.specs.Run.{PairState}
 use Rattle.ddcmp_line.specs.declared.command.ParsedLine.{ParsedLine}
 use Rattle.ddcmp_line.specs.declared.performer.Stop.{Stop}
 use Rattle.ddcmp_line.specs.declared.performer.Stop.TheVariants as stop
@@ -25,7 +25,7 @@ use Rattle.ddcmp_line.specs.declared.script_fault.ScriptFault.TheVariants.{Write
 use Rattle.ddcmp_line.specs.declared.script_fault.ScriptFault.TheVariants.{Carrier}
 use Rattle.ddcmp_line.specs.ScriptWords.{lines_of}
 use Rattle.ddcmp_line.specs.ScriptText.{closing_text}
-use Rattle.ddcmp_run.specs.Carriages.{Carriage}
+use Rattle.ddcmp_pair.specs.Carriages.{Carriage}
 use Rattle.ddcmp_line.specs.Script.{Between, AllFit, nothing_between, after_lines, text_of_lines}
 use Rattle.ddcmp_line.specs.Script.{carriages_of_lines, IsScriptLine, lines_done}
 use Rattle.ddcmp_line.specs.ScriptEnds.{text_then, Around, around, PausedBefore, StoppedAt}

@@ -8,13 +8,13 @@ use Rattle.std.proofs.lemmas.Bool.Decides.{nat_tests}
 use Rattle.ddcmp_io.specs.Device.{Logs}
 use Rattle.ddcmp_io.specs.Written.{Output, HandsOver}
 use Rattle.ddcmp_io.proofs.WrittenLaws.{sends-then}
-use Rattle.ddcmp_run.specs.Run.{PairState}
+use Rattle.ddcmp_pair.specs.Run.{PairState}
 use Rattle.ddcmp_line.specs.declared.performer.Stop.{Stop}
 use Rattle.ddcmp_line.specs.declared.performer.Stop.TheVariants.{NoCommand, NotHex, Write}
 use Rattle.ddcmp_line.specs.declared.performer.Stop.TheVariants.{Memory, Carrier}
 use Rattle.ddcmp_line.specs.ScriptWords.{reading_of, without_cr, lines_between, between_lf}
 use Rattle.ddcmp_line.specs.ScriptWords.{lines_of}
-use Rattle.ddcmp_run.specs.Carriages.{Carriage}
+use Rattle.ddcmp_pair.specs.Carriages.{Carriage}
 use Rattle.ddcmp_line.specs.Script.{Carries, Between, Scene, AreDirect, AreWithin, DoneLine}
 use Rattle.ddcmp_line.specs.Script.{after_line, text_of, carriages_by, after_lines, text_of_lines}
 use Rattle.ddcmp_line.specs.Script.{carriages_of_lines, IsScriptLine, AllFit, lines_done}

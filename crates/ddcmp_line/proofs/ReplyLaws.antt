@@ -1,7 +1,7 @@
 -- The words of each reply.
 use Rattle.std.proofs.Common.{◌≡◌, ℕ, List, ◌++◌, refl}
 use Rattle.std.specs.Prelude.{codes}
-use Rattle.ddcmp_run.specs.declared.event.Reply.TheVariants as reply
+use Rattle.ddcmp_pair.specs.declared.event.Reply.TheVariants as reply
 use Rattle.ddcmp_line.specs.ScriptText.{reply_text, bytes_line, counted_line}
 
 pub text-of-wrote : (who bytes : List ℕ)

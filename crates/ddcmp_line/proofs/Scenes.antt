@@ -13,18 +13,18 @@ use Rattle.ddcmp_line.specs.declared.command.ScriptCommand.TheVariants.{Happens,
 use Rattle.ddcmp_line.specs.declared.command.ScriptCommand.TheVariants.{Damage, Raw, Settle}
 use Rattle.ddcmp_line.specs.declared.command.ScriptCommand.TheVariants.{Recover, State}
 use Rattle.ddcmp_line.specs.declared.command.ParsedLine.TheVariants.{Asks}
-use Rattle.ddcmp_run.specs.declared.event.End.{End}
-use Rattle.ddcmp_run.specs.declared.event.End.TheVariants.{A, B}
-use Rattle.ddcmp_run.specs.declared.event.Event.{Event}
-use Rattle.ddcmp_run.specs.declared.event.Event.TheVariants as event
-use Rattle.ddcmp_run.specs.declared.event.Reply.{Reply}
+use Rattle.ddcmp_pair.specs.declared.event.End.{End}
+use Rattle.ddcmp_pair.specs.declared.event.End.TheVariants.{A, B}
+use Rattle.ddcmp_pair.specs.declared.event.Event.{Event}
+use Rattle.ddcmp_pair.specs.declared.event.Event.TheVariants as event
+use Rattle.ddcmp_pair.specs.declared.event.Reply.{Reply}
 use Rattle.ddcmp_line.specs.declared.performer.Stop.{Stop}
 use Rattle.ddcmp_line.specs.declared.performer.Stop.TheVariants.{Memory}
-use Rattle.ddcmp_run.specs.Run.{PairState, at, end_of, reply_to, after_event, asks_memory, run}
-use Rattle.ddcmp_run.specs.Settle.{other, WantsMemory}
+use Rattle.ddcmp_pair.specs.Run.{PairState, at, end_of, reply_to, after_event, asks_memory, run}
+use Rattle.ddcmp_pair.specs.Settle.{other, WantsMemory}
 use Rattle.ddcmp_line.specs.ScriptText.{end_name, name_before, reply_text, counted_line}
 use Rattle.ddcmp_line.specs.ScriptText.{station_line}
-use Rattle.ddcmp_run.specs.Carriages.{Carriage, HasCarried}
+use Rattle.ddcmp_pair.specs.Carriages.{Carriage, HasCarried}
 use Rattle.ddcmp_line.specs.Script.{Carries, Between, Scene, Effect, AreDirect, AreWithin}
 use Rattle.ddcmp_line.specs.Script.{frames_of, with_frames, taken_off, part_of, frames_after}
 use Rattle.ddcmp_line.specs.Script.{lines_after, outcome_of_event, outcome_of_carry}
@@ -32,7 +32,7 @@ use Rattle.ddcmp_line.specs.Script.{outcome_of_lose, outcome_of_damage, outcome_
 use Rattle.ddcmp_line.specs.Script.{outcome_of_recover, outcome_of, arrival_text, after_outcome}
 use Rattle.ddcmp_line.specs.Script.{carriages_from, carriages_of}
 use Rattle.ddcmp_line.specs.Inside.ScriptSteps.{scene_of, Comes, stopped_of, LineEnds}
-use Rattle.ddcmp_run.proofs.Runs.{run-one, run-none}
+use Rattle.ddcmp_pair.proofs.Runs.{run-one, run-none}
 use Rattle.ddcmp_io.proofs.TextLaws.{sends-as, sends-nothing}
 
 -- an event has come

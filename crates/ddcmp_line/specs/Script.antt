@@ -2,14 +2,14 @@
 use Rattle.std.specs.Prelude.{◌≡◌, ◌≢◌, ◌≤◌, ℕ, Bool, true, false, if◌then◌else◌, nat_lt, ◌==◌}
 use Rattle.std.specs.Prelude.{List, [], ◌∷◌, ◌++◌, length, take, drop, map, slice_set}
 use Rattle.std.specs.Prelude.{slice_index_or, bit_xor, codes, Option, Some, None, ⊤}
-use Rattle.ddcmp_run.specs.Carriages.{Carriage}
+use Rattle.ddcmp_pair.specs.Carriages.{Carriage}
 use Rattle.ddcmp_io.specs.Device.{Logs}
-use Rattle.ddcmp_run.specs.declared.event.End.{End}
-use Rattle.ddcmp_run.specs.declared.event.End.TheVariants.{A, B}
-use Rattle.ddcmp_run.specs.declared.event.Event.{Event}
-use Rattle.ddcmp_run.specs.declared.event.Event.TheVariants as event
-use Rattle.ddcmp_run.specs.declared.event.Reply.{Reply}
-use Rattle.ddcmp_run.specs.declared.event.Reply.TheVariants as reply
+use Rattle.ddcmp_pair.specs.declared.event.End.{End}
+use Rattle.ddcmp_pair.specs.declared.event.End.TheVariants.{A, B}
+use Rattle.ddcmp_pair.specs.declared.event.Event.{Event}
+use Rattle.ddcmp_pair.specs.declared.event.Event.TheVariants as event
+use Rattle.ddcmp_pair.specs.declared.event.Reply.{Reply}
+use Rattle.ddcmp_pair.specs.declared.event.Reply.TheVariants as reply
 use Rattle.ddcmp_line.specs.declared.command.ScriptCommand.{ScriptCommand}
 use Rattle.ddcmp_line.specs.declared.command.ScriptCommand.TheVariants.{Happens, Carry, Lose}
 use Rattle.ddcmp_line.specs.declared.command.ScriptCommand.TheVariants.{Damage, Raw, Settle}
@@ -17,9 +17,9 @@ use Rattle.ddcmp_line.specs.declared.command.ScriptCommand.TheVariants.{Recover,
 use Rattle.ddcmp_line.specs.declared.command.ParsedLine.{ParsedLine}
 use Rattle.ddcmp_line.specs.declared.command.ParsedLine.TheVariants.{Skipped, Asks}
 use Rattle.ddcmp_line.specs.declared.command.ParsedLine.TheVariants.{NoCommand, NotHex}
-use Rattle.ddcmp_run.specs.Run.{PairState, at, reply_to, end_of, run}
-use Rattle.ddcmp_run.specs.Settle.{other, settling}
-use Rattle.ddcmp_run.specs.Recovery.{recovering, recovered, is_done}
+use Rattle.ddcmp_pair.specs.Run.{PairState, at, reply_to, end_of, run}
+use Rattle.ddcmp_pair.specs.Settle.{other, settling}
+use Rattle.ddcmp_pair.specs.Recovery.{recovering, recovered, is_done}
 use Rattle.ddcmp_line.specs.ScriptWords.{reading_of}
 use Rattle.ddcmp_line.specs.ScriptText.{end_name, name_before, counted_line, reply_text}
 use Rattle.ddcmp_line.specs.ScriptText.{settled_text, recovered_text, damage_text}

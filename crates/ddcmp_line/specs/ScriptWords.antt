@@ -5,9 +5,9 @@ use Rattle.std.specs.Prelude.{Option, Some, None, Result, Ok, Err}
 use Rattle.std.specs.List.{slice_split}
 use Rattle.hex.specs.Hex.{decode_of, decode_sized}
 use Rattle.hex.specs.declared.error.FromHexError.{FromHexError}
-use Rattle.ddcmp_run.specs.declared.event.End.{End}
-use Rattle.ddcmp_run.specs.declared.event.End.TheVariants.{A, B}
-use Rattle.ddcmp_run.specs.declared.event.Event.TheVariants as event
+use Rattle.ddcmp_pair.specs.declared.event.End.{End}
+use Rattle.ddcmp_pair.specs.declared.event.End.TheVariants.{A, B}
+use Rattle.ddcmp_pair.specs.declared.event.Event.TheVariants as event
 use Rattle.ddcmp_line.specs.declared.command.ScriptCommand.{ScriptCommand}
 use Rattle.ddcmp_line.specs.declared.command.ScriptCommand.TheVariants.{Happens, Carry, Lose}
 use Rattle.ddcmp_line.specs.declared.command.ScriptCommand.TheVariants.{Damage, Raw, Settle}
@@ -15,7 +15,7 @@ use Rattle.ddcmp_line.specs.declared.command.ScriptCommand.TheVariants.{Recover,
 use Rattle.ddcmp_line.specs.declared.command.ParsedLine.{ParsedLine}
 use Rattle.ddcmp_line.specs.declared.command.ParsedLine.TheVariants.{Skipped, Asks}
 use Rattle.ddcmp_line.specs.declared.command.ParsedLine.TheVariants.{NoCommand, NotHex}
-use Rattle.ddcmp_run.specs.Place.{same_bytes}
+use Rattle.ddcmp_pair.specs.Place.{same_bytes}
 
 -- ---- words
 

@@ -2,7 +2,7 @@
 ghost use Rattle.std.specs.Prelude.{◌≡◌, ◌∷◌, ◌*◌, ◌<◌, ◌==◌, [], take, Some, None, is_some, IfOk};
 ghost use Rattle.std.specs.Option.{option_map_or};
 ghost use Rattle.std.specs.List.{slice_split};
-ghost use Rattle.ddcmp_run.specs.Place.{same_bytes};
+ghost use Rattle.ddcmp_pair.specs.Place.{same_bytes};
 ghost use Rattle.ddcmp_line.specs.ScriptWords.{is_digit as is_digit_byte};
 ghost use Rattle.ddcmp_line.specs.ScriptWords.{end_named as end_of_word};
 ghost use Rattle.ddcmp_line.specs.ScriptWords.{number_in as number_of_word};
@@ -13,8 +13,8 @@ ghost use Rattle.ddcmp_line.specs.ScriptWords.{asked_with, asked_damage, asked_b
 ghost use Rattle.ddcmp_line.specs.ScriptWords.{words as words_of, reading_of};
 ghost use Rattle.ddcmp_line.specs.ScriptWords.{without_cr as without_cr_of};
 
+use ddcmp_pair::{Bytes, End, Event};
 use ddcmp_proto::Memory;
-use ddcmp_run::{Bytes, End, Event};
 use hex::FromHexError;
 use std::alloc::Global;
 

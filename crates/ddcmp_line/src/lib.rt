@@ -21,11 +21,10 @@ mod view;
 pub use ddcmp_io::{input, text};
 pub use ddcmp_net::Sockets;
 pub use ddcmp_pair::{
-    Bytes, Config, ConfigRefusal, End, Event, Memory, Notice, Notices, Pair, PairRefusal,
-    Recovered, Reply, RunRefusal, SendRefusal, Seq, Settled, StartRefusal, State, Station, laws,
-    run,
+    Bytes, Carrier, Config, ConfigRefusal, Direct, End, Event, LineFault, Memory, Notice, Notices,
+    Pair, PairRefusal, Recovered, Reply, RunRefusal, SendRefusal, Seq, Settled, StartRefusal,
+    State, Station, laws, run,
 };
-pub use ddcmp_run::{Carrier, Direct, LineFault};
 pub use ddcmp_station::{state_name, write_notice};
 pub use player::{script, script_viewed, script_with};
 pub use script_fault::ScriptFault;

@@ -3,9 +3,9 @@ ghost use Rattle.std.specs.Prelude.{◌≡◌, ◌<◌, [], false, length, Some,
 ghost use Rattle.std.specs.Prelude.{IsTrue};
 ghost use Rattle.std.specs.VecDeque.{deque_capacity, deque_len};
 ghost use Rattle.ddcmp_io.specs.Written.{HandsOver, output_of};
-ghost use Rattle.ddcmp_run.specs.Run.{PairState, at, end_of, after_event, reply_to, asks_memory};
-ghost use Rattle.ddcmp_run.specs.Settle.{other, settling, WantsMemory};
-ghost use Rattle.ddcmp_run.specs.Recovery.{recovering};
+ghost use Rattle.ddcmp_pair.specs.Run.{PairState, at, end_of, after_event, reply_to, asks_memory};
+ghost use Rattle.ddcmp_pair.specs.Settle.{other, settling, WantsMemory};
+ghost use Rattle.ddcmp_pair.specs.Recovery.{recovering};
 ghost use Rattle.ddcmp_line.specs.ScriptWords.{reading_of};
 ghost use Rattle.ddcmp_line.specs.ScriptText.{end_name, name_before, reply_text};
 ghost use Rattle.ddcmp_line.specs.Script.{nothing_between, frames_after, frames_of, part_of};
@@ -13,7 +13,7 @@ ghost use Rattle.ddcmp_line.specs.Script.{outcome_of_event, outcome_of_lose, out
 ghost use Rattle.ddcmp_line.specs.Script.{outcome_of_settle, outcome_of_recover, arrival_text};
 ghost use Rattle.ddcmp_line.specs.Inside.ScriptSteps.{scene_of, stopped_of, Comes, LineEnds};
 ghost use Rattle.ddcmp_line.specs.Inside.ScriptSteps.{TellsDevices};
-ghost use Rattle.ddcmp_run.specs.declared.event.Event.TheVariants as event_value;
+ghost use Rattle.ddcmp_pair.specs.declared.event.Event.TheVariants as event_value;
 
 use crate::command::{ParsedLine, ScriptCommand, read_line};
 use crate::frame_lines::{FrameLeft, FrameLines};
@@ -23,8 +23,7 @@ use crate::reply_text::{
 };
 use crate::view::View;
 use ddcmp_io::{Page, Sink, WriteFailed};
-use ddcmp_pair::{Bytes, End, Event, Pair, Reply};
-use ddcmp_run::Carrier;
+use ddcmp_pair::{Bytes, Carrier, End, Event, Pair, Reply};
 use ddcmp_station::Memory;
 use std::alloc::Global;
 use std::collections::VecDeque;

@@ -3,9 +3,9 @@ ghost use Rattle.std.specs.Prelude.{◌≡◌, ◌≢◌, ◌⊎◌, ◌↔◌, 
 ghost use Rattle.std.specs.Prelude.{Bool, List, ℕ, Option, Some, None, Err, OnErr, IsTrue, length};
 ghost use Rattle.std.specs.Io.KnownBytes.{Appends, Consumes};
 ghost use Rattle.ddcmp_io.specs.Written.{AppendsPart, Output, output_of};
-ghost use Rattle.ddcmp_run.specs.Run.{PairState};
+ghost use Rattle.ddcmp_pair.specs.Run.{PairState};
 ghost use Rattle.ddcmp_io.specs.Change.{sink_change, source_change};
-ghost use Rattle.ddcmp_run.specs.Carriages.{Carriage};
+ghost use Rattle.ddcmp_pair.specs.Carriages.{Carriage};
 ghost use Rattle.ddcmp_line.specs.Script.{nothing_between};
 ghost use Rattle.ddcmp_line.specs.ScriptEnds.{Around, around, IsPlayed, PausedBefore, Plays};
 ghost use Rattle.ddcmp_line.specs.Inside.ScriptProgress.{HasDone, IsPlaying, PlaysOut, Stops};
@@ -20,8 +20,7 @@ use crate::script_fault::ScriptFault;
 use crate::view::View;
 use ddcmp_io::input::read_within;
 use ddcmp_io::{Got, Page, Sink, Source, Worst};
-use ddcmp_pair::{Pair, Unwatched};
-use ddcmp_run::Carrier;
+use ddcmp_pair::{Carrier, Pair, Unwatched};
 use std::alloc::Global;
 
 /// How many bytes of a script are read at once.

@@ -13,8 +13,8 @@ ghost use Rattle.ddcmp_line.specs.ScriptText.{damage_text};
 
 use ddcmp_io::text::{write_hex, write_number};
 use ddcmp_io::{Page, Sink};
+use ddcmp_pair::{End, Reply};
 use ddcmp_proto::{Notice, SendRefusal, StartRefusal, Station};
-use ddcmp_run::{End, Reply};
 use ddcmp_station::{state_name, write_notice};
 
 /// Who replies, before the words of the reply.

@@ -6,8 +6,8 @@ use Rattle.ddcmp_core.specs.declared.state.State.{State}
 use Rattle.ddcmp_core.specs.declared.state.State.TheVariants.{Halted, IStart, AStart, Running}
 use Rattle.ddcmp_core.specs.declared.state.State.TheVariants.{Maintenance}
 use Rattle.ddcmp_core.specs.Table.{is_running}
-use Rattle.ddcmp_run.specs.Run.{EndState, PairState, handed_up}
-use Rattle.ddcmp_run.specs.Recovery.{IsDelivered, IsDone, is_delivered, is_done}
+use Rattle.ddcmp_pair.specs.Run.{EndState, PairState, handed_up}
+use Rattle.ddcmp_pair.specs.Recovery.{IsDelivered, IsDone, is_delivered, is_done}
 
 running : (s : State) → Decides (is_running s) (s ≡ Running)
 running Running = (λ _. refl, λ _. refl)

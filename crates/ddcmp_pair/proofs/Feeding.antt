@@ -22,7 +22,7 @@ use Rattle.ddcmp_proto.specs.Bytes.{notices_of_items, items_added, after_piece, 
 use Rattle.ddcmp_proto.proofs.FeedLaws.{after_piece-append, notices_of_piece-append}
 use Rattle.ddcmp_proto.proofs.FeedLaws.{after_piece-none, notices_of_piece-none}
 use Rattle.ddcmp_pair.specs.declared.side.receiver.Heard.{Heard}
-use Rattle.ddcmp_run.specs.Run.{acknowledged_in, restarts_by, restarts_in}
+use Rattle.ddcmp_pair.specs.Run.{acknowledged_in, restarts_by, restarts_in}
 
 -- what is to be done from `at` on is what was to be done from `from` on
 pub record LeftToFeed (arrived : List ℕ) (from : ℕ) (k0 : CoreView) (h0 : Heard) (at : ℕ)

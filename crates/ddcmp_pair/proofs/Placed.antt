@@ -10,11 +10,11 @@ use Rattle.ddcmp_frame.specs.Reader.{items_given}
 use Rattle.ddcmp_frame.specs.Reading.{ReadItem, items, good_frames, good_frames_in}
 use Rattle.ddcmp_frame.proofs.ReadingLaws.{items-nothing}
 use Rattle.ddcmp_frame.proofs.Tests.{some-inj}
-use Rattle.ddcmp_run.specs.declared.event.Event.{Event}
-use Rattle.ddcmp_run.specs.declared.event.Event.TheVariants as event
-use Rattle.ddcmp_run.specs.Run.{EndState, after_event_here}
-use Rattle.ddcmp_run.specs.Place.{WholeFrame, place_of, place_from, place_next}
-use Rattle.ddcmp_run.proofs.Places.{place_from-last, place-stays, good_frames_in-append}
+use Rattle.ddcmp_pair.specs.declared.event.Event.{Event}
+use Rattle.ddcmp_pair.specs.declared.event.Event.TheVariants as event
+use Rattle.ddcmp_pair.specs.Run.{EndState, after_event_here}
+use Rattle.ddcmp_pair.specs.Place.{WholeFrame, place_of, place_from, place_next}
+use Rattle.ddcmp_pair.proofs.Places.{place_from-last, place-stays, good_frames_in-append}
 use Rattle.ddcmp_pair.specs.Inside.Sides.{SideView, IsPlaced}
 
 -- ---- following what arrives

@@ -3,18 +3,18 @@ use Rattle.std.proofs.Common.{◌≡◌, ℕ, suc, ◌+◌, ◌-◌, ◌<◌, tr
 use Rattle.std.proofs.Common.{sym, ◌∙◌, ap, subst, arith, append_assoc, append-nil}
 use Rattle.std.specs.Prelude.{Option, Some, None}
 use Rattle.ddcmp_io.specs.Device.{Logs}
-use Rattle.ddcmp_run.specs.declared.event.End.{End}
-use Rattle.ddcmp_run.specs.declared.event.End.TheVariants.{A, B}
-use Rattle.ddcmp_run.specs.declared.event.Event.{Event}
-use Rattle.ddcmp_run.specs.declared.event.Event.TheVariants as event
-use Rattle.ddcmp_run.specs.declared.event.Reply.{Reply}
-use Rattle.ddcmp_run.specs.Run.{PairState, after_event, reply_to, run}
-use Rattle.ddcmp_run.specs.Settle.{counted, carried, exchange, either_writes, exchanges_within}
-use Rattle.ddcmp_run.specs.Settle.{mail_events, all_mail, most_exchanges, settling, settled, other}
-use Rattle.ddcmp_run.specs.Recovery.{both_expire, rounding, rounded, recovering}
-use Rattle.ddcmp_run.proofs.Runs.{run-append, run-one}
-use Rattle.ddcmp_run.proofs.Settles.{exchanged, quieted}
-use Rattle.ddcmp_run.proofs.Recoveries.{rounding-events}
+use Rattle.ddcmp_pair.specs.declared.event.End.{End}
+use Rattle.ddcmp_pair.specs.declared.event.End.TheVariants.{A, B}
+use Rattle.ddcmp_pair.specs.declared.event.Event.{Event}
+use Rattle.ddcmp_pair.specs.declared.event.Event.TheVariants as event
+use Rattle.ddcmp_pair.specs.declared.event.Reply.{Reply}
+use Rattle.ddcmp_pair.specs.Run.{PairState, after_event, reply_to, run}
+use Rattle.ddcmp_pair.specs.Settle.{counted, carried, exchange, either_writes, exchanges_within}
+use Rattle.ddcmp_pair.specs.Settle.{mail_events, all_mail, most_exchanges, settling, settled, other}
+use Rattle.ddcmp_pair.specs.Recovery.{both_expire, rounding, rounded, recovering}
+use Rattle.ddcmp_pair.proofs.Runs.{run-append, run-one}
+use Rattle.ddcmp_pair.proofs.Settles.{exchanged, quieted}
+use Rattle.ddcmp_pair.proofs.Recoveries.{rounding-events}
 use Rattle.ddcmp_pair.specs.Steps.{Step, steps_of}
 
 logs-none : (a : Option (List Step)) → Logs a a []

@@ -1,2 +1,10 @@
+pub mod Carriages
+pub mod InOrder
 pub mod Inside
+pub mod Link
+pub mod Place
+pub mod Prefix
+pub mod Recovery
+pub mod Run
+pub mod Settle
 pub mod Steps

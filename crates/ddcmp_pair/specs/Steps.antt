@@ -1,9 +1,9 @@
 -- The steps of a run: its events, each with what is replied to it.
 use Rattle.std.specs.Prelude.{List, [], ◌∷◌, Option}
 use Rattle.ddcmp_io.specs.Device.{Logs}
-use Rattle.ddcmp_run.specs.declared.event.Event.{Event}
-use Rattle.ddcmp_run.specs.declared.event.Reply.{Reply}
-use Rattle.ddcmp_run.specs.Run.{PairState, after_event, reply_to}
+use Rattle.ddcmp_pair.specs.declared.event.Event.{Event}
+use Rattle.ddcmp_pair.specs.declared.event.Reply.{Reply}
+use Rattle.ddcmp_pair.specs.Run.{PairState, after_event, reply_to}
 
 pub record Step : Type 0 where
   pub event : Event

@@ -1,8 +1,8 @@
 //! Both ends of a line, step by step. Here each call equals the definition of a run; what holds
 //! over all honest and clean runs is the matter of `Pair`.
 use crate::side::Side;
+use crate::{End, Event, Reply};
 use ddcmp_proto::{Memory, StartRefusal, State};
-use ddcmp_run::{End, Event, Reply};
 use std::marker::Model;
 
 /// Both ends.
@@ -20,7 +20,7 @@ impl Drop for Ends {
 
 impl Model for Ends {
     ghost use Rattle.std.specs.Prelude.{◌&&◌, is_some};
-    ghost use Rattle.ddcmp_run.specs.Run.{PairState};
+    ghost use Rattle.ddcmp_pair.specs.Run.{PairState};
     ghost use Rattle.ddcmp_pair.specs.Inside.Sides.{IsPlaced};
 
     ghost Value = { PairState };
@@ -36,12 +36,12 @@ impl Model for Ends {
 
 impl Ends {
     ghost use Rattle.std.specs.Prelude.{◌≡◌, Some, IsOk, IfOk, OnErr, false};
-    ghost use Rattle.ddcmp_run.specs.Run.{after_event, after_event_at, reply_to, reply_at};
-    ghost use Rattle.ddcmp_run.specs.Run.{asks_memory, asks_at, clear_refusal as clear_refusal_of};
-    ghost use Rattle.ddcmp_run.specs.Run.{after_clear_by, reply_to_clear, at, is_clean};
+    ghost use Rattle.ddcmp_pair.specs.Run.{after_event, after_event_at, reply_to, reply_at};
+    ghost use Rattle.ddcmp_pair.specs.Run.{asks_memory, asks_at, clear_refusal as clear_refusal_of};
+    ghost use Rattle.ddcmp_pair.specs.Run.{after_clear_by, reply_to_clear, at, is_clean};
 
     /// Does an event and returns its reply.
-    #[tactic(auto, unfolding(ddcmp_run::specs::Run::after_event, ddcmp_run::specs::Run::reply_to, ddcmp_run::specs::Run::asks_memory))]
+    #[tactic(auto, unfolding(ddcmp_pair::specs::Run::after_event, ddcmp_pair::specs::Run::reply_to, ddcmp_pair::specs::Run::asks_memory))]
     pub(crate) fn apply(&mut self, event: &Event) -> Result<Reply, Memory>
         ensures state { IsOk result → self.new ≡ after_event event.now self.old }
         ensures reply { IfOk result (λ reply. reply ≡ reply_to event.now self.old) }

@@ -1,7 +1,7 @@
 //! Frames that are kept: their headers, and their data one after another.
 ghost use Rattle.std.specs.Prelude.{◌≡◌, ◌↔◌, ◌<◌, ◌≤◌, ◌++◌, ◌∷◌, [], IsOk, IsTrue, get_or};
 ghost use Rattle.std.specs.Prelude.{length};
-ghost use Rattle.ddcmp_run.specs.Place.{WholeFrame};
+ghost use Rattle.ddcmp_pair.specs.Place.{WholeFrame};
 
 use crate::messages::Messages;
 use ddcmp_frame::Header;

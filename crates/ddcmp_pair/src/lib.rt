@@ -1,8 +1,14 @@
-//! Two stations on a line: events happen between them, and their messages are in order.
+//! Two stations on a line: what happens to them, event by event, and what is promised of that for
+//! every run; the carriers that bring the bytes of frames from one end to the other; and two ends
+//! between which events happen.
 #![tactic(auto)]
 
+mod bytes;
+mod carrier;
 mod ends;
+mod event;
 mod frames;
+pub mod laws;
 mod messages;
 mod pair;
 mod recovery;
@@ -11,10 +17,13 @@ mod settlement;
 mod side;
 mod watch;
 
+pub use bytes::{Bytes, Notices};
+pub use carrier::{Carrier, Direct};
+pub use ddcmp_io::LineFault;
 pub use ddcmp_proto::{
     Config, ConfigRefusal, Memory, Notice, SendRefusal, Seq, StartRefusal, State, Station,
 };
-pub use ddcmp_run::{Bytes, End, Event, Notices, Reply, laws};
+pub use event::{End, Event, Reply};
 pub use pair::{Pair, PairRefusal};
 pub use recovery::Recovered;
 pub use runner::{RunRefusal, run};

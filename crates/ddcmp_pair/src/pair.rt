@@ -2,8 +2,8 @@
 use crate::ends::Ends;
 use crate::side::Side;
 use crate::watch::Watch;
+use crate::{End, Event, Reply};
 use ddcmp_proto::{Config, ConfigRefusal, Memory, Station};
-use ddcmp_run::{End, Event, Reply};
 use std::alloc::Global;
 use std::marker::Model;
 
@@ -29,8 +29,8 @@ impl Drop for Pair {
 }
 
 impl Model for Pair {
-    ghost use Rattle.ddcmp_run.specs.Run.{PairState};
-    ghost use Rattle.ddcmp_run.specs.InOrder.{IsRun};
+    ghost use Rattle.ddcmp_pair.specs.Run.{PairState};
+    ghost use Rattle.ddcmp_pair.specs.InOrder.{IsRun};
 
     ghost Value = { PairState };
 
@@ -46,10 +46,10 @@ impl Pair {
     ghost use Rattle.ddcmp_frame.specs.Reader.{StandsFor};
     ghost use Rattle.ddcmp_core.specs.Store.{with_front};
     ghost use Rattle.ddcmp_proto.specs.Config.{first_refusal, config_of};
-    ghost use Rattle.ddcmp_run.specs.declared.event.End.{End as EndValue};
-    ghost use Rattle.ddcmp_run.specs.Run.{new_pair, after_event, reply_to, asks_memory, at};
-    ghost use Rattle.ddcmp_run.specs.Run.{handed_up, is_clean};
-    ghost use Rattle.ddcmp_run.specs.InOrder.{IsRun, IsInOrder, NoRestart};
+    ghost use Rattle.ddcmp_pair.specs.declared.event.End.{End as EndValue};
+    ghost use Rattle.ddcmp_pair.specs.Run.{new_pair, after_event, reply_to, asks_memory, at};
+    ghost use Rattle.ddcmp_pair.specs.Run.{handed_up, is_clean};
+    ghost use Rattle.ddcmp_pair.specs.InOrder.{IsRun, IsInOrder, NoRestart};
     ghost use Rattle.ddcmp_pair.specs.Steps.{Reports};
 
     /// Two stations begun over an empty line.

@@ -5,9 +5,9 @@ ghost use Rattle.std.specs.Prelude.{◌≡◌, ◌↔◌, IsTrue};
 use crate::pair::Pair;
 use crate::settlement::Settled;
 use crate::watch::{Unwatched, Watch};
+use crate::{End, Event};
 use ddcmp_core::MAX_COUNT;
 use ddcmp_proto::{Memory, State};
-use ddcmp_run::{End, Event};
 
 /// Returns whether two messages have the same bytes.
 fn is_same(message: &[u8], other: &[u8]) -> bool
@@ -44,12 +44,12 @@ impl Recovered {
 impl Pair {
     ghost use Rattle.std.specs.Prelude.{◌≡◌, ◌+◌, ◌*◌, ◌≤◌, true, IsOk, IfOk, OnErr};
     ghost use Rattle.std.specs.List.{All};
-    ghost use Rattle.ddcmp_run.specs.declared.event.End.{End as EndValue};
-    ghost use Rattle.ddcmp_run.specs.Run.{at};
-    ghost use Rattle.ddcmp_run.specs.InOrder.{IsInOrder};
-    ghost use Rattle.ddcmp_run.specs.Settle.{WantsMemory, most_exchanges};
-    ghost use Rattle.ddcmp_run.specs.Recovery.{rounding, rounded, recovering, recovered, is_ready};
-    ghost use Rattle.ddcmp_run.specs.Recovery.{larger_window, IsDone, IsRepaired};
+    ghost use Rattle.ddcmp_pair.specs.declared.event.End.{End as EndValue};
+    ghost use Rattle.ddcmp_pair.specs.Run.{at};
+    ghost use Rattle.ddcmp_pair.specs.InOrder.{IsInOrder};
+    ghost use Rattle.ddcmp_pair.specs.Settle.{WantsMemory, most_exchanges};
+    ghost use Rattle.ddcmp_pair.specs.Recovery.{rounding, rounded, recovering, recovered, is_ready};
+    ghost use Rattle.ddcmp_pair.specs.Recovery.{larger_window, IsDone, IsRepaired};
     ghost use Rattle.ddcmp_pair.specs.Steps.{Reports};
 
     /// Lets both timers expire, if they are on, and then settles.
@@ -150,10 +150,10 @@ impl Pair {
 
 impl Pair {
     ghost use Rattle.std.specs.Prelude.{◌≡◌, ◌↔◌, ◌≤◌, ◌<◌, [], length, slice_index_or, IsTrue};
-    ghost use Rattle.ddcmp_run.specs.Run.{at, handed_up};
-    ghost use Rattle.ddcmp_run.specs.Settle.{other};
-    ghost use Rattle.ddcmp_run.specs.Recovery.{is_ready, is_ready_here, is_done, IsDelivered};
-    ghost use Rattle.ddcmp_run.specs.Recovery.{IsDone};
+    ghost use Rattle.ddcmp_pair.specs.Run.{at, handed_up};
+    ghost use Rattle.ddcmp_pair.specs.Settle.{other};
+    ghost use Rattle.ddcmp_pair.specs.Recovery.{is_ready, is_ready_here, is_done, IsDelivered};
+    ghost use Rattle.ddcmp_pair.specs.Recovery.{IsDone};
 
     /// Returns whether an honest and clean run has led here, both ends have begun, no frame is
     /// unfinished, and both ends have one `max`: from here a recovery repairs the line.

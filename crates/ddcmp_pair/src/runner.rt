@@ -2,13 +2,13 @@
 ghost use Rattle.std.specs.Prelude.{◌≡◌, ◌⊎◌, ◌<◌, ℕ, length, take, true, Some, None, Err};
 ghost use Rattle.std.specs.Prelude.{slice_index_or, IsOk, IfOk};
 ghost use Rattle.ddcmp_proto.specs.Config.{first_refusal};
-ghost use Rattle.ddcmp_run.specs.declared.event.Event.TheVariants as event_value;
-ghost use Rattle.ddcmp_run.specs.Run.{PairState, new_pair, asks_memory, run as run_of};
-ghost use Rattle.ddcmp_run.specs.InOrder.{IsInOrder};
+ghost use Rattle.ddcmp_pair.specs.declared.event.Event.TheVariants as event_value;
+ghost use Rattle.ddcmp_pair.specs.Run.{PairState, new_pair, asks_memory, run as run_of};
+ghost use Rattle.ddcmp_pair.specs.InOrder.{IsInOrder};
 
+use crate::Event;
 use crate::pair::{Pair, PairRefusal};
 use ddcmp_proto::{Config, ConfigRefusal};
-use ddcmp_run::Event;
 use std::alloc::Global;
 
 /// Why a run wasn't done whole.

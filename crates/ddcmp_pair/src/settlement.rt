@@ -1,8 +1,8 @@
 //! Frames arrive whole, one after another, until neither end sends any more.
 use crate::pair::Pair;
 use crate::watch::{Unwatched, Watch};
+use crate::{End, Event, Reply};
 use ddcmp_proto::Memory;
-use ddcmp_run::{End, Event, Reply};
 
 /// How a settle ended.
 #[derive(Clone, Copy, Debug, PartialEq, Eq)]
@@ -15,11 +15,11 @@ pub struct Settled {
 
 impl Pair {
     ghost use Rattle.std.specs.Prelude.{◌≡◌, IsOk, IfOk, OnErr};
-    ghost use Rattle.ddcmp_run.specs.declared.event.End.{End as EndValue};
-    ghost use Rattle.ddcmp_run.specs.Run.{at, run};
-    ghost use Rattle.ddcmp_run.specs.InOrder.{IsInOrder};
-    ghost use Rattle.ddcmp_run.specs.Settle.{settling, settled, exchange, either_writes, crossing};
-    ghost use Rattle.ddcmp_run.specs.Settle.{writes, mail_events, WantsMemory};
+    ghost use Rattle.ddcmp_pair.specs.declared.event.End.{End as EndValue};
+    ghost use Rattle.ddcmp_pair.specs.Run.{at, run};
+    ghost use Rattle.ddcmp_pair.specs.InOrder.{IsInOrder};
+    ghost use Rattle.ddcmp_pair.specs.Settle.{settling, settled, exchange, either_writes, crossing};
+    ghost use Rattle.ddcmp_pair.specs.Settle.{writes, mail_events, WantsMemory};
     ghost use Rattle.ddcmp_pair.specs.Steps.{Reports};
 
     /// Takes all received messages, and then carries frames to and fro until neither end writes

@@ -4,9 +4,9 @@ mod sender;
 
 use crate::frames::Frames;
 use crate::messages::Messages;
+use crate::{Event, Reply};
 use ddcmp_frame::Reader;
 use ddcmp_proto::{Config, ConfigRefusal, Memory, Station};
-use ddcmp_run::{Event, Reply};
 use std::alloc::Global;
 use std::marker::Model;
 
@@ -73,9 +73,9 @@ impl Side {
     ghost use Rattle.ddcmp_frame.specs.Reader.{StandsFor};
     ghost use Rattle.ddcmp_core.specs.Store.{with_front};
     ghost use Rattle.ddcmp_core.specs.Table.{is_halted, answer_to_start};
-    ghost use Rattle.ddcmp_run.specs.Run.{new_end, after_start_here, after_event_here, started};
-    ghost use Rattle.ddcmp_run.specs.Run.{reply_here, is_honest_here, cleared, handed_up};
-    ghost use Rattle.ddcmp_run.specs.Run.{asks_here};
+    ghost use Rattle.ddcmp_pair.specs.Run.{new_end, after_start_here, after_event_here, started};
+    ghost use Rattle.ddcmp_pair.specs.Run.{reply_here, is_honest_here, cleared, handed_up};
+    ghost use Rattle.ddcmp_pair.specs.Run.{asks_here};
     ghost use Rattle.ddcmp_pair.specs.Inside.Sides.{IsPlaced};
 
     /// An end with nothing done.

@@ -1,6 +1,6 @@
 //! What watches a pair.
 use crate::pair::Pair;
-use ddcmp_run::{Event, Reply};
+use crate::{Event, Reply};
 
 /// Watches a pair: each event that was done is reported to it, in order.
 pub trait Watch {

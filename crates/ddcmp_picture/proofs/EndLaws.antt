@@ -4,8 +4,8 @@ use Rattle.std.proofs.Common.{subst, drop}
 use Rattle.std.proofs.Common.{length, map, append_assoc, Option, Some, None, arith}
 use Rattle.std.proofs.lemmas.List.{append-nil}
 use Rattle.ddcmp_io.specs.Device.{Logs}
-use Rattle.ddcmp_run.specs.declared.event.End.{End}
-use Rattle.ddcmp_run.specs.declared.event.End.TheVariants.{A, B}
+use Rattle.ddcmp_pair.specs.declared.event.End.{End}
+use Rattle.ddcmp_pair.specs.declared.event.End.TheVariants.{A, B}
 use Rattle.ddcmp_picture.proofs.NoteLaws.{logs_none, logs_then}
 use Rattle.ddcmp_picture.specs.Marks.{ends_by}
 use Rattle.ddcmp_picture.specs.Trips.{Trips, trips_of, with_trips, first_trip}

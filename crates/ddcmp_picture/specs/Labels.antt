@@ -8,8 +8,8 @@ use Rattle.ddcmp_explain.specs.Label.{frame_label}
 use Rattle.ddcmp_frame.specs.Spelling.{parsed}
 use Rattle.std.specs.Result.{result_ok}
 use Rattle.ddcmp_frame.specs.declared.header.Header.{Header}
-use Rattle.ddcmp_run.specs.declared.event.Reply.{Reply}
-use Rattle.ddcmp_run.specs.declared.event.Reply.TheVariants as reply
+use Rattle.ddcmp_pair.specs.declared.event.Reply.{Reply}
+use Rattle.ddcmp_pair.specs.declared.event.Reply.TheVariants as reply
 use Rattle.ddcmp_line.specs.ScriptText.{start_refusal_text, clear_refusal_text}
 use Rattle.ddcmp_line.specs.ScriptText.{send_refusal_text, expired_text}
 use Rattle.ddcmp_station.specs.StationText.{notice_word, notice_number, state_text}

@@ -9,14 +9,14 @@ use Rattle.ddcmp_core.specs.declared.notice.Notice.TheVariants as notice
 use Rattle.ddcmp_core.specs.declared.state.State.{State}
 use Rattle.ddcmp_core.specs.declared.state.State.TheVariants.{Halted, IStart, AStart, Running}
 use Rattle.ddcmp_core.specs.declared.state.State.TheVariants.{Maintenance}
-use Rattle.ddcmp_run.specs.Run.{PairState, at}
-use Rattle.ddcmp_run.specs.Settle.{other}
-use Rattle.ddcmp_run.specs.declared.event.End.{End}
-use Rattle.ddcmp_run.specs.declared.event.End.TheVariants.{A, B}
-use Rattle.ddcmp_run.specs.declared.event.Event.{Event}
-use Rattle.ddcmp_run.specs.declared.event.Event.TheVariants as event
-use Rattle.ddcmp_run.specs.declared.event.Reply.{Reply}
-use Rattle.ddcmp_run.specs.declared.event.Reply.TheVariants as reply
+use Rattle.ddcmp_pair.specs.Run.{PairState, at}
+use Rattle.ddcmp_pair.specs.Settle.{other}
+use Rattle.ddcmp_pair.specs.declared.event.End.{End}
+use Rattle.ddcmp_pair.specs.declared.event.End.TheVariants.{A, B}
+use Rattle.ddcmp_pair.specs.declared.event.Event.{Event}
+use Rattle.ddcmp_pair.specs.declared.event.Event.TheVariants as event
+use Rattle.ddcmp_pair.specs.declared.event.Reply.{Reply}
+use Rattle.ddcmp_pair.specs.declared.event.Reply.TheVariants as reply
 use Rattle.ddcmp_line.specs.ScriptText.{damage_text}
 use Rattle.ddcmp_line.specs.declared.command.ScriptCommand.{ScriptCommand}
 use Rattle.ddcmp_line.specs.declared.command.ScriptCommand.TheVariants.{Happens, Carry, Lose}

@@ -1,8 +1,8 @@
 -- Frames in flight.
 use Rattle.std.specs.Prelude.{ℕ, false, not, ◌||◌, ◌==◌, if◌then◌else◌, List, [], ◌∷◌}
 use Rattle.std.specs.Prelude.{codes, decimal, Option, Some, None}
-use Rattle.ddcmp_run.specs.declared.event.End.{End}
-use Rattle.ddcmp_run.specs.declared.event.End.TheVariants.{A, B}
+use Rattle.ddcmp_pair.specs.declared.event.End.{End}
+use Rattle.ddcmp_pair.specs.declared.event.End.TheVariants.{A, B}
 use Rattle.ddcmp_picture.specs.declared.mark.Fate.{Fate}
 use Rattle.ddcmp_picture.specs.declared.mark.Fate.TheVariants.{Arrived, Cut, Lost, OnItsWay}
 use Rattle.ddcmp_picture.specs.declared.mark.Trip.{Trip}

@@ -3,14 +3,13 @@ ghost use Rattle.std.specs.Prelude.{◌≡◌, ◌≢◌, ◌⊎◌, ◌↔◌, 
 ghost use Rattle.ddcmp_io.specs.Input.{GaveMost};
 ghost use Rattle.ddcmp_line.specs.ScriptEnds.{Around, around};
 ghost use Rattle.ddcmp_picture.specs.Drawn.{DrawsScript};
-ghost use Rattle.ddcmp_run.specs.InOrder.{IsInOrder};
+ghost use Rattle.ddcmp_pair.specs.InOrder.{IsInOrder};
 
 use crate::canvas::{Canvas, Picture};
 use crate::drawing::Drawing;
 use ddcmp_io::{Sink, Source, Worst};
 use ddcmp_line::{ScriptFault, script_viewed};
-use ddcmp_pair::Pair;
-use ddcmp_run::Carrier;
+use ddcmp_pair::{Carrier, Pair};
 use std::alloc::Global;
 
 /// Returns the result for a picture whose script ended so, unless it wasn't drawn whole or the

@@ -3,7 +3,7 @@
 
 use crate::same::is;
 use ddcmp_net::Sockets;
-use ddcmp_run::{Carrier, End, LineFault};
+use ddcmp_pair::{Carrier, End, LineFault};
 use std::cell::Cell;
 use std::io::{self, ErrorKind, Write};
 use std::net::{Net, OpenListener, SocketAddr, TcpListener, TcpStream};

@@ -1,8 +1,8 @@
 -- How far a script has been played.
 use Rattle.std.specs.Prelude.{◌≡◌, ℕ, ◌+◌, Bool, false, List, [], ◌++◌, length, Option, Some}
 use Rattle.std.specs.Prelude.{Result, Ok, Err}
-use Rattle.ddcmp_run.specs.Carriages.{Carriage}
-use Rattle.ddcmp_run.specs.Run.{PairState}
+use Rattle.ddcmp_pair.specs.Carriages.{Carriage}
+use Rattle.ddcmp_pair.specs.Run.{PairState}
 use Rattle.ddcmp_line.specs.declared.player.Player.{Player}
 use Rattle.ddcmp_io.specs.Written.{Known, Output, HandsOver}
 use Rattle.ddcmp_line.specs.declared.command.ParsedLine.TheVariants as reading

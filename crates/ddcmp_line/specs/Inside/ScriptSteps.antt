@@ -3,16 +3,16 @@ use Rattle.std.specs.Prelude.{◌≡◌, ◌⊎◌, ◌↔◌, ℕ, Bool, false,
 use Rattle.std.specs.Prelude.{Err}
 use Rattle.ddcmp_io.specs.Device.{Logs}
 use Rattle.ddcmp_io.specs.Written.{Output, HandsOver}
-use Rattle.ddcmp_run.specs.declared.event.End.{End}
+use Rattle.ddcmp_pair.specs.declared.event.End.{End}
 use Rattle.ddcmp_line.specs.declared.command.ScriptCommand.TheVariants.{Carry}
 use Rattle.ddcmp_line.specs.declared.command.ParsedLine.{ParsedLine}
 use Rattle.ddcmp_line.specs.declared.command.ParsedLine.TheVariants as reading
 use Rattle.ddcmp_line.specs.declared.performer.Stop.{Stop}
 use Rattle.ddcmp_line.specs.declared.performer.Stop.TheVariants.{NoCommand, NotHex, Write}
 use Rattle.ddcmp_line.specs.declared.performer.Stop.TheVariants.{Memory, Carrier}
-use Rattle.ddcmp_run.specs.Run.{PairState}
-use Rattle.ddcmp_run.specs.Settle.{WantsMemory}
-use Rattle.ddcmp_run.specs.Carriages.{Carriage}
+use Rattle.ddcmp_pair.specs.Run.{PairState}
+use Rattle.ddcmp_pair.specs.Settle.{WantsMemory}
+use Rattle.ddcmp_pair.specs.Carriages.{Carriage}
 use Rattle.ddcmp_line.specs.Script.{events_by, Between, Scene, Effect, Carries, after_outcome}
 use Rattle.ddcmp_line.specs.Script.{scene_after, text_of, carriages_by}
 

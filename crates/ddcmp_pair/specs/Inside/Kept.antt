@@ -1,6 +1,6 @@
 -- Messages and frames that are kept one after another in one piece of memory.
 use Rattle.std.specs.Prelude.{◌≡◌, ℕ, ◌-◌, ◌≤◌, List, [], ◌∷◌, drop, take}
-use Rattle.ddcmp_run.specs.Place.{WholeFrame}
+use Rattle.ddcmp_pair.specs.Place.{WholeFrame}
 
 -- bytes from a place on, cut where messages end
 unfoldable pub cut_from : ℕ → List ℕ → List ℕ → List (List ℕ)

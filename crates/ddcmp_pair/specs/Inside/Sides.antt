@@ -5,8 +5,8 @@ use Rattle.ddcmp_frame.specs.Reader.{ReaderView, StandsFor}
 use Rattle.ddcmp_frame.specs.Reading.{good_frames}
 use Rattle.ddcmp_core.specs.Table.{is_halted}
 use Rattle.ddcmp_proto.specs.Station.{StationView}
-use Rattle.ddcmp_run.specs.Place.{WholeFrame, place_of}
-use Rattle.ddcmp_run.specs.Run.{EndState}
+use Rattle.ddcmp_pair.specs.Place.{WholeFrame, place_of}
+use Rattle.ddcmp_pair.specs.Run.{EndState}
 
 -- An end, and the place of the good frames that arrived here among those that the other end sent:
 -- none, once an arrival here wasn't honest.

@@ -7,15 +7,15 @@ ghost use Rattle.ddcmp_frame.specs.Reading.{good_frames};
 ghost use Rattle.ddcmp_core.specs.Table.{is_halted, acknowledged_by};
 ghost use Rattle.ddcmp_core.specs.Counting.{count_plus};
 ghost use Rattle.ddcmp_proto.specs.Bytes.{after_piece, notices_of_piece};
-ghost use Rattle.ddcmp_run.specs.Place.{place_after as place_after_of, place_next, place_of};
-ghost use Rattle.ddcmp_run.specs.Run.{acknowledged_in, restarts_by, restarts_in};
+ghost use Rattle.ddcmp_pair.specs.Place.{place_after as place_after_of, place_next, place_of};
+ghost use Rattle.ddcmp_pair.specs.Run.{acknowledged_in, restarts_by, restarts_in};
 
 use crate::frames::Frames;
 use crate::side::Side;
+use crate::{Notices, Reply};
 use ddcmp_core::Notice;
 use ddcmp_frame::{Header, Item, Reader};
 use ddcmp_proto::{Memory, Station};
-use ddcmp_run::{Notices, Reply};
 
 /// What was reported, and what of it is counted.
 #[derive(Drop)]
@@ -145,7 +145,7 @@ fn follow(
 
 impl Side {
     ghost use Rattle.std.specs.Prelude.{◌≡◌, IsOk, IfOk, OnErr};
-    ghost use Rattle.ddcmp_run.specs.Run.{after_arrival_here, notices_at};
+    ghost use Rattle.ddcmp_pair.specs.Run.{after_arrival_here, notices_at};
     ghost use Rattle.ddcmp_pair.specs.Inside.Sides.{IsPlaced};
 
     /// Bytes arrive.

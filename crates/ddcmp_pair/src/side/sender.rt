@@ -8,15 +8,15 @@ ghost use Rattle.ddcmp_core.specs.Table.{next, next_frame};
 ghost use Rattle.ddcmp_core.specs.Frames.{header_of};
 ghost use Rattle.ddcmp_core.specs.Core.{IsSound};
 ghost use Rattle.ddcmp_proto.specs.Bytes.{frame_on_line, after_poll};
-ghost use Rattle.ddcmp_run.specs.Run.{whole_frame};
+ghost use Rattle.ddcmp_pair.specs.Run.{whole_frame};
 
 use crate::frames::Frames;
 use crate::messages::append;
 use crate::side::Side;
+use crate::{Bytes, Reply};
 use ddcmp_frame::Header;
 use ddcmp_frame::codes::HEADER_BYTES;
 use ddcmp_proto::{Memory, Station};
-use ddcmp_run::{Bytes, Reply};
 
 /// Returns the number of bytes of data that a header counts.
 fn data_length(header: &Header) -> usize
@@ -77,8 +77,8 @@ impl Side {
     ghost use Rattle.std.specs.Prelude.{false, nat_lt, is_some, IsOk, IfOk, OnErr};
     ghost use Rattle.ddcmp_core.specs.Store.{first_message};
     ghost use Rattle.ddcmp_core.specs.Table.{answer_to_send, may_send};
-    ghost use Rattle.ddcmp_run.specs.Run.{after_send_here, accepted, after_poll_here, wrote};
-    ghost use Rattle.ddcmp_run.specs.Run.{line_bytes, after_take_here, took};
+    ghost use Rattle.ddcmp_pair.specs.Run.{after_send_here, accepted, after_poll_here, wrote};
+    ghost use Rattle.ddcmp_pair.specs.Run.{line_bytes, after_take_here, took};
 
     /// The user sends a message.
     pub(super) fn send(&mut self, message: &[u8]) -> Result<Reply, Memory>

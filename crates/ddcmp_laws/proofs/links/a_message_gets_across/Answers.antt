@@ -8,7 +8,7 @@ use Rattle.ddcmp_frame.specs.Reading.{is_data_right, row, read, items, good_fram
 use Rattle.ddcmp_core.specs.Table.{on, notice_of, next}
 use Rattle.ddcmp_core.specs.Counting.{counters_on, counters_after_next}
 use Rattle.ddcmp_proto.specs.Bytes.{after_items, notices_of_items}
-use Rattle.ddcmp_run.specs.Place.{first_index, place_from}
+use Rattle.ddcmp_pair.specs.Place.{first_index, place_from}
 use Rattle.ddcmp_laws.specs.PairCalls.{run_calls}
 use Rattle.ddcmp_laws.specs.Links.{after_steps, link_starts}
 use Rattle.ddcmp_laws.specs.LinkLines.{calls_of_steps}

@@ -9,7 +9,7 @@ use Rattle.ddcmp_core.specs.Table.{on, notice_of, next}
 use Rattle.ddcmp_core.specs.Counting.{counters_on, counters_after_next}
 use Rattle.ddcmp_proto.specs.Bytes.{after_items, notices_of_items}
 use Rattle.ddcmp_station.specs.Linking.{after_frames}
-use Rattle.ddcmp_run.specs.Place.{first_index, place_from}
+use Rattle.ddcmp_pair.specs.Place.{first_index, place_from}
 use Rattle.ddcmp_laws.specs.LinkRestarts.{calls_of_links}
 use Rattle.ddcmp_laws.specs.StationRuns.{run_station_calls}
 use Rattle.ddcmp_input.specs.InBinary.{told_in}

@@ -1,9 +1,9 @@
 use Rattle.std.proofs.Common.{◌≡◌, List, None}
 use Rattle.ddcmp_proto.specs.Config.{first_refusal}
 use Rattle.ddcmp_proto.specs.declared.config.Config.{Config}
-use Rattle.ddcmp_run.specs.declared.event.Event.{Event}
-use Rattle.ddcmp_run.specs.InOrder.{IsRun}
-use Rattle.ddcmp_run.specs.Run.{PairState, new_pair, run}
+use Rattle.ddcmp_pair.specs.declared.event.Event.{Event}
+use Rattle.ddcmp_pair.specs.InOrder.{IsRun}
+use Rattle.ddcmp_pair.specs.Run.{PairState, new_pair, run}
 use Rattle.ddcmp_laws.proofs.Waiting.{sleeps-a, sleeps-b}
 use Rattle.ddcmp_laws.proofs.sleep.nobody_waits_for_nothing.Goals as goal
 

@@ -8,8 +8,8 @@ use Rattle.ddcmp_frame.specs.Reading.{is_data_right, row, read, items, good_fram
 use Rattle.ddcmp_core.specs.Table.{on, notice_of, next}
 use Rattle.ddcmp_core.specs.Counting.{counters_on, counters_after_next}
 use Rattle.ddcmp_proto.specs.Bytes.{after_items, notices_of_items}
-use Rattle.ddcmp_run.specs.Place.{first_index, place_from}
-use Rattle.ddcmp_run.specs.Run.{after_event, reply_to, run}
+use Rattle.ddcmp_pair.specs.Place.{first_index, place_from}
+use Rattle.ddcmp_pair.specs.Run.{after_event, reply_to, run}
 use Rattle.ddcmp_laws.specs.Story.{replies_to}
 use Rattle.ddcmp_laws.proofs.story.written_run_is_answered.Goals as goal
 

@@ -10,12 +10,12 @@ use Rattle.ddcmp_frame.specs.Reading.{is_data_right, row, read, items, good_fram
 use Rattle.ddcmp_core.specs.Table.{on, notice_of, next}
 use Rattle.ddcmp_core.specs.Counting.{counters_on, counters_after_next}
 use Rattle.ddcmp_proto.specs.Bytes.{after_items, notices_of_items}
-use Rattle.ddcmp_run.specs.declared.event.End.TheVariants.{A, B}
-use Rattle.ddcmp_run.specs.declared.event.Event.{Event}
-use Rattle.ddcmp_run.specs.declared.event.Event.TheVariants as event
-use Rattle.ddcmp_run.specs.Place.{first_index, place_from}
-use Rattle.ddcmp_run.specs.Recovery.{both_expire, larger_window}
-use Rattle.ddcmp_run.specs.Run.{run, after_event, new_pair}
+use Rattle.ddcmp_pair.specs.declared.event.End.TheVariants.{A, B}
+use Rattle.ddcmp_pair.specs.declared.event.Event.{Event}
+use Rattle.ddcmp_pair.specs.declared.event.Event.TheVariants as event
+use Rattle.ddcmp_pair.specs.Place.{first_index, place_from}
+use Rattle.ddcmp_pair.specs.Recovery.{both_expire, larger_window}
+use Rattle.ddcmp_pair.specs.Run.{run, after_event, new_pair}
 use Rattle.ddcmp_laws.specs.LossFree.{Line, IsLossFree, run_on_line, IsWhole, empty_line}
 use Rattle.ddcmp_laws.specs.Price.{price, added}
 use Rattle.ddcmp_laws.specs.Delivers.{IsAtRest, runs_out}
@@ -29,7 +29,7 @@ use Rattle.ddcmp_laws.proofs.FaithfulLaws.{sound_made}
 use Rattle.ddcmp_laws.specs.Story.{stack_bytes, ack_0_bytes, rep_1_bytes, nak_3_bytes}
 use Rattle.ddcmp_laws.specs.Story.{first_bytes, ack_1_bytes}
 use Rattle.ddcmp_proto.proofs.FeedLaws.{items_added-none}
-use Rattle.ddcmp_run.specs.Run.{EndState, PairState}
+use Rattle.ddcmp_pair.specs.Run.{EndState, PairState}
 use Rattle.ddcmp_laws.specs.LossFree.{ComesWhole}
 use Rattle.ddcmp_laws.proofs.Settling.{whole_again, nothing_comes}
 use Rattle.ddcmp_laws.proofs.SweepRounds.{run-pair}

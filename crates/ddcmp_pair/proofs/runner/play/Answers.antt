@@ -1,7 +1,7 @@
 use Rattle.std.proofs.Common.{◌∙◌, ap, sym, refl, arith}
-use Rattle.ddcmp_run.specs.declared.event.Event.{Event}
-use Rattle.ddcmp_run.specs.Run.{after_event}
-use Rattle.ddcmp_run.proofs.Runs.{run-next, run-none}
+use Rattle.ddcmp_pair.specs.declared.event.Event.{Event}
+use Rattle.ddcmp_pair.specs.Run.{after_event}
+use Rattle.ddcmp_pair.proofs.Runs.{run-next, run-none}
 use Rattle.ddcmp_pair.proofs.runner.play.Goals as goal
 
 pub loop-done-init : goal.loop-done-init

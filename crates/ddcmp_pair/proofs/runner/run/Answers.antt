@@ -3,9 +3,9 @@ use Rattle.std.proofs.Common.{rules, get_or, Option, Some, None, true, ◌⊎◌
 use Rattle.std.specs.Result.{IsOk}
 use Rattle.ddcmp_proto.specs.declared.config.ConfigRefusal.{ConfigRefusal}
 use Rattle.ddcmp_proto.specs.declared.config.ConfigRefusal.TheVariants as config
-use Rattle.ddcmp_run.specs.declared.event.Event.TheVariants as event_value
-use Rattle.ddcmp_run.specs.Run.{PairState, new_pair, run, asks_memory}
-use Rattle.ddcmp_run.specs.InOrder.{IsInOrder}
+use Rattle.ddcmp_pair.specs.declared.event.Event.TheVariants as event_value
+use Rattle.ddcmp_pair.specs.Run.{PairState, new_pair, run, asks_memory}
+use Rattle.ddcmp_pair.specs.InOrder.{IsInOrder}
 use Rattle.ddcmp_pair.specs.declared.runner.RunRefusal.{RunRefusal}
 use Rattle.ddcmp_pair.specs.declared.pair.PairRefusal.{PairRefusal}
 use Rattle.ddcmp_pair.specs.declared.pair.PairRefusal.TheVariants as pair_refusal

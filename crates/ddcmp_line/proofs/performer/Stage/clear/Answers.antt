@@ -1,5 +1,5 @@
 use Rattle.std.proofs.Common.{[], ap, refl, ◌∙◌}
-use Rattle.ddcmp_run.specs.declared.event.Event.TheVariants as event
+use Rattle.ddcmp_pair.specs.declared.event.Event.TheVariants as event
 use Rattle.ddcmp_line.specs.ScriptText.{reply_text}
 use Rattle.ddcmp_line.specs.Script.{cleared_by}
 use Rattle.ddcmp_line.proofs.Scenes.{comes-event}

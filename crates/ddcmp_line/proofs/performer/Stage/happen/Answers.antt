@@ -1,5 +1,5 @@
 use Rattle.std.proofs.Common.{sym, ◌∙◌}
-use Rattle.ddcmp_run.specs.Run.{reply_to}
+use Rattle.ddcmp_pair.specs.Run.{reply_to}
 use Rattle.ddcmp_line.proofs.Scenes.{comes-event, lines-stay}
 use Rattle.ddcmp_line.proofs.performer.Stage.happen.Goals as goal
 

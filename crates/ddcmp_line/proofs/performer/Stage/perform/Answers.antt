@@ -1,8 +1,8 @@
 use Rattle.std.proofs.Common.{Ok, [], ap, refl, ◌∙◌}
 use Rattle.std.specs.Prelude.{codes}
 use Rattle.ddcmp_core.specs.Core.{CoreView}
-use Rattle.ddcmp_run.specs.Settle.{settling}
-use Rattle.ddcmp_run.specs.Recovery.{recovering}
+use Rattle.ddcmp_pair.specs.Settle.{settling}
+use Rattle.ddcmp_pair.specs.Recovery.{recovering}
 use Rattle.ddcmp_line.specs.declared.command.ScriptCommand.TheVariants.{Happens, Lose}
 use Rattle.ddcmp_line.specs.declared.command.ScriptCommand.TheVariants.{Damage, Raw, Settle}
 use Rattle.ddcmp_line.specs.declared.command.ScriptCommand.TheVariants.{Recover, State}

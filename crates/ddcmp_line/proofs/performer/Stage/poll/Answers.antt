@@ -1,7 +1,7 @@
 use Rattle.std.proofs.Common.{ap, subst}
 use Rattle.ddcmp_io.specs.Written.{HandsOver, output_of}
-use Rattle.ddcmp_run.specs.declared.event.Event.TheVariants as event
-use Rattle.ddcmp_run.specs.Run.{reply_to}
+use Rattle.ddcmp_pair.specs.declared.event.Event.TheVariants as event
+use Rattle.ddcmp_pair.specs.Run.{reply_to}
 use Rattle.ddcmp_line.specs.declared.performer.Stage.{Stage}
 use Rattle.ddcmp_line.specs.ScriptText.{end_name, reply_text}
 use Rattle.ddcmp_line.proofs.Scenes.{poll-comes-a, poll-comes-b}

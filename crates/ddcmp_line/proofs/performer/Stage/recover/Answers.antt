@@ -1,6 +1,6 @@
 use Rattle.std.proofs.Common.{ap, sym, refl, ◌∙◌}
-use Rattle.ddcmp_run.specs.Recovery.{is_done}
-use Rattle.ddcmp_run.proofs.Recoveries.{recovering-state}
+use Rattle.ddcmp_pair.specs.Recovery.{is_done}
+use Rattle.ddcmp_pair.proofs.Recoveries.{recovering-state}
 use Rattle.ddcmp_line.specs.ScriptText.{recovered_text}
 use Rattle.ddcmp_io.proofs.TextLaws.{sends-as}
 use Rattle.ddcmp_line.proofs.performer.Stage.recover.Goals as goal

@@ -1,7 +1,7 @@
 use Rattle.std.proofs.Common.{◌∙◌, ap}
-use Rattle.ddcmp_run.specs.Run.{at, is_clean}
-use Rattle.ddcmp_run.proofs.Limits.{step-limits}
-use Rattle.ddcmp_run.proofs.Ordered.{stepped, stepped-quiet, run-in-order}
+use Rattle.ddcmp_pair.specs.Run.{at, is_clean}
+use Rattle.ddcmp_pair.proofs.Limits.{step-limits}
+use Rattle.ddcmp_pair.proofs.Ordered.{stepped, stepped-quiet, run-in-order}
 use Rattle.ddcmp_pair.proofs.pair.Pair.apply.Goals as goal
 
 pub returns-clause-limits : goal.returns-clause-limits

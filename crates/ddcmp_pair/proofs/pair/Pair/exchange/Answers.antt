@@ -1,8 +1,8 @@
 use Rattle.std.proofs.Common.{◌∙◌, ap, sym, subst, refl}
-use Rattle.ddcmp_run.specs.declared.event.End.TheVariants.{A, B}
-use Rattle.ddcmp_run.specs.Run.{run}
-use Rattle.ddcmp_run.specs.Settle.{crossing, WantsMemory}
-use Rattle.ddcmp_run.proofs.Runs.{on-err, run-append, wanted-later}
+use Rattle.ddcmp_pair.specs.declared.event.End.TheVariants.{A, B}
+use Rattle.ddcmp_pair.specs.Run.{run}
+use Rattle.ddcmp_pair.specs.Settle.{crossing, WantsMemory}
+use Rattle.ddcmp_pair.proofs.Runs.{on-err, run-append, wanted-later}
 use Rattle.ddcmp_pair.proofs.Watching.{saw-next}
 use Rattle.ddcmp_pair.proofs.pair.Pair.exchange.Goals as goal
 

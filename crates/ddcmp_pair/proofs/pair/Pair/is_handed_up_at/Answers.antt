@@ -1,6 +1,6 @@
 use Rattle.std.proofs.Common.{◌∙◌, ap, sym, [], take, slice_index_or}
 use Rattle.std.proofs.lemmas.List.{take_at}
-use Rattle.ddcmp_run.specs.Run.{at, handed_up}
+use Rattle.ddcmp_pair.specs.Run.{at, handed_up}
 use Rattle.ddcmp_pair.proofs.pair.Pair.is_handed_up_at.Goals as goal
 
 pub returns-clause-same : goal.returns-clause-same

@@ -1,6 +1,6 @@
 use Rattle.std.proofs.Common.{subst}
 use Rattle.ddcmp_core.specs.Core.{CoreView, IsSound}
-use Rattle.ddcmp_run.proofs.Ready.{run-repaired}
+use Rattle.ddcmp_pair.proofs.Ready.{run-repaired}
 use Rattle.ddcmp_pair.proofs.pair.Pair.is_repaired.Goals as goal
 
 pub returns : goal.returns

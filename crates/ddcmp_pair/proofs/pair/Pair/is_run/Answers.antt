@@ -1,6 +1,6 @@
 use Rattle.std.proofs.Common.{subst}
-use Rattle.ddcmp_run.specs.InOrder.{IsInOrder}
-use Rattle.ddcmp_run.proofs.Ordered.{run-in-order}
+use Rattle.ddcmp_pair.specs.InOrder.{IsInOrder}
+use Rattle.ddcmp_pair.proofs.Ordered.{run-in-order}
 use Rattle.ddcmp_pair.proofs.pair.Pair.is_run.Goals as goal
 
 pub returns-clause-order : goal.returns-clause-order

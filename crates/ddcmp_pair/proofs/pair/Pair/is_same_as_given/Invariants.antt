@@ -1,5 +1,5 @@
 use Rattle.std.proofs.Common.{◌≡◌, take}
-use Rattle.ddcmp_run.specs.Run.{at, handed_up}
+use Rattle.ddcmp_pair.specs.Run.{at, handed_up}
 use Rattle.ddcmp_pair.proofs.pair.Pair.is_same_as_given.Given as goal
 
 abbrev pub invariant-loop-i : goal.invariant-loop-i

@@ -1,7 +1,7 @@
 use Rattle.std.proofs.Common.{ap}
 use Rattle.std.specs.Prelude.{◌&&◌, is_some}
 use Rattle.ddcmp_proto.specs.Config.{first_refusal}
-use Rattle.ddcmp_run.proofs.Ordered.{made, run-new}
+use Rattle.ddcmp_pair.proofs.Ordered.{made, run-new}
 use Rattle.ddcmp_pair.proofs.Placed.{placed-nothing}
 use Rattle.ddcmp_pair.proofs.pair.Pair.new.Goals as goal
 

@@ -1,11 +1,11 @@
 use Rattle.std.specs.Prelude.{ℕ, ◌+◌, ◌*◌, ◌≤◌, List}
 use Rattle.std.specs.List.{All}
-use Rattle.ddcmp_run.specs.Settle.{most_exchanges}
-use Rattle.ddcmp_run.specs.Recovery.{larger_window, IsDone}
+use Rattle.ddcmp_pair.specs.Settle.{most_exchanges}
+use Rattle.ddcmp_pair.specs.Recovery.{larger_window, IsDone}
 use Rattle.std.proofs.Common.{subst, sym, ◌∙◌, refl}
-use Rattle.ddcmp_run.proofs.Runs.{on-err}
-use Rattle.ddcmp_run.proofs.Recoveries.{wanted-in-first, wanted-in-second, wanted-in-third}
-use Rattle.ddcmp_run.proofs.Recoveries.{recovered-is, recovering-exchanges, recovering-quiet}
+use Rattle.ddcmp_pair.proofs.Runs.{on-err}
+use Rattle.ddcmp_pair.proofs.Recoveries.{wanted-in-first, wanted-in-second, wanted-in-third}
+use Rattle.ddcmp_pair.proofs.Recoveries.{recovered-is, recovering-exchanges, recovering-quiet}
 use Rattle.ddcmp_pair.proofs.Watching.{saw-recovery}
 use Rattle.ddcmp_pair.proofs.pair.Pair.recover_watched.Goals as goal
 

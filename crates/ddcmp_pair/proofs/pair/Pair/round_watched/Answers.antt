@@ -1,11 +1,11 @@
 use Rattle.std.proofs.Common.{◌≡◌, ◌∙◌, ap, sym, subst, refl}
 use Rattle.std.specs.Prelude.{ℕ, Bool, IfOk}
-use Rattle.ddcmp_run.specs.Run.{PairState}
-use Rattle.ddcmp_run.specs.Settle.{settling, settled, WantsMemory}
-use Rattle.ddcmp_run.proofs.Runs.{on-err}
-use Rattle.ddcmp_run.proofs.Recoveries.{on-err-by, rounding-exchanges, rounding-quiet, rounded-is}
-use Rattle.ddcmp_run.proofs.Recoveries.{both-expired, wanted-at-first, wanted-between}
-use Rattle.ddcmp_run.proofs.Recoveries.{wanted-in-round}
+use Rattle.ddcmp_pair.specs.Run.{PairState}
+use Rattle.ddcmp_pair.specs.Settle.{settling, settled, WantsMemory}
+use Rattle.ddcmp_pair.proofs.Runs.{on-err}
+use Rattle.ddcmp_pair.proofs.Recoveries.{on-err-by, rounding-exchanges, rounding-quiet, rounded-is}
+use Rattle.ddcmp_pair.proofs.Recoveries.{both-expired, wanted-at-first, wanted-between}
+use Rattle.ddcmp_pair.proofs.Recoveries.{wanted-in-round}
 use Rattle.ddcmp_pair.proofs.Watching.{saw-round}
 use Rattle.ddcmp_pair.proofs.pair.Pair.round_watched.Goals as goal
 

@@ -1,10 +1,10 @@
 use Rattle.std.proofs.Common.{◌≡◌, ◌∙◌, ◌+◌, ◌*◌, ap, sym, subst, refl, arith}
-use Rattle.ddcmp_run.specs.Run.{run}
-use Rattle.ddcmp_run.specs.Settle.{all_mail, most_exchanges}
-use Rattle.ddcmp_run.proofs.Runs.{on-err, wanted-first}
-use Rattle.ddcmp_run.proofs.Settles.{LeftToSettle, left-more, left-quiet, left-busy, left-wanted}
-use Rattle.ddcmp_run.proofs.Settles.{settle-begun, settled-is, settling-exchanges, settling-quiet}
-use Rattle.ddcmp_run.proofs.Settles.{wanted-in-mail, wanted-in-second-mail, wanted-after-mail}
+use Rattle.ddcmp_pair.specs.Run.{run}
+use Rattle.ddcmp_pair.specs.Settle.{all_mail, most_exchanges}
+use Rattle.ddcmp_pair.proofs.Runs.{on-err, wanted-first}
+use Rattle.ddcmp_pair.proofs.Settles.{LeftToSettle, left-more, left-quiet, left-busy, left-wanted}
+use Rattle.ddcmp_pair.proofs.Settles.{settle-begun, settled-is, settling-exchanges, settling-quiet}
+use Rattle.ddcmp_pair.proofs.Settles.{wanted-in-mail, wanted-in-second-mail, wanted-after-mail}
 use Rattle.ddcmp_pair.proofs.Watching.{SawToSettle, saw-mail, saw-more, saw-quiet, saw-busy}
 use Rattle.ddcmp_pair.proofs.pair.Pair.settle_all.Goals as goal
 

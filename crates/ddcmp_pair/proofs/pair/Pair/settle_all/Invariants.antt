@@ -1,7 +1,7 @@
 use Rattle.std.proofs.Common.{◌≡◌}
-use Rattle.ddcmp_run.specs.Run.{run}
-use Rattle.ddcmp_run.specs.Settle.{all_mail, most_exchanges}
-use Rattle.ddcmp_run.proofs.Settles.{LeftToSettle}
+use Rattle.ddcmp_pair.specs.Run.{run}
+use Rattle.ddcmp_pair.specs.Settle.{all_mail, most_exchanges}
+use Rattle.ddcmp_pair.proofs.Settles.{LeftToSettle}
 use Rattle.ddcmp_pair.proofs.Watching.{SawToSettle}
 use Rattle.ddcmp_pair.proofs.pair.Pair.settle_all.Given as goal
 

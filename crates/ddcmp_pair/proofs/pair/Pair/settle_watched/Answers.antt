@@ -1,5 +1,5 @@
-use Rattle.ddcmp_run.specs.Settle.{settling}
-use Rattle.ddcmp_run.proofs.Limits.{part-limits}
+use Rattle.ddcmp_pair.specs.Settle.{settling}
+use Rattle.ddcmp_pair.proofs.Limits.{part-limits}
 use Rattle.ddcmp_pair.proofs.pair.Pair.settle_watched.Goals as goal
 
 pub returns-clause-limits : goal.returns-clause-limits

@@ -1,8 +1,8 @@
 use Rattle.std.proofs.Common.{◌∙◌, ap, sym, refl, arith, length, replicate}
 use Rattle.std.proofs.lemmas.List.{replicate-append-replicate}
-use Rattle.ddcmp_run.specs.declared.event.Event.TheVariants.{Take}
-use Rattle.ddcmp_run.specs.Run.{at, after_event}
-use Rattle.ddcmp_run.proofs.Runs.{run-again, run-none, wanted-again, on-err}
+use Rattle.ddcmp_pair.specs.declared.event.Event.TheVariants.{Take}
+use Rattle.ddcmp_pair.specs.Run.{at, after_event}
+use Rattle.ddcmp_pair.proofs.Runs.{run-again, run-none, wanted-again, on-err}
 use Rattle.ddcmp_pair.proofs.Watching.{saw-none, saw-as, saw-event}
 use Rattle.ddcmp_pair.proofs.pair.Pair.take_mail.Goals as goal
 

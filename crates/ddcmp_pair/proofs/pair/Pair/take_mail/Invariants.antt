@@ -1,6 +1,6 @@
 use Rattle.std.proofs.Common.{◌≡◌, replicate, length}
-use Rattle.ddcmp_run.specs.declared.event.Event.TheVariants.{Take}
-use Rattle.ddcmp_run.specs.Run.{at, run}
+use Rattle.ddcmp_pair.specs.declared.event.Event.TheVariants.{Take}
+use Rattle.ddcmp_pair.specs.Run.{at, run}
 use Rattle.ddcmp_io.specs.Device.{Logs}
 use Rattle.ddcmp_pair.specs.Steps.{steps_of}
 use Rattle.ddcmp_pair.proofs.pair.Pair.take_mail.Given as goal

@@ -5,16 +5,16 @@ use Rattle.std.proofs.Math.Seq.{take-append_seam}
 use Rattle.ddcmp_core.specs.Counting.{count_plus}
 use Rattle.ddcmp_proto.specs.Bytes.{after_piece, notices_of_piece}
 use Rattle.ddcmp_proto.specs.Station.{StationView}
-use Rattle.ddcmp_run.specs.Place.{WholeFrame}
-use Rattle.ddcmp_run.specs.Run.{acknowledged_in, restarts_in, after_arrival_here}
-use Rattle.ddcmp_run.specs.declared.event.Reply.TheVariants as reply
+use Rattle.ddcmp_pair.specs.Place.{WholeFrame}
+use Rattle.ddcmp_pair.specs.Run.{acknowledged_in, restarts_in, after_arrival_here}
+use Rattle.ddcmp_pair.specs.declared.event.Reply.TheVariants as reply
 use Rattle.ddcmp_pair.specs.Inside.Sides.{SideView, end_with}
 use Rattle.ddcmp_pair.proofs.Errors.{on_err, if_err, ok_or_err}
 use Rattle.ddcmp_frame.specs.Reader.{StandsFor}
 use Rattle.ddcmp_frame.specs.Reading.{good_frames}
 use Rattle.ddcmp_core.specs.Table.{is_halted}
 use Rattle.ddcmp_proto.proofs.FeedLaws.{after_piece-limits}
-use Rattle.ddcmp_run.specs.Place.{place_of}
+use Rattle.ddcmp_pair.specs.Place.{place_of}
 use Rattle.ddcmp_pair.proofs.Feeding.{told-after, kept-after}
 use Rattle.ddcmp_pair.proofs.side.Side.arrive.Goals as goal
 

@@ -6,13 +6,13 @@ use Rattle.ddcmp_core.specs.Table.{Frame, next, next_frame}
 use Rattle.ddcmp_core.specs.Frames.{header_of}
 use Rattle.ddcmp_proto.specs.Bytes.{frame_on_line, after_poll}
 use Rattle.ddcmp_proto.specs.Station.{StationView}
-use Rattle.ddcmp_run.specs.Place.{WholeFrame}
-use Rattle.ddcmp_run.specs.Run.{after_poll_here, whole_frame, wrote}
-use Rattle.ddcmp_run.specs.declared.event.Reply.TheVariants as reply
+use Rattle.ddcmp_pair.specs.Place.{WholeFrame}
+use Rattle.ddcmp_pair.specs.Run.{after_poll_here, whole_frame, wrote}
+use Rattle.ddcmp_pair.specs.declared.event.Reply.TheVariants as reply
 use Rattle.ddcmp_pair.proofs.Errors.{on_err, if_err, ok_or_err}
 use Rattle.ddcmp_frame.specs.Reader.{StandsFor}
 use Rattle.ddcmp_core.specs.Table.{is_halted}
-use Rattle.ddcmp_run.proofs.Lines.{nothing-polled, sending-keeps}
+use Rattle.ddcmp_pair.proofs.Lines.{nothing-polled, sending-keeps}
 use Rattle.ddcmp_pair.specs.Inside.Sides.{SideView, end_with}
 use Rattle.ddcmp_pair.proofs.side.Side.poll.Goals as goal
 

@@ -13,9 +13,9 @@ use Rattle.ddcmp_frame.specs.Reader.{ReaderView, StandsFor}
 use Rattle.ddcmp_core.specs.Store.{with_front, first_message}
 use Rattle.ddcmp_core.specs.Table.{after_take}
 use Rattle.ddcmp_proto.specs.Station.{StationView}
-use Rattle.ddcmp_run.specs.Place.{WholeFrame}
-use Rattle.ddcmp_run.specs.Run.{after_take_here, took}
-use Rattle.ddcmp_run.specs.declared.event.Reply.TheVariants as reply
+use Rattle.ddcmp_pair.specs.Place.{WholeFrame}
+use Rattle.ddcmp_pair.specs.Run.{after_take_here, took}
+use Rattle.ddcmp_pair.specs.declared.event.Reply.TheVariants as reply
 use Rattle.ddcmp_pair.specs.Inside.Sides.{SideView, HasRead, IsSoundEnd, end_with}
 use Rattle.ddcmp_pair.proofs.Errors.{on_err, if_err, ok_or_err}
 use Rattle.ddcmp_pair.proofs.side.Side.take.Goals as goal

@@ -4,7 +4,7 @@ use Rattle.std.proofs.Math.Seq.{take-add}
 use Rattle.std.proofs.lemmas.List.{take_rest}
 use Rattle.ddcmp_frame.specs.Reader.{StandsFor}
 use Rattle.ddcmp_frame.specs.Reading.{items}
-use Rattle.ddcmp_run.specs.Place.{place_next}
+use Rattle.ddcmp_pair.specs.Place.{place_next}
 use Rattle.ddcmp_pair.proofs.Placed.{followed-next, within-option}
 use Rattle.ddcmp_pair.proofs.side.receiver.follow.Goals as goal
 

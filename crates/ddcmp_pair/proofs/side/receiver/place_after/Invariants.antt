@@ -1,5 +1,5 @@
 use Rattle.std.proofs.Common.{◌≡◌}
-use Rattle.ddcmp_run.specs.Place.{place_after}
+use Rattle.ddcmp_pair.specs.Place.{place_after}
 use Rattle.ddcmp_pair.proofs.side.receiver.place_after.Given as goal
 
 -- what is looked for from here on is what was looked for at first

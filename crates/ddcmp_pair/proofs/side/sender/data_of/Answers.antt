@@ -1,5 +1,5 @@
 use Rattle.std.proofs.Common.{◌≡◌, ◌+◌, ◌-◌, ◌∙◌, length, take, drop, ap, arith}
-use Rattle.ddcmp_run.proofs.Lines.{data-behind, data-within}
+use Rattle.ddcmp_pair.proofs.Lines.{data-behind, data-within}
 use Rattle.ddcmp_pair.proofs.side.sender.data_of.Goals as goal
 
 pub overflow_add-result : goal.overflow_add-result

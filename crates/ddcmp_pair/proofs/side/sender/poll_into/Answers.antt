@@ -8,9 +8,9 @@ use Rattle.ddcmp_core.specs.Store.{with_front}
 use Rattle.ddcmp_core.specs.Table.{StationState, Frame, next, next_frame}
 use Rattle.ddcmp_core.specs.Frames.{header_of, message_of}
 use Rattle.ddcmp_proto.specs.Bytes.{frame_on_line}
-use Rattle.ddcmp_run.specs.Place.{WholeFrame}
-use Rattle.ddcmp_run.specs.Run.{whole_frame}
-use Rattle.ddcmp_run.proofs.Lines.{Polled, polled, at-front}
+use Rattle.ddcmp_pair.specs.Place.{WholeFrame}
+use Rattle.ddcmp_pair.specs.Run.{whole_frame}
+use Rattle.ddcmp_pair.proofs.Lines.{Polled, polled, at-front}
 use Rattle.ddcmp_pair.proofs.side.sender.poll_into.Goals as goal
 
 -- the bytes of the frame that was polled

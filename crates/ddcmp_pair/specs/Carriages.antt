@@ -1,0 +1,17 @@
+-- What a carrier was handed, and what it gave.
+use Rattle.std.specs.Prelude.{◌≡◌, ℕ, Bool, true, List, [], ◌∷◌, Option}
+use Rattle.ddcmp_io.specs.Device.{Logs}
+use Rattle.ddcmp_pair.specs.declared.event.End.{End}
+
+-- What was handed to a carrier at an end, and what it gave at the other.
+pub record Carriage : Type 0 where
+  pub from : End
+  pub bytes : List ℕ
+  pub came : List ℕ
+
+-- One more carriage: a carrier that logs them logs it too, and one that is direct returned what it
+-- was handed.
+pub record HasCarried (is_direct : Bool) (old new : Option (List Carriage)) (c : Carriage)
+    : Type 0 where
+  pub told : Logs old new (c ∷ [])
+  pub direct : is_direct ≡ true → c.came ≡ c.bytes

@@ -1,0 +1,50 @@
+-- The headline: in order, once, unchanged, or not at all.
+use Rattle.std.specs.Prelude.{◌≡◌, ℕ, ◌≤◌, true, false, List, length, None}
+use Rattle.std.specs.List.{All}
+use Rattle.ddcmp_core.specs.Laws.{tells_restart}
+use Rattle.ddcmp_proto.specs.Config.{first_refusal}
+use Rattle.ddcmp_proto.specs.declared.config.Config.{Config}
+use Rattle.ddcmp_pair.specs.declared.event.Event.{Event}
+use Rattle.ddcmp_pair.specs.declared.event.Reply.{Reply}
+use Rattle.ddcmp_pair.specs.declared.event.Reply.TheVariants as reply
+use Rattle.ddcmp_pair.specs.Link.{IsReached, link_of}
+use Rattle.ddcmp_pair.specs.Prefix.{IsPrefixOf}
+use Rattle.ddcmp_pair.specs.Run.{EndState, PairState, handed_up, is_clean, new_pair, run}
+
+-- The messages delivered at `to` are the first of those that `from` accepted, and no more of them
+-- was reported acknowledged than was delivered.
+pub record Delivers (from to : EndState) : Type 0 where
+  pub order : IsPrefixOf (handed_up to) from.given
+  pub acknowledged : from.acknowledged ≤ length (handed_up to)
+
+pub record DeliversBothWays (p : PairState) : Type 0 where
+  pub a_to_b : Delivers p.a p.b
+  pub b_to_a : Delivers p.b p.a
+
+-- In every honest and clean run, messages are delivered at each end in the order in which the other
+-- end accepted them, each once and unchanged, or not at all.
+pub record IsInOrder (p : PairState) : Type 0 where
+  pub where_clean : p.honest ≡ true → is_clean p ≡ true → DeliversBothWays p
+
+-- A pair that some list of events leads to, from two new stations of any sizes in range.
+pub record IsRun (p : PairState) : Type 0 where
+  pub first : Config
+  pub second : Config
+  pub first_made : first_refusal first ≡ None
+  pub second_made : first_refusal second ≡ None
+  pub events : List Event
+  pub leads : run events (new_pair first second) ≡ p
+
+-- What one end accepted and the other delivered is a run of an abstract link, whose window is that
+-- of the end that gave.
+pub record IsLink (from to : EndState) : Type 0 where
+  pub sent : ℕ
+  pub forward : List ℕ
+  pub back : List ℕ
+  pub is_reached : IsReached from.core.limits.window
+      (link_of from.given from.acknowledged sent (handed_up to) forward back)
+
+-- no notice reports that the peer restarted
+abbrev pub NoRestart : Reply → Type 0
+NoRestart (reply.Notices notices) = All (λ n. tells_restart n ≡ false) notices
+NoRestart _ = Unit {0}

@@ -1,9 +1,0 @@
-use Rattle.ddcmp_run.proofs.Runs.{run-append}
-use Rattle.ddcmp_run.proofs.Limits.{run-limits}
-use Rattle.ddcmp_run.proofs.laws.runs.Goals as goal
-
-pub returns-clause-parts : goal.returns-clause-parts
-returns-clause-parts c = run-append
-
-pub returns-clause-limits : goal.returns-clause-limits
-returns-clause-limits c = run-limits
