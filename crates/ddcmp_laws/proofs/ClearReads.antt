@@ -16,7 +16,7 @@ use Rattle.ddcmp_core.specs.Core.{CoreView}
 use Rattle.ddcmp_proto.specs.Bytes.{after_item, after_items, items_added}
 use Rattle.ddcmp_proto.proofs.FeedLaws.{items_added-all}
 use Rattle.ddcmp_pair.specs.Place.{WholeFrame, first_index, place_after, place_from, place_of}
-use Rattle.ddcmp_pair.proofs.Frames.{same-refl}
+use Rattle.ddcmp_pair.proofs.FrameLists.{same-refl}
 use Rattle.ddcmp_pair.proofs.Places.{good_frames_in-append}
 use Rattle.ddcmp_pair.proofs.Relation.{Face}
 use Rattle.ddcmp_pair.proofs.Receptions.{hearing}

@@ -21,7 +21,7 @@ use Rattle.ddcmp_proto.specs.Bytes.{received_of, after_item, after_items, notice
 use Rattle.ddcmp_proto.specs.Bytes.{notices_of_items}
 use Rattle.ddcmp_pair.specs.Place.{WholeFrame, same_frame, first_index, place_after, place_from}
 use Rattle.ddcmp_pair.specs.Run.{acknowledged_in}
-use Rattle.ddcmp_pair.proofs.Frames.{same-equal}
+use Rattle.ddcmp_pair.proofs.FrameLists.{same-equal}
 use Rattle.ddcmp_pair.proofs.Places.{place_from-none}
 use Rattle.ddcmp_pair.proofs.Relation.{Face, Fits}
 use Rattle.ddcmp_pair.proofs.Receptions.{is_strt, hearing, fits_frame, fits_fault}

@@ -7,7 +7,7 @@ pub mod Crossings
 pub mod Done
 pub mod Errors
 pub mod Feeding
-pub mod Frames
+pub mod FrameLists
 pub mod Halves
 pub mod KeptLaws
 pub mod Limits

@@ -4,7 +4,7 @@ use Rattle.std.proofs.Common.{◌∷◌, drop, refl, sym, ◌∙◌, ap, subst, 
 use Rattle.std.proofs.Common.{None, if◌then◌else◌}
 use Rattle.std.specs.Prelude.{option_map, is_some}
 use Rattle.std.proofs.lemmas.List.{drop-drop}
-use Rattle.ddcmp_pair.proofs.Frames.{same-equal, same-refl}
+use Rattle.ddcmp_pair.proofs.FrameLists.{same-equal, same-refl}
 use Rattle.ddcmp_pair.proofs.Places.{place_from-none}
 use Rattle.ddcmp_pair.specs.Place.{WholeFrame, same_frame, first_index, place_from, place_of}
 use Rattle.ddcmp_pair.specs.Place.{IsSubsequence}

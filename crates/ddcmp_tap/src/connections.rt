@@ -7,10 +7,11 @@ ghost use Rattle.ddcmp_tap.specs.Pumping.{Says, head_of};
 ghost use Rattle.ddcmp_tap.specs.InTurn.{Lasts, PassesOver, SaysInTurn};
 
 use crate::direction::{Direction, ROOM};
+use crate::exchange::pump;
 use crate::flow::Flow;
 use crate::notation::Notation;
-use crate::pump::pump;
 use crate::side::Side;
+use crate::socket_options::keep_alive;
 use crate::sockets::{Socket, Sockets, ToSocket};
 use crate::tap_fault::{NotMade, Stage, TapFault};
 use ddcmp_io::{FromRead, Sink, WriteFailed, write_all};
@@ -19,6 +20,7 @@ use mio::net::TcpStream;
 use std::alloc::Global;
 use std::io::{self, Eprint, ErrorKind};
 use std::net::{self, Net, OpenListener, SocketAddr, TcpListener, ToSocketAddrs};
+use std::os::fd::AsRawFd;
 use std::time;
 
 /// The head of a ladder, with who is on which side.
@@ -38,11 +40,14 @@ fn write_head<W: Sink>(writer: &mut W, notation: Notation) -> Result<(), WriteFa
     }
 }
 
-/// Makes a connection that neither blocks nor holds bytes back to fill a packet.
+/// Makes a connection that neither blocks nor holds bytes back to fill a packet, and that ends if
+/// its peer has gone without a word.
 fn prompt(stream: net::TcpStream) -> io::Result<TcpStream> {
     stream.set_nodelay(true)?;
     stream.set_nonblocking(true)?;
-    Ok(TcpStream::from_std(stream))
+    let stream = TcpStream::from_std(stream);
+    keep_alive(stream.as_raw_fd());
+    Ok(stream)
 }
 
 /// The connection of a caller, and its address.

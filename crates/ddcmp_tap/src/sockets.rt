@@ -1,8 +1,8 @@
 //! The sides of a tap as sockets that don't wait.
 ghost use Rattle.std.specs.Prelude.{◌≡◌, false};
 
+use crate::exchange::Readiness;
 use crate::outlet::Outlet;
-use crate::pump::Readiness;
 use ddcmp_io::cause::words_of;
 use mio::net::TcpStream;
 use mio::{Events, Interest, Poll, Token};

@@ -1,6 +1,6 @@
 use Rattle.std.proofs.Common.{◌≡◌, length, ap, sym, ◌∙◌, arith, get_or}
 use Rattle.ddcmp_pair.specs.Place.{WholeFrame, place_after}
-use Rattle.ddcmp_pair.proofs.Frames.{same-by}
+use Rattle.ddcmp_pair.proofs.FrameLists.{same-by}
 use Rattle.ddcmp_pair.proofs.Places.{place_after-hit, place_after-miss, place_after-end}
 use Rattle.ddcmp_pair.proofs.side.receiver.place_after.Goals as goal
 
