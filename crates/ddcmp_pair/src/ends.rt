@@ -41,7 +41,7 @@ impl Ends {
     ghost use Rattle.ddcmp_pair.specs.Run.{after_clear_by, reply_to_clear, at, is_clean};
 
     /// Does an event and returns its reply.
-    #[tactic(auto, unfolding(ddcmp_pair::specs::Run::after_event, ddcmp_pair::specs::Run::reply_to, ddcmp_pair::specs::Run::asks_memory))]
+    #[tactic(auto, unfolding(crate::specs::Run::after_event, crate::specs::Run::reply_to, crate::specs::Run::asks_memory))]
     pub(crate) fn apply(&mut self, event: &Event) -> Result<Reply, Memory>
         ensures state { IsOk result → self.new ≡ after_event event.now self.old }
         ensures reply { IfOk result (λ reply. reply ≡ reply_to event.now self.old) }
